@@ -105,7 +105,7 @@ refed part stream d e n q s =
       };
       taken = s.taken;
       within = s.within;
-      none_due = s.none_due;
+      no_word_due = s.no_word_due;
     } in
     subst (λ (x : DeviceState). StandsAtPosition part stream x n) (sym q) there
 
@@ -116,7 +116,7 @@ took_few part stream d at u r s low high = record {
   more = take (at - u.taken) (drop u.taken stream);
   old = r.device;
   keeps = r.keeps;
-  none_due = r.stands.none_due;
+  no_word_due = r.stands.no_word_due;
   few = omega (arith, length-take (at - u.taken) (drop u.taken stream), high);
   had = r.stands.stands;
   has = subst (λ (b : List ℕ). DeviceStandsFor part on_the_bench false d b) (sym (take_up_to stream u.taken at low)) s.stands;
@@ -130,7 +130,7 @@ goes_back part stream d new at u r s low high back =
     let more : List ℕ = take (at - u.taken) (drop u.taken stream) in
     let few : length more ≤ 4 = omega (arith, length-take (at - u.taken) (drop u.taken stream), high) in
     let now : DeviceStandsFor part on_the_bench false d (take u.taken stream ++ more) = subst (λ (b : List ℕ). DeviceStandsFor part on_the_bench false d b) (sym (take_up_to stream u.taken at low)) s.stands in
-    refed part stream new r.device u.taken (back more r.device r.keeps r.stands.none_due few r.stands.stands now) r.stands
+    refed part stream new r.device u.taken (back more r.device r.keeps r.stands.no_word_due few r.stands.stands now) r.stands
 
 -- records of a device that went on, with one more
 pub leads_more : (part : PartData) (stream : List ℕ) (d : DeviceState) (at to : ℕ) (u : UndoState) (us : List UndoState) → StandsAtPosition part stream d at → KeepsDevice u d → at ≤ to → to ≤ at + 4 → LeadBack part stream at us → LeadBack part stream to (u ∷ take 63 us)
@@ -253,7 +253,7 @@ stands_of p q stream d j e o = subst (λ (x : PartData). StandsAtPosition x stre
 
 -- a device after a reset
 pub stands_first : (part : PartData) (stream : List ℕ) (d : DeviceState) → DeviceStandsFor part on_the_bench false d [] → StandsAtPosition part stream d 0
-stands_first part stream d s = record { stands = s; taken = s.taken_is; within = omega arith; none_due = none_due_at_first part on_the_bench false d s }
+stands_first part stream d s = record { stands = s; taken = s.taken_is; within = omega arith; no_word_due = none_due_at_first part on_the_bench false d s }
 
 -- ---- what a move comes to
 

@@ -78,7 +78,7 @@ taken_first part stream n fits few = by (stop_in part on_the_bench (take n strea
 pub stands_first_bytes : (part : PartData) (stream : List ℕ) (d : DeviceState) (n : ℕ) → AreBytes stream → n ≤ length stream → DeviceStandsFor part on_the_bench false d (take n stream) → NoWordDue d → StandsAtPosition part stream d n
 stands_first_bytes part stream d n fits few s due =
     let long : length (take n stream) ≡ n = length-take-le n stream few in
-    record { stands = s; taken = s.taken_is ∙ long; within = omega (arith, taken_first part stream n fits few, taken_is part on_the_bench false d (take n stream) s, long); none_due = due }
+    record { stands = s; taken = s.taken_is ∙ long; within = omega (arith, taken_first part stream n fits few, taken_is part on_the_bench false d (take n stream) s, long); no_word_due = due }
 
 -- a device that was fed the bytes from one position to another stands there, or at the last position where that is less
 pub moved : (part : PartData) (stream piece : List ℕ) (d : DeviceState) (from to : ℕ) → AreBytes stream → from ≤ to → to ≤ length stream → piece ≡ take (to - from) (drop from stream)
@@ -89,7 +89,7 @@ moved part stream piece d from to fits le few is stands due =
     let same : take (taken_of part on_the_bench (take from stream ++ piece)) (take from stream ++ piece) ≡ take at stream
     = ap (λ b. take (taken_of part on_the_bench b) b) whole ∙ ap (λ (k : ℕ). take k (take to stream)) (taken_first part stream to fits few) ∙ take-take at to stream (omega arith) in
     let there : DeviceStandsFor part on_the_bench false d (take at stream) = subst (λ b. DeviceStandsFor part on_the_bench false d b) same stands in
-    record { stands = there; taken = there.taken_is ∙ length-take-le at stream (omega (arith, few)); within = omega arith; none_due = due }
+    record { stands = there; taken = there.taken_is ∙ length-take-le at stream (omega (arith, few)); within = omega arith; no_word_due = due }
 
 -- the position to which a device was fed, where that is not after the last one
 pub stands_there : (part : PartData) (stream : List ℕ) (d : DeviceState) (to : ℕ) → to ≤ last_of part stream → StandsAtPosition part stream d (min to (last_of part stream)) → StandsAtPosition part stream d to

@@ -15,7 +15,8 @@ record_room = 64
 abbrev pub record_bytes : ℕ
 record_bytes = 4
 
--- how many bytes before a position records lead back to: a record's bytes for each but one, and one byte
+-- how many bytes before a position records lead back at least, where all of them are in use: four bytes for each but the
+-- newest, which may be one byte before the position
 abbrev pub reach : ℕ
 reach = (record_room - 1) * record_bytes + 1
 
@@ -38,7 +39,7 @@ pub record IsRecord (part : PartData) (stream : List ℕ) (u : UndoState) : Type
   pub keeps : KeepsDevice u device
   pub stands : StandsAtPosition part stream device u.taken
 
--- each record is at most four bytes before the next newer one, and the newest one before this position
+-- each record is at most four bytes before the next newer one, and the newest one at most four before position `at`
 abbrev pub LeadBack : PartData → List ℕ → ℕ → List UndoState → Type 0
 LeadBack part stream at [] = Unit {0}
 LeadBack part stream at (u ∷ older) = IsRecord part stream u × (u.taken ≤ at) × (at ≤ u.taken + record_bytes) × LeadBack part stream u.taken older

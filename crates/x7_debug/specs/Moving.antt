@@ -19,7 +19,7 @@ pub record MayMoveForward (stream : List ℕ) (d : DeviceState) (j : JournalStat
 pub record MayMoveBack (stream : List ℕ) (d : DeviceState) (j : JournalState) (to : ℕ) : Type 0 where
   pub on : IsOn d.part stream d j
   pub before : to < d.taken
-  pub reach : oldest_by d.taken (records_of j) ≤ to
+  pub led : oldest_by d.taken (records_of j) ≤ to
 
 -- a device on its stream, with its records, is before the last position
 pub record IsBeforeLast (stream : List ℕ) (d : DeviceState) (j : JournalState) (last : ℕ) : Type 0 where

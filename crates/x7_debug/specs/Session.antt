@@ -27,7 +27,7 @@ pub record StandsAtPosition (part : PartData) (stream : List ℕ) (d : DeviceSta
   pub stands : DeviceStandsFor part on_the_bench false d (take n stream)
   pub taken : d.taken ≡ n
   pub within : n ≤ last_of part stream
-  pub none_due : NoWordDue d
+  pub no_word_due : NoWordDue d
 
 -- a device takes a piece, up to what stops it
 abbrev pub TakesPiece : DeviceState → DeviceState → List ℕ → Type 0

@@ -14,12 +14,13 @@ use x7_engine::{Device, ON_THE_BENCH, ReadBuf};
 /// How many bytes a record leads back at most.
 pub(crate) const RECORD_BYTES: u64 = 4;
 
-/// How many bytes before a position records lead back to: a record's bytes for each but one, and one byte.
+/// How many bytes before a position records lead back at least, where all of them are in use: four bytes for each but
+/// the newest, which may be one byte before the position.
 pub(crate) const REACH: u64 = (RECORD_ROOM as u64 - 1) * RECORD_BYTES + 1;
 
-/// How many bytes all records lead back over where each has four: a move forward ends with as many, so that a move back
-/// by a multiple of four bytes feeds none.
-const RECORDED: u64 = RECORD_ROOM as u64 * RECORD_BYTES;
+/// How many bytes before its end a move forward makes records, one each four bytes: as many as there is room for, so that
+/// a move back by a multiple of four bytes feeds none.
+const RECORDED_BYTES: u64 = RECORD_ROOM as u64 * RECORD_BYTES;
 
 /// Feeds a piece to a device, up to what stops it. Words read out are dropped.
 pub(crate) fn take(device: &mut Device, piece: &[u8])
@@ -78,13 +79,13 @@ pub(crate) fn leap(device: &mut Device, journal: &mut Journal, stream: &[u8], to
     journal.forget();
 }
 
-/// Brings a device forward: far away by one piece up to the reach of the records, and the rest by pieces of four bytes.
+/// Brings a device forward: by one piece up to where records begin, and from there by pieces of four bytes.
 fn go_forward(device: &mut Device, journal: &mut Journal, stream: &[u8], to: u64)
     requires { MayMoveForward stream.now device.old journal.old to }
     ensures at_position { ComesForwardRecorded stream.now device.old device.new journal.new to }
 {
-    if to - device.taken() > RECORDED {
-        leap(device, journal, stream, to - RECORDED);
+    if to - device.taken() > RECORDED_BYTES {
+        leap(device, journal, stream, to - RECORDED_BYTES);
         return go_by_words(device, journal, stream, to);
     }
     go_by_words(device, journal, stream, to);

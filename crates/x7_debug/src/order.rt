@@ -9,7 +9,7 @@ pub enum Stop {
     Searching,
     /// A fault, or an IPROG that was obeyed.
     Stopped,
-    /// This phase of startup, 0 to 7.
+    /// A phase of startup, 0 to 7.
     Phase(u8),
 }
 

@@ -9,6 +9,7 @@ use Rattle.std.proofs.lemmas.Bool.Decides.{eqb_tells}
 use Rattle.std.proofs.lemmas.Nat.{pow_pos}
 use Rattle.std.proofs.Math.Nat.{pow-le-pow_right}
 use Rattle.std.proofs.lemmas.List.{length-replicate}
+use Rattle.std.specs.Option.{option_or}
 use Rattle.x7_pipeline.proofs.LawLemmas.{zip_nil}
 use Rattle.x7_part.specs.Part.{FieldWidths, RowData, PartData, frame_words}
 use Rattle.x7_part.specs.Ranges.{IsPart}
@@ -20,7 +21,7 @@ use Rattle.x7_words.proofs.ListLemmas.{all_append}
 use Rattle.x7_part.specs.Slot.{addresses_among, slots, slots_in}
 use Rattle.x7_part.specs.declared.slot.Slot.{Slot}
 use Rattle.x7_part.specs.declared.slot.Slot.TheVariants.{Frame, Pad, End}
-use Rattle.x7_memory.specs.FrameMap.{FrameMap, frame_or, AreSame}
+use Rattle.x7_memory.specs.FrameMap.{FrameMap, AreSame}
 use Rattle.x7_memory.specs.Frames.{zeros, zero_frames}
 use Rattle.x7_memory.specs.Plan.{PlanRow, PlanData, planned, planned_addresses, IsPlan, total}
 use Rattle.x7_memory.proofs.FrameLemmas.{among_none}
@@ -153,7 +154,7 @@ rows_named : (part : PartData) (plan : PlanData) (fars : List ℕ) → planned_a
 rows_named part plan [] = refl
 rows_named part plan (a ∷ fars) = ap (λ t. a ∷ t) (rows_named part plan fars)
 
-some_or : (a : Option (List ℕ)) (z : List ℕ) → Some (unwrap_or a z) ≡ frame_or a (Some z)
+some_or : (a : Option (List ℕ)) (z : List ℕ) → Some (unwrap_or a z) ≡ option_or a (Some z)
 some_or None z = refl
 some_or (Some x) z = refl
 
@@ -164,12 +165,12 @@ pub whole_over : (part : PartData) (plan : PlanData) (memory : FrameMap) → IsP
 whole_over part plan memory is p e within outside far =
     let fars : List ℕ = addresses_in part in
     let same : written_frames part (get_or fars 0 0) (onto (joined (frames_at part plan (slots_in part))) []) ≡ map (row_of part plan) (reverse fars) = slots_land part plan is p e ∙ sym (map_of_reverse (row_of part plan) fars) in
-    ap (λ t. frame_or (planned t far) (memory far)) same
+    ap (λ t. option_or (planned t far) (memory far)) same
     ∙ elim (contains_or_not fars far) [
-      | inl h ↦ ap (λ t. frame_or t (memory far)) (row_here part plan (reverse fars) far (in_reverse fars far h)) ∙ some_or (planned plan.rows far) (zero_frame part) ∙ ap (frame_or (planned plan.rows far)) (sym (zeros_at part far h))
+      | inl h ↦ ap (λ t. option_or t (memory far)) (row_here part plan (reverse fars) far (in_reverse fars far h)) ∙ some_or (planned plan.rows far) (zero_frame part) ∙ ap (option_or (planned plan.rows far)) (sym (zeros_at part far h))
       | inr n ↦ (let none : planned (map (row_of part plan) (reverse fars)) far ≡ None = unnamed_none (map (row_of part plan) (reverse fars)) far (λ h. n (out_of_reverse fars far (rw (rows_named part plan (reverse fars)) at h))) in
           let unplanned : planned plan.rows far ≡ None = unnamed_none plan.rows far (λ h. n (within far h)) in
-          ap (λ t. frame_or t (memory far)) none ∙ outside far n ∙ sym (among_none far fars (zero_frames part) n) ∙ ap (λ t. frame_or t (zeros part far)) (sym unplanned))
+          ap (λ t. option_or t (memory far)) none ∙ outside far n ∙ sym (among_none far fars (zero_frames part) n) ∙ ap (λ t. option_or t (zeros part far)) (sym unplanned))
     ]
 
 -- ---- an address has the part's width

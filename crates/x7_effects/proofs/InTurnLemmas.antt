@@ -1,12 +1,13 @@
 -- Streams one after another: each begins where the one before has left the device at rest.
 use Rattle.std.proofs.Common.{◌≡◌, ℕ, ◌<◌, List, [], ◌∷◌, ◌++◌, ap, ◌∙◌}
 use Rattle.std.specs.List.{flat_map, fold}
+use Rattle.std.specs.Option.{option_or}
 use Rattle.x7_words.specs.Word.{AreBytes}
 use Rattle.x7_words.proofs.ListLemmas.{all_append}
 use Rattle.x7_crc.specs.Checker.{check_of_bytes}
 use Rattle.x7_part.specs.Part.{PartData}
 use Rattle.x7_part.specs.Ranges.{IsPart}
-use Rattle.x7_memory.specs.FrameMap.{FrameMap, AreSame, frame_or, override}
+use Rattle.x7_memory.specs.FrameMap.{FrameMap, AreSame, override}
 use Rattle.x7_memory.specs.Plan.{IsPlanFor, PlanData, PlanRow, planned, total}
 use Rattle.x7_planner.specs.FullStream.{full_pieces, full_stream}
 use Rattle.x7_planner.specs.PartialStream.{partial_ending, partial_opening, partial_stream, stretch_words, stretches_of}
@@ -76,6 +77,6 @@ both_play part kept bytes plan later f r is p q =
     let full : PlaysFull (resting_after part kept bytes) (full_stream part plan) plan = full_law part kept bytes plan f r is p.is_plan p.width p.addressed in
     let partial : PlaysPartial (resting_after part kept longer) (partial_stream part later.rows) later = partial_law part kept longer later (full_fits part bytes plan f) full.rests is q.is_plan q.width q.addressed in
     record {
-      memory = λ far. partial.memory far ∙ ap (λ o. frame_or (planned later.rows far) o) (full.memory far);
+      memory = λ far. partial.memory far ∙ ap (λ o. option_or (planned later.rows far) o) (full.memory far);
       phase = λ wrapped. partial.phase wrapped ∙ full.phase wrapped;
     }

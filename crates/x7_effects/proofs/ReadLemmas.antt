@@ -5,7 +5,7 @@ use Rattle.x7_part.specs.Part.{PartData, frame_words}
 use Rattle.x7_part.specs.declared.slot.Slot.{Slot}
 use Rattle.x7_part.specs.declared.slot.Slot.TheVariants.{Frame, Pad, End}
 use Rattle.x7_memory.specs.FrameMap.{FrameMap}
-use Rattle.x7_pipeline.specs.Readback.{readback_at, word_at, word_of}
+use Rattle.x7_pipeline.specs.Readback.{readback_at, word_at, word_in_frame}
 use Rattle.x7_pipeline.specs.Runs.{slots_from}
 use Rattle.x7_pipeline.proofs.LawLemmas.{read_frames, read_pad_frame}
 use Rattle.x7_flow.specs.Standing.{words_from}
@@ -49,7 +49,7 @@ listed_words (w ∷ ws) =
     ap (λ t. w ∷ t) (rest ∙ listed_words ws)
 
 -- the words of one slot
-frame_listed : (part : PartData) (m : FrameMap) (far : ℕ) (o : Option (List ℕ)) → HasFrames part m → m far ≡ o → listed (word_of o) 0 (frame_words part) ≡ unwrap_or o (replicate (frame_words part) 0)
+frame_listed : (part : PartData) (m : FrameMap) (far : ℕ) (o : Option (List ℕ)) → HasFrames part m → m far ≡ o → listed (word_in_frame o) 0 (frame_words part) ≡ unwrap_or o (replicate (frame_words part) 0)
 frame_listed part m far None i e = listed_zeros 0 (frame_words part)
 frame_listed part m far (Some ws) i e = ap (listed (λ k. get_or ws k 0) 0) (sym (i.wide far ws e)) ∙ listed_words ws
 

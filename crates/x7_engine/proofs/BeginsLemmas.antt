@@ -219,7 +219,7 @@ begun_at [] older e s f l = by (takes_shutdown older e.access) (executes 13 olde
     by false true true None y t d' a' = refl
     by false true true (Some b) y t d' a' =
         let g : Begins older = (began older b y).begins in
-        absurd (f (record { newer = g.newer; latest = g.desync; older = g.older; split = g.split; is = g.armed; lasts = g.lasts }))
+        absurd (f (record { newer = g.newer; latest = g.desync; older = g.older; split = g.split; kind_is = g.armed; lasts = g.lasts }))
 begun_at (x ∷ newer) older e s f l =
     by (takes_shutdown (newer ++ e ∷ older) x.access) (executes 13 (newer ++ e ∷ older) x.access) (armed_in (newer ++ e ∷ older)) (begun_in (newer ++ e ∷ older)) l.0 (begun_at newer older e s f l.1)
   where

@@ -29,7 +29,7 @@ may_wrap part kept wrapped d bytes s boots not_started not_failed not_left none 
       not_started = ap (λ (p : ℕ). p == 7) (phase ∙ all) ∙ not_started;
       not_failed = ap (λ (o : Option Stop). failure_of (stop_fault o) false) (sym why) ∙ not_failed;
       not_left = λ e. not_left (why ∙ e);
-      none_due = none;
+      no_word_due = none;
     }
 
 nothing_more : {A : Type 0} (xs ys : List A) (y : A) → [] ≡ xs ++ y ∷ ys → ⊥

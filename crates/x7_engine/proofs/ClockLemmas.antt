@@ -2,9 +2,10 @@
 use Rattle.std.proofs.Common.{◌≡◌, ◌==◌, ◌&&◌, ◌+◌, ◌-◌, ◌*◌, ◌<◌, ◌≤◌, ℕ, zero, suc, Bool, true, false, if◌then◌else◌, Option, None, Some, List, [], ◌∷◌, ◌++◌, replicate, IsTrue, ◌↔◌, refl, sym, ap, subst, ◌∙◌, append_assoc, append-nil, arith, not}
 use Rattle.std.proofs.lemmas.Bool.Decides.{nat_tests}
 use Rattle.std.proofs.lemmas.List.{replicate-append-replicate}
+use Rattle.std.specs.Option.{option_or}
 use Rattle.x7_packets.specs.History.{Access, Bad, History, Read, Write, command_held, entry, executed_by, executes, last_word, written}
 use Rattle.x7_part.specs.Part.{PartData}
-use Rattle.x7_startup.specs.Startup.{Begun, Call, IsPhaseOf, NotBegun, StartupProgress, StandsFor, Stored, progress_of}
+use Rattle.x7_startup.specs.Startup.{Begun, Call, IsPhaseOf, NotBegun, StartupProgress, StandsForCalls, Stored, progress_of}
 use Rattle.x7_startup.specs.Startup as call
 use Rattle.x7_startup.specs.Watchdog.{Fires, Reload, Watch, WatchCall, Watched, WatchesFor, bytes_alike, watched_count, is_on, timer_after, timer_value_of}
 use Rattle.x7_startup.proofs.CallLemmas.{idle_stands, one_phase_after, phase_never_falls}
@@ -15,7 +16,7 @@ use Rattle.x7_engine.specs.Clock.{AreEndedAlike, ClockState, IsClock, Ticks, new
 use Rattle.x7_engine.specs.Kept.{is_fallback}
 use Rattle.x7_engine.specs.Registers.{takes_shutdown}
 use Rattle.x7_engine.specs.Startup.{has_ended, phase_by, phase_of, startup_call, startup_calls, startup_progress}
-use Rattle.x7_engine.specs.Stop.{why_at, or_else, stop_of, stopped_at, stopped_by_watchdog, Stopped}
+use Rattle.x7_engine.specs.Stop.{why_at, stop_of, stopped_at, stopped_by_watchdog, Stopped}
 use Rattle.x7_engine.specs.Watching.{fired_or, fires, first_firing, timer_held, watch_call, watch_calls, watched_bytes}
 use Rattle.x7_engine.proofs.StartupLemmas.{phase_is}
 
@@ -55,15 +56,15 @@ watch_more part (e ∷ h) n k l =
 
 -- ---- the firings of bytes more
 
-or_fired : (o p : Option ℕ) (b : Bool) (n : ℕ) → fired_or (or_else o p) b n ≡ or_else o (fired_or p b n)
+or_fired : (o p : Option ℕ) (b : Bool) (n : ℕ) → fired_or (option_or o p) b n ≡ option_or o (fired_or p b n)
 or_fired None p b n = refl
 or_fired (Some x) p b n = refl
 
-pub or_none : {A : Type 0} (o : Option A) → or_else o None ≡ o
+pub or_none : {A : Type 0} (o : Option A) → option_or o None ≡ o
 or_none None = refl
 or_none (Some x) = refl
 
-pub firing_more : (part : PartData) (kept : Kept) (h : History) (from a b : ℕ) → first_firing part kept h from (a + b) ≡ or_else (first_firing part kept h from a) (first_firing part kept h (from + a) b)
+pub firing_more : (part : PartData) (kept : Kept) (h : History) (from a b : ℕ) → first_firing part kept h from (a + b) ≡ option_or (first_firing part kept h from a) (first_firing part kept h (from + a) b)
 firing_more part kept h from a zero =
     let same : a + 0 ≡ a = omega arith in
     ap (first_firing part kept h from) same ∙ sym (or_none (first_firing part kept h from a))
@@ -72,23 +73,23 @@ firing_more part kept h from a (suc b) =
     let here : from + (a + b) + 1 ≡ from + a + b + 1 = omega arith in
     ap (first_firing part kept h from) next
     ∙ ap (λ (o : Option ℕ). fired_or o (fires part kept h (from + (a + b) + 1)) (from + (a + b) + 1)) (firing_more part kept h from a b)
-    ∙ ap (λ (m : ℕ). fired_or (or_else (first_firing part kept h from a) (first_firing part kept h (from + a) b)) (fires part kept h m) m) here
+    ∙ ap (λ (m : ℕ). fired_or (option_or (first_firing part kept h from a) (first_firing part kept h (from + a) b)) (fires part kept h m) m) here
     ∙ or_fired (first_firing part kept h from a) (first_firing part kept h (from + a) b) (fires part kept h (from + a + b + 1)) (from + a + b + 1)
 
-watchdog_or : (o p : Option ℕ) → stopped_by_watchdog (or_else o p) ≡ or_else (stopped_by_watchdog o) (stopped_by_watchdog p)
+watchdog_or : (o p : Option ℕ) → stopped_by_watchdog (option_or o p) ≡ option_or (stopped_by_watchdog o) (stopped_by_watchdog p)
 watchdog_or None p = refl
 watchdog_or (Some x) p = refl
 
-or_assoc : {A : Type 0} (a b c d : Option A) → or_else a (or_else b (or_else c d)) ≡ or_else (or_else a (or_else b c)) d
+or_assoc : {A : Type 0} (a b c d : Option A) → option_or a (option_or b (option_or c d)) ≡ option_or (option_or a (option_or b c)) d
 or_assoc (Some x) b c d = refl
 or_assoc None (Some x) c d = refl
 or_assoc None None c d = refl
 
 -- the stop of bytes more
-pub stop_more_bytes : (part : PartData) (kept : Kept) (h : History) (n k : ℕ) → newest_place h ≤ n → stop_of part kept h (n + k) ≡ or_else (stop_of part kept h n) (stopped_by_watchdog (first_firing part kept h n k))
+pub stop_more_bytes : (part : PartData) (kept : Kept) (h : History) (n k : ℕ) → newest_place h ≤ n → stop_of part kept h (n + k) ≡ option_or (stop_of part kept h n) (stopped_by_watchdog (first_firing part kept h n k))
 stop_more_bytes part kept [] n k l =
     let first : 0 + n ≡ n = omega arith in
-    ap stopped_by_watchdog (firing_more part kept [] 0 n k ∙ ap (λ (m : ℕ). or_else (first_firing part kept [] 0 n) (first_firing part kept [] m k)) first)
+    ap stopped_by_watchdog (firing_more part kept [] 0 n k ∙ ap (λ (m : ℕ). option_or (first_firing part kept [] 0 n) (first_firing part kept [] m k)) first)
     ∙ watchdog_or (first_firing part kept [] 0 n) (first_firing part kept [] n k)
 stop_more_bytes part kept (e ∷ h) n k l =
     let count : n + k - e.place ≡ n - e.place + k = omega (arith, l) in
@@ -96,18 +97,18 @@ stop_more_bytes part kept (e ∷ h) n k l =
     let before : Option Stopped = stop_of part kept h e.place in
     let why : Option Stopped = stopped_at e.place (why_at part kept h e.access) in
     let first : Option ℕ = first_firing part kept (e ∷ h) e.place (n - e.place) in
-    ap (λ (m : ℕ). or_else before (or_else why (stopped_by_watchdog (first_firing part kept (e ∷ h) e.place m)))) count
-    ∙ ap (λ (o : Option ℕ). or_else before (or_else why (stopped_by_watchdog o)))
-    (firing_more part kept (e ∷ h) e.place (n - e.place) k ∙ ap (λ (m : ℕ). or_else first (first_firing part kept (e ∷ h) m k)) place)
-    ∙ ap (λ (o : Option Stopped). or_else before (or_else why o)) (watchdog_or first (first_firing part kept (e ∷ h) n k))
+    ap (λ (m : ℕ). option_or before (option_or why (stopped_by_watchdog (first_firing part kept (e ∷ h) e.place m)))) count
+    ∙ ap (λ (o : Option ℕ). option_or before (option_or why (stopped_by_watchdog o)))
+    (firing_more part kept (e ∷ h) e.place (n - e.place) k ∙ ap (λ (m : ℕ). option_or first (first_firing part kept (e ∷ h) m k)) place)
+    ∙ ap (λ (o : Option Stopped). option_or before (option_or why o)) (watchdog_or first (first_firing part kept (e ∷ h) n k))
     ∙ or_assoc before why (stopped_by_watchdog first) (stopped_by_watchdog (first_firing part kept (e ∷ h) n k))
 
 -- the stop at the place of an access more
 pub stop_of_access : (part : PartData) (kept : Kept) (h : History) (access : Access) (place : ℕ) → stop_of part kept h place ≡ None → stop_of part kept (entry access place ∷ h) place ≡ stopped_at place (why_at part kept h access)
 stop_of_access part kept h access place e =
     let none : place - place ≡ 0 = omega arith in
-    ap (λ (o : Option Stopped). or_else o (or_else (stopped_at place (why_at part kept h access)) (stopped_by_watchdog (first_firing part kept (entry access place ∷ h) place (place - place))))) e
-    ∙ ap (λ (m : ℕ). or_else (stopped_at place (why_at part kept h access)) (stopped_by_watchdog (first_firing part kept (entry access place ∷ h) place m))) none
+    ap (λ (o : Option Stopped). option_or o (option_or (stopped_at place (why_at part kept h access)) (stopped_by_watchdog (first_firing part kept (entry access place ∷ h) place (place - place))))) e
+    ∙ ap (λ (m : ℕ). option_or (stopped_at place (why_at part kept h access)) (stopped_by_watchdog (first_firing part kept (entry access place ∷ h) place m))) none
     ∙ or_none (stopped_at place (why_at part kept h access))
 
 -- ---- an access more
@@ -220,7 +221,7 @@ first_is part kept h n i count l e f =
     ap (λ (o : Option ℕ). fired_or o (fires part kept h (n + i + 1)) (n + i + 1)) e ∙ ap (λ (b : Bool). fired_or None b (n + i + 1)) f ∙ ap (λ (m : ℕ). Some m) place in
     ap (first_firing part kept h n) sum
     ∙ firing_more part kept h n (suc i) (count - i - 1)
-    ∙ ap (λ (o : Option ℕ). or_else o (first_firing part kept h (n + suc i) (count - i - 1))) here
+    ∙ ap (λ (o : Option ℕ). option_or o (first_firing part kept h (n + suc i) (count - i - 1))) here
 
 -- one byte more that doesn't fire
 pub none_more : (part : PartData) (kept : Kept) (h : History) (n i : ℕ) → first_firing part kept h n i ≡ None → fires part kept h (n + i + 1) ≡ false → first_firing part kept h n (i + 1) ≡ None
@@ -296,13 +297,13 @@ watch_written part h access place command e =
     ap (λ (o : Option ℕ). watch_calls part h place ++ watch_call_by o access) e ∙ sym (watch_entered part h access place)
 
 pub startup_bytes : (part : PartData) (h : History) (n k lock matched : ℕ) (old new : Stored) → lock ≡ part.lock → matched ≡ part.matched
-    → ((calls : List Call) → StandsFor lock matched old calls → StandsFor lock matched new (calls ++ replicate k call.Byte)) → newest_place h ≤ n
-    → StandsFor part.lock part.matched old (startup_calls h n) → StandsFor part.lock part.matched new (startup_calls h (n + k))
+    → ((calls : List Call) → StandsForCalls lock matched old calls → StandsForCalls lock matched new (calls ++ replicate k call.Byte)) → newest_place h ≤ n
+    → StandsForCalls part.lock part.matched old (startup_calls h n) → StandsForCalls part.lock part.matched new (startup_calls h (n + k))
 startup_bytes part h n k lock matched old new a b f l s =
-    let here : StandsFor lock matched old (startup_calls h n) = subst (λ (x : ℕ). StandsFor x matched old (startup_calls h n)) (sym a) (subst (λ (x : ℕ). StandsFor part.lock x old (startup_calls h n)) (sym b) s) in
-    subst (λ t. StandsFor part.lock part.matched new t) (sym (startup_more h n k l))
-    (subst (λ (x : ℕ). StandsFor part.lock x new (startup_calls h n ++ replicate k call.Byte)) b
-    (subst (λ (x : ℕ). StandsFor x matched new (startup_calls h n ++ replicate k call.Byte)) a (f (startup_calls h n) here)))
+    let here : StandsForCalls lock matched old (startup_calls h n) = subst (λ (x : ℕ). StandsForCalls x matched old (startup_calls h n)) (sym a) (subst (λ (x : ℕ). StandsForCalls part.lock x old (startup_calls h n)) (sym b) s) in
+    subst (λ t. StandsForCalls part.lock part.matched new t) (sym (startup_more h n k l))
+    (subst (λ (x : ℕ). StandsForCalls part.lock x new (startup_calls h n ++ replicate k call.Byte)) b
+    (subst (λ (x : ℕ). StandsForCalls x matched new (startup_calls h n ++ replicate k call.Byte)) a (f (startup_calls h n) here)))
 
 pub watch_byte : (part : PartData) (kept : Kept) (h : History) (n : ℕ) (eos : Bool) (new : Watch) → newest_place h ≤ n → eos ≡ has_ended part h (n + 1)
     → WatchesFor (is_fallback kept.kind) kept.timer new (watch_calls part h n ++ Watched eos ∷ []) → WatchesFor (is_fallback kept.kind) kept.timer new (watch_calls part h (n + 1))
@@ -343,7 +344,7 @@ idle_quiet part kept w h n k l e s = none_fires part kept h n k (λ i m.
 pub idle_ticks : (part : PartData) (kept : Kept) (c : ClockState) (h : History) (n k : ℕ) → newest_place h ≤ n → c.startup.begun ≡ None → c.watchdog.limit ≡ 0 → IsClock part kept c h n → Ticks (course_at part kept h n) c k None
 idle_ticks part kept c h n k l b e s = (
   record {
-    startup = subst (λ (calls : List Call). StandsFor part.lock part.matched c.startup calls) (sym (startup_more h n k l)) (idle_stands part.lock part.matched c.startup (startup_calls h n) k b s.startup);
+    startup = subst (λ (calls : List Call). StandsForCalls part.lock part.matched c.startup calls) (sym (startup_more h n k l)) (idle_stands part.lock part.matched c.startup (startup_calls h n) k b s.startup);
     watchdog = idle_watchdog part kept c.watchdog h n k l e s.watchdog;
   },
   idle_quiet part kept c.watchdog h n k l e s.watchdog,
@@ -369,7 +370,7 @@ pub ticks_none : (part : PartData) (kept : Kept) (c : ClockState) (h : History) 
 ticks_none part kept c h n a b count e f t =
     let place : n + a + b ≡ n + count = omega (arith, e) in (
       subst (λ (m : ℕ). IsClock part kept c h m) place t.0,
-      ap (first_firing part kept h n) (sym e) ∙ firing_more part kept h n a b ∙ ap (λ (o : Option ℕ). or_else o (first_firing part kept h (n + a) b)) f ∙ t.1,
+      ap (first_firing part kept h n) (sym e) ∙ firing_more part kept h n a b ∙ ap (λ (o : Option ℕ). option_or o (first_firing part kept h (n + a) b)) f ∙ t.1,
     )
 
 pub ticks_some : (part : PartData) (kept : Kept) (c : ClockState) (h : History) (n a b count k : ℕ) → a + b ≡ count → first_firing part kept h n a ≡ None → Ticks (course_at part kept h (n + a)) c b (Some k) → Ticks (course_at part kept h n) c count (Some (a + k))
@@ -378,5 +379,5 @@ ticks_some part kept c h n a b count k e f t =
       omega (arith, t.0),
       omega (arith, t.1, e),
       subst (λ (m : ℕ). IsClock part kept c h m) place t.2,
-      ap (first_firing part kept h n) (sym e) ∙ firing_more part kept h n a b ∙ ap (λ (o : Option ℕ). or_else o (first_firing part kept h (n + a) b)) f ∙ t.3 ∙ ap (λ (m : ℕ). Some m) place,
+      ap (first_firing part kept h n) (sym e) ∙ firing_more part kept h n a b ∙ ap (λ (o : Option ℕ). option_or o (first_firing part kept h (n + a) b)) f ∙ t.3 ∙ ap (λ (m : ℕ). Some m) place,
     )

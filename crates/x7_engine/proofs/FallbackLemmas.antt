@@ -2,6 +2,7 @@
 -- words show in their own registers alone.
 use Rattle.std.proofs.Common.{◌≡◌, ◌&&◌, ◌-◌, ℕ, Bool, true, false, not, Option, None, List, [], ◌∷◌, length, refl, ap, sym, ◌∙◌}
 use Rattle.std.proofs.lemmas.Bool.{and_right}
+use Rattle.std.specs.Option.{option_or}
 use Rattle.x7_packets.specs.ByHand.{reading_of}
 use Rattle.x7_packets.specs.History.{Access, Bad, History, Read, Write, history_of}
 use Rattle.x7_packets.specs.Reading.{is_synced}
@@ -10,7 +11,7 @@ use Rattle.x7_flow.specs.FrameMemory.{memory_of}
 use Rattle.x7_engine.specs.Course.{course_at}
 use Rattle.x7_engine.specs.Kept.{AreFallbacks, is_fallback, without_kept}
 use Rattle.x7_engine.specs.State.{history_by, memory_in, state_by, state_of, stop_in, taken_by, why_of}
-use Rattle.x7_engine.specs.Stop.{Stopped, or_else, stop_of, stopped_at, stopped_by_watchdog, why_at}
+use Rattle.x7_engine.specs.Stop.{Stopped, stop_of, stopped_at, stopped_by_watchdog, why_at}
 use Rattle.x7_engine.specs.Watching.{first_firing, timer_held, turns_on}
 use Rattle.x7_engine.specs.declared.kept.Kept.{Kept}
 use Rattle.x7_engine.specs.declared.regs.Regs.{Regs}
@@ -34,9 +35,9 @@ module _ (part : PartData) (one other : Kept) (bytes : List ℕ) (f : AreFallbac
   same_stops [] n = ap stopped_by_watchdog (none_fired part one [] 0 n f.0 ∙ sym (none_fired part other [] 0 n f.1))
   same_stops (x ∷ h) n =
       let fired : first_firing part one (x ∷ h) x.place (n - x.place) ≡ first_firing part other (x ∷ h) x.place (n - x.place) = none_fired part one (x ∷ h) x.place (n - x.place) f.0 ∙ sym (none_fired part other (x ∷ h) x.place (n - x.place) f.1) in
-      ap (λ (o : Option Stopped). or_else o (or_else (stopped_at x.place (why_at part one h x.access)) (stopped_by_watchdog (first_firing part one (x ∷ h) x.place (n - x.place))))) (same_stops h x.place)
-      ∙ ap (λ (w : Option Stop). or_else (stop_of part other h x.place) (or_else (stopped_at x.place w) (stopped_by_watchdog (first_firing part one (x ∷ h) x.place (n - x.place))))) (same_why h x.access)
-      ∙ ap (λ (m : Option ℕ). or_else (stop_of part other h x.place) (or_else (stopped_at x.place (why_at part other h x.access)) (stopped_by_watchdog m))) fired
+      ap (λ (o : Option Stopped). option_or o (option_or (stopped_at x.place (why_at part one h x.access)) (stopped_by_watchdog (first_firing part one (x ∷ h) x.place (n - x.place))))) (same_stops h x.place)
+      ∙ ap (λ (w : Option Stop). option_or (stop_of part other h x.place) (option_or (stopped_at x.place w) (stopped_by_watchdog (first_firing part one (x ∷ h) x.place (n - x.place))))) (same_why h x.access)
+      ∙ ap (λ (m : Option ℕ). option_or (stop_of part other h x.place) (option_or (stopped_at x.place (why_at part other h x.access)) (stopped_by_watchdog m))) fired
 
   pub kept_stop : stop_in part one bytes ≡ stop_in part other bytes
   kept_stop = same_stops (history_of bytes) (length bytes)

@@ -3,6 +3,7 @@ use Rattle.std.proofs.Common.{◌≡◌, ◌==◌, ◌+◌, ◌-◌, ◌<◌, �
 use Rattle.std.proofs.lemmas.Bool.Decides.{nat_tests}
 use Rattle.std.proofs.Math.Seq.{take-length}
 use Rattle.std.proofs.lemmas.List.{length-take-le, take-append-drop}
+use Rattle.std.specs.Option.{option_or}
 use Rattle.x7_words.specs.Word.{AreBytes}
 use Rattle.x7_words.proofs.ListLemmas.{all_prefix}
 use Rattle.x7_packets.specs.History.{Access, History, Placed, entry, history_of}
@@ -14,7 +15,7 @@ use Rattle.x7_engine.specs.declared.stop.Stop.{Stop}
 use Rattle.x7_engine.specs.declared.stop.Stop.TheVariants as stop
 use Rattle.x7_engine.specs.FirstStop.{IsFirstStop, why_at_byte, why_at_newest}
 use Rattle.x7_engine.specs.State.{stop_in}
-use Rattle.x7_engine.specs.Stop.{Stopped, why_at, or_else, stop_of, stopped_at, stopped_by_watchdog}
+use Rattle.x7_engine.specs.Stop.{Stopped, why_at, stop_of, stopped_at, stopped_by_watchdog}
 use Rattle.x7_engine.specs.Watching.{fired_or, fires, first_firing}
 use Rattle.x7_engine.proofs.ClockLemmas.{stop_more_bytes, or_none}
 use Rattle.x7_engine.proofs.TurnLemmas.{newest_within}
@@ -31,7 +32,7 @@ bytes_taken bytes n f = all_prefix (λ b. b < 256) (take n bytes) (drop n bytes)
 
 -- ---- the stop of a byte more
 
-or_assoc : {A : Type 0} (a b c : Option A) → or_else (or_else a b) c ≡ or_else a (or_else b c)
+or_assoc : {A : Type 0} (a b c : Option A) → option_or (option_or a b) c ≡ option_or a (option_or b c)
 or_assoc (Some x) b c = refl
 or_assoc None b c = refl
 
@@ -39,7 +40,7 @@ or_assoc None b c = refl
 abbrev why_by_fire : Bool → Option Stop → Option Stop
 why_by_fire b why = if b then Some (stop.Fault fault.Watchdog) else why
 
-fired_why : (b : Bool) (n : ℕ) (why : Option Stop) → or_else (stopped_by_watchdog (fired_or None b n)) (stopped_at n why) ≡ stopped_at n (why_by_fire b why)
+fired_why : (b : Bool) (n : ℕ) (why : Option Stop) → option_or (stopped_by_watchdog (fired_or None b n)) (stopped_at n why) ≡ stopped_at n (why_by_fire b why)
 fired_why true n why = refl
 fired_why false n why = refl
 
@@ -51,42 +52,42 @@ some_newest : (part : PartData) (kept : Kept) (n : ℕ) (h : History) (access : 
 some_newest part kept n h access = let here : (n == n) ≡ true = grind (arith, nat_tests) in rw here refl
 
 -- the stop up to the byte itself, before its access
-fired_next : (part : PartData) (kept : Kept) (h : History) (n : ℕ) → Placed n h → stop_of part kept h (suc n) ≡ or_else (stop_of part kept h n) (stopped_by_watchdog (fired_or None (fires part kept h (suc n)) (suc n)))
+fired_next : (part : PartData) (kept : Kept) (h : History) (n : ℕ) → Placed n h → stop_of part kept h (suc n) ≡ option_or (stop_of part kept h n) (stopped_by_watchdog (fired_or None (fires part kept h (suc n)) (suc n)))
 fired_next part kept h n p =
     let next : suc n ≡ n + 1 = omega arith in
     let here : n + 0 + 1 ≡ suc n = omega arith in
     ap (stop_of part kept h) next ∙ stop_more_bytes part kept h n 1 (newest_within n h p)
-    ∙ ap (λ (m : ℕ). or_else (stop_of part kept h n) (stopped_by_watchdog (fired_or None (fires part kept h m) m))) here
+    ∙ ap (λ (m : ℕ). option_or (stop_of part kept h n) (stopped_by_watchdog (fired_or None (fires part kept h m) m))) here
 
 -- the stop with the access of the byte
-fired_entered : (part : PartData) (kept : Kept) (h : History) (n : ℕ) (access : Access) → stop_of part kept (entry access n ∷ h) n ≡ or_else (stop_of part kept h n) (stopped_at n (why_at part kept h access))
+fired_entered : (part : PartData) (kept : Kept) (h : History) (n : ℕ) (access : Access) → stop_of part kept (entry access n ∷ h) n ≡ option_or (stop_of part kept h n) (stopped_at n (why_at part kept h access))
 fired_entered part kept h n access =
     let none : n - n ≡ 0 = omega arith in
-    ap (λ (m : ℕ). or_else (stop_of part kept h n) (or_else (stopped_at n (why_at part kept h access)) (stopped_by_watchdog (first_firing part kept (entry access n ∷ h) n m)))) none
-    ∙ ap (or_else (stop_of part kept h n)) (or_none (stopped_at n (why_at part kept h access)))
+    ap (λ (m : ℕ). option_or (stop_of part kept h n) (option_or (stopped_at n (why_at part kept h access)) (stopped_by_watchdog (first_firing part kept (entry access n ∷ h) n m)))) none
+    ∙ ap (option_or (stop_of part kept h n)) (or_none (stopped_at n (why_at part kept h access)))
 
 stop_next : (part : PartData) (kept : Kept) (h g : History) (n : ℕ) → Placed n h → OneMore (suc n) h g
-    → stop_of part kept g (suc n) ≡ or_else (stop_of part kept h n) (stopped_at (suc n) (why_by_fire (fires part kept h (suc n)) (why_at_newest part kept g (suc n))))
+    → stop_of part kept g (suc n) ≡ option_or (stop_of part kept h n) (stopped_at (suc n) (why_by_fire (fires part kept h (suc n)) (why_at_newest part kept g (suc n))))
 stop_next part kept h g n p (inl e) =
     let fired : Bool = fires part kept h (suc n) in
     ap (λ (x : History). stop_of part kept x (suc n)) e
     ∙ fired_next part kept h n p
-    ∙ ap (or_else (stop_of part kept h n)) (sym (or_none (stopped_by_watchdog (fired_or None fired (suc n)))) ∙ fired_why fired (suc n) None)
-    ∙ ap (λ (o : Option Stop). or_else (stop_of part kept h n) (stopped_at (suc n) (why_by_fire fired o))) (sym (ap (λ (x : History). why_at_newest part kept x (suc n)) e ∙ none_newest part kept n h p))
+    ∙ ap (option_or (stop_of part kept h n)) (sym (or_none (stopped_by_watchdog (fired_or None fired (suc n)))) ∙ fired_why fired (suc n) None)
+    ∙ ap (λ (o : Option Stop). option_or (stop_of part kept h n) (stopped_at (suc n) (why_by_fire fired o))) (sym (ap (λ (x : History). why_at_newest part kept x (suc n)) e ∙ none_newest part kept n h p))
 stop_next part kept h g n p (inr more) =
     let access : Access = more.0 in
     let fired : Bool = fires part kept h (suc n) in
     ap (λ (x : History). stop_of part kept x (suc n)) more.1
     ∙ fired_entered part kept h (suc n) access
-    ∙ ap (λ (o : Option Stopped). or_else o (stopped_at (suc n) (why_at part kept h access))) (fired_next part kept h n p)
+    ∙ ap (λ (o : Option Stopped). option_or o (stopped_at (suc n) (why_at part kept h access))) (fired_next part kept h n p)
     ∙ or_assoc (stop_of part kept h n) (stopped_by_watchdog (fired_or None fired (suc n))) (stopped_at (suc n) (why_at part kept h access))
-    ∙ ap (or_else (stop_of part kept h n)) (fired_why fired (suc n) (why_at part kept h access))
-    ∙ ap (λ (o : Option Stop). or_else (stop_of part kept h n) (stopped_at (suc n) (why_by_fire fired o))) (sym (ap (λ (x : History). why_at_newest part kept x (suc n)) more.1 ∙ some_newest part kept (suc n) h access))
+    ∙ ap (option_or (stop_of part kept h n)) (fired_why fired (suc n) (why_at part kept h access))
+    ∙ ap (λ (o : Option Stop). option_or (stop_of part kept h n) (stopped_at (suc n) (why_by_fire fired o))) (sym (ap (λ (x : History). why_at_newest part kept x (suc n)) more.1 ∙ some_newest part kept (suc n) h access))
 
 -- ---- the first of a row of stops
 
 abbrev IsRow : (ℕ → Option Stopped) → (ℕ → Option Stop) → ℕ → Type 0
-IsRow stops whys most = (stops 0 ≡ None) × ((n : ℕ) → n < most → stops (suc n) ≡ or_else (stops n) (stopped_at (suc n) (whys (suc n))))
+IsRow stops whys most = (stops 0 ≡ None) × ((n : ℕ) → n < most → stops (suc n) ≡ option_or (stops n) (stopped_at (suc n) (whys (suc n))))
 
 record IsLeast (whys : ℕ → Option Stop) (most : ℕ) (s : Stopped) : Type 0 where
   some : 0 < s.place
@@ -108,7 +109,7 @@ abbrev Found : (ℕ → Option Stop) → ℕ → Option Stopped → Type 0
 Found whys n None = AreNone whys n
 Found whys n (Some s) = IsLeast whys n s
 
-found_more : (whys : ℕ → Option Stop) (n : ℕ) (o : Option Stopped) (why : Option Stop) → whys (suc n) ≡ why → Found whys n o → Found whys (suc n) (or_else o (stopped_at (suc n) why))
+found_more : (whys : ℕ → Option Stop) (n : ℕ) (o : Option Stopped) (why : Option Stop) → whys (suc n) ≡ why → Found whys n o → Found whys (suc n) (option_or o (stopped_at (suc n) why))
 found_more whys n (Some s) why e f = record { some = f.some; within = omega (arith, f.within); holds = f.holds; none_earlier = f.none_earlier }
 found_more whys n None None e f = none_more whys n f e
 found_more whys n None (Some why) e f = record { some = omega arith; within = omega arith; holds = e; none_earlier = λ m some less. f m some (omega (arith, less)) }
@@ -163,8 +164,8 @@ row_of part kept bytes fits = (
       let before : suc n - 1 ≡ n = omega arith in
       ap (stop_of part kept (history_of (take (suc n) bytes))) whole
       ∙ stop_next part kept (history_of b) (history_of (take (suc n) bytes)) n more.0 more.1
-      ∙ ap (λ (m : ℕ). or_else (stop_of part kept (history_of b) m) (stopped_at (suc n) (why_by_fire (fires part kept (history_of b) (suc n)) (why_at_newest part kept (history_of (take (suc n) bytes)) (suc n))))) (sym count)
-      ∙ ap (λ (m : ℕ). or_else (stop_in part kept b) (stopped_at (suc n) (why_by_fire (fires part kept (history_of (take m bytes)) (suc n)) (why_at_newest part kept (history_of (take (suc n) bytes)) (suc n))))) (sym before),
+      ∙ ap (λ (m : ℕ). option_or (stop_of part kept (history_of b) m) (stopped_at (suc n) (why_by_fire (fires part kept (history_of b) (suc n)) (why_at_newest part kept (history_of (take (suc n) bytes)) (suc n))))) (sym count)
+      ∙ ap (λ (m : ℕ). option_or (stop_in part kept b) (stopped_at (suc n) (why_by_fire (fires part kept (history_of (take m bytes)) (suc n)) (why_at_newest part kept (history_of (take (suc n) bytes)) (suc n))))) (sym before),
 )
 
 found_in : (part : PartData) (kept : Kept) (bytes : List ℕ) → AreBytes bytes → Found (why_at_byte part kept bytes) (length bytes) (stop_in part kept bytes)

@@ -3,6 +3,7 @@ use Rattle.std.proofs.Common.{◌≡◌, ◌==◌, ◌&&◌, not, ◌+◌, ◌%�
 use Rattle.std.proofs.lemmas.Bool.{and_parts, eqb-true}
 use Rattle.std.proofs.lemmas.List.{length-replicate}
 use Rattle.std.proofs.lemmas.Option.{none-some}
+use Rattle.std.specs.Option.{option_or}
 use Rattle.x7_packets.specs.History.{Access, Bad, Entry, History, Read, Write, entered_all, entry}
 use Rattle.x7_packets.specs.Packet.{payload_steps}
 use Rattle.x7_packets.proofs.HistoryLemmas.{kept_all}
@@ -13,7 +14,7 @@ use Rattle.x7_regs.specs.declared.register.Reg.TheVariants as reg
 use Rattle.x7_regs.specs.Command.{command_by}
 use Rattle.x7_pipeline.specs.declared.fault.RunFault.{RunFault}
 use Rattle.x7_pipeline.specs.declared.fault.RunFault.TheVariants.{Address, Multi, Overrun}
-use Rattle.x7_flow.specs.Asking.{Copies, Load, Order, Other, Word}
+use Rattle.x7_flow.specs.Asking.{Copies, Load, Commands, Other, Word}
 use Rattle.x7_flow.specs.Controls.{is_matched, same_idcode}
 use Rattle.x7_flow.specs.FrameAccess.{reads_frame_data}
 use Rattle.x7_flow.specs.Settings.{settings_of, takes_copies, takes_frames}
@@ -33,7 +34,7 @@ use Rattle.x7_engine.specs.declared.stop.Stop.{Stop}
 use Rattle.x7_engine.specs.declared.stop.Stop.TheVariants as stop
 use Rattle.x7_engine.specs.Kept.{is_fallback}
 use Rattle.x7_engine.specs.Standing.{FramesAre, due_count, frames_among, frames_due, frames_history, is_refusal, older, words_left}
-use Rattle.x7_engine.specs.Stop.{why_by_access, asks_decryption, why_by_frames, why_at, needs_match, or_else, stop_by, why_by_write}
+use Rattle.x7_engine.specs.Stop.{why_by_access, asks_decryption, why_by_frames, why_at, needs_match, stop_by, why_by_write}
 use Rattle.x7_engine.specs.Value.{register_value, value_owing}
 use Rattle.x7_engine.proofs.PlainLemmas.{IsPlain, plain_asks}
 
@@ -88,8 +89,8 @@ none_left part h (due.Same word count) e = ap (λ (n : ℕ). replicate n word) e
 none_left part h (due.Frames count) e = ap (λ (n : ℕ). words_due part h n) e
 
 -- no words are due
-pub none_due : (reads : List ℕ) (part : PartData) (h : History) (d : Due) → due_count d ≡ 0 → reads ≡ reads ++ words_left part h d
-none_due reads part h d e = sym (ap (λ (ws : List ℕ). reads ++ ws) (none_left part h d e) ∙ append-nil reads)
+pub no_word_due : (reads : List ℕ) (part : PartData) (h : History) (d : Due) → due_count d ≡ 0 → reads ≡ reads ++ words_left part h d
+no_word_due reads part h d e = sym (ap (λ (ws : List ℕ). reads ++ ws) (none_left part h d e) ∙ append-nil reads)
 
 length_from : (part : PartData) (base : ℕ) (memory : ℕ → Option (List ℕ)) (place count : ℕ) → length (words_from part base memory place count) ≡ count
 length_from part base memory place zero = refl
@@ -141,7 +142,7 @@ one_why part kept h (Write r w) fault e = by (r == 1) (r == 4) (r == 2 && takes_
         let m = and_parts (is_matched part.idcode h) _ p.1 in
         subst (λ (n : ℕ). why_by_write part kept h n w ≡ None) (sym (eqb-true r 10 p.0)) (why_mfwr part kept h w m.0)
 
-    by : (far cmd fdri mfwr : Bool) → fault_by part (if far then Load w else if cmd then Order (command_by w) else if fdri then Word w else if mfwr then Copies else Other) (flow_of part h) ≡ Some fault →
+    by : (far cmd fdri mfwr : Bool) → fault_by part (if far then Load w else if cmd then Commands (command_by w) else if fdri then Word w else if mfwr then Copies else Other) (flow_of part h) ≡ Some fault →
         (fdri ≡ true → why_by_write part kept h r w ≡ None) → (mfwr ≡ true → why_by_write part kept h r w ≡ None) → why_by_write part kept h r w ≡ None
     by true cmd fdri mfwr e p q = absurd (none-some _ e)
     by false true fdri mfwr e p q = absurd (none-some _ e)
@@ -185,23 +186,23 @@ refused part f h e refusal r s = by refusal r
 
 -- after an access, by why it stops the device
 pub access_frames : (part : PartData) (kept : Kept) (f g : FramesState) (h : History) (e : Entry) (why now : Option Stop) (result : Option RunFault) → FramesStandFor part f h 0
-    → AfterAccess part g h e result → result ≡ frame_fault part h e.access → why ≡ why_by_access part kept h e.access → now ≡ or_else why (why_by_frames result) → FramesAre part g now (e ∷ h) 0
+    → AfterAccess part g h e result → result ≡ frame_fault part h e.access → why ≡ why_by_access part kept h e.access → now ≡ option_or why (why_by_frames result) → FramesAre part g now (e ∷ h) 0
 access_frames part kept f g h e why now None s after r l n =
     let same : now ≡ why = n ∙ alone why in
     frames_at part g now (e ∷ h) 0 (ap is_refusal (same ∙ l) ∙ no_refusal part kept h e.access) after
   where
-    alone : (o : Option Stop) → or_else o None ≡ o
+    alone : (o : Option Stop) → option_or o None ≡ o
     alone None = refl
     alone (Some x) = refl
 access_frames part kept f g h e why now (Some refusal) s after r l n =
     let none : why ≡ None = l ∙ one_why part kept h e.access refusal (sym r) in
-    let same : now ≡ Some (stop_by refusal) = n ∙ ap (λ (o : Option Stop). or_else o (Some (stop_by refusal))) none in
+    let same : now ≡ Some (stop_by refusal) = n ∙ ap (λ (o : Option Stop). option_or o (Some (stop_by refusal))) none in
     subst (λ (o : Option Stop). FramesAre part g o (e ∷ h) 0) (sym same) (refused part g h e refusal (sym r) after)
 
 -- why an access stops a device
-pub why_is : (part : PartData) (kept : Kept) (h : History) (access : Access) (why now : Option Stop) (result : Option RunFault) → result ≡ frame_fault part h access → why ≡ why_by_access part kept h access → now ≡ or_else why (why_by_frames result)
+pub why_is : (part : PartData) (kept : Kept) (h : History) (access : Access) (why now : Option Stop) (result : Option RunFault) → result ≡ frame_fault part h access → why ≡ why_by_access part kept h access → now ≡ option_or why (why_by_frames result)
     → now ≡ why_at part kept h access
-why_is part kept h access why now result r l n = n ∙ ap (λ (o : Option Stop). or_else o (why_by_frames result)) l ∙ ap (λ (o : Option RunFault). or_else (why_by_access part kept h access) (why_by_frames o)) r
+why_is part kept h access why now result r l n = n ∙ ap (λ (o : Option Stop). option_or o (why_by_frames result)) l ∙ ap (λ (o : Option RunFault). option_or (why_by_access part kept h access) (why_by_frames o)) r
 
 -- words of a register without an effect ask nothing of the frames
 pub plain_frames : (part : PartData) (f : FramesState) (register n : ℕ) (ws : List ℕ) (h : History) → IsPlain register → FramesStandFor part f h 0 → FramesStandFor part f (entered_all n (payload_steps register ws) h) 0

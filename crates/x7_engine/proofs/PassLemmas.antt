@@ -20,7 +20,7 @@ use Rattle.x7_engine.specs.State.{history_by, history_taken, reads_of, stop_in}
 use Rattle.x7_engine.specs.Stop.{stop_of, stopped_at}
 use Rattle.x7_engine.specs.Value.{read_out}
 use Rattle.x7_engine.proofs.DeviceLemmas.{going_taken, given_by}
-use Rattle.x7_engine.proofs.FrameLemmas.{none_due}
+use Rattle.x7_engine.proofs.FrameLemmas.{no_word_due}
 use Rattle.x7_engine.proofs.TurnLemmas.{history_until, no_rest, quiet_until}
 
 -- one stretch of a piece and the next
@@ -79,7 +79,7 @@ passed part kept wrapped d e bytes cut more rest count left s going quiet idles 
           stands = subst (λ (x : CutterState). CutterStandsFor x (bytes ++ more) cutter.sessions i.new_place) (sym c)
               (subst (λ (x : List ℕ). CutterStandsFor d.cutter (bytes ++ x) cutter.sessions i.new_place) (sym (no_rest cut more rest j (l ∙ g o))) i.stands);
         };
-        due_are = record { given = reads_of part kept bytes; all = known ∙ none_due (reads_of part kept bytes) part (history_taken part kept (bytes ++ more)) e.registers.due due };
+        due_are = record { given = reads_of part kept bytes; all = known ∙ no_word_due (reads_of part kept bytes) part (history_taken part kept (bytes ++ more)) e.registers.due due };
         at_rest = λ why o. due;
       },
       known,
@@ -89,5 +89,5 @@ passed part kept wrapped d e bytes cut more rest count left s going quiet idles 
 -- the words given stay where none is due before or after
 pub given_same : (part : PartData) (kept : Kept) (d e : DeviceState) (bytes more : List ℕ) → due_count d.registers.due ≡ 0 → due_count e.registers.due ≡ 0 → reads_of part kept more ≡ reads_of part kept bytes → reads_given part kept e more ≡ reads_given part kept d bytes
 given_same part kept d e bytes more i j r =
-    given_by part kept e more (reads_of part kept bytes) [] (r ∙ none_due (reads_of part kept bytes) part [] e.registers.due j)
-    ∙ sym (given_by part kept d bytes (reads_of part kept bytes) [] (none_due (reads_of part kept bytes) part [] d.registers.due i))
+    given_by part kept e more (reads_of part kept bytes) [] (r ∙ no_word_due (reads_of part kept bytes) part [] e.registers.due j)
+    ∙ sym (given_by part kept d bytes (reads_of part kept bytes) [] (no_word_due (reads_of part kept bytes) part [] d.registers.due i))

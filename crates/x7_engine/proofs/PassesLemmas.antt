@@ -1,6 +1,7 @@
 -- A fallback stops at no access at which another attempt goes on, where their histories have left the same.
 use Rattle.std.proofs.Common.{◌≡◌, ◌==◌, ◌&&◌, ◌||◌, ◌%◌, ◌^◌, ◌-◌, ℕ, Bool, true, false, not, if◌then◌else◌, Option, None, Some, ◌∷◌, refl, ap, sym, ◌∙◌}
 use Rattle.std.proofs.lemmas.Bool.{and_right}
+use Rattle.std.specs.Option.{option_or}
 use Rattle.x7_packets.specs.History.{Access, Bad, Entry, History, Read, Write, command_held, entry, executed_by, is_command}
 use Rattle.x7_crc.specs.RunningCheck.{running_check}
 use Rattle.x7_part.specs.Part.{PartData}
@@ -11,7 +12,7 @@ use Rattle.x7_regs.specs.declared.register.Reg.TheVariants as reg
 use Rattle.x7_flow.specs.Controls.{ctl0_held, is_matched, mask_held, masked_word, same_idcode}
 use Rattle.x7_flow.specs.Flow.{frame_fault}
 use Rattle.x7_engine.specs.Kept.{is_fallback}
-use Rattle.x7_engine.specs.Stop.{Stopped, has_dec, or_else, stop_of, stopped_at, stopped_by_watchdog, why_at, why_by_access, why_by_frames, why_by_write}
+use Rattle.x7_engine.specs.Stop.{Stopped, has_dec, stop_of, stopped_at, stopped_by_watchdog, why_at, why_by_access, why_by_frames, why_by_write}
 use Rattle.x7_engine.specs.Watching.{first_firing}
 use Rattle.x7_engine.specs.declared.fault.Fault.TheVariants as fault
 use Rattle.x7_engine.specs.declared.kept.Kept.{Kept}
@@ -56,15 +57,15 @@ stopped_none place (Some w) e = absurd (cc)
 -- an access at which nothing stops, in a fallback; and back, in any attempt
 pub goes_past : (part : PartData) (kept : Kept) (h : History) (a : Access) (place m : ℕ) → is_fallback kept.kind ≡ true → stop_of part kept h place ≡ None → why_at part kept h a ≡ None → stop_of part kept (entry a place ∷ h) m ≡ None
 goes_past part kept h a place m fell before why =
-    ap (λ (o : Option Stopped). or_else o (or_else (stopped_at place (why_at part kept h a)) (stopped_by_watchdog (first_firing part kept (entry a place ∷ h) place (m - place))))) before
-    ∙ ap (λ (w : Option Stop). or_else (stopped_at place w) (stopped_by_watchdog (first_firing part kept (entry a place ∷ h) place (m - place)))) why
+    ap (λ (o : Option Stopped). option_or o (option_or (stopped_at place (why_at part kept h a)) (stopped_by_watchdog (first_firing part kept (entry a place ∷ h) place (m - place))))) before
+    ∙ ap (λ (w : Option Stop). option_or (stopped_at place w) (stopped_by_watchdog (first_firing part kept (entry a place ∷ h) place (m - place)))) why
     ∙ ap stopped_by_watchdog (none_fired part kept (entry a place ∷ h) place (m - place) fell)
 
 pub went_past : (part : PartData) (kept : Kept) (h : History) (e : Entry) (m : ℕ) → stop_of part kept (e ∷ h) m ≡ None → (stop_of part kept h e.place ≡ None) × (why_at part kept h e.access ≡ None)
 went_past part kept h e m none =
     let fired : Option Stopped = stopped_by_watchdog (first_firing part kept (e ∷ h) e.place (m - e.place)) in
     let here : Option Stopped = stopped_at e.place (why_at part kept h e.access) in
-    let parts : (stop_of part kept h e.place ≡ None) × (or_else here fired ≡ None) = parts_none (stop_of part kept h e.place) (or_else here fired) none in
+    let parts : (stop_of part kept h e.place ≡ None) × (option_or here fired ≡ None) = parts_none (stop_of part kept h e.place) (option_or here fired) none in
     (parts.0, stopped_none e.place (why_at part kept h e.access) (parts_none here fired parts.1).0)
 
 module _ (part : PartData) (kept power : Kept) (low : ℕ) (g h : History) (fell : is_fallback kept.kind ≡ true) (s : IsSame part low g h) where
@@ -84,4 +85,4 @@ module _ (part : PartData) (kept power : Kept) (low : ℕ) (g h : History) (fell
   pub why_passes : (a : Access) → why_at part power h a ≡ None → why_at part kept g a ≡ None
   why_passes a e =
       let parts : (why_by_access part power h a ≡ None) × (why_by_frames (frame_fault part h a) ≡ None) = parts_none (why_by_access part power h a) (why_by_frames (frame_fault part h a)) e in
-      ap (λ (o : Option Stop). or_else o (why_by_frames (frame_fault part g a))) (passes a parts.0) ∙ ap why_by_frames (faults part low g h s a) ∙ parts.1
+      ap (λ (o : Option Stop). option_or o (why_by_frames (frame_fault part g a))) (passes a parts.0) ∙ ap why_by_frames (faults part low g h s a) ∙ parts.1

@@ -4,6 +4,7 @@ use Rattle.std.proofs.Math.Seq.{take-length}
 use Rattle.std.proofs.lemmas.List.{length-map, map-append, take-map, take_more}
 use Rattle.std.proofs.lemmas.Option.{get_or_from_slice_get, slice_get_within}
 use Rattle.std.specs.List.{slice_get}
+use Rattle.std.specs.Option.{option_or}
 use Rattle.x7_words.specs.Word.{word_of_bytes, words_of_bytes}
 use Rattle.x7_packets.specs.History.{Access, History, Placed, Write, command_held, entered_all, entry, executed_by, until}
 use Rattle.x7_packets.specs.Packet.{payload_steps}
@@ -11,7 +12,7 @@ use Rattle.x7_packets.specs.CheckedWrites.{clears}
 use Rattle.x7_packets.proofs.GrowthLemmas.{placed_within, until_placed}
 use Rattle.x7_packets.proofs.HistoryLemmas.{kept_all}
 use Rattle.x7_part.specs.Part.{PartData}
-use Rattle.x7_startup.specs.Startup.{StandsFor, progress_of}
+use Rattle.x7_startup.specs.Startup.{StandsForCalls, progress_of}
 use Rattle.x7_startup.specs.Startup as call
 use Rattle.x7_startup.specs.Watchdog.{Watched, WatchesFor, watched_count, is_on, timer_value_of}
 use Rattle.x7_flow.specs.Asking.{Asked, Other}
@@ -27,7 +28,7 @@ use Rattle.x7_engine.specs.Registers.{ghigh_after, has_effect, has_ghigh, clears
 use Rattle.x7_engine.specs.Standing.{AreControls, ControlsState, counted_in}
 use Rattle.x7_engine.specs.Startup.{has_ended, phase_by, startup_call, startup_calls}
 use Rattle.x7_engine.specs.State.{last_counted}
-use Rattle.x7_engine.specs.Stop.{why_by_access, why_by_frames, why_at, or_else, stop_of, stopped_at, stopped_by_watchdog}
+use Rattle.x7_engine.specs.Stop.{why_by_access, why_by_frames, why_at, stop_of, stopped_at, stopped_by_watchdog}
 use Rattle.x7_engine.specs.Watching.{fired_or, fires, first_firing, timer_held, watch_call, watch_calls, watched_bytes}
 use Rattle.x7_engine.proofs.ClockLemmas.{startup_entered, startup_more, stop_more_bytes, watch_entered, watch_more}
 use Rattle.x7_engine.proofs.TurnLemmas.{prefix_until, newest_within}
@@ -109,7 +110,7 @@ own_none part kept h register w p = let q = p.quiet in rw (executes_none (comman
 
 pub why_none : (part : PartData) (kept : Kept) (h : History) (register w : ℕ) → IsPlain register → None ≡ why_at part kept h (Write register w)
 why_none part kept h register w p =
-    sym (ap (λ (o : Option Stop). or_else o (why_by_frames (frame_fault part h (Write register w)))) (own_none part kept h register w p)
+    sym (ap (λ (o : Option Stop). option_or o (why_by_frames (frame_fault part h (Write register w)))) (own_none part kept h register w p)
     ∙ ap (λ (a : Asked). why_by_frames (fault_by part a (flow_of part h))) (plain_asks part.idcode h register w p))
 
 -- the flags stay
@@ -137,7 +138,7 @@ clock_other part kept c h access place start watch s =
     let calls : startup_calls (entry access place ∷ h) place ≡ startup_calls h place = startup_entered h access place ∙ ap (λ t. startup_calls h place ++ t) start ∙ append-nil (startup_calls h place) in
     let watched : watch_calls part (entry access place ∷ h) place ≡ watch_calls part h place = watch_entered part h access place ∙ ap (λ t. watch_calls part h place ++ t) watch ∙ append-nil (watch_calls part h place) in
     record {
-      startup = subst (λ t. StandsFor part.lock part.matched c.startup t) (sym calls) s.startup;
+      startup = subst (λ t. StandsForCalls part.lock part.matched c.startup t) (sym calls) s.startup;
       watchdog = subst (λ t. WatchesFor (is_fallback kept.kind) kept.timer c.watchdog t) (sym watched) s.watchdog;
     }
 
@@ -232,8 +233,8 @@ plain_firing part kept h register w place (suc count) p l =
 plain_stop : (part : PartData) (kept : Kept) (h : History) (register w place m : ℕ) → IsQuiet register → why_at part kept h (Write register w) ≡ None → newest_place h ≤ place → place ≤ m → stop_of part kept (entry (Write register w) place ∷ h) m ≡ stop_of part kept h m
 plain_stop part kept h register w place m p none l k =
     let sum : place + (m - place) ≡ m = omega (arith, k) in
-    ap (λ (o : Option Stop). or_else (stop_of part kept h place) (or_else (stopped_at place o) (stopped_by_watchdog (first_firing part kept (entry (Write register w) place ∷ h) place (m - place))))) none
-    ∙ ap (λ (o : Option ℕ). or_else (stop_of part kept h place) (stopped_by_watchdog o)) (plain_firing part kept h register w place (m - place) p l)
+    ap (λ (o : Option Stop). option_or (stop_of part kept h place) (option_or (stopped_at place o) (stopped_by_watchdog (first_firing part kept (entry (Write register w) place ∷ h) place (m - place))))) none
+    ∙ ap (λ (o : Option ℕ). option_or (stop_of part kept h place) (stopped_by_watchdog o)) (plain_firing part kept h register w place (m - place) p l)
     ∙ sym (stop_more_bytes part kept h place (m - place) l)
     ∙ ap (stop_of part kept h) sum
 
@@ -258,7 +259,7 @@ clocked_more part kept c d h n m register w p none l s =
     record {
       places = (omega arith, omega arith, placed_within n (n + 4 - 1) h (omega arith) s.places);
       clock = record {
-        startup = subst (λ t. StandsFor part.lock part.matched c.startup t) (sym (plain_startup h register w (n + 4) m p before l)) s.clock.startup;
+        startup = subst (λ t. StandsForCalls part.lock part.matched c.startup t) (sym (plain_startup h register w (n + 4) m p before l)) s.clock.startup;
         watchdog = subst (λ t. WatchesFor (is_fallback kept.kind) kept.timer c.watchdog t) (sym (plain_watch part h register w (n + 4) m p before l)) s.clock.watchdog;
       };
       stop = plain_stop part kept h register w (n + 4) m p none before l ∙ s.stop;

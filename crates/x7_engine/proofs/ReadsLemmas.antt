@@ -2,6 +2,7 @@
 use Rattle.std.proofs.Common.{◌≡◌, ℕ, zero, suc, ◌+◌, ◌-◌, ◌≤◌, ◌<◌, List, [], ◌∷◌, ◌++◌, length, length-append, Bool, true, false, Option, None, Some, refl, ap, sym, ◌∙◌, append_assoc, append-nil, arith}
 use Rattle.std.specs.Prelude.{if◌then◌else◌, nat_lt}
 use Rattle.std.proofs.lemmas.Bool.Decides.{nat_tests}
+use Rattle.std.specs.Option.{option_or}
 use Rattle.x7_words.specs.Word.{AreBytes}
 use Rattle.x7_words.proofs.ListLemmas.{all_prefix}
 use Rattle.x7_packets.specs.History.{AllAfter, History, Placed, history_of, until}
@@ -10,7 +11,7 @@ use Rattle.x7_part.specs.Part.{PartData}
 use Rattle.x7_engine.specs.declared.kept.Kept.{Kept}
 use Rattle.x7_engine.specs.declared.stop.Stop.{Stop}
 use Rattle.x7_engine.specs.State.{history_by, history_taken, last_counted, reads_of, stop_in}
-use Rattle.x7_engine.specs.Stop.{Stopped, why_at, or_else, stop_of, stopped_at, stopped_by_watchdog}
+use Rattle.x7_engine.specs.Stop.{Stopped, why_at, stop_of, stopped_at, stopped_by_watchdog}
 use Rattle.x7_engine.specs.Value.{answer_of, read_out}
 use Rattle.x7_engine.specs.Watching.{fired_or, fires, first_firing}
 use Rattle.x7_engine.proofs.StateLemmas.{stop_is_final_reads, parts_none, counted_most}
@@ -57,8 +58,8 @@ stop_after part kept [] first n s l none e =
 stop_after part kept (x ∷ h) first n s l none e =
     let parts = parts_none (stop_of part kept h x.place) _ none in
     let own = parts_none (stopped_at x.place (why_at part kept h x.access)) _ parts.1 in
-    let here : or_else (stopped_at x.place (why_at part kept h x.access)) (stopped_by_watchdog (first_firing part kept (x ∷ h) x.place (n - x.place))) ≡ Some s = ap (λ (o : Option Stopped). or_else o (or_else (stopped_at x.place (why_at part kept h x.access)) (stopped_by_watchdog (first_firing part kept (x ∷ h) x.place (n - x.place))))) (sym parts.0) ∙ e in
-    let fired : stopped_by_watchdog (first_firing part kept (x ∷ h) x.place (n - x.place)) ≡ Some s = ap (λ (o : Option Stopped). or_else o (stopped_by_watchdog (first_firing part kept (x ∷ h) x.place (n - x.place)))) (sym own.0) ∙ here in
+    let here : option_or (stopped_at x.place (why_at part kept h x.access)) (stopped_by_watchdog (first_firing part kept (x ∷ h) x.place (n - x.place))) ≡ Some s = ap (λ (o : Option Stopped). option_or o (option_or (stopped_at x.place (why_at part kept h x.access)) (stopped_by_watchdog (first_firing part kept (x ∷ h) x.place (n - x.place))))) (sym parts.0) ∙ e in
+    let fired : stopped_by_watchdog (first_firing part kept (x ∷ h) x.place (n - x.place)) ≡ Some s = ap (λ (o : Option Stopped). option_or o (stopped_by_watchdog (first_firing part kept (x ∷ h) x.place (n - x.place)))) (sym own.0) ∙ here in
     let less : x.place + (first - x.place) < s.place = watchdog_after part kept (x ∷ h) x.place (first - x.place) (n - x.place) s (omega (arith, l)) own.1 fired in
     omega (arith, less)
 
@@ -68,7 +69,7 @@ newer_stop part kept (x ∷ newer) h first most n s a l none e =
     by (stop_of part kept (newer ++ h) x.place) (why_at part kept (newer ++ h) x.access) refl (newer_stop part kept newer h first most x.place s a.2 (omega (arith, a.0)) none) e
   where
     by : (o : Option Stopped) (why : Option Stop) → stop_of part kept (newer ++ h) x.place ≡ o → (stop_of part kept (newer ++ h) x.place ≡ Some s → first < s.place)
-        → or_else o (or_else (stopped_at x.place why) (stopped_by_watchdog (first_firing part kept (x ∷ (newer ++ h)) x.place (n - x.place)))) ≡ Some s → first < s.place
+        → option_or o (option_or (stopped_at x.place why) (stopped_by_watchdog (first_firing part kept (x ∷ (newer ++ h)) x.place (n - x.place)))) ≡ Some s → first < s.place
     by (Some q) why p before g = before (p ∙ g)
     by None (Some q) p before g =
         let place : x.place ≡ s.place = ap place_of g in

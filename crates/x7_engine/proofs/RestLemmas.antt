@@ -1,6 +1,7 @@
 -- Lemmas on specs/Rest: a device at rest stays so over bytes without a sync word.
 use Rattle.std.proofs.Common.{◌≡◌, ◌==◌, ◌&&◌, ◌+◌, ◌<◌, ◌≤◌, ◌⊎◌, inl, inr, ℕ, Bool, true, false, not, Option, None, List, [], ◌++◌, length, length-append, refl, ap, sym, subst, ◌∙◌, append_assoc, arith}
 use Rattle.std.specs.List.{flat_map}
+use Rattle.std.specs.Option.{option_or}
 use Rattle.x7_words.specs.Word.{AreBytes}
 use Rattle.x7_words.proofs.ListLemmas.{all_prefix}
 use Rattle.x7_packets.specs.ByHand.{reading_of}
@@ -21,7 +22,7 @@ use Rattle.x7_engine.specs.Registers.{is_pending}
 use Rattle.x7_engine.specs.Rest.{AtRest, LastGapGoesOn}
 use Rattle.x7_engine.specs.Startup.{has_ended, phase_of, startup_calls, startup_progress}
 use Rattle.x7_flow.specs.Controls.{forbids_reading}
-use Rattle.x7_engine.specs.Stop.{Stopped, or_else, stop_of, stopped_by_watchdog}
+use Rattle.x7_engine.specs.Stop.{Stopped, stop_of, stopped_by_watchdog}
 use Rattle.x7_engine.specs.Watching.{first_firing, timer_held, turns_on}
 use Rattle.x7_engine.proofs.ClockLemmas.{last_of, none_fires, phase_rises, startup_more, stop_more_bytes}
 use Rattle.x7_engine.proofs.SequenceLemmas.{and_false}
@@ -68,7 +69,7 @@ never_fires part kept h n k off =
 pub stop_on : (part : PartData) (kept : Kept) (h : History) (n k : ℕ) → newest_place h ≤ n → (turns_on (timer_held kept h) && not (is_fallback kept.kind)) ≡ false → stop_of part kept h n ≡ None → stop_of part kept h (n + k) ≡ None
 stop_on part kept h n k l off none =
     stop_more_bytes part kept h n k l
-    ∙ ap (λ (o : Option Stopped). or_else o (stopped_by_watchdog (first_firing part kept h n k))) none
+    ∙ ap (λ (o : Option Stopped). option_or o (stopped_by_watchdog (first_firing part kept h n k))) none
     ∙ ap stopped_by_watchdog (never_fires part kept h n k off)
 
 startup_on : (part : PartData) (h : History) (n k : ℕ) → newest_place h ≤ n → (startup_progress h n ≡ NotBegun) ⊎ (phase_of part h n ≡ 7) → (startup_progress h (n + k) ≡ NotBegun) ⊎ (phase_of part h (n + k) ≡ 7)

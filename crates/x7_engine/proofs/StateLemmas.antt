@@ -1,6 +1,7 @@
 -- Lemmas on specs/State: the state of a device that stands for its bytes, and of bytes after a stop.
 use Rattle.std.proofs.Common.{◌≡◌, ◌+◌, ◌-◌, ◌<◌, ◌≤◌, ℕ, zero, suc, Bool, true, false, if◌then◌else◌, Option, None, Some, List, [], ◌∷◌, ◌++◌, length, refl, ap, sym, ◌∙◌, arith, length-append}
 use Rattle.std.proofs.lemmas.Bool.{lt-ltb}
+use Rattle.std.specs.Option.{option_or}
 use Rattle.x7_words.specs.Word.{AreBytes}
 use Rattle.x7_words.proofs.ListLemmas.{all_prefix}
 use Rattle.x7_packets.specs.ByHand.{reading_of}
@@ -18,7 +19,7 @@ use Rattle.x7_flow.specs.Flow.{Flow, far_in, flow_of}
 use Rattle.x7_flow.specs.FrameMemory.{memory_of}
 use Rattle.x7_flow.proofs.StandingLemmas.{no_less}
 use Rattle.x7_engine.specs.State.{history_by, history_taken, last_counted, why_of, reads_of, state_by, state_of, stop_in, taken_by, taken_of, memory_in, state_owing}
-use Rattle.x7_engine.specs.Stop.{Stopped, why_at, or_else, stop_of, stopped_at, stopped_by_watchdog}
+use Rattle.x7_engine.specs.Stop.{Stopped, why_at, stop_of, stopped_at, stopped_by_watchdog}
 use Rattle.x7_engine.specs.Watching.{fired_or, fires, first_firing}
 use Rattle.x7_engine.specs.Value.{read_out}
 
@@ -65,7 +66,7 @@ watchdog_later part kept h from n m s l e = by_firing (first_firing part kept h 
         ap stopped_by_watchdog (ap (first_firing part kept h from) sum ∙ firing_later part kept h from n (m - n) place f) ∙ g
 
 -- the later of two stops
-later_why : (first why : Option Stopped) (now next : Option Stopped) (s : Stopped) → (now ≡ Some s → next ≡ Some s) → or_else first (or_else why now) ≡ Some s → or_else first (or_else why next) ≡ Some s
+later_why : (first why : Option Stopped) (now next : Option Stopped) (s : Stopped) → (now ≡ Some s → next ≡ Some s) → option_or first (option_or why now) ≡ Some s → option_or first (option_or why next) ≡ Some s
 later_why (Some x) why now next s f e = e
 later_why None (Some x) now next s f e = e
 later_why None None now next s f e = f e
@@ -81,7 +82,7 @@ stop_stays_after : (part : PartData) (kept : Kept) (newer h : History) (n k m : 
 stop_stays_after part kept [] h n k m s a l e = stop_later part kept h n m s l e
 stop_stays_after part kept (x ∷ newer) h n k m s a l e =
     let before : stop_of part kept (newer ++ h) x.place ≡ Some s = stop_stays_after part kept newer h n k x.place s a.2 (omega (arith, a.0)) e in
-    ap (λ (o : Option Stopped). or_else o (or_else (stopped_at x.place (why_at part kept (newer ++ h) x.access)) (stopped_by_watchdog (first_firing part kept (x ∷ (newer ++ h)) x.place (m - x.place))))) before
+    ap (λ (o : Option Stopped). option_or o (option_or (stopped_at x.place (why_at part kept (newer ++ h) x.access)) (stopped_by_watchdog (first_firing part kept (x ∷ (newer ++ h)) x.place (m - x.place))))) before
 
 -- the first stop of bytes is that of further bytes too
 pub stop_is_final_stop : (part : PartData) (kept : Kept) (bytes more : List ℕ) (s : Stopped) → AreBytes (bytes ++ more) → stop_in part kept bytes ≡ Some s → stop_in part kept (bytes ++ more) ≡ Some s
@@ -116,7 +117,7 @@ some_why place None s e = absurd cc
 some_why place (Some why) s e = cc
 
 -- which of three stops comes
-of_three : {A : Type 0} (a b c : Option A) (x : A) (P : Type 0) → (a ≡ Some x → P) → (b ≡ Some x → P) → (c ≡ Some x → P) → or_else a (or_else b c) ≡ Some x → P
+of_three : {A : Type 0} (a b c : Option A) (x : A) (P : Type 0) → (a ≡ Some x → P) → (b ≡ Some x → P) → (c ≡ Some x → P) → option_or a (option_or b c) ≡ Some x → P
 of_three (Some y) b c x P f g h e = f e
 of_three None (Some y) c x P f g h e = g e
 of_three None None c x P f g h e = h e
@@ -202,6 +203,6 @@ counted_most (stop.Fault fault.Watchdog) place n l = omega (arith, l)
 counted_most stop.Iprog place n l = omega (arith, l)
 
 -- the first of two is none where both are
-pub parts_none : {A : Type 0} (first second : Option A) → or_else first second ≡ None → (first ≡ None) × (second ≡ None)
+pub parts_none : {A : Type 0} (first second : Option A) → option_or first second ≡ None → (first ≡ None) × (second ≡ None)
 parts_none None second e = (refl, e)
 parts_none (Some x) second e = absurd (cc)

@@ -1,6 +1,6 @@
 -- Lemmas on one run more of a stream: the accesses up to a byte, and the stop at it.
 use Rattle.std.proofs.Common.{◌≡◌, ◌==◌, ◌+◌, ◌-◌, ◌*◌, ◌<◌, ◌≤◌, ◌⊎◌, inl, inr, ℕ, Bool, true, false, if◌then◌else◌, Option, None, Some, List, [], ◌∷◌, ◌++◌, length, take, drop, refl, ap, sym, subst, ◌∙◌, append-nil, arith}
-use Rattle.std.specs.Option.{is_some}
+use Rattle.std.specs.Option.{is_some, option_or}
 use Rattle.std.specs.Prelude.{nat_lt}
 use Rattle.std.proofs.lemmas.Bool.{lt-ltb}
 use Rattle.std.proofs.lemmas.Bool.Decides.{nat_tests}
@@ -20,7 +20,7 @@ use Rattle.x7_engine.specs.declared.stop.Stop.TheVariants as stop
 use Rattle.x7_engine.specs.Clock.{ClockState, Ticks, newest_place}
 use Rattle.x7_engine.specs.Standing.{FramesAre, IsNextAccess, RegistersStandFor, RegistersState, counted_in, frames_due}
 use Rattle.x7_engine.specs.State.{history_by, last_counted}
-use Rattle.x7_engine.specs.Stop.{Stopped, why_at, or_else, stop_of, stopped_at, stopped_by_watchdog}
+use Rattle.x7_engine.specs.Stop.{Stopped, why_at, stop_of, stopped_at, stopped_by_watchdog}
 use Rattle.x7_engine.specs.Value.{read_out}
 use Rattle.x7_engine.specs.Watching.{first_firing}
 use Rattle.x7_engine.proofs.ClockLemmas.{firing_more, stop_more_bytes}
@@ -89,7 +89,7 @@ stop_at_last part kept k m (x ∷ h) s p e = by (λ q. stop_at_last part kept (x
         let here : m ≡ x.place = omega (arith, a, b, p.0) in
         let all : until (m - 1) h ≡ h = until_placed (m - 1) h (placed_within (x.place - 1) (m - 1) h (omega (arith, here)) p.2) in
         let before : stop_of part kept h x.place ≡ Some s = ap (stop_of part kept h) (sym here) ∙ sym (ap (λ (t : History). stop_of part kept t m) all) ∙ e in
-        ap (λ (o : Option Stopped). or_else o (or_else (stopped_at x.place (why_at part kept h x.access)) (stopped_by_watchdog (first_firing part kept (x ∷ h) x.place (m - x.place))))) before
+        ap (λ (o : Option Stopped). option_or o (option_or (stopped_at x.place (why_at part kept h x.access)) (stopped_by_watchdog (first_firing part kept (x ∷ h) x.place (m - x.place))))) before
 
 pub stop_until : (part : PartData) (kept : Kept) (d : Option Stop) (k m : ℕ) (h : History) → Placed k h → stop_of part kept (until (counted_in d m) h) m ≡ stopped_at m d → stop_of part kept (until m h) m ≡ stopped_at m d
 stop_until part kept None k m h p e = e
@@ -122,7 +122,7 @@ ticked part kept d clock h n count m i e s t = subst (λ (x : ℕ). RegistersSta
   clock = t.0;
   stop =
       stop_more_bytes part kept h n count (newest_within n h s.places)
-      ∙ ap (λ (o : Option Stopped). or_else o (stopped_by_watchdog (first_firing part kept h n count))) (s.stop ∙ ap (stopped_at n) e)
+      ∙ ap (λ (o : Option Stopped). option_or o (stopped_by_watchdog (first_firing part kept h n count))) (s.stop ∙ ap (stopped_at n) e)
       ∙ ap stopped_by_watchdog t.1
       ∙ sym (ap (stopped_at (n + count)) e);
   frames = s.frames;
@@ -130,7 +130,7 @@ ticked part kept d clock h n count m i e s t = subst (λ (x : ℕ). RegistersSta
 }
 
 -- the firing is that of the bytes up to it
-some_some : (o p : Option ℕ) (k : ℕ) → or_else o p ≡ Some k → (o ≡ Some k) ⊎ ((o ≡ None) × (p ≡ Some k))
+some_some : (o p : Option ℕ) (k : ℕ) → option_or o p ≡ Some k → (o ≡ Some k) ⊎ ((o ≡ None) × (p ≡ Some k))
 some_some None p k e = inr (refl, e)
 some_some (Some x) p k e = inl e
 
@@ -164,7 +164,7 @@ fired part kept d clock h n count k m i e s t =
       clock = t.2;
       stop =
           stop_more_bytes part kept h n k (newest_within n h s.places)
-          ∙ ap (λ (o : Option Stopped). or_else o (stopped_by_watchdog (first_firing part kept h n k))) (s.stop ∙ ap (stopped_at n) e)
+          ∙ ap (λ (o : Option Stopped). option_or o (stopped_by_watchdog (first_firing part kept h n k))) (s.stop ∙ ap (stopped_at n) e)
           ∙ ap stopped_by_watchdog first;
       frames = frames_fired part d h (frames_due d.due) e s.frames;
       due_kind = s.due_kind;

@@ -18,7 +18,7 @@ use Rattle.x7_packets.specs.Reading.{Place, Session}
 use Rattle.x7_packets.proofs.GrowthLemmas.{prefix_of, placed_of, placed_within, until_placed}
 use Rattle.x7_packets.proofs.HistoryLemmas.{cut_enters, kept_all, next_word_is}
 use Rattle.x7_part.specs.Part.{PartData}
-use Rattle.x7_startup.specs.Startup.{Call, Arm, Desync, DropBack, StartupProgress, NotBegun, Begun, StandsFor, cor0_of, progress_of}
+use Rattle.x7_startup.specs.Startup.{Call, Arm, Desync, DropBack, StartupProgress, NotBegun, Begun, StandsForCalls, cor0_of, progress_of}
 use Rattle.x7_startup.proofs.CallLemmas.{further, progress_arm, progress_bytes, progress_drop}
 use Rattle.x7_engine.specs.declared.fed.Fed.{Fed}
 use Rattle.x7_engine.specs.declared.kept.Kept.{Kept}
@@ -28,12 +28,12 @@ use Rattle.x7_engine.specs.declared.until_started.UntilStarted.TheVariants as un
 use Rattle.x7_engine.specs.Phases.{soonest}
 use Rattle.x7_engine.specs.Registers.{takes_shutdown}
 use Rattle.x7_engine.specs.ReadBuffer.{ReadBufState}
-use Rattle.x7_engine.specs.Past.{Answers, AnswersUntil, Past, StaysAtZero, past_of}
+use Rattle.x7_engine.specs.Past.{Answers, AnswersUntil, Past}
 use Rattle.x7_engine.specs.Standing.{DeviceStandsFor, DeviceState, EndsWords, NoWordDue, taken_in}
 use Rattle.x7_engine.specs.Startup.{phase_by, phase_of, startup_call, startup_calls, startup_progress}
 use Rattle.x7_engine.specs.State.{history_by, history_taken, state_of, stop_in, taken_by, taken_of}
 use Rattle.x7_engine.specs.Stop.{Stopped, stopped_at}
-use Rattle.x7_engine.specs.UntilStarted.{AreOtherWrites, CommandsLast, HasNotBegun, IsOtherWrite, NoneStarted, has_started, says_started, taken_until}
+use Rattle.x7_engine.specs.UntilStarted.{AreOtherWrites, CommandsLast, HasNotBegun, IsOtherWrite, NoneBegun, NoneStarted, has_started, says_started, taken_until}
 use Rattle.x7_engine.proofs.ClockLemmas.{last_of}
 use Rattle.x7_engine.proofs.DeviceLemmas.{ends_words, length_between}
 use Rattle.x7_engine.proofs.FeedLemmas.{taken_more}
@@ -230,10 +230,10 @@ below_seven p l = grind arith
 not_seven : (p : ℕ) → p ≤ 7 → (p == 7) ≡ false → p < 7
 not_seven p l e = grind arith
 
--- where startup hasn't begun it is at phase 0 before the last byte of a turn
-pub zero_in_turn : (part : PartData) (kept : Kept) (wrapped : Bool) (d : DeviceState) (bytes more : List ℕ) → stop_in part kept bytes ≡ None → DeviceStandsFor part kept wrapped d (bytes ++ more)
-    → CommandsLast bytes more → HasNotBegun part kept bytes → (k : ℕ) → k < length more → (state_of part kept wrapped (bytes ++ take k more)).phase ≡ 0
-zero_in_turn part kept wrapped d bytes more going s f unbegun k l =
+-- where startup hasn't begun it doesn't begin before the last byte of a turn
+unbegun_in_turn : (part : PartData) (kept : Kept) (wrapped : Bool) (d : DeviceState) (bytes more : List ℕ) → stop_in part kept bytes ≡ None → DeviceStandsFor part kept wrapped d (bytes ++ more)
+    → CommandsLast bytes more → HasNotBegun part kept bytes → NoneBegun part kept bytes more (length more)
+unbegun_in_turn part kept wrapped d bytes more going s f unbegun k l =
     let prefix : List ℕ = take k more in
     let left : length (drop k more) ≡ length more - k = length-drop k more in
     let joined : (bytes ++ prefix) ++ drop k more ≡ bytes ++ more = append_assoc bytes prefix (drop k more) ∙ ap (λ (t : List ℕ). bytes ++ t) (take-append-drop k more) in
@@ -244,7 +244,7 @@ zero_in_turn part kept wrapped d bytes more going s f unbegun k l =
     let still : startup_progress (history_of (bytes ++ prefix)) (length (bytes ++ prefix)) ≡ NotBegun =
     ap (λ (h : History). startup_progress h (length (bytes ++ prefix))) q.1
     ∙ unbegun_later q.0 (history_of bytes) q.2 (λ n. unbegun_at_any (history_of bytes) (length bytes) n first) (length (bytes ++ prefix)) in
-    phase_going part kept wrapped (bytes ++ prefix) none ∙ ap (phase_by part) still
+    ap (λ (o : Option Stopped). startup_progress (history_by o (history_of (bytes ++ prefix))) (taken_by o (length (bytes ++ prefix)))) none ∙ still
 
 pub none_started : (part : PartData) (kept : Kept) (wrapped : Bool) (d : DeviceState) (bytes more : List ℕ) → stop_in part kept bytes ≡ None → DeviceStandsFor part kept wrapped d (bytes ++ more) → has_started part kept bytes ≡ false
     → CommandsLast bytes more → HasNotBegun part kept bytes ⊎ (length more ≤ soonest (state_of part kept wrapped bytes).phase) → NoneStarted part kept bytes more (length more)
@@ -259,7 +259,7 @@ none_started part kept wrapped d bytes more going s not f b = λ k l.
     let now : (state_of part kept false (bytes ++ prefix)).phase ≡ phase_of part (history_of (bytes ++ prefix)) (length (bytes ++ prefix)) = phase_going part kept false (bytes ++ prefix) none in
     let low : phase_of part (history_of (bytes ++ prefix)) (length (bytes ++ prefix)) < 7 = elim b [
       | inl unbegun ↦
-          let zero_is : phase_of part (history_of (bytes ++ prefix)) (length (bytes ++ prefix)) ≡ 0 = sym now ∙ zero_in_turn part kept wrapped d bytes more going s f unbegun k l in
+          let zero_is : phase_of part (history_of (bytes ++ prefix)) (length (bytes ++ prefix)) ≡ 0 = sym now ∙ ap (phase_by part) (unbegun_in_turn part kept wrapped d bytes more going s f unbegun k l) in
           omega (arith, zero_is)
       | inr soon ↦
           let later : phase_of part (history_of (bytes ++ prefix)) (length (bytes ++ prefix)) ≤ phase_of part (history_of bytes) (length bytes) + (length prefix + 3) / 4 = phase_later part bytes prefix fits in
@@ -320,14 +320,14 @@ pub none_on : (part : PartData) (kept : Kept) (bytes piece : List ℕ) (from to 
 none_on part kept bytes piece from to l f g = holds_on (λ t. has_started part kept t ≡ false) bytes piece from to l f g
 
 -- a turn of a device in which startup hasn't begun
-pub zero_on : (part : PartData) (kept : Kept) (wrapped : Bool) (d e : DeviceState) (bytes piece : List ℕ) (from to : ℕ) → from ≤ to → to ≤ length piece → d.registers.stop ≡ None → DeviceStandsFor part kept wrapped d (bytes ++ take from piece)
+pub unbegun_on : (part : PartData) (kept : Kept) (wrapped : Bool) (d e : DeviceState) (bytes piece : List ℕ) (from to : ℕ) → from ≤ to → to ≤ length piece → d.registers.stop ≡ None → DeviceStandsFor part kept wrapped d (bytes ++ take from piece)
     → DeviceStandsFor part kept wrapped e ((bytes ++ take from piece) ++ between piece from to) → CommandsLast (bytes ++ take from piece) (between piece from to) → HasNotBegun part kept (bytes ++ take from piece)
-    → StaysAtZero (past_of part kept wrapped bytes) piece from → StaysAtZero (past_of part kept wrapped bytes) piece to
-zero_on part kept wrapped d e bytes piece from to l m going s after f unbegun before =
+    → NoneBegun part kept bytes piece from → NoneBegun part kept bytes piece to
+unbegun_on part kept wrapped d e bytes piece from to l m going s after f unbegun before =
     let taken : List ℕ = bytes ++ take from piece in
     let count : length (between piece from to) ≡ to - from = length_between piece from to l m in
-    holds_on (λ t. (state_of part kept wrapped t).phase ≡ 0) bytes piece from to l before
-    (λ k n. zero_in_turn part kept wrapped e taken (between piece from to) (s.stop_is ∙ ap (stopped_at (length taken)) going) after f unbegun k (omega (arith, n, count)))
+    holds_on (λ t. HasNotBegun part kept t) bytes piece from to l before
+    (λ k n. unbegun_in_turn part kept wrapped e taken (between piece from to) (s.stop_is ∙ ap (stopped_at (length taken)) going) after f unbegun k (omega (arith, n, count)))
 
 -- ---- what a device keeps of it
 
@@ -335,8 +335,8 @@ zero_on part kept wrapped d e bytes piece from to l m going s after f unbegun be
 pub unbegun : (part : PartData) (kept : Kept) (wrapped : Bool) (d : DeviceState) (bytes : List ℕ) → DeviceStandsFor part kept wrapped d bytes → is_some d.registers.clock.startup.begun ≡ false → HasNotBegun part kept bytes
 unbegun part kept wrapped d bytes s e =
     let n : ℕ = taken_of part kept bytes in
-    let stands : StandsFor part.lock part.matched d.registers.clock.startup (startup_calls (history_taken part kept bytes) n) =
-    subst (λ (k : ℕ). StandsFor part.lock part.matched d.registers.clock.startup (startup_calls (history_taken part kept bytes) k)) (sym (taken_is part kept wrapped d bytes s)) s.registers_are.clock.startup in
+    let stands : StandsForCalls part.lock part.matched d.registers.clock.startup (startup_calls (history_taken part kept bytes) n) =
+    subst (λ (k : ℕ). StandsForCalls part.lock part.matched d.registers.clock.startup (startup_calls (history_taken part kept bytes) k)) (sym (taken_is part kept wrapped d bytes s)) s.registers_are.clock.startup in
     by (startup_progress (history_taken part kept bytes) n) (ap is_some (sym stands.stores.begun_is) ∙ e)
   where
     by : (p : StartupProgress) → is_some (cor0_of p) ≡ false → p ≡ NotBegun

@@ -20,7 +20,7 @@ use Rattle.x7_engine.specs.UntilStarted.{CommandsLast}
 use Rattle.x7_engine.specs.Value.{read_out}
 use Rattle.x7_engine.proofs.ClockLemmas.{idle_ticks}
 use Rattle.x7_engine.proofs.DeviceLemmas.{going_taken, one_word_ends}
-use Rattle.x7_engine.proofs.FrameLemmas.{none_due}
+use Rattle.x7_engine.proofs.FrameLemmas.{no_word_due}
 use Rattle.x7_engine.proofs.TurnLemmas.{history_until, newest_within, next_at, step_until, ticked}
 
 -- a payload word ends where its bytes do
@@ -103,7 +103,7 @@ write_taken part kept wrapped d e bytes rest register w s going begun limit one 
         stop_is = stops;
         registers_are = subst (λ (x : History). RegistersStandFor part kept e.registers x (length all)) (sym taken) here;
         cutter_is = λ o. is.cutter;
-        due_are = record { given = reads_of part kept bytes; all = known ∙ none_due (reads_of part kept bytes) part (history_taken part kept all) e.registers.due due };
+        due_are = record { given = reads_of part kept bytes; all = known ∙ no_word_due (reads_of part kept bytes) part (history_taken part kept all) e.registers.due due };
         at_rest = λ why o. due;
       },
       known,

@@ -5,7 +5,7 @@ use Rattle.x7_packets.specs.History.{Access, Entry, History, is_command}
 use Rattle.x7_part.specs.Part.{PartData}
 use Rattle.x7_regs.specs.declared.command.Command.TheVariants.{Desync, Ltimer, Start}
 use Rattle.x7_regs.specs.Command.{code_of}
-use Rattle.x7_startup.specs.Startup.{Call, StandsFor, Stored}
+use Rattle.x7_startup.specs.Startup.{Call, StandsForCalls, Stored}
 use Rattle.x7_startup.specs.Startup as call
 use Rattle.x7_startup.specs.Watchdog.{Reload, Watch, WatchCall, WatchesFor}
 use Rattle.x7_engine.specs.declared.clock.Clock.{Clock}
@@ -26,7 +26,7 @@ clock_in c = record { startup = c.startup; watchdog = c.watchdog }
 
 -- the clock is that of a history with n bytes taken
 pub record IsClock (part : PartData) (kept : Kept) (c : ClockState) (h : History) (n : ℕ) : Type 0 where
-  pub startup : StandsFor part.lock part.matched c.startup (startup_calls h n)
+  pub startup : StandsForCalls part.lock part.matched c.startup (startup_calls h n)
   pub watchdog : WatchesFor (is_fallback kept.kind) kept.timer c.watchdog (watch_calls part h n)
 
 -- the place of the newest access

@@ -88,10 +88,6 @@ due_at d p = due_of p.part p.kept d p.bytes
 abbrev pub started_at : Past → Bool
 started_at p = has_started p.part p.kept p.bytes
 
--- the phase is 0 after each number of bytes of a piece below `count`
-abbrev pub StaysAtZero : Past → List ℕ → ℕ → Type 0
-StaysAtZero p piece count = (k : ℕ) → k < count → (state_at (later p (take k piece))).phase ≡ 0
-
 -- ---- stops
 
 -- the cause of a fallback that bytes come to

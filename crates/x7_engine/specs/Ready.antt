@@ -11,7 +11,7 @@ use Rattle.x7_engine.specs.Standing.{due_count}
 -- frames are those of a device of the part
 pub record AreReady (part : PartData) (d : Registers) : Type 0 where
   pub going : d.stop ≡ None
-  pub none_due : due_count d.due ≡ 0
+  pub no_word_due : due_count d.due ≡ 0
   pub frames : FramesFit part d.frames
 
 -- a call leaves the words due as they were, and the frames are still those of a device of the part

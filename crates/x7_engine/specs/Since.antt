@@ -13,5 +13,5 @@ pub record Since (Is : History → Access → Type 0) (ends : History → Access
   pub latest : Entry
   pub older : History
   pub split : h ≡ newer ++ latest ∷ older
-  pub is : Is older latest.access
+  pub kind_is : Is older latest.access
   pub lasts : NoneSince ends newer (latest ∷ older)

@@ -244,7 +244,7 @@ pub record MayWrapWith (d : RegistersState) : Type 0 where
   pub not_started : (d.clock.startup.phase == 7) ≡ false
   pub not_failed : failure_of (stop_fault d.stop) false ≡ None
   pub not_left : d.stop ≡ Some stop.Iprog → ⊥
-  pub none_due : due_count d.due ≡ 0
+  pub no_word_due : due_count d.due ≡ 0
 
 -- the flash of this device may end here
 abbrev pub MayWrap : DeviceState → Type 0

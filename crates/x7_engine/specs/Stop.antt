@@ -1,5 +1,6 @@
 -- What stops a device (UG470, configuration registers; the order in which they are looked at is this project's choice).
 use Rattle.std.specs.Prelude.{ℕ, ◌-◌, ◌%◌, ◌^◌, ◌==◌, ◌&&◌, ◌||◌, Bool, not, if◌then◌else◌, [], ◌∷◌, Option, None, Some}
+use Rattle.std.specs.Option.{option_or}
 use Rattle.x7_words.specs.Word.{field_of}
 use Rattle.x7_packets.specs.History.{Access, Write, Read, Bad, History, executes}
 use Rattle.x7_crc.specs.RunningCheck.{running_check}
@@ -19,11 +20,6 @@ use Rattle.x7_engine.specs.declared.stop.Stop.TheVariants as stop
 use Rattle.x7_engine.specs.Kept.{is_fallback}
 use Rattle.x7_flow.specs.Controls.{ctl0_held, is_matched, mask_held, masked_word, same_idcode}
 use Rattle.x7_engine.specs.Watching.{first_firing}
-
--- the first of two values, where there is one, else the second
-abbrev pub or_else : {A : Type 0} → Option A → Option A → Option A
-or_else None second = second
-or_else (Some first) second = Some first
 
 -- DEC of CTL0, bit 6: a stream would be encrypted
 abbrev pub has_dec : ℕ → Bool
@@ -66,7 +62,7 @@ why_by_frames (Some fault) = Some (stop_by fault)
 
 -- why an access after this history stops a device, where it does
 abbrev pub why_at : PartData → Kept → History → Access → Option Stop
-why_at part kept h access = or_else (why_by_access part kept h access) (why_by_frames (frame_fault part h access))
+why_at part kept h access = option_or (why_by_access part kept h access) (why_by_frames (frame_fault part h access))
 
 -- the fault of a stop
 abbrev pub fault_in : Stop → Option Fault
@@ -97,5 +93,5 @@ stopped_by_watchdog (Some place) = Some (record { place = place; why = stop.Faul
 abbrev pub stop_of : PartData → Kept → History → ℕ → Option Stopped
 stop_of part kept [] n = stopped_by_watchdog (first_firing part kept [] 0 n)
 stop_of part kept (e ∷ h) n =
-    or_else (stop_of part kept h e.place)
-    (or_else (stopped_at e.place (why_at part kept h e.access)) (stopped_by_watchdog (first_firing part kept (e ∷ h) e.place (n - e.place))))
+    option_or (stop_of part kept h e.place)
+    (option_or (stopped_at e.place (why_at part kept h e.access)) (stopped_by_watchdog (first_firing part kept (e ∷ h) e.place (n - e.place))))

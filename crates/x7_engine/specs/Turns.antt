@@ -10,7 +10,7 @@ use Rattle.x7_engine.specs.UntilStarted.{CommandsLast}
 pub record MayTake (d : DeviceState) (piece : List ℕ) (at : ℕ) : Type 0 where
   pub within : at ≤ length piece
   pub going : d.registers.stop ≡ None
-  pub none_due : NoWordDue d
+  pub no_word_due : NoWordDue d
   pub fits : d.taken + (length piece - at) ≤ 2 ^ 63
 
 -- in a turn a device keeps its part, takes just the bytes `more` and gives no word, and none of the bytes but the last
@@ -33,7 +33,7 @@ pub record Turned (old new : DeviceState) (piece : List ℕ) (from to : ℕ) : T
 pub record IsUsedUp (d : DeviceState) (piece : List ℕ) (at : ℕ) : Type 0 where
   pub all : at ≡ length piece
   pub going : d.registers.stop ≡ None
-  pub none_due : NoWordDue d
+  pub no_word_due : NoWordDue d
 
 -- where nothing stopped a device, fewer calls of its cutter are left in the piece than before
 abbrev pub HasFewerCalls : DeviceState → DeviceState → List ℕ → ℕ → ℕ → Type 0

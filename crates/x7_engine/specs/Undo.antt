@@ -90,7 +90,7 @@ pub record TookFewSince (u : UndoState) (d : DeviceState) : Type 0 where
   pub more : List ℕ
   pub old : DeviceState
   pub keeps : KeepsDevice u old
-  pub none_due : NoWordDue old
+  pub no_word_due : NoWordDue old
   pub few : length more ≤ 4
   pub had : HasPast old past
   pub has : HasPast d (later past more)

@@ -1,5 +1,5 @@
--- Feeding up to the end of startup: the bytes taken are those up to the least one at which
--- startup has ended (this project's choice).
+-- Feeding up to where startup begins, or up to its end: the bytes taken are those up to the least one at which startup
+-- has begun, or has ended (this project's choice).
 use Rattle.std.specs.Prelude.{◌≡◌, ℕ, ◌<◌, ◌==◌, ◌++◌, Bool, true, false, List, [], ◌∷◌, length, take}
 use Rattle.x7_packets.specs.History.{Access, Bad, History, Read, Write, history_of}
 use Rattle.x7_part.specs.Part.{PartData}
@@ -20,6 +20,10 @@ has_started part kept bytes = (state_of part kept false bytes).phase == 7
 -- startup hasn't begun at these bytes
 abbrev pub HasNotBegun : PartData → Kept → List ℕ → Type 0
 HasNotBegun part kept bytes = startup_progress (history_taken part kept bytes) (taken_of part kept bytes) ≡ NotBegun
+
+-- startup hasn't begun after any number of bytes of a piece below `count`
+abbrev pub NoneBegun : PartData → Kept → List ℕ → List ℕ → ℕ → Type 0
+NoneBegun part kept bytes piece count = (k : ℕ) → k < count → HasNotBegun part kept (bytes ++ take k piece)
 
 -- startup hasn't ended after any number of bytes of a piece below `count`
 abbrev pub NoneStarted : PartData → Kept → List ℕ → List ℕ → ℕ → Type 0

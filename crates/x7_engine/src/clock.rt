@@ -3,7 +3,7 @@ ghost use Rattle.std.specs.Prelude.{◌≡◌, ◌<◌, ◌≤◌, ◌+◌, ◌+
 ghost use Rattle.x7_packets.specs.History.{History};
 ghost use Rattle.x7_part.specs.Part.{PartData};
 ghost use Rattle.x7_flow.specs.Standing.{word_to, written_to};
-ghost use Rattle.x7_startup.specs.Startup.{Call, StandsFor, ticks_of};
+ghost use Rattle.x7_startup.specs.Startup.{Call, StandsForCalls, ticks_of};
 ghost use Rattle.x7_startup.specs.Watchdog.{WatchCall, WatchesFor};
 ghost use Rattle.x7_engine.specs.Clock.{AreEndedAlike, HasEndedBy, TakesEntry, Ticks, TicksOn, newest_place, startup_call_by, watch_call_by};
 ghost use Rattle.x7_engine.specs.Course.{course_at};
@@ -21,7 +21,7 @@ use x7_startup::{Lines, Startup, Watchdog};
 
 /// What a written word asks of startup.
 fn move_startup(startup: &mut Startup, executed: Option<u8>, taken: bool, cor0: u32)
-    ensures { (lock matched : ℕ) (calls : List Call) → StandsFor lock matched startup.old calls → StandsFor lock matched startup.new (calls ++ startup_call_by executed taken cor0) }
+    ensures { (lock matched : ℕ) (calls : List Call) → StandsForCalls lock matched startup.old calls → StandsForCalls lock matched startup.new (calls ++ startup_call_by executed taken cor0) }
 {
     if is(Command::Start, executed) {
         startup.arm();
@@ -96,7 +96,7 @@ impl Clock {
     pub(crate) fn phase(&self) -> u8
         ensures now { result ≡ self.now.startup.phase }
         ensures last { result ≤ 7 }
-        ensures value { (part : PartData) (h : History) (n : ℕ) → StandsFor part.lock part.matched self.now.startup (startup_calls h n) → result ≡ phase_of part h n }
+        ensures value { (part : PartData) (h : History) (n : ℕ) → StandsForCalls part.lock part.matched self.now.startup (startup_calls h n) → result ≡ phase_of part h n }
     {
         self.startup.phase()
     }
@@ -104,21 +104,21 @@ impl Clock {
     /// Whether startup has ended.
     pub(crate) fn has_ended(&self) -> bool
         ensures now { result ≡ (self.now.startup.phase == 7) }
-        ensures value { (part : PartData) (h : History) (n : ℕ) → StandsFor part.lock part.matched self.now.startup (startup_calls h n) → result ≡ has_ended part h n }
+        ensures value { (part : PartData) (h : History) (n : ℕ) → StandsForCalls part.lock part.matched self.now.startup (startup_calls h n) → result ≡ has_ended part h n }
     {
         self.phase() == 7
     }
 
     /// Whether `ticks` ticks have passed since startup began.
     pub(crate) fn have_passed(&self, ticks: u16) -> bool
-        ensures { (part : PartData) (h : History) (n : ℕ) → StandsFor part.lock part.matched self.now.startup (startup_calls h n) → result ≡ nat_le ticks (ticks_of (startup_progress h n)) }
+        ensures { (part : PartData) (h : History) (n : ℕ) → StandsForCalls part.lock part.matched self.now.startup (startup_calls h n) → result ≡ nat_le ticks (ticks_of (startup_progress h n)) }
     {
         ticks <= self.startup.ticks()
     }
 
     /// The lines DONE, GTS and GWE.
     pub(crate) fn lines(&self) -> Lines
-        ensures { (part : PartData) (h : History) (n : ℕ) → StandsFor part.lock part.matched self.now.startup (startup_calls h n) → result ≡ lines_by part (startup_progress h n) }
+        ensures { (part : PartData) (h : History) (n : ℕ) → StandsForCalls part.lock part.matched self.now.startup (startup_calls h n) → result ≡ lines_by part (startup_progress h n) }
     {
         self.startup.lines()
     }

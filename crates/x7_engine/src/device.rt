@@ -223,7 +223,7 @@ impl Device {
     fn pass_nops(&mut self, piece: &[u8], at: &mut usize)
         requires { MayTake self.old piece.now at.old }
         ensures turned { Turned self.old self.new piece.now at.old at.new }
-        ensures none_due { NoWordDue self.new }
+        ensures no_word_due { NoWordDue self.new }
         ensures cutter { self.new.cutter ≡ self.old.cutter }
         ensures quiet { OfPast self.old (λ p. history_of (p.bytes ++ between piece.now at.old at.new) ≡ history_of p.bytes) }
     {
@@ -256,8 +256,8 @@ impl Device {
     fn take_write(&mut self, piece: &[u8], at: &mut usize) -> bool
         requires { MayTake self.old piece.now at.old }
         ensures none { result ≡ false → (self.new ≡ self.old) × (at.new ≡ at.old) }
-        ensures one { IsTrue result → at.new ≡ at.old + 8 }
-        ensures none_due { NoWordDue self.new }
+        ensures eight_bytes { IsTrue result → at.new ≡ at.old + 8 }
+        ensures no_word_due { NoWordDue self.new }
         ensures turned { IsTrue result → Turned self.old self.new piece.now at.old at.new }
     {
         if !self.registers.clock.is_idle() {

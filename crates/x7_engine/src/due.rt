@@ -7,6 +7,6 @@ pub enum Due {
     Nothing,
     /// One word is due, the number of times given second.
     Same(u32, u32),
-    /// This many words of frame data are due.
+    /// Words of frame data are due, as many as the number.
     Frames(u32),
 }

@@ -6,15 +6,15 @@ use std::alloc::Global;
 use std::marker::Model;
 use x7_words::NoMemory;
 
-/// Room for one word, in place.
+/// Room for one word, in place, which needs no memory.
 #[derive(Drop)]
-pub(crate) struct Slot {
+pub(crate) struct OneWord {
     words: [u32; 1],
     // how many words the room has, 0 or 1
     count: usize,
 }
 
-impl Model for Slot {
+impl Model for OneWord {
     ghost use Rattle.std.specs.Prelude.{◌≤◌, ℕ, List, take};
 
     ghost Value = { List ℕ };
@@ -24,34 +24,39 @@ impl Model for Slot {
     ghost invariant = { λ s. s.count ≤ 1 };
 }
 
-impl Slot {
-    fn new() -> Slot
+impl OneWord {
+    /// Room without a word.
+    fn new() -> OneWord
         ensures { result ≡ [] }
     {
-        Slot {
+        OneWord {
             words: [0],
             count: 0,
         }
     }
 
+    /// The word, or none.
     fn words(&self) -> &[u32]
         ensures { result.now ≡ self.now }
     {
         &self.words[..self.count]
     }
 
+    /// Whether there is a word.
     fn is_full(&self) -> bool
         ensures { result ≡ (length self.now == 1) }
     {
         self.count == 1
     }
 
+    /// Forgets the word.
     fn clear(&mut self)
         ensures { self.new ≡ [] }
     {
         self.count = 0;
     }
 
+    /// Has this word from now on.
     fn put(&mut self, word: u32)
         ensures { self.new ≡ word ∷ [] }
     {
@@ -68,7 +73,7 @@ pub(crate) enum Room {
     /// Nowhere: the buffer has room for no word.
     Full,
     /// In place, for one word.
-    One(Slot),
+    One(OneWord),
     /// In a vector, for the number of words given second.
     Many(Vec<u32>, usize),
 }
@@ -124,7 +129,7 @@ impl ReadBuf {
         ensures { result ≡ record { most = Some 1; words = [] } }
     {
         ReadBuf {
-            room: Room::One(Slot::new()),
+            room: Room::One(OneWord::new()),
         }
     }
 
@@ -135,7 +140,7 @@ impl ReadBuf {
     {
         match &self.room {
             Room::Nothing | Room::Full => &[],
-            Room::One(slot) => slot.words(),
+            Room::One(room) => room.words(),
             Room::Many(words, _) => words.as_slice(),
         }
     }
@@ -146,7 +151,7 @@ impl ReadBuf {
     {
         match &mut self.room {
             Room::Nothing | Room::Full => (),
-            Room::One(slot) => slot.clear(),
+            Room::One(room) => room.clear(),
             Room::Many(words, _) => words.clear(),
         }
     }
@@ -168,11 +173,11 @@ impl ReadBuf {
         match &mut self.room {
             Room::Nothing => 0,
             Room::Full => count,
-            Room::One(slot) => {
-                if slot.is_full() || count == 0 {
+            Room::One(room) => {
+                if room.is_full() || count == 0 {
                     return count;
                 }
-                slot.put(word);
+                room.put(word);
                 count - 1
             }
             Room::Many(words, most) => {
@@ -204,7 +209,7 @@ impl ReadBuf {
         match &self.room {
             Room::Nothing => false,
             Room::Full => true,
-            Room::One(slot) => slot.is_full(),
+            Room::One(room) => room.is_full(),
             Room::Many(words, most) => words.len() == *most,
         }
     }
@@ -217,7 +222,7 @@ impl ReadBuf {
         match &mut self.room {
             Room::Nothing => (),
             Room::Full => unreachable!(),
-            Room::One(slot) => slot.put(word),
+            Room::One(room) => room.put(word),
             Room::Many(words, _) => match words.push(word) {
                 Ok(()) => (),
                 Err(_) => unreachable!(),

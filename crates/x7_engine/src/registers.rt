@@ -1,5 +1,6 @@
 //! The registers of a device, and what an access does to them.
 ghost use Rattle.std.specs.Prelude.{◌≡◌, ◌≤◌, ◌<◌, ◌+◌, ◌*◌, ◌/◌, ◌%◌, ◌&&◌, ℕ, [], true, Option, None, Some, ◌-◌, length};
+ghost use Rattle.std.specs.Option.{option_or};
 ghost use Rattle.x7_packets.specs.Cutter.{IsRun};
 ghost use Rattle.x7_packets.specs.History.{command_held, entered, History};
 ghost use Rattle.x7_part.specs.Part.{PartData};
@@ -11,7 +12,7 @@ ghost use Rattle.x7_crc.specs.RunningCheck.{executed_after};
 ghost use Rattle.x7_engine.specs.Ready.{AreReady, LeavesBytes, LeavesDue, RestsAtStop};
 ghost use Rattle.x7_engine.specs.Standing.{counted_in, due_count};
 ghost use Rattle.x7_engine.specs.State.{last_counted};
-ghost use Rattle.x7_engine.specs.Stop.{why_by_access, why_by_frames, or_else, stop_by};
+ghost use Rattle.x7_engine.specs.Stop.{why_by_access, why_by_frames, stop_by};
 ghost use Rattle.x7_engine.specs.declared.kept.Kept.{Kept as KeptData};
 ghost use Rattle.x7_engine.specs.Taken.{TookFirst, TookWords, TookWrite};
 ghost use Rattle.x7_engine.specs.Targets.{target_number};
@@ -70,7 +71,7 @@ pub(crate) fn stop_of_refused(fault: RunFault) -> Stop
 
 /// Why a written word stops the device: by its register, or else because the frames refuse it.
 fn first_of(why: Option<Stop>, refused: Option<RunFault>) -> Option<Stop>
-    ensures value { result ≡ or_else why (why_by_frames refused) }
+    ensures value { result ≡ option_or why (why_by_frames refused) }
     ensures counts { (n : ℕ) → counted_in why n ≡ n → counted_in result n ≡ n }
 {
     match (why, refused) {
@@ -102,7 +103,7 @@ impl Registers {
     pub(crate) fn new(kept: &Kept, frames: Frames) -> Registers
         ensures stands { (part : PartData) → FramesStandFor part frames [] 0 → RegistersStandFor part kept.now (registers_in result) [] 0 }
         ensures going { result.stop ≡ None }
-        ensures none_due { result.due ≡ Due.Nothing }
+        ensures no_word_due { result.due ≡ Due.Nothing }
         ensures frames { result.frames ≡ frames }
     {
         Registers {
@@ -122,7 +123,7 @@ impl Registers {
     pub(crate) fn reset(&mut self, kept: &Kept)
         ensures stands { (part : PartData) → FramesFit part self.old.frames → RegistersStandFor part kept.now (registers_in self.new) [] 0 }
         ensures going { self.new.stop ≡ None }
-        ensures none_due { self.new.due ≡ Due.Nothing }
+        ensures no_word_due { self.new.due ≡ Due.Nothing }
         ensures frames { (part : PartData) → FramesFit part self.old.frames → FramesFit part self.new.frames }
     {
         self.words = Words::new(kept);

@@ -37,7 +37,7 @@ impl SavedRegisters {
     /// The stored values of a device on the bench that took nothing.
     pub(crate) fn new() -> SavedRegisters
         ensures stands { (part : PartData) (f : FramesState) → FramesStandFor part f [] 0 → RegistersStandFor part on_the_bench (registers_with (values_in result) f) [] 0 }
-        ensures none_due { result.due ≡ Due.Nothing }
+        ensures no_word_due { result.due ≡ Due.Nothing }
         ensures going { result.stop ≡ None }
     {
         SavedRegisters {

@@ -32,6 +32,7 @@ impl Words {
         ensures { AreLastWords kept.now result.last [] }
     {
         let mut words = Words::zero();
+        // BSPI, TIMER and WBSTAR by their numbers.
         words.last[31] = kept.bspi;
         words.last[17] = kept.timer;
         words.last[16] = kept.wbstar;

@@ -13,7 +13,7 @@ use Rattle.x7_pipeline.specs.Copies.{copied, is_mfw}
 use Rattle.x7_pipeline.specs.Fault.{address_fault, completes, copy_fault, has_filled, write_fault}
 use Rattle.x7_pipeline.proofs.LawLemmas.{copy_no_overrun, overrun_is, refused_far, refused_landed, write_no_multi}
 use Rattle.std.proofs.lemmas.Bool.{ltb-true}
-use Rattle.x7_flow.specs.Asking.{Asked, Load, Order, Word, Copies, Reads, Other}
+use Rattle.x7_flow.specs.Asking.{Asked, Load, Commands, Word, Copies, Reads, Other}
 use Rattle.x7_flow.specs.Flow.{Flow, asks, base_of, far_in, far_read, fault_by, flow_by, flow_of, frame_fault, is_copy, is_word, run_of}
 use Rattle.x7_flow.specs.FrameMemory.{copy_pairs, written_frames_more, memory_of, puts}
 use Rattle.x7_flow.specs.NeedsAddress.{needs_address}
@@ -43,7 +43,7 @@ no_read part f count fault e = by (count == 0) (has_frame_at part f.base) e
 
 refused_by : (part : PartData) (a : Asked) (f : Flow) (fault : RunFault) → fault_by part a f ≡ Some fault → (puts part a f ≡ []) × (far_in part (flow_by part a f) ≡ far_in part f)
 refused_by part (Load w) f fault e = absurd (none-some fault e)
-refused_by part (Order c) f fault e = absurd (none-some fault e)
+refused_by part (Commands c) f fault e = absurd (none-some fault e)
 refused_by part (Word w) f fault e = (
   append_cancel_right (written_frames_more part f.base f.run) [] (written_frames part f.base f.run) (sym (landed_grows part f.base w f.run) ∙ refused_landed part f.base f.run w fault e),
   refused_far part f.base f.run w f.given fault e,
@@ -76,7 +76,7 @@ no_overrun false far e = none-some _ e
 address_by : (part : PartData) (a : Asked) (f : Flow) (far : ℕ) → (fault_by part a f ≡ Some (Address far)) ↔ ((needs_address a f ≡ true) × (has_frame_at part f.base ≡ false) × (far ≡ f.base))
 unfolding write_fault copy_fault
 address_by part (Load w) f far = (λ e. absurd (none-some _ e), λ p. absurd (cc (p.0)))
-address_by part (Order c) f far = (λ e. absurd (none-some _ e), λ p. absurd (cc (p.0)))
+address_by part (Commands c) f far = (λ e. absurd (none-some _ e), λ p. absurd (cc (p.0)))
 address_by part (Word w) f far = by f.run
   where
     by : (run : List ℕ) → (write_fault part f.base run ≡ Some (Address far)) ↔ ((needs_address (Word w) (record f { run = run }) ≡ true) × (has_frame_at part f.base ≡ false) × (far ≡ f.base))
@@ -101,7 +101,7 @@ address_line part h access far = address_by part (asks part.idcode h access) (fl
 multi_by : (part : PartData) (a : Asked) (f : Flow) → (fault_by part a f ≡ Some Multi) ↔ ((is_copy a ≡ true) × ((is_mfw f.command && is_some f.source) ≡ false))
 unfolding copy_fault address_fault
 multi_by part (Load w) f = (λ e. absurd (none-some _ e), λ p. absurd (cc (p.0)))
-multi_by part (Order c) f = (λ e. absurd (none-some _ e), λ p. absurd (cc (p.0)))
+multi_by part (Commands c) f = (λ e. absurd (none-some _ e), λ p. absurd (cc (p.0)))
 multi_by part (Word w) f = (λ e. absurd (write_no_multi part f.base f.run e), λ p. absurd (cc (p.0)))
 multi_by part Copies f = by (is_mfw f.command && is_some f.source) (has_frame_at part f.base)
   where
@@ -127,7 +127,7 @@ multi_line part h access = multi_by part (asks part.idcode h access) (flow_of pa
 overrun_by : (part : PartData) (a : Asked) (f : Flow) → fault_by part a f ≡ Some Overrun → is_word a ≡ true
 unfolding copy_fault address_fault
 overrun_by part (Load w) f e = absurd (none-some _ e)
-overrun_by part (Order c) f e = absurd (none-some _ e)
+overrun_by part (Commands c) f e = absurd (none-some _ e)
 overrun_by part (Word w) f e = refl
 overrun_by part Copies f e = absurd (copy_no_overrun part f.command f.base f.source e)
 overrun_by part (Reads count) f e = absurd (by (count == 0) (has_frame_at part f.base) e)
@@ -179,7 +179,7 @@ none_written part base w run idle none f =
 
 runs_by : (part : PartData) (a : Asked) (f : Flow) → (has_frame_at part f.base ≡ false → f.run ≡ []) → fault_by part a f ≡ None → has_frame_at part (flow_by part a f).base ≡ false → (flow_by part a f).run ≡ []
 runs_by part (Load w) f idle none e = refl
-runs_by part (Order c) f idle none e = refl
+runs_by part (Commands c) f idle none e = refl
 runs_by part (Word w) f idle none e = none_written part f.base w f.run idle none e
 runs_by part Copies f idle none e = idle e
 runs_by part (Reads count) f idle none e = idle e

@@ -13,7 +13,7 @@ use Rattle.x7_pipeline.specs.FarAsRead.{has_frame_at}
 use Rattle.x7_pipeline.specs.Copies.{is_wcfg}
 use Rattle.x7_pipeline.proofs.LawLemmas.{put_twice, no_source}
 use Rattle.x7_pipeline.proofs.RunLemmas.{frames_completes, frames_goes_on}
-use Rattle.x7_flow.specs.Asking.{Asked, Load, Order, Word, Copies, Reads, Other}
+use Rattle.x7_flow.specs.Asking.{Asked, Load, Commands, Word, Copies, Reads, Other}
 use Rattle.x7_flow.specs.Settings.{Settings, settings_of, settings_after, settings_from}
 use Rattle.x7_flow.specs.Flow.{Flow, asked_under, asks, flow_by, flow_of, source_of}
 use Rattle.x7_flow.specs.FrameMemory.{written_frames_more, memory_of, newest_put, puts}
@@ -49,7 +49,7 @@ given_nowhere false given count p e = p e
 
 sound_by : (part : PartData) (s t : Settings) (a : Asked) (f : Flow) → Means s a t.held → IsSound part s f → IsSound part t (flow_by part a f)
 sound_by part s t (Load w) f m i = record { command_is = i.command_is ∙ ap command_with (sym m); idle = λ e. refl; sourceless = i.sourceless; nowhere = λ e. refl }
-sound_by part s t (Order c) f m i = record { command_is = m; idle = λ e. refl; sourceless = no_source part f.command c f.run; nowhere = λ e. refl }
+sound_by part s t (Commands c) f m i = record { command_is = m; idle = λ e. refl; sourceless = no_source part f.command c f.run; nowhere = λ e. refl }
 sound_by part s t (Word w) f m i =
     let wcfg : is_wcfg f.command ≡ true = ap is_wcfg (i.command_is ∙ ap command_with m.1) in
     record { command_is = i.command_is ∙ ap command_with (sym m.0); idle = λ e. absurd cc; sourceless = i.sourceless; nowhere = i.nowhere }

@@ -5,12 +5,13 @@ use Rattle.std.specs.List.{AllByRecursion}
 use Rattle.std.proofs.lemmas.Bool.Decides.{eqb_tells}
 use Rattle.std.proofs.lemmas.List.Elements.{All-head}
 use Rattle.std.proofs.lemmas.List.{length-replicate}
+use Rattle.std.specs.Option.{option_or}
 use Rattle.x7_packets.specs.History.{History, command_held, writes}
 use Rattle.x7_part.specs.AddressOrder.{addresses_in}
 use Rattle.x7_part.specs.Part.{PartData, frame_words}
 use Rattle.x7_part.specs.declared.slot.Slot.{Slot}
 use Rattle.x7_part.specs.declared.slot.Slot.TheVariants.{Frame, Pad, End}
-use Rattle.x7_memory.specs.FrameMap.{FrameMap, frame_or}
+use Rattle.x7_memory.specs.FrameMap.{FrameMap}
 use Rattle.x7_memory.specs.Frames.{zero_frames, zeros}
 use Rattle.x7_memory.specs.Plan.{PlanRow, planned}
 use Rattle.x7_memory.proofs.FrameLemmas.{among_none}
@@ -22,7 +23,7 @@ use Rattle.x7_pipeline.specs.Fault.{completes}
 use Rattle.x7_pipeline.specs.Runs.{at_slot, frames_of, put_over, slots_from}
 use Rattle.x7_pipeline.proofs.LawLemmas.{cut}
 use Rattle.x7_pipeline.proofs.SlotLemmas.{has_address, slot_address}
-use Rattle.x7_flow.specs.Asking.{Asked, Copies, Load, Order, Other, Reads, Word}
+use Rattle.x7_flow.specs.Asking.{Asked, Copies, Load, Commands, Other, Reads, Word}
 use Rattle.x7_flow.specs.Flow.{asks, flow_of, source_of}
 use Rattle.x7_flow.specs.FrameMemory.{copy_pairs, written_frames_more, memory_of, newest_put, puts}
 use Rattle.x7_flow.specs.Inside.{HasFrames}
@@ -107,7 +108,7 @@ copies_frames part h some = by (is_mfw (flow_of part h).command) (has_frame_at p
 
 puts_frames : (part : PartData) (a : Asked) (h : History) → 0 < frame_words part → AreFrames part (puts part a (flow_of part h))
 puts_frames part (Load w) h some = tt
-puts_frames part (Order c) h some = tt
+puts_frames part (Commands c) h some = tt
 puts_frames part (Word w) h some = more_frames part (flow_of part h).base (flow_of part h).run some
 puts_frames part Copies h some = copies_frames part h some
 puts_frames part (Reads n) h some = tt
@@ -131,11 +132,11 @@ pairs_wide part (p ∷ pairs) far words a e =
 
 put_memory : (part : PartData) (pairs : List PlanRow) (m : FrameMap) → AreFrames part pairs → HasFrames part m → HasFrames part (put_over pairs m)
 put_memory part pairs m a i = record {
-  inside = λ far n. ap (λ t. frame_or t (m far)) (pairs_inside part pairs far a n) ∙ i.inside far n;
+  inside = λ far n. ap (λ t. option_or t (m far)) (pairs_inside part pairs far a n) ∙ i.inside far n;
   wide = λ far words e. by far (planned pairs far) words refl e;
 }
   where
-    by : (far : ℕ) (o : Option (List ℕ)) (words : List ℕ) → planned pairs far ≡ o → frame_or o (m far) ≡ Some words → length words ≡ frame_words part
+    by : (far : ℕ) (o : Option (List ℕ)) (words : List ℕ) → planned pairs far ≡ o → option_or o (m far) ≡ Some words → length words ≡ frame_words part
     by far None words e f = i.wide far words f
     by far (Some x) words e f = pairs_wide part pairs far words a (e ∙ f)
 

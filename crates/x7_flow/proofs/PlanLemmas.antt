@@ -4,6 +4,7 @@ use Rattle.std.specs.List.{flat_map, filter_map, zip, AllByRecursion}
 use Rattle.std.proofs.lemmas.Grind.{reverse_onto}
 use Rattle.std.proofs.lemmas.Bool.{cases_eq}
 use Rattle.std.proofs.lemmas.Bool.Decides.{eqb_tells}
+use Rattle.std.specs.Option.{option_or}
 use Rattle.x7_packets.specs.History.{Write, History, command_held, entered_all, entry}
 use Rattle.x7_packets.specs.Packet.{payload_steps}
 use Rattle.x7_part.specs.AddressOrder.{addresses_in, Rises, risen, rise}
@@ -11,7 +12,7 @@ use Rattle.x7_part.specs.Part.{PartData, frame_words}
 use Rattle.x7_part.specs.Slot.{addresses_among, from, slots_in}
 use Rattle.x7_part.specs.declared.slot.Slot.{Slot}
 use Rattle.x7_part.specs.declared.slot.Slot.TheVariants.{Frame, Pad, End}
-use Rattle.x7_memory.specs.FrameMap.{AreSame, frame_or, override}
+use Rattle.x7_memory.specs.FrameMap.{AreSame, override}
 use Rattle.x7_memory.specs.Plan.{PlanRow, planned, planned_addresses}
 use Rattle.x7_memory.proofs.MapLemmas.{override_same, planned_joined}
 use Rattle.x7_memory.proofs.PlanLemmas.{planned_after, planned_here}
@@ -65,7 +66,7 @@ none_below least far (row ∷ rows) r l =
     let low = p.0 in
     planned_after row rows far (λ e. absurd (omega arith)) ∙ none_below (row.far + 1) far rows p.1 (omega arith)
 
-or_else_none : (a : Option (List ℕ)) → frame_or a None ≡ a
+or_else_none : (a : Option (List ℕ)) → option_or a None ≡ a
 or_else_none None = refl
 or_else_none (Some words) = refl
 
@@ -75,15 +76,15 @@ planned_reversed least [] r far = refl
 planned_reversed least (row ∷ rows) r far =
     let p = after_first least row.far (planned_addresses rows) r in
     let back : reverse (row ∷ rows) ≡ reverse rows ++ row ∷ [] = reverse_onto rows row [] in
-    let joined : planned (reverse (row ∷ rows)) far ≡ frame_or (planned rows far) (planned (row ∷ []) far) =
-    ap (λ (rs : List PlanRow). planned rs far) back ∙ planned_joined (reverse rows) (row ∷ []) far ∙ ap (λ (o : Option (List ℕ)). frame_or o (planned (row ∷ []) far)) (planned_reversed (row.far + 1) rows p.1 far) in
+    let joined : planned (reverse (row ∷ rows)) far ≡ option_or (planned rows far) (planned (row ∷ []) far) =
+    ap (λ (rs : List PlanRow). planned rs far) back ∙ planned_joined (reverse rows) (row ∷ []) far ∙ ap (λ (o : Option (List ℕ)). option_or o (planned (row ∷ []) far)) (planned_reversed (row.far + 1) rows p.1 far) in
     elim (eqb_tells far row.far) [
       | inl y ↦
           let e = y.1 in
-          joined ∙ ap (λ (o : Option (List ℕ)). frame_or o (planned (row ∷ []) far)) (none_below (row.far + 1) far rows p.1 (omega arith))
+          joined ∙ ap (λ (o : Option (List ℕ)). option_or o (planned (row ∷ []) far)) (none_below (row.far + 1) far rows p.1 (omega arith))
           ∙ planned_here row [] far y.1 ∙ sym (planned_here row rows far y.1)
       | inr n ↦
-          joined ∙ ap (frame_or (planned rows far)) (planned_after row [] far n.1) ∙ or_else_none (planned rows far) ∙ sym (planned_after row rows far n.1)
+          joined ∙ ap (option_or (planned rows far)) (planned_after row [] far n.1) ∙ or_else_none (planned rows far) ∙ sym (planned_after row rows far n.1)
     ]
 
 -- whole frames and one more leave the memory overridden by the frames at the slots in order

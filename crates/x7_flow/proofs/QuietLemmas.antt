@@ -6,7 +6,7 @@ use Rattle.x7_memory.specs.FrameMap.{AreSame}
 use Rattle.x7_memory.specs.Plan.{PlanRow}
 use Rattle.x7_regs.specs.Command.{command_by}
 use Rattle.x7_pipeline.specs.FarAsRead.{has_frame_at}
-use Rattle.x7_flow.specs.Asking.{Asked, Load, Order, Word, Copies, Reads, Other}
+use Rattle.x7_flow.specs.Asking.{Asked, Load, Commands, Word, Copies, Reads, Other}
 use Rattle.x7_flow.specs.Settings.{Settings, gives_frames, settings_from, settings_of, takes_copies, takes_frames}
 use Rattle.x7_flow.specs.Flow.{Flow, asked_under, asks, flow_by, flow_of}
 use Rattle.x7_flow.specs.FrameMemory.{memory_of, puts}
@@ -18,7 +18,7 @@ use Rattle.x7_flow.proofs.FlowLemmas.{flow_more, flow_sound, memory_joined, put_
 quiet_puts : (part : PartData) (s : Settings) (access : Access) (f : Flow) → (writes 2 access || writes 10 access) ≡ false → puts part (asked_under s access) f ≡ []
 quiet_puts part s (Write r w) f e = by (r == 1) (r == 4) (r == 2) (r == 10) (takes_frames s) (takes_copies s) e
   where
-    by : (far cmd fdri mfwr t c : Bool) → (fdri || mfwr) ≡ false → puts part (if far then Load w else if cmd then Order (command_by w) else if fdri && t then Word w else if mfwr && c then Copies else Other) f ≡ []
+    by : (far cmd fdri mfwr t c : Bool) → (fdri || mfwr) ≡ false → puts part (if far then Load w else if cmd then Commands (command_by w) else if fdri && t then Word w else if mfwr && c then Copies else Other) f ≡ []
     by true cmd fdri mfwr t c e = refl
     by false true fdri mfwr t c e = refl
     by false false true mfwr t c e = absurd cc

@@ -13,7 +13,7 @@ use Rattle.x7_pipeline.specs.Copies.{copied, is_mfw}
 use Rattle.x7_pipeline.specs.Pipeline.{PipelineData}
 use Rattle.x7_pipeline.specs.Saved.{ChangesAt, SavedState, next_put}
 use Rattle.x7_pipeline.proofs.SavedLemmas.{changes_copy, changes_none, taken_back, word_changes as one_word}
-use Rattle.x7_flow.specs.Asking.{Asked, Load, Order, Word, Copies, Reads, Other}
+use Rattle.x7_flow.specs.Asking.{Asked, Load, Commands, Word, Copies, Reads, Other}
 use Rattle.x7_flow.specs.Settings.{Settings, settings_after, settings_of}
 use Rattle.x7_flow.specs.Flow.{Flow, asks, flow_of}
 use Rattle.x7_flow.specs.FrameMemory.{written_frames_more, memory_of, puts}
@@ -39,7 +39,7 @@ copy_by part p base source old new false b e g h i s = changes_none (next_put pa
 
 access_changes : (part : PartData) (s : Settings) (a : Asked) (t : ℕ) (p : PipelineData) (f : Flow) (old new : FrameMap) → Means s a t → IsSound part s f → HasFlow part p f → AreSame new (put_over (puts part a f) old) → ChangesAt (next_put part p) old new
 access_changes part s (Load w) t p f old new m i h same = changes_none (next_put part p) old new (λ far. same far ∙ put_none [] old refl far)
-access_changes part s (Order c) t p f old new m i h same = changes_none (next_put part p) old new (λ far. same far ∙ put_none [] old refl far)
+access_changes part s (Commands c) t p f old new m i h same = changes_none (next_put part p) old new (λ far. same far ∙ put_none [] old refl far)
 access_changes part s (Word w) t p f old new m i h same =
     word_changes part p f w old new h (ap is_mfw (i.command_is ∙ ap command_with m.1)) same
 access_changes part s Copies t p f old new m i h same =

@@ -4,7 +4,7 @@ use Rattle.std.proofs.lemmas.Bool.Decides.{nat_tests}
 use Rattle.x7_packets.specs.History.{Access, Write, Read, Bad, Entry, History, last_word, written}
 use Rattle.x7_flow.specs.Controls.{ctl0_held, is_matched, mask_held}
 use Rattle.x7_regs.specs.Command.{command_by, command_with}
-use Rattle.x7_flow.specs.Asking.{Asked, Load, Order, Word, Copies, Reads, Other}
+use Rattle.x7_flow.specs.Asking.{Asked, Load, Commands, Word, Copies, Reads, Other}
 use Rattle.x7_flow.specs.Settings.{Settings, settings_of, settings_after, settings_from, held_after, takes_frames, takes_copies, gives_frames}
 use Rattle.x7_flow.specs.Flow.{asked_under}
 
@@ -32,7 +32,7 @@ settings_joined idcode (e ∷ later) earlier = settings_more idcode e (later ++ 
 -- the command is the one held before, but for an order; frame data comes under WCFG alone
 abbrev pub Means : Settings → Asked → ℕ → Type 0
 Means s (Load w) held = held ≡ s.held
-Means s (Order c) held = c ≡ command_with held
+Means s (Commands c) held = c ≡ command_with held
 Means s (Word w) held = (held ≡ s.held) × (s.held ≡ 1)
 Means s Copies held = held ≡ s.held
 Means s (Reads count) held = held ≡ s.held
@@ -48,7 +48,7 @@ pub asked_means : (s : Settings) (access : Access) → Means s (asked_under s ac
 asked_means s (Write r w) = by (r == 1) (r == 4) (r == 2 && takes_frames s) (r == 10 && takes_copies s) (far_no_cmd r) (held_wcfg r s.held s.matched _)
   where
     by : (far cmd fdri mfwr : Bool) → (far ≡ true → cmd ≡ false) → (fdri ≡ true → s.held ≡ 1) →
-        Means s (if far then Load w else if cmd then Order (command_by w) else if fdri then Word w else if mfwr then Copies else Other) (if cmd then w % 2 ^ 5 else s.held)
+        Means s (if far then Load w else if cmd then Commands (command_by w) else if fdri then Word w else if mfwr then Copies else Other) (if cmd then w % 2 ^ 5 else s.held)
     by true true fdri mfwr p q = let e = p refl in absurd cc
     by true false fdri mfwr p q = refl
     by false true fdri mfwr p q = refl

@@ -24,8 +24,8 @@ use Rattle.x7_pipeline.specs.Copies.{copied, is_mfw}
 use Rattle.x7_pipeline.specs.Fault.{address_fault, copy_fault, drop_fault, readback_fault}
 use Rattle.x7_pipeline.specs.Flow.{FlowGoesOn, HoldsFlow, LandsAt, OfFlow, after_reads, after_words, begun_at, begun_by, copied_by, fault_of_copy}
 use Rattle.x7_pipeline.specs.Pipeline.{AreOf, PipelineData}
-use Rattle.x7_pipeline.specs.Readback.{readback_at, read_slot, word_at, word_of}
-use Rattle.x7_flow.specs.Asking.{Asked, Load, Order, Word, Copies, Reads, Other}
+use Rattle.x7_pipeline.specs.Readback.{readback_at, read_slot, word_at, word_in_frame}
+use Rattle.x7_flow.specs.Asking.{Asked, Load, Commands, Word, Copies, Reads, Other}
 use Rattle.x7_flow.specs.Flow.{Flow, asked_under, asks, base_of, fault_by, first_flow, flow_by, flow_of, frame_fault, count_given}
 use Rattle.x7_flow.specs.FrameMemory.{copy_pairs, written_frames_more, memory_of, puts}
 use Rattle.x7_flow.specs.FrameAccess.{reads_frame_data}
@@ -47,7 +47,7 @@ did_load part p q frames w stands = record {
 
 pub did_order : (part : PartData) (p q : PipelineData) (frames : List (List ℕ)) (c : Command) →
     FlowGoesOn part p q (begun_by part c) →
-    Did part (Order c) (frames_state p frames) (frames_state q frames)
+    Did part (Commands c) (frames_state p frames) (frames_state q frames)
 did_order part p q frames c stands = record {
   flow = λ f h. record { stands = stands f h.stands; nowhere = λ e. refl };
   memory = λ f h far. sym (put_none [] (frame_at part frames) refl far);
@@ -121,7 +121,7 @@ one_more part old new e h did are =
 -- ---- words of frame data that are due
 
 no_word : (part : PartData) (memory other : FrameMap) → AreSame memory other → (slot : Slot) (i : ℕ) → word_at slot memory i ≡ word_at slot other i
-no_word part memory other same (Frame far) i = ap (λ (o : Option (List ℕ)). word_of o i) (same far)
+no_word part memory other same (Frame far) i = ap (λ (o : Option (List ℕ)). word_in_frame o i) (same far)
 no_word part memory other same Pad i = refl
 no_word part memory other same End i = refl
 

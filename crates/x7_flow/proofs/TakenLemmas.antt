@@ -15,7 +15,7 @@ use Rattle.x7_pipeline.specs.Runs.{written_frames, onto, put_over, Lands}
 use Rattle.x7_pipeline.specs.Fault.{write_fault}
 use Rattle.x7_pipeline.specs.Flow.{HoldsFlow, OfFlow, after_words, with_run, flow_written}
 use Rattle.x7_pipeline.specs.Pipeline.{PipelineData}
-use Rattle.x7_pipeline.specs.Words.{RunWritten, one_written, written}
+use Rattle.x7_pipeline.specs.Words.{RunWritten, one_written, run_written}
 use Rattle.x7_flow.specs.Asking.{Asked, Copies, Other, Word}
 use Rattle.x7_flow.specs.Settings.{settings_of, takes_copies, takes_frames}
 use Rattle.x7_flow.specs.Flow.{Flow, asks, base_of, fault_by, flow_of, frame_fault, run_of}
@@ -46,18 +46,18 @@ one_counted : (taken count : ℕ) (fault : Option RunFault) → count ≡ words_
 one_counted taken count None e = omega (arith, e)
 one_counted taken count (Some fault) e = omega (arith, e)
 
-parted : (part : PartData) (n : ℕ) (words : List ℕ) (h : History) → takes_frames (settings_of part.idcode h) ≡ true → Parted part n h words (written part (base_of part h) (run_of part h) words)
-unfolding written NoneRefused
+parted : (part : PartData) (n : ℕ) (words : List ℕ) (h : History) → takes_frames (settings_of part.idcode h) ≡ true → Parted part n h words (run_written part (base_of part h) (run_of part h) words)
+unfolding run_written NoneRefused
 parted part n [] h t = record { prefix = []; rest = []; words_are = refl; none_refused = tt; run_is = refl; end = refl; counted = refl }
 parted part n (w ∷ words) h t =
     by (write_fault part (base_of part h) (run_of part h)) refl
-    (subst (λ (f : Flow). Parted part (n + 4) (entry (Write 2 w) (n + 4) ∷ h) words (written part f.base f.run words)) (word_flow part w (n + 4) h t) (parted part (n + 4) words (entry (Write 2 w) (n + 4) ∷ h) t))
+    (subst (λ (f : Flow). Parted part (n + 4) (entry (Write 2 w) (n + 4) ∷ h) words (run_written part f.base f.run words)) (word_flow part w (n + 4) h t) (parted part (n + 4) words (entry (Write 2 w) (n + 4) ∷ h) t))
   where
     now : History
     now = entry (Write 2 w) (n + 4) ∷ h
 
     later : RunWritten
-    later = written part (base_of part h) (w ∷ run_of part h) words
+    later = run_written part (base_of part h) (w ∷ run_of part h) words
 
     by : (o : Option RunFault) → write_fault part (base_of part h) (run_of part h) ≡ o → Parted part (n + 4) now words later → Parted part n h (w ∷ words) (one_written o (run_of part h) later)
     by (Some fault) e more = record {
@@ -97,7 +97,7 @@ words_taken part p q old new bytes n seen h stands lands counted faulty t are =
     let words : List ℕ = words_of_bytes bytes in
     let f : Flow = flow_of part h in
     let has : HasFlow part p f = same_flow part p (less 0 f) f (sym (no_less f)) are.flow in
-    let w : RunWritten = written part f.base f.run words in
+    let w : RunWritten = run_written part f.base f.run words in
     let parts : Parted part n h words w = parted part n words h t in
     let end : History = with_frame_data n parts.prefix h in
     let flow : flow_of part end ≡ record f { run = onto parts.prefix f.run } = words_flow part n parts.prefix h t in

@@ -2,11 +2,11 @@
 use Rattle.std.specs.Prelude.{ℕ}
 use Rattle.x7_regs.specs.declared.command.Command.{Command}
 
--- an access loads FAR with a word, writes a command to CMD, writes a word of frame data, copies the source, reads
+-- an access loads FAR with a word, commands by a write to CMD, writes a word of frame data, copies the source, reads
 -- `count` words of frame data, or asks nothing of the pipeline
 pub data Asked : Type 0 where
   Load : (word : ℕ) → Asked
-  Order : (command : Command) → Asked
+  Commands : (command : Command) → Asked
   Word : (word : ℕ) → Asked
   Copies : Asked
   Reads : (count : ℕ) → Asked

@@ -12,7 +12,7 @@ use Rattle.x7_pipeline.specs.Copies.{source_after}
 pub use Rattle.x7_pipeline.specs.Flow.{Flow, first_flow}
 use Rattle.x7_pipeline.specs.Fault.{address_fault, copy_fault, write_fault}
 use Rattle.x7_flow.specs.Settings.{Settings, settings_of, takes_frames, takes_copies, gives_frames}
-use Rattle.x7_flow.specs.Asking.{Asked, Load, Order, Word, Copies, Reads, Other}
+use Rattle.x7_flow.specs.Asking.{Asked, Load, Commands, Word, Copies, Reads, Other}
 
 -- ---- what an access asks
 
@@ -20,7 +20,7 @@ use Rattle.x7_flow.specs.Asking.{Asked, Load, Order, Word, Copies, Reads, Other}
 abbrev pub write_asked : Settings → ℕ → ℕ → Asked
 write_asked s register w =
     if register == number_of reg.Far then Load w else
-    if register == number_of reg.Cmd then Order (command_by w) else
+    if register == number_of reg.Cmd then Commands (command_by w) else
     if register == number_of reg.Fdri && takes_frames s then Word w else
     if register == number_of reg.Mfwr && takes_copies s then Copies else Other
 
@@ -37,7 +37,7 @@ asks idcode h access = asked_under (settings_of idcode h) access
 -- what is asked begins a stretch, which is what follows a write to CMD or FAR
 abbrev pub begins : Asked → Bool
 begins (Load w) = true
-begins (Order c) = true
+begins (Commands c) = true
 begins _ = false
 
 -- a word of frame data is written
@@ -68,7 +68,7 @@ far_in part f = far_of part f.base f.run f.given
 -- the flow after what an access asks; words are given only from an address
 abbrev pub flow_by : PartData → Asked → Flow → Flow
 flow_by part (Load w) f = loaded part w f
-flow_by part (Order c) f = record { command = c; base = far_in part f; run = []; source = source_after part f.command c f.run; given = 0 }
+flow_by part (Commands c) f = record { command = c; base = far_in part f; run = []; source = source_after part f.command c f.run; given = 0 }
 flow_by part (Word w) f = record f { run = w ∷ f.run }
 flow_by part (Reads count) f = record f { given = if has_frame_at part f.base then f.given + count else f.given }
 flow_by part _ f = f

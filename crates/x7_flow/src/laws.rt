@@ -27,7 +27,8 @@ ghost use Rattle.x7_flow.specs.Standing.{FramesDid, FramesFit, FramesStandFor, F
 ghost use Rattle.x7_flow.specs.Stretches.{ends_of, is_boundary, overridden};
 ghost use Rattle.x7_flow.specs.Words.{HasRoomFor, NoneRefused, with_copies, with_frame_data};
 
-/// A flow has what its settings say.
+/// A flow is sound under its settings; a word more makes its written frames grow, and an access more its settings, as
+/// the definitions of one step say.
 pub fn flows_go_by_settings()
     ensures sound { (part : PartData) (h : History) → IsSound part (settings_of part.idcode h) (flow_of part h) }
     ensures written_frames { (part : PartData) (base word : ℕ) (run : List ℕ) → written_frames part base (word ∷ run) ≡ written_frames_more part base run ++ written_frames part base run }
@@ -73,7 +74,7 @@ pub fn frames_stand_for_one_more()
         ReadsFrames part f h e.access count → FramesStandFor part f (e ∷ h) count }
     ensures words_due { (part : PartData) (f : FramesState) (e : Entry) (h : History) (count : ℕ) →
         ReadsFrames part f h e.access count → words_due part (e ∷ h) count ≡ frames_read part h count }
-    ensures one { (part : PartData) (f g : FramesState) (h : History) (due : ℕ) → FramesFit part f → FramesFit part g →
+    ensures equal { (part : PartData) (f g : FramesState) (h : History) (due : ℕ) → FramesFit part f → FramesFit part g →
         FramesStandFor part f h due → FramesStandFor part g h due → f ≡ g }
 {}
 
@@ -117,8 +118,8 @@ pub fn written_frames_land_in_order()
     ensures copies { (part : PartData) (earlier : History) (x : FrameCopies) → TakesCopies part earlier x → MemoryGets part (with_frame_copies x earlier) earlier (pair_copied part x) }
 {}
 
-/// Accesses that move no frame, and a read of frame data of which words are
-/// due: it has the flow of a read without them.
+/// Accesses that move no frame; and a read of frame data of which words are due, whose flow is that of a read without
+/// these words.
 pub fn quiet_accesses_move_no_frame()
     ensures pairs { (part : PartData) (s : Settings) (f : Flow) (later : History) → AreQuiet later → pairs_from part s f later ≡ [] }
     ensures memory { (part : PartData) (later earlier : History) → AreQuiet later → AreSame (memory_of part (later ++ earlier)) (memory_of part earlier) }
@@ -156,8 +157,8 @@ pub fn words_have_room()
 
 /// What is kept of frames without a word due leads back from the same history, and from one with one access more.
 pub fn kept_frames_lead_back()
-    ensures same { (part : PartData) (s : SavedState) (old new : FramesState) → FramesAreKept part s old new →
+    ensures unchanged { (part : PartData) (s : SavedState) (old new : FramesState) → FramesAreKept part s old new →
         AreSame (frames_map part new) (frames_map part old) → FramesBack part s new old }
-    ensures one { (part : PartData) (s : SavedState) (old new : FramesState) (h : History) (e : Entry) → FramesAreKept part s old new →
+    ensures one_more { (part : PartData) (s : SavedState) (old new : FramesState) (h : History) (e : Entry) → FramesAreKept part s old new →
         GetAccess part old new h e → FramesBack part s new old }
 {}

@@ -61,7 +61,7 @@ due_by part k d given held out s =
   where
     by : (left : ℕ) → k.left ≡ left → length (reads_of part on_the_bench s.holds.bytes) ≡ length s.holds.device.due_are.given + due_count d.registers.due → length (words_read_out part given) ≡ length (reads_of part on_the_bench s.holds.bytes)
         → length (words_taken part d s.holds.bytes) ≡ length (reads_of part on_the_bench s.holds.bytes) - due_count d.registers.due → due_count d.registers.due ≡ length (words_read_out part given) - (out / 32 + 1)
-    by zero z count whole taken = omega (arith, z, count, whole, taken, s.holds.out_is, s.none_due z)
+    by zero z count whole taken = omega (arith, z, count, whole, taken, s.holds.out_is, s.no_word_due z)
     by (suc m) z count whole taken = omega (arith, z, count, whole, taken, s.holds.out_is, s.holds.left_is)
 
 pub due_is : (part : PartData) (t : TapState) (d : DeviceState) (cs : List Clock) → TapStandsFor part t d cs

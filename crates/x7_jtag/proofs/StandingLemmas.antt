@@ -26,7 +26,7 @@ use Rattle.x7_jtag.proofs.TookLemmas.{goes_on, goes_on_dropping, none_given, rea
 pub none_waits : (part : PartData) (k : QueueState) (d : DeviceState) (given held : List ℕ) (out : ℕ) → QueueStandsFor part k d (queue_of given held out) → k.left ≡ 0 → waits (words_read_out part) given out ≡ false
 none_waits part k d given held out s z =
     let h : QueueHolds part k d (queue_of given held out) = s.holds in
-    let all : length (words_read_out part given) ≡ length (words_taken part d h.bytes) = ap length (reads_took part given h.bytes h.took) ∙ ap length (sym (taken_all part d h.bytes (s.none_due z))) in
+    let all : length (words_read_out part given) ≡ length (words_taken part d h.bytes) = ap length (reads_took part given h.bytes h.took) ∙ ap length (sym (taken_all part d h.bytes (s.no_word_due z))) in
     grind (arith, all, h.out_is, z)
 
 pub one_waits : (part : PartData) (k : QueueState) (d : DeviceState) (given held : List ℕ) (out : ℕ) → QueueHolds part k d (queue_of given held out) → 0 < k.left → waits (words_read_out part) given out ≡ true
@@ -83,7 +83,7 @@ held_more part k n d given held out x f e s =
         prefix = h.prefix;
         word_is = h.word_is;
       };
-      none_due = s.none_due;
+      no_word_due = s.no_word_due;
     })
 
 -- the held bytes stand apart
@@ -103,7 +103,7 @@ held_apart part k n d given held out e s =
         prefix = h.prefix;
         word_is = h.word_is;
       };
-      none_due = s.none_due;
+      no_word_due = s.no_word_due;
     })
 
 -- ---- a byte in its turn
@@ -145,7 +145,7 @@ fed_by part k n d e given held piece [] out read f h z fits few none w stands a 
         prefix = [];
         word_is = λ m. absurd (omega (arith, m, z));
       };
-      none_due = λ m. none_given part e h.bytes piece read f a empty_read;
+      no_word_due = λ m. none_given part e h.bytes piece read f a empty_read;
     })
 fed_by part k n d e given held piece (v ∷ []) out read f h z fits few none w stands a grown stopped is l with =
     let P : QueueState → Type 0 = λ q. QueueStandsFor part q e (queue_of (given ++ piece) held out) in
@@ -162,7 +162,7 @@ fed_by part k n d e given held piece (v ∷ []) out read f h z fits few none w s
         prefix = words_taken part d h.bytes;
         word_is = λ m. grown;
       };
-      none_due = λ m. absurd (omega (arith, m));
+      no_word_due = λ m. absurd (omega (arith, m));
     })
 fed_by part k n d e given held piece (v ∷ u ∷ us) out read f h z fits few none w stands a grown stopped is l with = absurd (omega (arith, l))
 
@@ -213,7 +213,7 @@ all_dropped part k n d e given held piece out old read f s there stands a reads 
         prefix = [];
         word_is = λ m. absurd (omega (arith, m));
       };
-      none_due = λ m. due;
+      no_word_due = λ m. due;
     })
 
 -- ---- a bit that is shifted out
@@ -246,7 +246,7 @@ shifts_inside part k n d q s l with =
     let P : QueueState → Type 0 = λ t. QueueHolds part t d (queue_of q.given q.held (q.out + 1)) in
     let some : 0 < k.left = omega (arith, l, ap (λ (t : QueueState). t.left) with) in
     let h : QueueHolds part n d (queue_of q.given q.held (q.out + 1)) = subst P (sym with) (bit_out part k d q.given q.held q.out s.holds some) in
-    let t : QueueStandsFor part n d (queue_of q.given q.held (q.out + 1)) = record { holds = h; none_due = λ z. absurd (omega (arith, z, l)) } in
+    let t : QueueStandsFor part n d (queue_of q.given q.held (q.out + 1)) = record { holds = h; no_word_due = λ z. absurd (omega (arith, z, l)) } in
     shifts part k n d d q s some (subst (QueueStandsFor part n d) (sym (turns_wait (words_read_out part) q.given [] q.held (q.out + 1) (one_waits part n d q.given q.held (q.out + 1) h l))) t)
 
 -- ---- room for a byte
@@ -296,7 +296,7 @@ resets part n d e part_was s p h z =
         prefix = [];
         word_is = λ m. absurd (omega (arith, m, z));
       };
-      none_due = λ m. due;
+      no_word_due = λ m. due;
     }
 
 -- ---- bytes in their turns

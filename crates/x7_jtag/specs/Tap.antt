@@ -80,7 +80,7 @@ pub record QueueHolds (part : PartData) (k : QueueState) (d : DeviceState) (q : 
 -- the next word is taken of the device as soon as the last bit of the one before has gone out
 pub record QueueStandsFor (part : PartData) (k : QueueState) (d : DeviceState) (q : Queue) : Type 0 where
   pub holds : QueueHolds part k d q
-  pub none_due : k.left ≡ 0 → NoWordDue d
+  pub no_word_due : k.left ≡ 0 → NoWordDue d
 
 -- a step on a queue and its device does this to the queue of a port that they stand for
 abbrev pub QueueBecomes : QueueState → DeviceState → QueueState → DeviceState → (PartData → Queue → Queue) → Type 0

@@ -4,9 +4,10 @@ use Rattle.std.specs.Prelude.{Contains}
 use Rattle.std.proofs.lemmas.Bool.Decides.{eqb_tells}
 use Rattle.std.proofs.lemmas.List.{get_or-map, length-map, length-append, get_or-append-add, ext_get_or}
 use Rattle.std.proofs.lemmas.Option.{none-some, same_Some}
+use Rattle.std.specs.Option.{option_or}
 use Rattle.x7_part.specs.AddressOrder.{addresses_in}
 use Rattle.x7_part.specs.Part.{PartData, frame_words}
-use Rattle.x7_memory.specs.FrameMap.{FrameMap, frame_or, override, only, AreDisjoint, AreSame}
+use Rattle.x7_memory.specs.FrameMap.{FrameMap, override, only, AreDisjoint, AreSame}
 use Rattle.x7_memory.specs.Frames.{frame_among, frame_at, zeros, AreFramesOf}
 use Rattle.x7_memory.specs.Plan.{PlanRow, PlanData, AreInOrder, planned, planned_addresses, total}
 use Rattle.x7_memory.proofs.FrameLemmas.{among_here, among_after, among_found, among_none}
@@ -14,22 +15,22 @@ use Rattle.x7_memory.proofs.PlanLemmas.{no_row, planned_here, planned_after, pla
 
 -- ---- override
 
-or_else_else : (a b c : Option (List ℕ)) → frame_or a (frame_or b c) ≡ frame_or (frame_or a b) c
+or_else_else : (a b c : Option (List ℕ)) → option_or a (option_or b c) ≡ option_or (option_or a b) c
 or_else_else None b c = refl
 or_else_else (Some words) b c = refl
 
-or_else_same : (a b : Option (List ℕ)) → frame_or a (frame_or a b) ≡ frame_or a b
+or_else_same : (a b : Option (List ℕ)) → option_or a (option_or a b) ≡ option_or a b
 or_else_same None b = refl
 or_else_same (Some words) b = refl
 
-or_else_if : (b : Bool) (words : List ℕ) (m : Option (List ℕ)) → (if b then Some words else m) ≡ frame_or (if b then Some words else None) m
+or_else_if : (b : Bool) (words : List ℕ) (m : Option (List ℕ)) → (if b then Some words else m) ≡ option_or (if b then Some words else None) m
 or_else_if true words m = refl
 or_else_if false words m = refl
 
 pub override_twice : (m p q : FrameMap) → AreSame (override (override m p) q) (override m (override p q))
 override_twice m p q far = or_else_else (q far) (p far) (m far)
 
-or_else_apart : (p q m : Option (List ℕ)) → (p ≡ None) ⊎ (q ≡ None) → frame_or q (frame_or p m) ≡ frame_or p (frame_or q m)
+or_else_apart : (p q m : Option (List ℕ)) → (p ≡ None) ⊎ (q ≡ None) → option_or q (option_or p m) ≡ option_or p (option_or q m)
 or_else_apart None q m apart = refl
 or_else_apart (Some words) None m apart = refl
 or_else_apart (Some words) (Some others) m (inl e) = absurd (none-some words (sym e))
@@ -42,7 +43,7 @@ pub override_again : (m p : FrameMap) → AreSame (override (override m p) p) (o
 override_again m p far = or_else_same (p far) (m far)
 
 pub override_same : (m n p q : FrameMap) → AreSame m n → AreSame p q → AreSame (override m p) (override n q)
-override_same m n p q e f far = ap (λ o. frame_or o (m far)) (f far) ∙ ap (λ o. frame_or (q far) o) (e far)
+override_same m n p q e f far = ap (λ o. option_or o (m far)) (f far) ∙ ap (λ o. option_or (q far) o) (e far)
 
 pub override_one : (m n : FrameMap) (far : ℕ) (words : List ℕ) → ((a : ℕ) → n a ≡ (if a == far then Some words else m a)) → AreSame n (override m (only far words))
 override_one m n far words e a = e a ∙ or_else_if (a == far) words (m a)
@@ -117,17 +118,17 @@ planned_apart (row ∷ before) after order far =
       ]
     ]
 
-or_else_some : (a b : Option (List ℕ)) → (a ≡ None → ⊥) → frame_or a b ≡ a
+or_else_some : (a b : Option (List ℕ)) → (a ≡ None → ⊥) → option_or a b ≡ a
 or_else_some None b some = absurd (some refl)
 or_else_some (Some words) b some = refl
 
 pub total_unplanned : (part : PartData) (plan : PlanData) (far : ℕ) → (Contains (planned_addresses plan.rows) far → ⊥) → total part plan far ≡ zeros part far
-total_unplanned part plan far free = ap (λ o. frame_or o (zeros part far)) (unnamed_none plan.rows far free)
+total_unplanned part plan far free = ap (λ o. option_or o (zeros part far)) (unnamed_none plan.rows far free)
 
 pub total_planned : (part : PartData) (plan : PlanData) (far : ℕ) → Contains (planned_addresses plan.rows) far → total part plan far ≡ planned plan.rows far
 total_planned part plan far has = or_else_some (planned plan.rows far) (zeros part far) (named_some plan.rows far has)
 
-or_else_either : (a b c : Option (List ℕ)) → (a ≡ None → b ≡ c) → frame_or a b ≡ frame_or a c
+or_else_either : (a b c : Option (List ℕ)) → (a ≡ None → b ≡ c) → option_or a b ≡ option_or a c
 or_else_either None b c same = same refl
 or_else_either (Some words) b c same = refl
 

@@ -1,11 +1,10 @@
 -- Memories of zeros.
-use Rattle.std.proofs.Common.{◌≡◌, ℕ, zero, suc, ◌+◌, ◌*◌, ◌<◌, ◌≤◌, List, [], ◌∷◌, ◌++◌, length, get_or, bit_or, take, drop, replicate, map, All, IsTrue, ◌==◌, inl, inr, refl, sym, ap, ◌∙◌, arith}
+use Rattle.std.proofs.Common.{◌≡◌, ℕ, zero, suc, ◌+◌, ◌*◌, ◌<◌, ◌≤◌, Bool, true, false, ◌&&◌, List, [], ◌∷◌, ◌++◌, length, get_or, bit_or, take, drop, replicate, map, All, ◌==◌, inl, inr, refl, sym, ap, ◌∙◌, arith}
 use Rattle.std.proofs.Math.Nat.{eq-zero-or-pos, mul-zero}
 use Rattle.std.specs.Int.Bits.{or_zero_l}
 use Rattle.std.proofs.lemmas.Nat.{le_or_l}
-use Rattle.std.proofs.lemmas.Bool.{cases_lt}
-use Rattle.std.proofs.lemmas.Bool.Decides.{eqb_tells}
-use Rattle.std.proofs.lemmas.List.{length-replicate, length-map, get_or-map, get_or-replicate, take_all, take_more, replicate_more}
+use Rattle.std.proofs.lemmas.Bool.{cases_lt, false≢true, ne_eqb}
+use Rattle.std.proofs.lemmas.List.{length-replicate, length-map, get_or-map, get_or-replicate, take_all, take_more}
 use Rattle.std.proofs.lemmas.List.Folds.{sum_by-replicate}
 use Rattle.std.specs.List.{sum_by}
 use Rattle.std.specs.Prelude.{vec_capacity}
@@ -13,26 +12,43 @@ use Rattle.x7_words.specs.Word.{AreWords}
 use Rattle.x7_part.specs.Part.{PartData, frame_words}
 use Rattle.x7_part.specs.AddressOrder.{addresses_in, Rises}
 use Rattle.x7_memory.specs.declared.memory.Memory.TheInside.{Inside}
-use Rattle.x7_memory.specs.Frames.{zero_frames, AreFramesOf}
+use Rattle.x7_memory.specs.Frames.{zero_frames, are_zeros, AreFramesOf}
 use Rattle.x7_memory.specs.Memory.{frames_seen, stored_frame, own_frames, HasRoom}
 use Rattle.x7_memory.proofs.MemoryLemmas.{is_rank, stored_width}
 
 -- ---- words of which none has a bit
 
-pub equal : (x y : ℕ) → IsTrue (x == y) → x ≡ y
-equal x y t = elim (eqb_tells x y) [ inl e ↦ e.1 | inr e ↦ absurd (cc (e.0, t)) ]
+zeros_append : (xs ys : List ℕ) → are_zeros (xs ++ ys) ≡ (are_zeros xs && are_zeros ys)
+zeros_append [] ys = refl
+zeros_append (x ∷ xs) ys = by (x == 0) (are_zeros xs) (are_zeros ys) (are_zeros (xs ++ ys)) (zeros_append xs ys)
+  where
+    by : (z a b c : Bool) → c ≡ (a && b) → (z && c) ≡ ((z && a) && b)
+    by true a b c e = e
+    by false a b c e = refl
 
-no_bit : (a w : ℕ) → bit_or a w ≡ 0 → (a ≡ 0) × (w ≡ 0)
-no_bit a w e = elim (eq-zero-or-pos a) [
-  | inl z ↦ (z, sym (or_zero_l w) ∙ ap (λ n. bit_or n w) (sym z) ∙ e)
-  | inr h ↦ let more : a ≤ bit_or a w = le_or_l a w in absurd (omega arith)
+and_true : (b : Bool) → b ≡ (b && true)
+and_true true = refl
+and_true false = refl
+
+-- an or of numbers is 0 where both are
+or_zeros : (a w : ℕ) → (bit_or a w == 0) ≡ ((a == 0) && (w == 0 && true))
+or_zeros a w = elim (eq-zero-or-pos a) [
+  | inl e ↦ rw e (ap (λ (n : ℕ). n == 0) (or_zero_l w) ∙ and_true (w == 0))
+  | inr h ↦ let more : a ≤ bit_or a w = le_or_l a w in
+      ne_eqb (bit_or a w) 0 (λ e. omega arith) ∙ sym (ap (λ (b : Bool). b && (w == 0 && true)) (ne_eqb a 0 (λ e. omega arith)))
 ]
 
-pub more_zeros : (words : List ℕ) (i any : ℕ) → i < length words → (any ≡ 0 → take i words ≡ replicate i 0) → bit_or any (get_or words i 0) ≡ 0 →
-    take (i + 1) words ≡ replicate (i + 1) 0
-more_zeros words i any h before e =
-    let none = no_bit any (get_or words i 0) e in
-    take_more words i 0 h ∙ ap (λ f. f ++ get_or words i 0 ∷ []) (before none.0) ∙ ap (λ w. replicate i 0 ++ w ∷ []) none.1 ∙ replicate_more i 0
+-- whether words are zeros, one word more
+pub zeros_more : (words : List ℕ) (i any : ℕ) → i < length words → (any == 0) ≡ are_zeros (take i words) → (bit_or any (get_or words i 0) == 0) ≡ are_zeros (take (i + 1) words)
+zeros_more words i any h e =
+    or_zeros any (get_or words i 0) ∙ ap (λ (b : Bool). b && (get_or words i 0 == 0 && true)) e
+    ∙ sym (ap are_zeros (take_more words i 0 h) ∙ zeros_append (take i words) (get_or words i 0 ∷ []))
+
+-- words that are zeros are that many zeros
+pub zeros_alike : (words : List ℕ) → are_zeros words ≡ true → words ≡ replicate (length words) 0
+zeros_alike [] e = refl
+zeros_alike (zero ∷ words) e = ap (λ (ws : List ℕ). 0 ∷ ws) (zeros_alike words e)
+zeros_alike (suc n ∷ words) e = absurd (false≢true (sym (ap (λ (b : Bool). b && are_zeros words) (ne_eqb (suc n) 0 (λ z. omega (arith, z)))) ∙ e))
 
 -- ---- frames of zeros
 

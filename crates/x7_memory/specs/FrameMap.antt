@@ -1,18 +1,14 @@
 -- Maps from frame addresses to frames, and one map over another (this project's choice).
 use Rattle.std.specs.Prelude.{◌≡◌, ℕ, List, Option, Some, None, ◌⊎◌, if◌then◌else◌, ◌==◌}
+use Rattle.std.specs.Option.{option_or}
 
 -- the frame at an address, none where the map has no frame
 abbrev pub FrameMap : Type 0
 FrameMap = ℕ → Option (List ℕ)
 
--- the upper frame where there is one, else the frame below it
-abbrev pub frame_or : Option (List ℕ) → Option (List ℕ) → Option (List ℕ)
-frame_or None below = below
-frame_or (Some words) below = Some words
-
 -- the map p over the map m: p's frame where p has one at the address, else m's
 abbrev pub override : FrameMap → FrameMap → FrameMap
-override m p far = frame_or (p far) (m far)
+override m p far = option_or (p far) (m far)
 
 -- the map without a frame
 abbrev pub nothing : FrameMap

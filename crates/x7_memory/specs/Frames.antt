@@ -1,6 +1,6 @@
 -- The frames of a memory: one for each address of its part, in number order (UG470, frame
 -- data; this order is this project's choice).
-use Rattle.std.specs.Prelude.{◌≡◌, ℕ, List, ◌∷◌, length, replicate, All, Some, None, if◌then◌else◌, ◌==◌}
+use Rattle.std.specs.Prelude.{◌≡◌, ℕ, List, [], ◌∷◌, length, replicate, All, Some, None, if◌then◌else◌, ◌==◌, ◌&&◌, Bool, true}
 use Rattle.x7_part.specs.Part.{PartData, frame_words}
 use Rattle.x7_part.specs.AddressOrder.{addresses_in, Rises}
 use Rattle.x7_words.specs.Word.{AreWords}
@@ -30,3 +30,8 @@ zero_frames part = replicate (length (addresses_in part)) (replicate (frame_word
 -- the map of the part's frames, all zeros
 abbrev pub zeros : PartData → FrameMap
 zeros part = frame_at part (zero_frames part)
+
+-- all words are 0
+abbrev pub are_zeros : List ℕ → Bool
+are_zeros [] = true
+are_zeros (w ∷ words) = w == 0 && are_zeros words

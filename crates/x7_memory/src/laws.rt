@@ -1,4 +1,4 @@
-//! Laws of maps, memories and plans, for the theorems above. The functions do nothing: their contracts are the laws.
+//! Laws of maps, memories and plans, for the proofs of crates above. The functions do nothing: their contracts are the laws.
 ghost use Rattle.std.specs.Prelude.{◌≡◌, ℕ, ◌<◌, ◌++◌, ◌==◌, ◌↔◌, if◌then◌else◌, List, length, replicate, slice_index_or, Contains, IsPermutation, Some, None};
 ghost use Rattle.x7_part.specs.AddressOrder.{addresses_in};
 ghost use Rattle.x7_part.specs.Part.{PartData, frame_words};
@@ -13,7 +13,7 @@ pub fn maps_override_by_address()
     ensures again { (m p : FrameMap) → AreSame (override (override m p) p) (override m p) }
     ensures nothing { (m : FrameMap) → AreSame (override m nothing) m }
     ensures same { (m n p q : FrameMap) → AreSame m n → AreSame p q → AreSame (override m p) (override n q) }
-    ensures one { (m n : FrameMap) (far : ℕ) (words : List ℕ) → ((a : ℕ) → n a ≡ (if a == far then Some words else m a)) → AreSame n (override m (only far words)) }
+    ensures one_frame { (m n : FrameMap) (far : ℕ) (words : List ℕ) → ((a : ℕ) → n a ≡ (if a == far then Some words else m a)) → AreSame n (override m (only far words)) }
 {}
 
 /// A memory as a map: the part's addresses alone have frames, zeros are zeros, and equal maps are equal memories.

@@ -6,8 +6,10 @@ mod laws;
 mod memory;
 mod plan;
 mod rows;
+mod zeros;
 
 pub use draft::Draft;
 pub use laws::{maps_override_by_address, memories_are_maps, plans_are_maps};
 pub use memory::Memory;
 pub use plan::Plan;
+pub use zeros::are_zeros;

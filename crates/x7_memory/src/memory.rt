@@ -1,10 +1,11 @@
 //! The frames of a device.
-ghost use Rattle.std.specs.Prelude.{◌≡◌, ℕ, ◌<◌, ◌≤◌, ◌+◌, ◌*◌, ◌++◌, ◌==◌, if◌then◌else◌, List, [], length, take, drop, replicate, slice_set, slice_index, slice_index_or, vec_len, vec_capacity, Contains, Some, None, IfSome, IfNone, IfOk, IsTrue};
+ghost use Rattle.std.specs.Prelude.{◌≡◌, ℕ, ◌<◌, ◌≤◌, ◌+◌, ◌*◌, ◌++◌, ◌==◌, if◌then◌else◌, List, length, take, drop, replicate, slice_set, slice_index, slice_index_or, vec_len, vec_capacity, Contains, Some, None, IfSome, IfNone, IfOk};
 ghost use Rattle.x7_part.specs.AddressOrder.{addresses_in};
 ghost use Rattle.x7_part.specs.Part.{PartData, frame_words};
 ghost use Rattle.x7_memory.specs.Flat.{words_with_frame};
 ghost use Rattle.x7_memory.specs.Frames.{frame_at, zero_frames, AreFramesOf};
 
+use crate::zeros::are_zeros;
 use std::alloc::Global;
 use std::marker::Model;
 use x7_part::Part;
@@ -20,7 +21,7 @@ pub struct Memory {
     numbers: Vec<u32>,
     /// The number of the frames that are stored.
     stored: u32,
-    /// The words of a frame.
+    /// The number of words of a frame.
     width: usize,
 }
 
@@ -188,27 +189,6 @@ fn clear_words(words: &mut Vec<u32>)
         Ok(()) => (),
         Err(_) => unreachable!(),
     }
-}
-
-/// Whether all words are 0. The first is looked at before the rest: most frames that aren't blank show it there.
-fn are_zeros(words: &[u32]) -> bool
-    ensures { IsTrue result → words.now ≡ replicate (length words.now) 0 }
-{
-    match words.first() {
-        Some(word) if *word != 0 => false,
-        _ => has_no_bit(words),
-    }
-}
-
-/// Whether no word has a bit.
-fn has_no_bit(words: &[u32]) -> bool
-    ensures { IsTrue result → words.now ≡ replicate (length words.now) 0 }
-{
-    let mut any = 0;
-    for word in words {
-        any |= *word;
-    }
-    any == 0
 }
 
 /// Appends a frame for which there is room.

@@ -19,7 +19,7 @@ struct Row {
 /// Frames of one width and their addresses, in some order.
 #[derive(Drop)]
 pub(crate) struct Rows {
-    /// The words of a frame.
+    /// The number of words of a frame.
     width: u32,
     /// The words of all frames, in the order in which they came.
     words: Vec<u32>,

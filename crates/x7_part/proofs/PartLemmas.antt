@@ -46,4 +46,4 @@ columns_are cs seen part e is same =
     let n = slots_count seen.far seen.rows in
     let few = is.frames in let rows = is.few in
     let columns : AreColumns cs = record { table = part_table seen.far cs seen.rows e is.far is.rows; addresses = rw a (omega arith); slots = rw s (omega arith) } in
-    rw (← same) (record { is = is; are = columns; addresses = a; slots = s })
+    rw (← same) (record { is_part = is; are_columns = columns; addresses = a; slots = s })

@@ -13,7 +13,7 @@ use Rattle.x7_part.specs.declared.fault.PartFault.{PartFault}
 use Rattle.x7_part.specs.declared.fault.PartFault.TheVariants.{Toml, Range, TooMany, NoMemory}
 use Rattle.x7_part.specs.declared.fault.PartKey.TheVariants as key
 use Rattle.x7_part.specs.Keys.{top}
-use Rattle.x7_part.specs.Limits.{least_frame_words, most_frame_words, most_rows, most_frames, most_words}
+use Rattle.x7_part.specs.Limits.{least_frame_words, most_frame_words, most_rows, most_frames, most_wait_ticks, most_words}
 use Rattle.x7_part.specs.Part.{RowData, PartData}
 use Rattle.x7_part.specs.Ranges.{IsPart}
 use Rattle.x7_part.specs.Address.{IsRow}
@@ -21,7 +21,7 @@ use Rattle.x7_part.specs.declared.settings.Settings.{Settings}
 use Rattle.x7_part.specs.AddressOrder.{addresses}
 use Rattle.x7_part.specs.Values.{RowValues, TopValues, top_values, settings_by_values, row_by_values, rows_in_file, part_data, part_with}
 use Rattle.x7_part.specs.PartChecks.{fault_of_call, AnswersDue, unless, first_of, rows_fault, is_in, is_long, is_name, is_odd, is_unit, are_widths_or_none, row_range_fault, type_fault, other_fault, number_range_fault, top_range_fault, range_fault}
-use Rattle.x7_part.specs.Row.{same_row_fault, has_few_frames, frames_fault, in_order}
+use Rattle.x7_part.specs.Row.{same_row_fault, has_few_frames, frames_fault, sorted_rows}
 use Rattle.x7_part.specs.PartFile.{first_fault, part_in, part_of_table, part_unless, part_from}
 use Rattle.x7_part.proofs.OrderLemmas.{unless_none, ordered, frames_sum, frames_permutation}
 use Rattle.x7_part.proofs.SortLemmas.{ordered_same, ordered_sorted}
@@ -41,15 +41,15 @@ made t types others ranges apart frames =
     let v = top_values t in
     let s = settings_by_values v in
     let rows = rows_in_file t in
-    let sorted = in_order s.far rows in
+    let sorted = sorted_rows s.far rows in
     let each = nones (top_range_fault v ∷ rows_fault row_range_fault 1 v.rows ∷ []) ranges in
     let all = nones (unless (is_name v.name) (Range (top key.Name)) ∷ number_range_fault v ∷ unless (is_long 1 most_rows (length v.rows)) (Range (top key.Row)) ∷ []) each.0 in
     let h = nones (
     unless (is_odd v.idcode) (Range (top key.Idcode))
     ∷ unless (is_in 0 7 v.mode) (Range (top key.Mode))
     ∷ unless (is_in 0 3 v.bus_width) (Range (top key.BusWidth))
-    ∷ unless (is_in 0 65535 v.lock) (Range (top key.Lock))
-    ∷ unless (is_in 0 65535 v.matched) (Range (top key.Match))
+    ∷ unless (is_in 0 most_wait_ticks v.lock) (Range (top key.Lock))
+    ∷ unless (is_in 0 most_wait_ticks v.matched) (Range (top key.Match))
     ∷ unless (is_in least_frame_words most_frame_words v.words) (Range (top key.FrameWords))
     ∷ unless (are_widths_or_none v.far) (Range (top key.Far))
     ∷ unless (is_unit v.start_unit) (Range (top key.StartUnit))
@@ -57,8 +57,8 @@ made t types others ranges apart frames =
     let name = name_in v.name (unless_none (is_name v.name) (Range (top key.Name)) all.0) in
     let long = long_in 1 64 (length v.name) name.0 in
     let idcode = odd_in v.idcode (unless_none (is_odd v.idcode) (Range (top key.Idcode)) h.0) in
-    let lock = (in_range 0 65535 v.lock (unless_none (is_in 0 65535 v.lock) (Range (top key.Lock)) h.1.1.1.0)).1 in
-    let matched = (in_range 0 65535 v.matched (unless_none (is_in 0 65535 v.matched) (Range (top key.Match)) h.1.1.1.1.0)).1 in
+    let lock = (in_range 0 most_wait_ticks v.lock (unless_none (is_in 0 most_wait_ticks v.lock) (Range (top key.Lock)) h.1.1.1.0)).1 in
+    let matched = (in_range 0 most_wait_ticks v.matched (unless_none (is_in 0 most_wait_ticks v.matched) (Range (top key.Match)) h.1.1.1.1.0)).1 in
     let far = far_is v.far (unless_none (are_widths_or_none v.far) (Range (top key.Far)) h.1.1.1.1.1.1.0) in
     let many = long_in 1 most_rows (length v.rows) (unless_none (is_long 1 most_rows (length v.rows)) (Range (top key.Row)) all.1.1.0) in
     let count : length rows ≡ length v.rows = length-map v.rows row_by_values in
@@ -220,8 +220,8 @@ last_reported text t v s rows fault h e = reported_is text t fault h.typed.is (r
 pub record Whole (text name : List ℕ) (s : Settings) (rows : List RowData) : Type 0 where
   pub all : All IsRow rows
   pub apart : same_row_fault [] rows ≡ None
-  pub part : IsPart (part_data name s (in_order s.far rows))
-  pub is : part_in text ≡ Ok (part_data name s (in_order s.far rows))
+  pub part : IsPart (part_data name s (sorted_rows s.far rows))
+  pub is : part_in text ≡ Ok (part_data name s (sorted_rows s.far rows))
 
 pub whole : (text : List ℕ) (t : Members) (v : TopValues) (s : Settings) (rows : List RowData) (name : List ℕ) → name ≡ v.name → Passed text t v s rows →
     None ≡ first_of (same_row_fault [] rows ∷ frames_fault (part_data v.name s rows) ∷ []) → Whole text name s rows
@@ -229,9 +229,9 @@ unfolding part_from
 whole text t v s rows name named h e =
     let last = nones (same_row_fault [] rows ∷ frames_fault (part_data v.name s rows) ∷ []) (sym e) in
     let none : first_fault t ≡ None = rest_is text t v s rows h ∙ sym e in
-    let ordered : part_with v (in_order (settings_by_values v).far (map row_by_values v.rows)) ≡ part_data name s (in_order s.far rows) = rw (h.settings, h.made, named) refl in
-    let same : part_from t ≡ part_data name s (in_order s.far rows) =
-    ap (λ x. part_with x (in_order (settings_by_values x).far (map row_by_values x.rows))) (sym h.typed.values) ∙ ordered in
+    let ordered : part_with v (sorted_rows (settings_by_values v).far (map row_by_values v.rows)) ≡ part_data name s (sorted_rows s.far rows) = rw (h.settings, h.made, named) refl in
+    let same : part_from t ≡ part_data name s (sorted_rows s.far rows) =
+    ap (λ x. part_with x (sorted_rows (settings_by_values x).far (map row_by_values x.rows))) (sym h.typed.values) ∙ ordered in
     record {
       all = rw h.made (rows_are 1 v.rows h.each);
       apart = last.0;
@@ -267,8 +267,8 @@ or_memory fault one due f (inr e) = inr (f e)
 
 -- the start unit is the first number out of range
 pub unit_reported : (v : TopValues) (fault : PartFault) → None ≡ unless (is_odd v.idcode) (Range (top key.Idcode)) → None ≡ unless (is_in 0 7 v.mode) (Range (top key.Mode)) →
-    None ≡ unless (is_in 0 3 v.bus_width) (Range (top key.BusWidth)) → None ≡ unless (is_in 0 65535 v.lock) (Range (top key.Lock)) →
-    None ≡ unless (is_in 0 65535 v.matched) (Range (top key.Match)) → None ≡ unless (is_in least_frame_words most_frame_words v.words) (Range (top key.FrameWords)) →
+    None ≡ unless (is_in 0 3 v.bus_width) (Range (top key.BusWidth)) → None ≡ unless (is_in 0 most_wait_ticks v.lock) (Range (top key.Lock)) →
+    None ≡ unless (is_in 0 most_wait_ticks v.matched) (Range (top key.Match)) → None ≡ unless (is_in least_frame_words most_frame_words v.words) (Range (top key.FrameWords)) →
     None ≡ unless (are_widths_or_none v.far) (Range (top key.Far)) → Some fault ≡ unless (is_unit v.start_unit) (Range (top key.StartUnit)) → Some fault ≡ number_range_fault v
 unfolding number_range_fault
 unit_reported v fault idcode mode bus_width lock matched words far unit = rw (← idcode, ← mode, ← bus_width, ← lock, ← matched, ← words, ← far, ← unit) refl

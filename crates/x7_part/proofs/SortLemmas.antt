@@ -9,7 +9,7 @@ use Rattle.std.proofs.lemmas.List.Sorted.{All-permutation, IsPermutation-refl, I
 use Rattle.std.proofs.lemmas.List.Sums.{sum_by-cons}
 use Rattle.x7_part.specs.Address.{AreRows, row, row_address, row_low}
 use Rattle.x7_part.specs.Part.{FieldWidths, RowData}
-use Rattle.x7_part.specs.Row.{in_order, put_in}
+use Rattle.x7_part.specs.Row.{sorted_rows, put_in}
 use Rattle.x7_part.proofs.WidthLemmas.{some_weight}
 
 -- one of the rows
@@ -64,20 +64,20 @@ put_rising far r (s ∷ rows) h = by (nat_lt (row_address far s) (row_address fa
         let less : row_address far r ≤ row_address far s = grind (arith, nat_tests, e) in
         ((less, each (λ t. row_address far s ≤ row_address far t) (λ t. row_address far r ≤ row_address far t) (λ t k. omega (arith, k, less)) rows h.0), h)
 
-ordered_all : (far : FieldWidths) (P : RowData → Type 0) (rows : List RowData) → AllByRecursion P rows → AllByRecursion P (in_order far rows)
-unfolding in_order
+ordered_all : (far : FieldWidths) (P : RowData → Type 0) (rows : List RowData) → AllByRecursion P rows → AllByRecursion P (sorted_rows far rows)
+unfolding sorted_rows
 ordered_all far P [] h = tt
-ordered_all far P (r ∷ rows) h = put_all far P r (in_order far rows) h.0 (ordered_all far P rows h.1)
+ordered_all far P (r ∷ rows) h = put_all far P r (sorted_rows far rows) h.0 (ordered_all far P rows h.1)
 
-ordered_many : (far : FieldWidths) (a : ℕ) (rows : List RowData) → many far a (in_order far rows) ≡ many far a rows
-unfolding in_order many
+ordered_many : (far : FieldWidths) (a : ℕ) (rows : List RowData) → many far a (sorted_rows far rows) ≡ many far a rows
+unfolding sorted_rows many
 ordered_many far a [] = refl
-ordered_many far a (r ∷ rows) = put_many far a r (in_order far rows) ∙ ap (λ n. at far a r + n) (ordered_many far a rows)
+ordered_many far a (r ∷ rows) = put_many far a r (sorted_rows far rows) ∙ ap (λ n. at far a r + n) (ordered_many far a rows)
 
-pub ordered_rises : (far : FieldWidths) (rows : List RowData) → Rising far (in_order far rows)
-unfolding in_order Rising
+pub ordered_rises : (far : FieldWidths) (rows : List RowData) → Rising far (sorted_rows far rows)
+unfolding sorted_rows Rising
 ordered_rises far [] = tt
-ordered_rises far (r ∷ rows) = put_rising far r (in_order far rows) (ordered_rises far rows)
+ordered_rises far (r ∷ rows) = put_rising far r (sorted_rows far rows) (ordered_rises far rows)
 
 at_itself : (far : FieldWidths) (r : RowData) → at far (row_address far r) r ≡ 1
 unfolding at
@@ -155,9 +155,9 @@ many_is far a [] = refl
 many_is far a (r ∷ rows) = ap (λ n. at far a r + n) (many_is far a rows) ∙ sym (sum_by-cons (at far a) r rows)
 
 -- the rows of a part are those of its file, put in order
-pub sorted_is : (far : FieldWidths) (rows sorted : List RowData) (least : ℕ) → IsPermutation rows sorted → AreRows far least sorted → in_order far rows ≡ sorted
+pub sorted_is : (far : FieldWidths) (rows sorted : List RowData) (least : ℕ) → IsPermutation rows sorted → AreRows far least sorted → sorted_rows far rows ≡ sorted
 sorted_is far rows sorted least same strict =
-    same_rows far (in_order far rows) sorted least strict (ordered_rises far rows)
+    same_rows far (sorted_rows far rows) sorted least strict (ordered_rises far rows)
     (ordered_all far (λ r. In r sorted) rows (recursion_from_All (λ r. In r sorted) rows (All-permutation (λ r. In r sorted) sorted rows (IsPermutation-sym rows sorted same) (All-from_recursion (λ r. In r sorted) sorted (all_in sorted sorted (λ r h. h))))))
     (λ a. ordered_many far a rows ∙ many_is far a rows ∙ sym (sum_by-IsPermutation (at far a) rows sorted same) ∙ sym (many_is far a sorted))
 
@@ -173,11 +173,11 @@ put_same far r (s ∷ rows) = by (nat_lt (row_address far s) (row_address far r)
         (IsPermutation-cons s (r ∷ rows) (put_in far r rows) same)
     by false same = IsPermutation-refl (r ∷ s ∷ rows)
 
-pub ordered_same : (far : FieldWidths) (rows : List RowData) → IsPermutation rows (in_order far rows)
-unfolding in_order
+pub ordered_same : (far : FieldWidths) (rows : List RowData) → IsPermutation rows (sorted_rows far rows)
+unfolding sorted_rows
 ordered_same far [] = IsPermutation-refl []
 ordered_same far (r ∷ rows) =
-    IsPermutation-trans (r ∷ rows) (r ∷ in_order far rows) (put_in far r (in_order far rows)) (IsPermutation-cons r rows (in_order far rows) (ordered_same far rows)) (put_same far r (in_order far rows))
+    IsPermutation-trans (r ∷ rows) (r ∷ sorted_rows far rows) (put_in far r (sorted_rows far rows)) (IsPermutation-cons r rows (sorted_rows far rows) (ordered_same far rows)) (put_same far r (sorted_rows far rows))
 
 rising_sorted : (far : FieldWidths) (rows : List RowData) → Rising far rows → IsNonDecreasingBy (row_address far) rows
 unfolding Rising
@@ -187,5 +187,5 @@ rising_sorted far (r ∷ rows) h zero (suc j) d k l = All-from_recursion (λ s. 
 rising_sorted far (r ∷ rows) h (suc i) zero d k l = absurd (omega (arith, k))
 rising_sorted far (r ∷ rows) h (suc i) (suc j) d k l = rising_sorted far rows h.1 i j d (omega (arith, k)) (omega (arith, l))
 
-pub ordered_sorted : (far : FieldWidths) (rows : List RowData) → IsNonDecreasingBy (row_address far) (in_order far rows)
-ordered_sorted far rows = rising_sorted far (in_order far rows) (ordered_rises far rows)
+pub ordered_sorted : (far : FieldWidths) (rows : List RowData) → IsNonDecreasingBy (row_address far) (sorted_rows far rows)
+ordered_sorted far rows = rising_sorted far (sorted_rows far rows) (ordered_rises far rows)

@@ -45,8 +45,8 @@ pub record AreColumns (columns : List Column) : Type 0 where
 
 -- the columns of a part: their addresses and slots are the part's
 pub record AreColumnsOf (part : PartData) (columns : List Column) : Type 0 where
-  pub is : IsPart part
-  pub are : AreColumns columns
+  pub is_part : IsPart part
+  pub are_columns : AreColumns columns
   pub addresses : column_addresses columns ≡ addresses_in part
   pub slots : column_slots columns ≡ slots_in part
 

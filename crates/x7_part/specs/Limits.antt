@@ -13,6 +13,10 @@ most_columns = 1024
 abbrev pub most_minors : ℕ
 most_minors = 128
 
+-- the most ticks that startup waits for lock or for match: the last number of 16 bits
+abbrev pub most_wait_ticks : ℕ
+most_wait_ticks = 65535
+
 -- the most frames of a part
 abbrev pub most_frames : ℕ
 most_frames = 131072

@@ -17,18 +17,21 @@ pub record FieldWidths : Type 0 where
   pub half : ℕ
   pub block : ℕ
 
--- a part; `lock` and `matched` are the ticks that startup waits for lock and for match, `words` those of a
--- frame, `far` the fields of an address, `start_unit` the bytes that one step of WBSTAR's start address
--- stands for, and `rows` stand in number order
+-- all that a part file says, its rows in number order
 pub record PartData : Type 0 where
   pub name : List ℕ
   pub idcode : ℕ
+  -- the mode pins and the bus width, as STAT shows them
   pub mode : ℕ
   pub bus_width : ℕ
+  -- the ticks that startup waits for the clocks to lock, and for the impedance to match
   pub lock : ℕ
   pub matched : ℕ
+  -- how many words a frame has
   pub words : ℕ
+  -- the fields of a frame address
   pub far : FieldWidths
+  -- the bytes of a flash that one step of WBSTAR's start address stands for
   pub start_unit : ℕ
   pub rows : List RowData
 

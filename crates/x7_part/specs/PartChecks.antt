@@ -4,7 +4,7 @@ use Rattle.toml.specs.Data.{Data, Items, no_items, item, Members, as_str, as_int
 use Rattle.x7_part.specs.declared.fault.PartKey.TheVariants as key
 use Rattle.x7_part.specs.declared.fault.PartFault.{PartFault}
 use Rattle.x7_part.specs.declared.fault.PartFault.TheVariants.{Key, Range, NoMemory}
-use Rattle.x7_part.specs.Limits.{least_frame_words, most_frame_words, most_rows, most_columns, most_minors}
+use Rattle.x7_part.specs.Limits.{least_frame_words, most_frame_words, most_rows, most_columns, most_minors, most_wait_ticks}
 use Rattle.x7_part.specs.Keys.{top, in_row}
 use Rattle.x7_part.specs.Address.{address_width}
 use Rattle.x7_part.specs.Values.{under, row_tables, RowValues, TopValues, natural, widths_of}
@@ -179,8 +179,8 @@ number_range_fault v = first_of (
     unless (is_odd v.idcode) (Range (top key.Idcode))
     ∷ unless (is_in 0 7 v.mode) (Range (top key.Mode))
     ∷ unless (is_in 0 3 v.bus_width) (Range (top key.BusWidth))
-    ∷ unless (is_in 0 65535 v.lock) (Range (top key.Lock))
-    ∷ unless (is_in 0 65535 v.matched) (Range (top key.Match))
+    ∷ unless (is_in 0 most_wait_ticks v.lock) (Range (top key.Lock))
+    ∷ unless (is_in 0 most_wait_ticks v.matched) (Range (top key.Match))
     ∷ unless (is_in least_frame_words most_frame_words v.words) (Range (top key.FrameWords))
     ∷ unless (are_widths_or_none v.far) (Range (top key.Far))
     ∷ unless (is_unit v.start_unit) (Range (top key.StartUnit))

@@ -40,9 +40,9 @@ put_in far r [] = r ∷ []
 put_in far r (s ∷ rows) = if nat_lt (row_address far s) (row_address far r) then s ∷ put_in far r rows else r ∷ s ∷ rows
 
 -- rows sorted by address
-unfoldable pub in_order : FieldWidths → List RowData → List RowData
-in_order far [] = []
-in_order far (r ∷ rows) = put_in far r (in_order far rows)
+unfoldable pub sorted_rows : FieldWidths → List RowData → List RowData
+sorted_rows far [] = []
+sorted_rows far (r ∷ rows) = put_in far r (sorted_rows far rows)
 
 -- one row stands before another in a part: by the block type, then by the half, then by the row
 abbrev pub IsBefore : RowData → RowData → Type 0

@@ -7,7 +7,7 @@ ghost use Rattle.x7_part.specs.Address.{row_address};
 ghost use Rattle.x7_part.specs.Part.{FieldWidths, PartData, RowData};
 ghost use Rattle.x7_part.specs.PartFile.{part_in};
 ghost use Rattle.x7_part.specs.Ranges.{IsPart};
-ghost use Rattle.x7_part.specs.Row.{in_order, RowsRise};
+ghost use Rattle.x7_part.specs.Row.{sorted_rows, RowsRise};
 ghost use Rattle.x7_part.specs.Values.{rows_in_file};
 ghost use Rattle.x7_part.specs.AddressOrder.{addresses_in, IsFollowedBy};
 ghost use Rattle.x7_part.specs.Slot.{slots, slots_in, from, row_slots, slot_after, addresses_among, AreInOneRow};
@@ -34,6 +34,6 @@ pub fn rows_are_in_order()
     ensures file { (text : List ℕ) (table : Members) (part : PartData) → parse_document text ≡ Some table → part_in text ≡ Ok part → IsPermutation (rows_in_file table) part.rows }
     ensures part { (text : List ℕ) (part : PartData) → part_in text ≡ Ok part → IsPart part }
     ensures rise { (part : PartData) → IsPart part → RowsRise part.rows }
-    ensures same { (far : FieldWidths) (rows : List RowData) → IsPermutation rows (in_order far rows) }
-    ensures sorted { (far : FieldWidths) (rows : List RowData) → IsNonDecreasingBy (row_address far) (in_order far rows) }
+    ensures same { (far : FieldWidths) (rows : List RowData) → IsPermutation rows (sorted_rows far rows) }
+    ensures sorted { (far : FieldWidths) (rows : List RowData) → IsNonDecreasingBy (row_address far) (sorted_rows far rows) }
 {}

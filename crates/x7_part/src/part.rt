@@ -6,7 +6,7 @@ ghost use Rattle.x7_part.specs.Address.{IsAddressOf, IsRow, far_width};
 ghost use Rattle.x7_part.specs.Limits.{least_frame_words, most_frame_words, most_frames, most_words, IsStartUnit};
 ghost use Rattle.x7_part.specs.Part.{PartData, frame_words};
 ghost use Rattle.x7_part.specs.Values.{part_data};
-ghost use Rattle.x7_part.specs.Row.{same_row_fault, in_order};
+ghost use Rattle.x7_part.specs.Row.{same_row_fault, sorted_rows};
 ghost use Rattle.x7_part.specs.Ranges.{IsPart};
 ghost use Rattle.x7_part.specs.Slot.{HasFrameOf, slots_in, from};
 ghost use Rattle.x7_part.specs.declared.slot.Slot.{Slot};
@@ -47,11 +47,11 @@ impl Part {
     ) -> Result<Part, AllocError>
         requires rows { All IsRow rows.items }
         requires apart { same_row_fault [] rows.items ≡ None }
-        requires part { IsPart (part_data (string_bytes name) settings (in_order settings.far rows.items)) }
-        ensures { IfOk result (λ part. part ≡ part_data (string_bytes name) settings (in_order settings.far rows.items)) }
+        requires part { IsPart (part_data (string_bytes name) settings (sorted_rows settings.far rows.items)) }
+        ensures { IfOk result (λ part. part ≡ part_data (string_bytes name) settings (sorted_rows settings.far rows.items)) }
     {
         let mut rows = rows;
-        row::in_order(&mut rows, settings.far);
+        row::sort_rows(&mut rows, settings.far);
         let columns = table_of(alloc, settings.far, &rows)?;
         Ok(Part {
             name,

@@ -4,7 +4,7 @@ ghost use Rattle.std.specs.List.{sum_by};
 ghost use Rattle.x7_part.specs.Address.{row_address, AreWidths, IsRow};
 ghost use Rattle.x7_part.specs.Limits.{most_columns, most_rows};
 ghost use Rattle.x7_part.specs.PartChecks.{fault_of_call, AnswersDue, rows_fault, row_range_fault};
-ghost use Rattle.x7_part.specs.Row.{has_place_of, has_same, same_row_fault, in_order};
+ghost use Rattle.x7_part.specs.Row.{has_place_of, has_same, same_row_fault, sorted_rows};
 ghost use Rattle.x7_part.specs.Values.{row_by_values};
 ghost use Rattle.x7_part.specs.Part.{RowData};
 
@@ -138,11 +138,11 @@ pub(crate) fn frame_count(rows: &[Row]) -> u32
 }
 
 /// Puts rows in number order, no two of which are the same.
-pub(crate) fn in_order(rows: &mut Vec<Row>, far: Fields)
+pub(crate) fn sort_rows(rows: &mut Vec<Row>, far: Fields)
     requires widths { AreWidths far }
     requires rows { All IsRow rows.old.items }
     requires apart { same_row_fault [] rows.old.items ≡ None }
-    ensures { rows.new.items ≡ in_order far rows.old.items }
+    ensures { rows.new.items ≡ sorted_rows far rows.old.items }
 {
     rows.sort_unstable_by_key(|row| row.address(far));
 }

@@ -6,7 +6,7 @@ ghost use Rattle.x7_part.specs.declared.fault.PartFault.TheVariants.{Range};
 
 use crate::address::Fields;
 use crate::fault::{PartFault, PartKey, Which, top};
-use crate::limits::{LEAST_FRAME_WORDS, MOST_FRAME_WORDS, MOST_ROWS};
+use crate::limits::{LEAST_FRAME_WORDS, MOST_FRAME_WORDS, MOST_ROWS, MOST_WAIT_TICKS};
 use crate::ranges::{is_long, is_name, odd, require, unit, widths, within};
 use crate::values::Values;
 
@@ -45,8 +45,8 @@ fn numbers_in(values: &Values) -> Result<Settings, PartFault>
         idcode: odd(values.idcode, top!(Idcode))?,
         mode: within(values.mode, 0, 7, top!(Mode))? as u8,
         bus_width: within(values.bus_width, 0, 3, top!(BusWidth))? as u8,
-        lock: within(values.lock, 0, 65_535, top!(Lock))? as u16,
-        matched: within(values.matched, 0, 65_535, top!(Match))? as u16,
+        lock: within(values.lock, 0, MOST_WAIT_TICKS, top!(Lock))? as u16,
+        matched: within(values.matched, 0, MOST_WAIT_TICKS, top!(Match))? as u16,
         words: within(
             values.words,
             LEAST_FRAME_WORDS,

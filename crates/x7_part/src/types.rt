@@ -1,5 +1,6 @@
 //! What stands under a key of a table, as a value of the key's type.
-ghost use Rattle.std.specs.Prelude.{◌≡◌, None, Ok, option_map, is_some, map, string_bytes, IfOk, IfSome, IsErrOf};
+ghost use Rattle.std.specs.Prelude.{◌≡◌, false, None, Some, Ok, option_map, is_some, map, string_bytes, IfOk, IfSome, IsErrOf, IsOk};
+ghost use Rattle.toml.specs.Data.{Data};
 ghost use Rattle.toml.specs.View.{view, table_view, items_view};
 ghost use Rattle.x7_part.specs.Values.{under, text, number_or, numbers, numbers_under, tables, row_tables};
 ghost use Rattle.x7_part.specs.PartChecks.{fault_of_call, AnswersDue, unless, has, may_have, are_wholes, are_tables, is_text, is_whole, is_list_of_wholes, is_list_of_tables};
@@ -22,6 +23,7 @@ fn value_under(table: &Table, key: PartKey) -> Option<&Value>
 pub(crate) fn text(alloc: Global, table: &Table, at: Which) -> Result<String, PartFault>
     ensures fault { AnswersDue (unless (has is_text (under at.key (table_view table.now))) (Key at)) result }
     ensures missing { under at.key (table_view table.now) ≡ None → IsErrOf result (Key at) }
+    ensures mistyped { (d : Data) → under at.key (table_view table.now) ≡ Some d → is_text d ≡ false → IsErrOf result (Key at) }
     ensures value { IfOk result (λ made. string_bytes made ≡ text at.key (table_view table.now)) }
 {
     match value_under(table, at.key) {
@@ -83,6 +85,7 @@ pub(crate) fn numbers(
     at: Which,
 ) -> Result<Option<Vec<i64>>, PartFault>
     ensures fault { AnswersDue (unless (may_have is_list_of_wholes (under at.key (table_view table.now))) (Key at)) result }
+    ensures left_out { under at.key (table_view table.now) ≡ None → IsOk result }
     ensures value { IfOk result (λ made. option_map (λ zs. zs.items) made ≡ numbers_under at.key (table_view table.now)) }
 {
     let Some(value) = value_under(table, at.key) else {
@@ -115,6 +118,7 @@ fn tables_among<'t>(alloc: Global, items: &'t [Value]) -> Result<Option<Vec<&'t 
 /// The tables of the rows.
 pub(crate) fn rows<'t>(alloc: Global, table: &'t Table) -> Result<Vec<&'t Table>, PartFault>
     ensures fault { AnswersDue (unless (has is_list_of_tables (under key.Row (table_view table.now))) (Key (top key.Row))) result }
+    ensures missing { under key.Row (table_view table.now) ≡ None → IsErrOf result (Key (top key.Row)) }
     ensures value { IfOk result (λ rows. map (λ t. table_view t.now) rows.items ≡ row_tables (table_view table.now)) }
 {
     let fault = PartFault::Key(top!(Row));

@@ -12,7 +12,7 @@ use Rattle.x7_pipeline.specs.declared.fault.RunFault.{RunFault}
 use Rattle.x7_pipeline.specs.FarAsRead.{has_frame_at}
 use Rattle.x7_pipeline.specs.Runs.{at_slot, onto, put_over, slots_from, Lands}
 use Rattle.x7_pipeline.specs.Fault.{write_fault}
-use Rattle.x7_pipeline.specs.Words.{RunWritten, one_written, written}
+use Rattle.x7_pipeline.specs.Words.{RunWritten, one_written, run_written}
 use Rattle.x7_pipeline.specs.Flow.{Flow, HoldsFlow, with_run}
 use Rattle.x7_pipeline.specs.Pipeline.{PipelineData}
 use Rattle.x7_pipeline.proofs.FlowLemmas.{StandsFor, flow}
@@ -22,22 +22,22 @@ use Rattle.x7_pipeline.proofs.WordLemmas.{after, written_end, written_next, ends
 
 -- ---- some words at once
 
-pub written_some : (part : PartData) (base : ℕ) (run words rest : List ℕ) → (written part base run words).fault ≡ None →
-    written part base run (words ++ rest) ≡ after (length words) (written part base (onto words run) rest)
-unfolding written
-written_some part base run [] rest e = ap (λ n. record (written part base run rest) { count = n }) (omega arith)
+pub written_some : (part : PartData) (base : ℕ) (run words rest : List ℕ) → (run_written part base run words).fault ≡ None →
+    run_written part base run (words ++ rest) ≡ after (length words) (run_written part base (onto words run) rest)
+unfolding run_written
+written_some part base run [] rest e = ap (λ n. record (run_written part base run rest) { count = n }) (omega arith)
 written_some part base run (w ∷ words) rest e = by (write_fault part base run) e (written_some part base (w ∷ run) words rest)
   where
-    by : (o : Option RunFault) → (one_written o run (written part base (w ∷ run) words)).fault ≡ None →
-        ((written part base (w ∷ run) words).fault ≡ None → written part base (w ∷ run) (words ++ rest) ≡ after (length words) (written part base (onto words (w ∷ run)) rest)) →
-        one_written o run (written part base (w ∷ run) (words ++ rest)) ≡ after (length (w ∷ words)) (written part base (onto words (w ∷ run)) rest)
+    by : (o : Option RunFault) → (one_written o run (run_written part base (w ∷ run) words)).fault ≡ None →
+        ((run_written part base (w ∷ run) words).fault ≡ None → run_written part base (w ∷ run) (words ++ rest) ≡ after (length words) (run_written part base (onto words (w ∷ run)) rest)) →
+        one_written o run (run_written part base (w ∷ run) (words ++ rest)) ≡ after (length (w ∷ words)) (run_written part base (onto words (w ∷ run)) rest)
     by (Some fault) e later = absurd (none-some fault (sym e))
-    by None e later = ap (after 1) (later e) ∙ ap (λ n. record (written part base (onto words (w ∷ run)) rest) { count = n }) (omega arith)
+    by None e later = ap (after 1) (later e) ∙ ap (λ n. record (run_written part base (onto words (w ∷ run)) rest) { count = n }) (omega arith)
 
 pub goes_some : (part : PartData) (start now next : PipelineData) (old middle new : FrameMap) (all words rest : List ℕ) (count : ℕ) → ReachesRun part start now old middle all (words ++ rest) count →
     ((f : Flow) → HoldsFlow part now f → HoldsFlow part next (with_run (onto words f.run) f)) →
     ((f : Flow) → HoldsFlow part now f → Lands part f.base f.run (onto words f.run) middle new) →
-    ((f : Flow) → HoldsFlow part now f → (written part f.base f.run words).fault ≡ None) →
+    ((f : Flow) → HoldsFlow part now f → (run_written part f.base f.run words).fault ≡ None) →
     ReachesRun part start next old new all rest (count + length words)
 goes_some part start now next old middle new all words rest count before stands lands passes command base run source given s =
     let r : Reached part now old middle command base run source given all (words ++ rest) count = before command base run source given s in
@@ -46,7 +46,7 @@ goes_some part start now next old middle new all words rest count before stands 
       stands = stands (flow command base r.longer source given) r.stands;
       lands = lands_more part base run r.longer (onto words r.longer) old middle new r.lands (lands (flow command base r.longer source given) r.stands);
       later = r.later ∙ ap (after count) (written_some part base r.longer words rest (passes (flow command base r.longer source given) r.stands))
-          ∙ ap (λ n. record (written part base (onto words r.longer) rest) { count = n }) (omega arith);
+          ∙ ap (λ n. record (run_written part base (onto words r.longer) rest) { count = n }) (omega arith);
     }
 
 -- ---- the words of a frame
@@ -55,15 +55,15 @@ goes_some part start now next old middle new all words rest count before stands 
 pub record Within (part : PartData) (p : PipelineData) (memory : FrameMap) (command : Command) (base : ℕ) (run : List ℕ) (source : Option (List ℕ)) (given : ℕ) (words : List ℕ) : Type 0 where
   pub stands : StandsFor part (record p { rest = p.rest ++ words }) command base (onto words run) source given
   pub lands : Lands part base run (onto words run) memory memory
-  pub passes : (written part base run words).fault ≡ None
+  pub passes : (run_written part base run words).fault ≡ None
 
-passes_next : (part : PartData) (base w : ℕ) (run words : List ℕ) → None ≡ write_fault part base run → (written part base (w ∷ run) words).fault ≡ None → (written part base run (w ∷ words)).fault ≡ None
+passes_next : (part : PartData) (base w : ℕ) (run words : List ℕ) → None ≡ write_fault part base run → (run_written part base (w ∷ run) words).fault ≡ None → (run_written part base run (w ∷ words)).fault ≡ None
 passes_next part base w run words e f = ap (λ (x : RunWritten). x.fault) (written_next part base w run words e) ∙ f
 
 pub within : (part : PartData) (p : PipelineData) (memory : FrameMap) (command : Command) (base : ℕ) (run : List ℕ) (source : Option (List ℕ)) (given : ℕ) (words : List ℕ) →
     StandsFor part p command base run source given → (p.frame_count ≡ 0 → length p.rest ≡ 0 → has_frame_at part p.base ≡ true) → length p.rest + length words < p.width →
     Within part p memory command base run source given words
-unfolding written
+unfolding run_written
 within part p memory command base run source given [] s first short = record {
   stands = rw (append-nil p.rest) s;
   lands = lands_none part base run memory memory (λ far. refl);
@@ -103,14 +103,14 @@ prefix_of (w ∷ v ∷ words) h =
 pub record Whole (part : PartData) (q : PipelineData) (old new : FrameMap) (command : Command) (base : ℕ) (run : List ℕ) (source : Option (List ℕ)) (given : ℕ) (frame : List ℕ) : Type 0 where
   pub stands : StandsFor part q command base (onto frame run) source given
   pub lands : Lands part base run (onto frame run) old new
-  pub passes : (written part base run frame).fault ≡ None
+  pub passes : (run_written part base run frame).fault ≡ None
 
 pub whole : (part : PartData) (p q : PipelineData) (old new : FrameMap) (command : Command) (base : ℕ) (run : List ℕ) (source : Option (List ℕ)) (given : ℕ) (frame : List ℕ) →
     StandsFor part p command base run source given → p.rest ≡ [] → length frame ≡ p.width → p.frame_count < length (slots_from part p.base) →
     q ≡ record p { newest = Some frame; frame_count = p.frame_count + 1 } → (p.newest ≡ None → AreSame new old) →
     ((kept : List ℕ) → p.newest ≡ Some kept → AreSame new (put_over (at_slot (get_or (slots_from part p.base) (p.frame_count - 1) End) kept []) old)) →
     Whole part q old new command base run source given frame
-unfolding written
+unfolding run_written
 whole part p q old new command base run source given frame s begins wide slot e none some =
     let nothing : length p.rest ≡ 0 = ap length begins in
     let positive = s.some_words in
@@ -157,11 +157,11 @@ went_more part p q r old middle new first second all e before later command base
     record {
       stands = rw same b.stands;
       lands = rw same (lands_more part base run (onto first run) (onto second (onto first run)) old middle new a.lands b.lands);
-      passes = ap (λ t. (written part base run t).fault) e ∙ ap (λ (x : RunWritten). x.fault) (written_some part base run first second a.passes) ∙ b.passes;
+      passes = ap (λ t. (run_written part base run t).fault) e ∙ ap (λ (x : RunWritten). x.fault) (written_some part base run first second a.passes) ∙ b.passes;
     }
 
 -- one word
-pub passes_one : (part : PartData) (base w : ℕ) (run : List ℕ) → None ≡ write_fault part base run → (written part base run (w ∷ [])).fault ≡ None
+pub passes_one : (part : PartData) (base w : ℕ) (run : List ℕ) → None ≡ write_fault part base run → (run_written part base run (w ∷ [])).fault ≡ None
 passes_one part base w run e = passes_next part base w run [] e (ap (λ (x : RunWritten). x.fault) (written_end part base (w ∷ run)))
 
 -- ---- words of a slice
@@ -209,7 +209,7 @@ pub goes_bytes : (part : PartData) (start now next : PipelineData) (old middle n
     ReachesRun part start now old middle all (words_of_bytes (drop at bs)) (at / 4) → at % 4 ≡ 0 → n % 4 ≡ 0 → n ≤ length (drop at bs) →
     ((f : Flow) → HoldsFlow part now f → HoldsFlow part next (with_run (onto (words_of_bytes (take n (drop at bs))) f.run) f)) →
     ((f : Flow) → HoldsFlow part now f → Lands part f.base f.run (onto (words_of_bytes (take n (drop at bs))) f.run) middle new) →
-    ((f : Flow) → HoldsFlow part now f → (written part f.base f.run (words_of_bytes (take n (drop at bs)))).fault ≡ None) →
+    ((f : Flow) → HoldsFlow part now f → (run_written part f.base f.run (words_of_bytes (take n (drop at bs)))).fault ≡ None) →
     ReachesRun part start next old new all (words_of_bytes (drop (at + n) bs)) ((at + n) / 4)
 goes_bytes part start now next old middle new all bs at n before a b h stands lands passes =
     let words = words_of_bytes (take n (drop at bs)) in
@@ -224,7 +224,7 @@ pub goes_left : (part : PartData) (start now next : PipelineData) (old middle ne
     ReachesRun part start now old middle all (words_of_bytes (drop at bs)) (at / 4) → at % 4 ≡ 0 → n % 4 ≡ 0 → n ≤ length left →
     ((f : Flow) → HoldsFlow part now f → HoldsFlow part next (with_run (onto (words_of_bytes (take n left)) f.run) f)) →
     ((f : Flow) → HoldsFlow part now f → Lands part f.base f.run (onto (words_of_bytes (take n left)) f.run) middle new) →
-    ((f : Flow) → HoldsFlow part now f → (written part f.base f.run (words_of_bytes (take n left))).fault ≡ None) →
+    ((f : Flow) → HoldsFlow part now f → (run_written part f.base f.run (words_of_bytes (take n left))).fault ≡ None) →
     ReachesRun part start next old new all (words_of_bytes (drop (at + n) bs)) ((at + n) / 4)
 goes_left part start now next old middle new all bs left at n e before a b h stands lands passes =
     goes_bytes part start now next old middle new all bs at n before a b (rw e at h) (rw e at stands) (rw e at lands) (rw e at passes)
@@ -248,8 +248,8 @@ next_of (a ∷ b ∷ c ∷ []) h = absurd (omega arith)
 next_of (a ∷ b ∷ c ∷ d ∷ bs) h = record { word = word_of_bytes (a ∷ b ∷ c ∷ d ∷ []); later = words_of_bytes bs; are = refl }
 
 -- what was written where the next word is refused
-pub refused_here : (part : PartData) (base : ℕ) (run longer all bs : List ℕ) (at : ℕ) (fault : RunFault) → written part base run all ≡ after (at / 4) (written part base longer (words_of_bytes (drop at bs))) →
-    at % 4 ≡ 0 → 4 ≤ length (drop at bs) → Some fault ≡ write_fault part base longer → written part base run all ≡ record { run = longer; count = at / 4 + 1; fault = Some fault }
+pub refused_here : (part : PartData) (base : ℕ) (run longer all bs : List ℕ) (at : ℕ) (fault : RunFault) → run_written part base run all ≡ after (at / 4) (run_written part base longer (words_of_bytes (drop at bs))) →
+    at % 4 ≡ 0 → 4 ≤ length (drop at bs) → Some fault ≡ write_fault part base longer → run_written part base run all ≡ record { run = longer; count = at / 4 + 1; fault = Some fault }
 refused_here part base run longer all bs at fault e a h f =
     let n : Next (drop at bs) = next_of (drop at bs) h in
-    ends_refused part base n.word run longer all n.later (at / 4) fault (e ∙ ap (λ t. after (at / 4) (written part base longer t)) n.are) f
+    ends_refused part base n.word run longer all n.later (at / 4) fault (e ∙ ap (λ t. after (at / 4) (run_written part base longer t)) n.are) f

@@ -3,11 +3,12 @@ use Rattle.std.proofs.Common.{◌≡◌, ℕ, ◌+◌, ◌-◌, ◌++◌, ◌==�
 use Rattle.std.proofs.lemmas.Bool.{cases_eq}
 use Rattle.std.proofs.lemmas.List.{append_cancel_right}
 use Rattle.std.proofs.lemmas.Option.{none-some}
+use Rattle.std.specs.Option.{option_or}
 use Rattle.x7_part.specs.Part.{PartData, frame_words}
 use Rattle.x7_part.specs.AddressOrder.{addresses_in}
 use Rattle.x7_part.specs.declared.slot.Slot.{Slot}
 use Rattle.x7_part.specs.declared.slot.Slot.TheVariants.{Frame, Pad, End}
-use Rattle.x7_memory.specs.FrameMap.{FrameMap, AreSame, frame_or}
+use Rattle.x7_memory.specs.FrameMap.{FrameMap, AreSame}
 use Rattle.x7_memory.specs.Frames.{AreFramesOf, frame_among, frame_at}
 use Rattle.x7_memory.specs.Plan.{PlanRow, planned}
 use Rattle.x7_memory.proofs.MapLemmas.{override_one}
@@ -48,14 +49,14 @@ changes_none at old new s = λ far apart. s far
 
 pub changes_slot : (slot : Slot) (frame : List ℕ) (old new : FrameMap) → AreSame new (put_over (at_slot slot frame []) old) → ChangesAt (address_at_slot slot) old new
 unfolding planned
-changes_slot (Frame at) frame old new s = λ far apart. s far ∙ ap (λ (b : Bool). frame_or (if b then Some frame else None) (old far)) (ne_eqb far at (λ e. apart (ap Some (sym e))))
+changes_slot (Frame at) frame old new s = λ far apart. s far ∙ ap (λ (b : Bool). option_or (if b then Some frame else None) (old far)) (ne_eqb far at (λ e. apart (ap Some (sym e))))
 changes_slot Pad frame old new s = λ far apart. s far
 changes_slot End frame old new s = λ far apart. s far
 
 pub changes_copy : (base : ℕ) (source : Option (List ℕ)) (old new : FrameMap) → AreSame new (put_over (copied base source) old) → ChangesAt (Some base) old new
 unfolding planned
 changes_copy base None old new s = λ far apart. s far
-changes_copy base (Some frame) old new s = λ far apart. s far ∙ ap (λ (b : Bool). frame_or (if b then Some frame else None) (old far)) (ne_eqb far base (λ e. apart (ap Some (sym e))))
+changes_copy base (Some frame) old new s = λ far apart. s far ∙ ap (λ (b : Bool). option_or (if b then Some frame else None) (old far)) (ne_eqb far base (λ e. apart (ap Some (sym e))))
 
 -- ---- taking them back
 
@@ -88,8 +89,8 @@ taken_back part (Some a) old new o n c = λ far. by far (frame_at part old a) re
       | inr apart ↦ other far apart
     ]
     by far (Some w) e = elim (cases_eq far a) [
-      | inl same ↦ ap (λ (b : Bool). frame_or (if b then Some w else None) (frame_at part new far)) (eq-eqb far a same) ∙ sym (ap (frame_at part old) same ∙ e)
-      | inr apart ↦ ap (λ (b : Bool). frame_or (if b then Some w else None) (frame_at part new far)) (ne_eqb far a apart) ∙ other far apart
+      | inl same ↦ ap (λ (b : Bool). option_or (if b then Some w else None) (frame_at part new far)) (eq-eqb far a same) ∙ sym (ap (frame_at part old) same ∙ e)
+      | inr apart ↦ ap (λ (b : Bool). option_or (if b then Some w else None) (frame_at part new far)) (ne_eqb far a apart) ∙ other far apart
     ]
 
 -- a copy that isn't refused changes the address where it is foreseen

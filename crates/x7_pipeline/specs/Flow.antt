@@ -14,7 +14,7 @@ use Rattle.x7_pipeline.specs.Fault.{copy_fault}
 use Rattle.x7_pipeline.specs.Readback.{given_stored, read_slot}
 use Rattle.x7_pipeline.specs.Pipeline.{PipelineData}
 use Rattle.x7_pipeline.specs.Runs.{Lands, at_slot, frames_of, onto, put_over, rest_of, slots_from}
-use Rattle.x7_pipeline.specs.Words.{RunWritten, written}
+use Rattle.x7_pipeline.specs.Words.{RunWritten, run_written}
 
 -- the command, the address that the run or readback began at, the words of the run (the newest first), the frame that
 -- copies take, and the count of words given
@@ -88,7 +88,7 @@ fault_of_copy part f = copy_fault part f.command f.base f.source
 
 -- words written in order to a flow, up to the first that is refused
 abbrev pub flow_written : PartData → Flow → List ℕ → RunWritten
-flow_written part f words = written part f.base f.run words
+flow_written part f words = run_written part f.base f.run words
 
 -- the memory gets the frames that land at these words
 abbrev pub LandsAt : PartData → Flow → List ℕ → FrameMap → FrameMap → Type 0

@@ -8,18 +8,21 @@ use Rattle.x7_memory.specs.Frames.{AreFramesOf}
 use Rattle.x7_regs.specs.declared.command.Command.{Command}
 use Rattle.x7_pipeline.specs.Runs.{slots_from}
 
--- what a pipeline stores: the number of words of a frame and of bits of an address, the command, the base, the words
--- after the run's last whole frame, the newest whole frame and the number of all, the source, the count of words given,
--- and the slot that a readback is at
+-- what a pipeline stores
 pub record PipelineData : Type 0 where
+  -- how many words a frame has, and how many bits an address
   pub width : ℕ
   pub far_width : ℕ
+  -- the command that stands, and the address that the run or the readback began at
   pub command : Command
   pub base : ℕ
+  -- the run's words after its last whole frame, its newest whole frame, and the number of its whole frames
   pub rest : List ℕ
   pub newest : Option (List ℕ)
   pub frame_count : ℕ
+  -- the frame that copies take
   pub source : Option (List ℕ)
+  -- how many words a readback gave, and the slot of its next word
   pub given : ℕ
   pub slot : Slot
 

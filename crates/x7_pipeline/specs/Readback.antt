@@ -8,13 +8,13 @@ use Rattle.x7_memory.specs.FrameMap.{FrameMap}
 use Rattle.x7_pipeline.specs.Runs.{slots_from}
 
 -- the word of a frame, 0 where there is no frame
-abbrev pub word_of : Option (List ℕ) → ℕ → ℕ
-word_of (Some words) i = slice_index words i
-word_of None i = 0
+abbrev pub word_in_frame : Option (List ℕ) → ℕ → ℕ
+word_in_frame (Some words) i = slice_index words i
+word_in_frame None i = 0
 
 -- the word of the frame at a slot: 0 at a pad and past the last slot
 abbrev pub word_at : Slot → FrameMap → ℕ → ℕ
-word_at (Frame far) memory i = word_of (memory far) i
+word_at (Frame far) memory i = word_in_frame (memory far) i
 word_at Pad memory i = 0
 word_at End memory i = 0
 

@@ -17,9 +17,9 @@ one_written (Some fault) run later = record { run = run; count = 1; fault = Some
 one_written None run later = record later { count = 1 + later.count }
 
 -- words written in order after a run, up to the first that is refused
-unfoldable pub written : PartData → ℕ → List ℕ → List ℕ → RunWritten
-written part base run [] = record { run = run; count = 0; fault = None }
-written part base run (w ∷ words) = one_written (write_fault part base run) run (written part base (w ∷ run) words)
+unfoldable pub run_written : PartData → ℕ → List ℕ → List ℕ → RunWritten
+run_written part base run [] = record { run = run; count = 0; fault = None }
+run_written part base run (w ∷ words) = one_written (write_fault part base run) run (run_written part base (w ∷ run) words)
 
 -- the first refused word, and the words before it, with which the run was left
 pub record Refused (part : PartData) (base : ℕ) (run words : List ℕ) (fault : RunFault) : Type 0 where
@@ -27,5 +27,5 @@ pub record Refused (part : PartData) (base : ℕ) (run words : List ℕ) (fault 
   pub word : ℕ
   pub later : List ℕ
   pub words_are : words ≡ before ++ word ∷ later
-  pub written_is : written part base run words ≡ record { run = onto before run; count = length before + 1; fault = Some fault }
+  pub written_is : run_written part base run words ≡ record { run = onto before run; count = length before + 1; fault = Some fault }
   pub refused : write_fault part base (onto before run) ≡ Some fault

@@ -14,7 +14,7 @@ ghost use Rattle.x7_pipeline.specs.FarAsRead.{IsBase, has_frame_at, far_of, last
 ghost use Rattle.x7_pipeline.specs.Copies.{is_wcfg, is_mfw, newest_of, source_after};
 ghost use Rattle.x7_pipeline.specs.Readback.{word_at, readback_at, read_limit, given_stored};
 ghost use Rattle.x7_pipeline.specs.Fault.{write_fault, copy_fault, readback_fault};
-ghost use Rattle.x7_pipeline.specs.Words.{written, Refused};
+ghost use Rattle.x7_pipeline.specs.Words.{run_written, Refused};
 ghost use Rattle.x7_pipeline.specs.Pipeline.{PipelineData};
 ghost use Rattle.x7_pipeline.specs.Saved.{ChangesNext, HaveChangedAt, pair_at};
 ghost use Rattle.x7_pipeline.specs.Flow.{HoldsFlow, LandsAt, OfFlow, copied_by, fault_of_copy};
@@ -38,9 +38,9 @@ pub fn runs_land_in_slot_order()
 
 /// Words in order are all written, or they are written up to the first that is refused.
 pub fn words_go_up_to_the_first_refused()
-    ensures whole { (part : PartData) (base : ℕ) (run words : List ℕ) → (written part base run words).fault ≡ None →
-        written part base run words ≡ all_written words run }
-    ensures refused { (part : PartData) (base : ℕ) (run words : List ℕ) (fault : RunFault) → (written part base run words).fault ≡ Some fault →
+    ensures whole { (part : PartData) (base : ℕ) (run words : List ℕ) → (run_written part base run words).fault ≡ None →
+        run_written part base run words ≡ all_written words run }
+    ensures refused { (part : PartData) (base : ℕ) (run words : List ℕ) (fault : RunFault) → (run_written part base run words).fault ≡ Some fault →
         Refused part base run words fault }
 {}
 
@@ -90,7 +90,7 @@ pub fn refused_words_change_nothing()
 
 /// Two pipelines that stand for the same are equal.
 pub fn pipelines_of_the_same_are_equal()
-    ensures one { (part : PartData) (p q : PipelineData) → OfFlow part p (λ f. HoldsFlow part q f → p ≡ q) }
+    ensures equal { (part : PartData) (p q : PipelineData) → OfFlow part p (λ f. HoldsFlow part q f → p ≡ q) }
 {}
 
 /// A kept frame leads back where the memory changed at its address alone. A copy changes just the address where it puts

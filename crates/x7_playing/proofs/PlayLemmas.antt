@@ -61,7 +61,7 @@ stopped_end part bytes prefix rest d reads s fits split stands known few stop du
       stop = ap (stop_in part on_the_bench) split ∙ stop_is_final_stop part on_the_bench prefix rest s all stop ∙ sym stop;
       state = ap (state_of part on_the_bench false) split ∙ stop_is_final_state part on_the_bench false prefix rest s all stop;
       memory = ap (memory_in part on_the_bench) split ∙ stop_is_final_memory part on_the_bench prefix rest s all stop;
-      none_due = due;
+      no_word_due = due;
       reads_are = known ∙ given_all part on_the_bench d prefix due ∙ sym (ap (reads_of part on_the_bench) split ∙ stop_is_final_reads part on_the_bench prefix rest s all stop);
       few = few;
     }

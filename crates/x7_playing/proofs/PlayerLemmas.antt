@@ -131,7 +131,7 @@ played_all part bytes d reads s due = by s.ends
           stop = rw all refl;
           state = rw all refl;
           memory = rw all refl;
-          none_due = due;
+          no_word_due = due;
           reads_are = s.reads_are ∙ given_all part on_the_bench d s.taken due ∙ ap (reads_of part on_the_bench) (sym all);
           few = s.few;
         }

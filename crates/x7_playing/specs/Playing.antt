@@ -100,6 +100,6 @@ pub record IsPlayed (part : PartData) (bytes : List ℕ) (d : DeviceState) (read
   pub stop : stop_in part on_the_bench bytes ≡ stop_in part on_the_bench prefix
   pub state : state_of part on_the_bench false bytes ≡ state_of part on_the_bench false prefix
   pub memory : memory_in part on_the_bench bytes ≡ memory_in part on_the_bench prefix
-  pub none_due : NoWordDue d
+  pub no_word_due : NoWordDue d
   pub reads_are : reads ≡ reads_of part on_the_bench bytes
   pub few : length reads ≤ reads_limit

@@ -15,7 +15,7 @@ use Rattle.x7_pipeline.proofs.LawLemmas.{no_source}
 use Rattle.x7_startup.proofs.CallLemmas.{progress_bytes}
 use Rattle.x7_flow.specs.Flow.{Flow, flow_by, flow_of}
 use Rattle.x7_flow.specs.FrameMemory.{memory_of}
-use Rattle.x7_flow.specs.Asking.{Order}
+use Rattle.x7_flow.specs.Asking.{Commands}
 use Rattle.x7_startup.specs.Startup.{NotBegun}
 use Rattle.x7_engine.specs.Kept.{is_fallback}
 use Rattle.x7_engine.specs.Startup.{startup_calls}
@@ -98,7 +98,7 @@ clean_until n _ (later e h b) = pick (nat_lt n e.place) (until n h) (e ∷ h) (c
 
 -- ---- a slot, and nothing
 
-idle_order : (part : PartData) (c : Command) (f : Flow) → is_mfw c ≡ false → IsIdle f → IsIdle (flow_by part (Order c) f)
+idle_order : (part : PartData) (c : Command) (f : Flow) → is_mfw c ≡ false → IsIdle f → IsIdle (flow_by part (Commands c) f)
 idle_order part c f e i = record { base = ordered part c f i; run = refl; source = no_source part f.command c f.run e; given = refl }
 
 idle_first : IsIdle first_flow
@@ -106,7 +106,7 @@ idle_first = record { base = refl; run = refl; source = refl; given = refl }
 
 idle_slot : (part : PartData) (n start : ℕ) → IsIdle (flow_of part (desync_at n start))
 unfolding flow_of
-idle_slot part n start = idle_order part (command_by 13) (flow_by part (Order (command_by 15)) first_flow) refl (idle_order part (command_by 15) first_flow refl idle_first)
+idle_slot part n start = idle_order part (command_by 13) (flow_by part (Commands (command_by 15)) first_flow) refl (idle_order part (command_by 15) first_flow refl idle_first)
 
 none_over : (m : FrameMap) → put_over [] m ≡ m
 unfolding planned

@@ -1,9 +1,5 @@
 -- Lemmas on the frames of a report.
-use Rattle.std.proofs.Common.{◌≡◌, ◌==◌, ◌&&◌, ◌≤◌, ◌<◌, ◌+◌, ℕ, Bool, true, false, if◌then◌else◌, Option, codes, decimal, List, [], ◌∷◌, ◌++◌, length, take, get_or, bit_or, refl, ap, sym, ◌∙◌, append_assoc, append-nil, arith, inl, inr}
-use Rattle.std.proofs.Math.Nat.{eq-zero-or-pos}
-use Rattle.std.specs.Int.Bits.{or_zero_l}
-use Rattle.std.proofs.lemmas.Nat.{le_or_l}
-use Rattle.std.proofs.lemmas.Bool.{ne_eqb}
+use Rattle.std.proofs.Common.{◌≡◌, ◌<◌, ◌+◌, ℕ, Bool, true, false, if◌then◌else◌, Option, codes, decimal, List, [], ◌∷◌, ◌++◌, length, take, get_or, refl, ap, sym, ◌∙◌, append_assoc, append-nil}
 use Rattle.std.specs.List.{flat_map}
 use Rattle.std.proofs.lemmas.Grind.{flat_map-append}
 use Rattle.std.proofs.lemmas.List.{take_more}
@@ -12,36 +8,10 @@ use Rattle.x7_part.specs.Part.{PartData}
 use Rattle.x7_memory.specs.FrameMap.{AreSame, FrameMap}
 use Rattle.x7_memory.specs.Frames.{frame_at}
 use Rattle.x7_engine.specs.declared.regs.Regs.{Regs}
-use Rattle.x7_report.specs.Frames.{frames_text, are_zeros, is_shown, frame_text_if, addresses_shown}
+use Rattle.x7_report.specs.Frames.{frames_text, is_shown, frame_text_if, addresses_shown}
 use Rattle.x7_report.specs.Reads.{reads_text}
 use Rattle.x7_report.specs.Reports.{report_text}
 use Rattle.x7_report.specs.State.{state_text}
-
-blank_append : (xs ys : List ℕ) → are_zeros (xs ++ ys) ≡ (are_zeros xs && are_zeros ys)
-blank_append [] ys = refl
-blank_append (x ∷ xs) ys = by (x == 0) (are_zeros xs) (are_zeros ys) (are_zeros (xs ++ ys)) (blank_append xs ys)
-  where
-    by : (z a b c : Bool) → c ≡ (a && b) → (z && c) ≡ ((z && a) && b)
-    by true a b c e = e
-    by false a b c e = refl
-
-and_true : (b : Bool) → b ≡ (b && true)
-and_true true = refl
-and_true false = refl
-
--- an or of numbers is 0 where both are
-or_blank : (a w : ℕ) → (bit_or a w == 0) ≡ ((a == 0) && (w == 0 && true))
-or_blank a w = elim (eq-zero-or-pos a) [
-  | inl e ↦ rw e (ap (λ (n : ℕ). n == 0) (or_zero_l w) ∙ and_true (w == 0))
-  | inr h ↦ let more : a ≤ bit_or a w = le_or_l a w in
-      ne_eqb (bit_or a w) 0 (λ e. omega arith) ∙ sym (ap (λ (b : Bool). b && (w == 0 && true)) (ne_eqb a 0 (λ e. omega arith)))
-]
-
--- whether words are blank, one word more
-pub word_taken : (words : List ℕ) (i any : ℕ) → i < length words → (any == 0) ≡ are_zeros (take i words) → (bit_or any (get_or words i 0) == 0) ≡ are_zeros (take (i + 1) words)
-word_taken words i any h e =
-    or_blank any (get_or words i 0) ∙ ap (λ (b : Bool). b && (get_or words i 0 == 0 && true)) e
-    ∙ sym (ap are_zeros (take_more words i 0 h) ∙ blank_append (take i words) (get_or words i 0 ∷ []))
 
 pub shown_append : (memory : FrameMap) (xs ys : List ℕ) → addresses_shown memory (xs ++ ys) ≡ addresses_shown memory xs ++ addresses_shown memory ys
 shown_append memory [] ys = refl

@@ -1,25 +1,27 @@
 -- The lines of frames, and which frames a report shows (this project's choice).
-use Rattle.std.specs.Prelude.{ℕ, ◌*◌, ◌==◌, ◌&&◌, not, Bool, true, false, if◌then◌else◌, Option, None, Some, List, [], ◌∷◌, ◌++◌, codes, decimal, length}
+use Rattle.std.specs.Prelude.{ℕ, ◌+◌, ◌*◌, not, Bool, false, if◌then◌else◌, Option, None, Some, List, [], ◌∷◌, ◌++◌, codes, decimal, length}
 use Rattle.std.specs.List.{flat_map}
+use Rattle.x7_part.specs.Limits.{most_frame_words}
 use Rattle.x7_memory.specs.FrameMap.{FrameMap}
+use Rattle.x7_memory.specs.Frames.{are_zeros}
 use Rattle.x7_text.specs.Digits.{hex_word}
 
--- the most bytes that the line of a frame takes: one of an address and 255 words
+-- the most bytes that the line of a frame takes: the digits of the most words, and 16 bytes for its name, its address, a
+-- blank and a line end
 abbrev pub frame_line_room : ℕ
-frame_line_room = 2056
+frame_line_room = 16 + 8 * most_frame_words
 
--- the most bytes that the lines of a group of 128 frames take, which are written at once
+-- how many lines of frames are written at once, as a group
+abbrev pub group_lines : ℕ
+group_lines = 128
+
+-- the most bytes that the lines of a group take
 abbrev pub group_room : ℕ
-group_room = 128 * frame_line_room
+group_room = group_lines * frame_line_room
 
 -- the line of a frame: its address and the digits of its words
 unfoldable pub frame_text : ℕ → List ℕ → List ℕ
 frame_text far words = codes "frame " ++ hex_word far ++ 32 ∷ flat_map hex_word words ++ codes "\n"
-
--- all words are 0
-abbrev pub are_zeros : List ℕ → Bool
-are_zeros [] = true
-are_zeros (w ∷ words) = w == 0 && are_zeros words
 
 -- there is a frame, and it has a word other than 0
 abbrev pub is_shown : Option (List ℕ) → Bool

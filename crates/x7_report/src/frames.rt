@@ -1,23 +1,23 @@
 //! The lines of frames, and which frames a report shows.
-ghost use Rattle.std.specs.Prelude.{◌≡◌, ◌∷◌, ◌++◌, ◌≤◌, ◌<◌, ◌+◌, ◌*◌, [], slice_index, length, vec_len, vec_capacity, IfOk, OnOk, OnErr};
+ghost use Rattle.std.specs.Prelude.{◌≡◌, ◌∷◌, ◌++◌, ◌<◌, ◌+◌, ◌*◌, [], slice_index, length, IfOk, OnOk, OnErr};
 ghost use Rattle.std.specs.List.{flat_map};
-ghost use Rattle.x7_text.specs.Appends.{Appends};
+ghost use Rattle.x7_text.specs.Appends.{Appends, HasSpareRoom};
 ghost use Rattle.x7_text.specs.Digits.{hex_word};
 ghost use Rattle.x7_words.specs.Word.{bytes_of_word};
 ghost use Rattle.x7_part.specs.AddressOrder.{addresses_in};
 ghost use Rattle.x7_memory.specs.Frames.{AreFramesOf, frame_at};
-ghost use Rattle.x7_report.specs.Frames.{frame_text, frames_text, are_zeros, is_shown, frame_text_if, addresses_shown};
+ghost use Rattle.x7_report.specs.Frames.{frame_text, frames_text, is_shown, frame_text_if, addresses_shown};
 
 use std::alloc::Global;
 use std::simd::prelude::*;
-use x7_memory::Memory;
+use x7_memory::{Memory, are_zeros};
 use x7_part::Part;
 use x7_text::{hex_of_block, hex_of_word, make_room, put, put_number, put_text};
 use x7_words::NoMemory;
 
 /// Appends the digits of a word.
 fn put_word(out: &mut Vec<u8>, word: u32)
-    requires { vec_len out.old + 8 ≤ vec_capacity out.old }
+    requires { HasSpareRoom out.old 8 }
     ensures appends { Appends out.old out.new (hex_word word) 8 }
 {
     put(out, &hex_of_word(word));
@@ -46,7 +46,7 @@ fn bytes_of_words(words: &[u32; 8]) -> [u8; 32]
 /// Appends the digits of eight words.
 #[inline(always)]
 fn put_eight(out: &mut Vec<u8>, words: &[u32; 8])
-    requires { vec_len out.old + 64 ≤ vec_capacity out.old }
+    requires { HasSpareRoom out.old 64 }
     ensures appends { Appends out.old out.new (flat_map hex_word words.now) 64 }
 {
     put(out, &hex_of_block(&bytes_of_words(words)));
@@ -54,7 +54,7 @@ fn put_eight(out: &mut Vec<u8>, words: &[u32; 8])
 
 /// Appends the digits of words one by one.
 fn put_each(out: &mut Vec<u8>, words: &[u32])
-    requires { vec_len out.old + 8 * length words.now ≤ vec_capacity out.old }
+    requires { HasSpareRoom out.old (8 * length words.now) }
     ensures appends { Appends out.old out.new (flat_map hex_word words.now) (8 * length words.now) }
 {
     for word in words {
@@ -64,7 +64,7 @@ fn put_each(out: &mut Vec<u8>, words: &[u32])
 
 /// Appends the digits of words that stand eight in a block.
 fn put_blocks(out: &mut Vec<u8>, blocks: &[[u32; 8]])
-    requires { vec_len out.old + 64 * length blocks.now ≤ vec_capacity out.old }
+    requires { HasSpareRoom out.old (64 * length blocks.now) }
     ensures appends { Appends out.old out.new (flat_map (λ block. flat_map hex_word block) blocks.now) (64 * length blocks.now) }
 {
     for block in blocks {
@@ -74,7 +74,7 @@ fn put_blocks(out: &mut Vec<u8>, blocks: &[[u32; 8]])
 
 /// Appends the digits of words.
 fn put_digits(out: &mut Vec<u8>, words: &[u32])
-    requires { vec_len out.old + 8 * length words.now ≤ vec_capacity out.old }
+    requires { HasSpareRoom out.old (8 * length words.now) }
     ensures appends { Appends out.old out.new (flat_map hex_word words.now) (8 * length words.now) }
 {
     let (blocks, rest) = words.as_chunks::<8>();
@@ -85,7 +85,7 @@ fn put_digits(out: &mut Vec<u8>, words: &[u32])
 /// Appends the line of a frame, as `frame_line`, where there is room for it, and so takes no memory.
 #[tactic(auto, unfolding(crate::specs::Frames::frame_text))]
 pub fn put_frame(out: &mut Vec<u8>, far: u32, words: &[u32])
-    requires { vec_len out.old + (16 + 8 * length words.now) ≤ vec_capacity out.old }
+    requires { HasSpareRoom out.old (16 + 8 * length words.now) }
     ensures appends { Appends out.old out.new (frame_text far words.now) (16 + 8 * length words.now) }
 {
     put(out, b"frame ");
@@ -112,27 +112,6 @@ pub fn frame_line(out: &mut Vec<u8>, far: u32, words: &[u32]) -> Result<(), NoMe
     Ok(())
 }
 
-/// Whether all words are 0.
-fn are_zeros(words: &[u32]) -> bool
-    ensures { result ≡ are_zeros words.now }
-{
-    let mut any = 0;
-    for word in words {
-        any |= *word;
-    }
-    any == 0
-}
-
-/// Whether all words of a frame are 0.
-fn is_blank_frame(words: &[u32]) -> bool
-    ensures { result ≡ are_zeros words.now }
-{
-    match words.first() {
-        Some(word) if *word != 0 => false,
-        _ => are_zeros(words),
-    }
-}
-
 /// Whether the frame of a rank has a word other than 0.
 fn is_shown_at(_part: &Part, memory: &Memory, rank: u32) -> bool
     requires part { AreFramesOf _part.now memory.now }
@@ -140,7 +119,7 @@ fn is_shown_at(_part: &Part, memory: &Memory, rank: u32) -> bool
     ensures { result ≡ is_shown (frame_at _part.now memory.now (slice_index (addresses_in _part.now) rank)) }
 {
     match memory.frame_at_rank(rank) {
-        Some(words) => !is_blank_frame(words),
+        Some(words) => !are_zeros(words),
         None => false,
     }
 }

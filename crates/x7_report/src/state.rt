@@ -1,7 +1,7 @@
 //! The state of a device as text, appended where room is made first.
-ghost use Rattle.std.specs.Prelude.{◌≡◌, ◌∷◌, ◌++◌, ◌≤◌, ◌+◌, ◌*◌, length, vec_len, vec_capacity, OnOk, OnErr};
+ghost use Rattle.std.specs.Prelude.{◌≡◌, ◌∷◌, ◌++◌, ◌+◌, ◌*◌, length, OnOk, OnErr};
 ghost use Rattle.std.specs.List.{flat_map};
-ghost use Rattle.x7_text.specs.Appends.{Appends};
+ghost use Rattle.x7_text.specs.Appends.{Appends, HasSpareRoom};
 ghost use Rattle.x7_text.specs.Digits.{hex_word};
 ghost use Rattle.x7_report.specs.State.{line_digit, end_text, fault_text, phase_text, reg_line, reg_line_room, reg_text, reg_words, state_text};
 
@@ -12,7 +12,7 @@ use x7_words::NoMemory;
 
 /// Appends a name and the digits of a word.
 fn put_named_word(out: &mut Vec<u8>, name: &[u8], word: u32)
-    requires { vec_len out.old + (length name.now + 8) ≤ vec_capacity out.old }
+    requires { HasSpareRoom out.old (length name.now + 8) }
     ensures { out.new.items ≡ out.old.items ++ (name.now ++ hex_word word) }
 {
     put(out, name);
@@ -21,7 +21,7 @@ fn put_named_word(out: &mut Vec<u8>, name: &[u8], word: u32)
 
 /// Appends a name and the digits of two words.
 fn put_named_pair(out: &mut Vec<u8>, name: &[u8], want: u32, got: u32)
-    requires { vec_len out.old + (length name.now + 17) ≤ vec_capacity out.old }
+    requires { HasSpareRoom out.old (length name.now + 17) }
     ensures { out.new.items ≡ out.old.items ++ (name.now ++ hex_word want ++ 32 ∷ hex_word got) }
 {
     put(out, name);
@@ -32,7 +32,7 @@ fn put_named_pair(out: &mut Vec<u8>, name: &[u8], want: u32, got: u32)
 
 /// Appends the kind of a fault, and its words.
 fn put_fault(out: &mut Vec<u8>, fault: Fault)
-    requires { vec_len out.old + 21 ≤ vec_capacity out.old }
+    requires { HasSpareRoom out.old 21 }
     ensures { out.new.items ≡ out.old.items ++ fault_text fault }
 {
     match fault {
@@ -50,7 +50,7 @@ fn put_fault(out: &mut Vec<u8>, fault: Fault)
 /// Appends where the bytes taken end.
 #[tactic(auto, unfolding(crate::specs::State::end_text))]
 fn put_end(out: &mut Vec<u8>, end: End)
-    requires { vec_len out.old + 27 ≤ vec_capacity out.old }
+    requires { HasSpareRoom out.old 27 }
     ensures { out.new.items ≡ out.old.items ++ end_text end }
 {
     match end {
@@ -78,7 +78,7 @@ pub fn end_words(out: &mut Vec<u8>, r: &Regs) -> Result<(), NoMemory>
 
 /// Appends a name and the digit of a line, 0 or 1.
 fn put_bit(out: &mut Vec<u8>, name: &[u8], bit: bool)
-    requires { vec_len out.old + (length name.now + 1) ≤ vec_capacity out.old }
+    requires { HasSpareRoom out.old (length name.now + 1) }
     ensures appends { Appends out.old out.new (name.now ++ line_digit bit) (length name.now + 1) }
 {
     put(out, name);
@@ -88,7 +88,7 @@ fn put_bit(out: &mut Vec<u8>, name: &[u8], bit: bool)
 /// Appends the line of startup.
 #[tactic(auto, unfolding(crate::specs::State::phase_text))]
 fn put_phase(out: &mut Vec<u8>, r: &Regs)
-    requires { vec_len out.old + 46 ≤ vec_capacity out.old }
+    requires { HasSpareRoom out.old 46 }
     ensures { out.new.items ≡ out.old.items ++ phase_text r.now }
 {
     put(out, b"phase ");
@@ -142,7 +142,7 @@ const REG_LINE_ROOM: usize = 21;
 
 /// Appends the line of a register.
 fn put_row(out: &mut Vec<u8>, row: (Reg, u32))
-    requires { vec_len out.old + reg_line_room ≤ vec_capacity out.old }
+    requires { HasSpareRoom out.old reg_line_room }
     ensures appends { Appends out.old out.new (reg_line row) reg_line_room }
 {
     let (reg, word) = row;
@@ -155,7 +155,7 @@ fn put_row(out: &mut Vec<u8>, row: (Reg, u32))
 
 /// Appends the lines of registers.
 fn put_rows(out: &mut Vec<u8>, rows: &[(Reg, u32)])
-    requires { vec_len out.old + reg_line_room * length rows.now ≤ vec_capacity out.old }
+    requires { HasSpareRoom out.old (reg_line_room * length rows.now) }
     ensures { out.new.items ≡ out.old.items ++ flat_map reg_line rows.now }
 {
     for row in rows {

@@ -1,7 +1,7 @@
 //! The report of a device, ready to be written: the lines of its frames are made as they are written, some at a time.
-ghost use Rattle.std.specs.Prelude.{◌≡◌, ◌++◌, ◌+◌, ◌*◌, ◌≤◌, length, vec_len, vec_capacity, IfOk, OnErr, OnOk};
+ghost use Rattle.std.specs.Prelude.{◌≡◌, ◌++◌, ◌*◌, ◌≤◌, length, vec_capacity, IfOk, OnErr, OnOk};
 ghost use Rattle.x7_words.specs.Sink.{Counts, PutsAll, PutsSome, SinkFails};
-ghost use Rattle.x7_text.specs.Appends.{Appends};
+ghost use Rattle.x7_text.specs.Appends.{Appends, HasSpareRoom};
 ghost use Rattle.x7_memory.specs.Frames.{AreFramesOf, frame_at};
 ghost use Rattle.x7_engine.specs.Past.{OfPast, memory_at, state_at};
 ghost use Rattle.x7_engine.specs.Standing.{NoWordDue};
@@ -17,19 +17,20 @@ use x7_memory::Memory;
 use x7_part::Part;
 use x7_words::{Failed, NoMemory, Sink, write_all};
 
-/// How many frames' lines are written at once.
-const GROUP: usize = 128;
+/// How many lines of frames are written at once, as a group.
+const GROUP_LINES: usize = 128;
 
-/// The most bytes that the line of a frame takes: one of an address and 255 words.
+/// The most bytes that the line of a frame takes: the digits of 255 words, and 16 bytes for its name, its address, a blank
+/// and a line end.
 const FRAME_LINE_ROOM: usize = 2_056;
 
 /// The most bytes that the lines of a group take.
-const GROUP_ROOM: usize = GROUP * FRAME_LINE_ROOM;
+const GROUP_ROOM: usize = GROUP_LINES * FRAME_LINE_ROOM;
 
-/// Appends the line of the frame at an address. A frame has at most 255 words.
+/// Appends the line of the frame at an address.
 fn put_frame_at(text: &mut Vec<u8>, part: &Part, memory: &Memory, far: u32)
     requires memory { AreFramesOf part.now memory.now }
-    requires room { vec_len text.old + frame_line_room ≤ vec_capacity text.old }
+    requires room { HasSpareRoom text.old frame_line_room }
     ensures appends { Appends text.old text.new (frame_text_if far (frame_at part.now memory.now far)) frame_line_room }
 {
     // For the proof alone: a frame has at most 255 words.
@@ -43,7 +44,7 @@ fn put_frame_at(text: &mut Vec<u8>, part: &Part, memory: &Memory, far: u32)
 /// Appends the lines of the frames at these addresses.
 fn put_lines(text: &mut Vec<u8>, part: &Part, memory: &Memory, fars: &[u32])
     requires memory { AreFramesOf part.now memory.now }
-    requires room { vec_len text.old + frame_line_room * length fars.now ≤ vec_capacity text.old }
+    requires room { HasSpareRoom text.old (frame_line_room * length fars.now) }
     ensures appends { Appends text.old text.new (lines_text (frame_at part.now memory.now) fars.now) (frame_line_room * length fars.now) }
 {
     for far in fars {
@@ -69,7 +70,7 @@ fn write_lines<S: Sink>(
 {
     let mut rest = fars;
     while rest.len() > 0 {
-        let (group, more) = rest.split_at(rest.len().min(GROUP));
+        let (group, more) = rest.split_at(rest.len().min(GROUP_LINES));
         block.clear();
         put_lines(block, part, memory, group);
         write_all(out, block)?;

@@ -1,9 +1,11 @@
 -- One call more at the end of a list of calls of a startup.
 use Rattle.std.proofs.Common.{◌≡◌, ℕ, zero, suc, ◌+◌, ◌/◌, ◌%◌, ◌<◌, ◌≤◌, min, Bool, true, false, List, [], ◌∷◌, ◌++◌, replicate, Some, None, if◌then◌else◌, refl, sym, ap, ◌∙◌, arith}
 use Rattle.std.proofs.Math.Nat.{zero-add}
+use Rattle.std.specs.Bool.{then_some}
+use Rattle.std.specs.Option.{option_or}
 use Rattle.x7_startup.specs.Phases.{wait_of, IsPhase, tick_limit}
-use Rattle.x7_startup.specs.Startup.{IsPhaseOf, Call, Arm, Desync, Byte, DropBack, StartupProgress, NotBegun, Begun, has_taking, since_taking, bytes_among, is_armed, start_of, progress_of, Stored, StoresAt, StandsFor}
-use Rattle.x7_startup.specs.Ticks.{PassesTicks, first_some, reached}
+use Rattle.x7_startup.specs.Startup.{IsPhaseOf, Call, Arm, Desync, Byte, DropBack, StartupProgress, NotBegun, Begun, has_taking, since_taking, bytes_among, is_armed, start_of, progress_of, Stored, StoresAt, StandsForCalls}
+use Rattle.x7_startup.specs.Ticks.{PassesTicks, reached}
 use Rattle.x7_startup.proofs.PhaseLemmas.{phase_first, phase_rises, one_phase}
 
 has_taking_push : (calls t : List Call) → has_taking t ≡ false → has_taking (calls ++ t) ≡ has_taking calls
@@ -144,8 +146,8 @@ start_desync false (DropBack ∷ calls) d = start_desync false calls d
 armed_so : (lock matched : ℕ) (s : Stored) (armed : Bool) (progress : StartupProgress) → StoresAt lock matched s progress → StoresAt lock matched (record s { armed = armed }) progress
 armed_so lock matched s armed progress h = record { begun_is = h.begun_is; tick_bytes_are = h.tick_bytes_are; ticks_are = h.ticks_are; phase_is = h.phase_is }
 
-pub arm_stands : (lock matched : ℕ) (s : Stored) (calls : List Call) → StandsFor lock matched s calls →
-    StandsFor lock matched (record s { armed = true }) (calls ++ Arm ∷ [])
+pub arm_stands : (lock matched : ℕ) (s : Stored) (calls : List Call) → StandsForCalls lock matched s calls →
+    StandsForCalls lock matched (record s { armed = true }) (calls ++ Arm ∷ [])
 arm_stands lock matched s calls h =
     let e = since_push calls (Arm ∷ []) refl in
     record {
@@ -154,7 +156,7 @@ arm_stands lock matched s calls h =
     }
 
 pub drop_stands : (lock matched : ℕ) (calls : List Call) →
-    StandsFor lock matched (record { armed = false; begun = None; tick_bytes = 0; ticks = 0; phase = 0 }) (calls ++ DropBack ∷ [])
+    StandsForCalls lock matched (record { armed = false; begun = None; tick_bytes = 0; ticks = 0; phase = 0 }) (calls ++ DropBack ∷ [])
 drop_stands lock matched calls =
     let e = since_last calls in
     record {
@@ -163,7 +165,7 @@ drop_stands lock matched calls =
     }
 
 desync_stores : (lock matched : ℕ) (s : Stored) (progress : StartupProgress) (armed : Bool) (d : ℕ) → StoresAt lock matched s progress →
-    StoresAt lock matched (record s { armed = false; begun = first_some s.begun (if armed then Some d else None) }) (first_place progress armed d)
+    StoresAt lock matched (record s { armed = false; begun = option_or s.begun (then_some armed d) }) (first_place progress armed d)
 desync_stores lock matched s NotBegun true d h =
     let none : s.begun ≡ None = h.begun_is in
     let first : s.phase ≡ 0 = h.phase_is in
@@ -180,8 +182,8 @@ desync_stores lock matched s (Begun cor0 bytes) armed d h =
     let some : s.begun ≡ Some cor0 = h.begun_is in
     record { begun_is = rw some refl; tick_bytes_are = h.tick_bytes_are; ticks_are = h.ticks_are; phase_is = h.phase_is }
 
-pub desync_stands : (lock matched : ℕ) (s : Stored) (calls : List Call) (d : ℕ) → StandsFor lock matched s calls →
-    StandsFor lock matched (record s { armed = false; begun = first_some s.begun (if s.armed then Some d else None) }) (calls ++ Desync d ∷ [])
+pub desync_stands : (lock matched : ℕ) (s : Stored) (calls : List Call) (d : ℕ) → StandsForCalls lock matched s calls →
+    StandsForCalls lock matched (record s { armed = false; begun = option_or s.begun (then_some s.armed d) }) (calls ++ Desync d ∷ [])
 desync_stands lock matched s calls d h =
     let e = since_push calls (Desync d ∷ []) refl in
     record {
@@ -200,8 +202,8 @@ idle lock matched s (Begun cor0 bytes) n none h =
     let some : s.begun ≡ Some cor0 = h.begun_is in absurd (cc (none, some))
 
 -- bytes at a startup that hasn't begun
-pub idle_stands : (lock matched : ℕ) (s : Stored) (calls : List Call) (n : ℕ) → s.begun ≡ None → StandsFor lock matched s calls →
-    StandsFor lock matched s (calls ++ replicate n Byte)
+pub idle_stands : (lock matched : ℕ) (s : Stored) (calls : List Call) (n : ℕ) → s.begun ≡ None → StandsForCalls lock matched s calls →
+    StandsForCalls lock matched s (calls ++ replicate n Byte)
 idle_stands lock matched s calls n none h =
     let e = since_push calls (replicate n Byte) (no_taking n) in
     record {
@@ -230,8 +232,8 @@ goes_on lock matched s (Begun c b) n cor0 more tick_bytes ticks phase some m q r
 -- bytes at a startup that has begun
 pub running_stands : (lock matched : ℕ) (s : Stored) (calls : List Call) (n cor0 more tick_bytes ticks phase : ℕ) → s.begun ≡ Some cor0 →
     more ≡ (s.tick_bytes + n) / 4 → tick_bytes ≡ (s.tick_bytes + n) % 4 →
-    PassesTicks (wait_of lock matched cor0) (reached s.ticks s.phase) more (reached ticks phase) → StandsFor lock matched s calls →
-    StandsFor lock matched (record s { tick_bytes = tick_bytes; ticks = ticks; phase = phase }) (calls ++ replicate n Byte)
+    PassesTicks (wait_of lock matched cor0) (reached s.ticks s.phase) more (reached ticks phase) → StandsForCalls lock matched s calls →
+    StandsForCalls lock matched (record s { tick_bytes = tick_bytes; ticks = ticks; phase = phase }) (calls ++ replicate n Byte)
 running_stands lock matched s calls n cor0 more tick_bytes ticks phase begun m q runs h =
     let e = since_push calls (replicate n Byte) (no_taking n) in
     record {
@@ -242,7 +244,7 @@ running_stands lock matched s calls n cor0 more tick_bytes ticks phase begun m q
 
 -- a byte that ends no tick
 pub within_tick : (lock matched : ℕ) (s : Stored) (calls : List Call) (cor0 : ℕ) → s.begun ≡ Some cor0 → s.tick_bytes < 3 →
-    StandsFor lock matched s calls → StandsFor lock matched (record s { tick_bytes = s.tick_bytes + 1 }) (calls ++ Byte ∷ [])
+    StandsForCalls lock matched s calls → StandsForCalls lock matched (record s { tick_bytes = s.tick_bytes + 1 }) (calls ++ Byte ∷ [])
 within_tick lock matched s calls cor0 begun small h =
     running_stands lock matched s calls 1 cor0 0 (s.tick_bytes + 1) s.ticks s.phase begun (omega arith) (omega arith)
     (λ t e p. let z : t + 0 ≡ t = omega arith in rw z (e, p)) h

@@ -86,6 +86,6 @@ pub record StoresAt (lock matched : ℕ) (s : Stored) (progress : StartupProgres
 
 -- What is stored stands for the calls: each stored value is what the list of all calls so far comes to, each byte of
 -- which was taken with these lock and match numbers.
-pub record StandsFor (lock matched : ℕ) (s : Stored) (calls : List Call) : Type 0 where
+pub record StandsForCalls (lock matched : ℕ) (s : Stored) (calls : List Call) : Type 0 where
   pub armed_is : s.armed ≡ is_armed false (since_taking calls)
   pub stores : StoresAt lock matched s (progress_of calls)

@@ -1,5 +1,5 @@
 -- Ticks after ticks (this project's choice: the ticks are counted up to 65,535).
-use Rattle.std.specs.Prelude.{◌≡◌, ℕ, ◌+◌, min, Option, Some, None}
+use Rattle.std.specs.Prelude.{◌≡◌, ℕ, ◌+◌, min}
 use Rattle.x7_startup.specs.Phases.{IsPhase, tick_limit}
 use Rattle.x7_startup.specs.declared.phases.Reached.{Reached}
 
@@ -11,8 +11,3 @@ PassesTicks wait old more new =
 -- a count of ticks, and the phase after them
 abbrev pub reached : ℕ → ℕ → Reached
 reached ticks phase = record { ticks = ticks; phase = phase }
-
--- the first value, or the other one where there is no first
-abbrev pub first_some : Option ℕ → Option ℕ → Option ℕ
-first_some (Some x) other = Some x
-first_some None other = other

@@ -3,8 +3,8 @@ ghost use Rattle.std.specs.Prelude.{◌≡◌, ◌≤◌};
 ghost use Rattle.x7_startup.specs.Phases.{wait_of};
 ghost use Rattle.x7_startup.specs.Ticks.{PassesTicks};
 
-/// The number up to which ticks are counted.
-const TICK_LIMIT: u64 = 65535;
+/// The number up to which ticks are counted, the last of 16 bits: no lock or match number of a part is larger.
+const TICK_LIMIT: u64 = 65_535;
 
 /// A phase of at most 7, and the ticks since startup began, at most 65,535.
 #[derive(Clone, Copy)]

@@ -1,9 +1,8 @@
 //! The startup sequence: it moves by a phase a tick, save where COR0 makes it wait.
-ghost use Rattle.std.specs.Prelude.{◌≡◌, ◌<◌, ◌≤◌, ◌+◌, ◌∷◌, ◌++◌, min, ℕ, List, [], replicate, is_some, Some, None, if◌then◌else◌};
+ghost use Rattle.std.specs.Prelude.{◌≡◌, ◌<◌, ◌≤◌, ◌+◌, ◌∷◌, ◌++◌, min, ℕ, List, [], replicate, is_some};
 ghost use Rattle.x7_startup.specs.Lines.{done_line, gts_line, gwe_line, AreLines};
 ghost use Rattle.x7_startup.specs.Phases.{tick_limit};
-ghost use Rattle.x7_startup.specs.Ticks.{first_some};
-ghost use Rattle.x7_startup.specs.Startup.{Call, Arm, Desync, Byte, DropBack, Stored, StandsFor, IsPhaseOf, progress_of, cor0_of, ticks_of};
+ghost use Rattle.x7_startup.specs.Startup.{Call, Arm, Desync, Byte, DropBack, Stored, StandsForCalls, IsPhaseOf, progress_of, cor0_of, ticks_of};
 
 use crate::lines::{Lines, lines_in};
 use crate::phases::{Reached, pass_ticks, tick};
@@ -34,7 +33,7 @@ impl Model for Startup {
 impl Startup {
     /// A startup after a reset: not armed, not begun.
     pub fn new() -> Self
-        ensures stands { (lock matched : ℕ) → StandsFor lock matched result [] }
+        ensures stands { (lock matched : ℕ) → StandsForCalls lock matched result [] }
     {
         Startup {
             armed: false,
@@ -47,22 +46,22 @@ impl Startup {
 
     /// START: the next DESYNC begins startup.
     pub fn arm(&mut self)
-        ensures stands { (lock matched : ℕ) (calls : List Call) → StandsFor lock matched self.old calls → StandsFor lock matched self.new (calls ++ Arm ∷ []) }
+        ensures stands { (lock matched : ℕ) (calls : List Call) → StandsForCalls lock matched self.old calls → StandsForCalls lock matched self.new (calls ++ Arm ∷ []) }
     {
         self.armed = true;
     }
 
     /// DESYNC: begins an armed startup with this COR0, and disarms.
     pub fn desync(&mut self, cor0: u32)
-        ensures stands { (lock matched : ℕ) (calls : List Call) → StandsFor lock matched self.old calls → StandsFor lock matched self.new (calls ++ Desync cor0 ∷ []) }
+        ensures stands { (lock matched : ℕ) (calls : List Call) → StandsForCalls lock matched self.old calls → StandsForCalls lock matched self.new (calls ++ Desync cor0 ∷ []) }
     {
-        self.begun = begun_after(self.begun, self.armed, cor0);
+        self.begun = self.begun.or(self.armed.then_some(cor0));
         self.armed = false;
     }
 
     /// One byte more was taken, by a part with these lock and match numbers.
     pub fn byte(&mut self, lock: u16, matched: u16)
-        ensures stands { (calls : List Call) → StandsFor lock matched self.old calls → StandsFor lock matched self.new (calls ++ Byte ∷ []) }
+        ensures stands { (calls : List Call) → StandsForCalls lock matched self.old calls → StandsForCalls lock matched self.new (calls ++ Byte ∷ []) }
     {
         let Some(cor0) = self.begun else {
             return;
@@ -83,7 +82,7 @@ impl Startup {
 
     /// `count` bytes more were taken: the same as `count` calls of `byte`.
     pub fn bytes(&mut self, count: u64, lock: u16, matched: u16)
-        ensures stands { (calls : List Call) → StandsFor lock matched self.old calls → StandsFor lock matched self.new (calls ++ replicate count Byte) }
+        ensures stands { (calls : List Call) → StandsForCalls lock matched self.old calls → StandsForCalls lock matched self.new (calls ++ replicate count Byte) }
     {
         let Some(cor0) = self.begun else {
             return;
@@ -107,7 +106,7 @@ impl Startup {
 
     /// A shutdown was taken: not armed, not begun.
     pub fn drop_back(&mut self)
-        ensures stands { (lock matched : ℕ) (calls : List Call) → StandsFor lock matched self.old calls → StandsFor lock matched self.new (calls ++ DropBack ∷ []) }
+        ensures stands { (lock matched : ℕ) (calls : List Call) → StandsForCalls lock matched self.old calls → StandsForCalls lock matched self.new (calls ++ DropBack ∷ []) }
     {
         self.armed = false;
         self.begun = None;
@@ -127,7 +126,7 @@ impl Startup {
     pub fn phase(&self) -> u8
         ensures now { result ≡ self.now.phase }
         ensures last { result ≤ 7 }
-        ensures stands { (lock matched : ℕ) (calls : List Call) → StandsFor lock matched self.now calls → IsPhaseOf lock matched (progress_of calls) result }
+        ensures stands { (lock matched : ℕ) (calls : List Call) → StandsForCalls lock matched self.now calls → IsPhaseOf lock matched (progress_of calls) result }
     {
         self.phase
     }
@@ -135,14 +134,14 @@ impl Startup {
     /// The ticks since startup began, at most 65,535.
     pub fn ticks(&self) -> u16
         ensures now { result ≡ self.now.ticks }
-        ensures stands { (lock matched : ℕ) (calls : List Call) → StandsFor lock matched self.now calls → result ≡ min (ticks_of (progress_of calls)) tick_limit }
+        ensures stands { (lock matched : ℕ) (calls : List Call) → StandsForCalls lock matched self.now calls → result ≡ min (ticks_of (progress_of calls)) tick_limit }
     {
         self.ticks
     }
 
     /// The three lines.
     pub fn lines(&self) -> Lines
-        ensures stands { (lock matched : ℕ) (calls : List Call) → StandsFor lock matched self.now calls → AreLines (cor0_of (progress_of calls)) self.now.phase result.done result.gts result.gwe }
+        ensures stands { (lock matched : ℕ) (calls : List Call) → StandsForCalls lock matched self.now calls → AreLines (cor0_of (progress_of calls)) self.now.phase result.done result.gts result.gwe }
         ensures done { result.done ≡ done_line self.now.begun self.now.phase }
         ensures gts { result.gts ≡ gts_line self.now.begun self.now.phase }
         ensures gwe { result.gwe ≡ gwe_line self.now.begun self.now.phase }
@@ -155,16 +154,5 @@ impl Startup {
             };
         };
         lines_in(cor0, self.phase)
-    }
-}
-
-/// COR0 of the startup that has begun, after a DESYNC.
-fn begun_after(begun: Option<u32>, armed: bool, cor0: u32) -> Option<u32>
-    ensures { result ≡ first_some begun (if armed then Some cor0 else None) }
-{
-    match begun {
-        Some(earlier) => Some(earlier),
-        None if armed => Some(cor0),
-        None => None,
     }
 }

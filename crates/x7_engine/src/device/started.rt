@@ -1,13 +1,13 @@
-//! Feeding up to the end of startup.
+//! Feeding up to where startup begins, or up to its end.
 ghost use Rattle.std.specs.Prelude.{◌≡◌, ◌≤◌, ◌<◌, ◌+◌, ◌-◌, ◌^◌, ◌⊎◌, false, if◌then◌else◌, length, take, is_some, IsSome, IsTrue};
 ghost use Rattle.x7_packets.specs.Cutter.{between};
 ghost use Rattle.x7_engine.specs.UntilRead.{RoomBefore};
 ghost use Rattle.x7_engine.specs.Phases.{soonest};
 ghost use Rattle.x7_engine.specs.Standing.{HasBegun, HasStopped, NoWordDue, fed_more, fed_of};
 ghost use Rattle.x7_engine.specs.Turns.{MayTake, TookTurn};
-ghost use Rattle.x7_engine.specs.UntilStarted.{HasNotBegun, NoneStarted, says_started, taken_until};
+ghost use Rattle.x7_engine.specs.UntilStarted.{HasNotBegun, NoneBegun, NoneStarted, says_started, taken_until};
 ghost use Rattle.x7_engine.specs.declared.until_started.UntilStarted.TheVariants as until;
-ghost use Rattle.x7_engine.specs.Past.{AnswersUntilFor, OfPast, TakesJust, GivesWordsNext, later, part_until, StaysAtZero, started_at, state_at, stop_at, reads_given_at};
+ghost use Rattle.x7_engine.specs.Past.{AnswersUntilFor, OfPast, TakesJust, GivesWordsNext, later, part_until, started_at, state_at, stop_at, reads_given_at};
 
 use super::{Device, stopped};
 use crate::fed::Fed;
@@ -112,8 +112,8 @@ impl Device {
         ensures taken { self.new.taken ≡ self.old.taken + result }
         ensures fed { fed_of self.new ≡ fed_more self.old result }
         ensures stands { TakesJust self.old self.new (take result piece.now) }
-        ensures none_due { OfPast self.old (λ p. NoWordDue self.new) }
-        ensures first { OfPast self.old (λ p. StaysAtZero p piece.now result) }
+        ensures no_word_due { OfPast self.old (λ p. NoWordDue self.new) }
+        ensures first { OfPast self.old (λ p. NoneBegun p.part p.kept p.bytes piece.now result) }
         ensures ends { OfPast self.old (λ p. result < length piece.now → HasStopped self.new ⊎ HasBegun self.new) }
     {
         let mut read = ReadBuf::dropping();

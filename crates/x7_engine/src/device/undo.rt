@@ -87,7 +87,7 @@ impl Device {
     pub fn feed_word(&mut self, piece: &[u8], undo: &mut Undo) -> Fed
         requires four { length piece.now ≤ 4 }
         requires fits { self.old.taken + length piece.now ≤ 2 ^ 63 }
-        requires none_due { NoWordDue self.old }
+        requires no_word_due { NoWordDue self.old }
         requires undo { IsUndoOf self.old.part undo.old }
         ensures within { taken_in (length piece.now) result ≤ length piece.now }
         ensures stands { TakesJust self.old self.new (part_taken piece.now result) }

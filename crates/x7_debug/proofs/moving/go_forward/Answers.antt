@@ -3,7 +3,7 @@ use Rattle.x7_debug.proofs.JournalLemmas.{comes_on, within_still}
 use Rattle.x7_debug.proofs.moving.go_forward.Goals as goal
 
 pub leap-requires : goal.leap-requires
-leap-requires c = record { may = record { on = c.requires.may.on; within = omega (arith, c.requires.may.within) }; forward = omega (arith, c.if-to-taken-gt-RECORDED.true, c.taken.ensures.now) }
+leap-requires c = record { may = record { on = c.requires.may.on; within = omega (arith, c.requires.may.within) }; forward = omega (arith, c.if-to-taken-gt-RECORDED_BYTES.true, c.taken.ensures.now) }
 
 pub go_by_words-requires : goal.go_by_words-requires
 go_by_words-requires c =
@@ -16,11 +16,11 @@ go_by_words-requires c =
       forward = omega (arith, there.there.taken);
     }
 
-pub returns-then-to-taken-gt-RECORDED : goal.returns-then-to-taken-gt-RECORDED
-returns-then-to-taken-gt-RECORDED c =
+pub returns-then-to-taken-gt-RECORDED_BYTES : goal.returns-then-to-taken-gt-RECORDED_BYTES
+returns-then-to-taken-gt-RECORDED_BYTES c =
     let near = c.leap.ensures.at_position in
     let there = c.go_by_words.ensures.at_position in
-    let far = c.if-to-taken-gt-RECORDED.true in
+    let far = c.if-to-taken-gt-RECORDED_BYTES.true in
     let from = c.taken.ensures.now in
     record {
       at_position = record {

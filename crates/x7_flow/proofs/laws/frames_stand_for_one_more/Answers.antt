@@ -10,5 +10,5 @@ returns-clause-read c = λ part f e h count r. (read_begins part f.pipeline f.me
 pub returns-clause-words_due : goal.returns-clause-words_due
 returns-clause-words_due c = λ part f e h count r. (read_begins part f.pipeline f.memory e h count r.reads r.address r.stands).1
 
-pub returns-clause-one : goal.returns-clause-one
-returns-clause-one c = one_state_of
+pub returns-clause-equal : goal.returns-clause-equal
+returns-clause-equal c = one_state_of

@@ -1,6 +1,6 @@
 use Rattle.std.proofs.Common.{false, subst, sym, true, ◌∙◌}
 use Rattle.x7_regs.specs.declared.command.Command.{Command}
-use Rattle.x7_flow.specs.Asking.{Order}
+use Rattle.x7_flow.specs.Asking.{Commands}
 use Rattle.x7_flow.specs.Standing.{Did, frames_state}
 use Rattle.x7_flow.proofs.StandingLemmas.{copies_asked, did_as, did_copy, did_load, did_order, did_other, did_word, fault_as, nothing_asked, word_asked}
 use Rattle.x7_flow.proofs.taking.take.Goals as goal
@@ -14,7 +14,7 @@ returns-in-Far-clause-part c =
 
 pub returns-in-Cmd-clause-did : goal.returns-in-Cmd-clause-did
 returns-in-Cmd-clause-did c = λ h s. rw c.in-Cmd.is
-    (subst (λ (x : Command). Did c.args.part.now (Order x) (frames_state c.args.pipeline.now c.args.memory.now) (frames_state c.command.new.self c.args.memory.now)) c.command_of.ensures
+    (subst (λ (x : Command). Did c.args.part.now (Commands x) (frames_state c.args.pipeline.now c.args.memory.now) (frames_state c.command.new.self c.args.memory.now)) c.command_of.ensures
     (did_order c.args.part.now c.args.pipeline.now c.command.new.self c.args.memory.now c.command_of.result c.command.ensures.stands))
 
 pub returns-in-Ok-clause-did : goal.returns-in-Ok-clause-did

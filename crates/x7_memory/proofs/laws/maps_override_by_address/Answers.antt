@@ -13,5 +13,5 @@ returns-clause-again c = override_again
 pub returns-clause-same : goal.returns-clause-same
 returns-clause-same c = override_same
 
-pub returns-clause-one : goal.returns-clause-one
-returns-clause-one c = override_one
+pub returns-clause-one_frame : goal.returns-clause-one_frame
+returns-clause-one_frame c = override_one

@@ -17,5 +17,5 @@ returns-clause-ok c = λ part bytes h.
     let p = c.args.player in
     let on = not_over p.over part bytes (play_state p.device p.buffer p.reads.items) c.if-player.false h in
     let all = played_all part bytes p.device p.reads.items on.0 on.1 in
-    let text = rw c.deref.ensures.value at (c.in_ok-new.ensures.value part on_the_bench false all.prefix all.stands all.none_due) in
+    let text = rw c.deref.ensures.value at (c.in_ok-new.ensures.value part on_the_bench false all.prefix all.stands all.no_word_due) in
     reported_is part bytes p.device p.reads.items _ c.fault.result c.is_some-stopped.result all (c.fault.ensures part on_the_bench false all.prefix all.stands) c.is_some-stopped.ensures refl ∙ ap (λ (x : PlayTextState). Ok (text_of_play x)) (sym text)

@@ -1,7 +1,8 @@
-use Rattle.std.proofs.Common.{◌-◌, ◌<◌, [], false, length, length-drop, length-take-le, take, drop, refl, arith}
+use Rattle.std.proofs.Common.{◌-◌, ◌<◌, [], ap, false, length, length-drop, length-take-le, take, drop, refl, arith}
 use Rattle.x7_words.specs.Word.{AreBytes}
 use Rattle.x7_words.proofs.ListLemmas.{all_from_places}
 use Rattle.x7_engine.specs.Kept.{on_the_bench}
+use Rattle.x7_engine.specs.Startup.{phase_by}
 use Rattle.x7_debug.specs.Session.{StandsAtPosition}
 use Rattle.x7_debug.proofs.PositionLemmas.{last_within, moved, stands_first_bytes}
 use Rattle.x7_debug.proofs.outline.Outline.new.Goals as goal
@@ -32,5 +33,5 @@ returns-clause-begins c =
     let new = c.in_ok-device.ensures.stands in
     let fits : AreBytes c.args.stream.now = all_from_places (λ b. b < 256) c.args.stream.now (λ k h. omega (arith, c.type_inv.stream k)) in
     let there : StandsAtPosition c.args.part.now c.args.stream.now c.feed_until_begun-begins.new.self c.feed_until_begun-begins.result =
-    stands_first_bytes c.args.part.now c.args.stream.now c.feed_until_begun-begins.new.self c.feed_until_begun-begins.result fits fed.within (fed.stands c.args.part.now on_the_bench false [] new) (fed.none_due c.args.part.now on_the_bench false [] new) in
-    record { within = there.within; zero = fed.first c.args.part.now on_the_bench false [] new }
+    stands_first_bytes c.args.part.now c.args.stream.now c.feed_until_begun-begins.new.self c.feed_until_begun-begins.result fits fed.within (fed.stands c.args.part.now on_the_bench false [] new) (fed.no_word_due c.args.part.now on_the_bench false [] new) in
+    record { within = there.within; zero = λ k l. ap (phase_by c.args.part.now) (fed.first c.args.part.now on_the_bench false [] new k l) }

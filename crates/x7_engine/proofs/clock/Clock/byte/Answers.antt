@@ -1,6 +1,6 @@
 use Rattle.std.proofs.Common.{◌≡◌, ◌+◌, ◌≤◌, ℕ}
 use Rattle.x7_packets.specs.History.{History}
-use Rattle.x7_startup.specs.Startup.{StandsFor}
+use Rattle.x7_startup.specs.Startup.{StandsForCalls}
 use Rattle.x7_engine.specs.declared.kept.Kept.{Kept}
 use Rattle.x7_engine.specs.Clock.{IsClock, clock_in, newest_place}
 use Rattle.x7_engine.specs.Kept.{is_fallback}
@@ -10,7 +10,7 @@ use Rattle.x7_engine.proofs.ClockLemmas.{fires_bool, startup_bytes, watch_byte}
 use Rattle.x7_engine.proofs.clock.Clock.byte.Goals as goal
 
 startup_here : (c : goal.After-byte-2) (kept : Kept) (h : History) (n : ℕ) → newest_place h ≤ n → IsClock c.args.part.now kept (clock_in c.args.self.now) h n
-    → StandsFor c.args.part.now.lock c.args.part.now.matched c.byte.new.self (startup_calls h (n + 1))
+    → StandsForCalls c.args.part.now.lock c.args.part.now.matched c.byte.new.self (startup_calls h (n + 1))
 startup_here c kept h n l s = startup_bytes c.args.part.now h n 1 c.lock.result c.matched.result c.args.self.now.startup c.byte.new.self c.lock.ensures c.matched.ensures c.byte.ensures.stands l s.startup
 
 ends_here : (c : goal.After-byte-2) (kept : Kept) (h : History) (n : ℕ) → newest_place h ≤ n → IsClock c.args.part.now kept (clock_in c.args.self.now) h n

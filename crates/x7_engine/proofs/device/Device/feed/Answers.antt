@@ -85,7 +85,7 @@ returns-then-turn-clause-answer c = λ part kept wrapped bytes s.
     let piece : List ℕ = c.args.piece.now in
     let used = c.turn.ensures.used_up c.if-turn.true in
     let stands : DeviceStandsFor part kept wrapped c.turn.new.self (bytes ++ take (length piece) piece) = returns-then-turn-clause-stands c part kept wrapped bytes s in
-    (stands.stop_is ∙ ap (stopped_at (length (bytes ++ take (length piece) piece))) used.going, used.none_due)
+    (stands.stop_is ∙ ap (stopped_at (length (bytes ++ take (length piece) piece))) used.going, used.no_word_due)
 
 pub returns-then-turn-clause-reads : goal.returns-then-turn-clause-reads
 returns-then-turn-clause-reads c = λ part kept wrapped bytes s.

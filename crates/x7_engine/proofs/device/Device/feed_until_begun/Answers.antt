@@ -4,7 +4,7 @@ use Rattle.x7_engine.specs.declared.stop.Stop.{Stop}
 use Rattle.x7_engine.specs.ReadBuffer.{IsFull, IsFullBy, ReadBufState}
 use Rattle.x7_engine.specs.Standing.{DeviceStandsFor, NoWordDue}
 use Rattle.x7_engine.proofs.FeedLemmas.{stands_on}
-use Rattle.x7_engine.proofs.UntilLemmas.{zero_on}
+use Rattle.x7_engine.proofs.UntilLemmas.{unbegun_on}
 use Rattle.x7_engine.proofs.device.Device.feed_until_begun.Goals as goal
 
 pub runs-init : goal.runs-init
@@ -24,8 +24,8 @@ by_stop : (o : Option Stop) (P : Type 0) → is_some o ≡ true → ((why : Stop
 by_stop None P e f = absurd cc
 by_stop (Some why) P e f = f why refl
 
-pub returns-then-is_some-clause-none_due : goal.returns-then-is_some-clause-none_due
-returns-then-is_some-clause-none_due c = λ part kept wrapped bytes s.
+pub returns-then-is_some-clause-no_word_due : goal.returns-then-is_some-clause-no_word_due
+returns-then-is_some-clause-no_word_due c = λ part kept wrapped bytes s.
     by_stop c.stop.result (NoWordDue c.runs.self) (sym c.is_some.ensures ∙ c.if-is_some.true) (λ why e. (c.runs.invariant.stands part kept wrapped bytes s).at_rest why (sym c.stop.ensures ∙ e))
 
 -- the buffer is never full
@@ -36,8 +36,8 @@ none_full (suc n) b e f = absurd (subst (λ (o : Option ℕ). IsFullBy o (length
 pub returns-then-not-give-clause-stands : goal.returns-then-not-give-clause-stands
 returns-then-not-give-clause-stands c = λ part kept wrapped bytes s. (c.give.ensures.given part kept wrapped (bytes ++ take c.runs.at c.args.piece.now) (c.runs.invariant.stands part kept wrapped bytes s)).stands
 
-pub returns-then-not-give-clause-none_due : goal.returns-then-not-give-clause-none_due
-returns-then-not-give-clause-none_due c = λ part kept wrapped bytes s.
+pub returns-then-not-give-clause-no_word_due : goal.returns-then-not-give-clause-no_word_due
+returns-then-not-give-clause-no_word_due c = λ part kept wrapped bytes s.
     let given = c.give.ensures.given part kept wrapped (bytes ++ take c.runs.at c.args.piece.now) (c.runs.invariant.stands part kept wrapped bytes s) in
     none_full _ c.give.new.read (ap (λ (b : ReadBufState). b.most) given.read_is ∙ c.runs.invariant.drops part kept wrapped bytes s) c.give.ensures.full
 
@@ -66,7 +66,7 @@ pub returns-then-turn-clause-first : goal.returns-then-turn-clause-first
 returns-then-turn-clause-first c = λ part kept wrapped bytes s.
     let taken : List ℕ = bytes ++ take c.runs.at c.args.piece.now in
     let given : DeviceStandsFor part kept wrapped c.give.new.self taken = (c.give.ensures.given part kept wrapped taken (c.runs.invariant.stands part kept wrapped bytes s)).stands in
-    zero_on part kept wrapped c.give.new.self c.turn.new.self bytes c.args.piece.now c.runs.at c.turn.new.at c.turn.ensures.turned.forward c.turn.ensures.turned.within c.give.ensures.going given
+    unbegun_on part kept wrapped c.give.new.self c.turn.new.self bytes c.args.piece.now c.runs.at c.turn.new.at c.turn.ensures.turned.forward c.turn.ensures.turned.within c.give.ensures.going given
     (c.turn.ensures.turned.turn.stands part kept wrapped taken given) (c.turn.ensures.turned.turn.commands part kept wrapped taken given)
     (c.has_begun.ensures.not part kept wrapped taken given c.if-has_begun.false) (c.runs.invariant.first part kept wrapped bytes s)
 
@@ -90,7 +90,7 @@ runs-preserved c =
       first = λ part kept wrapped bytes s.
           let taken : List ℕ = bytes ++ take c.runs.at piece in
           let given : DeviceStandsFor part kept wrapped c.give.new.self taken = (c.give.ensures.given part kept wrapped taken (c.runs.invariant.stands part kept wrapped bytes s)).stands in
-          zero_on part kept wrapped c.give.new.self c.turn.new.self bytes piece c.runs.at at c.turn.ensures.turned.forward c.turn.ensures.turned.within c.give.ensures.going given
+          unbegun_on part kept wrapped c.give.new.self c.turn.new.self bytes piece c.runs.at at c.turn.ensures.turned.forward c.turn.ensures.turned.within c.give.ensures.going given
           (c.turn.ensures.turned.turn.stands part kept wrapped taken given) (c.turn.ensures.turned.turn.commands part kept wrapped taken given)
           (c.has_begun.ensures.not part kept wrapped taken given c.if-has_begun.false) (c.runs.invariant.first part kept wrapped bytes s);
     }

@@ -3,7 +3,7 @@ use Rattle.std.specs.Option.{is_some}
 use Rattle.x7_packets.specs.Cutter.{calls_left}
 use Rattle.x7_part.specs.Part.{PartData}
 use Rattle.x7_engine.specs.declared.kept.Kept.{Kept}
-use Rattle.x7_engine.specs.Past.{StaysAtZero, past_of}
+use Rattle.x7_engine.specs.UntilStarted.{NoneBegun}
 use Rattle.x7_engine.specs.Standing.{DeviceStandsFor, fed_more, fed_of}
 use Rattle.x7_engine.proofs.device.Device.feed_until_begun.Given as goal
 
@@ -16,7 +16,7 @@ invariant-runs l = record {
   fits : l.self.taken + (length l.piece - l.at) ≤ 2 ^ 63;
   drops : (part : PartData) (kept : Kept) (wrapped : Bool) (bytes : List ℕ) → DeviceStandsFor part kept wrapped l.initial.self bytes → l.read.most ≡ None;
   stands : (part : PartData) (kept : Kept) (wrapped : Bool) (bytes : List ℕ) → DeviceStandsFor part kept wrapped l.initial.self bytes → DeviceStandsFor part kept wrapped l.self (bytes ++ take l.at l.piece);
-  first : (part : PartData) (kept : Kept) (wrapped : Bool) (bytes : List ℕ) → DeviceStandsFor part kept wrapped l.initial.self bytes → StaysAtZero (past_of part kept wrapped bytes) l.piece l.at;
+  first : (part : PartData) (kept : Kept) (wrapped : Bool) (bytes : List ℕ) → DeviceStandsFor part kept wrapped l.initial.self bytes → NoneBegun part kept bytes l.piece l.at;
 }
 
 abbrev pub decreases-runs : goal.decreases-runs

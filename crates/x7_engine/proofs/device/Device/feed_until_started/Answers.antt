@@ -146,7 +146,7 @@ returns-then-turn_until_started-clause-answer c = λ part kept wrapped bytes s.
     stands_on part kept wrapped c.give.new.self c.turn_until_started.new.self bytes piece c.runs.at at c.turn_until_started.ensures.took.turned.forward (c.turn_until_started.ensures.took.turned.turn.stands part kept wrapped) given.stands in
     subst (λ (k : ℕ). AnswersUntil (past_of part kept wrapped (bytes ++ take k piece)) c.turn_until_started.new.self c.give.new.read c.answer-then-turn_until_started.result) (sym count)
     (subst (AnswersUntil (past_of part kept wrapped all) c.turn_until_started.new.self c.give.new.read) (sym c.answer-then-turn_until_started.ensures)
-    (answers_until (past_of part kept wrapped all) c.turn_until_started.new.self c.give.new.read c.started-then-turn_until_started.result fed.All at used.none_due (here.stop_is ∙ ap (stopped_at (length all)) used.going, used.none_due)))
+    (answers_until (past_of part kept wrapped all) c.turn_until_started.new.self c.give.new.read c.started-then-turn_until_started.result fed.All at used.no_word_due (here.stop_is ∙ ap (stopped_at (length all)) used.going, used.no_word_due)))
 
 pub returns-then-turn_until_started-clause-reads : goal.returns-then-turn_until_started-clause-reads
 returns-then-turn_until_started-clause-reads c = λ part kept wrapped bytes s.

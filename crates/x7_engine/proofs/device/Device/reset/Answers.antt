@@ -20,8 +20,8 @@ first c =
       stop_is = sym (ap (stopped_at 0) c.reset.ensures.going);
       registers_are = c.reset.ensures.stands c.args.self.now.part fit;
       cutter_is = λ _. record { sessions = []; place = Searching []; stands = c.new-self-inside.ensures };
-      due_are = record { given = []; all = sym (ap (λ (d : Due). words_left c.args.self.now.part [] d) c.reset.ensures.none_due) };
-      at_rest = λ why q. ap due_count c.reset.ensures.none_due;
+      due_are = record { given = []; all = sym (ap (λ (d : Due). words_left c.args.self.now.part [] d) c.reset.ensures.no_word_due) };
+      at_rest = λ why q. ap due_count c.reset.ensures.no_word_due;
     }
 
 pub invariant_of-self : goal.invariant_of-self

@@ -9,7 +9,7 @@ use Rattle.x7_engine.specs.Standing.{DeviceStandsFor, DeviceState, IsCutterOf, H
 use Rattle.x7_engine.specs.State.{history_taken, reads_of}
 use Rattle.x7_engine.specs.Turns.{TakesTurn}
 use Rattle.x7_engine.proofs.DeviceLemmas.{between_prefix, holds_run, length_between, given_by, turned}
-use Rattle.x7_engine.proofs.FrameLemmas.{none_due}
+use Rattle.x7_engine.proofs.FrameLemmas.{no_word_due}
 use Rattle.x7_engine.proofs.PastLemmas.{past_later}
 use Rattle.x7_engine.proofs.UntilLemmas.{prefix_commands, run_commands}
 use Rattle.x7_engine.proofs.device.Device.take_run.Goals as goal
@@ -72,7 +72,7 @@ turn_taken c = record {
       subst (λ (p : PartData). reads_of p kept (bytes ++ more) ≡ reads_of p kept bytes ++ words_left p (history_taken p kept (bytes ++ more)) c.run-left.new.self.due) here
       (turned_here c kept wrapped bytes (subst (λ (p : PartData). DeviceStandsFor p kept wrapped c.args.self.now bytes) (sym here) s)).1 in
       given_by part kept (device_after c) (bytes ++ more) (reads_of part kept bytes) (history_taken part kept (bytes ++ more)) reads
-      ∙ sym (given_by part kept c.args.self.now bytes (reads_of part kept bytes) [] (none_due (reads_of part kept bytes) part [] c.args.self.now.registers.due c.requires.none_due)));
+      ∙ sym (given_by part kept c.args.self.now bytes (reads_of part kept bytes) [] (no_word_due (reads_of part kept bytes) part [] c.args.self.now.registers.due c.requires.no_word_due)));
   commands = λ part kept wrapped bytes s. (
       let piece : List ℕ = c.args.piece.now in
       let from : ℕ = c.args.at.now in
@@ -135,7 +135,7 @@ returns c = record {
       record {
         all = omega (arith, all, c.cut-run.ensures.within, c.run-left.ensures.left.goes_on going);
         going = going;
-        none_due = c.run-left.ensures.quiet (tells_nothing c.cut-run.result need);
+        no_word_due = c.run-left.ensures.quiet (tells_nothing c.cut-run.result need);
       });
   goes_on = λ e f. (
       let unused : c.is_need-used_up.result ≡ false = c.is_done.ensures.no e (c.stop.ensures ∙ f) in

@@ -28,8 +28,8 @@ device_after c = record {
   fed = c.saturating_add-self-inside.result;
 }
 
-none_due : (c : goal.After-self-2-1) → due_count c.write_to.new.self.due ≡ 0
-none_due c = ap due_count c.write_to.ensures.leaves.due ∙ ap (λ (d : DeviceState). due_count d.registers.due) c.self.view_is ∙ c.requires.none_due
+no_word_due : (c : goal.After-self-2-1) → due_count c.write_to.new.self.due ≡ 0
+no_word_due c = ap due_count c.write_to.ensures.leaves.due ∙ ap (λ (d : DeviceState). due_count d.registers.due) c.self.view_is ∙ c.requires.no_word_due
 
 -- the registers before the write, and after it
 abbrev wrote : goal.After-self-2-1 → Change
@@ -48,14 +48,14 @@ written_here c given kept wrapped bytes s =
     (write_at part kept wrapped (device_before c) (device_after c) bytes c.args.piece.now c.args.at.now c.in-Some.register c.in-Some.word inside
     (ap (λ (d : DeviceState). d.registers.stop) c.self.view_is ∙ c.requires.going)
     (c.is_idle.ensures.begun c.if-not-is_idle.false) (c.is_idle.ensures.limit c.if-not-is_idle.false)
-    c.in-Some.ensures.some (subst (λ (r : ℕ). EntersAt (wrote c) (λ place h. entry (Write r c.in-Some.word) place ∷ h)) c.numbered.ensures c.write_to.ensures.stands kept) c.write_to.ensures.counts (none_due c) refl refl refl)
+    c.in-Some.ensures.some (subst (λ (r : ℕ). EntersAt (wrote c) (λ place h. entry (Write r c.in-Some.word) place ∷ h)) c.numbered.ensures c.write_to.ensures.stands kept) c.write_to.ensures.counts (no_word_due c) refl refl refl)
 
 turn_taken : (c : goal.After-self-2-1) → TakesTurn c.args.self.now (device_after c) (between c.args.piece.now c.args.at.now (c.args.at.now + 8))
 turn_taken c = record {
   part = ap (λ (d : DeviceState). d.part) c.self.view_is;
   stands = λ part kept wrapped bytes s. (written_here c part kept wrapped bytes s).0;
   silent = λ part kept wrapped bytes s.
-      given_same part kept c.args.self.now (device_after c) bytes (bytes ++ between c.args.piece.now c.args.at.now (c.args.at.now + 8)) c.requires.none_due (none_due c) (written_here c part kept wrapped bytes s).1;
+      given_same part kept c.args.self.now (device_after c) bytes (bytes ++ between c.args.piece.now c.args.at.now (c.args.at.now + 8)) c.requires.no_word_due (no_word_due c) (written_here c part kept wrapped bytes s).1;
   commands = λ part kept wrapped bytes s. (written_here c part kept wrapped bytes s).2;
 }
 

@@ -10,7 +10,7 @@ returns-then-take_write c = record {
   used_up = λ e. absurd cc;
   goes_on = λ e f. (
       let turned = c.take_write.ensures.turned c.if-take_write.true in
-      omega (arith, c.take_write.ensures.one c.if-take_write.true, turned.within, one_sync c.take_write.new.self.cutter.mode));
+      omega (arith, c.take_write.ensures.eight_bytes c.if-take_write.true, turned.within, one_sync c.take_write.new.self.cutter.mode));
 }
 
 -- where there is no write, the next run is taken of the device as it was

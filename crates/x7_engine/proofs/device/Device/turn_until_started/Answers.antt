@@ -27,7 +27,7 @@ returns-then-turn-clause-took c =
     let size : length (take c.turn_end-end.result c.args.piece.now) ≡ c.turn_end-end.result = length-take-le c.turn_end-end.result c.args.piece.now c.turn_end-end.ensures.within in
     record {
       turned = slice_turned c.args.self.now c.turn.new.self c.args.piece.now c.turn_end-end.result c.args.at.now c.turn.new.at c.turn_end-end.ensures.within c.turn.ensures.turned;
-      used_up = λ e. record { all = let all : c.turn_end-end.result ≡ length c.args.piece.now = grind (arith, nat_tests, e) in omega (arith, all, size, used.all); going = used.going; none_due = used.none_due };
+      used_up = λ e. record { all = let all : c.turn_end-end.result ≡ length c.args.piece.now = grind (arith, nat_tests, e) in omega (arith, all, size, used.all); going = used.going; no_word_due = used.no_word_due };
       goes_on = λ e f. (
           let more : c.turn_end-end.result ≡ length c.args.piece.now → ⊥ = λ all. absurd (grind (arith, nat_tests, e, all)) in
           let further : c.args.at.now < c.turn_end-end.result = second c.turn_end-end.ensures.forward more in

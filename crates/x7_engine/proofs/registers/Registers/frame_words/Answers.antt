@@ -51,7 +51,7 @@ returns c = record {
       let none : first_firing part kept h n (k * 4) ≡ None = firing_less part kept h n (k * 4) c.before_firing.result (omega (arith, few)) (c.before_firing.ensures.none kept h n newest s.clock) in
       let ticks : Ticks (course_at part kept h n) clock (k * 4) None = ticks_quiet part kept clock h n (k * 4) c.bytes.result none (c.bytes.ensures.ticks kept h n newest s.clock) in
       let after = ticked part kept (registers_in c.args.self.now) clock h n (k * 4) m refl c.requires.ready.going s ticks in
-      let are : FramesStandFor part c.args.self.now.frames h 0 = standing_frames part c.args.self.now.frames c.args.self.now.stop h c.args.self.now.due c.requires.ready.going c.requires.ready.none_due s.frames in
+      let are : FramesStandFor part c.args.self.now.frames h 0 = standing_frames part c.args.self.now.frames c.args.self.now.stop h c.args.self.now.due c.requires.ready.going c.requires.ready.no_word_due s.frames in
       let words = given part c.write_bytes-count.new.self h (words_to r n (take (b * 4) bytes)) c.write_bytes-count.result (c.write_bytes-count.ensures.taken n h (c.settings-settings.ensures.after part kept h n s) are) in
       let before : take _ looked ≡ prefix = ap (λ (j : ℕ). take j looked) (sym c.taken_of-taken.ensures.value) ∙ same in
       let unrefused : NoneRefused part r n prefix h = subst (λ (x : List ℕ). NoneRefused part r n x h) before words.0 in
@@ -69,7 +69,7 @@ returns c = record {
         before = s.before;
         clock = clocked.clock;
         stop = clocked.stop;
-        frames = frames_none part c.write_bytes-count.new.self c.args.self.now.stop all c.args.self.now.due c.requires.ready.going c.requires.ready.none_due frames;
-        due_kind = none_among c.args.self.now.due all c.requires.ready.none_due;
+        frames = frames_none part c.write_bytes-count.new.self c.args.self.now.stop all c.args.self.now.due c.requires.ready.going c.requires.ready.no_word_due frames;
+        due_kind = none_among c.args.self.now.due all c.requires.ready.no_word_due;
       });
 }

@@ -28,7 +28,7 @@ returns-in-Bad-clause-stands c = λ kept h place next s.
       before = s.before;
       clock = clock_other c.args.part.now kept (registers_in c.args.self.now).clock h (Bad c.in-Bad.word) place refl refl s.clock;
       stop = stop_of_access c.args.part.now kept h (Bad c.in-Bad.word) place going;
-      frames = frames_none_at c.args.part.now c.args.self.now.frames (Some (stop.Fault (fault.Packet c.in-Bad.word))) (entry (Bad c.in-Bad.word) place ∷ h) c.args.self.now.due refl c.requires.ready.none_due
-          (other_access c.args.part.now c.args.self.now.frames h (entry (Bad c.in-Bad.word) place) refl (standing_frames c.args.part.now c.args.self.now.frames c.args.self.now.stop h c.args.self.now.due c.requires.ready.going c.requires.ready.none_due s.frames));
-      due_kind = none_among c.args.self.now.due (entry (Bad c.in-Bad.word) place ∷ h) c.requires.ready.none_due;
+      frames = frames_none_at c.args.part.now c.args.self.now.frames (Some (stop.Fault (fault.Packet c.in-Bad.word))) (entry (Bad c.in-Bad.word) place ∷ h) c.args.self.now.due refl c.requires.ready.no_word_due
+          (other_access c.args.part.now c.args.self.now.frames h (entry (Bad c.in-Bad.word) place) refl (standing_frames c.args.part.now c.args.self.now.frames c.args.self.now.stop h c.args.self.now.due c.requires.ready.going c.requires.ready.no_word_due s.frames));
+      due_kind = none_among c.args.self.now.due (entry (Bad c.in-Bad.word) place ∷ h) c.requires.ready.no_word_due;
     }

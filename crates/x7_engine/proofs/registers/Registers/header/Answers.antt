@@ -3,7 +3,7 @@ use Rattle.x7_packets.specs.History.{History, entered, until}
 use Rattle.x7_engine.specs.Standing.{RegistersStandFor, counted_in, due_count, registers_in, words_left}
 use Rattle.x7_engine.specs.Value.{read_out}
 use Rattle.x7_engine.proofs.TurnLemmas.{all_counted, fired_until, next_at, none_there, until_all}
-use Rattle.x7_engine.proofs.FrameLemmas.{none_due}
+use Rattle.x7_engine.proofs.FrameLemmas.{no_word_due}
 use Rattle.x7_engine.proofs.registers.Registers.header.Goals as goal
 
 pub returns-then-is_some-clause-stands : goal.returns-then-is_some-clause-stands
@@ -17,7 +17,7 @@ returns-then-is_some-clause-stands c = λ kept h n some s.
 pub returns-then-is_some-clause-reads : goal.returns-then-is_some-clause-reads
 returns-then-is_some-clause-reads c = λ kept h n some s.
     ap (read_out c.args.part.now kept) (fired_until c.tick-left.new.self.stop n c.args.count c.tick-left.result c.args.step h (sym c.is_some.ensures ∙ c.if-is_some.true) c.tick-left.ensures.fired s.places)
-    ∙ none_due (read_out c.args.part.now kept h) c.args.part.now _ c.tick-left.new.self.due (ap due_count c.tick-left.ensures.due ∙ c.requires.ready.none_due)
+    ∙ no_word_due (read_out c.args.part.now kept h) c.args.part.now _ c.tick-left.new.self.due (ap due_count c.tick-left.ensures.due ∙ c.requires.ready.no_word_due)
 
 before : (c : goal.After-head) (n : ℕ) → n + (c.args.count - c.tick-left.result) ≡ n + c.args.count
 before c n =

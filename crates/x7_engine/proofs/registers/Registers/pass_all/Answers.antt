@@ -55,7 +55,7 @@ returns c = record {
         before = t.before;
         clock = clocked.clock;
         stop = clocked.stop;
-        frames = plain_are part c.tick-left.new.self.frames c.tick-left.new.self.stop c.args.plain.register n prefix h c.tick-left.new.self.due p (ticks_on c.tick-left.new.self.stop _ c.tick-left.ensures.fired) (ap due_count c.tick-left.ensures.due ∙ c.requires.ready.none_due) t.frames;
-        due_kind = none_among c.tick-left.new.self.due (entered_all n (payload_steps c.args.plain.register prefix) h) (ap due_count c.tick-left.ensures.due ∙ c.requires.ready.none_due);
+        frames = plain_are part c.tick-left.new.self.frames c.tick-left.new.self.stop c.args.plain.register n prefix h c.tick-left.new.self.due p (ticks_on c.tick-left.new.self.stop _ c.tick-left.ensures.fired) (ap due_count c.tick-left.ensures.due ∙ c.requires.ready.no_word_due) t.frames;
+        due_kind = none_among c.tick-left.new.self.due (entered_all n (payload_steps c.args.plain.register prefix) h) (ap due_count c.tick-left.ensures.due ∙ c.requires.ready.no_word_due);
       });
 }

@@ -8,7 +8,7 @@ use Rattle.x7_packets.specs.Packet.{payload_steps}
 use Rattle.x7_engine.specs.Standing.{EndsWords, RegistersStandFor, counted_in, due_count, registers_in}
 use Rattle.x7_engine.specs.Value.{read_out}
 use Rattle.x7_engine.proofs.TurnLemmas.{counted_more, quiet_until, write_until, writes_until}
-use Rattle.x7_engine.proofs.FrameLemmas.{none_due}
+use Rattle.x7_engine.proofs.FrameLemmas.{no_word_due}
 use Rattle.x7_engine.proofs.registers.Registers.run.Goals as goal
 
 pub returns-in-Need-clause-stands : goal.returns-in-Need-clause-stands
@@ -19,7 +19,7 @@ returns-in-Need-clause-stands c = λ kept h from n e s.
 pub returns-in-Need-clause-reads : goal.returns-in-Need-clause-reads
 returns-in-Need-clause-reads c = λ kept h from n e s.
     rw c.in-Need.is (ap (read_out c.args.part.now kept) (quiet_until c.tick.new.self.stop n c.args.count c.tick.result h c.tick.ensures.fired s.places)
-    ∙ none_due (read_out c.args.part.now kept h) c.args.part.now _ c.tick.new.self.due (ap due_count c.tick.ensures.due ∙ c.requires.ready.none_due))
+    ∙ no_word_due (read_out c.args.part.now kept h) c.args.part.now _ c.tick.new.self.due (ap due_count c.tick.ensures.due ∙ c.requires.ready.no_word_due))
 
 pub returns-in-Skip-clause-stands : goal.returns-in-Skip-clause-stands
 returns-in-Skip-clause-stands c = λ kept h from n e s.
@@ -29,7 +29,7 @@ returns-in-Skip-clause-stands c = λ kept h from n e s.
 pub returns-in-Skip-clause-reads : goal.returns-in-Skip-clause-reads
 returns-in-Skip-clause-reads c = λ kept h from n e s.
     rw c.in-Skip.is (ap (read_out c.args.part.now kept) (quiet_until c.tick-in-Skip.new.self.stop n c.args.count c.tick-in-Skip.result h c.tick-in-Skip.ensures.fired s.places)
-    ∙ none_due (read_out c.args.part.now kept h) c.args.part.now _ c.tick-in-Skip.new.self.due (ap due_count c.tick-in-Skip.ensures.due ∙ c.requires.ready.none_due))
+    ∙ no_word_due (read_out c.args.part.now kept h) c.args.part.now _ c.tick-in-Skip.new.self.due (ap due_count c.tick-in-Skip.ensures.due ∙ c.requires.ready.no_word_due))
 
 pub returns-in-Sync-clause-stands : goal.returns-in-Sync-clause-stands
 returns-in-Sync-clause-stands c = λ kept h from n e s.
@@ -39,7 +39,7 @@ returns-in-Sync-clause-stands c = λ kept h from n e s.
 pub returns-in-Sync-clause-reads : goal.returns-in-Sync-clause-reads
 returns-in-Sync-clause-reads c = λ kept h from n e s.
     rw c.in-Sync.is (ap (read_out c.args.part.now kept) (quiet_until c.tick-in-Sync.new.self.stop n c.args.count c.tick-in-Sync.result h c.tick-in-Sync.ensures.fired s.places)
-    ∙ none_due (read_out c.args.part.now kept h) c.args.part.now _ c.tick-in-Sync.new.self.due (ap due_count c.tick-in-Sync.ensures.due ∙ c.requires.ready.none_due))
+    ∙ no_word_due (read_out c.args.part.now kept h) c.args.part.now _ c.tick-in-Sync.new.self.due (ap due_count c.tick-in-Sync.ensures.due ∙ c.requires.ready.no_word_due))
 
 pub returns-in-Word-clause-stands : goal.returns-in-Word-clause-stands
 returns-in-Word-clause-stands c = λ kept h from n e s.
@@ -56,7 +56,7 @@ returns-in-Word-clause-reads c = λ kept h from n e s.
     let some : 0 < c.args.count = omega (arith, w.0, w.1) in
     let few : c.word.result < c.args.count = c.word.ensures.some some in
     rw c.in-Word.is (write_until c.args.part.now kept n (counted_in c.word.new.self.stop (n + (c.args.count - c.word.result))) (from + 4) c.in-Word.register c.in-Word.word h s.places (counted_more c.word.new.self.stop n (c.args.count - c.word.result) (omega (arith, few)))
-    ∙ none_due (read_out c.args.part.now kept h) c.args.part.now _ c.word.new.self.due (ap due_count c.word.ensures.leaves.due ∙ c.requires.ready.none_due))
+    ∙ no_word_due (read_out c.args.part.now kept h) c.args.part.now _ c.word.new.self.due (ap due_count c.word.ensures.leaves.due ∙ c.requires.ready.no_word_due))
 
 pub returns-in-Body-clause-stands : goal.returns-in-Body-clause-stands
 returns-in-Body-clause-stands c = λ kept h from n e s.
@@ -78,4 +78,4 @@ returns-in-Body-clause-reads c = λ kept h from n e s.
     let more : 0 < k = omega (arith, w.1, some, c.body.ensures.takes.within) in
     rw c.in-Body.is (ap (λ (p : ℕ). read_out c.args.part.now kept (until (counted_in c.body.new.self.stop (n + k)) (entered_all p (payload_steps c.in-Body.register ws) h))) w.0
     ∙ writes_until c.args.part.now kept n (counted_in c.body.new.self.stop (n + k)) c.in-Body.register ws h s.places (counted_more c.body.new.self.stop n k more)
-    ∙ none_due (read_out c.args.part.now kept h) c.args.part.now _ c.body.new.self.due (ap due_count c.body.ensures.leaves.due ∙ c.requires.ready.none_due))
+    ∙ no_word_due (read_out c.args.part.now kept h) c.args.part.now _ c.body.new.self.due (ap due_count c.body.ensures.leaves.due ∙ c.requires.ready.no_word_due))

@@ -3,6 +3,7 @@ use Rattle.std.specs.Prelude.{slice_set}
 use Rattle.std.proofs.lemmas.Grind.{get_or_default_zero}
 use Rattle.x7_memory.specs.Flat.{words_with_frame}
 use Rattle.x7_memory.proofs.MemoryLemmas.{is_rank, new_width, own_number, over_seen, over_room, none_seen, first_room, first_seen, first_fields, stored_few, next_room}
+use Rattle.x7_memory.proofs.ZeroLemmas.{zeros_alike}
 use Rattle.x7_memory.proofs.memory.Memory.put_at.Goals as goal
 
 pub write_over-requires : goal.write_over-requires
@@ -38,7 +39,7 @@ returns-then-are_zeros c =
     let number = c.index-number.ensures ∙ get_or_default_zero c.self.inside.numbers.items c.args.rank c.index-number.result.now r.inside in
     let wide = new_width c.self.inside c.args.rank c.args.words.now _ c.self.invariant r c.self.view_is (c.requires.width []) in
     let none : get_or c.self.inside.numbers.items c.args.rank 0 ≡ 0 = sym number ∙ c.if-number-ne0.false in
-    sym c.self.view_is ∙ none_seen c.self.inside c.args.rank c.args.words.now c.self.invariant r none wide (c.are_zeros.ensures c.if-are_zeros.true)
+    sym c.self.view_is ∙ none_seen c.self.inside c.args.rank c.args.words.now c.self.invariant r none wide (zeros_alike c.args.words.now (sym c.are_zeros.ensures ∙ c.if-are_zeros.true))
     ∙ ap (λ m. slice_set m c.args.rank c.args.words.now) c.self.view_is
 
 pub overflow_add-self : goal.overflow_add-self

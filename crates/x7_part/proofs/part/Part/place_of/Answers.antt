@@ -10,4 +10,4 @@ pub returns-clause-slots : goal.returns-clause-slots
 returns-clause-slots c = rw (← c.table.ensures.slots) c.slot_of.ensures.slot
 
 pub returns-clause-few : goal.returns-clause-few
-returns-clause-few c = rw (← c.table.ensures.slots) c.table.ensures.are.slots
+returns-clause-few c = rw (← c.table.ensures.slots) c.table.ensures.are_columns.slots

@@ -4,5 +4,5 @@ use Rattle.x7_startup.proofs.startup.Startup.desync.Goals as goal
 pub returns : goal.returns
 returns c = record {
   stands = λ lock matched calls h.
-      rw c.begun_after-self-inside.ensures (desync_stands lock matched _ calls c.args.cor0 (rw (← c.self.view_is) at h));
+      rw (c.or-self-inside.ensures, c.then_some.ensures) (desync_stands lock matched _ calls c.args.cor0 (rw (← c.self.view_is) at h));
 }

@@ -3,7 +3,7 @@ use Rattle.std.proofs.lemmas.List.Sorted.{IsNonDecreasingBy-from_sort_by_key}
 use Rattle.x7_part.specs.Address.{row_address}
 use Rattle.x7_part.proofs.OrderLemmas.{ordered}
 use Rattle.x7_part.proofs.SortLemmas.{sorted_is}
-use Rattle.x7_part.proofs.row.in_order.Goals as goal
+use Rattle.x7_part.proofs.row.sort_rows.Goals as goal
 
 pub returns : goal.returns
 returns c =
