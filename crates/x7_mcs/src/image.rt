@@ -1,10 +1,11 @@
 //! The bytes of a flash that is being read, and the places that its records gave.
 ghost use Rattle.std.specs.Prelude.{◌≡◌, ℕ, true, ◌≤◌, ◌<◌, ◌+◌, ◌-◌, ◌*◌, ◌/◌, ◌%◌, ◌^◌, ◌==◌, ◌&&◌, nat_le, nat_lt, max, if◌then◌else◌, List, [], length, get_or, MatchResult, MatchOption};
 ghost use Rattle.std.specs.Int.{bit_at};
-ghost use Rattle.x7_mcs.specs.DataRecords.{DataRecord, overlap, free_byte};
+ghost use Rattle.x7_words.specs.Flash.{erased_byte};
+ghost use Rattle.x7_mcs.specs.DataRecords.{DataRecord, overlap};
 ghost use Rattle.x7_mcs.specs.Readings.{HoldsIn, HoldsMore, IsRecordRefused, data_at};
 ghost use Rattle.x7_mcs.specs.Record.{byte_values};
-ghost use Rattle.x7_mcs.specs.Image.{AreFree, IsFirstMarked, IsWrittenFrom, is_marked, places_a_mark};
+ghost use Rattle.x7_mcs.specs.Image.{AreFree, AreMarked, IsFirstMarked, IsWrittenFrom, places_a_mark, written_byte};
 
 use crate::fault::McsFault;
 use std::alloc::{AllocError, Global};
@@ -39,7 +40,7 @@ pub(crate) fn empty_image(alloc: Global) -> Image
 /// Lengthens bytes by FF.
 #[inline(always)]
 fn grow_bytes(bytes: &mut Vec<u8>, n: usize) -> Result<(), AllocError>
-    ensures { MatchResult result (λ _. (length bytes.new.items ≡ max (length bytes.old.items) n) × ((p : ℕ) → get_or bytes.new.items p free_byte ≡ get_or bytes.old.items p free_byte)) (λ _. Unit {0}) }
+    ensures { MatchResult result (λ _. (length bytes.new.items ≡ max (length bytes.old.items) n) × ((p : ℕ) → get_or bytes.new.items p erased_byte ≡ get_or bytes.old.items p erased_byte)) (λ _. Unit {0}) }
 {
     if n <= bytes.len() {
         return Ok(());
@@ -51,7 +52,7 @@ fn grow_bytes(bytes: &mut Vec<u8>, n: usize) -> Result<(), AllocError>
 fn set_bytes(bytes: &mut Vec<u8>, place: usize, content: &[u8])
     requires { place + length content.now ≤ length bytes.old.items }
     ensures long { length bytes.new.items ≡ length bytes.old.items }
-    ensures at { (p : ℕ) → get_or bytes.new.items p free_byte ≡ (if nat_le place p && nat_lt p (place + length content.now) then get_or content.now (p - place) free_byte else get_or bytes.old.items p free_byte) }
+    ensures at { (p : ℕ) → get_or bytes.new.items p erased_byte ≡ written_byte place content.now bytes.old.items p }
 {
     bytes[place..place + content.len()].copy_from_slice(content);
 }
@@ -96,7 +97,7 @@ fn grow_marks(marks: &mut Vec<u16>, end: usize) -> Result<(), AllocError>
 fn mark_place(marks: &mut Vec<u16>, place: usize)
     requires { place / places_a_mark < length marks.old.items }
     ensures long { length marks.new.items ≡ length marks.old.items }
-    ensures at { (p : ℕ) → is_marked marks.new.items p ≡ (if nat_le place p && nat_lt p (place + 1) then true else is_marked marks.old.items p) }
+    ensures marked { AreMarked marks.old.items place (place + 1) marks.new.items }
 {
     marks[place / 16] |= 1 << (place % 16);
 }
@@ -106,7 +107,7 @@ fn mark_sixteen(marks: &mut Vec<u16>, place: usize)
     requires within { place / places_a_mark < length marks.old.items }
     requires first { place % places_a_mark ≡ 0 }
     ensures long { length marks.new.items ≡ length marks.old.items }
-    ensures at { (p : ℕ) → is_marked marks.new.items p ≡ (if nat_le place p && nat_lt p (place + places_a_mark) then true else is_marked marks.old.items p) }
+    ensures marked { AreMarked marks.old.items place (place + places_a_mark) marks.new.items }
 {
     marks[place / 16] = ALL;
 }
@@ -116,7 +117,7 @@ fn mark_sixteen(marks: &mut Vec<u16>, place: usize)
 fn mark_places(marks: &mut Vec<u16>, place: usize, count: usize)
     requires within { place + count ≤ places_a_mark * length marks.old.items }
     requires small { place + count < 2 ^ 34 }
-    ensures { (p : ℕ) → is_marked marks.new.items p ≡ (if nat_le place p && nat_lt p (place + count) then true else is_marked marks.old.items p) }
+    ensures { AreMarked marks.old.items place (place + count) marks.new.items }
 {
     let end = place + count;
     let mut at = place;
