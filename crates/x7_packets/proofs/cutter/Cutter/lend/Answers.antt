@@ -14,7 +14,7 @@ use Rattle.x7_packets.proofs.cutter.Cutter.lend.Goals as goal
 pub invariant_of-self : goal.invariant_of-self
 invariant_of-self c =
     let none : take c.self.inside.count c.self.inside.kept ≡ [] = ap (λ (o : CutterState). o.kept) c.self.view_is ∙ c.requires.none_kept in
-    (c.self.invariant.0, λ k. no_count c.self.inside.kept c.self.inside.count (omega (arith, c.self.known, c.self.invariant.0)) none)
+    (c.self.invariant.0, λ k. no_count c.self.inside.kept c.self.inside.count (omega (arith, c.self.told, c.self.invariant.0)) none)
 
 pub returns-clause-adds : goal.returns-clause-adds
 returns-clause-adds c = λ bytes sessions place s.
