@@ -44,8 +44,8 @@ field_free (x ∷ xs) = hex_free (x ∷ xs)
 first_field : (bs rest : List ℕ) → AreBytes bs → field_guess (before_space (field_text bs ++ 32 ∷ rest)) ≡ bs
 first_field bs rest h = ap field_guess (name_before_space (field_text bs) rest (field_free bs)) ∙ field_back bs h
 
-after_field : (bs rest : List ℕ) → after_space (field_text bs ++ 32 ∷ rest) ≡ rest
-after_field bs rest = digits_after_space (field_text bs) rest (field_free bs)
+rest_after_field : (bs rest : List ℕ) → after_space (field_text bs ++ 32 ∷ rest) ≡ rest
+rest_after_field bs rest = digits_after_space (field_text bs) rest (field_free bs)
 
 -- fields one after the other
 abbrev with_count : List ℕ → ℕ → List ℕ
@@ -56,7 +56,7 @@ field_texts a b c d n = field_text a ++ 32 ∷ (field_text b ++ 32 ∷ (field_te
 
 same_field : (a b r s : List ℕ) → AreBytes a → AreBytes b → field_text a ++ 32 ∷ r ≡ field_text b ++ 32 ∷ s → (a ≡ b) × (r ≡ s)
 same_field a b r s h k e =
-    (sym (first_field a r h) ∙ ap (λ t. field_guess (before_space t)) e ∙ first_field b s k, sym (after_field a r) ∙ ap after_space e ∙ after_field b s)
+    (sym (first_field a r h) ∙ ap (λ t. field_guess (before_space t)) e ∙ first_field b s k, sym (rest_after_field a r) ∙ ap after_space e ∙ rest_after_field b s)
 
 abbrev pub contents : List ℕ → List ℕ → List ℕ → List ℕ → ℕ → Contents
 contents a b c d n = record { a = a; b = b; c = c; d = d; data_length = n }
@@ -91,10 +91,10 @@ header_back x h =
     let count = with_count x.d x.data_length in
     let third = field_text x.c ++ 32 ∷ count in
     let second = field_text x.b ++ 32 ∷ third in
-    let b = after_field x.a second in
-    let c = ap after_space b ∙ after_field x.b third in
-    let d = ap after_space c ∙ after_field x.c count in
-    let n = ap after_space d ∙ after_field x.d (decimal x.data_length) in
+    let b = rest_after_field x.a second in
+    let c = ap after_space b ∙ rest_after_field x.b third in
+    let d = ap after_space c ∙ rest_after_field x.c count in
+    let n = ap after_space d ∙ rest_after_field x.d (decimal x.data_length) in
     let field : List ℕ → List ℕ = λ t. field_guess (before_space t) in
     same_contents (header_by (field_text x.a ++ 32 ∷ second)) x (first_field x.a second h.a) (ap field b ∙ first_field x.b third h.b) (ap field c ∙ first_field x.c count h.c)
     (ap field d ∙ first_field x.d (decimal x.data_length) h.d) (ap (decimal_after 0) n ∙ decimal_back x.data_length (omega (arith, h.have.data_length)))
