@@ -13,11 +13,14 @@ use std::alloc::{AllocError, Global};
 /// How many places a flash has at most.
 pub const FLASH_LIMIT: usize = x7_words::FLASH_LIMIT as usize;
 
-/// A mark with all its sixteen places.
-const ALL: u16 = 0xFFFF;
+/// How many places a mark is for.
+const PLACES_A_MARK: usize = 16;
 
-/// How many marks are made at once.
-const SPARE: usize = 4096;
+/// A mark with all its places.
+const FULL_MARK: u16 = 0xFFFF;
+
+/// How many marks more than are needed are made at once.
+const SPARE_MARKS: usize = 4096;
 
 /// The bytes from place 0 on, and a bit for each place that a record gave: sixteen places a mark, the first in bit 0.
 #[derive(Drop)]
@@ -37,7 +40,7 @@ pub(crate) fn empty_image(alloc: Global) -> Image
     }
 }
 
-/// Lengthens bytes by FF.
+/// Lengthens bytes by FF to `n` of them, where there are fewer.
 #[inline(always)]
 fn grow_bytes(bytes: &mut Vec<u8>, n: usize) -> Result<(), AllocError>
     ensures { MatchResult result (λ _. (length bytes.new.items ≡ max (length bytes.old.items) n) × ((p : ℕ) → get_or bytes.new.items p erased_byte ≡ get_or bytes.old.items p erased_byte)) (λ _. Unit {0}) }
@@ -48,7 +51,7 @@ fn grow_bytes(bytes: &mut Vec<u8>, n: usize) -> Result<(), AllocError>
     bytes.resize(n, 255)
 }
 
-/// Writes bytes over others.
+/// Writes a content over the bytes from a place on.
 fn set_bytes(bytes: &mut Vec<u8>, place: usize, content: &[u8])
     requires { place + length content.now ≤ length bytes.old.items }
     ensures long { length bytes.new.items ≡ length bytes.old.items }
@@ -57,7 +60,7 @@ fn set_bytes(bytes: &mut Vec<u8>, place: usize, content: &[u8])
     bytes[place..place + content.len()].copy_from_slice(content);
 }
 
-/// Appends bytes.
+/// Appends a content.
 #[inline(always)]
 fn append_bytes(bytes: &mut Vec<u8>, content: &[u8]) -> Result<(), AllocError>
     ensures { MatchResult result (λ _. IsWrittenFrom (length bytes.old.items) content.now bytes.old.items bytes.new.items) (λ _. Unit {0}) }
@@ -65,7 +68,7 @@ fn append_bytes(bytes: &mut Vec<u8>, content: &[u8]) -> Result<(), AllocError>
     bytes.extend_from_slice(content)
 }
 
-/// Writes bytes from a place on, after FF where the bytes end before it.
+/// Writes a content from a place on, after FF where the bytes end before it.
 #[inline(always)]
 fn put_bytes(bytes: &mut Vec<u8>, place: usize, content: &[u8]) -> Result<(), AllocError>
     requires { place + length content.now < 2 ^ 34 }
@@ -86,11 +89,11 @@ fn grow_marks(marks: &mut Vec<u16>, end: usize) -> Result<(), AllocError>
     requires { end < 2 ^ 34 }
     ensures { MatchResult result (λ _. (end ≤ places_a_mark * length marks.new.items) × ((k : ℕ) → get_or marks.new.items k 0 ≡ get_or marks.old.items k 0)) (λ _. Unit {0}) }
 {
-    let n = end / 16 + 1;
+    let n = end / PLACES_A_MARK + 1;
     if n <= marks.len() {
         return Ok(());
     }
-    marks.resize(n + SPARE, 0)
+    marks.resize(n + SPARE_MARKS, 0)
 }
 
 /// Marks a place.
@@ -99,7 +102,7 @@ fn mark_place(marks: &mut Vec<u16>, place: usize)
     ensures long { length marks.new.items ≡ length marks.old.items }
     ensures marked { AreMarked marks.old.items place (place + 1) marks.new.items }
 {
-    marks[place / 16] |= 1 << (place % 16);
+    marks[place / PLACES_A_MARK] |= 1 << (place % PLACES_A_MARK);
 }
 
 /// Marks the sixteen places of one mark.
@@ -109,10 +112,10 @@ fn mark_sixteen(marks: &mut Vec<u16>, place: usize)
     ensures long { length marks.new.items ≡ length marks.old.items }
     ensures marked { AreMarked marks.old.items place (place + places_a_mark) marks.new.items }
 {
-    marks[place / 16] = ALL;
+    marks[place / PLACES_A_MARK] = FULL_MARK;
 }
 
-/// Marks places from one on.
+/// Marks `count` places from one on.
 #[inline(always)]
 fn mark_places(marks: &mut Vec<u16>, place: usize, count: usize)
     requires within { place + count ≤ places_a_mark * length marks.old.items }
@@ -122,9 +125,9 @@ fn mark_places(marks: &mut Vec<u16>, place: usize, count: usize)
     let end = place + count;
     let mut at = place;
     while at < end {
-        if at % 16 == 0 && end - at >= 16 {
+        if at % PLACES_A_MARK == 0 && end - at >= PLACES_A_MARK {
             mark_sixteen(marks, at);
-            at += 16;
+            at += PLACES_A_MARK;
         } else {
             mark_place(marks, at);
             at += 1;
@@ -136,8 +139,8 @@ fn mark_places(marks: &mut Vec<u16>, place: usize, count: usize)
 fn mark_of(marks: &[u16], place: usize) -> u16
     ensures { result ≡ get_or marks.now (place / places_a_mark) 0 }
 {
-    if place / 16 < marks.len() {
-        marks[place / 16]
+    if place / PLACES_A_MARK < marks.len() {
+        marks[place / PLACES_A_MARK]
     } else {
         0
     }
@@ -151,7 +154,7 @@ fn has_bit(mark: u16, bit: usize) -> bool
     mark >> bit & 1 == 1
 }
 
-/// The first marked place of some.
+/// The least of `count` places from one on that is marked.
 fn first_marked(marks: &[u16], place: usize, count: usize) -> Option<usize>
     requires { place + count < 2 ^ 34 }
     ensures { MatchOption result (AreFree marks.now place (place + count)) (λ q. IsFirstMarked marks.now place (place + count) q) }
@@ -160,9 +163,9 @@ fn first_marked(marks: &[u16], place: usize, count: usize) -> Option<usize>
     let mut at = place;
     while at < end {
         let mark = mark_of(marks, at);
-        if mark == 0 && at % 16 == 0 && end - at >= 16 {
-            at += 16;
-        } else if has_bit(mark, at % 16) {
+        if mark == 0 && at % PLACES_A_MARK == 0 && end - at >= PLACES_A_MARK {
+            at += PLACES_A_MARK;
+        } else if has_bit(mark, at % PLACES_A_MARK) {
             return Some(at);
         } else {
             at += 1;
@@ -171,7 +174,7 @@ fn first_marked(marks: &[u16], place: usize, count: usize) -> Option<usize>
     None
 }
 
-/// The least of some places that a record gave.
+/// The least of `count` places from one on that a record gave.
 #[inline(always)]
 fn taken_place(image: &Image, place: usize, count: usize) -> Option<usize>
     requires { place + count < 2 ^ 34 }

@@ -11,8 +11,8 @@ loop-at-preserved c = record {
   marked = λ p. marked_on _ _ _ c.args.place c.loop-at.at (c.loop-at.at + 1) p c.loop-at.invariant.since (omega arith) (c.mark_place.ensures.marked p) (c.loop-at.invariant.marked p);
 }
 
-pub loop-at-preserved-then-end-at-ge16 : goal.loop-at-preserved-then-end-at-ge16
-loop-at-preserved-then-end-at-ge16 c = record {
+pub loop-at-preserved-then-end-at-ge-PLACES_A_MARK : goal.loop-at-preserved-then-end-at-ge-PLACES_A_MARK
+loop-at-preserved-then-end-at-ge-PLACES_A_MARK c = record {
   since = omega arith;
   before = omega arith;
   small = omega arith;
