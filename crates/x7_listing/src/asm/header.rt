@@ -8,7 +8,7 @@ ghost use Rattle.x7_listing.specs.BitLine.{bit_text, field_text, HasFieldFirst, 
 
 use memchr::memchr;
 use std::alloc::Global;
-use x7_header::{Head, write_header};
+use x7_header::{Head, LONGEST_TEXT, write_header};
 use x7_text::{after, make_room, number_of_decimal, put_byte_row};
 use x7_words::{NoMemory, is_same};
 
@@ -38,7 +38,7 @@ fn field_of(alloc: Global, text: &[u8]) -> Result<Option<Vec<u8>>, NoMemory>
     if is_same(text, b"-") {
         return Ok(Some(Vec::new(alloc)));
     }
-    if text.is_empty() || text.len() > 2 * 65_535 {
+    if text.is_empty() || text.len() > 2 * LONGEST_TEXT {
         return Ok(None);
     }
     bytes_of_pairs(alloc, text)
