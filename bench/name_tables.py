@@ -16,20 +16,20 @@ REGISTERS = {0: "CRC", 1: "FAR", 2: "FDRI", 3: "FDRO", 4: "CMD", 5: "CTL0", 6: "
 COMMANDS = {0: "NULL", 1: "WCFG", 2: "MFW", 3: "LFRM", 4: "RCFG", 5: "START", 6: "RCAP", 7: "RCRC", 8: "AGHIGH",
             9: "SWITCH", 10: "GRESTORE", 11: "SHUTDOWN", 12: "GCAPTURE", 13: "DESYNC", 15: "IPROG", 16: "CRCC",
             17: "LTIMER", 18: "BSPI_READ", 19: "FALL_EDGE"}
-SPREAD = 0x3F20_35EB
+SPREAD_FACTOR = 0x3F20_35EB
 
 
 def register_name(number):
     return REGISTERS.get(number, f"R{number:02}")
 
 
-def by_letters(name, _behind):
+def by_letters(name, _after):
     return (ord(name[0]) + 13 * ord(name[1]) + 3 * ord(name[-1]) + 2 * len(name)) % 64
 
 
 def by_four_bytes(name, after):
     four = (name + after).encode()[:4]
-    return (int.from_bytes(four, "little") * SPREAD % 2**32) >> 26
+    return (int.from_bytes(four, "little") * SPREAD_FACTOR % 2**32) >> 26
 
 
 def table(what, names, place, after):

@@ -2,18 +2,13 @@
 use Rattle.std.specs.Prelude.{◌≡◌, ◌≢◌, ℕ, ◌+◌, ◌<◌, ◌^◌, ◌==◌, Bool, true, not, List, [], ◌∷◌, ◌++◌, length, map, codes, decimal, Result, Ok, Err}
 use Rattle.std.specs.List.{AllByRecursion, filter}
 use Rattle.x7_text.specs.Digits.{hex_word}
-use Rattle.x7_text.specs.Lines.{split}
+use Rattle.x7_text.specs.Lines.{means_nothing, split}
 use Rattle.x7_debug.specs.declared.fault.ScriptFault.{ScriptFault}
 use Rattle.x7_debug.specs.declared.fault.ScriptFault.TheVariants as fault
 use Rattle.x7_debug.specs.declared.order.Order.{Order}
 use Rattle.x7_debug.specs.declared.order.Order.TheVariants as order
 use Rattle.x7_debug.specs.declared.order.Stop.{Stop}
 use Rattle.x7_debug.specs.declared.order.Stop.TheVariants as stop
-
--- a line without meaning: an empty one, and a comment, which `#` begins
-abbrev pub means_nothing : List ℕ → Bool
-means_nothing [] = true
-means_nothing (c ∷ cs) = c == 35
 
 -- a line that is neither empty nor a comment
 abbrev pub has_meaning : List ℕ → Bool

@@ -4,11 +4,11 @@ ghost use Rattle.x7_debug.specs.Script.{AreOrders, IsNoOrder, IsScriptOf};
 ghost use Rattle.x7_debug.specs.declared.fault.ScriptFault.{ScriptFault};
 
 use crate::fault::ScriptFault;
-use crate::line::{means_nothing, order_of};
+use crate::line::order_of;
 use crate::order::Order;
 use std::alloc::Global;
 use std::marker::Model;
-use x7_text::first_line;
+use x7_text::{first_line, means_nothing};
 
 /// The orders of a script, in the order of its lines.
 #[derive(Drop)]

@@ -65,9 +65,9 @@ known_inputs f = record {
 }
 
 -- what is left of an open file, as its reader knows it
-abbrev pub left_of_file : {F : Type 0} → (F → Option (List ℕ)) → Option F → Option (List ℕ)
-left_of_file remaining None = None
-left_of_file remaining (Some file) = remaining file
+abbrev pub unread_of : {F : Type 0} → (F → Option (List ℕ)) → Option F → Option (List ℕ)
+unread_of remaining None = None
+unread_of remaining (Some file) = remaining file
 
 -- the files after an open with this answer: each fault and each absence is counted once
 abbrev pub after_open : RealInputs → Option (List ℕ) → Option ErrorKind → Result (Unit {0}) SelectFault → RealInputs

@@ -66,13 +66,13 @@ pub struct FileInputs<'r, R: Files> {
 
 impl<'r, R: Files> Model for FileInputs<'r, R> {
     ghost use Rattle.std.specs.Prelude.{◌<◌, ◌^◌, is_some};
-    ghost use Rattle.x7_files.specs.Files.{RealInputs, left_of_file};
+    ghost use Rattle.x7_files.specs.Files.{RealInputs, unread_of};
 
     ghost Value = { RealInputs };
 
     ghost view = { λ f. record {
       selected = is_some f.file;
-      rest = left_of_file R.File.remaining f.file;
+      rest = unread_of R.File.remaining f.file;
       refusal = f.refusal;
       selects = f.selects;
       ends = f.ends;

@@ -2,7 +2,7 @@
 ghost use Rattle.std.specs.Prelude.{◌≡◌, map, string_bytes};
 ghost use Rattle.x7_forms.specs.Form.{Assembling, Booting, FromMcs, Listing, PlayingSvf, PlanningFull, ToMcs, debug_form, form_in, gen_form, image_form, number_in, one_name, plan_form, plan_read_form, play_form, two_names, word_in, PlanningPartial, UpdatingFlash, form_asked};
 
-use x7_text::{decimal_below, word_of_hex};
+use x7_text::{number_of_decimal, word_of_hex};
 
 /// What the words ask for, with the names as they were given.
 #[derive(Clone, Copy, Drop)]
@@ -187,8 +187,8 @@ fn word_in(digits: &str) -> Option<u32>
 fn number_in(digits: &str) -> Option<u32>
     ensures { result ≡ number_in digits.now }
 {
-    match decimal_below(digits.as_bytes(), 4_294_967_296) {
-        Some(number) => Some(number as u32),
+    match number_of_decimal(digits.as_bytes()) {
+        Some(number) => Some(number),
         None => None,
     }
 }

@@ -46,7 +46,7 @@ unfolding bare
 bare_line width row fits long = record {
   far = fits.far;
   digits = flat_map hex_word row.words;
-  is = refl;
+  text = refl;
   bytes = flat_map bytes_of_word row.words;
   read = ap pairs (hex_words row.words fits.words) ∙ pairs_back (flat_map bytes_of_word row.words) (bytes_fit row.words);
   long = length_bytes row.words ∙ ap (λ (n : ℕ). 4 * n) long;
@@ -85,7 +85,7 @@ back part plan fits = record {
     apart = in_order_apart plan.rows fits.is_plan.order;
   };
   same = IsPermutation-refl plan.rows;
-  is = fits.is_plan;
+  is_plan = fits.is_plan;
   width = fits.width;
 }
 

@@ -9,13 +9,13 @@ use Rattle.x7_words.specs.Word.{AreBytes, AreWords, words_of_bytes}
 use Rattle.x7_words.proofs.WordLemmas.{words_fit}
 use Rattle.x7_text.specs.DigitValue.{word_value}
 use Rattle.x7_text.specs.EitherCase.{byte_of, digit_of, led, pairs}
-use Rattle.x7_text.specs.Lines.{split}
+use Rattle.x7_text.specs.Lines.{means_nothing, split}
 use Rattle.x7_text.proofs.ValueLemmas.{word_back}
 use Rattle.x7_part.specs.AddressOrder.{addresses_in}
 use Rattle.x7_part.specs.Part.{PartData, frame_words}
 use Rattle.x7_memory.specs.Plan.{IsPlanRow, PlanRow, planned_addresses}
 use Rattle.x7_memory.proofs.DraftLemmas.{sorted_plan}
-use Rattle.x7_frames.specs.FramesText.{AreGood, AreLinesOfRows, frame, frame_head, HasPlan, IsFrameLine, IsGoodText, means_nothing, no_frame, no_line}
+use Rattle.x7_frames.specs.FramesText.{AreGood, AreLinesOfRows, frame, frame_head, HasPlan, IsFrameLine, IsGoodText, no_frame, no_line}
 use Rattle.x7_frames.specs.Steps.{IsFaultAt, TakesLine}
 use Rattle.x7_frames.specs.declared.fault.FramesFault.{FramesFault}
 use Rattle.x7_frames.specs.declared.fault.FramesFault.TheVariants as fault
@@ -74,14 +74,14 @@ frame_or width line = by_head (lists_or line (frame_head far ++ digits))
     digits = drop 15 line
 
     far_is : (row : PlanRow) (is : IsFrameLine width line row) → row.far ≡ far
-    far_is row is = sym (word_back row.far is.far) ∙ ap (λ (t : List ℕ). word_value (take 8 (drop 6 t))) (sym is.is)
+    far_is row is = sym (word_back row.far is.far) ∙ ap (λ (t : List ℕ). word_value (take 8 (drop 6 t))) (sym is.text)
 
     digits_are : (row : PlanRow) (is : IsFrameLine width line row) → is.digits ≡ digits
-    digits_are row is = ap (λ (t : List ℕ). drop 15 t) (sym is.is)
+    digits_are row is = ap (λ (t : List ℕ). drop 15 t) (sym is.text)
 
     by_count : (bytes : List ℕ) → line ≡ frame_head far ++ digits → far < 2 ^ 32 → pairs digits ≡ Some bytes → (length bytes ≡ 4 * width) ⊎ (length bytes ≡ 4 * width → ⊥) → FrameOr width line
     by_count bytes e l p (inl long) =
-        inl (record { far = far; words = words_of_bytes bytes }, record { far = l; digits = digits; is = e; bytes = bytes; read = p; long = long; words = refl })
+        inl (record { far = far; words = words_of_bytes bytes }, record { far = l; digits = digits; text = e; bytes = bytes; read = p; long = long; words = refl })
     by_count bytes e l p (inr n) = inr (λ row is. n (ap length (same_Some bytes is.bytes (sym p ∙ ap pairs (sym (digits_are row is)) ∙ is.read)) ∙ is.long))
 
     by_digits : line ≡ frame_head far ++ digits → far < 2 ^ 32 → (o : Option (List ℕ)) → pairs digits ≡ o → FrameOr width line
@@ -95,7 +95,7 @@ frame_or width line = by_head (lists_or line (frame_head far ++ digits))
 
     by_head : (line ≡ frame_head far ++ digits) ⊎ (line ≡ frame_head far ++ digits → ⊥) → FrameOr width line
     by_head (inl e) = by_far e (cases_order far (2 ^ 32))
-    by_head (inr n) = inr (λ row is. n (is.is ∙ ap₂ (λ (f : ℕ) (d : List ℕ). frame_head f ++ d) (far_is row is) (digits_are row is)))
+    by_head (inr n) = inr (λ row is. n (is.text ∙ ap₂ (λ (f : ℕ) (d : List ℕ). frame_head f ++ d) (far_is row is) (digits_are row is)))
 
 -- ---- a line is good after these rows, or it is line n at fault
 
@@ -108,9 +108,9 @@ line_or part rows n line = by (means_nothing line) refl
   where
     address_or : (row : PlanRow) (is : IsFrameLine (frame_words part) line row) → Contains (addresses_in part) row.far ⊎ (Contains (addresses_in part) row.far → ⊥)
         → Contains (planned_addresses rows) row.far ⊎ (Contains (planned_addresses rows) row.far → ⊥) → LineOr part rows n line
-    address_or row is (inr none) twice = inr (fault.Address n, (refl, record { row = row; is = is; foreign = none }))
-    address_or row is (inl there) (inl twice) = inr (fault.Twice n, (refl, record { row = row; is = is; address = there; repeated = twice }))
-    address_or row is (inl there) (inr new) = inl (rows ++ row ∷ [], inr (record { row = row; is = is; address = there; apart = new; rows = refl }))
+    address_or row is (inr none) twice = inr (fault.Address n, (refl, record { row = row; frame = is; foreign = none }))
+    address_or row is (inl there) (inl twice) = inr (fault.Twice n, (refl, record { row = row; frame = is; address = there; repeated = twice }))
+    address_or row is (inl there) (inr new) = inl (rows ++ row ∷ [], inr (record { row = row; frame = is; address = there; apart = new; rows = refl }))
 
     by_frame : means_nothing line ≡ false → FrameOr (frame_words part) line → LineOr part rows n line
     by_frame e (inl (row, is)) = address_or row is (contains_or (addresses_in part) row.far) (contains_or (planned_addresses rows) row.far)
@@ -165,7 +165,7 @@ good_text part text rows good =
         rows = rows;
         good = good;
         same = s.same;
-        is = sorted_plan w rows s.sorted (record { width = rows_long w (split text) rows good.read; each = rows_fit w (split text) rows good.read }) good.apart s.same s.rises;
+        is_plan = sorted_plan w rows s.sorted (record { width = rows_long w (split text) rows good.read; each = rows_fit w (split text) rows good.read }) good.apart s.same s.rises;
         width = refl;
       },
     )

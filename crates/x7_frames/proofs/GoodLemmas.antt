@@ -7,7 +7,8 @@ use Rattle.std.proofs.lemmas.List.Elements.{All-push, All-nil, Contains-push, Co
 use Rattle.x7_part.specs.AddressOrder.{addresses_in, Rises, risen, rise}
 use Rattle.x7_part.specs.Part.{PartData, frame_words}
 use Rattle.x7_memory.specs.Plan.{PlanRow, AreApart, planned_addresses}
-use Rattle.x7_frames.specs.FramesText.{means_nothing, AreGood, AreLinesOfRows, no_line, no_frame, frame, IsFrameLine, IsPlanOf, ReachesLine}
+use Rattle.x7_text.specs.Lines.{means_nothing}
+use Rattle.x7_frames.specs.FramesText.{AreGood, AreLinesOfRows, no_line, no_frame, frame, IsFrameLine, IsPlanOf, ReachesLine}
 use Rattle.x7_frames.specs.Steps.{HasMarks, IsFaultAt, TakesLine}
 use Rattle.x7_frames.specs.declared.fault.FramesFault.{FramesFault}
 use Rattle.x7_frames.specs.declared.fault.FramesFault.TheVariants as fault
@@ -47,7 +48,7 @@ good_next part lines line rows new good (inl same) =
 good_next part lines line rows new good (inr a) =
     subst (λ r. AreGood part (lines ++ line ∷ []) r) (sym a.rows)
     (record {
-      read = lines_frame (frame_words part) lines rows line a.row a.is good.read;
+      read = lines_frame (frame_words part) lines rows line a.row a.frame good.read;
       addresses = All-push (λ r. Contains (addresses_in part) r.far) rows a.row good.addresses a.address;
       apart = apart_push rows a.row good.apart a.apart;
     })

@@ -11,7 +11,7 @@ digits_long width line row is = pairs_long is.digits is.bytes is.read ∙ ap (λ
 
 pub no_parts : (width count : ℕ) (line : List ℕ) → count ≡ 2 * (4 * width)
     → ((far : ℕ) (digits : List ℕ) → far < 2 ^ 32 → length digits ≡ count → line ≡ frame_head far ++ digits → ⊥) → (row : PlanRow) → IsFrameLine width line row → ⊥
-no_parts width count line e none row is = none row.far is.digits is.far (digits_long width line row is ∙ sym e) is.is
+no_parts width count line e none row is = none row.far is.digits is.far (digits_long width line row is ∙ sym e) is.text
 
 pub frame_long : (width : ℕ) (line : List ℕ) (row : PlanRow) → IsFrameLine width line row → length row.words ≡ width
 frame_long width line row is = ap length is.words ∙ length_words is.bytes width is.long

@@ -74,18 +74,18 @@ never_good part before after line rows all good whole fault.NoMemory wrong = wro
 
 foreign_or_repeated : (part : PartData) (rows : List PlanRow) (line : List ℕ) → IsForeign part line → IsRepeated part rows line → ⊥
 foreign_or_repeated part rows line f r =
-    let same : r.row ≡ f.row = one_row (frame_words part) line r.row f.row r.is f.is in
+    let same : r.row ≡ f.row = one_row (frame_words part) line r.row f.row r.frame f.frame in
     f.foreign (subst (λ (row : PlanRow). Contains (addresses_in part) row.far) same r.address)
 
 -- one thing is wrong with a line
 one_kind : (part : PartData) (rows : List PlanRow) (line : List ℕ) (f g : FramesFault) → IsWrong part rows line f → IsWrong part rows line g → place_of f ≡ place_of g → f ≡ g
 one_kind part rows line (fault.Line n) (fault.Line m) a b e = ap fault.Line e
-one_kind part rows line (fault.Line n) (fault.Address m) a b e = absurd (a.no_frame b.row b.is)
-one_kind part rows line (fault.Line n) (fault.Twice m) a b e = absurd (a.no_frame b.row b.is)
-one_kind part rows line (fault.Address n) (fault.Line m) a b e = absurd (b.no_frame a.row a.is)
+one_kind part rows line (fault.Line n) (fault.Address m) a b e = absurd (a.no_frame b.row b.frame)
+one_kind part rows line (fault.Line n) (fault.Twice m) a b e = absurd (a.no_frame b.row b.frame)
+one_kind part rows line (fault.Address n) (fault.Line m) a b e = absurd (b.no_frame a.row a.frame)
 one_kind part rows line (fault.Address n) (fault.Address m) a b e = ap fault.Address e
 one_kind part rows line (fault.Address n) (fault.Twice m) a b e = absurd (foreign_or_repeated part rows line a b)
-one_kind part rows line (fault.Twice n) (fault.Line m) a b e = absurd (b.no_frame a.row a.is)
+one_kind part rows line (fault.Twice n) (fault.Line m) a b e = absurd (b.no_frame a.row a.frame)
 one_kind part rows line (fault.Twice n) (fault.Address m) a b e = absurd (foreign_or_repeated part rows line b a)
 one_kind part rows line (fault.Twice n) (fault.Twice m) a b e = ap fault.Twice e
 one_kind part rows line fault.NoMemory g a b e = absurd a

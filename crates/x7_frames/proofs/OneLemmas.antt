@@ -11,12 +11,12 @@ use Rattle.x7_words.proofs.ListLemmas.{same_prefix}
 use Rattle.x7_words.specs.Word.{words_of_bytes}
 use Rattle.x7_text.specs.DigitValue.{word_value}
 use Rattle.x7_text.specs.EitherCase.{pairs}
-use Rattle.x7_text.specs.Lines.{split}
+use Rattle.x7_text.specs.Lines.{means_nothing, split}
 use Rattle.x7_text.proofs.ValueLemmas.{word_back}
 use Rattle.x7_part.specs.AddressOrder.{addresses_in}
 use Rattle.x7_part.specs.Part.{PartData, frame_words}
 use Rattle.x7_memory.specs.Plan.{PlanRow, PlanData, AreApart, AreInOrder}
-use Rattle.x7_frames.specs.FramesText.{frame_head, means_nothing, AreGood, AreLinesOfRows, no_line, no_frame, frame, IsFrameLine, IsNoLine, IsForeign, IsRepeated, IsPlanOf, Plans}
+use Rattle.x7_frames.specs.FramesText.{frame_head, AreGood, AreLinesOfRows, no_line, no_frame, frame, IsFrameLine, IsNoLine, IsForeign, IsRepeated, IsPlanOf, Plans}
 use Rattle.x7_frames.specs.declared.fault.FramesFault.{FramesFault}
 use Rattle.x7_frames.specs.declared.fault.FramesFault.TheVariants as fault
 
@@ -27,7 +27,7 @@ row_is a b e f = ap₂ (λ (x : ℕ) (w : List ℕ). let r : PlanRow = record { 
 
 pub one_row : (width : ℕ) (line : List ℕ) (a b : PlanRow) → IsFrameLine width line a → IsFrameLine width line b → a ≡ b
 one_row width line a b is other =
-    let e : frame_head a.far ++ is.digits ≡ frame_head b.far ++ other.digits = sym is.is ∙ other.is in
+    let e : frame_head a.far ++ is.digits ≡ frame_head b.far ++ other.digits = sym is.text ∙ other.text in
     let head : frame_head a.far ≡ frame_head b.far = same_prefix (frame_head a.far) (frame_head b.far) is.digits other.digits refl e in
     let far : a.far ≡ b.far = sym (word_back a.far is.far) ∙ ap (λ (t : List ℕ). word_value (take 8 (drop 6 t))) head ∙ word_back b.far other.far in
     let digits : is.digits ≡ other.digits = ap (λ (t : List ℕ). drop 15 t) e in
@@ -35,7 +35,7 @@ one_row width line a b is other =
     row_is a b far (is.words ∙ ap words_of_bytes bytes ∙ sym other.words)
 
 no_comment : (width : ℕ) (line : List ℕ) (row : PlanRow) → IsFrameLine width line row → means_nothing line ≡ true → ⊥
-no_comment width line row is e = false≢true (sym (ap means_nothing is.is) ∙ e)
+no_comment width line row is e = false≢true (sym (ap means_nothing is.text) ∙ e)
 
 pub one_rows : (width : ℕ) (lines others : List (List ℕ)) (xs ys : List PlanRow) → lines ≡ others → AreLinesOfRows width lines xs → AreLinesOfRows width others ys → xs ≡ ys
 one_rows width _ _ _ _ e (no_line w) (no_line v) = refl
@@ -107,9 +107,9 @@ module _ (part : PartData) (before after : List (List ℕ)) (line : List ℕ) (r
   pub foreign_there : IsForeign part line → ⊥
   foreign_there f =
       elim next_row [
-        | inl nothing ↦ no_comment (frame_words part) line f.row f.is nothing
+        | inl nothing ↦ no_comment (frame_words part) line f.row f.frame nothing
         | inr r ↦
-            let same : r.0 ≡ f.row = one_row (frame_words part) line r.0 f.row r.3 f.is in
+            let same : r.0 ≡ f.row = one_row (frame_words part) line r.0 f.row r.3 f.frame in
             let has : Contains (rows ++ r.0 ∷ r.1) r.0 = Contains-append_right rows (r.0 ∷ r.1) r.0 (0, (omega arith), refl) in
             let there : Contains (addresses_in part) r.0.far = All-contains (λ row. Contains (addresses_in part) row.far) (rows ++ r.0 ∷ r.1) r.0 (subst (λ x. All (λ row. Contains (addresses_in part) row.far) x) r.2 whole.addresses) has in
             f.foreign (subst (λ (row : PlanRow). Contains (addresses_in part) row.far) same there)
@@ -118,9 +118,9 @@ module _ (part : PartData) (before after : List (List ℕ)) (line : List ℕ) (r
   pub repeated_there : IsRepeated part rows line → ⊥
   repeated_there f =
       elim next_row [
-        | inl nothing ↦ no_comment (frame_words part) line f.row f.is nothing
+        | inl nothing ↦ no_comment (frame_words part) line f.row f.frame nothing
         | inr r ↦
-            let same : r.0 ≡ f.row = one_row (frame_words part) line r.0 f.row r.3 f.is in
+            let same : r.0 ≡ f.row = one_row (frame_words part) line r.0 f.row r.3 f.frame in
             let apart : AreApart (rows ++ r.0 ∷ r.1) = subst (λ x. AreApart x) r.2 whole.apart in
             let k : ℕ = f.repeated.0 in
             let count = length-map rows (λ row. row.far) in
@@ -173,7 +173,7 @@ pub one_plan : (part : PartData) (text : List ℕ) (p q : PlanData) → Plans pa
 one_plan part text p q a b =
     let rows : a.rows ≡ b.rows = one_rows (frame_words part) (split text) (split text) a.rows b.rows refl a.good.read b.good.read in
     let same : IsPermutation p.rows q.rows = IsPermutation-trans p.rows a.rows q.rows (IsPermutation-sym a.rows p.rows a.same) (subst (λ r. IsPermutation r q.rows) (sym rows) b.same) in
-    let e : p.rows ≡ q.rows = same_order p.rows q.rows a.is.order b.is.order
+    let e : p.rows ≡ q.rows = same_order p.rows q.rows a.is_plan.order b.is_plan.order
     (All-permutation (Contains q.rows) q.rows p.rows (IsPermutation-sym p.rows q.rows same) (All-contains_itself q.rows))
     (All-permutation (Contains p.rows) p.rows q.rows same (All-contains_itself p.rows)) in
     ap₂ (λ (w : ℕ) (r : List PlanRow). let plan : PlanData = record { width = w; rows = r } in plan) (a.width ∙ sym b.width) e

@@ -4,17 +4,12 @@ use Rattle.std.specs.List.{flat_map}
 use Rattle.x7_words.specs.Word.{words_of_bytes}
 use Rattle.x7_text.specs.Digits.{hex_word}
 use Rattle.x7_text.specs.EitherCase.{pairs}
-use Rattle.x7_text.specs.Lines.{split}
+use Rattle.x7_text.specs.Lines.{means_nothing, split}
 use Rattle.x7_part.specs.AddressOrder.{addresses_in}
 use Rattle.x7_part.specs.Part.{PartData, frame_words}
 use Rattle.x7_memory.specs.Plan.{PlanRow, PlanData, IsPlan, AreAddressed, AreApart, planned_addresses}
 use Rattle.x7_frames.specs.declared.fault.FramesFault.{FramesFault}
 use Rattle.x7_frames.specs.declared.fault.FramesFault.TheVariants as fault
-
--- a line without meaning: an empty one, and a comment, which `#` begins
-abbrev pub means_nothing : List ℕ → Bool
-means_nothing [] = true
-means_nothing (c ∷ cs) = c == 35
 
 -- what a frame's line begins with: `frame`, and the address in eight upper-case digits
 abbrev pub frame_head : ℕ → List ℕ
@@ -28,7 +23,7 @@ HasNoFrameHead digit_count line = (far : ℕ) (digits : List ℕ) → far < 2 ^ 
 pub record IsFrameLine (width : ℕ) (line : List ℕ) (row : PlanRow) : Type 0 where
   pub far : row.far < 2 ^ 32
   pub digits : List ℕ
-  pub is : line ≡ frame_head row.far ++ digits
+  pub text : line ≡ frame_head row.far ++ digits
   pub bytes : List ℕ
   pub read : pairs digits ≡ Some bytes
   pub long : length bytes ≡ 4 * width
@@ -53,7 +48,7 @@ pub record Plans (part : PartData) (text : List ℕ) (plan : PlanData) : Type 0 
   pub rows : List PlanRow
   pub good : AreGood part (split text) rows
   pub same : IsPermutation rows plan.rows
-  pub is : IsPlan plan
+  pub is_plan : IsPlan plan
   pub width : plan.width ≡ frame_words part
 
 -- line n is this one, and the lines before it are good and have these rows
@@ -72,13 +67,13 @@ pub record IsNoLine (width : ℕ) (line : List ℕ) : Type 0 where
 -- a line is at fault: its address is none of the part
 pub record IsForeign (part : PartData) (line : List ℕ) : Type 0 where
   pub row : PlanRow
-  pub is : IsFrameLine (frame_words part) line row
+  pub frame : IsFrameLine (frame_words part) line row
   pub foreign : ¬ Contains (addresses_in part) row.far
 
 -- a line is at fault after lines of these rows: one of them has its address
 pub record IsRepeated (part : PartData) (rows : List PlanRow) (line : List ℕ) : Type 0 where
   pub row : PlanRow
-  pub is : IsFrameLine (frame_words part) line row
+  pub frame : IsFrameLine (frame_words part) line row
   pub address : Contains (addresses_in part) row.far
   pub repeated : Contains (planned_addresses rows) row.far
 

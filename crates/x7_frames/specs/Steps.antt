@@ -1,9 +1,10 @@
 -- A text that is being read: one line more, and the marks of addresses (this project's choice).
 use Rattle.std.specs.Prelude.{◌≡◌, ◌↔◌, ℕ, ◌<◌, ◌⊎◌, Bool, true, false, List, [], ◌∷◌, ◌++◌, length, slice_index, slice_index_or, Contains}
+use Rattle.x7_text.specs.Lines.{means_nothing}
 use Rattle.x7_part.specs.AddressOrder.{addresses_in, Rises}
 use Rattle.x7_part.specs.Part.{PartData, frame_words}
 use Rattle.x7_memory.specs.Plan.{PlanRow, planned_addresses}
-use Rattle.x7_frames.specs.FramesText.{means_nothing, IsFrameLine, IsNoLine, IsForeign, IsRepeated}
+use Rattle.x7_frames.specs.FramesText.{IsFrameLine, IsNoLine, IsForeign, IsRepeated}
 use Rattle.x7_frames.specs.declared.fault.FramesFault.{FramesFault}
 use Rattle.x7_frames.specs.declared.fault.FramesFault.TheVariants as fault
 
@@ -16,7 +17,7 @@ pub record HasMarks (part : PartData) (rows : List PlanRow) (marks : List Bool) 
 -- a frame's row is after the others
 pub record IsAdded (part : PartData) (line : List ℕ) (old new : List PlanRow) : Type 0 where
   pub row : PlanRow
-  pub is : IsFrameLine (frame_words part) line row
+  pub frame : IsFrameLine (frame_words part) line row
   pub address : Contains (addresses_in part) row.far
   pub apart : ¬ Contains (planned_addresses old) row.far
   pub rows : new ≡ old ++ row ∷ []

@@ -8,11 +8,11 @@ ghost use Rattle.x7_frames.specs.declared.fault.FramesFault.{FramesFault};
 
 use crate::fault::FramesFault;
 use crate::frame_lines::FrameLines;
-use crate::line::{means_nothing, read_frame};
+use crate::line::read_frame;
 use std::alloc::Global;
 use x7_memory::{Draft, Plan};
 use x7_part::Part;
-use x7_text::read_lines;
+use x7_text::{means_nothing, read_lines};
 use x7_words::NoMemory;
 
 /// The frames that were read so far, in the order of their lines.

@@ -4,23 +4,13 @@ ghost use Rattle.x7_text.specs.EitherCase.{pairs};
 ghost use Rattle.x7_words.specs.Word.{AreBytes, words_of_bytes};
 ghost use Rattle.x7_memory.specs.Plan.{PlanRow};
 ghost use Rattle.x7_part.specs.Limits.{most_frame_words};
-ghost use Rattle.x7_frames.specs.FramesText.{HasNoFrameHead, frame_head, means_nothing, IsFrameLine};
+ghost use Rattle.x7_frames.specs.FramesText.{HasNoFrameHead, frame_head, IsFrameLine};
 
 use x7_text::{block_of_hex, read_pairs, word_of_hex};
 use x7_words::{is_same, word_of};
 
-/// The most bytes of a frame.
-const MOST_BYTES: usize = 4 * 255;
-
-/// The byte that begins a comment.
-const COMMENT: u8 = b'#';
-
-/// Whether a line is empty, or a comment.
-pub(crate) fn means_nothing(line: &[u8]) -> bool
-    ensures { result ≡ means_nothing line.now }
-{
-    line.len() == 0 || line[0] == COMMENT
-}
+/// The most bytes of a frame: four for each of its words, of which it has 255 at most.
+const MOST_FRAME_BYTES: usize = 4 * 255;
 
 /// What stands on a frame's line: its address, and the digits of its words.
 #[derive(Clone, Copy)]
@@ -115,7 +105,7 @@ pub(crate) fn read_frame(frame: &mut Vec<u32>, width: u32, line: &[u8]) -> Optio
     let Some(parts) = parts_of(line, 2 * byte_count) else {
         return None;
     };
-    let mut room = [0; MOST_BYTES];
+    let mut room = [0; MOST_FRAME_BYTES];
     let bytes = &mut room[..byte_count];
     if !read_digits(bytes, parts.digits) {
         return None;

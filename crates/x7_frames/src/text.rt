@@ -1,6 +1,7 @@
 //! The text of a plan.
-ghost use Rattle.std.specs.Prelude.{◌≡◌, ◌+◌, ◌*◌, ◌≤◌, ◌++◌, length, IfOk, OnOk, vec_len, vec_capacity};
+ghost use Rattle.std.specs.Prelude.{◌≡◌, ◌*◌, ◌++◌, length, IfOk, OnOk};
 ghost use Rattle.std.specs.List.{flat_map};
+ghost use Rattle.x7_text.specs.Appends.{Appends, HasSpareRoom};
 ghost use Rattle.x7_text.specs.Digits.{hex_word};
 ghost use Rattle.x7_frames.specs.FramesText.{frame_line, plan_text};
 
@@ -11,10 +12,8 @@ use x7_words::NoMemory;
 
 /// Appends the digits of words.
 fn put_words(text: &mut Vec<u8>, words: &[u32])
-    requires { vec_len text.old + 8 * length words.now ≤ vec_capacity text.old }
-    ensures items { text.new.items ≡ text.old.items ++ flat_map hex_word words.now }
-    ensures long { vec_len text.new ≡ vec_len text.old + 8 * length words.now }
-    ensures room { vec_capacity text.old ≤ vec_capacity text.new }
+    requires { HasSpareRoom text.old (8 * length words.now) }
+    ensures appends { Appends text.old text.new (flat_map hex_word words.now) (8 * length words.now) }
 {
     for word in words {
         put(text, &hex_of_word(*word));

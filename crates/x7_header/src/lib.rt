@@ -10,7 +10,7 @@ mod writing;
 
 pub use fault::HeaderFault;
 pub use field::{after_fixed_bytes, number_field, text_field};
-pub use header::Head;
+pub use header::{Head, LONGEST_TEXT};
 pub use progress::wanted;
 pub use reading::header_of;
 pub use writing::write_header;

@@ -14,7 +14,7 @@ no_mark : (p : ℕ) → is_marked [] p ≡ false
 no_mark p = ap (λ (v : ℕ). v == 1) (bit_at-zero (p % 16))
 
 pub nothing_read : (b : McsLinesState) → b.base ≡ 0 → b.ended ≡ false → b.bytes ≡ [] → b.marks ≡ [] → HasReadRecords b []
-nothing_read b base ended e f = record { records = []; is = rw (base, ended) refl; holds = rw (e, f) (record { long = refl; at = λ p. refl; marked = λ p. no_mark p }) }
+nothing_read b base ended e f = record { records = []; came = rw (base, ended) refl; holds = rw (e, f) (record { long = refl; at = λ p. refl; marked = λ p. no_mark p }) }
 
 image_held : (xs : List DataRecord) (bytes marks : List ℕ) → HoldsRecords xs bytes marks → bytes ≡ records_image xs
 image_held xs bytes marks h = fill_by_all (byte_at xs) bytes (extent xs) 255 h.long (λ k l. h.at k)
@@ -23,10 +23,10 @@ image_held xs bytes marks h = fill_by_all (byte_at xs) bytes (extent xs) 255 h.l
 module _ (lines : List (List ℕ)) where
   pub gives_bytes : (base : ℕ) (ended : Bool) (bytes marks : List ℕ) → TookRecords (after_lines 1 of_no_line (bare lines)) base ended bytes marks → ended ≡ true → flash_of_lines lines ≡ Ok bytes
   gives_bytes base ended bytes marks t e =
-      ap (λ r. flash_in (with_end r)) t.is ∙ ap (λ (b : Bool). flash_in (if b then Ok (at_base base ended t.records) else Err fault.NoEnd)) e ∙ ap Ok (sym (image_held t.records bytes marks t.holds))
+      ap (λ r. flash_in (with_end r)) t.came ∙ ap (λ (b : Bool). flash_in (if b then Ok (at_base base ended t.records) else Err fault.NoEnd)) e ∙ ap Ok (sym (image_held t.records bytes marks t.holds))
 
   pub gives_no_end : (base : ℕ) (ended : Bool) (bytes marks : List ℕ) → TookRecords (after_lines 1 of_no_line (bare lines)) base ended bytes marks → ended ≡ false → flash_of_lines lines ≡ Err fault.NoEnd
-  gives_no_end base ended bytes marks t e = ap (λ r. flash_in (with_end r)) t.is ∙ ap (λ (b : Bool). flash_in (if b then Ok (at_base base ended t.records) else Err fault.NoEnd)) e
+  gives_no_end base ended bytes marks t e = ap (λ r. flash_in (with_end r)) t.came ∙ ap (λ (b : Bool). flash_in (if b then Ok (at_base base ended t.records) else Err fault.NoEnd)) e
 
   pub gives_fault : (f : McsFault) → FailsAsReading (after_lines 1 of_no_line (bare lines)) f → HasMcsFault f lines
   gives_fault f (inl h) = inl h.0

@@ -48,13 +48,13 @@ module _ (b : McsLinesState) (lines : List (List ℕ)) (n : ℕ) (m : n ≡ leng
   read_after : (ts : List (List ℕ)) → after_lines 1 of_no_line (map without_return lines ++ ts) ≡ after_lines n (at_base b.base b.ended t.records) ts
   read_after ts =
       let k : 1 + length (map without_return lines) ≡ n = omega (arith, m, length-map lines without_return) in
-      in_turn (map without_return lines) 1 of_no_line ts ∙ ap (λ r. and_then r (λ s. after_lines (1 + length (map without_return lines)) s ts)) t.is
+      in_turn (map without_return lines) 1 of_no_line ts ∙ ap (λ r. and_then r (λ s. after_lines (1 + length (map without_return lines)) s ts)) t.came
       ∙ ap (λ (j : ℕ). after_lines j (at_base b.base b.ended t.records) ts) k
 
   pub line_read : (d : McsLinesState) (line : List ℕ) → TookRecords (after_line n (at_base b.base b.ended t.records) (without_return line)) d.base d.ended d.bytes d.marks → HasReadRecords d (lines ++ line ∷ [])
   line_read d line w = record {
     records = w.records;
-    is = ap (after_lines 1 of_no_line) (map_push without_return lines line) ∙ read_after (without_return line ∷ []) ∙ then_ok (after_line n (at_base b.base b.ended t.records) (without_return line)) ∙ w.is;
+    came = ap (after_lines 1 of_no_line) (map_push without_return lines line) ∙ read_after (without_return line ∷ []) ∙ then_ok (after_line n (at_base b.base b.ended t.records) (without_return line)) ∙ w.came;
     holds = w.holds;
   }
 
@@ -91,7 +91,7 @@ module _ (b : McsLinesState) (lines : List (List ℕ)) (n : ℕ) (m : n ≡ leng
         ∙ read_after (line ∷ []) ∙ then_ok (after_line n (at_base b.base b.ended t.records) line)
 
     last_took : (d : McsLinesState) → TookRecords (after_line n (at_base b.base b.ended t.records) line) d.base d.ended d.bytes d.marks → TookRecords (after_lines 1 of_no_line (bare (lines ++ line ∷ []))) d.base d.ended d.bytes d.marks
-    last_took d w = record { records = w.records; is = last_is ∙ w.is; holds = w.holds }
+    last_took d w = record { records = w.records; came = last_is ∙ w.came; holds = w.holds }
 
     pub last_bytes : (d : McsLinesState) → TookRecords (after_line n (at_base b.base b.ended t.records) line) d.base d.ended d.bytes d.marks → d.ended ≡ true → flash_of_lines (lines ++ line ∷ []) ≡ Ok d.bytes
     last_bytes d w e = gives_bytes (lines ++ line ∷ []) d.base d.ended d.bytes d.marks (last_took d w) e

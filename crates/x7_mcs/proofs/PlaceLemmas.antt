@@ -87,7 +87,7 @@ pub past_is_free : (xs : List DataRecord) (bytes marks : List ℕ) → HoldsReco
 past_is_free xs bytes marks h p n l = overlap_none xs p n (λ k i j. covered_within xs k (omega (arith, h.long)))
 
 pub first_is_least : (xs : List DataRecord) (bytes marks : List ℕ) → HoldsRecords xs bytes marks → (p n q : ℕ) → IsFirstMarked marks p (p + n) q → overlap xs p n ≡ Some q
-first_is_least xs bytes marks h p n q f = overlap_at xs p n q f.since f.within (sym (h.marked q) ∙ f.is) (λ k i j. sym (h.marked k) ∙ f.before k i j)
+first_is_least xs bytes marks h p n q f = overlap_at xs p n q f.since f.within (sym (h.marked q) ∙ f.marked) (λ k i j. sym (h.marked k) ∙ f.before k i j)
 
 pub free_has_none : (xs : List DataRecord) (bytes marks : List ℕ) → HoldsRecords xs bytes marks → (p n : ℕ) → AreFree marks p (p + n) → overlap xs p n ≡ None
 free_has_none xs bytes marks h p n f = overlap_none xs p n (λ k i j. sym (h.marked k) ∙ f k i j)

@@ -19,14 +19,10 @@ abbrev pub covered : List DataRecord → ℕ → Bool
 covered [] p = false
 covered (x ∷ xs) p = covers x p || covered xs p
 
--- the byte at a place that no record gives: FF, as an erase leaves it
-abbrev pub free_byte : ℕ
-free_byte = erased_byte
-
--- the byte of the record that covers a place, and the free one where none does
+-- the byte of the record that covers a place, and FF, as an erase leaves it, where none does
 abbrev pub byte_at : List DataRecord → ℕ → ℕ
-byte_at [] p = free_byte
-byte_at (x ∷ xs) p = if covers x p then get_or x.bytes (p - x.place) free_byte else byte_at xs p
+byte_at [] p = erased_byte
+byte_at (x ∷ xs) p = if covers x p then get_or x.bytes (p - x.place) erased_byte else byte_at xs p
 
 -- one more than the greatest place that a record gives, and 0 where it gives none
 abbrev pub record_end : DataRecord → ℕ

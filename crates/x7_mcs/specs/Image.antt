@@ -1,7 +1,8 @@
 -- What the bytes and marks of a text that is being read stand for (this project's choice).
 use Rattle.std.specs.Prelude.{◌≡◌, ℕ, ◌+◌, ◌/◌, ◌%◌, ◌==◌, ◌-◌, ◌&&◌, ◌<◌, ◌≤◌, nat_le, nat_lt, max, Bool, true, false, if◌then◌else◌, Result, Ok, Err, ◌⊎◌, List, length, get_or}
 use Rattle.std.specs.Int.{bit_at}
-use Rattle.x7_mcs.specs.DataRecords.{byte_at, covered, extent, free_byte, DataRecord}
+use Rattle.x7_words.specs.Flash.{erased_byte}
+use Rattle.x7_mcs.specs.DataRecords.{byte_at, covered, extent, DataRecord}
 use Rattle.x7_mcs.specs.declared.fault.McsFault.{McsFault}
 use Rattle.x7_mcs.specs.declared.fault.McsFault.TheVariants as fault
 use Rattle.x7_mcs.specs.Record.{Meaning}
@@ -33,22 +34,30 @@ is_marked marks p = bit_at (get_or marks (p / places_a_mark) 0) (p % places_a_ma
 abbrev pub AreFree : List ℕ → ℕ → ℕ → Type 0
 AreFree marks from to = (k : ℕ) → from ≤ k → k < to → is_marked marks k ≡ false
 
+-- the places from one to before another are marked beside those that were marked before
+abbrev pub AreMarked : List ℕ → ℕ → ℕ → List ℕ → Type 0
+AreMarked old from to new = (p : ℕ) → is_marked new p ≡ (if nat_le from p && nat_lt p to then true else is_marked old p)
+
 -- the least marked place of those from one to before another
 pub record IsFirstMarked (marks : List ℕ) (from to q : ℕ) : Type 0 where
   pub since : from ≤ q
   pub within : q < to
-  pub is : is_marked marks q ≡ true
+  pub marked : is_marked marks q ≡ true
   pub before : AreFree marks from q
+
+-- the byte at p after a content is written from a place on over the old bytes; FF where neither has one
+abbrev pub written_byte : ℕ → List ℕ → List ℕ → ℕ → ℕ
+written_byte place content old p = if nat_le place p && nat_lt p (place + length content) then get_or content (p - place) erased_byte else get_or old p erased_byte
 
 -- bytes are written from a place on, after FF where the old ones end before it
 pub record IsWrittenFrom (place : ℕ) (content old new : List ℕ) : Type 0 where
   pub long : length new ≡ max (length old) (place + length content)
-  pub at : (p : ℕ) → get_or new p free_byte ≡ (if nat_le place p && nat_lt p (place + length content) then get_or content (p - place) free_byte else get_or old p free_byte)
+  pub at : (p : ℕ) → get_or new p erased_byte ≡ written_byte place content old p
 
 -- what bytes and marks stand for: place by place, the records' bytes and whether a record covers it
 pub record HoldsRecords (records : List DataRecord) (bytes marks : List ℕ) : Type 0 where
   pub long : length bytes ≡ extent records
-  pub at : (p : ℕ) → get_or bytes p free_byte ≡ byte_at records p
+  pub at : (p : ℕ) → get_or bytes p erased_byte ≡ byte_at records p
   pub marked : (p : ℕ) → is_marked marks p ≡ covered records p
 
 -- what the lines so far gave: the base that stands, whether a record 01 stood, and the bytes and marks of the image
@@ -61,7 +70,7 @@ pub record McsLinesState : Type 0 where
 -- a reading came to this base, end and records
 pub record TookRecords (reading : Result FlashReading McsFault) (base : ℕ) (ended : Bool) (bytes marks : List ℕ) : Type 0 where
   pub records : List DataRecord
-  pub is : reading ≡ Ok (record { base = base; ended = ended; records = records })
+  pub came : reading ≡ Ok (record { base = base; ended = ended; records = records })
   pub holds : HoldsRecords records bytes marks
 
 -- the reading of a text up to a line: the base that stands, whether a record 01 stood, and the records

@@ -6,13 +6,14 @@ ghost use Rattle.x7_words.specs.Flash.{flash_limit};
 ghost use Rattle.x7_mcs.specs.Text.{block_room, mcs_text, row_lines, row_size};
 
 use crate::record::BLOCK_SIZE;
-use crate::text::{END_LINE, put_rows};
+use crate::row::ROW_LINE_SIZE;
+use crate::text::{BASE_LINE_SIZE, END_LINE, put_rows};
 use std::alloc::Global;
 use std::marker::Model;
 use x7_words::{Failed, NoMemory, Sink, write_all};
 
-/// The bytes that the lines of a block take at most.
-const BLOCK_ROOM: usize = 4 * BLOCK_SIZE as usize + 60;
+/// The bytes that the lines of a block take at most: four for each of its bytes, a record 04 and a row's line.
+const BLOCK_ROOM: usize = 4 * BLOCK_SIZE as usize + BASE_LINE_SIZE + ROW_LINE_SIZE;
 
 /// Writes the lines of a flash's rows, those of a block at a time. It takes no memory.
 fn write_rows<S: Sink>(out: &mut S, flash: &[u8], block: &mut Vec<u8>) -> Result<(), Failed>

@@ -1,10 +1,11 @@
 //! The bytes of a flash that is being read, and the places that its records gave.
 ghost use Rattle.std.specs.Prelude.{◌≡◌, ℕ, true, ◌≤◌, ◌<◌, ◌+◌, ◌-◌, ◌*◌, ◌/◌, ◌%◌, ◌^◌, ◌==◌, ◌&&◌, nat_le, nat_lt, max, if◌then◌else◌, List, [], length, get_or, MatchResult, MatchOption};
 ghost use Rattle.std.specs.Int.{bit_at};
-ghost use Rattle.x7_mcs.specs.DataRecords.{DataRecord, overlap, free_byte};
+ghost use Rattle.x7_words.specs.Flash.{erased_byte};
+ghost use Rattle.x7_mcs.specs.DataRecords.{DataRecord, overlap};
 ghost use Rattle.x7_mcs.specs.Readings.{HoldsIn, HoldsMore, IsRecordRefused, data_at};
 ghost use Rattle.x7_mcs.specs.Record.{byte_values};
-ghost use Rattle.x7_mcs.specs.Image.{AreFree, IsFirstMarked, IsWrittenFrom, is_marked, places_a_mark};
+ghost use Rattle.x7_mcs.specs.Image.{AreFree, AreMarked, IsFirstMarked, IsWrittenFrom, places_a_mark, written_byte};
 
 use crate::fault::McsFault;
 use std::alloc::{AllocError, Global};
@@ -12,11 +13,14 @@ use std::alloc::{AllocError, Global};
 /// How many places a flash has at most.
 pub const FLASH_LIMIT: usize = x7_words::FLASH_LIMIT as usize;
 
-/// A mark with all its sixteen places.
-const ALL: u16 = 0xFFFF;
+/// How many places a mark is for.
+const PLACES_A_MARK: usize = 16;
 
-/// How many marks are made at once.
-const SPARE: usize = 4096;
+/// A mark with all its places.
+const FULL_MARK: u16 = 0xFFFF;
+
+/// How many marks more than are needed are made at once.
+const SPARE_MARKS: usize = 4096;
 
 /// The bytes from place 0 on, and a bit for each place that a record gave: sixteen places a mark, the first in bit 0.
 #[derive(Drop)]
@@ -36,10 +40,10 @@ pub(crate) fn empty_image(alloc: Global) -> Image
     }
 }
 
-/// Lengthens bytes by FF.
+/// Lengthens bytes by FF to `n` of them, where there are fewer.
 #[inline(always)]
 fn grow_bytes(bytes: &mut Vec<u8>, n: usize) -> Result<(), AllocError>
-    ensures { MatchResult result (λ _. (length bytes.new.items ≡ max (length bytes.old.items) n) × ((p : ℕ) → get_or bytes.new.items p free_byte ≡ get_or bytes.old.items p free_byte)) (λ _. Unit {0}) }
+    ensures { MatchResult result (λ _. (length bytes.new.items ≡ max (length bytes.old.items) n) × ((p : ℕ) → get_or bytes.new.items p erased_byte ≡ get_or bytes.old.items p erased_byte)) (λ _. Unit {0}) }
 {
     if n <= bytes.len() {
         return Ok(());
@@ -47,16 +51,16 @@ fn grow_bytes(bytes: &mut Vec<u8>, n: usize) -> Result<(), AllocError>
     bytes.resize(n, 255)
 }
 
-/// Writes bytes over others.
+/// Writes a content over the bytes from a place on.
 fn set_bytes(bytes: &mut Vec<u8>, place: usize, content: &[u8])
     requires { place + length content.now ≤ length bytes.old.items }
     ensures long { length bytes.new.items ≡ length bytes.old.items }
-    ensures at { (p : ℕ) → get_or bytes.new.items p free_byte ≡ (if nat_le place p && nat_lt p (place + length content.now) then get_or content.now (p - place) free_byte else get_or bytes.old.items p free_byte) }
+    ensures at { (p : ℕ) → get_or bytes.new.items p erased_byte ≡ written_byte place content.now bytes.old.items p }
 {
     bytes[place..place + content.len()].copy_from_slice(content);
 }
 
-/// Appends bytes.
+/// Appends a content.
 #[inline(always)]
 fn append_bytes(bytes: &mut Vec<u8>, content: &[u8]) -> Result<(), AllocError>
     ensures { MatchResult result (λ _. IsWrittenFrom (length bytes.old.items) content.now bytes.old.items bytes.new.items) (λ _. Unit {0}) }
@@ -64,7 +68,7 @@ fn append_bytes(bytes: &mut Vec<u8>, content: &[u8]) -> Result<(), AllocError>
     bytes.extend_from_slice(content)
 }
 
-/// Writes bytes from a place on, after FF where the bytes end before it.
+/// Writes a content from a place on, after FF where the bytes end before it.
 #[inline(always)]
 fn put_bytes(bytes: &mut Vec<u8>, place: usize, content: &[u8]) -> Result<(), AllocError>
     requires { place + length content.now < 2 ^ 34 }
@@ -85,20 +89,20 @@ fn grow_marks(marks: &mut Vec<u16>, end: usize) -> Result<(), AllocError>
     requires { end < 2 ^ 34 }
     ensures { MatchResult result (λ _. (end ≤ places_a_mark * length marks.new.items) × ((k : ℕ) → get_or marks.new.items k 0 ≡ get_or marks.old.items k 0)) (λ _. Unit {0}) }
 {
-    let n = end / 16 + 1;
+    let n = end / PLACES_A_MARK + 1;
     if n <= marks.len() {
         return Ok(());
     }
-    marks.resize(n + SPARE, 0)
+    marks.resize(n + SPARE_MARKS, 0)
 }
 
 /// Marks a place.
 fn mark_place(marks: &mut Vec<u16>, place: usize)
     requires { place / places_a_mark < length marks.old.items }
     ensures long { length marks.new.items ≡ length marks.old.items }
-    ensures at { (p : ℕ) → is_marked marks.new.items p ≡ (if nat_le place p && nat_lt p (place + 1) then true else is_marked marks.old.items p) }
+    ensures marked { AreMarked marks.old.items place (place + 1) marks.new.items }
 {
-    marks[place / 16] |= 1 << (place % 16);
+    marks[place / PLACES_A_MARK] |= 1 << (place % PLACES_A_MARK);
 }
 
 /// Marks the sixteen places of one mark.
@@ -106,24 +110,24 @@ fn mark_sixteen(marks: &mut Vec<u16>, place: usize)
     requires within { place / places_a_mark < length marks.old.items }
     requires first { place % places_a_mark ≡ 0 }
     ensures long { length marks.new.items ≡ length marks.old.items }
-    ensures at { (p : ℕ) → is_marked marks.new.items p ≡ (if nat_le place p && nat_lt p (place + places_a_mark) then true else is_marked marks.old.items p) }
+    ensures marked { AreMarked marks.old.items place (place + places_a_mark) marks.new.items }
 {
-    marks[place / 16] = ALL;
+    marks[place / PLACES_A_MARK] = FULL_MARK;
 }
 
-/// Marks places from one on.
+/// Marks `count` places from one on.
 #[inline(always)]
 fn mark_places(marks: &mut Vec<u16>, place: usize, count: usize)
     requires within { place + count ≤ places_a_mark * length marks.old.items }
     requires small { place + count < 2 ^ 34 }
-    ensures { (p : ℕ) → is_marked marks.new.items p ≡ (if nat_le place p && nat_lt p (place + count) then true else is_marked marks.old.items p) }
+    ensures { AreMarked marks.old.items place (place + count) marks.new.items }
 {
     let end = place + count;
     let mut at = place;
     while at < end {
-        if at % 16 == 0 && end - at >= 16 {
+        if at % PLACES_A_MARK == 0 && end - at >= PLACES_A_MARK {
             mark_sixteen(marks, at);
-            at += 16;
+            at += PLACES_A_MARK;
         } else {
             mark_place(marks, at);
             at += 1;
@@ -135,8 +139,8 @@ fn mark_places(marks: &mut Vec<u16>, place: usize, count: usize)
 fn mark_of(marks: &[u16], place: usize) -> u16
     ensures { result ≡ get_or marks.now (place / places_a_mark) 0 }
 {
-    if place / 16 < marks.len() {
-        marks[place / 16]
+    if place / PLACES_A_MARK < marks.len() {
+        marks[place / PLACES_A_MARK]
     } else {
         0
     }
@@ -150,7 +154,7 @@ fn has_bit(mark: u16, bit: usize) -> bool
     mark >> bit & 1 == 1
 }
 
-/// The first marked place of some.
+/// The least of `count` places from one on that is marked.
 fn first_marked(marks: &[u16], place: usize, count: usize) -> Option<usize>
     requires { place + count < 2 ^ 34 }
     ensures { MatchOption result (AreFree marks.now place (place + count)) (λ q. IsFirstMarked marks.now place (place + count) q) }
@@ -159,9 +163,9 @@ fn first_marked(marks: &[u16], place: usize, count: usize) -> Option<usize>
     let mut at = place;
     while at < end {
         let mark = mark_of(marks, at);
-        if mark == 0 && at % 16 == 0 && end - at >= 16 {
-            at += 16;
-        } else if has_bit(mark, at % 16) {
+        if mark == 0 && at % PLACES_A_MARK == 0 && end - at >= PLACES_A_MARK {
+            at += PLACES_A_MARK;
+        } else if has_bit(mark, at % PLACES_A_MARK) {
             return Some(at);
         } else {
             at += 1;
@@ -170,7 +174,7 @@ fn first_marked(marks: &[u16], place: usize, count: usize) -> Option<usize>
     None
 }
 
-/// The least of some places that a record gave.
+/// The least of `count` places from one on that a record gave.
 #[inline(always)]
 fn taken_place(image: &Image, place: usize, count: usize) -> Option<usize>
     requires { place + count < 2 ^ 34 }

@@ -1,10 +1,10 @@
 //! What a text gives, said in other words: laws of the definitions, for the proofs of crates above.
 ghost use Rattle.std.specs.Prelude.{◌≡◌, ℕ, true, false, ◌≤◌, ◌<◌, ◌+◌, ◌-◌, ◌*◌, ◌%◌, List, ◌∷◌, ◌++◌, length, get_or, Some, None, Ok, Err};
 ghost use Rattle.x7_text.specs.Row.{rows};
-ghost use Rattle.x7_words.specs.Flash.{flash_limit};
+ghost use Rattle.x7_words.specs.Flash.{erased_byte, flash_limit};
 ghost use Rattle.x7_words.specs.Word.{AreBytes};
 ghost use Rattle.x7_mcs.specs.Flash.{FlashReading, after_lines, and_then, mcs_of, flash_reading};
-ghost use Rattle.x7_mcs.specs.DataRecords.{HaveNoOverlap, DataRecord, byte_at, covered, covers, extent, records_image, overlap, free_byte};
+ghost use Rattle.x7_mcs.specs.DataRecords.{HaveNoOverlap, DataRecord, byte_at, covered, covers, extent, records_image, overlap};
 ghost use Rattle.x7_mcs.specs.Text.{mcs_text, row_lines, row_size};
 ghost use Rattle.x7_mcs.specs.declared.fault.McsFault.{McsFault};
 
@@ -32,10 +32,10 @@ pub fn lines_in_turn()
 /// The flash's bytes, place by place.
 pub fn bytes_by_place()
     ensures long { (records : List DataRecord) → length (records_image records) ≡ extent records }
-    ensures at { (records : List DataRecord) (p : ℕ) → p < extent records → get_or (records_image records) p free_byte ≡ byte_at records p }
+    ensures at { (records : List DataRecord) (p : ℕ) → p < extent records → get_or (records_image records) p erased_byte ≡ byte_at records p }
     ensures covered { (before after : List DataRecord) (x : DataRecord) (p : ℕ) → HaveNoOverlap (before ++ x ∷ after) → covers x p ≡ true
-        → byte_at (before ++ x ∷ after) p ≡ get_or x.bytes (p - x.place) free_byte }
-    ensures free { (records : List DataRecord) (p : ℕ) → covered records p ≡ false → byte_at records p ≡ free_byte }
+        → byte_at (before ++ x ∷ after) p ≡ get_or x.bytes (p - x.place) erased_byte }
+    ensures free { (records : List DataRecord) (p : ℕ) → covered records p ≡ false → byte_at records p ≡ erased_byte }
 {}
 
 /// No two records of a good text cover one place.

@@ -9,6 +9,9 @@ use crate::fault::McsFault;
 /// How many bytes a record of 16 address bits reaches over from its base on: those of a block.
 pub(crate) const BLOCK_SIZE: u32 = 65_536;
 
+/// How many bytes a record has beside its data: its count, the two of its address, its type and its sum byte.
+pub(crate) const BYTES_BESIDE: usize = 5;
+
 /// What a record says.
 #[derive(Clone, Copy)]
 pub(crate) enum Meaning {
@@ -73,7 +76,7 @@ pub(crate) fn meaning_of(n: u64, ended: bool, bytes: &[u8]) -> Result<Meaning, M
     ensures meaning { SaysMeaning result (meaning_of n ended bytes.now) }
     ensures long { MatchResult result (λ _. get_or bytes.now 0 0 + bytes_beside ≡ length bytes.now) (λ _. Unit {0}) }
 {
-    if bytes.len() == 0 || usize::from(bytes[0]) + 5 != bytes.len() {
+    if bytes.len() == 0 || usize::from(bytes[0]) + BYTES_BESIDE != bytes.len() {
         return Err(McsFault::Line(n));
     }
     let last = bytes.len() - 1;
@@ -87,10 +90,10 @@ pub(crate) fn meaning_of(n: u64, ended: bool, bytes: &[u8]) -> Result<Meaning, M
     meaning_by_type(n, bytes)
 }
 
-/// The data of a record.
+/// The data of a record, as many bytes as its count says.
 pub(crate) fn record_data(bytes: &[u8]) -> &[u8]
     requires { get_or bytes.now 0 0 + bytes_beside ≡ length bytes.now }
-    ensures is { result.now ≡ record_data bytes.now }
+    ensures content { result.now ≡ record_data bytes.now }
     ensures long { length result.now < byte_values }
 {
     let count = usize::from(bytes[0]);

@@ -12,6 +12,9 @@ use crate::record::sum_of;
 use std::simd::prelude::*;
 use x7_text::hex_of_byte;
 
+/// How many bytes of text the data record of a whole row has, with its line end.
+pub(crate) const ROW_LINE_SIZE: usize = 44;
+
 /// The digits of numbers below 16.
 #[inline(always)]
 fn hex_digits(numbers: u8x16) -> u8x16
@@ -70,12 +73,12 @@ fn hex_of_fields(address: u16) -> [u8; 8]
 
 /// The line of a data record of sixteen bytes at an address.
 #[inline(always)]
-pub(crate) fn row_line(address: u16, content: &[u8; 16]) -> [u8; 44]
+pub(crate) fn row_line(address: u16, content: &[u8; 16]) -> [u8; ROW_LINE_SIZE]
     ensures line { result ≡ data_line address content.now }
     ensures bytes { AreBytes content.now }
 {
     let (first, second) = hex_of_content(content);
-    let mut line = [b'\n'; 44];
+    let mut line = [b'\n'; ROW_LINE_SIZE];
     line[41..43].copy_from_slice(&hex_of_byte(sum_byte_of_row(address, content)));
     line[25..41].copy_from_slice(&second);
     line[9..25].copy_from_slice(&first);
@@ -86,7 +89,7 @@ pub(crate) fn row_line(address: u16, content: &[u8; 16]) -> [u8; 44]
 
 /// The eight bytes of a line after its first.
 #[inline(always)]
-fn fields_in(line: &[u8; 44]) -> [u8; 8]
+fn fields_in(line: &[u8; ROW_LINE_SIZE]) -> [u8; 8]
     ensures { result ≡ chunk 1 8 line.now }
 {
     u8x8::from_slice(&line[1..]).to_array()
@@ -94,7 +97,7 @@ fn fields_in(line: &[u8; 44]) -> [u8; 8]
 
 /// Sixteen bytes of a line from a place on.
 #[inline(always)]
-fn sixteen_in(line: &[u8; 44], at: usize) -> [u8; 16]
+fn sixteen_in(line: &[u8; ROW_LINE_SIZE], at: usize) -> [u8; 16]
     requires { at + 16 ≤ 44 }
     ensures { result ≡ chunk at 16 line.now }
 {
@@ -140,7 +143,7 @@ fn guess_number(digit: u8) -> u16
 
 /// The row that a line would show.
 #[inline(always)]
-fn guess_row(line: &[u8; 44]) -> Row {
+fn guess_row(line: &[u8; ROW_LINE_SIZE]) -> Row {
     let address = 4096 * guess_number(line[3])
         + 256 * guess_number(line[4])
         + 16 * guess_number(line[5])
@@ -154,7 +157,7 @@ fn guess_row(line: &[u8; 44]) -> Row {
 /// Whether a line is that of a data record of sixteen bytes at an address. It is compared piece by piece.
 #[inline(always)]
 #[tactic(auto, using(crate::proofs::RowLemmas::are_bytes))]
-fn is_row_line(line: &[u8; 44], address: u16, content: &[u8; 16]) -> bool
+fn is_row_line(line: &[u8; ROW_LINE_SIZE], address: u16, content: &[u8; 16]) -> bool
     ensures line { IsTrue result → line.now ≡ data_line address content.now }
     ensures bytes { AreBytes content.now }
 {
@@ -182,7 +185,7 @@ pub(crate) fn first_row(text: &[u8]) -> Option<(Row, &[u8])>
     ensures bytes { MatchOption result (Unit {0}) (λ r. AreBytes r.0.content) }
     ensures shorter { MatchOption result (Unit {0}) (λ r. length r.1.now < length text.now) }
 {
-    let (line, rest) = text.split_first_chunk::<44>()?;
+    let (line, rest) = text.split_first_chunk::<ROW_LINE_SIZE>()?;
     let row = guess_row(line);
     if !is_row_line(line, row.address, &row.content) {
         return None;

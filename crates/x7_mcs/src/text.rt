@@ -11,10 +11,13 @@ ghost use Rattle.x7_mcs.specs.Record.{block_size};
 ghost use Rattle.x7_mcs.specs.Text.{block_start, data_line, mcs_text, record_line, row_lines, row_size, base_line_size, row_line_size, rows_room};
 
 use crate::record::{BLOCK_SIZE, sum_byte};
-use crate::row::row_line;
+use crate::row::{ROW_LINE_SIZE, row_line};
 use std::alloc::Global;
 use x7_text::{hex_of_byte, put};
 use x7_words::NoMemory;
+
+/// How many bytes of text a record 04 has, with its line end.
+pub(crate) const BASE_LINE_SIZE: usize = 16;
 
 /// The record 01, which ends a text.
 pub(crate) const END_LINE: &[u8] = b":00000001FF\n";
@@ -115,7 +118,8 @@ pub fn mcs_text(alloc: Global, flash: &[u8]) -> Result<Vec<u8>, NoMemory>
     ensures text { IfOk result (λ text. text.items ≡ mcs_text flash.now) }
     ensures back { AreBytes flash.now → IfOk result (λ text. mcs_of text.items ≡ Ok flash.now) }
 {
-    let Ok(mut text) = Vec::with_capacity(alloc, 4 * flash.len() + 72) else {
+    let room = 4 * flash.len() + BASE_LINE_SIZE + ROW_LINE_SIZE + END_LINE.len();
+    let Ok(mut text) = Vec::with_capacity(alloc, room) else {
         return Err(NoMemory);
     };
     put_rows(&mut text, 0, flash);

@@ -107,15 +107,15 @@ pub yes_word : (ds known r : List ℕ) (w : ℕ) → known ≡ ds → known ≡ 
 yes_word ds known r w same f back h = sym same ∙ f ∙ ap (flat_map hex_byte) (sym back) ∙ sym (word_digits w h)
 
 -- a text that no number leads to is no decimal number
-pub utf8_decimal : (ds : List ℕ) (n : ℕ) → n < 2 ^ 64 → ds ≡ decimal n → IsUtf8 ds
+pub utf8_decimal : (ds : List ℕ) (n : ℕ) → n < 2 ^ 32 → ds ≡ decimal n → IsUtf8 ds
 utf8_decimal ds n h e = let P : List ℕ → Type 0 = λ t. IsUtf8 t in subst P (sym e) (IsUtf8-from_ascii (decimal n) (IsAscii-decimal n (omega arith)))
 
-pub not_parsed : {E : Type 0} (ds : List ℕ) (r : Result ℕ E) (e : E) → r ≡ Err e → ParsesUnsigned 64 10 ds r → (n : ℕ) → n < 2 ^ 64 → ds ≡ decimal n → ⊥
-not_parsed ds r e was p n h k = let yes : r ≡ Ok n = parse-decimal 64 n ds r h (omega arith) k p in cc
+pub not_parsed : {E : Type 0} (ds : List ℕ) (r : Result ℕ E) (e : E) → r ≡ Err e → ParsesUnsigned 32 10 ds r → (n : ℕ) → n < 2 ^ 32 → ds ≡ decimal n → ⊥
+not_parsed ds r e was p n h k = let yes : r ≡ Ok n = parse-decimal 32 n ds r h (omega arith) k p in cc
 
-pub no_decimal : {E : Type 0} (ds known : List ℕ) (r : Result ℕ E) (m : ℕ) (b : Bool) → r ≡ Ok m → ParsesUnsigned 64 10 ds r → known ≡ decimal m → b ≡ false → (known ≡ ds → IsTrue b) → (n : ℕ) → n < 2 ^ 64 → ds ≡ decimal n → ⊥
+pub no_decimal : {E : Type 0} (ds known : List ℕ) (r : Result ℕ E) (m : ℕ) (b : Bool) → r ≡ Ok m → ParsesUnsigned 32 10 ds r → known ≡ decimal m → b ≡ false → (known ≡ ds → IsTrue b) → (n : ℕ) → n < 2 ^ 32 → ds ≡ decimal n → ⊥
 no_decimal ds known r m b was p f off is n h k =
-    let yes : r ≡ Ok n = parse-decimal 64 n ds r h (omega arith) k p in
+    let yes : r ≡ Ok n = parse-decimal 32 n ds r h (omega arith) k p in
     let same : m ≡ n = cc in
     refuted b off (is (f ∙ ap decimal same ∙ sym k))
 

@@ -1,5 +1,5 @@
--- Hexadecimal digits, in upper case (this project's choice).
-use Rattle.std.specs.Prelude.{ℕ, ◌+◌, ◌/◌, ◌%◌, ◌^◌, nat_lt, if◌then◌else◌, List, [], ◌∷◌}
+-- Hexadecimal digits, in upper case, and decimal ones (this project's choice).
+use Rattle.std.specs.Prelude.{◌≡◌, ◌≢◌, ℕ, ◌+◌, ◌/◌, ◌%◌, ◌<◌, ◌^◌, nat_lt, if◌then◌else◌, List, [], ◌∷◌, decimal, Option, MatchOption}
 
 -- the digit of a number below 16
 abbrev pub hex_digit : ℕ → ℕ
@@ -18,3 +18,8 @@ hex_word w =
 -- the most decimal digits that a number of 64 bits has
 abbrev pub most_digits : ℕ
 most_digits = 20
+
+-- what was found is the number below a limit that these are the decimal digits of, without leading zeros; nothing,
+-- where they are those of no such number
+abbrev pub IsDecimalBelow : ℕ → List ℕ → Option ℕ → Type 0
+IsDecimalBelow limit digits found = MatchOption found ((n : ℕ) → n < limit → digits ≢ decimal n) (λ n. (n < limit) × (digits ≡ decimal n))

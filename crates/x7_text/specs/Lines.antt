@@ -21,3 +21,8 @@ joined_lines (t ∷ u ∷ us) = t ++ 10 ∷ joined_lines (u ∷ us)
 abbrev pub has_no_end : List ℕ → Bool
 has_no_end [] = true
 has_no_end (c ∷ cs) = if c == 10 then false else has_no_end cs
+
+-- a line without meaning: an empty one, and a comment, which `#` begins
+abbrev pub means_nothing : List ℕ → Bool
+means_nothing [] = true
+means_nothing (c ∷ cs) = c == 35

@@ -22,8 +22,10 @@ pub use laws::{
     rows_are_the_elements, whole_rows,
 };
 pub use line_reader::{LineReader, TakesLines, read_lines};
-pub use lines::first_line;
+pub use lines::{after, first_line, means_nothing};
 pub use read_row::{put_byte_row, put_word_row};
-pub use reading::{HexPrefix, block_of_hex, decimal_below, prefix_of_hex, word_of_hex};
+pub use reading::{
+    HexPrefix, block_of_hex, decimal_below, number_of_decimal, prefix_of_hex, word_of_hex,
+};
 pub use room::{make_room, put};
 pub use row::{put_bytes, put_close, put_word, put_words};

@@ -1,6 +1,6 @@
-//! The lines of a text.
-ghost use Rattle.std.specs.Prelude.{◌≡◌, ◌<◌, [], ◌∷◌, length, MatchOption};
-ghost use Rattle.x7_text.specs.Lines.{split};
+//! The lines of a text, and what a line begins with.
+ghost use Rattle.std.specs.Prelude.{◌≡◌, ◌≢◌, ℕ, List, ◌<◌, [], ◌∷◌, ◌++◌, length, MatchOption};
+ghost use Rattle.x7_text.specs.Lines.{means_nothing, split};
 
 use memchr::memchr;
 
@@ -13,4 +13,21 @@ pub fn first_line(text: &[u8]) -> (&[u8], Option<&[u8]>)
         Some(at) => (&text[..at], Some(&text[at + 1..])),
         None => (text, None),
     }
+}
+
+/// The byte that begins a comment.
+const COMMENT: u8 = b'#';
+
+/// Whether a line is empty, or a comment.
+pub fn means_nothing(line: &[u8]) -> bool
+    ensures { result ≡ means_nothing line.now }
+{
+    line.len() == 0 || line[0] == COMMENT
+}
+
+/// What stands after a word that the text begins with.
+pub fn after<'t>(text: &'t [u8], word: &[u8]) -> Option<&'t [u8]>
+    ensures { MatchOption result ((rest : List ℕ) → text.now ≢ word.now ++ rest) (λ rest. text.now ≡ word.now ++ rest.now) }
+{
+    text.strip_prefix(word)
 }

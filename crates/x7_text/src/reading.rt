@@ -1,9 +1,9 @@
 //! Digits read back: what they would stand for is written out again and compared, so that only digits are taken.
-ghost use Rattle.std.specs.Prelude.{◌≡◌, ◌≢◌, ℕ, List, ◌<◌, ◌≤◌, ◌*◌, ◌^◌, length, map, take, slice_index, decimal, MatchOption};
+ghost use Rattle.std.specs.Prelude.{◌≡◌, ◌≢◌, ℕ, List, ◌<◌, ◌≤◌, ◌*◌, ◌^◌, length, map, take, slice_index, MatchOption};
 ghost use Rattle.std.specs.List.{flat_map};
 ghost use Rattle.std.specs.Simd.Lanes.{Each1};
 ghost use Rattle.x7_words.specs.Word.{AreBytes};
-ghost use Rattle.x7_text.specs.Digits.{hex_byte, hex_word};
+ghost use Rattle.x7_text.specs.Digits.{hex_byte, hex_word, IsDecimalBelow};
 ghost use Rattle.x7_text.specs.DigitValue.{bytes_value, digit_value, pairs_value};
 
 use crate::block::{hex_of_block, hex_of_four};
@@ -59,17 +59,17 @@ pub fn word_of_hex(digits: &[u8]) -> Option<u32>
     None
 }
 
-/// The number of decimal digits, exactly where they are those of a number of 64 bits: no leading zero.
-fn number_of_decimal(digits: &[u8]) -> Option<u64>
-    ensures { MatchOption result ((n : ℕ) → n < 2 ^ 64 → digits.now ≢ decimal n) (λ n. digits.now ≡ decimal n) }
+/// The number of decimal digits, exactly where they are those of a number of 32 bits: no leading zero.
+pub fn number_of_decimal(digits: &[u8]) -> Option<u32>
+    ensures { IsDecimalBelow (2 ^ 32) digits.now result }
 {
     if digits.len() == 1 && digits[0].is_ascii_digit() {
-        return Some(u64::from(digits[0] - b'0'));
+        return Some(u32::from(digits[0] - b'0'));
     }
     let Ok(text) = std::str::from_utf8(digits) else {
         return None;
     };
-    let Ok(n) = text.parse::<u64>() else {
+    let Ok(n) = text.parse::<u32>() else {
         return None;
     };
     let mut buffer = Buffer::new();
@@ -81,8 +81,8 @@ fn number_of_decimal(digits: &[u8]) -> Option<u64>
 }
 
 /// The number below the limit that these are the decimal digits of, without leading zeros.
-pub fn decimal_below(digits: &[u8], limit: u64) -> Option<u64>
-    ensures { MatchOption result ((n : ℕ) → n < limit → digits.now ≢ decimal n) (λ n. (n < limit) × (digits.now ≡ decimal n)) }
+pub fn decimal_below(digits: &[u8], limit: u32) -> Option<u32>
+    ensures { IsDecimalBelow limit digits.now result }
 {
     let Some(number) = number_of_decimal(digits) else {
         return None;

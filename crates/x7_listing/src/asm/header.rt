@@ -6,11 +6,10 @@ ghost use Rattle.x7_header.specs.Header.{Contents, longest_header};
 ghost use Rattle.x7_text.specs.Digits.{hex_byte};
 ghost use Rattle.x7_listing.specs.BitLine.{bit_text, field_text, HasFieldFirst, IsCutAtSpace, IsField, IsHeaderOf, IsHeld};
 
-use super::reading::after;
 use memchr::memchr;
 use std::alloc::Global;
-use x7_header::{Head, write_header};
-use x7_text::{decimal_below, make_room, put_byte_row};
+use x7_header::{Head, LONGEST_TEXT, write_header};
+use x7_text::{after, make_room, number_of_decimal, put_byte_row};
 use x7_words::{NoMemory, is_same};
 
 /// The bytes of pairs of digits, exactly where the text is of such.
@@ -39,7 +38,7 @@ fn field_of(alloc: Global, text: &[u8]) -> Result<Option<Vec<u8>>, NoMemory>
     if is_same(text, b"-") {
         return Ok(Some(Vec::new(alloc)));
     }
-    if text.is_empty() || text.len() > 2 * 65_535 {
+    if text.is_empty() || text.len() > 2 * LONGEST_TEXT {
         return Ok(None);
     }
     bytes_of_pairs(alloc, text)
@@ -89,7 +88,7 @@ pub(crate) fn header_of_line(alloc: Global, line: &[u8]) -> Result<Option<Vec<u8
     let Some((d, digits)) = first_field(alloc, rest)? else {
         return Ok(None);
     };
-    let Some(length) = decimal_below(digits, 1 << 32) else {
+    let Some(length) = number_of_decimal(digits) else {
         return Ok(None);
     };
     let head = Head {
@@ -97,7 +96,7 @@ pub(crate) fn header_of_line(alloc: Global, line: &[u8]) -> Result<Option<Vec<u8
         b: &b,
         c: &c,
         d: &d,
-        length: length as u32,
+        length,
         size: 0,
     };
     Ok(Some(write_header(alloc, &head)?))

@@ -16,15 +16,8 @@ ghost use Rattle.x7_text.specs.Row.{row_bytes};
 
 use x7_packets::{NO_OP, SYNC_WORD, type1_read, type1_write, type2_read, type2_write};
 use x7_regs::{Reg, command_named, reg_named};
-use x7_text::{decimal_below, put, put_byte_row, put_word_row, word_of_hex};
+use x7_text::{after, decimal_below, put, put_byte_row, put_word_row, word_of_hex};
 use x7_words::{bytes_of, is_same};
-
-/// What stands after a word that the text begins with.
-pub(crate) fn after<'t>(text: &'t [u8], word: &[u8]) -> Option<&'t [u8]>
-    ensures { MatchOption result ((rest : List ℕ) → text.now ≢ word.now ++ rest) (λ rest. text.now ≡ word.now ++ rest.now) }
-{
-    text.strip_prefix(word)
-}
 
 /// The place of the first space, if one stands among the first ten bytes. No register's name is longer.
 #[inline(always)]
@@ -65,7 +58,7 @@ pub(crate) fn access_at(text: &[u8], space: usize) -> Option<(u8, u32)>
     let Some(register) = reg_named(&text[..space]) else {
         return None;
     };
-    let Some(count) = count_of(&text[space + 1..], 2048) else {
+    let Some(count) = decimal_below(&text[space + 1..], 2048) else {
         return None;
     };
     Some((register, count))
@@ -114,21 +107,11 @@ fn command_word(name: &[u8]) -> Option<u32>
     Some(u32::from(code))
 }
 
-/// The number below the limit that these are the digits of.
-fn count_of(digits: &[u8], limit: u32) -> Option<u32>
-    ensures { MatchOption result ((n : ℕ) → n < limit → digits.now ≢ decimal n) (λ n. (n < limit) × (digits.now ≡ decimal n)) }
-{
-    let Some(count) = decimal_below(digits, u64::from(limit)) else {
-        return None;
-    };
-    Some(count as u32)
-}
-
 /// The header of a type 2 write of as many words as these are the digits of.
 fn write2_of(digits: &[u8]) -> Option<u32>
     ensures { IsWordOf (λ n. n < 2 ^ 27) decimal type2_write digits.now result }
 {
-    let Some(count) = count_of(digits, 1 << 27) else {
+    let Some(count) = decimal_below(digits, 1 << 27) else {
         return None;
     };
     Some(type2_write(count))
@@ -138,7 +121,7 @@ fn write2_of(digits: &[u8]) -> Option<u32>
 fn read2_of(digits: &[u8]) -> Option<u32>
     ensures { IsWordOf (λ n. n < 2 ^ 27) decimal type2_read digits.now result }
 {
-    let Some(count) = count_of(digits, 1 << 27) else {
+    let Some(count) = decimal_below(digits, 1 << 27) else {
         return None;
     };
     Some(type2_read(count))
@@ -151,7 +134,7 @@ fn access_of(text: &[u8]) -> Option<(u8, u32)>
     let Some((register, digits)) = register_before(text) else {
         return None;
     };
-    let Some(count) = count_of(digits, 2048) else {
+    let Some(count) = decimal_below(digits, 2048) else {
         return None;
     };
     Some((register, count))

@@ -7,23 +7,15 @@ ghost use Rattle.x7_listing.specs.BitLine.{bit_text, field_text};
 
 use std::alloc::Global;
 use x7_header::Head;
-use x7_text::{hex_of_byte, make_room, put_decimal};
+use x7_text::{hex_of_byte, make_room, put_decimal, put_text};
 use x7_words::NoMemory;
-
-/// Appends bytes.
-fn append(text: &mut Vec<u8>, bytes: &[u8]) -> Result<(), NoMemory>
-    ensures { OnOk result (text.new.items ≡ text.old.items ++ bytes.now) }
-{
-    text.extend_from_slice(bytes)?;
-    Ok(())
-}
 
 /// Appends two digits for each byte.
 fn append_digits(text: &mut Vec<u8>, bytes: &[u8]) -> Result<(), NoMemory>
     ensures { OnOk result (text.new.items ≡ text.old.items ++ flat_map hex_byte bytes.now) }
 {
     for byte in bytes {
-        append(text, &hex_of_byte(*byte))?;
+        put_text(text, &hex_of_byte(*byte))?;
     }
     Ok(())
 }
@@ -33,10 +25,10 @@ fn append_field(text: &mut Vec<u8>, field: &[u8]) -> Result<(), NoMemory>
     ensures { OnOk result (text.new.items ≡ text.old.items ++ (field_text field.now ++ 32 ∷ [])) }
 {
     if field.is_empty() {
-        return append(text, b"- ");
+        return put_text(text, b"- ");
     }
     append_digits(text, field)?;
-    append(text, b" ")
+    put_text(text, b" ")
 }
 
 /// The line of a header, with its end. The size is not looked at.
@@ -44,13 +36,13 @@ pub fn header_line(alloc: Global, head: &Head<'_>) -> Result<Vec<u8>, NoMemory>
     ensures { IfOk result (λ text. text.items ≡ bit_text (contents_of head.now) ++ 10 ∷ []) }
 {
     let mut text = Vec::new(alloc);
-    append(&mut text, b"bit ")?;
+    put_text(&mut text, b"bit ")?;
     append_field(&mut text, head.a)?;
     append_field(&mut text, head.b)?;
     append_field(&mut text, head.c)?;
     append_field(&mut text, head.d)?;
     make_room(&mut text, 20)?;
     put_decimal(&mut text, u64::from(head.length));
-    append(&mut text, b"\n")?;
+    put_text(&mut text, b"\n")?;
     Ok(text)
 }

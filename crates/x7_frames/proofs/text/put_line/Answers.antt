@@ -9,4 +9,4 @@ returns c =
     line_put c.args.text.now.items c.reserve.new.self.items c.put.new.text.items c.put-2.new.text.items c.put-3.new.text.items c.reserve-2.new.self.items c.put_words.new.text.items c.put-4.new.text.items
     (codes "frame ") (hex_word c.args.far) (32 ∷ []) (flat_map hex_word c.args.words.now) (10 ∷ [])
     c.reserve.ensures.items c.put.ensures.appends.items (c.put-2.ensures.appends.items ∙ ap (λ (t : List ℕ). c.put.new.text.items ++ t) c.hex_of_word.ensures) c.put-3.ensures.appends.items
-    c.reserve-2.ensures.items c.put_words.ensures.items c.put-4.ensures.appends.items
+    c.reserve-2.ensures.items c.put_words.ensures.appends.items c.put-4.ensures.appends.items

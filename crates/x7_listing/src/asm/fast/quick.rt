@@ -23,7 +23,7 @@ const NOP_BYTES: &[u8; 32] =
     b"\x20\0\0\0\x20\0\0\0\x20\0\0\0\x20\0\0\0\x20\0\0\0\x20\0\0\0\x20\0\0\0\x20\0\0\0";
 
 /// How many bytes of a text are looked at: as many as the longest line that is read at once has, with its end.
-pub(crate) const LOOK: usize = 77;
+pub(crate) const LOOK_SIZE: usize = 77;
 
 /// Some whole lines that were read: how many bytes of the text they are, and how many lines.
 #[derive(Clone, Copy, Drop)]
@@ -34,7 +34,7 @@ pub(crate) struct WholeLines {
 
 /// Appends the bytes of eight no-ops, if their lines begin the text.
 #[inline(always)]
-fn put_nops(out: &mut Vec<u8>, text: &[u8; LOOK]) -> Option<WholeLines>
+fn put_nops(out: &mut Vec<u8>, text: &[u8; LOOK_SIZE]) -> Option<WholeLines>
     requires room { HasRoomForLine out.old }
     ensures { Looks text.now out.old out.new result }
 {
@@ -77,7 +77,7 @@ fn both(a: u8x16, b: u8x16) -> u8x32
 
 /// What stands where a full `data` line has its digits.
 #[inline(always)]
-fn row_digits(text: &[u8; LOOK]) -> [u8; 64]
+fn row_digits(text: &[u8; LOOK_SIZE]) -> [u8; 64]
     ensures { result ≡ flat_map (λ (word : List ℕ). word) (words_in_row text.now 4 8) }
 {
     let low = both(two_eights(text, 5, 14), two_eights(text, 23, 32));
@@ -95,7 +95,7 @@ fn row_digits(text: &[u8; LOOK]) -> [u8; 64]
 
 /// Whether spaces stand where a `data` line of this many words has them.
 #[inline(always)]
-fn has_spaces(text: &[u8; LOOK], count: usize) -> bool
+fn has_spaces(text: &[u8; LOOK_SIZE], count: usize) -> bool
     requires in_row { count ≤ row_words }
     ensures { IsTrue result → (k : ℕ) → k < count → slice_index text.now (4 + 9 * k) ≡ 32 }
 {
@@ -109,7 +109,7 @@ fn has_spaces(text: &[u8; LOOK], count: usize) -> bool
 
 /// Whether spaces stand so, with the loop of a full row, which is the longest, laid out by the compiler.
 #[inline(always)]
-fn is_spaced(text: &[u8; LOOK], count: usize) -> bool
+fn is_spaced(text: &[u8; LOOK_SIZE], count: usize) -> bool
     requires in_row { count ≤ row_words }
     ensures { IsTrue result → (k : ℕ) → k < count → slice_index text.now (4 + 9 * k) ≡ 32 }
 {
@@ -121,7 +121,7 @@ fn is_spaced(text: &[u8; LOOK], count: usize) -> bool
 
 /// Whether a text begins with the word `data`.
 #[inline(always)]
-fn is_data(text: &[u8; LOOK]) -> bool
+fn is_data(text: &[u8; LOOK_SIZE]) -> bool
     ensures { IsTrue result → take 4 text.now ≡ codes "data" }
 {
     [text[0], text[1], text[2], text[3]] == *b"data"
@@ -129,7 +129,7 @@ fn is_data(text: &[u8; LOOK]) -> bool
 
 /// Appends the bytes of a `data` line of one to eight words, if one begins the text.
 #[inline(always)]
-fn put_data_row(out: &mut Vec<u8>, text: &[u8; LOOK]) -> Option<WholeLines>
+fn put_data_row(out: &mut Vec<u8>, text: &[u8; LOOK_SIZE]) -> Option<WholeLines>
     requires room { HasRoomForLine out.old }
     ensures { Looks text.now out.old out.new result }
 {
@@ -152,7 +152,7 @@ fn put_data_row(out: &mut Vec<u8>, text: &[u8; LOOK]) -> Option<WholeLines>
 
 /// Whether a text begins with the word of a `bytes` line and the space after it.
 #[inline(always)]
-fn is_bytes(text: &[u8; LOOK]) -> bool
+fn is_bytes(text: &[u8; LOOK_SIZE]) -> bool
     ensures { IsTrue result → take 6 text.now ≡ codes "bytes " }
 {
     [text[0], text[1], text[2], text[3], text[4], text[5]] == *b"bytes "
@@ -160,7 +160,7 @@ fn is_bytes(text: &[u8; LOOK]) -> bool
 
 /// The 64 bytes after the first six.
 #[inline(always)]
-fn after_word(text: &[u8; LOOK]) -> [u8; 64]
+fn after_word(text: &[u8; LOOK_SIZE]) -> [u8; 64]
     ensures { result ≡ take 64 (drop 6 text.now) }
 {
     u8x64::from_slice(&text[6..]).to_array()
@@ -168,7 +168,7 @@ fn after_word(text: &[u8; LOOK]) -> [u8; 64]
 
 /// Appends the bytes of a `bytes` line, if one begins the text.
 #[inline(always)]
-fn put_bytes(out: &mut Vec<u8>, text: &[u8; LOOK]) -> Option<WholeLines>
+fn put_bytes(out: &mut Vec<u8>, text: &[u8; LOOK_SIZE]) -> Option<WholeLines>
     requires room { HasRoomForLine out.old }
     ensures { Looks text.now out.old out.new result }
 {
@@ -204,7 +204,7 @@ fn place_of(byte: u8, bytes: u8x16) -> usize {
 
 /// Appends the bytes of a `write` line with a count of one digit, if one begins the text.
 #[inline(always)]
-fn put_write(out: &mut Vec<u8>, text: &[u8; LOOK]) -> Option<WholeLines>
+fn put_write(out: &mut Vec<u8>, text: &[u8; LOOK_SIZE]) -> Option<WholeLines>
     requires room { HasRoomForLine out.old }
     ensures { Looks text.now out.old out.new result }
 {
@@ -224,7 +224,7 @@ fn put_write(out: &mut Vec<u8>, text: &[u8; LOOK]) -> Option<WholeLines>
 
 /// Appends the bytes of the two lines of a write of one word, or of a `write` line, if they begin the text.
 #[inline(always)]
-fn put_writes(out: &mut Vec<u8>, text: &[u8; LOOK]) -> Option<WholeLines>
+fn put_writes(out: &mut Vec<u8>, text: &[u8; LOOK_SIZE]) -> Option<WholeLines>
     requires room { HasRoomForLine out.old }
     ensures { Looks text.now out.old out.new result }
 {
@@ -236,7 +236,7 @@ fn put_writes(out: &mut Vec<u8>, text: &[u8; LOOK]) -> Option<WholeLines>
 
 /// Appends the bytes of some first lines of the text, if they are of those that are read at once.
 #[inline(always)]
-fn put_some(out: &mut Vec<u8>, text: &[u8; LOOK]) -> Option<WholeLines>
+fn put_some(out: &mut Vec<u8>, text: &[u8; LOOK_SIZE]) -> Option<WholeLines>
     requires room { HasRoomForLine out.old }
     ensures { Looks text.now out.old out.new result }
 {
@@ -262,7 +262,7 @@ fn put_quick(out: &mut Vec<u8>, text: &[u8]) -> WholeLines
         if out.len() > ASM_LIMIT - 32 {
             return all;
         }
-        let Some((first, _)) = text[all.size..].split_first_chunk::<LOOK>() else {
+        let Some((first, _)) = text[all.size..].split_first_chunk::<LOOK_SIZE>() else {
             return all;
         };
         let Some(taken) = put_some(out, first) else {

@@ -8,7 +8,7 @@ ghost use Rattle.x7_listing.specs.Fast.AtOnce.{bytes_differ, row_text};
 ghost use Rattle.x7_listing.specs.Assembling.{HasRoomForLine};
 ghost use Rattle.x7_listing.specs.Fast.Looking.{Looks};
 
-use super::quick::{LOOK, WholeLines};
+use super::quick::{LOOK_SIZE, WholeLines};
 use crate::line::{command_row, write_row};
 use std::simd::prelude::*;
 use x7_packets::type1_write;
@@ -19,7 +19,7 @@ use x7_words::bytes_of;
 /// The factor by which the first four bytes of a name give its place in a table of
 /// 64, the highest six bits of the product:
 /// no two registers have one place, nor two commands. `bench/name_tables.py` makes the tables.
-const SPREAD: u32 = 0x3F20_35EB;
+const SPREAD_FACTOR: u32 = 0x3F20_35EB;
 
 /// The register numbers by the places of their names, of which a space ends the short ones. A place of no name has 0.
 #[rattlefmt::skip]
@@ -42,17 +42,17 @@ static COMMANDS: [u8; 64] = [
 
 /// The number below 32 that a table has for the name from `at` on. Of what is no name it gives any.
 #[inline(always)]
-fn number_at(table: &[u8; 64], text: &[u8; LOOK], at: usize) -> u8
-    requires { at + 4 ≤ LOOK }
+fn number_at(table: &[u8; 64], text: &[u8; LOOK_SIZE], at: usize) -> u8
+    requires { at + 4 ≤ LOOK_SIZE }
     ensures { result < 32 }
 {
     let name = u32::from_le_bytes([text[at], text[at + 1], text[at + 2], text[at + 3]]);
-    table[(name.wrapping_mul(SPREAD) >> 26) as usize] & 31
+    table[(name.wrapping_mul(SPREAD_FACTOR) >> 26) as usize] & 31
 }
 
 /// A bit for each of the first 32 bytes that differs from that of a row, that of the first byte lowest.
 #[inline(always)]
-pub(crate) fn differences(text: &[u8; LOOK], row: &[u8; 32]) -> u64
+pub(crate) fn differences(text: &[u8; LOOK_SIZE], row: &[u8; 32]) -> u64
     ensures { result ≡ mask_l (zip2 bytes_differ (chunk 0 32 text.now) row.now) }
 {
     u8x32::from_slice(text)
@@ -62,7 +62,7 @@ pub(crate) fn differences(text: &[u8; LOOK], row: &[u8; 32]) -> u64
 
 /// How long the text of a row is, if the text begins with it.
 #[inline(always)]
-fn begun(text: &[u8; LOOK], row: &[u8; 32]) -> Option<usize>
+fn begun(text: &[u8; LOOK_SIZE], row: &[u8; 32]) -> Option<usize>
     ensures { IfSome result (λ size. (size ≤ 32) × (take size text.now ≡ row_text row.now)) }
 {
     let size = row[31] as usize;
@@ -84,7 +84,7 @@ fn put_two(out: &mut Vec<u8>, one: u32, other: u32)
 
 /// Appends the bytes of a write of one word to this register, if its two lines begin the text.
 #[inline(always)]
-fn put_word_pair(out: &mut Vec<u8>, text: &[u8; LOOK], register: u8) -> Option<WholeLines>
+fn put_word_pair(out: &mut Vec<u8>, text: &[u8; LOOK_SIZE], register: u8) -> Option<WholeLines>
     requires range { register < 32 }
     requires room { HasRoomForLine out.old }
     ensures { Looks text.now out.old out.new result }
@@ -107,7 +107,7 @@ fn put_word_pair(out: &mut Vec<u8>, text: &[u8; LOOK], register: u8) -> Option<W
 
 /// Appends the bytes of a write of this code to CMD, if its two lines begin the text.
 #[inline(always)]
-fn put_command_pair(out: &mut Vec<u8>, text: &[u8; LOOK], code: u32) -> Option<WholeLines>
+fn put_command_pair(out: &mut Vec<u8>, text: &[u8; LOOK_SIZE], code: u32) -> Option<WholeLines>
     requires range { code < 32 }
     requires room { HasRoomForLine out.old }
     ensures { Looks text.now out.old out.new result }
@@ -121,7 +121,7 @@ fn put_command_pair(out: &mut Vec<u8>, text: &[u8; LOOK], code: u32) -> Option<W
 
 /// Appends the bytes of a write of one word, if its two lines begin the text.
 #[inline(always)]
-pub(crate) fn put_pair(out: &mut Vec<u8>, text: &[u8; LOOK]) -> Option<WholeLines>
+pub(crate) fn put_pair(out: &mut Vec<u8>, text: &[u8; LOOK_SIZE]) -> Option<WholeLines>
     requires room { HasRoomForLine out.old }
     ensures { Looks text.now out.old out.new result }
 {

@@ -28,10 +28,10 @@ use x7_text::{bytes_line, data_line, hex_of_word, put};
 const FREE_SIZE: usize = 256;
 
 /// How many no-ops at most are put on a sheet at once.
-const FEW: usize = 32;
+const MOST_NOPS: usize = 32;
 
 /// The lines of as many no-ops as are put on a sheet at once.
-static NOPS: [[u8; 4]; FEW] = [*b"nop\n"; FEW];
+static NOPS: [[u8; 4]; MOST_NOPS] = [*b"nop\n"; MOST_NOPS];
 
 /// Where the text of a sheet ends, and the words of the open line then.
 #[derive(Clone, Copy)]
@@ -275,7 +275,7 @@ fn put_short_write(
 #[inline(always)]
 fn put_few_nops(sheet: &mut [u8; SHEET_SIZE], len: usize, in_line: OpenWords, count: usize) -> Next
     requires some { 0 < count }
-    requires in_table { count ≤ FEW }
+    requires in_table { count ≤ MOST_NOPS }
     requires room { len + nops_size ≤ SHEET_SIZE }
     ensures size { result.size ≡ 4 * count }
     ensures len { result.len ≤ len + (4 * count + 1) }
@@ -335,7 +335,7 @@ fn take_next(
         let write = ShortWrite { register, count };
         return Some(put_short_write(sheet, len, in_line, write, rest));
     }
-    let nops = cutter.nop_count(&rest[..rest.len().min(4 * FEW)]);
+    let nops = cutter.nop_count(&rest[..rest.len().min(4 * MOST_NOPS)]);
     if nops > 0 {
         return Some(put_few_nops(sheet, len, in_line, nops));
     }

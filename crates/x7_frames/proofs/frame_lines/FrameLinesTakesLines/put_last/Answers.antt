@@ -12,7 +12,7 @@ returns-in-Ok-clause-read c = λ first lines m t text is.
       rows = new.rows;
       good = subst (λ ls. AreGood first.part ls new.rows) (sym is) read.1;
       same = c.finish.ensures.rows;
-      is = c.finish.ensures.plan;
+      is_plan = c.finish.ensures.plan;
       width = c.finish.ensures.width ∙ ap frame_words read.0;
     }
 

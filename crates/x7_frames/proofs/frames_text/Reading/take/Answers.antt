@@ -32,7 +32,7 @@ returns-then-index-clause-fault c =
       refl,
       record {
         row = record { far = c.in-Some.far; words = c.read_frame.new.frame.items };
-        is = subst (λ (w : ℕ). IsFrameLine w c.args.line.now record { far = c.in-Some.far; words = c.read_frame.new.frame.items }) c.words.ensures.value c.in-Some.ensures.value;
+        frame = subst (λ (w : ℕ). IsFrameLine w c.args.line.now record { far = c.in-Some.far; words = c.read_frame.new.frame.items }) c.words.ensures.value c.in-Some.ensures.value;
         address = (r, at.0, get_or_default (addresses_in c.args.part.now) r c.in-Some.far 0 at.0 ∙ at.1);
         repeated = subst (λ (a : ℕ). Contains (planned_addresses c.args.self.now.draft.rows) a) at.1
             ((c.requires.marks.at r (omega (arith, at.0, long))).0
@@ -54,7 +54,7 @@ returns-clause-taken c =
     let row : PlanRow = record { far = c.in-Some.far; words = c.read_frame.new.frame.items } in
     inr record {
       row = row;
-      is = subst (λ (w : ℕ). IsFrameLine w c.args.line.now row) c.words.ensures.value c.in-Some.ensures.value;
+      frame = subst (λ (w : ℕ). IsFrameLine w c.args.line.now row) c.words.ensures.value c.in-Some.ensures.value;
       address = (r, at.0, get_or_default (addresses_in c.args.part.now) r c.in-Some.far 0 at.0 ∙ at.1);
       apart = λ has. false≢true (sym c.if-index.false ∙ c.index.ensures ∙ get_or_default c.args.self.now.marks.items r c.index.result.now false (omega (arith, at.0, long))
           ∙ (c.requires.marks.at r (omega (arith, at.0, long))).1 (subst (λ (a : ℕ). Contains (planned_addresses c.args.self.now.draft.rows) a) (sym at.1) has));
@@ -78,7 +78,7 @@ returns-in_err-push-clause-memory c =
       rows ++ row ∷ [],
       inr record {
         row = row;
-        is = subst (λ (w : ℕ). IsFrameLine w c.args.line.now row) c.words.ensures.value c.in-Some.ensures.value;
+        frame = subst (λ (w : ℕ). IsFrameLine w c.args.line.now row) c.words.ensures.value c.in-Some.ensures.value;
         address = (r, at.0, get_or_default (addresses_in c.args.part.now) r c.in-Some.far 0 at.0 ∙ at.1);
         apart = λ has. false≢true (sym c.if-index.false ∙ c.index.ensures ∙ get_or_default c.args.self.now.marks.items r c.index.result.now false (omega (arith, at.0, long))
             ∙ (c.requires.marks.at r (omega (arith, at.0, long))).1 (subst (λ (a : ℕ). Contains (planned_addresses rows) a) (sym at.1) has));

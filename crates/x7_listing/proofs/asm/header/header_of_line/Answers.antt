@@ -38,8 +38,8 @@ returns-in_default-5 c = record {
   short = tt;
 }
 
-pub returns-in_default-decimal_below : goal.returns-in_default-decimal_below
-returns-in_default-decimal_below c = record {
+pub returns-in_default-number_of_decimal : goal.returns-in_default-number_of_decimal
+returns-in_default-number_of_decimal c = record {
   found = λ x held e.
       let a = some_of _ _ c.in_ok-a.field-0 _ c.in-Some-2.is c.in_ok-a.ensures in
       let b = some_of _ _ c.in_ok-b.field-0 _ c.in-Some-3.is c.in_ok-b.ensures in
@@ -50,7 +50,7 @@ returns-in_default-decimal_below c = record {
       let in_c = after_field c.in-Some-2.rest.now c.in-Some-3.b.items c.in-Some-3.rest.now x.b (after_b x) b.0 held.b b.1 in_b in
       let in_d = after_field c.in-Some-3.rest.now c.in-Some-4.c.items c.in-Some-4.rest.now x.c (after_c x) d.0 held.c d.1 in_c in
       let in_e = after_field c.in-Some-4.rest.now c.in-Some-5.d.items c.in-Some-5.digits.now x.d (decimal x.data_length) l.0 held.d l.1 in_d in
-      c.in_default-decimal_below.ensures x.data_length held.have.data_length in_e;
+      c.in_default-number_of_decimal.ensures x.data_length held.have.data_length in_e;
   short = tt;
 }
 
@@ -60,6 +60,6 @@ returns c =
     let b = some_of _ _ c.in_ok-b.field-0 _ c.in-Some-3.is c.in_ok-b.ensures in
     let d = some_of _ _ c.in_ok-c.field-0 _ c.in-Some-4.is c.in_ok-c.ensures in
     let l = some_of _ _ c.in_ok-d.field-0 _ c.in-Some-5.is c.in_ok-d.ensures in
-    let is = lent_header c.in-Some-2.a.items c.in-Some-3.b.items c.in-Some-4.c.items c.in-Some-5.d.items c.deref.result.now c.deref-2.result.now c.deref-3.result.now c.deref-4.result.now c.in-Some-decimal_below.length c.in_ok-write_header.field-0.items c.deref.ensures.value c.deref-2.ensures.value c.deref-3.ensures.value c.deref-4.ensures.value c.in_ok-write_header.ensures.bytes in
-    let made = header_made c.args.line.now c.in-Some.fields.now c.in-Some-2.rest.now c.in-Some-3.rest.now c.in-Some-4.rest.now c.in-Some-5.digits.now (contents c.in-Some-2.a.items c.in-Some-3.b.items c.in-Some-4.c.items c.in-Some-5.d.items c.in-Some-decimal_below.length) c.in_ok-write_header.field-0.items c.in-Some.ensures a b d l c.in-Some-decimal_below.ensures is in
+    let is = lent_header c.in-Some-2.a.items c.in-Some-3.b.items c.in-Some-4.c.items c.in-Some-5.d.items c.deref.result.now c.deref-2.result.now c.deref-3.result.now c.deref-4.result.now c.in-Some-number_of_decimal.length c.in_ok-write_header.field-0.items c.deref.ensures.value c.deref-2.ensures.value c.deref-3.ensures.value c.deref-4.ensures.value c.in_ok-write_header.ensures.bytes in
+    let made = header_made c.args.line.now c.in-Some.fields.now c.in-Some-2.rest.now c.in-Some-3.rest.now c.in-Some-4.rest.now c.in-Some-5.digits.now (contents c.in-Some-2.a.items c.in-Some-3.b.items c.in-Some-4.c.items c.in-Some-5.d.items c.in-Some-number_of_decimal.length) c.in_ok-write_header.field-0.items c.in-Some.ensures a b d l c.in-Some-number_of_decimal.ensures is in
     record { found = made; short = omega (arith, c.in_ok-write_header.field-0.ok.0, header_short c.args.line.now c.in_ok-write_header.field-0.items made) }
