@@ -147,11 +147,11 @@ def of_no_sync(source):
 
 def damaged_sync(data, packets):
     """What became of the sync word before packets."""
-    front = data[max(packets - 64, 0) : packets]
-    for at in range(0, len(front) - 3):
-        differs = int.from_bytes(front[at : at + 4], "big") ^ 0xAA995566
+    before = data[max(packets - 64, 0) : packets]
+    for at in range(0, len(before) - 3):
+        differs = int.from_bytes(before[at : at + 4], "big") ^ 0xAA995566
         if bin(differs).count("1") <= 4:
-            return f"it is damaged: {front[at:at + 4].hex().upper()} stands where it should"
+            return f"it is damaged: {before[at:at + 4].hex().upper()} stands where it should"
     return "the beginning of the stream is lost"
 
 
@@ -213,12 +213,12 @@ def of_belonging(subject):
             f"'{' '.join(report.end)}', and these end at byte {stopped.taken} as '{' '.join(stopped.end)}'",
             again, None,
         )
-    front = subject.device if report.taken == subject.device.taken else Device(report.registers.get("IDCODE")).play(subject.data[: report.taken])
+    played = subject.device if report.taken == subject.device.taken else Device(report.registers.get("IDCODE")).play(subject.data[: report.taken])
     for name in SAME:
-        if name in report.registers and report.registers[name] != front.registers[name]:
+        if name in report.registers and report.registers[name] != played.registers[name]:
             return cause(
                 f"the report is of other streams than these: it has {name} {report.registers[name]:08X}, and these make it "
-                f"{front.registers[name]:08X}",
+                f"{played.registers[name]:08X}",
                 again, None,
             )
     return None
@@ -562,8 +562,8 @@ def of_play(subject):
 
 def of_iprog(subject):
     """The cause where a stream leads on."""
-    fate, front = subject.fate, subject.data[:40]
-    if all(part in front for part in SLOT):
+    fate, beginning = subject.fate, subject.data[:40]
+    if all(part in beginning for part in SLOT):
         return cause(
             f"this is a flash image: its first sector leads on to flash address {fate.end[1]} (IPROG)",
             "x7 boot PART FLASH > REPORT, and then why STREAM REPORT", "It falls back",
@@ -640,8 +640,8 @@ def of_started_boot(subject, path, leads):
 
 def is_golden_alone(subject):
     """Whether the one attempt took the golden stream after a first sector: by the bytes taken, or by the first bytes of a listed flash."""
-    total, taken, front = len(subject.data), subject.report.taken, subject.data[:40]
-    return all(part in front for part in SLOT) or max(SECTOR, total) < taken <= SECTOR + total
+    total, taken, beginning = len(subject.data), subject.report.taken, subject.data[:40]
+    return all(part in beginning for part in SLOT) or max(SECTOR, total) < taken <= SECTOR + total
 
 
 def of_svf(subject):
@@ -752,7 +752,7 @@ def notes_of(subject, found):
 
 def length_of(subject, found):
     """Says where a header tells of more or fewer bytes than there are: of the stream at fault, or of the first such one."""
-    if found and found.section == "A stream that ends early" and "cut off" in found.cause or found and "cut off" in found.cause:
+    if found and "cut off" in found.cause:
         return ""
     wanted = [found.source] if found and found.source else subject.sources
     for source in wanted:

@@ -69,7 +69,8 @@ def kind_of(raw):
 BITS = bytes(int(f"{byte:08b}"[::-1], 2) for byte in range(256))
 NIBBLES = bytes(byte >> 4 | (byte & 15) << 4 for byte in range(256))
 INVERTED = bytes(255 - byte for byte in range(256))
-FRONT = 1 << 18
+# by so many first bytes a way is judged
+JUDGED = 1 << 18
 
 
 def exchanged(data, size, order):
@@ -118,19 +119,19 @@ Turned = namedtuple("Turned", "way offset")
 
 def turning_of(data):
     """The way back, and from which byte on, that makes a stream of data, or none."""
-    front = data[:FRONT]
+    beginning = data[:JUDGED]
     for way in WAYS:
         for offset in range(way.size):
-            if reads(front[:offset] + way.back(front[offset:])):
+            if reads(beginning[:offset] + way.back(beginning[offset:])):
                 return Turned(way, offset)
     return None
 
 
 def late_by(data):
     """By how many bits the data are late, or none."""
-    front = data[:4096]
+    beginning = data[:4096]
     for bits in range(1, 8):
-        if x7.SYNC in (int.from_bytes(front, "big") << bits).to_bytes(len(front) + 1, "big"):
+        if x7.SYNC in (int.from_bytes(beginning, "big") << bits).to_bytes(len(beginning) + 1, "big"):
             return bits
     return None
 

@@ -51,7 +51,7 @@ def command(name):
     return ["write CMD 1", f"cmd {name}"]
 
 
-def front():
+def beginning():
     """The words before the frames."""
     lines = [*HEAD, "write TIMER 1", "data 00000000", "write WBSTAR 1", "data 00000000", *command("NULL"), "nop", *command("RCRC"), "nop", "nop"]
     lines += ["write COR0 1", "data 02003FE5", "write COR1 1", "data 00000000", "write IDCODE 1", f"data {IDCODE:08X}", *command("SWITCH"), "nop"]
@@ -68,12 +68,12 @@ def end():
 def full():
     """The lines of an uncompressed stream."""
     words = [it for number, far in enumerate(part().slots()) for it in (frame(number) if far is not None else [0] * x7.FRAME_WORDS)]
-    return [*front(), "write FAR 1", "data 00000000", *command("WCFG"), "nop", "write FDRI 0", f"write2 {len(words)}", *data_lines(words), *end()]
+    return [*beginning(), "write FAR 1", "data 00000000", *command("WCFG"), "nop", "write FDRI 0", f"write2 {len(words)}", *data_lines(words), *end()]
 
 
 def compressed():
     """The lines of a compressed stream: one content, copied to all other places."""
-    lines, addresses = front(), part().addresses()
+    lines, addresses = beginning(), part().addresses()
     lines += ["write FAR 1", f"data {addresses[0]:08X}", *command("WCFG"), "nop", f"write FDRI {x7.FRAME_WORDS}", *data_lines(frame(1)), *command("MFW")] + ["nop"] * 12
     for far in addresses:
         lines += ["write FAR 1", f"data {far:08X}", "write MFWR 4", *data_lines([0] * 4)]

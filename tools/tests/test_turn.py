@@ -38,9 +38,9 @@ def ways():
         turned(f"{way.what}, a raw file", raw, DATA, f"{way.what} {way.how}")
         turned(f"{way.what}, after three bytes", b"abc" + raw, DATA)
         for length in range(8):
-            front = streams.header(len(DATA), design="m" * length)
-            turned(f"{way.what}, after a header of {len(front)} bytes", front + raw, front + DATA)
-            turned(f"{way.what}, a whole file of {len(front)} bytes more", way.back(front + DATA), DATA)
+            head = streams.header(len(DATA), design="m" * length)
+            turned(f"{way.what}, after a header of {len(head)} bytes", head + raw, head + DATA)
+            turned(f"{way.what}, a whole file of {len(head)} bytes more", way.back(head + DATA), DATA)
 
 
 def rbt(lines, bits=None):

@@ -49,7 +49,7 @@ GOOD_ONES = [
     ("a .bit file", [RAW]),
     ("a raw file", [DATA]),
     ("a compressed one", [s.bit(SMALL)]),
-    ("bytes in front", [b"\x12\x34\x56" + DATA]),
+    ("bytes before it", [b"\x12\x34\x56" + DATA]),
     ("another version", [s.bit(s.with_data(FULL, "IDCODE", "1362D093"))]),
     ("no-ops after DESYNC lost", [RAW[:-400]]),
     ("full and partial", [RAW, s.bit(PARTIAL)]),
@@ -62,7 +62,7 @@ BAD = [
     ("cut in FF", [RAW[: HEADER + 20]], "cut off before its sync word"),
     ("cut before the sync word", [RAW[: HEADER + 44]], "cut off before its sync word"),
     ("cut after DESYNC", [RAW[: HEADER + DESYNC + 20]], "end in phase 3"),
-    ("a front lost", [DATA[60:]], "packets follow from byte"),
+    ("its beginning lost", [DATA[60:]], "packets follow from byte"),
     ("the sync word damaged", [RAW.replace(x7.SYNC, b"\xaa\x99\x55\x67", 1)], "it is damaged: AA995567"),
     ("another device", [s.bit(s.with_data(FULL, "IDCODE", "0362C093"))], r"0362C093 \(xc7a50t\).*7a35tcpg236"),
     ("another family by its header", [s.bit(FULL, "6slx9tqg144")], "Spartan-6"),
@@ -248,7 +248,7 @@ def refused():
         tally.same(f"why {how}", os.system(f"{os.sys.executable} {script} {stream} {how} 2>/dev/null" if "2>" not in how else f"{os.sys.executable} {script} {stream} {how}") >> 8, status)
     for size in range(0, 1200, 83):
         lists = "".join(f"{it}\n" for it in x7.listing_of(x7.stream_of(RAW))).encode()[:size]
-        status, out, err = called("why", in_file(lists, "front.list"))
+        status, out, err = called("why", in_file(lists, "beginning.list"))
         tally.check(f"the first {size} bytes of a listing", status in (1, 2) and "Traceback" not in err, err)
 
 

@@ -1,4 +1,5 @@
--- The fields of a scan, and what it says (this project's profile of SVF).
+-- The fields of a scan, and what it says (this project's profile of SVF). After the number of bits come the fields, in
+-- any order and each at most once: a field's name, `(`, hexadecimal digits, at least one, which blanks may part, and `)`.
 use Rattle.std.specs.Prelude.{ℕ, ◌+◌, ◌*◌, ◌^◌, ◌==◌, ◌||◌, ◌&&◌, nat_le, nat_lt, Bool, true, false, if◌then◌else◌, List, [], ◌∷◌, ◌++◌, Option, Some, None, codes, length}
 use Rattle.std.specs.List.{list_all}
 use Rattle.x7_svf.specs.Token.{Token, Word, Open, Close, End}
@@ -10,7 +11,7 @@ use Rattle.x7_svf.specs.declared.statement.Statement.TheVariants as statement
 use Rattle.x7_svf.specs.declared.fields.Field.{Field}
 use Rattle.x7_svf.specs.declared.fields.Field.TheVariants as field
 
--- a field's name
+-- the field of a name, in either case
 abbrev pub field_by_name : List ℕ → Option Field
 field_by_name w =
     if is_key w (codes "TDI") then Some field.Tdi
@@ -26,7 +27,7 @@ is_hex c = is_digit c || (nat_le 65 c && nat_le c 70) || (nat_le 97 c && nat_le 
 abbrev pub are_hex : List ℕ → Bool
 are_hex w = list_all is_hex w
 
--- between fields, after a field's name, or inside its brackets after these digits
+-- where a reader of a scan stands: between fields, after a field's name, or inside its brackets after these digits
 pub data At : Type 0 where
   Between : At
   Named : (field : Field) → At
@@ -49,7 +50,7 @@ abbrev pub is_none : Option (List ℕ) → Bool
 is_none None = true
 is_none (Some ds) = false
 
--- a field more, each at most once
+-- the fields with one more, and none where it is among them
 abbrev pub put_field : Fields → Field → List ℕ → Option Fields
 put_field f field.Tdi ds = if is_none f.tdi then Some (record f { tdi = Some ds }) else None
 put_field f field.Tdo ds = if is_none f.tdo then Some (record f { tdo = Some ds }) else None
@@ -61,7 +62,7 @@ abbrev pub after_name : Fields → Option Field → Option Scanning
 after_name f None = None
 after_name f (Some k) = Some (record { at = Named k; fields = f })
 
--- a field more, which has at least one digit
+-- the fields with one more, which has at least one digit
 abbrev pub closed_field : Fields → Field → List ℕ → Option Fields
 closed_field f k ds = if nat_lt 0 (length ds) then put_field f k ds else None
 
@@ -70,7 +71,7 @@ abbrev pub closed_by : Option Fields → Option Scanning
 closed_by None = None
 closed_by (Some f) = Some (record { at = Between; fields = f })
 
--- what a token more comes to
+-- where a reader of a scan stands after one token more, and the fields then; none where no scan goes on so
 abbrev pub scan_step : At → Fields → Token → Option Scanning
 scan_step Between f (Word w) = after_name f (field_by_name w)
 scan_step (Named k) f Open = Some (record { at = Inside k []; fields = f })
@@ -141,7 +142,7 @@ scan_by register n (Some f) = if all_fit n f then with_tdi register n f f.tdi el
 abbrev pub most_bits : ℕ
 most_bits = 536870912
 
--- how many bits a scan has
+-- a scan's number of bits, which is not 0
 abbrev pub some_bits : Option ℕ → Option ℕ
 some_bits None = None
 some_bits (Some n) = if n == 0 then None else Some n

@@ -10,7 +10,7 @@ use Rattle.x7_svf.specs.declared.stored.StoredScan.{StoredScan}
 use Rattle.x7_svf.specs.declared.stored.Stored.{Stored}
 use Rattle.x7_svf.specs.declared.stored.Stored.TheVariants as stored
 
--- the scan whose digits are kept, each field as this many bits
+-- the scan that is stored: the digits of each field, which are among those kept, as the scan's number of bits
 abbrev pub scan_in : List ℕ → StoredScan → Statement
 scan_in kept s = statement.Scan (record { register = s.register; tdi = bits_of s.count (bytes_in kept s.tdi); tdo = bits_option s.count (digits_if kept s.tdo); mask = bits_option s.count (digits_if kept s.mask) })
 

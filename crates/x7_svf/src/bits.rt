@@ -7,7 +7,7 @@ use arrayvec::ArrayVec;
 use std::marker::Model;
 
 /// The most bytes that a scan gives at once.
-const PIECE: usize = 1024;
+const MOST_BYTES_AT_ONCE: usize = 1024;
 
 /// A number of bits, lowest first. They are lent as the hexadecimal digits that were given.
 #[derive(Debug, Drop)]
@@ -76,16 +76,16 @@ fn byte_from(digits: &[u8], at: u32) -> u8
     mirror(first) * 16 + mirror(second)
 }
 
-/// The bytes of the bits of digits from this one on, a multiple of eight: those that end before the
-/// last of this many bits, and at most a piece.
-fn bytes_of(digits: &[u8], count: u32, from: u32) -> ArrayVec<u8, PIECE>
+/// The bytes of the bits of digits from this one on, a multiple of eight: those that end before the last of `count`
+/// bits, and at most 1,024.
+fn bytes_of(digits: &[u8], count: u32, from: u32) -> ArrayVec<u8, MOST_BYTES_AT_ONCE>
     requires whole { from % 8 ≡ 0 }
     requires some { from + 8 < count }
     ensures some { 0 < length result.items }
     ensures inside { from + 8 * length result.items < count }
     ensures bits { bytes_bits result.items ≡ bits_from digits.now from (8 * length result.items) }
 {
-    let mut piece: ArrayVec<u8, PIECE> = ArrayVec::new();
+    let mut piece: ArrayVec<u8, MOST_BYTES_AT_ONCE> = ArrayVec::new();
     let mut at = from;
     while !piece.is_full() && count - at > 8 {
         piece.push(byte_from(digits, at));
@@ -119,9 +119,9 @@ impl<'t> Bits<'t> {
         Some(bit_in(self.digits, i))
     }
 
-    /// The bytes of the bits from this one on, a multiple of eight: those that end
-    /// before the last bit, and at most a piece.
-    pub fn bytes_from(&self, from: u32) -> ArrayVec<u8, PIECE>
+    /// The bytes of the bits from this one on, a multiple of eight: those that end before the last bit, and at most 1,024.
+    /// The first of eight bits is the highest of its byte.
+    pub fn bytes_from(&self, from: u32) -> ArrayVec<u8, MOST_BYTES_AT_ONCE>
         requires whole { from % 8 ≡ 0 }
         requires some { from + 8 < length self.now }
         ensures some { 0 < length result.items }

@@ -43,8 +43,8 @@ fn stand_in(inside: bool, byte: u8, after: &[u8]) -> u8
 
 /// Puts blanks in the place of comments, byte for byte.
 pub(crate) fn clean(text: &mut Vec<u8>)
-    ensures is { text.new.items ≡ clean_text false text.old.items }
-    ensures long { length text.new.items ≡ length text.old.items }
+    ensures cleaned { text.new.items ≡ clean_text false text.old.items }
+    ensures length { length text.new.items ≡ length text.old.items }
 {
     let mut inside = false;
     for at in 0..text.len() {

@@ -86,9 +86,9 @@ fn are_digits(word: &[u8]) -> bool
     )
 }
 
-/// The fields and one more, which is none of them.
+/// The fields with one more; none where it is among them.
 fn put(given: Given, field: Field, digits: Span) -> Option<Given>
-    ensures is { (kept : List ℕ) → given_as kept result ≡ put_field (fields_of kept given) field (bytes_in kept digits) }
+    ensures fields { (kept : List ℕ) → given_as kept result ≡ put_field (fields_of kept given) field (bytes_in kept digits) }
     ensures within { (n : ℕ) → AreWithin n given → span_end digits ≤ n → IfSome result (AreWithin n) }
 {
     match field {
@@ -112,10 +112,10 @@ fn put(given: Given, field: Field, digits: Span) -> Option<Given>
     }
 }
 
-/// The fields and that whose digits were kept from here on, of which there is one at least.
+/// The fields with the one whose digits were kept from `from` on; none where it has no digit, or is among them.
 fn close(source: &Source, given: Given, field: Field, from: usize) -> Option<Given>
     requires from { from ≤ length source.now.kept }
-    ensures is { given_as source.now.kept result ≡ closed_field (fields_of source.now.kept given) field (drop from source.now.kept) }
+    ensures fields { given_as source.now.kept result ≡ closed_field (fields_of source.now.kept given) field (drop from source.now.kept) }
     ensures within { AreWithin (length source.now.kept) given → IfSome result (AreWithin (length source.now.kept)) }
 {
     let end = source.kept().len();
@@ -125,11 +125,11 @@ fn close(source: &Source, given: Given, field: Field, from: usize) -> Option<Giv
     put(given, field, Span::new(from, end))
 }
 
-/// A token more, which is passed, or kept where it is digits.
+/// The reader of a scan after one token more, which is passed, or kept where it is digits; none where no scan goes on so.
 fn step(source: &mut Source, scanner: Scanner, token: NextToken) -> Option<Scanner>
     requires token { token_size token ≤ length source.old.rest }
     requires within { IsWithin (length source.old.kept) scanner }
-    ensures is { scanning_of source.new.kept result ≡ scan_step (at_of source.old.kept scanner.place) (fields_of source.old.kept scanner.given) (token_of token source.old.rest) }
+    ensures scans { scanning_of source.new.kept result ≡ scan_step (at_of source.old.kept scanner.place) (fields_of source.old.kept scanner.given) (token_of token source.old.rest) }
     ensures within { IfSome result (IsWithin (length source.new.kept)) }
     ensures steps { IfSome result (λ s. StepsOver (token_size token) source.old source.new) }
 {
@@ -171,7 +171,7 @@ fn step(source: &mut Source, scanner: Scanner, token: NextToken) -> Option<Scann
 
 /// The fields of a statement that come next, each at most once. Their digits are kept.
 pub(crate) fn fields(source: &mut Source) -> Option<Given>
-    ensures is { given_as source.new.kept result ≡ scan_from Between no_fields (tokens_before_end (tokens_left source.old)) }
+    ensures fields { given_as source.new.kept result ≡ scan_from Between no_fields (tokens_before_end (tokens_left source.old)) }
     ensures within { IfSome result (AreWithin (length source.new.kept)) }
     ensures reads_on { IfSome result (λ g. ReadsOn source.old source.new) }
 {

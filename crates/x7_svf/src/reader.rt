@@ -38,7 +38,7 @@ fn is_free_token(token: NextToken, text: &[u8]) -> bool
 
 /// Whether what comes next of a statement may stand among any words; it is passed.
 fn are_free(source: &mut Source) -> bool
-    ensures is { result ≡ list_all is_free_token (tokens_before_end (tokens_left source.old)) }
+    ensures free { result ≡ list_all is_free_token (tokens_before_end (tokens_left source.old)) }
     ensures reads_on { IsTrue result → ReadsOn source.old source.new }
 {
     while let Some(token) = next_within(source) {
@@ -52,7 +52,7 @@ fn are_free(source: &mut Source) -> bool
 
 /// The statement of any words that come next, which are passed.
 fn free_statement(source: &mut Source) -> Option<Stored>
-    ensures is { IsStored source.new.kept result (some_if (list_all is_free_token (tokens_before_end (tokens_left source.old))) StatementData.Nothing) }
+    ensures says { IsStored source.new.kept result (some_if (list_all is_free_token (tokens_before_end (tokens_left source.old))) StatementData.Nothing) }
     ensures reads_on { IfSome result (λ s. ReadsOn source.old source.new) }
 {
     if are_free(source) {
@@ -77,7 +77,7 @@ fn keep_word(source: &mut Source, size: usize) -> Span
 /// What a keyword, which is kept, and the words that come next say. The words are kept too.
 fn words_statement(source: &mut Source, key: Span) -> Option<Stored>
     requires key { span_end key ≤ length source.old.kept }
-    ensures is { IsStored source.new.kept result (if_words (bytes_in source.old.kept key) (words_of (tokens_before_end (tokens_left source.old)))) }
+    ensures says { IsStored source.new.kept result (if_words (bytes_in source.old.kept key) (words_of (tokens_before_end (tokens_left source.old)))) }
     ensures reads_on { IfSome result (λ s. ReadsOn source.old source.new) }
 {
     let mut words = Words::None;
@@ -181,7 +181,7 @@ fn scan_of_fields(
 
 /// How many bits the scan has whose keyword was passed.
 fn scan_count(source: &mut Source) -> Option<u32>
-    ensures is { (register : Register) → scan_of register (tokens_before_end (tokens_left source.old)) ≡ scan_if register result (tokens_before_end (tokens_left source.new)) }
+    ensures count { (register : Register) → scan_of register (tokens_before_end (tokens_left source.old)) ≡ scan_if register result (tokens_before_end (tokens_left source.new)) }
     ensures reads_on { IfSome result (λ n. ReadsOn source.old source.new) }
 {
     let NextToken::Word(length) = next_within(source)? else {
@@ -197,7 +197,7 @@ fn scan_count(source: &mut Source) -> Option<u32>
 
 /// The scan whose keyword was passed. Its digits are kept.
 fn scan(source: &mut Source, register: ScannedRegister) -> Option<Stored>
-    ensures is { IsStored source.new.kept result (scan_of register (tokens_before_end (tokens_left source.old))) }
+    ensures says { IsStored source.new.kept result (scan_of register (tokens_before_end (tokens_left source.old))) }
     ensures reads_on { IfSome result (λ s. ReadsOn source.old source.new) }
 {
     let count = scan_count(source)?;
@@ -208,7 +208,7 @@ fn scan(source: &mut Source, register: ScannedRegister) -> Option<Stored>
 /// What a keyword, which is kept, and what comes after it say.
 fn said_by(source: &mut Source, key: Span) -> Option<Stored>
     requires key { span_end key ≤ length source.old.kept }
-    ensures is { IsStored source.new.kept result (statement_by (bytes_in source.old.kept key) (tokens_before_end (tokens_left source.old))) }
+    ensures says { IsStored source.new.kept result (statement_by (bytes_in source.old.kept key) (tokens_before_end (tokens_left source.old))) }
     ensures reads_on { IfSome result (λ s. ReadsOn source.old source.new) }
 {
     let word = key.of(source.kept());
@@ -227,7 +227,7 @@ fn said_by(source: &mut Source, key: Span) -> Option<Stored>
 /// The statement that comes next, up to its `;`. Its keyword, and the digits of
 /// a scan or the words of another, are kept.
 fn statement(source: &mut Source) -> Option<Stored>
-    ensures is { IsStored source.new.kept result (statement_of (tokens_before_end (tokens_left source.old))) }
+    ensures says { IsStored source.new.kept result (statement_of (tokens_before_end (tokens_left source.old))) }
     ensures reads_on { IfSome result (λ s. ReadsOn source.old source.new) }
     ensures passed { IfSome result (λ s. length source.new.rest < length source.old.rest) }
 {
@@ -240,7 +240,7 @@ fn statement(source: &mut Source) -> Option<Stored>
 
 /// The statement that comes next, with its `;`.
 pub(crate) fn ended_statement(source: &mut Source) -> Option<Stored>
-    ensures is { IsStored source.new.kept result (first_statement (tokens_left source.old)) }
+    ensures says { IsStored source.new.kept result (first_statement (tokens_left source.old)) }
     ensures prefix { IfSome result (λ s. StaysKept source.old.kept source.new.kept) }
     ensures after_end { IfSome result (λ s. tokens_after_end (tokens_left source.old) ≡ Some (tokens_left source.new)) }
     ensures passed { IfSome result (λ s. length source.new.rest + 2 ≤ length source.old.rest) }

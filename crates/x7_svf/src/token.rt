@@ -75,7 +75,7 @@ fn bracket_or_end(byte: u8) -> NextToken
 fn first(text: &[u8]) -> NextToken
     requires some { 0 < length text.now }
     requires begins { is_blank_byte (slice_index text.now 0) ≡ false }
-    ensures is { (line : ℕ) → tokens line text.now ≡ record { line = line; token = token_of result text.now } ∷ tokens line (drop (token_size result) text.now) }
+    ensures tokens { (line : ℕ) → tokens line text.now ≡ record { line = line; token = token_of result text.now } ∷ tokens line (drop (token_size result) text.now) }
     ensures some { 0 < token_size result }
     ensures within { token_size result ≤ length text.now }
 {
@@ -98,7 +98,7 @@ fn skip_blanks(source: &mut Source)
 
 /// The token that comes next, after blanks, which are passed; none where the text ends.
 pub(crate) fn next(source: &mut Source) -> Option<NextToken>
-    ensures is { MatchOption result (tokens_left source.old ≡ [])
+    ensures tokens { MatchOption result (tokens_left source.old ≡ [])
         (λ t. tokens_left source.old ≡ left_from source.new t) }
     ensures comes_next { IfSome result (ComesNext source.new) }
     ensures blanks { PassesBlanks source.old source.new }
@@ -114,7 +114,7 @@ pub(crate) fn next(source: &mut Source) -> Option<NextToken>
 /// The word or bracket of a statement that comes next, after blanks, which are passed;
 /// none where the statement, or the text, ends.
 pub(crate) fn next_within(source: &mut Source) -> Option<NextToken>
-    ensures is { MatchOption result (tokens_before_end (tokens_left source.old) ≡ [])
+    ensures tokens { MatchOption result (tokens_before_end (tokens_left source.old) ≡ [])
         (λ t. tokens_before_end (tokens_left source.old) ≡ token_of t source.new.rest ∷ tokens_before_end (left_after source.new t)) }
     ensures after_end { IfSome result (λ t. tokens_after_end (tokens_left source.old) ≡ tokens_after_end (left_after source.new t)) }
     ensures comes_next { IfSome result (ComesNext source.new) }

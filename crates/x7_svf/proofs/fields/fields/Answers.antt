@@ -19,9 +19,9 @@ loop-token-preserved c =
     let before : all ≡ scan_from (at_of here.kept s.place) (fields_of here.kept s.given) (tokens_before_end (tokens_left at)) =
     c.loop-token.invariant.same ∙ ap (λ (k : List ℕ). scan_from (at_of k s.place) (fields_of k s.given) (tokens_before_end (tokens_left at))) (sym c.in-Some.ensures.blanks.kept) in
     let left : tokens_before_end (tokens_left at) ≡ token_of t here.rest ∷ tokens_before_end (tokens_left after) =
-    c.in-Some.ensures.is ∙ ap (λ (ps : List TokenOnLine). token_of t here.rest ∷ tokens_before_end ps) (left_stepped here after t c.in-Some-step.ensures.steps) in
+    c.in-Some.ensures.tokens ∙ ap (λ (ps : List TokenOnLine). token_of t here.rest ∷ tokens_before_end ps) (left_stepped here after t c.in-Some-step.ensures.steps) in
     record {
-      same = scan_on here.kept after.kept s c.in-Some-step.next (tokens_before_end (tokens_left at)) (tokens_before_end (tokens_left after)) (token_of t here.rest) all before left c.in-Some-step.ensures.is;
+      same = scan_on here.kept after.kept s c.in-Some-step.next (tokens_before_end (tokens_left at)) (tokens_before_end (tokens_left after)) (token_of t here.rest) all before left c.in-Some-step.ensures.scans;
       within = c.in-Some-step.ensures.within;
       reads_on = reads_both c.args.source.now at after c.loop-token.invariant.reads_on (reads_token at here after t c.in-Some.ensures.blanks c.in-Some.ensures.after_end c.in-Some-step.ensures.steps);
     }

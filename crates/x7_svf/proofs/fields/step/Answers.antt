@@ -21,7 +21,7 @@ returns-in_err-field-in-Between-Word c =
     let given = c.args.scanner.given in
     let n : ℕ = c.in-Between-Word.length in
     record {
-      is = ap (scanning_of old.kept) c.from_residual.ensures
+      scans = ap (scanning_of old.kept) c.from_residual.ensures
           ∙ ap (after_name (fields_of old.kept given)) (c.in_err-field-in-Between-Word.ensures ∙ ap (λ (r : List ℕ). field_by_name (take n r)) c.rest.ensures)
           ∙ step_at old.kept old.rest given c.args.scanner.place place.Between c.args.token (next_token.Word n) c.in-Between-Word.is-0 c.in-Between-Word.is-1;
       within = none_holds c.from_residual.result _ c.from_residual.ensures;
@@ -36,7 +36,7 @@ returns-in_ok-field-in-Between-Word c =
     let n : ℕ = c.in-Between-Word.length in
     let same : new.kept ≡ old.kept = ap (λ (s : SourceState). s.kept) c.skip.ensures in
     record {
-      is = ap (λ (k : List ℕ). Some (record { at = Named c.in_ok-field-in-Between-Word.field; fields = fields_of k given })) same
+      scans = ap (λ (k : List ℕ). Some (record { at = Named c.in_ok-field-in-Between-Word.field; fields = fields_of k given })) same
           ∙ ap (after_name (fields_of old.kept given)) (c.in_ok-field-in-Between-Word.ensures ∙ ap (λ (r : List ℕ). field_by_name (take n r)) c.rest.ensures)
           ∙ step_at old.kept old.rest given c.args.scanner.place place.Between c.args.token (next_token.Word n) c.in-Between-Word.is-0 c.in-Between-Word.is-1;
       within = (tt, subst (λ (k : List ℕ). AreWithin (length k) given) (sym same) c.requires.within.1);
@@ -47,7 +47,7 @@ pub returns-in_default : goal.returns-in_default
 returns-in_default c =
     let old = c.args.source.now in
     record {
-      is = none_between (fields_of old.kept c.args.scanner.given) c.args.token old.rest c.in_default.not-Word-1
+      scans = none_between (fields_of old.kept c.args.scanner.given) c.args.token old.rest c.in_default.not-Word-1
           ∙ step_at old.kept old.rest c.args.scanner.given c.args.scanner.place place.Between c.args.token c.args.token c.in_default.is-0 refl;
       within = tt;
       steps = tt;
@@ -63,7 +63,7 @@ returns-in-Named-Open c =
     let none : drop (length c.kept.result.now) new.kept ≡ [] = drop_all (length c.kept.result.now) new.kept (omega (arith, ap length c.kept.ensures.now)) in
     let scanning : ◌≡◌ {A = Scanning} (record { at = Inside k (drop (length c.kept.result.now) new.kept); fields = fields_of new.kept given }) (record { at = Inside k []; fields = fields_of old.kept given }) = λ i. record { at = Inside k (none i); fields = fields_of (same i) given } in
     record {
-      is = ap (λ (s : Scanning). Some s) scanning
+      scans = ap (λ (s : Scanning). Some s) scanning
           ∙ step_at old.kept old.rest given c.args.scanner.place (place.Named k) c.args.token next_token.Open c.in-Named-Open.is-0 c.in-Named-Open.is-1;
       within = (omega (arith, ap length c.kept.ensures.now), subst (λ (k : List ℕ). AreWithin (length k) given) (sym same) c.requires.within.1);
       steps = subst (λ (t : NextToken). StepsOver (token_size t) old new) (sym c.in-Named-Open.is-1) (steps_skipped 1 old new c.skip-in-Named-Open.ensures);
@@ -73,7 +73,7 @@ pub returns-in_default-2 : goal.returns-in_default-2
 returns-in_default-2 c =
     let old = c.args.source.now in
     record {
-      is = none_named c.in_default.field-0-0 (fields_of old.kept c.args.scanner.given) c.args.token old.rest c.in_default.not-Open-1
+      scans = none_named c.in_default.field-0-0 (fields_of old.kept c.args.scanner.given) c.args.token old.rest c.in_default.not-Open-1
           ∙ step_at old.kept old.rest c.args.scanner.given c.args.scanner.place (place.Named c.in_default.field-0-0) c.args.token c.args.token c.in_default.is-0 refl;
       within = tt;
       steps = tt;
@@ -93,7 +93,7 @@ returns-else-not-are_digits c =
     let begun : from ≤ length old.kept = subst (IsPlaceWithin (length old.kept)) c.in-Inside-Word.is-0 c.requires.within.0 in
     let digits : are_hex word ≡ true = sym (c.are_digits.ensures ∙ ap (λ (r : List ℕ). are_hex (take n r)) c.rest-in-Inside-Word.ensures) ∙ c.if-not-are_digits.false in
     record {
-      is = ap (λ (p : Place). Some (record { at = at_of new.kept p; fields = fields_of new.kept given })) c.in-Inside-Word.is-0
+      scans = ap (λ (p : Place). Some (record { at = at_of new.kept p; fields = fields_of new.kept given })) c.in-Inside-Word.is-0
           ∙ digits_more old.kept word new.kept given k from grown begun c.requires.within.1 digits
           ∙ step_at old.kept old.rest given c.args.scanner.place (place.Inside k from) c.args.token (next_token.Word n) c.in-Inside-Word.is-0 c.in-Inside-Word.is-1;
       within = (subst (IsPlaceWithin (length new.kept)) (sym c.in-Inside-Word.is-0) (omega (arith, long, begun)), fields_more (length old.kept) (length new.kept) given (omega (arith, long)) c.requires.within.1);
@@ -114,7 +114,7 @@ returns-in_ok-given-in-Inside-Close c =
     let same : new.kept ≡ old.kept = ap (λ (s : SourceState). s.kept) c.skip-in-Inside-Close.ensures in
     let closed = c.in_ok-given-in-Inside-Close.ensures in
     record {
-      is = ap closed_by (closed.is ∙ ap (λ (kept : List ℕ). closed_field (fields_of kept given) k (drop from kept)) same)
+      scans = ap closed_by (closed.fields ∙ ap (λ (kept : List ℕ). closed_field (fields_of kept given) k (drop from kept)) same)
           ∙ step_at old.kept old.rest given c.args.scanner.place (place.Inside k from) c.args.token next_token.Close c.in-Inside-Close.is-0 c.in-Inside-Close.is-1;
       within = (tt, closed.within (subst (λ (k : List ℕ). AreWithin (length k) given) (sym same) c.requires.within.1));
       steps = subst (λ (t : NextToken). StepsOver (token_size t) old new) (sym c.in-Inside-Close.is-1) (steps_skipped 1 old new c.skip-in-Inside-Close.ensures);
@@ -126,7 +126,7 @@ returns-in_default-3 c =
     let k : Field = c.in_default.field-0-0 in
     let from : ℕ = c.in_default.field-1-0 in
     record {
-      is = none_inside k (drop from old.kept) (fields_of old.kept c.args.scanner.given) c.args.token old.rest c.in_default.not-Word-1 c.in_default.not-Close-1
+      scans = none_inside k (drop from old.kept) (fields_of old.kept c.args.scanner.given) c.args.token old.rest c.in_default.not-Word-1 c.in_default.not-Close-1
           ∙ step_at old.kept old.rest c.args.scanner.given c.args.scanner.place (place.Inside k from) c.args.token c.args.token c.in_default.is-0 refl;
       within = tt;
       steps = tt;

@@ -18,6 +18,6 @@ loop-token-preserved c =
     let steps = subst (λ (n : ℕ). StepsOver n here after) c.size.ensures (steps_skipped c.size.result here after c.skip.ensures) in
     let is_free : is_free_token (token_of t here.rest) ≡ true = sym (c.if-not-is_free_token.ensures ∙ ap (λ (r : List ℕ). is_free_token (token_of t r)) c.rest.ensures) in
     record {
-      same = c.loop-token.invariant.same ∙ ap (list_all is_free_token) c.in-Some.ensures.is ∙ free_on (token_of t here.rest) (tokens_before_end (left_after here t)) is_free ∙ ap (λ (ps : List TokenOnLine). list_all is_free_token (tokens_before_end ps)) (left_stepped here after t steps);
+      same = c.loop-token.invariant.same ∙ ap (list_all is_free_token) c.in-Some.ensures.tokens ∙ free_on (token_of t here.rest) (tokens_before_end (left_after here t)) is_free ∙ ap (λ (ps : List TokenOnLine). list_all is_free_token (tokens_before_end ps)) (left_stepped here after t steps);
       reads_on = reads_both c.args.source.now at after c.loop-token.invariant.reads_on (reads_token at here after t c.in-Some.ensures.blanks c.in-Some.ensures.after_end steps);
     }

@@ -23,11 +23,11 @@ returns c =
     let is_word = c.in-Word.is in
     let goes_on : tokens_after_end (tokens_left old) ≡ tokens_after_end (left_after here (next_token.Word n)) = next.after_end ∙ ap (λ (t : NextToken). tokens_after_end (left_after here t)) is_word in
     let tokens : tokens_before_end (tokens_left old) ≡ token_of (next_token.Word n) here.rest ∷ tokens_before_end (tokens_left mid) =
-    next.is ∙ ap (λ (t : NextToken). token_of t here.rest ∷ tokens_before_end (left_after here t)) is_word ∙ ap (λ (ps : List TokenOnLine). token_of (next_token.Word n) here.rest ∷ tokens_before_end ps) (left_stepped here mid (next_token.Word n) steps) in
+    next.tokens ∙ ap (λ (t : NextToken). token_of t here.rest ∷ tokens_before_end (left_after here t)) is_word ∙ ap (λ (ps : List TokenOnLine). token_of (next_token.Word n) here.rest ∷ tokens_before_end ps) (left_stepped here mid (next_token.Word n) steps) in
     let said : statement_by (bytes_in mid.kept c.keep_word-key.result) (tokens_before_end (tokens_left mid)) ≡ statement_of (tokens_before_end (tokens_left old)) =
     ap (λ (k : List ℕ). statement_by k (tokens_before_end (tokens_left mid))) c.keep_word-key.ensures.word ∙ sym (ap statement_of tokens) in
     record {
-      is = subst (λ (s : Option Statement). IsStored after.kept c.said_by.result s) said c.said_by.ensures.is;
+      says = subst (λ (s : Option Statement). IsStored after.kept c.said_by.result s) said c.said_by.ensures.says;
       reads_on = reads_if c.said_by.result old mid after (reads_token old here mid (next_token.Word n) next.blanks goes_on steps) c.said_by.ensures.reads_on;
       passed = passed_if c.said_by.result here mid after n (length old.rest) (subst (λ (t : NextToken). 0 < token_size t) is_word next.comes_next.some) (subst (λ (t : NextToken). token_size t ≤ length here.rest) is_word next.comes_next.within) next.blanks.passed steps c.said_by.ensures.reads_on;
     }
