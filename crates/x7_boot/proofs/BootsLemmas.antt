@@ -27,7 +27,7 @@ use Rattle.x7_boot.specs.declared.boots.BootEnd.TheVariants as boot_end
 use Rattle.x7_boot.specs.declared.boots.Tried.{Tried}
 use Rattle.x7_boot.specs.declared.next.Next.TheVariants.{Again, Ends}
 use Rattle.x7_boot.proofs.OneBootLemmas.{first_is, one_chain}
-use Rattle.x7_boot.proofs.TrialLemmas.{no_cause}
+use Rattle.x7_boot.proofs.FlashAttemptLemmas.{no_cause}
 
 -- ---- the course of a boot
 

@@ -12,7 +12,7 @@ module _ {F : Type 0} (state : F → FlashState) where
   pub record WasReady (update : ℕ) (stream : List ℕ) (new : FlashState) : Type 0 where
     pub ready : F
     pub seen : SeesWanted update stream update new.extent (state ready)
-    pub closed : IfKnown (state ready).bytes HasNoOpenSlot
+    pub none_open : IfKnown (state ready).bytes HasNoOpenSlot
     pub last : new.moments ≤ (state ready).moments + 1
 
   -- all of an update with a stream was read back, and no slot was open as yet

@@ -3,7 +3,7 @@ use Rattle.std.specs.Prelude.{◌≡◌, ◌≢◌, ℕ, ◌+◌, ◌-◌, ◌*�
 use Rattle.x7_words.specs.Flash.{erased_byte, Elapses, FlashFails, FlashState, IfKnown, OnlyWrites, WriteFails}
 use Rattle.x7_words.specs.Word.{AreBytes}
 use Rattle.x7_packets.specs.FlashSlot.{sector_bytes, slot_count}
-use Rattle.x7_update.specs.After.{ClosesTo, IsBetween, switched, with_stream}
+use Rattle.x7_update.specs.After.{SpendsOpen, IsBetween, switched, with_stream}
 use Rattle.x7_update.specs.Layout.{CanStandAt, HasSize, open_switch, switch_of}
 use Rattle.x7_update.specs.declared.fault.UpdateFault.{UpdateFault}
 use Rattle.x7_update.specs.declared.fault.UpdateFault.TheVariants.{Differs, Failed, NoLayout, NoMemory, TooLong}
@@ -76,9 +76,9 @@ pub record OnlySwitch (slot : ℕ) (old found : List ℕ) : Type 0 where
   pub others : (i : ℕ) → (i < 32 * slot) ⊎ (32 * slot + 4 ≤ i) → get_or found i 0 ≡ get_or old i 0
   pub not_open : switch_of found slot ≢ open_switch
 
--- while an open slot is closed nothing has changed, or the slot isn't open
-abbrev pub ClosingSlot : ℕ → List ℕ → List ℕ → Type 0
-ClosingSlot slot old found = (found ≡ old) ⊎ OnlySwitch slot old found
+-- while an open slot is spent nothing has changed, or the slot isn't open
+abbrev pub SpendingSlot : ℕ → List ℕ → List ℕ → Type 0
+SpendingSlot slot old found = (found ≡ old) ⊎ OnlySwitch slot old found
 
 -- while a free slot is opened the slot is open, and nothing else has changed, or it isn't open yet
 abbrev pub OpeningSlot : ℕ → List ℕ → List ℕ → Type 0
@@ -94,9 +94,9 @@ StreamStands place stream old now = now ≡ with_stream place stream old
 
 -- the open slot is spent, and the stream stands at its place
 pub record Replaced (place : ℕ) (stream old now : List ℕ) : Type 0 where
-  pub closed : List ℕ
-  pub closes : ClosesTo old closed
-  pub stands : StreamStands place stream closed now
+  pub spent : List ℕ
+  pub is_spent : SpendsOpen old spent
+  pub stands : StreamStands place stream spent now
 
 -- the byte that is wanted at a place from U on: the stream's, or FF after it
 abbrev pub wanted_at : ℕ → List ℕ → ℕ → ℕ
