@@ -14,7 +14,8 @@ use Rattle.x7_engine.specs.declared.stop.Stop.TheVariants as stop
 use Rattle.x7_engine.proofs.CheckedLemmas.{check_equals, idcode_matches, none_before, phase_started}
 use Rattle.x7_regs.specs.declared.boot_status.Cause.{Cause}
 use Rattle.x7_boot.specs.Attempt.{IsAttemptOver, AttemptCourse, ending_at, ending_by, failed_by}
-use Rattle.x7_boot.specs.Boot.{LeadsToEnd, end_state, forbids_fallback, next_by}
+use Rattle.x7_regs.specs.Control.{forbids_fallback}
+use Rattle.x7_boot.specs.Boot.{LeadsToEnd, end_state, next_by}
 use Rattle.x7_boot.specs.Checked.{HasChecked}
 use Rattle.x7_boot.specs.declared.attempt.Ending.{Ending}
 use Rattle.x7_boot.specs.declared.attempt.Ending.TheVariants as ending

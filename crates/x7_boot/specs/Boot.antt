@@ -8,6 +8,7 @@
 use Rattle.std.specs.Prelude.{◌≡◌, ℕ, ◌+◌, ◌*◌, ◌==◌, ◌||◌, nat_le, Bool, if◌then◌else◌, List, [], ◌∷◌, length, map, reverse, None}
 use Rattle.x7_words.specs.Word.{field_of}
 use Rattle.x7_part.specs.Part.{PartData}
+use Rattle.x7_regs.specs.Control.{forbids_fallback}
 use Rattle.x7_regs.specs.declared.boot_status.Kind.TheVariants.{Power, Iprog, Fallback}
 use Rattle.x7_engine.specs.Kept.{is_fallback}
 use Rattle.x7_engine.specs.Standing.{DeviceState}
@@ -22,10 +23,6 @@ use Rattle.x7_boot.specs.declared.boots.BootEnd.TheVariants as boot_end
 use Rattle.x7_boot.specs.declared.boots.Tried.{Tried}
 use Rattle.x7_boot.specs.declared.next.Next.{Next}
 use Rattle.x7_boot.specs.declared.next.Next.TheVariants.{Again, Ends}
-
--- ConfigFallback of CTL0, bit 10: 1 forbids a fallback (UG470, control register 0)
-abbrev pub forbids_fallback : ℕ → Bool
-forbids_fallback ctl0 = field_of 10 1 ctl0 == 1
 
 -- the place in the flash that WBSTAR names: its bits 28:0, or 256 times its bits 23:0
 -- where the part counts in steps of 256 bytes

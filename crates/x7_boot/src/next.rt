@@ -6,16 +6,14 @@ ghost use Rattle.x7_engine.specs.Kept.{is_fallback};
 ghost use Rattle.x7_engine.specs.State.{kept_after};
 ghost use Rattle.x7_engine.specs.declared.kept.Kept.{Kept as KeptData};
 ghost use Rattle.x7_boot.specs.Attempt.{IsDeviceOf, AttemptCourse};
-ghost use Rattle.x7_boot.specs.Boot.{forbids_fallback, most_iprogs, next_by, start_address};
+ghost use Rattle.x7_regs.specs.Control.{forbids_fallback};
+ghost use Rattle.x7_boot.specs.Boot.{most_iprogs, next_by, start_address};
 ghost use Rattle.x7_boot.specs.declared.next.Next.TheVariants as next;
 
 use crate::attempt::Ending;
 use crate::boots::BootEnd;
 use x7_engine::{Device, Kept, is_a_fallback};
-use x7_regs::Kind;
-
-/// The number of the bit of CTL0 that keeps a failed attempt from falling back (UG470, control register 0).
-const CONFIG_FALLBACK_BIT: u32 = 10;
+use x7_regs::{Kind, forbids_fallback};
 
 /// The most attempts of a boot that may end by IPROG (this project's choice).
 const MOST_IPROGS: u32 = 16;
@@ -32,13 +30,6 @@ pub enum Next {
     },
     /// The end of the boot.
     Ends(BootEnd),
-}
-
-/// Whether CTL0 forbids a fallback.
-fn forbids_fallback(ctl0: u32) -> bool
-    ensures { result ≡ forbids_fallback ctl0 }
-{
-    ctl0 >> CONFIG_FALLBACK_BIT & 1 == 1
 }
 
 /// The place in the flash, in bytes, that WBSTAR names, for a part whose start addresses count steps of `unit` bytes.
