@@ -26,7 +26,7 @@ use crate::progress::{Progress, is_same_idcode};
 use crate::stop::Stop;
 use crate::target::{PlainNumber, Target};
 use crate::words::Words;
-use x7_crc::{executed, is};
+use x7_crc::{executed, is_command};
 use x7_flow::{FrameSettings, Frames};
 use x7_packets::{Cut, Step};
 use x7_part::Part;
@@ -178,10 +178,10 @@ impl Registers {
                 want: check,
                 got: word,
             })),
-            Reg::Far | Reg::Cmd if is(Command::Start, executed) && !matched => unmatched,
+            Reg::Far | Reg::Cmd if is_command(Command::Start, executed) && !matched => unmatched,
             Reg::Fdri if !matched => unmatched,
             Reg::Mfwr if !matched => unmatched,
-            Reg::Cmd if is(Command::Iprog, executed) && !is_a_fallback(self.kind) => Some(
+            Reg::Cmd if is_command(Command::Iprog, executed) && !is_a_fallback(self.kind) => Some(
                 Stop::Iprog,
             ),
             Reg::Ctl0 if has_dec(masked(self.controls.ctl0, self.words.held(Reg::Mask), word)) =>

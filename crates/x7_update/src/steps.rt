@@ -1,7 +1,7 @@
 //! The steps of an update, in their order: look, spend the open slot, write, read back, open the next.
 ghost use Rattle.std.specs.Prelude.{◌≡◌, ◌+◌, ◌*◌, ◌<◌, ◌≤◌, ◌⊎◌, ℕ, List, true, length, IfErr, OnOk, OnErr, option_map};
 ghost use Rattle.x7_words.specs.Flash.{OnlyReads, IfKnown, Sees, WriteFails};
-ghost use Rattle.x7_packets.specs.FlashSlot.{slot_count};
+ghost use Rattle.x7_packets.specs.FlashSlot.{slot_bytes, slot_count};
 ghost use Rattle.x7_update.specs.After.{SpendsOpen, IsAfter, MayBeLeft, switched};
 ghost use Rattle.x7_update.specs.Layout.{HasLayout, HasNoOpenSlot, IsFree, open_switch};
 ghost use Rattle.x7_update.specs.ReadBack.{AllReadBack, OpensReadBack, WasReady};
@@ -26,7 +26,7 @@ fn spend_open_slot<F: Flash>(flash: &mut F, target: UpdateTarget) -> Result<(), 
         ReplacingUpdate }
     ensures failed { OnErr result (WriteFails (F.state flash.old) (F.state flash.new)) }
 {
-    match target.slots.opened {
+    match target.slots.open_slot {
         None => Ok(()),
         Some(slot) => spend_slot(flash, slot),
     }
@@ -62,7 +62,7 @@ fn read_back_and_open<F: Flash>(
     ensures bytes { AtAnyMoment (F.state flash.old) (F.state flash.new) (F.found_since flash.old) (F.found_since flash.new)
         StaysBytes }
     ensures ready { OnOk result (WasReady F.state target.place stream.now (F.state flash.new)) }
-    ensures switch { OnOk result (Sees (F.state flash.new) (32 * target.slots.next) open_switch) }
+    ensures switch { OnOk result (Sees (F.state flash.new) (slot_bytes * target.slots.next) open_switch) }
     ensures opens { AtAnyMoment (F.state flash.old) (F.state flash.new) (F.found_since flash.old) (F.found_since flash.new)
         (λ all found. (found ≡ all) ⊎ WasReady F.state target.place stream.now (F.state flash.new)) }
     ensures fault { IfErr result (EndFails stream.now (F.state flash.old) (F.state flash.new)) }
