@@ -31,7 +31,7 @@ fn held_after(held: u8, reg: Reg, word: u32) -> u8
     }
 }
 
-/// The state after a word written to a register that may steer the check.
+/// The check state after a word written to a register that may steer the check.
 fn written(state: CheckState, reg: Reg, word: u32) -> CheckState
     ensures { (h : History) (place : ℕ) → IsCheckState state.check state.held h → IsCheckState result.check result.held (entry (Write (number_of reg) word) place ∷ h) }
 {
@@ -42,7 +42,7 @@ fn written(state: CheckState, reg: Reg, word: u32) -> CheckState
     }
 }
 
-/// The state after words written to a register that may steer the check, word by word.
+/// The check state after words written to a register that may steer the check, word by word.
 fn written_each(state: CheckState, reg: Reg, bytes: &[u8]) -> CheckState
     requires whole { length bytes.now % 4 ≡ 0 }
     ensures { (h : History) (n : ℕ) → IsCheckState state.check state.held h → IsCheckState result.check result.held (entered_all n (payload_steps (number_of reg) (words_of_bytes bytes.now)) h) }
@@ -76,7 +76,7 @@ fn steering(register: u8) -> Option<Reg>
     }
 }
 
-/// The state after a word written to a register.
+/// The check state after a word written to a register.
 fn written_one(state: CheckState, register: u8, word: u32) -> CheckState
     requires { register < 32 }
     ensures { (h : History) (place : ℕ) → IsCheckState state.check state.held h → IsCheckState result.check result.held (entry (Write register word) place ∷ h) }
@@ -90,7 +90,7 @@ fn written_one(state: CheckState, register: u8, word: u32) -> CheckState
     written(state, reg, word)
 }
 
-/// The state after words written to a register.
+/// The check state after words written to a register.
 fn written_all(state: CheckState, register: u8, bytes: &[u8]) -> CheckState
     requires register { register < 32 }
     requires whole { length bytes.now % 4 ≡ 0 }
@@ -105,7 +105,7 @@ fn written_all(state: CheckState, register: u8, bytes: &[u8]) -> CheckState
     written_each(state, reg, bytes)
 }
 
-/// The state after a run.
+/// The check state after a run.
 fn after(state: CheckState, run: Cut) -> CheckState
     requires { IsRun run }
     ensures { (h : History) (n : ℕ) → IsCheckState state.check state.held h → IsCheckState result.check result.held (entered_all n (run_steps run.entry) h) }
@@ -197,7 +197,7 @@ impl Checker {
     }
 }
 
-/// The state after a whole piece.
+/// The check state after a whole piece.
 fn take_all(cutter: &mut Cutter, state: CheckState, piece: &[u8]) -> CheckState
     ensures { (bytes : List ℕ) → Checks cutter.old state.check state.held bytes → Checks cutter.new result.check result.held (bytes ++ piece.now) }
 {

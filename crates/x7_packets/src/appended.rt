@@ -44,7 +44,7 @@ pub fn gaps_are_passed()
 
 /// Words that end in no open payload, and then those of a packet: the packets are one more.
 pub fn packets_append()
-    ensures one { (ws : List ℕ) (packets : List Packet) (packet : Packet) → Packets ws packets → AllWhole None packets → MayComeNext packets packet
+    ensures packets { (ws : List ℕ) (packets : List Packet) (packet : Packet) → Packets ws packets → AllWhole None packets → MayComeNext packets packet
         → Packets (ws ++ words packet) (packets ++ packet ∷ []) }
     ensures whole { (packets : List Packet) (packet : Packet) → AllWhole None packets → MayComeNext packets packet → IsWhole packet
         → AllWhole None (packets ++ packet ∷ []) }
