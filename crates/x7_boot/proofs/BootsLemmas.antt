@@ -18,7 +18,8 @@ use Rattle.x7_engine.specs.declared.kept.Kept.{Kept}
 use Rattle.x7_engine.specs.declared.stop.Stop.{Stop}
 use Rattle.x7_engine.specs.declared.stop.Stop.TheVariants as stop
 use Rattle.x7_boot.specs.Attempt.{IsAttemptOver, NoneBefore, AttemptCourse, ending_at, ending_by, failed_by}
-use Rattle.x7_boot.specs.Boot.{BootedState, IsBoot, LeadsToEnd, end_state, forbids_fallback, next_by, tried}
+use Rattle.x7_regs.specs.Control.{forbids_fallback}
+use Rattle.x7_boot.specs.Boot.{BootedState, IsBoot, LeadsToEnd, end_state, next_by, tried}
 use Rattle.x7_boot.specs.Boots.{BootCourse, IsCourse, course_along, course_of}
 use Rattle.x7_boot.specs.declared.attempt.Ending.{Ending}
 use Rattle.x7_boot.specs.declared.attempt.Ending.TheVariants as ending
@@ -27,7 +28,7 @@ use Rattle.x7_boot.specs.declared.boots.BootEnd.TheVariants as boot_end
 use Rattle.x7_boot.specs.declared.boots.Tried.{Tried}
 use Rattle.x7_boot.specs.declared.next.Next.TheVariants.{Again, Ends}
 use Rattle.x7_boot.proofs.OneBootLemmas.{first_is, one_chain}
-use Rattle.x7_boot.proofs.TrialLemmas.{no_cause}
+use Rattle.x7_boot.proofs.FlashAttemptLemmas.{no_cause}
 
 -- ---- the course of a boot
 

@@ -14,7 +14,8 @@ use Rattle.x7_engine.specs.declared.stop.Stop.TheVariants as stop
 use Rattle.x7_engine.proofs.CheckedLemmas.{check_equals, idcode_matches, none_before, phase_started}
 use Rattle.x7_regs.specs.declared.boot_status.Cause.{Cause}
 use Rattle.x7_boot.specs.Attempt.{IsAttemptOver, AttemptCourse, ending_at, ending_by, failed_by}
-use Rattle.x7_boot.specs.Boot.{LeadsToEnd, end_state, forbids_fallback, next_by}
+use Rattle.x7_regs.specs.Control.{forbids_fallback}
+use Rattle.x7_boot.specs.Boot.{LeadsToEnd, end_state, next_by}
 use Rattle.x7_boot.specs.Checked.{HasChecked}
 use Rattle.x7_boot.specs.declared.attempt.Ending.{Ending}
 use Rattle.x7_boot.specs.declared.attempt.Ending.TheVariants as ending
@@ -48,8 +49,8 @@ checked part kept wrapped bytes fits late = record {
 }
 
 -- the bytes of an attempt are those of the flash
-trial_fits : (part : PartData) (flash : List ℕ) (t : AttemptCourse) → AreBytes flash → IsAttemptOver part flash t → AreBytes t.bytes
-trial_fits part flash t fits is = by is
+attempt_fits : (part : PartData) (flash : List ℕ) (t : AttemptCourse) → AreBytes flash → IsAttemptOver part flash t → AreBytes t.bytes
+attempt_fits part flash t fits is = by is
   where
     after : AreBytes (drop t.address flash)
     after = all_back (λ b. b < 256) (take t.address flash) (drop t.address flash) (subst AreBytes (sym (take-append-drop t.address flash)) fits)
@@ -59,11 +60,11 @@ trial_fits part flash t fits is = by is
     by (inr out) = subst AreBytes (sym out.taken) (all_take (λ b. b < 256) (taken_of part t.kept (drop t.address flash)) (drop t.address flash) after)
 
 pub attempt_checked : (part : PartData) (flash : List ℕ) (t : AttemptCourse) → AreBytes flash → IsAttemptOver part flash t → 0 < (end_state part t).phase → HasChecked part t.kept t.bytes
-attempt_checked part flash t fits is late = checked part t.kept t.wrapped t.bytes (trial_fits part flash t fits is) late
+attempt_checked part flash t fits is late = checked part t.kept t.wrapped t.bytes (attempt_fits part flash t fits is) late
 
 pub start_checked : (part : PartData) (flash : List ℕ) (t : AttemptCourse) → AreBytes flash → IsAttemptOver part flash t → t.ending ≡ ending.Started → HasChecked part t.kept t.bytes
 start_checked part flash t fits (inl first) is =
-    checked part t.kept false t.bytes (trial_fits part flash t fits (inl first)) (started_late part t.kept t.bytes (first.ends ∙ ap Some is))
+    checked part t.kept false t.bytes (attempt_fits part flash t fits (inl first)) (started_late part t.kept t.bytes (first.ends ∙ ap Some is))
 start_checked part flash t fits (inr out) is = let failed : t.ending ≡ ending.Failed _ = out.failed in absurd (cc)
 
 -- ---- the last attempt of a boot that started

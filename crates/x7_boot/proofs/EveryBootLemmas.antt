@@ -10,7 +10,8 @@ use Rattle.x7_engine.specs.Kept.{is_fallback}
 use Rattle.x7_engine.specs.State.{taken_of}
 use Rattle.x7_engine.specs.declared.kept.Kept.{Kept}
 use Rattle.x7_boot.specs.Attempt.{IsAttemptOver, AttemptCourse, ending_at}
-use Rattle.x7_boot.specs.Boot.{HasBoot, LeadsTo, at_power, end_state, forbids_fallback, next_by}
+use Rattle.x7_regs.specs.Control.{forbids_fallback}
+use Rattle.x7_boot.specs.Boot.{HasBoot, LeadsTo, at_power, end_state, next_by}
 use Rattle.x7_boot.specs.declared.attempt.Ending.{Ending}
 use Rattle.x7_boot.specs.declared.attempt.Ending.TheVariants as ending
 use Rattle.x7_boot.specs.declared.boots.BootEnd.{BootEnd}

@@ -9,4 +9,4 @@ pub mod OverLemmas
 pub mod PageLemmas
 pub mod StartLemmas
 pub mod TookLemmas
-pub mod TrialLemmas
+pub mod FlashAttemptLemmas

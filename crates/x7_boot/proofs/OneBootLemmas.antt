@@ -32,8 +32,8 @@ same_length m n a b = elim (cases_lt m n) [
 ]
 
 -- the record of its fields
-trial_is : (s t : AttemptCourse) → s.kept ≡ t.kept → s.address ≡ t.address → s.bytes ≡ t.bytes → s.wrapped ≡ t.wrapped → s.ending ≡ t.ending → s ≡ t
-trial_is s t a b c d e =
+attempt_is : (s t : AttemptCourse) → s.kept ≡ t.kept → s.address ≡ t.address → s.bytes ≡ t.bytes → s.wrapped ≡ t.wrapped → s.ending ≡ t.ending → s ≡ t
+attempt_is s t a b c d e =
     ap (λ (x : Kept). record { kept = x; address = s.address; bytes = s.bytes; wrapped = s.wrapped; ending = s.ending }) a
     ∙ ap (λ (x : ℕ). record { kept = t.kept; address = x; bytes = s.bytes; wrapped = s.wrapped; ending = s.ending }) b
     ∙ ap (λ (x : List ℕ). record { kept = t.kept; address = t.address; bytes = x; wrapped = s.wrapped; ending = s.ending }) c
@@ -52,7 +52,7 @@ one_ended part from s t a b x y =
     same_length (length s.bytes) (length t.bytes) (not_before part t.kept from s.bytes x.rest s.ending (length t.bytes) x.taken ends y.first) (not_before part t.kept from t.bytes y.rest t.ending (length s.bytes) y.taken y.ends first) in
     let bytes : s.bytes ≡ t.bytes =
     sym (ap (take (length s.bytes)) x.taken ∙ take-append_seam s.bytes x.rest) ∙ ap (λ (n : ℕ). take n from) long ∙ ap (take (length t.bytes)) y.taken ∙ take-append_seam t.bytes y.rest in
-    trial_is s t a b bytes (x.in_flash ∙ sym y.in_flash) (some_is s.ending t.ending (sym ends ∙ ap (ending_at part t.kept) bytes ∙ y.ends))
+    attempt_is s t a b bytes (x.in_flash ∙ sym y.in_flash) (some_is s.ending t.ending (sym ends ∙ ap (ending_at part t.kept) bytes ∙ y.ends))
 
 ended_and_out : (part : PartData) (from : List ℕ) (s t : AttemptCourse) → s.kept ≡ t.kept → EndsFirst part from s → RunsOut part from t → ⊥
 ended_and_out part from s t a x y =
@@ -63,7 +63,7 @@ ended_and_out part from s t a x y =
 
 one_out : (part : PartData) (from : List ℕ) (s t : AttemptCourse) → s.kept ≡ t.kept → s.address ≡ t.address → RunsOut part from s → RunsOut part from t → s ≡ t
 one_out part from s t a b x y =
-    trial_is s t a b (x.taken ∙ ap (λ (k : Kept). take (taken_of part k from) from) a ∙ sym y.taken) (x.past_end ∙ sym y.past_end) (x.failed ∙ sym y.failed)
+    attempt_is s t a b (x.taken ∙ ap (λ (k : Kept). take (taken_of part k from) from) a ∙ sym y.taken) (x.past_end ∙ sym y.past_end) (x.failed ∙ sym y.failed)
 
 one_from : (part : PartData) (from : List ℕ) (s t : AttemptCourse) → s.kept ≡ t.kept → s.address ≡ t.address → EndsFirst part from s ⊎ RunsOut part from s → EndsFirst part from t ⊎ RunsOut part from t → s ≡ t
 one_from part from s t a b (inl x) (inl y) = one_ended part from s t a b x y
@@ -72,8 +72,8 @@ one_from part from s t a b (inr x) (inl y) = absurd (ended_and_out part from t s
 one_from part from s t a b (inr x) (inr y) = one_out part from s t a b x y
 
 -- over a flash there is one attempt with this kept at this address
-pub one_trial : (part : PartData) (flash : List ℕ) (s t : AttemptCourse) → IsAttemptOver part flash s → IsAttemptOver part flash t → s.kept ≡ t.kept → s.address ≡ t.address → s ≡ t
-one_trial part flash s t x y a b =
+pub one_attempt : (part : PartData) (flash : List ℕ) (s t : AttemptCourse) → IsAttemptOver part flash s → IsAttemptOver part flash t → s.kept ≡ t.kept → s.address ≡ t.address → s ≡ t
+one_attempt part flash s t x y a b =
     one_from part (drop t.address flash) s t a b (subst (λ (n : ℕ). EndsFirst part (drop n flash) s ⊎ RunsOut part (drop n flash) s) b x) y
 
 -- ---- attempt after attempt
@@ -91,7 +91,7 @@ chain_same part flash [] (t ∷ b) x y n p q = absurd (omega (arith, n))
 chain_same part flash (s ∷ a) [] x y n p q = absurd (omega (arith, n))
 chain_same part flash (s ∷ a) (t ∷ b) x y n p q =
     let older : (a ≡ b) × (Again s.kept s.address ≡ Again t.kept t.address) = chain_same part flash a b (Again s.kept s.address) (Again t.kept t.address) (omega (arith, n)) p.0 q.0 in
-    let same : s ≡ t = one_trial part flash s t p.1 q.1 (kept_next s.kept t.kept s.address t.address older.1) (address_next s.kept t.kept s.address t.address older.1) in (
+    let same : s ≡ t = one_attempt part flash s t p.1 q.1 (kept_next s.kept t.kept s.address t.address older.1) (address_next s.kept t.kept s.address t.address older.1) in (
       ap (λ (u : AttemptCourse). u ∷ a) same ∙ ap (λ (l : List AttemptCourse). t ∷ l) older.0,
       p.2 ∙ ap (λ (u : AttemptCourse). next_by part (length a + 1) u u.ending) same ∙ ap (λ (l : List AttemptCourse). next_by part (length l + 1) t t.ending) older.0 ∙ sym q.2,
     )
@@ -144,16 +144,16 @@ one_last part flash a b x y =
 -- ---- what stands on a chain
 
 -- a chain to an end goes through the attempt to which fewer attempts lead
-pub record GoesThrough (part : PartData) (flash : List ℕ) (trials older : List AttemptCourse) (kept : Kept) (address : ℕ) : Type 0 where
+pub record GoesThrough (part : PartData) (flash : List ℕ) (courses older : List AttemptCourse) (kept : Kept) (address : ℕ) : Type 0 where
   pub newer : List AttemptCourse
   pub course : AttemptCourse
-  pub split : trials ≡ newer ++ course ∷ older
+  pub split : courses ≡ newer ++ course ∷ older
   pub is : IsAttemptOver part flash course
   pub kept_is : course.kept ≡ kept
   pub address_is : course.address ≡ address
 
-more_through : (part : PartData) (flash : List ℕ) (t : AttemptCourse) (trials older : List AttemptCourse) (kept : Kept) (address : ℕ) → GoesThrough part flash trials older kept address → GoesThrough part flash (t ∷ trials) older kept address
-more_through part flash t trials older kept address g =
+more_through : (part : PartData) (flash : List ℕ) (t : AttemptCourse) (courses older : List AttemptCourse) (kept : Kept) (address : ℕ) → GoesThrough part flash courses older kept address → GoesThrough part flash (t ∷ courses) older kept address
+more_through part flash t courses older kept address g =
     record { newer = t ∷ g.newer; course = g.course; split = ap (λ (l : List AttemptCourse). t ∷ l) g.split; is = g.is; kept_is = g.kept_is; address_is = g.address_is }
 
 through_longer : (part : PartData) (flash : List ℕ) (b older : List AttemptCourse) (y : Next) (kept : Kept) (address : ℕ) → LeadsTo part flash b y → LeadsTo part flash older (Again kept address) → length older < length b → GoesThrough part flash b older kept address

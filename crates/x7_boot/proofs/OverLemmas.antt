@@ -50,8 +50,8 @@ started_first part flash t (inr x) started = let no : Failed _ ≡ Started = sym
 
 -- ---- over the same bytes
 
-pub trial_over : (part : PartData) (flash other : List ℕ) (t : AttemptCourse) → IsAttemptOver part flash t → t.wrapped ≡ false → take (t.address + length t.bytes) other ≡ take (t.address + length t.bytes) flash → IsAttemptOver part other t
-trial_over part flash other t (inl x) in_flash e =
+pub attempt_over : (part : PartData) (flash other : List ℕ) (t : AttemptCourse) → IsAttemptOver part flash t → t.wrapped ≡ false → take (t.address + length t.bytes) other ≡ take (t.address + length t.bytes) flash → IsAttemptOver part other t
+attempt_over part flash other t (inl x) in_flash e =
     let n : ℕ = length t.bytes in
     let here : List ℕ = drop t.address flash in
     let there : List ℕ = drop t.address other in
@@ -64,7 +64,7 @@ trial_over part flash other t (inl x) in_flash e =
       in_flash = in_flash;
       prefixes = λ k l. ap (ending_at part t.kept) (sym (take-take k n there l) ∙ ap (take k) same ∙ take-take k n here l);
     }))
-trial_over part flash other t (inr x) in_flash e = let both : true ≡ false = sym x.past_end ∙ in_flash in absurd (cc)
+attempt_over part flash other t (inr x) in_flash e = let both : true ≡ false = sym x.past_end ∙ in_flash in absurd (cc)
 
 -- ---- over bytes that are alike
 
@@ -73,12 +73,12 @@ alike_ending part kept one other a =
     ap (λ (r : Regs). if r.phase == 7 then Some Started else ending_by (why_of (stop_in part kept one))) (alike_state part kept one other a false)
     ∙ ap (λ (o : Option Stopped). if (state_of part kept false other).phase == 7 then Some Started else ending_by (why_of o)) (alike_stop part kept one other a)
 
-abbrev pub alike_trial : AttemptCourse → List ℕ → AttemptCourse
-alike_trial t other = record { kept = t.kept; address = t.address; bytes = take (length t.bytes) other; wrapped = false; ending = t.ending }
+abbrev pub alike_attempt : AttemptCourse → List ℕ → AttemptCourse
+alike_attempt t other = record { kept = t.kept; address = t.address; bytes = take (length t.bytes) other; wrapped = false; ending = t.ending }
 
-pub alike_ends : (part : PartData) (from other : List ℕ) (t : AttemptCourse) → EndsFirst part from t → length t.bytes ≤ length other → ((k : ℕ) → k ≤ length t.bytes → AreAlike (take k from) (take k other)) → EndsFirst part other (alike_trial t other)
+pub alike_ends : (part : PartData) (from other : List ℕ) (t : AttemptCourse) → EndsFirst part from t → length t.bytes ≤ length other → ((k : ℕ) → k ≤ length t.bytes → AreAlike (take k from) (take k other)) → EndsFirst part other (alike_attempt t other)
 alike_ends part from other t x long alike =
-    ends_alike part from other t (alike_trial t other) x (record { bytes = refl; long = long; ending = refl; in_flash = refl; prefixes = λ k l. sym (alike_ending part t.kept (take k from) (take k other) (alike k l)) })
+    ends_alike part from other t (alike_attempt t other) x (record { bytes = refl; long = long; ending = refl; in_flash = refl; prefixes = λ k l. sym (alike_ending part t.kept (take k from) (take k other) (alike k l)) })
 
 -- ---- with other kept words
 

@@ -1,5 +1,5 @@
 -- The attempts of a boot, each of which the table gives from the end of the one before (UG470, MultiBoot and fallback;
--- the limit of 16 attempts is this project's choice).
+-- the limit of 16 attempts that end by IPROG is this project's choice).
 --
 --     the attempt ended by     then
 --     phase 7                  the boot has started
@@ -8,6 +8,7 @@
 use Rattle.std.specs.Prelude.{◌≡◌, ℕ, ◌+◌, ◌*◌, ◌==◌, ◌||◌, nat_le, Bool, if◌then◌else◌, List, [], ◌∷◌, length, map, reverse, None}
 use Rattle.x7_words.specs.Word.{field_of}
 use Rattle.x7_part.specs.Part.{PartData}
+use Rattle.x7_regs.specs.Control.{forbids_fallback}
 use Rattle.x7_regs.specs.declared.boot_status.Kind.TheVariants.{Power, Iprog, Fallback}
 use Rattle.x7_engine.specs.Kept.{is_fallback}
 use Rattle.x7_engine.specs.Standing.{DeviceState}
@@ -23,10 +24,6 @@ use Rattle.x7_boot.specs.declared.boots.Tried.{Tried}
 use Rattle.x7_boot.specs.declared.next.Next.{Next}
 use Rattle.x7_boot.specs.declared.next.Next.TheVariants.{Again, Ends}
 
--- ConfigFallback of CTL0, bit 10: 1 forbids a fallback (UG470, control register 0)
-abbrev pub forbids_fallback : ℕ → Bool
-forbids_fallback ctl0 = field_of 10 1 ctl0 == 1
-
 -- the place in the flash that WBSTAR names: its bits 28:0, or 256 times its bits 23:0
 -- where the part counts in steps of 256 bytes
 abbrev pub start_address : ℕ → ℕ → ℕ
@@ -36,15 +33,15 @@ start_address unit wbstar = if unit == 256 then 256 * field_of 0 24 wbstar else 
 abbrev pub end_state : PartData → AttemptCourse → Regs
 end_state part t = state_of part t.kept t.wrapped t.bytes
 
--- the most attempts of a boot that end by IPROG
-abbrev pub most_attempts : ℕ
-most_attempts = 16
+-- the most attempts of a boot that may end by IPROG; the fallback may be one attempt more
+abbrev pub most_iprogs : ℕ
+most_iprogs = 16
 
 -- the table: what comes after attempt `number`, by its ending
 abbrev pub next_by : PartData → ℕ → AttemptCourse → Ending → Next
 next_by part number t ending.Started = Ends boot_end.Started
 next_by part number t ending.Iprog =
-    if nat_le most_attempts number then Ends boot_end.Loop else Again (kept_after part t.kept t.wrapped t.bytes Iprog) (start_address part.start_unit (end_state part t).wbstar)
+    if nat_le most_iprogs number then Ends boot_end.Loop else Again (kept_after part t.kept t.wrapped t.bytes Iprog) (start_address part.start_unit (end_state part t).wbstar)
 next_by part number t (ending.Failed cause) =
     if is_fallback t.kept.kind || forbids_fallback (end_state part t).ctl0 then Ends boot_end.Stopped else Again (kept_after part t.kept t.wrapped t.bytes Fallback) 0
 
@@ -59,7 +56,7 @@ LeadsTo part flash (t ∷ older) next = LeadsTo part flash older (Again t.kept t
 
 -- a flash leads a device through these attempts, the newest first, to this end
 abbrev pub LeadsToEnd : PartData → List ℕ → List AttemptCourse → BootEnd → Type 0
-LeadsToEnd part flash trials end = LeadsTo part flash trials (Ends end)
+LeadsToEnd part flash courses end = LeadsTo part flash courses (Ends end)
 
 -- a flash leads a device through attempts, one at least, to an end
 pub record HasBoot (part : PartData) (flash : List ℕ) : Type 0 where

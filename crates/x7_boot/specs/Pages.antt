@@ -14,7 +14,7 @@ page_size = 4096
 abbrev pub block_pages : ℕ
 block_pages = 16
 
--- where the page of a place ends: at the next multiple of 4,096, or at the flash's end
+-- where the page of a place ends: where the next page begins, or at the flash's end
 abbrev pub page_end : ℕ → ℕ → ℕ
 page_end at extent = min ((at / page_size + 1) * page_size) extent
 

@@ -13,7 +13,7 @@ use std::mem;
 use std::num::NonZeroUsize;
 use x7_words::{Flash, NoMemory};
 
-/// The number of pages that are kept.
+/// How many pages are kept at most (this project's choice).
 const KEPT_PAGES: usize = 64;
 
 /// Where the bytes of a page that was asked for are.

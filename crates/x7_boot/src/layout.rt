@@ -1,6 +1,6 @@
 //! A flash image with a golden and an update stream.
 ghost use Rattle.std.specs.Prelude.{◌≡◌, ◌+◌, ◌-◌, ◌*◌, ◌/◌, ◌<◌, ◌≤◌, ◌++◌, ◌↔◌, length, Err, IfOk, IfSome, OnOk, IfNone};
-ghost use Rattle.x7_packets.specs.FlashSlot.{sector_bytes};
+ghost use Rattle.x7_packets.specs.FlashSlot.{sector_bytes, slot_bytes};
 ghost use Rattle.x7_boot.specs.Image.{free_slots, filled_to, first_sector, flash_limit, image_of, image_size, sector_from, slot, place_after_golden};
 
 use crate::fault::ImageFault;
@@ -58,7 +58,7 @@ fn slot(switch: u32, start: u32) -> [u8; 32]
 #[tactic(auto, unfolding(crate::specs::Image::free_slots, crate::specs::Image::slot))]
 fn free_slots(alloc: Global, start: u32) -> Result<Vec<u8>, NoMemory>
     ensures items { IfOk result (λ all. all.items ≡ free_slots start) }
-    ensures length { IfOk result (λ all. length all.items ≡ sector_bytes - 32) }
+    ensures length { IfOk result (λ all. length all.items ≡ sector_bytes - slot_bytes) }
 {
     Ok(slot(DUMMY_WORD, start).repeat(alloc, SLOT_COUNT as usize - 1)?)
 }

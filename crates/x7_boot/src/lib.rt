@@ -5,12 +5,12 @@ mod attempt;
 mod boots;
 mod cache;
 mod fault;
+mod flash_attempt;
 mod laws;
 mod layout;
 mod next;
 mod pages;
 mod text;
-mod trial;
 
 pub use attempt::Ending;
 pub use boots::{BootEnd, Booted, Tried, boot};

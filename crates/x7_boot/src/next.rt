@@ -6,19 +6,17 @@ ghost use Rattle.x7_engine.specs.Kept.{is_fallback};
 ghost use Rattle.x7_engine.specs.State.{kept_after};
 ghost use Rattle.x7_engine.specs.declared.kept.Kept.{Kept as KeptData};
 ghost use Rattle.x7_boot.specs.Attempt.{IsDeviceOf, AttemptCourse};
-ghost use Rattle.x7_boot.specs.Boot.{forbids_fallback, most_attempts, next_by, start_address};
+ghost use Rattle.x7_regs.specs.Control.{forbids_fallback};
+ghost use Rattle.x7_boot.specs.Boot.{most_iprogs, next_by, start_address};
 ghost use Rattle.x7_boot.specs.declared.next.Next.TheVariants as next;
 
 use crate::attempt::Ending;
 use crate::boots::BootEnd;
 use x7_engine::{Device, Kept, is_a_fallback};
-use x7_regs::Kind;
+use x7_regs::{Kind, forbids_fallback};
 
-/// The bit of CTL0 that keeps a failed attempt from falling back (UG470, control register 0).
-const CONFIG_FALLBACK: u32 = 10;
-
-/// The most attempts of a boot that end by IPROG.
-const ATTEMPTS: u32 = 16;
+/// The most attempts of a boot that may end by IPROG (this project's choice).
+const MOST_IPROGS: u32 = 16;
 
 /// What comes after an attempt of a boot.
 #[derive(Clone, Copy)]
@@ -32,13 +30,6 @@ pub enum Next {
     },
     /// The end of the boot.
     Ends(BootEnd),
-}
-
-/// Whether CTL0 forbids a fallback.
-fn forbids_fallback(ctl0: u32) -> bool
-    ensures { result ≡ forbids_fallback ctl0 }
-{
-    ctl0 >> CONFIG_FALLBACK & 1 == 1
 }
 
 /// The place in the flash, in bytes, that WBSTAR names, for a part whose start addresses count steps of `unit` bytes.
@@ -57,12 +48,12 @@ pub(crate) fn next_of(device: &Device, kind: Kind, number: u32, ending: Ending) 
     ensures table { (part : PartData) (t : AttemptCourse) → IsDeviceOf part device.now t → t.kept.kind ≡ kind → result ≡ next_by part number t ending }
     ensures not_on_bench { (kept : KeptData) (address : ℕ) → result ≡ next.Again kept address → kept.kind ≡ Bench → ⊥ }
     ensures no_second_fallback { (kept : KeptData) (address : ℕ) → result ≡ next.Again kept address → is_fallback kept.kind ≡ true → is_fallback kind ≡ false }
-    ensures under_limit { (kept : KeptData) (address : ℕ) → result ≡ next.Again kept address → is_fallback kept.kind ≡ false → number < most_attempts }
+    ensures under_limit { (kept : KeptData) (address : ℕ) → result ≡ next.Again kept address → is_fallback kept.kind ≡ false → number < most_iprogs }
 {
     match ending {
         Ending::Started => Next::Ends(BootEnd::Started),
         Ending::Iprog => {
-            if number >= ATTEMPTS {
+            if number >= MOST_IPROGS {
                 return Next::Ends(BootEnd::Loop);
             }
             let address = start_address(device.part().start_unit(), device.state().wbstar);

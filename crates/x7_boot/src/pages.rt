@@ -7,10 +7,10 @@ ghost use Rattle.x7_boot.specs.Pages.{IsBlock, block_pages, page_size};
 use crate::fault::BootFault;
 use x7_words::Flash;
 
-/// The number of bytes of a page.
+/// How many bytes a page has.
 pub(crate) const PAGE_SIZE: u64 = 4_096;
 
-/// The most pages that are read at once.
+/// How many pages are read at once at most.
 pub(crate) const BLOCK_PAGES: u64 = 16;
 
 /// Reads `count` pages of a flash, from page `number` on, up to the flash's end where that comes first.

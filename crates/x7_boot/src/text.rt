@@ -57,8 +57,8 @@ fn end_line(end: BootEnd) -> &'static [u8]
     }
 }
 
-/// The most bytes of an attempt's line: 20 of its number, eight of each other word, and those between.
-const ATTEMPT_LINE: usize = 56;
+/// How many bytes an attempt's line has at most: 20 of its number, eight of each other word, and those between.
+const LONGEST_ATTEMPT_LINE: usize = 56;
 
 /// Appends the line of the attempt of this number. After an error the text is as it was.
 #[tactic(auto, unfolding(crate::specs::Text::attempt_text))]
@@ -66,7 +66,7 @@ fn put_attempt(text: &mut Vec<u8>, number: u64, tried: &Tried) -> Result<(), NoM
     ensures ok { OnOk result (text.new.items ≡ text.old.items ++ attempt_text number tried.now) }
     ensures err { OnErr result (text.new.items ≡ text.old.items) }
 {
-    make_room(text, ATTEMPT_LINE)?;
+    make_room(text, LONGEST_ATTEMPT_LINE)?;
     put(text, b"attempt ");
     put_decimal(text, number);
     put(text, b" ");

@@ -13,7 +13,7 @@ use Rattle.x7_packets.proofs.HistoryLemmas.{cut_enters, next_word_is}
 use Rattle.x7_crc.specs.RunningCheck.{in_order, running_check}
 use Rattle.x7_crc.specs.Check.{check_after, writes_to}
 use Rattle.x7_crc.proofs.CheckLemmas.{check_after_append, check_after_none, check_after_fits, check_of_more}
-use Rattle.x7_crc.specs.Checker.{steers_check, Checks, HasTaken, IsSum, CheckerState, Keeps}
+use Rattle.x7_crc.specs.Checker.{steers_check, Checks, HasTaken, IsCheckState, CheckerState, Keeps}
 
 pub check_none : running_check [] ≡ 0
 check_none = check_after_none 0 (lit< tt)
@@ -34,11 +34,11 @@ entered_more register n [] w h = let e : n + 4 ≡ n + 4 * 0 + 4 = omega arith i
 entered_more register n (v ∷ ws) w h = let e : n + 4 + 4 * length ws + 4 ≡ n + 4 * length (v ∷ ws) + 4 = omega arith in
     entered_more register (n + 4) ws w (entry (Write register v) (n + 4) ∷ h) ∙ ap (λ (k : ℕ). entry (Write register w) k ∷ entered_all (n + 4) (payload_steps register ws) (entry (Write register v) (n + 4) ∷ h)) e
 
--- a call of the cutter, and the sum after its run
+-- a call of the cutter, and the state after its run
 pub took : (c d : CutterState) (run : Cut) (check held check2 held2 at to : ℕ) (bytes piece : List ℕ)
     → Checks c check held (bytes ++ take at piece) → at ≤ to
     → ((bs : List ℕ) (sessions : List Session) (spot : Place) → CutterStandsFor c bs sessions spot → AfterRun c d (bs ++ between piece at to) sessions spot run)
-    → ((h : History) (n : ℕ) → IsSum check held h → IsSum check2 held2 (entered_all n (run_steps run) h))
+    → ((h : History) (n : ℕ) → IsCheckState check held h → IsCheckState check2 held2 (entered_all n (run_steps run) h))
     → Checks d check2 held2 (bytes ++ take to piece)
 took c d run check held check2 held2 at to bytes piece s h went after =
     let old : List ℕ = bytes ++ take at piece in
@@ -52,7 +52,7 @@ took c d run check held check2 held2 at to bytes piece s h went after =
       sessions = w.new_sessions;
       place = w.new_place;
       stands = w.stands;
-      sum = subst (λ (g : History). IsSum check2 held2 g) (sym grown) (after (history_of (bytes ++ take at piece)) (next_word s.sessions s.place) s.sum);
+      state = subst (λ (g : History). IsCheckState check2 held2 g) (sym grown) (after (history_of (bytes ++ take at piece)) (next_word s.sessions s.place) s.state);
     } in
     subst (λ t. Checks d check2 held2 t) e all
 
@@ -113,16 +113,16 @@ held_all : (register n : ℕ) (ws : List ℕ) (h : History) → (register == 4) 
 held_all register n [] h e = refl
 held_all register n (w ∷ ws) h e = held_all register (n + 4) ws (entry (Write register w) (n + 4) ∷ h) e ∙ held_one register w (n + 4) h e
 
-pub plain_sum : (register n check held folded : ℕ) (ws : List ℕ) (h : History) → steers_check register ≡ false → folded ≡ check_after check (writes_to register ws) → IsSum check held h → IsSum folded held (entered_all n (payload_steps register ws) h)
-plain_sum register n check held folded ws h plain e s =
+pub plain_words : (register n check held folded : ℕ) (ws : List ℕ) (h : History) → steers_check register ≡ false → folded ≡ check_after check (writes_to register ws) → IsCheckState check held h → IsCheckState folded held (entered_all n (payload_steps register ws) h)
+plain_words register n check held folded ws h plain e s =
     let p = none_of (register == 0) (register == 1) (register == 4) (register == 8) plain in
     record {
       check_is = e ∙ ap (λ (c : ℕ). check_after c (writes_to register ws)) s.check_is ∙ sym (check_all register n ws h p.3 (λ g w. plain_open register g w p.0 p.1 p.2));
       held_is = s.held_is ∙ sym (held_all register n ws h p.2);
     }
 
--- the sum after a word written to a register that does not steer the check
-pub plain_word : (register place check held folded w : ℕ) (h : History) → steers_check register ≡ false → folded ≡ check_after check ((register, w) ∷ []) → IsSum check held h → IsSum folded held (entry (Write register w) place ∷ h)
+-- the state after a word written to a register that does not steer the check
+pub plain_word : (register place check held folded w : ℕ) (h : History) → steers_check register ≡ false → folded ≡ check_after check ((register, w) ∷ []) → IsCheckState check held h → IsCheckState folded held (entry (Write register w) place ∷ h)
 plain_word register place check held folded w h plain e s =
     let p = none_of (register == 0) (register == 1) (register == 4) (register == 8) plain in
     record {

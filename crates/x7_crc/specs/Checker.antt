@@ -12,8 +12,8 @@ use Rattle.x7_crc.specs.RunningCheck.{running_check}
 abbrev pub check_of_bytes : List ℕ → ℕ
 check_of_bytes bytes = running_check (history_of bytes)
 
--- the check of a history, and the command that CMD holds
-pub record IsSum (check held : ℕ) (h : History) : Type 0 where
+-- what the check of further writes goes on from: the check of a history, and the command that CMD holds
+pub record IsCheckState (check held : ℕ) (h : History) : Type 0 where
   pub check_is : check ≡ running_check h
   pub held_is : held ≡ command_held h
 
@@ -22,7 +22,7 @@ pub record Checks (cutter : CutterState) (check held : ℕ) (bytes : List ℕ) :
   pub sessions : List Session
   pub place : Place
   pub stands : CutterStandsFor cutter bytes sessions place
-  pub sum : IsSum check held (history_of bytes)
+  pub state : IsCheckState check held (history_of bytes)
 
 -- what a checker of pieces keeps: a cutter, the check of its bytes, and the command that CMD holds
 pub record PieceCheckerState : Type 0 where

@@ -35,12 +35,12 @@ fn fold_blocks(prev: u32, reg: u8, blocks: &[[u8; 16]]) -> u32
     ensures { result ≡ check_after prev (writes_to reg (flat_map words_of_bytes blocks.now)) }
 {
     let zeros = check_of_zeros(reg);
-    let mut sum = prev;
+    let mut folded = prev;
     for block in blocks {
         let [first, second, third, last] = words_of(block);
-        sum = fold_four(sum, zeros, first, second, third, last);
+        folded = fold_four(folded, zeros, first, second, third, last);
     }
-    sum
+    folded
 }
 
 /// The check after writes of whole words to one register, four bytes each, taken word by word.

@@ -5,7 +5,7 @@ ghost use Rattle.x7_regs.specs.Register.{number_of};
 ghost use Rattle.x7_packets.specs.Cutter.{IsRun, run_steps};
 ghost use Rattle.x7_packets.specs.History.{command_held, entered_all, entry, History, Write};
 ghost use Rattle.x7_packets.specs.Packet.{payload_steps};
-ghost use Rattle.x7_crc.specs.Checker.{check_of_bytes, IsSum, Checks, HasTaken, Keeps, steers_check};
+ghost use Rattle.x7_crc.specs.Checker.{check_of_bytes, IsCheckState, Checks, HasTaken, Keeps, steers_check};
 
 use crate::check::{fold, fold_slice};
 use crate::written::{check_after_write, executed};
@@ -14,9 +14,9 @@ use x7_packets::{Cut, Cutter};
 use x7_regs::{Reg, reg_of};
 use x7_words::word_of;
 
-/// The check, and the command that CMD holds, five bits.
+/// What the check of further writes goes on from: the check so far, and the command that CMD holds, five bits.
 #[derive(Clone, Copy)]
-pub(crate) struct Sum {
+pub(crate) struct CheckState {
     check: u32,
     held: u8,
 }
@@ -31,24 +31,24 @@ fn held_after(held: u8, reg: Reg, word: u32) -> u8
     }
 }
 
-/// The sum after a word written to a register that may steer the check.
-fn written(sum: Sum, reg: Reg, word: u32) -> Sum
-    ensures { (h : History) (place : ℕ) → IsSum sum.check sum.held h → IsSum result.check result.held (entry (Write (number_of reg) word) place ∷ h) }
+/// The check state after a word written to a register that may steer the check.
+fn written(state: CheckState, reg: Reg, word: u32) -> CheckState
+    ensures { (h : History) (place : ℕ) → IsCheckState state.check state.held h → IsCheckState result.check result.held (entry (Write (number_of reg) word) place ∷ h) }
 {
-    let executed = executed(sum.held, reg, word);
-    Sum {
-        check: check_after_write(sum.check, reg, word, executed),
-        held: held_after(sum.held, reg, word),
+    let executed = executed(state.held, reg, word);
+    CheckState {
+        check: check_after_write(state.check, reg, word, executed),
+        held: held_after(state.held, reg, word),
     }
 }
 
-/// The sum after words written to a register that may steer the check, word by word.
-fn written_each(sum: Sum, reg: Reg, bytes: &[u8]) -> Sum
+/// The check state after words written to a register that may steer the check, word by word.
+fn written_each(state: CheckState, reg: Reg, bytes: &[u8]) -> CheckState
     requires whole { length bytes.now % 4 ≡ 0 }
-    ensures { (h : History) (n : ℕ) → IsSum sum.check sum.held h → IsSum result.check result.held (entered_all n (payload_steps (number_of reg) (words_of_bytes bytes.now)) h) }
+    ensures { (h : History) (n : ℕ) → IsCheckState state.check state.held h → IsCheckState result.check result.held (entered_all n (payload_steps (number_of reg) (words_of_bytes bytes.now)) h) }
 {
     let (words, _) = bytes.as_chunks::<4>();
-    let mut now = sum;
+    let mut now = state;
     for word in words {
         now = written(now, reg, word_of(*word));
     }
@@ -76,44 +76,44 @@ fn steering(register: u8) -> Option<Reg>
     }
 }
 
-/// The sum after a word written to a register.
-fn written_one(sum: Sum, register: u8, word: u32) -> Sum
+/// The check state after a word written to a register.
+fn written_one(state: CheckState, register: u8, word: u32) -> CheckState
     requires { register < 32 }
-    ensures { (h : History) (place : ℕ) → IsSum sum.check sum.held h → IsSum result.check result.held (entry (Write register word) place ∷ h) }
+    ensures { (h : History) (place : ℕ) → IsCheckState state.check state.held h → IsCheckState result.check result.held (entry (Write register word) place ∷ h) }
 {
     let Some(reg) = steering(register) else {
-        return Sum {
-            check: fold(sum.check, register, word),
-            held: sum.held,
+        return CheckState {
+            check: fold(state.check, register, word),
+            held: state.held,
         };
     };
-    written(sum, reg, word)
+    written(state, reg, word)
 }
 
-/// The sum after words written to a register.
-fn written_all(sum: Sum, register: u8, bytes: &[u8]) -> Sum
+/// The check state after words written to a register.
+fn written_all(state: CheckState, register: u8, bytes: &[u8]) -> CheckState
     requires register { register < 32 }
     requires whole { length bytes.now % 4 ≡ 0 }
-    ensures { (h : History) (n : ℕ) → IsSum sum.check sum.held h → IsSum result.check result.held (entered_all n (payload_steps register (words_of_bytes bytes.now)) h) }
+    ensures { (h : History) (n : ℕ) → IsCheckState state.check state.held h → IsCheckState result.check result.held (entered_all n (payload_steps register (words_of_bytes bytes.now)) h) }
 {
     let Some(reg) = steering(register) else {
-        return Sum {
-            check: fold_slice(sum.check, register, bytes),
-            held: sum.held,
+        return CheckState {
+            check: fold_slice(state.check, register, bytes),
+            held: state.held,
         };
     };
-    written_each(sum, reg, bytes)
+    written_each(state, reg, bytes)
 }
 
-/// The sum after a run.
-fn after(sum: Sum, run: Cut) -> Sum
+/// The check state after a run.
+fn after(state: CheckState, run: Cut) -> CheckState
     requires { IsRun run }
-    ensures { (h : History) (n : ℕ) → IsSum sum.check sum.held h → IsSum result.check result.held (entered_all n (run_steps run.entry) h) }
+    ensures { (h : History) (n : ℕ) → IsCheckState state.check state.held h → IsCheckState result.check result.held (entered_all n (run_steps run.entry) h) }
 {
     match run {
-        Cut::Word(register, word) => written_one(sum, register, word),
-        Cut::Body(register, bytes) => written_all(sum, register, bytes),
-        Cut::Need | Cut::Skip(_) | Cut::Sync | Cut::Head(..) => sum,
+        Cut::Word(register, word) => written_one(state, register, word),
+        Cut::Body(register, bytes) => written_all(state, register, bytes),
+        Cut::Need | Cut::Skip(_) | Cut::Sync | Cut::Head(..) => state,
     }
 }
 
@@ -121,7 +121,7 @@ fn after(sum: Sum, run: Cut) -> Sum
 #[derive(Drop)]
 pub struct PieceChecker {
     cutter: Cutter,
-    sum: Sum,
+    state: CheckState,
 }
 
 impl Model for PieceChecker {
@@ -129,7 +129,7 @@ impl Model for PieceChecker {
 
     ghost Value = { PieceCheckerState };
 
-    ghost view = { λ c. record { cutter = c.cutter; check = c.sum.check; held = c.sum.held } };
+    ghost view = { λ c. record { cutter = c.cutter; check = c.state.check; held = c.state.held } };
 }
 
 impl PieceChecker {
@@ -139,7 +139,7 @@ impl PieceChecker {
     {
         PieceChecker {
             cutter: Cutter::new(),
-            sum: Sum { check: 0, held: 0 },
+            state: CheckState { check: 0, held: 0 },
         }
     }
 
@@ -147,7 +147,7 @@ impl PieceChecker {
     pub fn take(&mut self, piece: &[u8])
         ensures { (bytes : List ℕ) → HasTaken self.old bytes → HasTaken self.new (bytes ++ piece.now) }
     {
-        self.sum = take_all(&mut self.cutter, self.sum, piece);
+        self.state = take_all(&mut self.cutter, self.state, piece);
     }
 
     /// The check of the bytes taken.
@@ -155,7 +155,7 @@ impl PieceChecker {
         ensures kept { result ≡ self.now.check }
         ensures value { (bytes : List ℕ) → HasTaken self.now bytes → result ≡ check_of_bytes bytes }
     {
-        self.sum.check
+        self.state.check
     }
 }
 
@@ -197,11 +197,11 @@ impl Checker {
     }
 }
 
-/// The sum after a whole piece.
-fn take_all(cutter: &mut Cutter, sum: Sum, piece: &[u8]) -> Sum
-    ensures { (bytes : List ℕ) → Checks cutter.old sum.check sum.held bytes → Checks cutter.new result.check result.held (bytes ++ piece.now) }
+/// The check state after a whole piece.
+fn take_all(cutter: &mut Cutter, state: CheckState, piece: &[u8]) -> CheckState
+    ensures { (bytes : List ℕ) → Checks cutter.old state.check state.held bytes → Checks cutter.new result.check result.held (bytes ++ piece.now) }
 {
-    let mut now = sum;
+    let mut now = state;
     let mut at = 0;
     loop {
         let run = cutter.cut(piece, &mut at);

@@ -11,4 +11,4 @@ mod written;
 pub use check::{fold, fold_slice};
 pub use checker::{Checker, PieceChecker};
 pub use laws::{checks_are_linear, checks_are_remainders, checks_continue, checks_of_histories};
-pub use written::{check_after_write, executed, is};
+pub use written::{check_after_write, executed, is_command};

@@ -28,7 +28,7 @@ fn is_executed_again(held: u8) -> bool
 }
 
 /// Whether the command executed is this one.
-pub fn is(command: Command, executed: Option<u8>) -> bool
+pub fn is_command(command: Command, executed: Option<u8>) -> bool
     ensures { result ≡ is_command (code_of command) executed }
 {
     match executed {
@@ -44,7 +44,7 @@ pub fn check_after_write(check: u32, reg: Reg, word: u32, executed: Option<u8>) 
 {
     match reg {
         Reg::Crc => 0,
-        _ if is(Command::Rcrc, executed) => 0,
+        _ if is_command(Command::Rcrc, executed) => 0,
         Reg::Lout => check,
         _ => fold(check, reg.number(), word),
     }

@@ -10,7 +10,8 @@ use Rattle.x7_packets.specs.Reading.{is_synced}
 use Rattle.x7_part.specs.Part.{PartData}
 use Rattle.x7_startup.specs.Startup.{StartupProgress}
 use Rattle.x7_memory.specs.FrameMap.{AreSame, FrameMap}
-use Rattle.x7_flow.specs.Controls.{ctl0_held, forbids_reading}
+use Rattle.x7_regs.specs.Control.{forbids_reading}
+use Rattle.x7_flow.specs.Controls.{ctl0_held}
 use Rattle.x7_flow.specs.FrameMemory.{memory_of}
 use Rattle.x7_engine.specs.declared.kept.Kept.{Kept}
 use Rattle.x7_engine.specs.Rest.{AtRest}

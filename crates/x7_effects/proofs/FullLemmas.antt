@@ -19,13 +19,14 @@ use Rattle.x7_memory.specs.Plan.{IsPlan, PlanData, planned_addresses}
 use Rattle.x7_pipeline.specs.Runs.{written_frames, onto, put_over, slots_from}
 use Rattle.x7_startup.specs.Startup.{Begun, NotBegun, StartupProgress, cor0_of}
 use Rattle.x7_startup.proofs.CallLemmas.{further}
-use Rattle.x7_flow.specs.Controls.{ctl0_held, forbids_reading, is_matched, mask_held, masked_word}
+use Rattle.x7_regs.specs.Control.{forbids_reading, has_dec}
+use Rattle.x7_flow.specs.Controls.{ctl0_held, is_matched, mask_held, masked_word}
 use Rattle.x7_flow.specs.FrameMemory.{memory_of}
 use Rattle.x7_engine.specs.declared.kept.Kept.{Kept}
 use Rattle.x7_engine.specs.Registers.{is_pending}
 use Rattle.x7_engine.specs.Rest.{AtRest}
 use Rattle.x7_engine.specs.Startup.{phase_by, phase_of, startup_progress}
-use Rattle.x7_engine.specs.Stop.{why_by_access, asks_decryption, has_dec, why_at, stop_of}
+use Rattle.x7_engine.specs.Stop.{why_by_access, asks_decryption, why_at, stop_of}
 use Rattle.x7_engine.proofs.MaskLemmas.{bit_step}
 use Rattle.x7_engine.proofs.PassesLemmas.{went_past}
 use Rattle.x7_engine.proofs.StateLemmas.{parts_none}

@@ -12,7 +12,8 @@ use Rattle.x7_packets.proofs.GrowthLemmas.{placed_of}
 use Rattle.x7_part.specs.Part.{PartData}
 use Rattle.x7_startup.specs.Startup.{NotBegun, StartupProgress, is_armed, since_taking}
 use Rattle.x7_startup.specs.Startup as call
-use Rattle.x7_flow.specs.Controls.{ctl0_held, forbids_reading}
+use Rattle.x7_regs.specs.Control.{forbids_reading}
+use Rattle.x7_flow.specs.Controls.{ctl0_held}
 use Rattle.x7_engine.specs.declared.kept.Kept.{Kept}
 use Rattle.x7_engine.specs.Clock.{newest_place}
 use Rattle.x7_engine.specs.Rest.{AtRest}

@@ -14,7 +14,8 @@ use Rattle.x7_memory.proofs.MapLemmas.{override_same}
 use Rattle.x7_pipeline.specs.FarAsRead.{has_frame_at, loaded_base}
 use Rattle.x7_pipeline.specs.Runs.{written_frames, onto, put_over, slots_from}
 use Rattle.x7_words.specs.Word.{field_of}
-use Rattle.x7_flow.specs.Controls.{ctl0_held, forbids_reading, forbids_writing, is_matched}
+use Rattle.x7_regs.specs.Control.{forbids_reading, forbids_writing}
+use Rattle.x7_flow.specs.Controls.{ctl0_held, is_matched}
 use Rattle.x7_flow.specs.Flow.{Flow, base_of, frame_fault, run_of}
 use Rattle.x7_flow.specs.FrameMemory.{memory_of}
 use Rattle.x7_flow.specs.Settings.{Settings, settings_of, takes_frames}

@@ -12,7 +12,8 @@ use Rattle.x7_regs.specs.declared.register.Reg.TheVariants as reg
 use Rattle.x7_flow.specs.Controls.{ctl0_held, is_matched, mask_held, masked_word, same_idcode}
 use Rattle.x7_flow.specs.Flow.{frame_fault}
 use Rattle.x7_engine.specs.Kept.{is_fallback}
-use Rattle.x7_engine.specs.Stop.{Stopped, has_dec, stop_of, stopped_at, stopped_by_watchdog, why_at, why_by_access, why_by_frames, why_by_write}
+use Rattle.x7_regs.specs.Control.{has_dec}
+use Rattle.x7_engine.specs.Stop.{Stopped, stop_of, stopped_at, stopped_by_watchdog, why_at, why_by_access, why_by_frames, why_by_write}
 use Rattle.x7_engine.specs.Watching.{first_firing}
 use Rattle.x7_engine.specs.declared.fault.Fault.TheVariants as fault
 use Rattle.x7_engine.specs.declared.kept.Kept.{Kept}

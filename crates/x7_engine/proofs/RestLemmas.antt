@@ -21,7 +21,7 @@ use Rattle.x7_flow.specs.Controls.{ctl0_held}
 use Rattle.x7_engine.specs.Registers.{is_pending}
 use Rattle.x7_engine.specs.Rest.{AtRest, LastGapGoesOn}
 use Rattle.x7_engine.specs.Startup.{has_ended, phase_of, startup_calls, startup_progress}
-use Rattle.x7_flow.specs.Controls.{forbids_reading}
+use Rattle.x7_regs.specs.Control.{forbids_reading}
 use Rattle.x7_engine.specs.Stop.{Stopped, stop_of, stopped_by_watchdog}
 use Rattle.x7_engine.specs.Watching.{first_firing, timer_held, turns_on}
 use Rattle.x7_engine.proofs.ClockLemmas.{last_of, none_fires, phase_rises, startup_more, stop_more_bytes}

@@ -12,7 +12,7 @@ use Rattle.x7_flow.specs.Controls.{ctl0_held}
 use Rattle.x7_engine.specs.Registers.{is_pending}
 use Rattle.x7_engine.specs.Startup.{phase_of, startup_progress}
 use Rattle.x7_engine.specs.State.{stop_in}
-use Rattle.x7_flow.specs.Controls.{forbids_reading}
+use Rattle.x7_regs.specs.Control.{forbids_reading}
 use Rattle.x7_engine.specs.Watching.{timer_held, turns_on}
 
 -- After these bytes there is no stop, and the sync word is searched. Startup hasn't begun or has ended, SBITS are 00,

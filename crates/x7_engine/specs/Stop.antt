@@ -1,13 +1,13 @@
 -- What stops a device (UG470, configuration registers; the order in which they are looked at is this project's choice).
 use Rattle.std.specs.Prelude.{ℕ, ◌-◌, ◌%◌, ◌^◌, ◌==◌, ◌&&◌, ◌||◌, Bool, not, if◌then◌else◌, [], ◌∷◌, Option, None, Some}
 use Rattle.std.specs.Option.{option_or}
-use Rattle.x7_words.specs.Word.{field_of}
 use Rattle.x7_packets.specs.History.{Access, Write, Read, Bad, History, executes}
 use Rattle.x7_crc.specs.RunningCheck.{running_check}
 use Rattle.x7_part.specs.Part.{PartData}
 use Rattle.x7_regs.specs.declared.command.Command.TheVariants as command
 use Rattle.x7_regs.specs.declared.register.Reg.TheVariants as reg
 use Rattle.x7_regs.specs.Command.{code_of}
+use Rattle.x7_regs.specs.Control.{has_dec}
 use Rattle.x7_regs.specs.Register.{number_of}
 use Rattle.x7_pipeline.specs.declared.fault.RunFault.{RunFault}
 use Rattle.x7_pipeline.specs.declared.fault.RunFault.TheVariants as run
@@ -21,9 +21,6 @@ use Rattle.x7_engine.specs.Kept.{is_fallback}
 use Rattle.x7_flow.specs.Controls.{ctl0_held, is_matched, mask_held, masked_word, same_idcode}
 use Rattle.x7_engine.specs.Watching.{first_firing}
 
--- DEC of CTL0, bit 6: a stream would be encrypted
-abbrev pub has_dec : ℕ → Bool
-has_dec ctl0 = field_of 6 1 ctl0 == 1
 
 -- the word written to CBC, or one after which CTL0 has DEC, asks for decryption, which is left out
 abbrev pub asks_decryption : History → ℕ → ℕ → Bool

@@ -14,7 +14,7 @@ ghost use Rattle.x7_engine.specs.Value.{lines_by};
 ghost use Rattle.x7_engine.specs.Watching.{fires, first_firing};
 ghost use Rattle.x7_engine.specs.declared.kept.Kept.{Kept};
 
-use x7_crc::is;
+use x7_crc::is_command;
 use x7_part::Part;
 use x7_regs::{Command, Reg};
 use x7_startup::{Lines, Startup, Watchdog};
@@ -23,7 +23,7 @@ use x7_startup::{Lines, Startup, Watchdog};
 fn move_startup(startup: &mut Startup, executed: Option<u8>, taken: bool, cor0: u32)
     ensures { (lock matched : ℕ) (calls : List Call) → StandsForCalls lock matched startup.old calls → StandsForCalls lock matched startup.new (calls ++ startup_call_by executed taken cor0) }
 {
-    if is(Command::Start, executed) {
+    if is_command(Command::Start, executed) {
         startup.arm();
         return;
     }
@@ -31,7 +31,7 @@ fn move_startup(startup: &mut Startup, executed: Option<u8>, taken: bool, cor0: 
         startup.drop_back();
         return;
     }
-    if is(Command::Desync, executed) {
+    if is_command(Command::Desync, executed) {
         startup.desync(cor0);
     }
 }
@@ -40,7 +40,7 @@ fn move_startup(startup: &mut Startup, executed: Option<u8>, taken: bool, cor0: 
 fn move_watchdog(watchdog: &mut Watchdog, executed: Option<u8>, reg: Reg, word: u32)
     ensures { (off : Bool) (first : ℕ) (calls : List WatchCall) → WatchesFor off first watchdog.old calls → WatchesFor off first watchdog.new (calls ++ watch_call_by executed (word_to reg word)) }
 {
-    if is(Command::Ltimer, executed) {
+    if is_command(Command::Ltimer, executed) {
         watchdog.reload();
         return;
     }

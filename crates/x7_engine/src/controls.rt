@@ -3,7 +3,6 @@ ghost use Rattle.std.specs.Prelude.{◌≡◌, ℕ, ◌∷◌, [], ◌==◌};
 ghost use Rattle.x7_packets.specs.History.{entry, History, Write};
 ghost use Rattle.x7_regs.specs.Register.{number_of};
 ghost use Rattle.x7_flow.specs.Controls.{mask_held, masked_word};
-ghost use Rattle.x7_engine.specs.Stop.{has_dec};
 
 use x7_regs::Reg;
 
@@ -12,13 +11,6 @@ pub(crate) fn masked(old: u32, mask: u32, word: u32) -> u32
     ensures { (register : ℕ) → result ≡ masked_word register mask (Write register word) old }
 {
     old & !mask | word & mask
-}
-
-/// Whether CTL0 has DEC (UG470, control register 0).
-pub(crate) fn is_dec(ctl0: u32) -> bool
-    ensures { result ≡ has_dec ctl0 }
-{
-    ctl0 >> 6 & 1 == 1
 }
 
 /// CTL0 and CTL1.

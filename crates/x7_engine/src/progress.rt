@@ -9,7 +9,7 @@ ghost use Rattle.x7_engine.specs.Entering.{words_entered};
 ghost use Rattle.x7_engine.specs.Registers.{clears_by, ghigh_after, is_controlling, pending_after, takes_shutdown, writes_check, writes_command};
 
 use crate::target::PlainNumber;
-use x7_crc::{check_after_write, fold, fold_slice, is};
+use x7_crc::{check_after_write, fold, fold_slice, is_command};
 use x7_regs::{Command, Reg};
 
 /// The bits of an idcode but its version, bits 31 to 28, which isn't compared (this project's choice).
@@ -36,21 +36,21 @@ fn is_check(check: u32, reg: Reg, word: u32) -> bool
 fn clears(executed: Option<u8>, check: u32, reg: Reg, word: u32) -> bool
     ensures { result ≡ clears_by executed check (word_to reg word) }
 {
-    is(Command::Rcrc, executed) || is_check(check, reg, word)
+    is_command(Command::Rcrc, executed) || is_check(check, reg, word)
 }
 
 /// Whether a shutdown is pending after a written word.
 fn is_pending_after(pending: bool, executed: Option<u8>, cleared: bool) -> bool
     ensures { result ≡ pending_after executed cleared pending }
 {
-    !cleared && (is(Command::Shutdown, executed) || pending)
+    !cleared && (is_command(Command::Shutdown, executed) || pending)
 }
 
 /// GHIGH_B after a written word.
 fn is_ghigh_after(ghigh: bool, executed: Option<u8>, taken: bool) -> bool
     ensures { result ≡ ghigh_after executed taken ghigh }
 {
-    is(Command::Lfrm, executed) || ghigh && !is(Command::Aghigh, executed) && !taken
+    is_command(Command::Lfrm, executed) || ghigh && !is_command(Command::Aghigh, executed) && !taken
 }
 
 /// Whether two conditions hold both: `&&`, by a name that proofs cite.

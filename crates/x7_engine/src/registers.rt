@@ -19,7 +19,7 @@ ghost use Rattle.x7_engine.specs.Targets.{target_number};
 ghost use Rattle.x7_engine.specs.Entering.{AreRead, change_of, Enters, EntersAt, EntersIf, OfHistory, ReadsIf, RunEnters, RunReads, step_entered, up_to_stop, word_entered};
 
 use crate::clock::Clock;
-use crate::controls::{Controls, is_dec, masked};
+use crate::controls::{Controls, masked};
 use crate::due::Due;
 use crate::fault::Fault;
 use crate::kept::{Kept, is_a_fallback};
@@ -27,12 +27,12 @@ use crate::progress::{Progress, is_same_idcode};
 use crate::stop::Stop;
 use crate::target::{PlainNumber, Target};
 use crate::words::Words;
-use x7_crc::{executed, is};
+use x7_crc::{executed, is_command};
 use x7_flow::{FrameSettings, Frames};
 use x7_packets::{Cut, Step};
 use x7_part::Part;
 use x7_pipeline::RunFault;
-use x7_regs::{Attempt, Command, Kind, Reg};
+use x7_regs::{Attempt, Command, Kind, Reg, has_dec};
 use x7_words::word_of;
 
 /// How many of the bytes taken end words that count, after a stop or none.
@@ -179,13 +179,13 @@ impl Registers {
                 want: check,
                 got: word,
             })),
-            Reg::Far | Reg::Cmd if is(Command::Start, executed) && !matched => unmatched,
+            Reg::Far | Reg::Cmd if is_command(Command::Start, executed) && !matched => unmatched,
             Reg::Fdri if !matched => unmatched,
             Reg::Mfwr if !matched => unmatched,
-            Reg::Cmd if is(Command::Iprog, executed) && !is_a_fallback(self.kind) => Some(
+            Reg::Cmd if is_command(Command::Iprog, executed) && !is_a_fallback(self.kind) => Some(
                 Stop::Iprog,
             ),
-            Reg::Ctl0 if is_dec(masked(self.controls.ctl0, self.words.held(Reg::Mask), word)) =>
+            Reg::Ctl0 if has_dec(masked(self.controls.ctl0, self.words.held(Reg::Mask), word)) =>
                 Some(Stop::Fault(Fault::Encrypted)),
             Reg::Cbc => Some(Stop::Fault(Fault::Encrypted)),
             Reg::Idcode if !is_same_idcode(idcode, word) => Some(Stop::Fault(Fault::Id {

@@ -25,14 +25,6 @@ masked register (e ∷ h) = masked_word register (mask_held h) e.access (masked 
 abbrev pub ctl0_held : History → ℕ
 ctl0_held h = masked (number_of Ctl0) h
 
--- SBITS of CTL0, bits 5:4: 00 allows reading and writing, 01 forbids reading, 1x forbids both
-abbrev pub forbids_writing : ℕ → Bool
-forbids_writing ctl0 = field_of 5 1 ctl0 == 1
-
--- SBITS forbid reading
-abbrev pub forbids_reading : ℕ → Bool
-forbids_reading ctl0 = not (field_of 4 2 ctl0 == 0)
-
 -- a written IDCODE is the part's where the low 28 bits agree (that bits 31:28 aren't compared is this project's choice)
 abbrev pub same_idcode : ℕ → ℕ → Bool
 same_idcode idcode w = w % 2 ^ 28 == idcode % 2 ^ 28

@@ -5,7 +5,8 @@ use Rattle.x7_regs.specs.declared.command.Command.TheVariants as command
 use Rattle.x7_regs.specs.declared.register.Reg.TheVariants as reg
 use Rattle.x7_regs.specs.Command.{code_of}
 use Rattle.x7_regs.specs.Register.{number_of}
-use Rattle.x7_flow.specs.Controls.{ctl0_held, forbids_reading, forbids_writing, is_matched}
+use Rattle.x7_regs.specs.Control.{forbids_reading, forbids_writing}
+use Rattle.x7_flow.specs.Controls.{ctl0_held, is_matched}
 
 -- a word of frame data for the memory: written to FDRI on a matched device, under WCFG, where SBITS allow writing
 abbrev pub writes_frame_data : ℕ → History → Access → Bool

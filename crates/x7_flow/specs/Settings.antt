@@ -8,7 +8,8 @@ use Rattle.x7_regs.specs.declared.register.Reg.TheVariants as reg
 use Rattle.x7_regs.specs.Command.{code_of}
 use Rattle.x7_regs.specs.Register.{number_of}
 use Rattle.x7_flow.specs.declared.settings.FrameSettings.{FrameSettings}
-use Rattle.x7_flow.specs.Controls.{ctl0_held, forbids_reading, forbids_writing, is_matched, mask_held, masked_word, names_part}
+use Rattle.x7_regs.specs.Control.{forbids_reading, forbids_writing}
+use Rattle.x7_flow.specs.Controls.{ctl0_held, is_matched, mask_held, masked_word, names_part}
 
 -- a matched device or not, the words of MASK and CTL0, and the code of the command that CMD holds
 pub record Settings : Type 0 where

@@ -4,33 +4,19 @@ ghost use Rattle.x7_packets.specs.History.{History, Read};
 ghost use Rattle.x7_regs.specs.Command.{code_of};
 ghost use Rattle.x7_regs.specs.Register.{number_of};
 ghost use Rattle.x7_regs.specs.declared.command.Command.TheVariants as command;
-ghost use Rattle.x7_flow.specs.Controls.{forbids_reading, forbids_writing};
+ghost use Rattle.x7_regs.specs.Control.{forbids_reading, forbids_writing};
 ghost use Rattle.x7_flow.specs.FrameAccess.{reads_frame_data};
 ghost use Rattle.x7_flow.specs.Settings.{AreSettingsAfter, settings_of, takes_copies as takes_copies_by, takes_frames as takes_frames_by};
 
 use crate::settings::FrameSettings;
-use x7_regs::{Command, Reg, reg_of};
-
-/// Whether SBITS of CTL0 let frames be written.
-fn may_write(ctl0: u32) -> bool
-    ensures { result ≡ not (forbids_writing ctl0) }
-{
-    ctl0 >> 5 & 1 != 1
-}
-
-/// Whether SBITS of CTL0 let frames be read.
-fn may_read(ctl0: u32) -> bool
-    ensures { result ≡ not (forbids_reading ctl0) }
-{
-    ctl0 >> 4 & 3 == 0
-}
+use x7_regs::{Command, Reg, forbids_reading, forbids_writing, reg_of};
 
 /// Whether words of MFWR ask for copies.
 pub(crate) fn takes_copies(settings: FrameSettings) -> bool
     ensures value { result ≡ (settings.matched && not (forbids_writing settings.ctl0)) }
     ensures after { (idcode : ℕ) (h : History) → AreSettingsAfter idcode settings h → result ≡ takes_copies_by (settings_of idcode h) }
 {
-    settings.matched && may_write(settings.ctl0)
+    settings.matched && !forbids_writing(settings.ctl0)
 }
 
 /// Whether words of FDRI go to the memory.
@@ -38,7 +24,9 @@ pub(crate) fn takes_frames(settings: FrameSettings) -> bool
     ensures value { result ≡ (settings.matched && (settings.held == code_of command.Wcfg && not (forbids_writing settings.ctl0))) }
     ensures after { (idcode : ℕ) (h : History) → AreSettingsAfter idcode settings h → result ≡ takes_frames_by (settings_of idcode h) }
 {
-    settings.matched && u32::from(settings.held) == Command::Wcfg.code() && may_write(settings.ctl0)
+    settings.matched
+        && u32::from(settings.held) == Command::Wcfg.code()
+        && !forbids_writing(settings.ctl0)
 }
 
 /// Whether a register's number is that of the frame data that are read.
@@ -58,5 +46,5 @@ pub fn reads_frames(settings: FrameSettings, register: u8, count: u32) -> bool
     is_readback(register)
         && count != 0
         && u32::from(settings.held) == Command::Rcfg.code()
-        && may_read(settings.ctl0)
+        && !forbids_reading(settings.ctl0)
 }

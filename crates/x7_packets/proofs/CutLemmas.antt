@@ -212,7 +212,7 @@ pub cuts_found : (c n : CutterState) (rest : List ℕ) (run : Bor (List ℕ)) (c
 cuts_found c n rest run count taken is to same none none2 some most t after e fits =
     let long : length run.now ≡ count = ap length e ∙ length-take-le count rest most in
     rw t (record {
-      goes = rw (is, to) (omega arith);
+      nearer = rw (is, to) (omega arith);
       need = rw is (λ x. absurd x, λ x. absurd (omega arith));
       joined = ap (λ k. k ++ take count rest) none ∙ sym e ∙ sym (append-nil run.now) ∙ ap (λ k. run.now ++ k) (sym none2);
       run = omega (arith, long);
@@ -230,7 +230,7 @@ cuts_all c n rest run taken is to same none none2 some t after e fits =
     let long : length run.now ≡ length rest = ap length e in
     let all : take (length rest) rest ≡ rest = take_all (length rest) rest (omega arith) in
     rw t (record {
-      goes = rw (is, to) (omega arith);
+      nearer = rw (is, to) (omega arith);
       need = rw is (λ x. absurd x, λ x. absurd (omega arith));
       joined = ap (λ k. k ++ take (length rest) rest) none ∙ all ∙ sym e ∙ sym (append-nil run.now) ∙ ap (λ k. run.now ++ k) (sym none2);
       run = omega (arith, long);

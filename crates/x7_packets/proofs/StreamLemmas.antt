@@ -164,7 +164,7 @@ cuts_whole c n rest count r g nd j i l k a =
     let all : length rest - 0 ≡ length rest = omega arith in
     let from : count - 0 ≡ count = omega arith in
     record {
-      goes = subst (λ (m : ℕ). ComesNearer r (length rest - count) (calls_left c m) (calls_left n (length rest - count))) all g;
+      nearer = subst (λ (m : ℕ). ComesNearer r (length rest - count) (calls_left c m) (calls_left n (length rest - count))) all g;
       need = subst (λ (m : ℕ). IsNeed r ↔ CompletesNone c c.mode m) all nd;
       joined = subst (λ (m : ℕ). c.kept ++ take m rest ≡ run_bytes r ++ n.kept) from j;
       run = i;
@@ -336,7 +336,7 @@ all_dropped : (n : ℕ) (xs : List ℕ) → length xs - n ≡ 0 → drop n xs �
 all_dropped n xs h = drop_all n xs (omega (arith, h))
 
 pub needs_all : (old new : PacketsState) (s : Steps old new false) → new.left ≡ []
-needs_all old new s = s.left ∙ all_dropped s.count old.left (need_goes s.run _ _ _ s.is s.cuts.goes)
+needs_all old new s = s.left ∙ all_dropped s.count old.left (need_goes s.run _ _ _ s.is s.cuts.nearer)
 
 -- the reader stands for the bytes of a piece more
 pub fills : (old : PacketsState) (bytes given piece : List ℕ) → old.left ≡ [] → old.done ≡ false → PacketsStandFor old bytes given → PacketsStandFor (filled old piece) (bytes ++ piece) given
@@ -369,7 +369,7 @@ few_left c Mode.Synced left h s = h
 
 pub turns_go : (old new : PacketsState) (s : Steps old new false) (piece : List ℕ) → 0 < length piece → turns_left new.cutter.kept piece < turns_left old.cutter.kept old.left
 turns_go old new s piece some =
-    let none : length old.left - s.count ≡ 0 = need_goes s.run _ _ _ s.is s.cuts.goes in
+    let none : length old.left - s.count ≡ 0 = need_goes s.run _ _ _ s.is s.cuts.nearer in
     let whole : take s.count old.left ≡ old.left = take_all s.count old.left (omega (arith, none)) in
     let joined : old.cutter.kept ++ old.left ≡ new.cutter.kept = ap (λ t. old.cutter.kept ++ t) (sym whole) ∙ s.cuts.joined ∙ ap (λ x. x ++ new.cutter.kept) (need_tells_none s.run s.is) in
     turns_fall old.cutter.kept old.left new.cutter.kept piece some (ap length (sym joined) ∙ length-append old.cutter.kept old.left) (few_left old.cutter old.cutter.mode (length old.left) (s.cuts.need.0 s.is))

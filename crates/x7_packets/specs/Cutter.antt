@@ -195,7 +195,7 @@ pub record HasCut (bytes more : List ℕ) (r : Reading) (run : Cut) : Type 0 whe
 
 -- one call of a cutter on the bytes that are left of a piece, of which it took a number
 pub record Cuts (old new : CutterState) (rest : List ℕ) (taken : ℕ) (cut : Cut) : Type 0 where
-  pub goes : ComesNearer cut (length rest - taken) (calls_left old (length rest)) (calls_left new (length rest - taken))
+  pub nearer : ComesNearer cut (length rest - taken) (calls_left old (length rest)) (calls_left new (length rest - taken))
   pub need : IsNeed cut ↔ CompletesNone old old.mode (length rest)
   pub joined : old.kept ++ take taken rest ≡ run_bytes cut ++ new.kept
   pub run : IsRun cut

@@ -1,4 +1,4 @@
--- A slot of a flash's first sector, 32 bytes: a switch word, and packets that lead a device on (UG470, MultiBoot and
+-- A slot of a flash's first sector: a switch word, and packets that lead a device on (UG470, MultiBoot and
 -- fallback; that the first word switches a slot is this project's choice).
 use Rattle.std.specs.Prelude.{ℕ, List, ◌++◌}
 use Rattle.std.specs.List.{flat_map}
@@ -9,11 +9,15 @@ use Rattle.x7_regs.specs.declared.command.Command.TheVariants.{Desync, Iprog}
 use Rattle.x7_regs.specs.declared.register.Reg.TheVariants.{Wbstar}
 use Rattle.x7_packets.specs.PacketWords.{command, no_op, type1_write}
 
+-- how many bytes a slot has
+abbrev pub slot_bytes : ℕ
+slot_bytes = 32
+
 -- how many slots fill a sector
 abbrev pub slot_count : ℕ
 slot_count = 2048
 
--- the 32 bytes of a slot with a switch word and a start address, four bytes each: a no-op, a write of the address to
+-- the bytes of a slot with a switch word and a start address, four bytes each: a no-op, a write of the address to
 -- WBSTAR, IPROG, and then DESYNC for a fallback, which ignores IPROG
 abbrev pub flash_slot : List ℕ → List ℕ → List ℕ
 flash_slot switch start =

@@ -32,19 +32,19 @@ bus_width_detect = 0x11220044
 abbrev pub no_op_kind : ℕ
 no_op_kind = 4
 
--- the type and the opcode of a type 1 read
+-- the packet type and the opcode of a type 1 read as one number
 abbrev pub type1_read_kind : ℕ
 type1_read_kind = 5
 
--- the type and the opcode of a type 1 write
+-- the packet type and the opcode of a type 1 write as one number
 abbrev pub type1_write_kind : ℕ
 type1_write_kind = 6
 
--- the type and the opcode of a type 2 read
+-- the packet type and the opcode of a type 2 read as one number
 abbrev pub type2_read_kind : ℕ
 type2_read_kind = 9
 
--- the type and the opcode of a type 2 write
+-- the packet type and the opcode of a type 2 write as one number
 abbrev pub type2_write_kind : ℕ
 type2_write_kind = 10
 

@@ -11,9 +11,8 @@ ghost use Rattle.x7_packets.specs.Reading.{Searching, is_synced, tail_of};
 ghost use Rattle.x7_packets.specs.SyncWord.{HasNoSync, sync_bytes};
 ghost use Rattle.x7_packets.specs.Machine.{AllWhole};
 
-/// After bytes that end searching, bytes that begin with a dummy word are read as they are alone: the
-/// reading of both is one after the other, and so is their history, whose places are moved. The same
-/// holds of each prefix of the later bytes.
+/// After bytes that end searching, bytes that begin with a dummy word are read as they are alone, and so is each prefix
+/// of them: the reading of both is one after the other, and so is their history, whose places are moved.
 pub fn streams_append()
     ensures reading { (bytes more : List ℕ) → AreBytes (bytes ++ more) → MayFollow (reading_of bytes).place more
         → reading_of (bytes ++ more) ≡ after (reading_of bytes) (reading_of more) }
@@ -45,7 +44,7 @@ pub fn gaps_are_passed()
 
 /// Words that end in no open payload, and then those of a packet: the packets are one more.
 pub fn packets_append()
-    ensures one { (ws : List ℕ) (packets : List Packet) (packet : Packet) → Packets ws packets → AllWhole None packets → MayComeNext packets packet
+    ensures packets { (ws : List ℕ) (packets : List Packet) (packet : Packet) → Packets ws packets → AllWhole None packets → MayComeNext packets packet
         → Packets (ws ++ words packet) (packets ++ packet ∷ []) }
     ensures whole { (packets : List Packet) (packet : Packet) → AllWhole None packets → MayComeNext packets packet → IsWhole packet
         → AllWhole None (packets ++ packet ∷ []) }

@@ -247,8 +247,8 @@ impl Cutter {
         Some((register, count as usize))
     }
 
-    /// Takes a gap that comes next, and gives the sync word after it, where both are a short gap's and begin in `rest`,
-    /// which is long enough to see that. Gives how many bytes of the gap stand in `rest`.
+    /// Takes a short gap that comes next, and gives the sync word after it, where that stands near the beginning of
+    /// `rest` and `rest` is long enough to see it. Gives how many bytes of the gap stand in `rest`.
     #[inline(always)]
     pub fn take_gap(&mut self, rest: &[u8]) -> Option<usize>
         ensures some { IfSome result (λ count. EndsGap self.old self.new rest.now count) }
@@ -301,7 +301,7 @@ impl Cutter {
         requires { at.old ≤ length piece.now }
         ensures forward { at.old ≤ at.new }
         ensures within { at.new ≤ length piece.now }
-        ensures goes { ComesNearer result (length piece.now - at.new) (calls_left self.old (length piece.now - at.old)) (calls_left self.new (length piece.now - at.new)) }
+        ensures nearer { ComesNearer result (length piece.now - at.new) (calls_left self.old (length piece.now - at.old)) (calls_left self.new (length piece.now - at.new)) }
         ensures need { IsNeed result ↔ CompletesNone self.old self.old.mode (length piece.now - at.old) }
         ensures joined { self.old.kept ++ between piece.now at.old at.new ≡ run_bytes result ++ self.new.kept }
         ensures run { IsRun result }

@@ -45,7 +45,7 @@ pub fn words_enter()
         → next_word sessions place + length (tail_of place) ≡ length bytes }
     ensures cut { (bytes more : List ℕ) (r : Reading) (run : Cut) → HasCut bytes more r run
         → history_of (bytes ++ more) ≡ entered_all (next_in r) (run_steps run) (history_of bytes) }
-    ensures one { (bytes : List ℕ) (sessions : List Session) (place : Place) → IsReading bytes sessions place → history sessions place ≡ history_of bytes }
+    ensures history { (bytes : List ℕ) (sessions : List Session) (place : Place) → IsReading bytes sessions place → history sessions place ≡ history_of bytes }
 {}
 
 /// The history of words after others.
@@ -69,7 +69,7 @@ pub fn accesses_fit()
 
 /// The history of bytes grows byte by byte: by one access at most, which that byte ends.
 pub fn histories_grow()
-    ensures one { (bytes : List ℕ) (x : ℕ) → AreBytes (bytes ++ x ∷ [])
+    ensures access { (bytes : List ℕ) (x : ℕ) → AreBytes (bytes ++ x ∷ [])
         → EntersNone bytes (x ∷ []) ⊎ ((access : Access) × EntersOne bytes (x ∷ []) (entry access (length bytes + 1))) }
     ensures newer { (bytes more : List ℕ) → AreBytes (bytes ++ more)
         → EntersNewer bytes more }

@@ -33,6 +33,6 @@ pub use packet_words::{
     frame_read, kind_in, register_in, type1_count_in, type1_read, type1_write, type2_count_in,
     type2_read, type2_write, write_one,
 };
-pub use slot::{SLOT_COUNT, flash_slot};
+pub use slot::{SLOT_BYTES, SLOT_COUNT, flash_slot};
 pub use stream::{Packets, Run};
 pub use sync::Matcher;

@@ -6,7 +6,7 @@ use std::simd::prelude::*;
 use x7_words::{bytes_of, word_of};
 
 /// How many words a block has.
-const BLOCK: usize = 8;
+const BLOCK_WORDS: usize = 8;
 
 /// How many of the first words are `w`, one after the other, counted word by word.
 #[inline(always)]
@@ -29,7 +29,7 @@ fn block_of(w: u32) -> [u8; 32]
     ensures { result ≡ equal_bytes w 8 }
 {
     let mut block = [0; 32];
-    block.copy_from_slice([bytes_of(w); BLOCK].as_flattened());
+    block.copy_from_slice([bytes_of(w); BLOCK_WORDS].as_flattened());
     block
 }
 
@@ -67,9 +67,9 @@ pub(crate) fn count_equal(bytes: &[u8], w: u32) -> usize
     ensures equal { take (4 * result) bytes.now ≡ equal_bytes w result }
 {
     let near = count_words(&bytes[..bytes.len().min(32)], w);
-    if near < BLOCK {
+    if near < BLOCK_WORDS {
         return near;
     }
     let blocks = count_blocks(bytes, w);
-    BLOCK * blocks + count_words(&bytes[32 * blocks..], w)
+    BLOCK_WORDS * blocks + count_words(&bytes[32 * blocks..], w)
 }

@@ -6,6 +6,9 @@ use crate::packet_words::{NO_OP, type1_write};
 use x7_regs::{Command, Reg};
 use x7_words::bytes_of;
 
+/// How many bytes a slot has.
+pub const SLOT_BYTES: u64 = 32;
+
 /// How many slots fill a sector.
 pub const SLOT_COUNT: u64 = 2048;
 

@@ -67,7 +67,7 @@ fn last_of(cut: Cut) -> Option<Last>
 fn buffer_of(alloc: Global, first: &[u8]) -> Result<Vec<u8>, NoMemory>
     requires { length first.now ≤ piece_size }
     ensures items { IfOk result (λ buffer. take (length first.now) buffer.items ≡ first.now) }
-    ensures len { IfOk result (λ buffer. vec_len buffer ≡ piece_size) }
+    ensures length { IfOk result (λ buffer. vec_len buffer ≡ piece_size) }
 {
     let mut buffer = Vec::from_slice(alloc, first)?;
     buffer.resize(PIECE_SIZE, 0)?;
@@ -130,7 +130,7 @@ impl Packets {
 
     /// How many bytes were taken, the first ones included, also after a failed read.
     pub fn taken(&self) -> u64
-        ensures is { result ≡ self.now.taken }
+        ensures value { result ≡ self.now.taken }
         ensures count { (bytes given : List ℕ) → PacketsStandFor self.now bytes given → result ≡ length bytes }
     {
         self.taken

@@ -7,8 +7,11 @@ ghost use Rattle.x7_packets.specs.Matching.{IsClear, IsFirstSync, MatcherStandsF
 use crate::places::{PLACES_REACH, first_of_places, first_sync};
 use std::marker::Model;
 
-/// How many bytes of a piece end a sync word that began before it, at most.
-const SEAM: usize = 3;
+/// How many bytes of a sync word that began before a piece stand in the piece, at most.
+const SYNC_REST: usize = 3;
+
+/// How many bytes a short gap and the sync word after it have at most.
+const LONGEST_SHORT_GAP: usize = 32;
 
 /// Whether four bytes are the sync word.
 #[inline(always)]
@@ -18,8 +21,8 @@ fn is_sync(bytes: [u8; 4]) -> bool
     bytes[0] == 0xAA && bytes[1] == 0x99 && bytes[2] == 0x55 && bytes[3] == 0x66
 }
 
-/// Where the sync word first stands among the first 32 bytes, if it is seen there. `None`
-/// says nothing: the search at length follows.
+/// Where the sync word first stands whole among the first 32 bytes, if it is seen there. `None` says nothing: it may
+/// stand there still.
 #[inline(always)]
 pub(crate) fn near_sync(bytes: &[u8]) -> Option<usize>
     requires { places_reach ≤ length bytes.now }
@@ -27,7 +30,7 @@ pub(crate) fn near_sync(bytes: &[u8]) -> Option<usize>
     ensures near { IfSome result (λ at. at + 4 ≤ longest_short_gap) }
 {
     match first_of_places(bytes, 0) {
-        Some(at) if at < 29 => Some(at),
+        Some(at) if at + 4 <= LONGEST_SHORT_GAP => Some(at),
         _ => None,
     }
 }
@@ -103,7 +106,7 @@ impl Matcher {
         if bytes.len() < PLACES_REACH {
             return self.search_bytewise(bytes);
         }
-        let near = self.search_bytewise(&bytes[..SEAM]);
+        let near = self.search_bytewise(&bytes[..SYNC_REST]);
         if near.is_some() {
             return near;
         }

@@ -26,8 +26,8 @@ use x7_part::{Part, Slot};
 use x7_regs::{Command, Reg};
 use x7_words::NoMemory;
 
-/// The words of a full stream beside its frame data.
-const OTHER_WORDS: usize = 55;
+/// How many words a full stream has beside its frame data.
+const WORDS_BESIDE_FRAMES: usize = 55;
 
 /// How many slots are written at once.
 const PIECE_SLOTS: u64 = 160;
@@ -294,7 +294,7 @@ pub fn full(alloc: Global, part: &Part, plan: &Plan) -> Result<Vec<u8>, PlanFaul
 {
     let stream = FullStream::new(part, plan)?;
     let words = part.words() as usize * slot_count(part) as usize;
-    let Ok(mut out) = Vec::with_capacity(alloc, 4 * (OTHER_WORDS + words)) else {
+    let Ok(mut out) = Vec::with_capacity(alloc, 4 * (WORDS_BESIDE_FRAMES + words)) else {
         return Err(PlanFault::NoMemory);
     };
     put_all(stream, &mut out)?;

@@ -22,8 +22,8 @@ use x7_part::Part;
 use x7_regs::{Command, Reg};
 use x7_words::NoMemory;
 
-/// Room for the words of small streams; larger ones make more.
-const FIRST_WORDS: usize = 1024;
+/// For how many words there is room at first: those of a small partial stream. A larger one makes more room.
+const SMALL_STREAM_WORDS: usize = 1024;
 
 /// The frames of a plan by content, and those that no group has.
 #[derive(Drop)]
@@ -95,7 +95,7 @@ fn partial_of(alloc: Global, part: &Part, plan: &Plan) -> Result<Vec<u8>, NoMemo
     let Ok(grouping) = grouping_of(alloc, plan) else {
         return Err(NoMemory);
     };
-    let mut writer = Writer::new(alloc, FIRST_WORDS)?;
+    let mut writer = Writer::new(alloc, SMALL_STREAM_WORDS)?;
     put_opening(&mut writer, part)?;
     put_stretches(&mut writer, part, plan, &grouping)?;
     writer.check()?;

@@ -12,15 +12,15 @@ use x7_part::Part;
 use x7_regs::{Command, Reg};
 use x7_words::NoMemory;
 
-/// The words of a read stream.
-const READ_WORDS: usize = 25;
+/// How many words a read stream has.
+const READ_STREAM_WORDS: usize = 25;
 
 /// The stream that reads this many words from an address on.
 fn read_of(alloc: Global, far: u32, words: u32) -> Result<Vec<u8>, NoMemory>
     requires { words < 2 ^ 27 }
     ensures { IfOk result (λ bytes. bytes.items ≡ read_of_words far words) }
 {
-    let mut writer = Writer::new(alloc, READ_WORDS)?;
+    let mut writer = Writer::new(alloc, READ_STREAM_WORDS)?;
     writer.words(&OPENING_WORDS)?;
     writer.words(&command(Command::Rcrc))?;
     writer.words(&[NO_OP])?;

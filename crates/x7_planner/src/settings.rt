@@ -1,6 +1,8 @@
 //! The settings of startup that a full stream writes (UG470, configuration options register 0 and control register 0;
 //! their values are this project's choice).
 
+use x7_regs::{CONFIG_FALLBACK, GLUTMASK_B, GTS_USER_B};
+
 /// The bit of COR0 by which startup looks at DONE a clock later.
 const DONE_PIPE: u32 = 1 << 25;
 
@@ -19,15 +21,6 @@ const GTS_CYCLE: u32 = 1 << 3;
 /// One step of the field of COR0 that has the phase, less one, in which GWE rises.
 const GWE_CYCLE: u32 = 1;
 
-/// The bit of CTL0 that keeps a failed attempt from falling back.
-const CONFIG_FALLBACK: u32 = 1 << 10;
-
-/// The bit of CTL0 by which readback shows memories in logic.
-const GLUTMASK_B: u32 = 1 << 8;
-
-/// The bit of CTL0 by which the outputs are as startup says.
-const GTS_USER_B: u32 = 1;
-
 /// COR0 02003FE5: DONE rises in phase 4, GTS in phase 5 and GWE in phase 6, and startup waits for nothing.
 pub(crate) const STARTUP_OPTIONS: u32 = DONE_PIPE
     + 3 * DONE_CYCLE
@@ -37,7 +30,7 @@ pub(crate) const STARTUP_OPTIONS: u32 = DONE_PIPE
     + 5 * GWE_CYCLE;
 
 /// MASK 00000501: the bits of CTL0 that a full stream writes.
-pub(crate) const CONTROL_MASK: u32 = CONFIG_FALLBACK + GLUTMASK_B + GTS_USER_B;
+pub(crate) const CONTROL_MASK: u32 = (1 << CONFIG_FALLBACK) + CONTROL;
 
 /// CTL0 00000101: readback shows memories in logic, the outputs are as startup says, and a failed attempt falls back.
-pub(crate) const CONTROL: u32 = GLUTMASK_B + GTS_USER_B;
+pub(crate) const CONTROL: u32 = (1 << GLUTMASK_B) + (1 << GTS_USER_B);

@@ -45,7 +45,7 @@ use Rattle.x7_effects.proofs.GoingLemmas.{IsGoing, going_bytes}
 use Rattle.x7_recovery.proofs.SlotLemmas.{slot_long}
 use Rattle.x7_recovery.proofs.OpenSlotLemmas.{after_slot, slot_history, slot_place}
 use Rattle.x7_recovery.proofs.CleanStopLemmas.{AreClean, ComesAlike, clean_until, comes, not_empty, slot_near}
-use Rattle.x7_recovery.proofs.FullTrialLemmas.{bootsts_is, iprog_later}
+use Rattle.x7_recovery.proofs.FullAttemptLemmas.{bootsts_is, iprog_later}
 use Rattle.x7_recovery.proofs.GoldenLemmas.{ended, erased_drop, erased_history, erased_take, word_at}
 use Rattle.x7_recovery.proofs.OpenBootLemmas.{Falls, failed_attempt, falls, kept_then}
 use Rattle.x7_recovery.proofs.OpenLemmas as slots

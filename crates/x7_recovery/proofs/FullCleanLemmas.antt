@@ -41,7 +41,7 @@ use Rattle.x7_recovery.specs.Clean.{BeginsClean, StartsClean, clear, later, noth
 use Rattle.x7_recovery.specs.Golden.{StartsAsPlanned, with_erased}
 use Rattle.x7_recovery.specs.Recovery.{IsPrepared, Updating}
 use Rattle.x7_recovery.proofs.CleanStopLemmas.{not_empty}
-use Rattle.x7_recovery.proofs.FullTrialLemmas.{full_ends, full_stream_fits, seven_whole}
+use Rattle.x7_recovery.proofs.FullAttemptLemmas.{full_ends, full_stream_fits, seven_whole}
 use Rattle.x7_recovery.proofs.GoldenLemmas.{ended, erased_prefix, erased_history, never_erased, rest_erased}
 
 -- ---- the history of a full stream begins clean

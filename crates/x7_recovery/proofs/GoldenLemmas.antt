@@ -30,14 +30,14 @@ use Rattle.x7_boot.specs.declared.attempt.Ending.TheVariants as ending
 use Rattle.x7_boot.specs.declared.boots.BootEnd.TheVariants as boot_end
 use Rattle.x7_boot.specs.declared.boots.Tried.{Tried}
 use Rattle.x7_boot.proofs.BootsLemmas.{along, boot_course, tried_is}
-use Rattle.x7_boot.proofs.OverLemmas.{alike_ends, alike_trial, started_first, taken_is, trial_over}
+use Rattle.x7_boot.proofs.OverLemmas.{alike_ends, alike_attempt, started_first, taken_is, attempt_over}
 use Rattle.x7_boot.proofs.StartLemmas.{NeverStarts}
 use Rattle.x7_update.specs.Layout.{HasLayout, four_at, open_switch, update_place}
 use Rattle.x7_update.specs.After.{IsBetween, MayBeLeft, after, between, untouched}
 use Rattle.x7_update.proofs.LawLemmas.{no_sync}
 use Rattle.x7_recovery.specs.Golden.{BootsAlike, GoldenStarts, HaveSameGolden, IsPreparedAny, LeadsNowhere, StartsAlike, StartsAsPlanned, StartsAtPower, UpdatingAny, as_after, as_before, golden, with_erased}
 use Rattle.x7_recovery.specs.Recovery.{IsPrepared, Updating}
-use Rattle.x7_recovery.proofs.FullTrialLemmas.{StartsWith, full_starts}
+use Rattle.x7_recovery.proofs.FullAttemptLemmas.{StartsWith, full_starts}
 use Rattle.x7_recovery.proofs.SlotLemmas.{fill_fits}
 
 -- ---- no sync word begins in the first sector
@@ -52,14 +52,14 @@ word_at flash prefix back e =
     let first : get_or flash (length prefix) 0 ≡ 0xAA = let at : length prefix ≡ length prefix + 0 = omega arith in ap (λ (n : ℕ). get_or flash n 0) at ∙ byte 0 in
     rw (first, byte 1, byte 2, byte 3) refl
 
-pub shut_none : (flash gap more : List ℕ) → LeadsNowhere flash → flash ≡ gap ++ more → length gap ≤ 65536 → NoneBegins gap more
-shut_none flash gap more shut e l prefix back split = elim (cases_lt (length prefix) (length gap)) [
-  | inl less ↦ absurd (shut (length prefix) (omega (arith, less, l)) (word_at flash prefix back (e ∙ split)))
+pub leads_nowhere_none : (flash gap more : List ℕ) → LeadsNowhere flash → flash ≡ gap ++ more → length gap ≤ 65536 → NoneBegins gap more
+leads_nowhere_none flash gap more nowhere e l prefix back split = elim (cases_lt (length prefix) (length gap)) [
+  | inl less ↦ absurd (nowhere (length prefix) (omega (arith, less, l)) (word_at flash prefix back (e ∙ split)))
   | inr past ↦ past
 ]
 
 none_before : (flash gap s rest : List ℕ) → LeadsNowhere flash → flash ≡ (gap ++ s) ++ rest → length gap ≤ 65536 → NoneBegins gap s
-none_before flash gap s rest shut e l = none_before_prefix gap s rest (shut_none flash gap (s ++ rest) shut (e ∙ append_assoc gap s rest) l)
+none_before flash gap s rest nowhere e l = none_before_prefix gap s rest (leads_nowhere_none flash gap (s ++ rest) nowhere (e ∙ append_assoc gap s rest) l)
 
 -- ---- an attempt over the other flash
 
@@ -68,7 +68,7 @@ ended part flash t s = subst (λ (n : ℕ). EndsFirst part (drop n flash) t) s.a
 
 -- after gaps of a sector the same bytes, up to those that the attempt took
 pub starts_after : (part : PartData) (g h s f r : List ℕ) (t : AttemptCourse) → AreGaps g h s → StartsAtPower part ((g ++ s) ++ f) t → length t.bytes ≤ length (g ++ s)
-    → StartsAtPower part ((h ++ s) ++ r) (alike_trial t ((h ++ s) ++ r)) × AreAlike t.bytes (alike_trial t ((h ++ s) ++ r)).bytes
+    → StartsAtPower part ((h ++ s) ++ r) (alike_attempt t ((h ++ s) ++ r)) × AreAlike t.bytes (alike_attempt t ((h ++ s) ++ r)).bytes
 starts_after part g h s f r t gaps starts within =
     let one : List ℕ = (g ++ s) ++ f in
     let other : List ℕ = (h ++ s) ++ r in
@@ -79,7 +79,7 @@ starts_after part g h s f r t gaps starts within =
     (subst (AreAlike (take k (g ++ s))) (sym (take-append-le k (h ++ s) r (omega (arith, l, within, as_long)))) (alike_prefixes g h s k gaps)) in
     let enough : length t.bytes ≤ length other = omega (arith, within, as_long, length-append (h ++ s) r) in (
       record {
-        is = subst (λ (n : ℕ). IsAttemptOver part (drop n other) (alike_trial t other)) (refl {a = 0}) (inl (subst (λ (n : ℕ). EndsFirst part (drop n other) (alike_trial t other)) (sym starts.address) (alike_ends part one other t x enough alike)));
+        is = subst (λ (n : ℕ). IsAttemptOver part (drop n other) (alike_attempt t other)) (refl {a = 0}) (inl (subst (λ (n : ℕ). EndsFirst part (drop n other) (alike_attempt t other)) (sym starts.address) (alike_ends part one other t x enough alike)));
         kept = starts.kept;
         address = starts.address;
         started = starts.started;
@@ -112,7 +112,7 @@ in_flash part flash t s = (ended part flash t s).in_flash
 
 -- ---- two flashes whose first sector leads nowhere
 
-module _ (part : PartData) (one other : List ℕ) (t : AttemptCourse) (shut : LeadsNowhere one) (other_shut : LeadsNowhere other) (fits : AreBytes (take 65536 one)) (other_fits : AreBytes other)
+module _ (part : PartData) (one other : List ℕ) (t : AttemptCourse) (nowhere : LeadsNowhere one) (other_nowhere : LeadsNowhere other) (fits : AreBytes (take 65536 one)) (other_fits : AreBytes other)
     (least : 65536 ≤ length one) (other_least : 65536 ≤ length other) (starts : StartsAtPower part one t) (same : slice_range other 65536 (length t.bytes) ≡ slice_range one 65536 (length t.bytes)) where
   abbrev g : List ℕ
   g = take 65536 one
@@ -152,26 +152,26 @@ module _ (part : PartData) (one other : List ℕ) (t : AttemptCourse) (shut : Le
   other_sum = all_prefix (λ x. x < 256) (h ++ s) r (subst AreBytes other_is other_fits)
 
   abbrev there : AttemptCourse
-  there = alike_trial t ((h ++ s) ++ r)
+  there = alike_attempt t ((h ++ s) ++ r)
 
   both : StartsAtPower part ((h ++ s) ++ r) there × AreAlike t.bytes there.bytes
   both =
       starts_after part g h s f r t (record {
         long = g_long ∙ sym h_long;
         fits = (all_append (λ x. x < 256) g s fits (all_back (λ x. x < 256) h s other_sum), other_sum);
-        none = (none_before one g s f shut one_is (omega (arith, g_long)), none_before other h s r other_shut other_is (omega (arith, h_long)));
+        none = (none_before one g s f nowhere one_is (omega (arith, g_long)), none_before other h s r other_nowhere other_is (omega (arith, h_long)));
       }) (subst (λ (x : List ℕ). StartsAtPower part x t) one_is starts) within
 
-  pub shut_alike : (b : BootedState) → (boot : IsBoot part other b) → StartsAlike part t (course_of b boot.last)
-  shut_alike b boot = alike_alone part other t there b (subst (λ (x : List ℕ). StartsAtPower part x there) (sym other_is) both.0) refl (sym (in_flash part one t starts)) both.1 boot
+  pub leading_nowhere_alike : (b : BootedState) → (boot : IsBoot part other b) → StartsAlike part t (course_of b boot.last)
+  leading_nowhere_alike b boot = alike_alone part other t there b (subst (λ (x : List ℕ). StartsAtPower part x there) (sym other_is) both.0) refl (sym (in_flash part one t starts)) both.1 boot
 
 pub same_golden_alike : (part : PartData) (one other : List ℕ) (t : AttemptCourse) (b : BootedState) → HaveSameGolden part one other t → (boot : IsBoot part other b) → StartsAlike part t (course_of b boot.last)
-same_golden_alike part one other t b s boot = shut_alike part one other t s.shut.0 s.shut.1 (all_take (λ x. x < 256) 65536 one s.fits.0) s.fits.1 s.least.0 s.least.1 s.starts s.same b boot
+same_golden_alike part one other t b s boot = leading_nowhere_alike part one other t s.lead_nowhere.0 s.lead_nowhere.1 (all_take (λ x. x < 256) 65536 one s.fits.0) s.fits.1 s.least.0 s.least.1 s.starts s.same b boot
 
 -- ---- the first sector erased
 
-pub erased_shut : (more : List ℕ) → LeadsNowhere (erased_sector ++ more)
-erased_shut more place h e =
+pub erased_leads_nowhere : (more : List ℕ) → LeadsNowhere (erased_sector ++ more)
+erased_leads_nowhere more place h e =
     let byte : get_or (erased_sector ++ more) place 0 ≡ 255 = get_or_append_left erased_sector more 0 place (omega (arith, length_erased_sector, h)) ∙ get_or_erased_sector place h in
     let first : get_or (erased_sector ++ more) place 0 ≡ 0xAA = ap (λ (w : List ℕ). get_or w 0 0) e in
     absurd (omega (arith, byte, first))
@@ -183,7 +183,7 @@ pub erased_drop : (more : List ℕ) → drop 65536 (erased_sector ++ more) ≡ m
 erased_drop more = ap (λ (n : ℕ). drop n (erased_sector ++ more)) (sym length_erased_sector) ∙ drop-append_seam erased_sector more
 
 erased_none : (more : List ℕ) → NoneBegins erased_sector more
-erased_none more = shut_none (erased_sector ++ more) erased_sector more (erased_shut more) refl (omega (arith, length_erased_sector))
+erased_none more = leads_nowhere_none (erased_sector ++ more) erased_sector more (erased_leads_nowhere more) refl (omega (arith, length_erased_sector))
 
 pub erased_history : (more : List ℕ) → AreBytes more → history_of (erased_sector ++ more) ≡ moved 65536 (history_of more)
 erased_history more fits = history_passed erased_sector more (all_append (λ x. x < 256) erased_sector more bytes_erased_sector fits) (erased_none more) ∙ ap (λ (n : ℕ). moved n (history_of more)) length_erased_sector
@@ -216,7 +216,7 @@ golden_stands flash found n l b most = ext_get_or 0 (take (n - 65536) (drop 6553
 
 pub between_alike : (part : PartData) (flash found : List ℕ) (t : AttemptCourse) (b : BootedState) → HasLayout flash → IsBetween flash found → GoldenStarts part flash t → AreBytes found → (boot : IsBoot part found b) → StartsAlike part t (course_of b boot.last)
 between_alike part flash found t b l left starts fits boot =
-    shut_alike part (with_erased flash) found t (erased_shut (drop 65536 flash)) (no_sync flash found l left) (subst AreBytes (sym (erased_take (drop 65536 flash))) bytes_erased_sector) fits
+    leading_nowhere_alike part (with_erased flash) found t (erased_leads_nowhere (drop 65536 flash)) (no_sync flash found l left) (subst AreBytes (sym (erased_take (drop 65536 flash))) bytes_erased_sector) fits
     (omega (arith, length-append erased_sector (drop 65536 flash), length_erased_sector)) (omega (arith, left.size, l.size.least)) starts.starts
     (golden_stands flash found (length t.bytes) l left starts.ends ∙ ap (take (length t.bytes - 65536)) (sym (erased_drop (drop 65536 flash)))) b boot
 
@@ -254,7 +254,7 @@ full_golden u p =
       t,
       record {
         golden = record {
-          starts = record { is = trial_over u.part short (with_erased u.flash) t s.is x.in_flash same; kept = s.kept_is; address = s.address_is; started = s.ending_is };
+          starts = record { is = attempt_over u.part short (with_erased u.flash) t s.is x.in_flash same; kept = s.kept_is; address = s.address_is; started = s.ending_is };
           ends = omega (arith, within, p.golden.ends);
         };
         within = within;

@@ -16,7 +16,7 @@ use Rattle.x7_boot.specs.Image as image
 use Rattle.x7_boot.specs.Image.{free_slot, free_slots, first_sector, flash_limit, image_of, image_size, open_slot, slot}
 use Rattle.x7_update.specs.After.{IsAfter, IsBetween, spends, switched, with_stream}
 use Rattle.x7_update.specs.Layout.{HasLayout, IsOpen, first_slot, four_at, open_switch, spent_switch, switch_of, update_place}
-use Rattle.x7_update.proofs.CaseLemmas.{between_below, between_closed, outside_switch, stream_keeps}
+use Rattle.x7_update.proofs.CaseLemmas.{between_below, between_spent, outside_switch, stream_keeps}
 use Rattle.x7_update.proofs.LawLemmas.{no_sync}
 use Rattle.x7_update.proofs.SwitchLemmas.{length_switched, same_four, switch_switched, switched_others}
 use Rattle.x7_boot.specs.Boot.{start_address}
@@ -25,8 +25,8 @@ use Rattle.x7_recovery.specs.OpenSlot.{BeginsAsImage, HasOpen, IsOpened, image_o
 use Rattle.x7_recovery.specs.PlannedImage.{HasImage, golden_image, place_after}
 use Rattle.x7_recovery.specs.Recovery.{HasGolden}
 use Rattle.x7_recovery.proofs.GoldenLemmas.{golden_stands}
-use Rattle.x7_recovery.proofs.LayoutLemmas.{closed_byte, open_is}
-use Rattle.x7_recovery.proofs.SlotLemmas.{closed_none, image_begins, image_has, open_none, place_whole, sector_fits, sector_long, size_after, slot_long, start_small, start_whole}
+use Rattle.x7_recovery.proofs.LayoutLemmas.{free_byte, open_is}
+use Rattle.x7_recovery.proofs.SlotLemmas.{free_none, image_begins, image_has, open_none, place_whole, sector_fits, sector_long, size_after, slot_long, start_small, start_whole}
 
 fits_at : (xs : List ℕ) (i : ℕ) → AreBytes xs → i < length xs → get_or xs i 0 < 256
 fits_at [] i f h = absurd (omega arith)
@@ -157,26 +157,26 @@ module _ (flash : List ℕ) (number : ℕ) (l : HasLayout flash) (within : numbe
   room : 32 * number + 4 ≤ length flash
   room = omega (arith, within, l.size.least)
 
-  shut : IsBetween flash spent
-  shut = between_closed flash spent l.slots (spends number within is refl)
+  layout_between : IsBetween flash spent
+  layout_between = between_spent flash spent l.slots (spends number within is refl)
 
   pub layout_opened : AreBytes (take 65536 flash) → HasOpen flash number (update_place flash)
-  layout_opened fits = opened flash spent flash number l shut within (sym (length_switched number spent_switch flash refl room)) (λ i h. sym (switched_others number spent_switch flash refl room i h)) is fits
+  layout_opened fits = opened flash spent flash number l layout_between within (sym (length_switched number spent_switch flash refl room)) (λ i h. sym (switched_others number spent_switch flash refl room i h)) is fits
 
 -- ---- a flash after an update
 
 module _ (stream flash found : List ℕ) (l : HasLayout flash) (a : IsAfter stream flash found) where
   abbrev now : List ℕ
-  now = with_stream (update_place flash) stream a.closed
+  now = with_stream (update_place flash) stream a.spent
 
-  closed_shut : IsBetween flash a.closed
-  closed_shut = between_closed flash a.closed l.slots a.closes
+  spent_between : IsBetween flash a.spent
+  spent_between = between_spent flash a.spent l.slots a.is_spent
 
-  now_shut : IsBetween flash now
-  now_shut = between_below (length flash) flash a.closed now l.slots closed_shut (stream_keeps (update_place flash) stream a.closed (omega (arith, a.fits, closed_shut.size)))
+  now_between : IsBetween flash now
+  now_between = between_below (length flash) flash a.spent now l.slots spent_between (stream_keeps (update_place flash) stream a.spent (omega (arith, a.fits, spent_between.size)))
 
   now_room : 32 * a.next + 4 ≤ length now
-  now_room = omega (arith, now_shut.size, a.is_next.within, l.size.least)
+  now_room = omega (arith, now_between.size, a.is_next.within, l.size.least)
 
   found_size : length found ≡ length now
   found_size = ap length a.is ∙ length_switched a.next open_switch now refl now_room
@@ -188,33 +188,33 @@ module _ (stream flash found : List ℕ) (l : HasLayout flash) (a : IsAfter stre
   found_open = ap (λ (x : List ℕ). switch_of x a.next) a.is ∙ switch_switched a.next 0xAA 0x99 0x55 0x66 now now_room
 
   pub after_opened : AreBytes (take 65536 found) → HasOpen found a.next (update_place flash)
-  after_opened fits = opened flash now found a.next l now_shut a.is_next.within found_size found_others found_open fits
+  after_opened fits = opened flash now found a.next l now_between a.is_next.within found_size found_others found_open fits
 
   pub after_golden : (part : PartData) (golden : PlanData) → HasGolden part golden flash → (rest : List ℕ) × (drop 65536 found ≡ full_stream part golden ++ rest)
-  after_golden part golden g = golden_from flash now found a.next l now_shut a.is_next.within found_size found_others found_open part golden g
+  after_golden part golden g = golden_from flash now found a.next l now_between a.is_next.within found_size found_others found_open part golden g
 
   pub after_golden_same : (n : ℕ) → n ≤ update_place flash → take (n - 65536) (drop 65536 found) ≡ take (n - 65536) (drop 65536 flash)
   after_golden_same n most =
-      ap (take (n - 65536)) (same_from flash now found a.next l now_shut a.is_next.within found_size found_others found_open 65536 (omega arith)) ∙ golden_stands flash now n l now_shut most
+      ap (take (n - 65536)) (same_from flash now found a.next l now_between a.is_next.within found_size found_others found_open 65536 (omega arith)) ∙ golden_stands flash now n l now_between most
 
   pub after_place : update_place found ≡ update_place flash
-  after_place = same_place flash now found a.next l now_shut a.is_next.within found_size found_others found_open
+  after_place = same_place flash now found a.next l now_between a.is_next.within found_size found_others found_open
 
   pub after_has_golden : (part : PartData) (golden : PlanData) → HasGolden part golden flash → HasGolden part golden found
   after_has_golden part golden g =
       let stands : (rest : List ℕ) × (drop 65536 found ≡ full_stream part golden ++ rest) = after_golden part golden g in
-      let place : update_place found ≡ update_place flash = same_place flash now found a.next l now_shut a.is_next.within found_size found_others found_open in
+      let place : update_place found ≡ update_place flash = same_place flash now found a.next l now_between a.is_next.within found_size found_others found_open in
       record { rest = stands.0; stands = stands.1; ends = omega (arith, place, g.ends) }
 
   -- the stream stands at U
   pub after_stream : (rest : List ℕ) × (drop (update_place flash) found ≡ stream ++ rest)
   after_stream =
       let place : ℕ = update_place flash in
-      let fill : List ℕ = replicate (length a.closed - (place + length stream)) 255 in
-      let prefix : length (take place a.closed) ≡ place = length-take-le place a.closed (omega (arith, l.slots.place.most, closed_shut.size)) in (
+      let fill : List ℕ = replicate (length a.spent - (place + length stream)) 255 in
+      let prefix : length (take place a.spent) ≡ place = length-take-le place a.spent (omega (arith, l.slots.place.most, spent_between.size)) in (
         fill,
-        same_from flash now found a.next l now_shut a.is_next.within found_size found_others found_open place (omega (arith, l.slots.place.least))
-            ∙ ap (λ (n : ℕ). drop n now) (sym prefix) ∙ drop-append_seam (take place a.closed) (stream ++ fill),
+        same_from flash now found a.next l now_between a.is_next.within found_size found_others found_open place (omega (arith, l.slots.place.least))
+            ∙ ap (λ (n : ℕ). drop n now) (sym prefix) ∙ drop-append_seam (take place a.spent) (stream ++ fill),
       )
 
 -- ---- a flash that begins as an image does
@@ -239,9 +239,9 @@ four_split (x ∷ xs) (suc place) h e =
     ap (λ (l : List ℕ). x ∷ l) (four_split xs place (omega arith) (sym (four_suc x xs place) ∙ e))
     ∙ ap (λ (n : ℕ). (x ∷ take place xs) ++ (sync_bytes ++ drop n (x ∷ xs))) (sym at)
 
-closed_end : (start : ℕ) → (get_or (free_slot start) 29 0 ≡ 0) × (get_or (free_slot start) 30 0 ≡ 0) × (get_or (free_slot start) 31 0 ≡ 13)
+free_end : (start : ℕ) → (get_or (free_slot start) 29 0 ≡ 0) × (get_or (free_slot start) 30 0 ≡ 0) × (get_or (free_slot start) 31 0 ≡ 13)
 unfolding slot
-closed_end start = (refl, refl, refl)
+free_end start = (refl, refl, refl)
 
 module _ (start : ℕ) (flash more : List ℕ) (whole : start % 256 ≡ 0) (low : start < 0xAA000000) (begins : flash ≡ first_sector start ++ more) where
   prefix_is : take 65536 flash ≡ first_sector start
@@ -253,10 +253,10 @@ module _ (start : ℕ) (flash more : List ℕ) (whole : start % 256 ≡ 0) (low 
       ∙ ap (λ (n : ℕ). take n (open_slot start ++ (free_slots start ++ more))) (sym (slot_long 0xAA995566 start)) ∙ take-append_seam (open_slot start) (free_slots start ++ more)
 
   ends_at : (i : ℕ) → i < 32 → get_or flash (32 * suc 2046 + i) 0 ≡ get_or (free_slot start) i 0
-  ends_at i h = closed_byte start flash more begins 2046 i (omega arith) h
+  ends_at i h = free_byte start flash more begins 2046 i (omega arith) h
 
   first_sector_none : (tail : List ℕ) × (first_sector start ≡ 0xAA ∷ tail) × HasNoSync tail
-  first_sector_none = open_none start (free_slots start) whole low (closed_none start whole low)
+  first_sector_none = open_none start (free_slots start) whole low (free_none start whole low)
 
   in_sector : (place : ℕ) → place + 4 ≤ 65536 → four_at flash place ≡ four_at (first_sector start) place
   in_sector place h =
@@ -280,12 +280,12 @@ module _ (start : ℕ) (flash more : List ℕ) (whole : start % 256 ≡ 0) (low 
         | inl early ↦ absurd (not_later p (omega (arith, early)) e)
         | inr late ↦ elim (cases_eq (suc p) 65533) [
           | inl third ↦ (let at : suc p ≡ 32 * suc 2046 + 29 = omega (arith, third) in
-              let is : 0xAA ≡ 0 = sym first ∙ ap (λ (n : ℕ). get_or flash n 0) at ∙ ends_at 29 (omega arith) ∙ (closed_end start).0 in absurd (omega (arith, is)))
+              let is : 0xAA ≡ 0 = sym first ∙ ap (λ (n : ℕ). get_or flash n 0) at ∙ ends_at 29 (omega arith) ∙ (free_end start).0 in absurd (omega (arith, is)))
           | inr not_third ↦ elim (cases_eq (suc p) 65534) [
             | inl second ↦ (let at : suc p ≡ 32 * suc 2046 + 30 = omega (arith, second) in
-                let is : 0xAA ≡ 0 = sym first ∙ ap (λ (n : ℕ). get_or flash n 0) at ∙ ends_at 30 (omega arith) ∙ (closed_end start).1 in absurd (omega (arith, is)))
+                let is : 0xAA ≡ 0 = sym first ∙ ap (λ (n : ℕ). get_or flash n 0) at ∙ ends_at 30 (omega arith) ∙ (free_end start).1 in absurd (omega (arith, is)))
             | inr not_second ↦ (let at : suc p ≡ 32 * suc 2046 + 31 = omega (arith, late, h, not_third, not_second) in
-                let is : 0xAA ≡ 13 = sym first ∙ ap (λ (n : ℕ). get_or flash n 0) at ∙ ends_at 31 (omega arith) ∙ (closed_end start).2 in absurd (omega (arith, is)))
+                let is : 0xAA ≡ 13 = sym first ∙ ap (λ (n : ℕ). get_or flash n 0) at ∙ ends_at 31 (omega arith) ∙ (free_end start).2 in absurd (omega (arith, is)))
           ]
         ]
       ]

@@ -31,7 +31,7 @@ slot_among one rest (suc n) (suc k) i e h j =
     ∙ ap (λ m. get_or (repeat n one ++ rest) m 0) at
     ∙ slot_among one rest n k i e (omega arith) j
 
--- an open slot and a closed one are the same after the switch word
+-- an open slot and a free one are the same after the switch word
 pub same_after : (start i : ℕ) → 4 ≤ i → get_or (free_slot start) i 0 ≡ get_or (open_slot start) i 0
 unfolding slot
 same_after start i h =
@@ -45,17 +45,17 @@ pub open_is : (start : ℕ) → flash_slot open_switch (bytes_of_word start) ≡
 unfolding slot
 open_is start = refl
 
-closed_begins : (start : ℕ) → four_at (free_slot start) 0 ≡ free_switch
+free_begins : (start : ℕ) → four_at (free_slot start) 0 ≡ free_switch
 unfolding slot
-closed_begins start = refl
+free_begins start = refl
 
 start_at : (start : ℕ) → four_at (open_slot start) 12 ≡ bytes_of_word start
 unfolding slot
 start_at start = refl
 
-closed_repeat : (start : ℕ) → free_slots start ≡ repeat 2047 (free_slot start)
+free_repeat : (start : ℕ) → free_slots start ≡ repeat 2047 (free_slot start)
 unfolding free_slots
-closed_repeat start = refl
+free_repeat start = refl
 
 module _ (start : ℕ) (all rest : List ℕ) (begins : all ≡ first_sector start ++ rest) where
   is : all ≡ open_slot start ++ (free_slots start ++ rest)
@@ -64,13 +64,13 @@ module _ (start : ℕ) (all rest : List ℕ) (begins : all ≡ first_sector star
   open_byte : (i : ℕ) → i < 32 → get_or all i 0 ≡ get_or (open_slot start) i 0
   open_byte i h = ap (λ l. get_or l i 0) is ∙ get_or_append_left (open_slot start) (free_slots start ++ rest) 0 i (omega (arith, h, slot_long 0xAA995566 start))
 
-  pub closed_byte : (k i : ℕ) → k < 2047 → i < 32 → get_or all (32 * suc k + i) 0 ≡ get_or (free_slot start) i 0
-  closed_byte k i h j =
+  pub free_byte : (k i : ℕ) → k < 2047 → i < 32 → get_or all (32 * suc k + i) 0 ≡ get_or (free_slot start) i 0
+  free_byte k i h j =
       let at : 32 * suc k + i - 32 ≡ 32 * k + i = omega arith in
       ap (λ l. get_or l (32 * suc k + i) 0) is
       ∙ get_or-append_right (open_slot start) (free_slots start ++ rest) 32 (32 * suc k + i) 0 (slot_long 0xAA995566 start) (omega arith)
       ∙ ap (λ m. get_or (free_slots start ++ rest) m 0) at
-      ∙ ap (λ l. get_or (l ++ rest) (32 * k + i) 0) (closed_repeat start)
+      ∙ ap (λ l. get_or (l ++ rest) (32 * k + i) 0) (free_repeat start)
       ∙ slot_among (free_slot start) rest 2047 k i (slot_long 0xFFFFFFFF start) h j
 
   start_is : four_at all 12 ≡ bytes_of_word start
@@ -86,17 +86,17 @@ module _ (start : ℕ) (all rest : List ℕ) (begins : all ≡ first_sector star
   leads zero h = λ i j l.
       let at : 32 * 0 + i ≡ i = omega arith in
       ap (λ m. get_or all m 0) at ∙ open_byte i l ∙ sym (ap (λ s. get_or s i 0) first_is)
-  leads (suc k) h = λ i j l. closed_byte k i (omega arith) l ∙ same_after start i j ∙ sym (ap (λ s. get_or s i 0) first_is)
+  leads (suc k) h = λ i j l. free_byte k i (omega arith) l ∙ same_after start i j ∙ sym (ap (λ s. get_or s i 0) first_is)
 
-  pub closed_free : (k : ℕ) → k < 2047 → switch_of all (suc k) ≡ free_switch
-  closed_free k h =
+  pub others_free : (k : ℕ) → k < 2047 → switch_of all (suc k) ≡ free_switch
+  others_free k h =
       let at : 32 * suc k + 0 ≡ 32 * suc k = omega arith in
-      let first : get_or all (32 * suc k) 0 ≡ get_or (free_slot start) 0 0 = ap (λ m. get_or all m 0) (sym at) ∙ closed_byte k 0 h (omega arith) in
-      rw (first, closed_byte k 1 h (omega arith), closed_byte k 2 h (omega arith), closed_byte k 3 h (omega arith)) (closed_begins start)
+      let first : get_or all (32 * suc k) 0 ≡ get_or (free_slot start) 0 0 = ap (λ m. get_or all m 0) (sym at) ∙ free_byte k 0 h (omega arith) in
+      rw (first, free_byte k 1 h (omega arith), free_byte k 2 h (omega arith), free_byte k 3 h (omega arith)) (free_begins start)
 
   not_open : (k : ℕ) → suc k < 2048 → IsOpen all (suc k) → ⊥
   not_open k h o =
-      let same : open_switch ≡ free_switch = sym o ∙ closed_free k (omega arith) in
+      let same : open_switch ≡ free_switch = sym o ∙ others_free k (omega arith) in
       let byte : 0xAA ≡ 0xFF = ap (λ l. get_or l 0 0) same in
       absurd (omega (arith, byte))
 
@@ -137,7 +137,7 @@ image_layout golden update limit =
         place = record { whole = ap (λ n. n % 65536) is ∙ place_whole (length golden); least = omega (arith, is, least); most = omega (arith, is, within) };
         leads = leads (place / 1) all (golden ++ b.0) begins;
         one_open = one_open (place / 1) all (golden ++ b.0) begins;
-        last_free = closed_free (place / 1) all (golden ++ b.0) begins 2046 (omega arith);
+        last_free = others_free (place / 1) all (golden ++ b.0) begins 2046 (omega arith);
       };
     }
 

@@ -35,7 +35,7 @@ use Rattle.x7_boot.proofs.OneBootLemmas.{GoesThrough, goes_through}
 use Rattle.x7_boot.proofs.OverLemmas.{kept_ends, started_first, with_kept}
 use Rattle.x7_recovery.specs.OpenBoot.{EndsAtUpdate, FallsBack, FallsBackAlike, HasFullUpdate, HasPlanned, StartsAsFallback, StartsUpdate, TriesUpdate, UpdateEnds, UpdateFails, kept_at_update}
 use Rattle.x7_recovery.specs.OpenSlot.{IsOpened, Opened}
-use Rattle.x7_recovery.proofs.FullTrialLemmas.{StartsWith, full_starts, full_stream_fits, iprog_later}
+use Rattle.x7_recovery.proofs.FullAttemptLemmas.{StartsWith, full_starts, full_stream_fits, iprog_later}
 use Rattle.x7_recovery.proofs.OpenLemmas.{power, power_leads, sector_never, sector_rests, sector_wrote}
 
 -- the first attempt, as it is reported
@@ -61,8 +61,8 @@ module _ (o : Opened) (is : IsOpened o) where
 
   pub tries : (c : BootCourse) → IsCourse o.part o.flash c → TriesUpdate o c.attempts
   tries c course =
-      let trials : List AttemptCourse = c.last ∷ course.older in
-      let g : GoesThrough o.part o.flash trials (first ∷ []) (kept_at_update o.start) o.place = goes_through o.part o.flash trials (first ∷ []) c.end (kept_at_update o.start) o.place course.leads to_place in
+      let courses : List AttemptCourse = c.last ∷ course.older in
+      let g : GoesThrough o.part o.flash courses (first ∷ []) (kept_at_update o.start) o.place = goes_through o.part o.flash courses (first ∷ []) c.end (kept_at_update o.start) o.place course.leads to_place in
       let t : AttemptCourse = g.course in
       record {
         course = t;

@@ -22,10 +22,10 @@ use Rattle.x7_effects.proofs.PlannerLemmas.{full_same}
 use Rattle.x7_boot.specs.Image.{free_slots, filled_to, first_sector, flash_limit, image_of, image_size, open_slot, slot, place_after_golden}
 use Rattle.x7_update.specs.After.{IsBetween, MayBeLeft, between, spends, switched}
 use Rattle.x7_update.specs.Layout.{HasLayout, IsOpen, four_at, open_switch, spent_switch, switch_of}
-use Rattle.x7_update.proofs.CaseLemmas.{between_closed}
+use Rattle.x7_update.proofs.CaseLemmas.{between_spent}
 use Rattle.x7_recovery.specs.Recovery.{IsPrepared, updating_image}
 use Rattle.x7_recovery.proofs.LayoutLemmas.{image_prepared}
-use Rattle.x7_recovery.proofs.FullTrialLemmas.{full_stream_fits}
+use Rattle.x7_recovery.proofs.FullAttemptLemmas.{full_stream_fits}
 use Rattle.x7_recovery.proofs.SlotLemmas.{image_begins, image_fits, place_whole, sector_long, slot_long, update_after}
 use Rattle.x7_recovery.specs.OpenBoot.{UpdateFails, kept_at_update}
 use Rattle.x7_recovery.specs.OpenSlot.{image_of_flash}
@@ -33,17 +33,17 @@ use Rattle.x7_recovery.specs.PlannedImage.{HasImage, golden_image, place_after}
 use Rattle.x7_boot.specs.declared.attempt.Ending.TheVariants as ending
 
 -- the attempt at an update of no bytes: it has none, and fails by the flash's end
-abbrev pub empty_trial : PartData → PlanData → AttemptCourse
-empty_trial part golden = record { kept = kept_at_update (place_after part golden / part.start_unit); address = place_after part golden; bytes = []; wrapped = true; ending = ending.Failed Wrap }
+abbrev pub empty_attempt : PartData → PlanData → AttemptCourse
+empty_attempt part golden = record { kept = kept_at_update (place_after part golden / part.start_unit); address = place_after part golden; bytes = []; wrapped = true; ending = ending.Failed Wrap }
 
 nothing_ends : (part : PartData) (start k : ℕ) → ending_at part (kept_at_update start) (take k []) ≡ None
 nothing_ends part start zero = refl
 nothing_ends part start (suc k) = refl
 
-pub empty_fails : (part : PartData) (golden : PlanData) → drop (place_after part golden) (golden_image part golden []) ≡ [] → UpdateFails (image_of_flash part (golden_image part golden []) (place_after part golden)) (empty_trial part golden) Wrap false
+pub empty_fails : (part : PartData) (golden : PlanData) → drop (place_after part golden) (golden_image part golden []) ≡ [] → UpdateFails (image_of_flash part (golden_image part golden []) (place_after part golden)) (empty_attempt part golden) Wrap false
 empty_fails part golden none =
     let start : ℕ = place_after part golden / part.start_unit in
-    let t : AttemptCourse = empty_trial part golden in
+    let t : AttemptCourse = empty_attempt part golden in
     let out : RunsOut part [] t = record { none = λ k l. nothing_ends part start k; taken = refl; failed = refl; past_end = refl } in
     record {
       ended = record {
@@ -74,7 +74,7 @@ empty_ends unit golden =
     (length-append (filled ++ []) (replicate (size - length (filled ++ [])) 255) ∙ omega (arith, length-replicate {A = ℕ} (size - length (filled ++ [])) 255, more, whole))
 
 -- for every part and plan there is an update that fails, and forbids no fallback
-pub some_update_fails : (part : PartData) (golden : PlanData) → UpdateFails (image_of_flash part (golden_image part golden []) (place_after part golden)) (empty_trial part golden) Wrap false
+pub some_update_fails : (part : PartData) (golden : PlanData) → UpdateFails (image_of_flash part (golden_image part golden []) (place_after part golden)) (empty_attempt part golden) Wrap false
 some_update_fails part golden = empty_fails part golden (empty_ends part.start_unit (full_stream part golden))
 
 is_row : (half : ℕ) → half ≤ 1 → IsRow (record { block = 0; half = half; row = 0; minors = 2 ∷ [] })
@@ -147,7 +147,7 @@ left_torn part golden update stream image bytes l =
     ap (take 32) begins ∙ ap (λ (n : ℕ). take n (open_slot start ++ (free_slots start ++ (full_stream part golden ++ b.0)))) (sym (slot_long 0xAA995566 start)) ∙ take-append_seam (open_slot start) (free_slots start ++ (full_stream part golden ++ b.0)) in
     let is : IsOpen flash 0 = begins_open flash start stands in
     let found : List ℕ = switched 0 spent_switch flash in
-    let left : IsBetween flash found = between_closed flash found l.slots (spends 0 (omega arith) is refl) in
+    let left : IsBetween flash found = between_spent flash found l.slots (spends 0 (omega arith) is refl) in
     let fits : AreBytes flash = image_fits part.start_unit (full_stream part golden) update (full_stream_fits part golden image.is_part image.plan) bytes in
     let spent : AreBytes spent_switch = (omega arith, (omega arith, (omega arith, (omega arith, tt)))) in
-    (found, between l (bytes_replaced (32 * 0) spent_switch flash spent fits) left, λ same. left.closed 0 (omega arith) (ap (λ (x : List ℕ). switch_of x 0) same ∙ is))
+    (found, between l (bytes_replaced (32 * 0) spent_switch flash spent fits) left, λ same. left.none_open 0 (omega arith) (ap (λ (x : List ℕ). switch_of x 0) same ∙ is))

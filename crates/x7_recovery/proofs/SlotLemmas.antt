@@ -17,7 +17,7 @@ use Rattle.x7_packets.proofs.SyncLemmas.{none_empty}
 use Rattle.x7_effects.proofs.StreamLemmas.{bytes_fit}
 use Rattle.x7_boot.specs.Image.{free_slot, free_slots, filled_to, first_sector, image_of, image_size, flash_limit, open_slot, sector_from, slot, place_after_golden}
 
--- ---- no sync word in the closed slots
+-- ---- no sync word in the free slots
 
 -- a byte more before bytes without a sync word, where none begins at it
 none_at : (x : ℕ) (bytes : List ℕ) → ((back : List ℕ) → x ∷ bytes ≡ sync_bytes ++ back → ⊥) → HasNoSync bytes → HasNoSync (x ∷ bytes)
@@ -78,9 +78,9 @@ slots_none : (n start : ℕ) → start % 256 ≡ 0 → start < 0xAA000000 → Ha
 slots_none zero start whole low = none_empty
 slots_none (suc n) start whole low = slot_none start (repeat n (free_slot start)) whole low (slots_none n start whole low)
 
-pub closed_none : (start : ℕ) → start % 256 ≡ 0 → start < 0xAA000000 → HasNoSync (free_slots start)
+pub free_none : (start : ℕ) → start % 256 ≡ 0 → start < 0xAA000000 → HasNoSync (free_slots start)
 unfolding free_slots
-closed_none start whole low = slots_none 2047 start whole low
+free_none start whole low = slots_none 2047 start whole low
 
 -- ---- bytes
 
@@ -92,12 +92,12 @@ repeat_fits : (n : ℕ) (bytes : List ℕ) → AreBytes bytes → AreBytes (repe
 repeat_fits zero bytes f = tt
 repeat_fits (suc n) bytes f = all_append (λ b. b < 256) bytes (repeat n bytes) f (repeat_fits n bytes f)
 
-closed_fits : (start : ℕ) → AreBytes (free_slots start)
+free_fits : (start : ℕ) → AreBytes (free_slots start)
 unfolding free_slots
-closed_fits start = repeat_fits 2047 (free_slot start) (slot_fits 0xFFFFFFFF start)
+free_fits start = repeat_fits 2047 (free_slot start) (slot_fits 0xFFFFFFFF start)
 
 pub sector_fits : (start : ℕ) → AreBytes (first_sector start)
-sector_fits start = all_append (λ b. b < 256) (open_slot start) (free_slots start) (slot_fits 0xAA995566 start) (closed_fits start)
+sector_fits start = all_append (λ b. b < 256) (open_slot start) (free_slots start) (slot_fits 0xAA995566 start) (free_fits start)
 
 pub fill_fits : (n : ℕ) → AreBytes (replicate n 255)
 fill_fits zero = tt
@@ -151,12 +151,12 @@ pub slot_long : (switch start : ℕ) → length (slot switch start) ≡ 32
 unfolding slot
 slot_long switch start = refl
 
-closed_long : (start : ℕ) → length (free_slots start) ≡ 65504
+free_long : (start : ℕ) → length (free_slots start) ≡ 65504
 unfolding free_slots
-closed_long start = repeat_long 2047 (free_slot start) ∙ ap (λ (n : ℕ). 2047 * n) (slot_long 0xFFFFFFFF start)
+free_long start = repeat_long 2047 (free_slot start) ∙ ap (λ (n : ℕ). 2047 * n) (slot_long 0xFFFFFFFF start)
 
 pub sector_long : (start : ℕ) → length (first_sector start) ≡ 65536
-sector_long start = length-append (open_slot start) (free_slots start) ∙ omega (arith, slot_long 0xAA995566 start, closed_long start)
+sector_long start = length-append (open_slot start) (free_slots start) ∙ omega (arith, slot_long 0xAA995566 start, free_long start)
 
 -- an image begins with its first sector and the golden stream
 pub image_begins : (unit : ℕ) (golden update : List ℕ) → (more : List ℕ) × (image_of unit golden update ≡ (first_sector (place_after_golden (length golden) / unit) ++ golden) ++ more)

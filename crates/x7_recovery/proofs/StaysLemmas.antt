@@ -12,7 +12,7 @@ use Rattle.x7_update.specs.Layout.{HasLayout, update_place}
 use Rattle.x7_recovery.specs.Clean.{StartsClean}
 use Rattle.x7_recovery.specs.Golden.{GoldenStarts, StartsAtPower, with_erased}
 use Rattle.x7_recovery.specs.Updated.{AfterUpdates, none, one_more}
-use Rattle.x7_boot.proofs.OverLemmas.{trial_over}
+use Rattle.x7_boot.proofs.OverLemmas.{attempt_over}
 use Rattle.x7_recovery.proofs.GoldenLemmas.{in_flash}
 use Rattle.x7_recovery.proofs.HasOpenLemmas.{after_golden_same, after_place}
 
@@ -29,7 +29,7 @@ power_moves part flash other t s same =
     let prefixes : take (length t.bytes) (with_erased other) ≡ take (length t.bytes) (with_erased flash) =
     same_prefixes erased_sector (drop 65536 other) (drop 65536 flash) (length t.bytes) (ap (λ (n : ℕ). take (length t.bytes - n) (drop 65536 other)) length_erased_sector ∙ same ∙ ap (λ (n : ℕ). take (length t.bytes - n) (drop 65536 flash)) (sym length_erased_sector)) in
     record {
-      is = trial_over part (with_erased flash) (with_erased other) t s.is (in_flash part (with_erased flash) t s)
+      is = attempt_over part (with_erased flash) (with_erased other) t s.is (in_flash part (with_erased flash) t s)
           (ap (λ (n : ℕ). take n (with_erased other)) at ∙ prefixes ∙ ap (λ (n : ℕ). take n (with_erased flash)) (sym at));
       kept = s.kept;
       address = s.address;

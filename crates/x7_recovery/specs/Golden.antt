@@ -40,7 +40,7 @@ pub record StartsAtPower (part : PartData) (flash : List ℕ) (t : AttemptCourse
 pub record HaveSameGolden (part : PartData) (one other : List ℕ) (t : AttemptCourse) : Type 0 where
   pub starts : StartsAtPower part one t
   pub same : slice_range other sector_bytes (length t.bytes) ≡ slice_range one sector_bytes (length t.bytes)
-  pub shut : LeadsNowhere one × LeadsNowhere other
+  pub lead_nowhere : LeadsNowhere one × LeadsNowhere other
   pub fits : AreBytes one × AreBytes other
   pub least : (sector_bytes ≤ length one) × (sector_bytes ≤ length other)
 

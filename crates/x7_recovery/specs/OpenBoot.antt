@@ -14,7 +14,8 @@ use Rattle.x7_engine.specs.State.{attempt_in, memory_in}
 use Rattle.x7_engine.specs.declared.kept.Kept.{Kept}
 use Rattle.x7_engine.specs.Kept.{without_kept}
 use Rattle.x7_boot.specs.Attempt.{IsAttemptOver, AttemptCourse}
-use Rattle.x7_boot.specs.Boot.{end_state, forbids_fallback}
+use Rattle.x7_regs.specs.Control.{forbids_fallback}
+use Rattle.x7_boot.specs.Boot.{end_state}
 use Rattle.x7_boot.specs.Boots.{BootCourse, IsCourse}
 use Rattle.x7_boot.specs.Image.{place_after_golden}
 use Rattle.x7_boot.specs.declared.attempt.Ending.{Ending}

@@ -14,20 +14,20 @@ ghost use Rattle.x7_update.specs.Layout.{HasLayout};
 /// Where no sync word begins in the first sector, what stands there makes no difference: a golden stream with which the
 /// attempt at power over one such flash starts is started with over each that has the same bytes after the first
 /// sector, at the same byte, with the same memory and the same registers.
-pub fn shut_flashes_start_alike()
+pub fn flashes_that_lead_nowhere_start_alike()
     ensures { (part : PartData) (one other : List ℕ) (t : AttemptCourse) (b : BootedState) → HaveSameGolden part one other t
         → (boot : IsBoot part other b) → StartsAlike part t (course_of b boot.last) }
 {}
 
 /// The first sector leads nowhere where it is erased, and where a power loss left a flash with a layout in an update.
-pub fn closed_flashes_are_shut()
+pub fn flashes_between_slots_lead_nowhere()
     ensures erased { (flash : List ℕ) → LeadsNowhere (with_erased flash) }
     ensures between { (flash found : List ℕ) → HasLayout flash → IsBetween flash found → LeadsNowhere found }
 {}
 
-/// Of a flash whose golden stream starts where the first sector is erased, and ends at U or before it,
-/// whatever a power loss left in an update boots as the flash did before, or starts as the golden
-/// stream does, or boots as the updated flash.
+/// A flash has a golden stream that starts where the first sector is erased, and that ends at U or before it. Whatever a
+/// power loss left of the flash in an update boots as the flash did before, or starts as the golden stream does, or
+/// boots as the updated flash.
 pub fn found_flashes_start()
     ensures { (u : UpdatingAny) (found : List ℕ) (b : BootedState) → IsPreparedAny u
         → MayBeLeft u.stream u.flash found → IsBoot u.part found b → BootsAlike u found b }

@@ -24,9 +24,8 @@ pub fn images_boot()
         → HasPlanned (image_of_flash part (golden_image part golden update ++ more) (place_after part golden)) golden }
 {}
 
-/// The laws of this crate speak of something: there is a part with a plan and their image, which is prepared
-/// for an update, and for every part and plan an update that fails, and for their image in an update a flash
-/// that is left of the image and isn't the same.
+/// The laws of this crate speak of something. There is a part with a plan and their image, which is prepared for an
+/// update. Every part and plan have an update that fails, and their image leaves, in an update, a flash that is another.
 pub fn premises_hold()
     ensures part { IsPart tiny }
     ensures plan { IsPlanFor tiny nothing_planned }

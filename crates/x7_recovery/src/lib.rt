@@ -1,6 +1,5 @@
-//! What a device does with the image of a golden and an update stream, and with a
-//! flash that a power loss left in an update:
-//! laws alone.
+//! What a device does with the image of a golden and an update stream, and with a flash that a power loss left in an
+//! update: laws alone.
 #![tactic(auto)]
 
 mod clean_law;
@@ -11,7 +10,8 @@ mod open_law;
 
 pub use clean_law::{updated_flashes_fall_back, updates_keep_golden_streams};
 pub use golden_law::{
-    closed_flashes_are_shut, found_flashes_start, full_streams_start, shut_flashes_start_alike,
+    flashes_between_slots_lead_nowhere, flashes_that_lead_nowhere_start_alike, found_flashes_start,
+    full_streams_start,
 };
 pub use image_law::{images_boot, premises_hold};
 pub use laws::{found_flashes_boot, images_are_prepared, images_have_a_layout};

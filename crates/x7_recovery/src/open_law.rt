@@ -13,10 +13,10 @@ ghost use Rattle.x7_update.specs.After.{IsAfter};
 ghost use Rattle.x7_update.specs.Layout.{HasLayout, IsOpen, update_place};
 
 /// From a flash with an open slot a boot tries the update at the place to which the slot leads; where it starts the
-/// boot ends there, and where it fails and CTL0 forbids a fallback it stops. Else it falls back, and starts with the
-/// golden stream, where that is the full stream of a plan, or one of any kind that starts at power after an erased
-/// first sector and begins clean, or one with which some fallback over this flash starts. An update that is a full
-/// stream starts with the memory of its plan.
+/// boot ends there, and where it fails and CTL0 forbids a fallback it stops. Else it falls back, and starts with a
+/// golden stream of these three kinds: the full stream of a plan; one that starts at power after an erased first sector
+/// and begins clean; one with which some fallback over this flash starts. An update that is a full stream starts with
+/// the memory of its plan.
 pub fn open_slots_boot()
     ensures { (o : Opened) → IsOpened o → EachBootsOpen o }
 {}

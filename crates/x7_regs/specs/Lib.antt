@@ -1,5 +1,6 @@
 pub mod BootStatus
 pub mod Command
+pub mod Control
 pub mod Named
 pub mod Register
 pub mod Status

@@ -31,10 +31,11 @@ pub enum Cause {
 /// A boot attempt.
 #[derive(Clone, Copy, Debug, PartialEq, Eq, Hash)]
 pub struct Attempt {
+    /// What began the attempt.
     pub kind: Kind,
     /// What the attempt failed by, if it did.
     pub cause: Option<Cause>,
-    /// An IPROG command was ignored.
+    /// Whether an IPROG command was ignored in the attempt.
     pub ignored: bool,
 }
 

@@ -1,9 +1,10 @@
-//! The registers and commands of the configuration logic: their numbers, codes and names, and the words of the status
-//! registers.
+//! The registers and commands of the configuration logic: their numbers, codes and names, the fields of control
+//! register 0, and the words of the status registers.
 #![tactic(auto)]
 
 mod boot_status;
 mod command;
+mod control;
 mod laws;
 mod name;
 mod named;
@@ -12,6 +13,10 @@ mod status;
 
 pub use boot_status::{Attempt, Cause, Kind, boot_word};
 pub use command::{Command, command_of};
+pub use control::{
+    CONFIG_FALLBACK, DEC, GLUTMASK_B, GTS_USER_B, SBITS, forbids_fallback, forbids_reading,
+    forbids_writing, has_dec,
+};
 pub use laws::{codes_are_distinct, names_are_distinct, numbers_are_distinct};
 pub use name::{CommandName, RegName, command_text, name_of};
 pub use named::{command_named, reg_named};

@@ -9,6 +9,12 @@ use crate::command::command_of;
 use crate::name::{command_text, name_of};
 use x7_words::is_same;
 
+/// How many bytes a name has at least.
+const NAME_LEAST: usize = 2;
+
+/// How many bytes the name of a command has at most.
+const COMMAND_NAME_LIMIT: usize = 9;
+
 /// The register numbers by the places of their names. A place of no name has 0.
 #[rattlefmt::skip]
 const REGISTERS: [u8; 64] = [
@@ -53,7 +59,7 @@ pub fn reg_named(text: &[u8]) -> Option<u8>
     ensures named { IfSome result (λ number. IsRegName text.now number) }
     ensures unnamed { IfNone result ((number : ℕ) → number < 32 → text.now ≢ reg_name number) }
 {
-    if text.len() < 2 || text.len() > 9 {
+    if text.len() < NAME_LEAST || text.len() > COMMAND_NAME_LIMIT {
         return None;
     }
     let number = register_at(text);
@@ -68,7 +74,7 @@ pub fn command_named(text: &[u8]) -> Option<u8>
     ensures named { IfSome result (λ code. IsCommandName text.now code) }
     ensures unnamed { IfNone result ((command : Command) → text.now ≢ command_name_of command) }
 {
-    if text.len() < 2 || text.len() > 9 {
+    if text.len() < NAME_LEAST || text.len() > COMMAND_NAME_LIMIT {
         return None;
     }
     let code = at_place(&COMMANDS, text);

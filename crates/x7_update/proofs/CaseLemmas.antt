@@ -4,8 +4,8 @@ use Rattle.std.proofs.lemmas.Bool.{cases_eq, cases_lt}
 use Rattle.x7_words.specs.Word.{AreBytes}
 use Rattle.x7_words.specs.Flash.{FlashState, IfKnown}
 use Rattle.x7_update.specs.Layout.{HasLayout, HasSlots, IsOpen, IsFree, IsNextFreeSlot, switch_of, open_switch, free_switch, spent_switch, update_place}
-use Rattle.x7_update.specs.After.{ClosesTo, already, spends, IsAfter, IsBetween, MayBeLeft, untouched, between, after, switched, with_stream}
-use Rattle.x7_update.specs.Writing.{AtAnyMoment, ClosingSlot, HasWanted, KeepsBelow, OnlySwitch, OpeningSlot, Replaced, ReplacingUpdate}
+use Rattle.x7_update.specs.After.{SpendsOpen, already, spends, IsAfter, IsBetween, MayBeLeft, untouched, between, after, switched, with_stream}
+use Rattle.x7_update.specs.Writing.{AtAnyMoment, SpendingSlot, HasWanted, KeepsBelow, OnlySwitch, OpeningSlot, Replaced, ReplacingUpdate}
 use Rattle.x7_update.specs.Slots.{Finds}
 use Rattle.x7_update.specs.declared.slots.UpdateTarget.{UpdateTarget}
 use Rattle.x7_update.proofs.StreamLemmas.{length_with_stream, with_stream_below, with_stream_wanted}
@@ -46,17 +46,17 @@ only_other slot other old found n only = same_switch old found other (λ i h k. 
 -- ---- from the flash itself
 
 -- the open slot alone is torn
-pub between_closing : (size slot : ℕ) (all found : List ℕ) → HasSlots size all → slot < 2048 → IsOpen all slot → OnlySwitch slot all found → IsBetween all found
-between_closing size slot all found has h is only = record {
+pub between_spending : (size slot : ℕ) (all found : List ℕ) → HasSlots size all → slot < 2048 → IsOpen all slot → OnlySwitch slot all found → IsBetween all found
+between_spending size slot all found has h is only = record {
   size = only.size;
   slots = λ i k b. only.others i (outside_switch slot i b);
-  closed = closed;
-  switches = λ other k shut last. only_other slot other all found (λ same. shut (subst (IsOpen all) (sym same) is)) only;
+  none_open = none_open;
+  switches = λ other k is_open last. only_other slot other all found (λ same. is_open (subst (IsOpen all) (sym same) is)) only;
   golden = λ i k b. only.others i (inr (omega arith));
 }
   where
-    closed : (other : ℕ) → other < 2048 → IsOpen found other → ⊥
-    closed other k o = elim (cases_eq other slot) [
+    none_open : (other : ℕ) → other < 2048 → IsOpen found other → ⊥
+    none_open other k o = elim (cases_eq other slot) [
       | inl same ↦ only.not_open (subst (λ n. IsOpen found n) same o)
       | inr n ↦ n (has.one_open other slot k h (sym (only_other slot other all found n only) ∙ o) is)
     ]
@@ -69,10 +69,10 @@ only_spent slot all within = record {
   not_open = λ o. open_not_spent (sym (switch_switched slot 0 0 0 0 all within) ∙ o);
 }
 
-pub between_closed : (all closed : List ℕ) → HasSlots (length all) all → ClosesTo all closed → IsBetween all closed
-between_closed all closed has (already shut same) = subst (λ l. IsBetween all l) (sym same) (record { size = refl; slots = λ i h k. refl; closed = shut; switches = λ slot h o n. refl; golden = λ i h k. refl })
-between_closed all closed has (spends slot h is same) =
-    subst (λ l. IsBetween all l) (sym same) (between_closing (length all) slot all (switched slot spent_switch all) has h is (only_spent slot all (omega (arith, has.place.least, has.place.most, h))))
+pub between_spent : (all spent : List ℕ) → HasSlots (length all) all → SpendsOpen all spent → IsBetween all spent
+between_spent all spent has (already none same) = subst (λ l. IsBetween all l) (sym same) (record { size = refl; slots = λ i h k. refl; none_open = none; switches = λ slot h o n. refl; golden = λ i h k. refl })
+between_spent all spent has (spends slot h is same) =
+    subst (λ l. IsBetween all l) (sym same) (between_spending (length all) slot all (switched slot spent_switch all) has h is (only_spent slot all (omega (arith, has.place.least, has.place.most, h))))
 
 -- ---- from what is between
 
@@ -80,7 +80,7 @@ pub between_below : (size : ℕ) (all mid found : List ℕ) → HasSlots size al
 between_below size all mid found has b keeps = record {
   size = keeps.size ∙ b.size;
   slots = λ i h k. keeps.below i (omega (arith, has.place.least, h)) ∙ b.slots i h k;
-  closed = λ slot h o. b.closed slot h (sym (same_switch mid found slot (λ i k l. keeps.below i (omega (arith, has.place.least, h, l)))) ∙ o);
+  none_open = λ slot h o. b.none_open slot h (sym (same_switch mid found slot (λ i k l. keeps.below i (omega (arith, has.place.least, h, l)))) ∙ o);
   switches = λ slot h o n. same_switch mid found slot (λ i k l. keeps.below i (omega (arith, has.place.least, h, l))) ∙ b.switches slot h o n;
   golden = λ i h k. keeps.below i k ∙ b.golden i h k;
 }
@@ -93,15 +93,15 @@ pub between_opening : (slot : ℕ) (all mid found : List ℕ) → IsBetween all 
 between_opening slot all mid found b next only = record {
   size = only.size ∙ b.size;
   slots = λ i k l. only.others i (outside_switch slot i l) ∙ b.slots i k l;
-  closed = closed;
+  none_open = none_open;
   switches = λ other k o n. only_other slot other mid found (λ same. n (subst (IsNextFreeSlot all) (sym same) next)) only ∙ b.switches other k o n;
   golden = λ i k l. only.others i (inr (omega arith)) ∙ b.golden i k l;
 }
   where
-    closed : (other : ℕ) → other < 2048 → IsOpen found other → ⊥
-    closed other k o = elim (cases_eq other slot) [
+    none_open : (other : ℕ) → other < 2048 → IsOpen found other → ⊥
+    none_open other k o = elim (cases_eq other slot) [
       | inl same ↦ only.not_open (subst (λ n. IsOpen found n) same o)
-      | inr n ↦ b.closed other k (sym (only_other slot other mid found n only) ∙ o)
+      | inr n ↦ b.none_open other k (sym (only_other slot other mid found n only) ∙ o)
     ]
 
 -- a free slot that nothing has opened as yet
@@ -114,12 +114,12 @@ opened_is_open None new slot is within = subst (λ (o : Option (List ℕ)). IfKn
 opened_is_open (Some all) new slot is within = subst (λ (o : Option (List ℕ)). IfKnown o (λ all. IsOpen all slot)) (sym is) (switch_switched slot 0xAA 0x99 0x55 0x66 all within)
 
 -- the next slot is free still when the stream is written
-pub next_free : (next : ℕ) (all closed found : List ℕ) → HasSlots (length all) all → IsNextFreeSlot all next → ClosesTo all closed → KeepsBelow (update_place all) closed found → IsFree found next
-next_free next all closed found has n closes keeps =
-    same_switch closed found next (λ i h k. keeps.below i (omega (arith, has.place.least, n.within, k))) ∙ free closes
+pub next_free : (next : ℕ) (all spent found : List ℕ) → HasSlots (length all) all → IsNextFreeSlot all next → SpendsOpen all spent → KeepsBelow (update_place all) spent found → IsFree found next
+next_free next all spent found has n is_spent keeps =
+    same_switch spent found next (λ i h k. keeps.below i (omega (arith, has.place.least, n.within, k))) ∙ free is_spent
   where
-    free : ClosesTo all closed → IsFree closed next
-    free (already shut same) = ap (λ l. switch_of l next) same ∙ n.free next (omega arith) n.within
+    free : SpendsOpen all spent → IsFree spent next
+    free (already none same) = ap (λ l. switch_of l next) same ∙ n.free next (omega arith) n.within
     free (spends slot h is same) =
         ap (λ l. switch_of l next) same
         ∙ switch_other slot next spent_switch all refl (omega (arith, has.place.least, has.place.most, h)) (λ same. open_not_free all slot is (subst (λ m. IsFree all m) same (n.free next (omega arith) n.within)))
@@ -131,15 +131,15 @@ module _ (all : List ℕ) (target : UpdateTarget) (finds : Finds (length all) al
   layout : HasLayout all
   layout = record { size = finds.sized; slots = finds.has }
 
-  -- while the open slot is closed
-  pub closing_replaces : (slot : ℕ) (found : List ℕ) → slot < 2048 → IsOpen all slot → ClosingSlot slot all found → ReplacingUpdate all found
-  closing_replaces slot found h is (inl same) = inl same
-  closing_replaces slot found h is (inr only) = inr (between_closing (length all) slot all found finds.has h is only)
+  -- while the open slot is spent
+  pub spending_replaces : (slot : ℕ) (found : List ℕ) → slot < 2048 → IsOpen all slot → SpendingSlot slot all found → ReplacingUpdate all found
+  spending_replaces slot found h is (inl same) = inl same
+  spending_replaces slot found h is (inr only) = inr (between_spending (length all) slot all found finds.has h is only)
 
-  -- while the stream is written after closed slots
-  pub writing_replaces : (closed found : List ℕ) → ClosesTo all closed → KeepsBelow target.place closed found → ReplacingUpdate all found
-  writing_replaces closed found closes keeps =
-      inr (between_below (length all) all closed found finds.has (between_closed all closed finds.has closes) (subst (λ u. KeepsBelow u closed found) finds.update keeps))
+  -- while the stream is written after spent slots
+  pub writing_replaces : (spent found : List ℕ) → SpendsOpen all spent → KeepsBelow target.place spent found → ReplacingUpdate all found
+  writing_replaces spent found is_spent keeps =
+      inr (between_below (length all) all spent found finds.has (between_spent all spent finds.has is_spent) (subst (λ u. KeepsBelow u spent found) finds.update keeps))
 
   -- what is found while the update is replaced may be left
   pub replacing_left : (stream found : List ℕ) → ReplacingUpdate all found → AreBytes found → MayBeLeft stream all found
@@ -147,36 +147,36 @@ module _ (all : List ℕ) (target : UpdateTarget) (finds : Finds (length all) al
   replacing_left stream found (inr b) fits = between layout fits b
 
   module _ (stream now : List ℕ) (fits : target.place + length stream ≤ length all) (r : Replaced target.place stream all now) where
-    shut : IsBetween all r.closed
-    shut = between_closed all r.closed finds.has r.closes
+    is_between : IsBetween all r.spent
+    is_between = between_spent all r.spent finds.has r.is_spent
 
-    inside : target.place + length stream ≤ length r.closed
-    inside = omega (arith, fits, shut.size)
+    inside : target.place + length stream ≤ length r.spent
+    inside = omega (arith, fits, is_between.size)
 
-    keeps : KeepsBelow (update_place all) r.closed (with_stream target.place stream r.closed)
-    keeps = subst (λ u. KeepsBelow u r.closed (with_stream target.place stream r.closed)) finds.update (stream_keeps target.place stream r.closed inside)
+    keeps : KeepsBelow (update_place all) r.spent (with_stream target.place stream r.spent)
+    keeps = subst (λ u. KeepsBelow u r.spent (with_stream target.place stream r.spent)) finds.update (stream_keeps target.place stream r.spent inside)
 
     -- the stream stands as it is wanted
     pub replaced_wanted : HasWanted target.place stream now
-    replaced_wanted = subst (HasWanted target.place stream) (sym r.stands) (with_stream_wanted target.place stream r.closed inside)
+    replaced_wanted = subst (HasWanted target.place stream) (sym r.stands) (with_stream_wanted target.place stream r.spent inside)
 
     -- the next slot is free still
     pub replaced_free : IsFree now target.slots.next
-    replaced_free = subst (λ l. IsFree l target.slots.next) (sym r.stands) (next_free target.slots.next all r.closed (with_stream target.place stream r.closed) finds.has finds.next r.closes keeps)
+    replaced_free = subst (λ l. IsFree l target.slots.next) (sym r.stands) (next_free target.slots.next all r.spent (with_stream target.place stream r.spent) finds.has finds.next r.is_spent keeps)
 
     -- no slot is open as yet
     pub replaced_between : IsBetween all now
-    replaced_between = subst (λ l. IsBetween all l) (sym r.stands) (between_below (length all) all r.closed (with_stream target.place stream r.closed) finds.has shut keeps)
+    replaced_between = subst (λ l. IsBetween all l) (sym r.stands) (between_below (length all) all r.spent (with_stream target.place stream r.spent) finds.has is_between keeps)
 
     -- the slot is open: the flash is updated
     pub opened_after : IsAfter stream all (switched target.slots.next open_switch now)
     opened_after = record {
-      closed = r.closed;
-      closes = r.closes;
+      spent = r.spent;
+      is_spent = r.is_spent;
       next = target.slots.next;
       is_next = finds.next;
       fits = omega (arith, fits, finds.update);
-      is = ap (λ l. switched target.slots.next open_switch l) r.stands ∙ ap (λ u. switched target.slots.next open_switch (with_stream u stream r.closed)) finds.update;
+      is = ap (λ l. switched target.slots.next open_switch l) r.stands ∙ ap (λ u. switched target.slots.next open_switch (with_stream u stream r.spent)) finds.update;
     }
 
     -- while the next slot is opened

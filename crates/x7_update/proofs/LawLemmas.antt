@@ -1,13 +1,13 @@
--- Lemmas for the laws: closed slots have no sync word, and an update has one outcome.
+-- Lemmas for the laws: a flash between slots has no sync word, and an update has one outcome.
 use Rattle.std.proofs.Common.{◌≡◌, ◌≢◌, ℕ, zero, suc, ◌+◌, ◌-◌, ◌*◌, ◌/◌, ◌%◌, ◌<◌, ◌≤◌, inl, inr, false, nat_eq, List, [], ◌∷◌, length, get_or, take, drop, refl, ap, sym, subst, ◌∙◌, arith}
 use Rattle.std.proofs.lemmas.Bool.{cases_eq, cases_lt, cases_order}
 use Rattle.std.proofs.lemmas.List.{get_or-drop, get_or-take}
 use Rattle.x7_words.specs.Word.{word_of_bytes}
 use Rattle.x7_packets.specs.FlashSlot.{flash_slot}
 use Rattle.x7_update.specs.Layout.{CanStandAt, HasLayout, HasSize, IsFree, IsNextFreeSlot, IsOpen, first_slot, four_at, open_switch, switch_of}
-use Rattle.x7_update.specs.After.{ClosesTo, already, spends, IsAfter, IsBetween, MayBeLeft, after, between, untouched, switched, with_stream}
+use Rattle.x7_update.specs.After.{SpendsOpen, already, spends, IsAfter, IsBetween, MayBeLeft, after, between, untouched, switched, with_stream}
 use Rattle.x7_update.specs.Layout.{spent_switch, update_place}
-use Rattle.x7_update.proofs.CaseLemmas.{between_below, between_closed, open_not_free, outside_switch, stream_keeps, true_or_false}
+use Rattle.x7_update.proofs.CaseLemmas.{between_below, between_spent, open_not_free, outside_switch, stream_keeps, true_or_false}
 use Rattle.x7_update.proofs.SwitchLemmas.{length_switched, switch_other, switched_others}
 
 -- none of the bytes is AA, with which a sync word begins
@@ -77,7 +77,7 @@ module _ (flash found : List ℕ) (l : HasLayout flash) (b : IsBetween flash fou
           | inl switch ↦ elim (cases_eq j 0) [
             | inl zero_j ↦
                 let at : place ≡ 32 * (place / 32) = omega arith in
-                b.closed (place / 32) (omega arith) (ap (λ n. four_at found n) (sym at) ∙ e)
+                b.none_open (place / 32) (omega arith) (ap (λ n. four_at found n) (sym at) ∙ e)
             | inr not0 ↦ elim (cases_eq j 1) [
               | inl one ↦ let byte : 0x20 ≡ 0x66 = sym (byte_at (place + 3) 4 (omega arith) (omega arith) (omega arith)) ∙ e3 in absurd (omega (arith, byte))
               | inr not1 ↦ elim (cases_eq j 2) [
@@ -137,13 +137,13 @@ layout_after stream flash found l a more =
     (ap (λ f. switch_of f 2047) a.is ∙ switch_other a.next 2047 open_switch now refl within (λ same. more (subst (IsNextFreeSlot flash) (sym same) a.is_next)) ∙ last_stays flash now l b more)
   where
     now : List ℕ
-    now = with_stream (update_place flash) stream a.closed
+    now = with_stream (update_place flash) stream a.spent
 
-    shut : IsBetween flash a.closed
-    shut = between_closed flash a.closed l.slots a.closes
+    is_between : IsBetween flash a.spent
+    is_between = between_spent flash a.spent l.slots a.is_spent
 
     b : IsBetween flash now
-    b = between_below (length flash) flash a.closed now l.slots shut (stream_keeps (update_place flash) stream a.closed (omega (arith, a.fits, shut.size)))
+    b = between_below (length flash) flash a.spent now l.slots is_between (stream_keeps (update_place flash) stream a.spent (omega (arith, a.fits, is_between.size)))
 
     within : 32 * a.next + 4 ≤ length now
     within = omega (arith, b.size, a.is_next.within, l.size.least)
@@ -152,12 +152,12 @@ layout_after stream flash found l a more =
     the_next : (slot : ℕ) → slot < 2048 → IsOpen found slot → slot ≡ a.next
     the_next slot h o = elim (cases_eq slot a.next) [
       | inl same ↦ same
-      | inr n ↦ absurd (b.closed slot h (sym (ap (λ f. switch_of f slot) a.is ∙ switch_other a.next slot open_switch now refl within n) ∙ o))
+      | inr n ↦ absurd (b.none_open slot h (sym (ap (λ f. switch_of f slot) a.is ∙ switch_other a.next slot open_switch now refl within n) ∙ o))
     ]
 
 pub left_layout : (stream flash found : List ℕ) → HasLayout flash → MayBeLeft stream flash found → (IsNextFreeSlot flash 2047 → ⊥) → HasLayout found
 left_layout stream flash found l (untouched same) more = subst HasLayout (sym same) l
-left_layout stream flash found l (between layout fits b) more = layout_with flash found l b.size b.slots (λ slot other h k o p. absurd (b.closed slot h o)) (last_stays flash found l b more)
+left_layout stream flash found l (between layout fits b) more = layout_with flash found l b.size b.slots (λ slot other h k o p. absurd (b.none_open slot h o)) (last_stays flash found l b more)
 left_layout stream flash found l (after layout a) more = layout_after stream flash found l a more
 
 -- ---- an update has one outcome
@@ -176,17 +176,17 @@ one_next flash one other a b = elim (cases_order one other) [
   ]
 ]
 
-pub one_closed : (flash one other : List ℕ) → HasLayout flash → ClosesTo flash one → ClosesTo flash other → one ≡ other
-one_closed flash one other l (already s e) (already t f) = e ∙ sym f
-one_closed flash one other l (already s e) (spends slot h is f) = absurd (s slot h is)
-one_closed flash one other l (spends slot h is e) (already t f) = absurd (t slot h is)
-one_closed flash one other l (spends slot h is e) (spends slot_2 h_2 is_2 f) =
+pub one_spent : (flash one other : List ℕ) → HasLayout flash → SpendsOpen flash one → SpendsOpen flash other → one ≡ other
+one_spent flash one other l (already s e) (already t f) = e ∙ sym f
+one_spent flash one other l (already s e) (spends slot h is f) = absurd (s slot h is)
+one_spent flash one other l (spends slot h is e) (already t f) = absurd (t slot h is)
+one_spent flash one other l (spends slot h is e) (spends slot_2 h_2 is_2 f) =
     let same : slot ≡ slot_2 = l.slots.one_open slot slot_2 h h_2 is is_2 in
     e ∙ ap (λ k. switched k spent_switch flash) same ∙ sym f
 
 pub one_after : (stream flash one other : List ℕ) → HasLayout flash → IsAfter stream flash one → IsAfter stream flash other → one ≡ other
 one_after stream flash one other l a b =
     a.is
-    ∙ ap (λ k. switched k open_switch (with_stream (update_place flash) stream a.closed)) (one_next flash a.next b.next a.is_next b.is_next)
-    ∙ ap (λ c. switched b.next open_switch (with_stream (update_place flash) stream c)) (one_closed flash a.closed b.closed l a.closes b.closes)
+    ∙ ap (λ k. switched k open_switch (with_stream (update_place flash) stream a.spent)) (one_next flash a.next b.next a.is_next b.is_next)
+    ∙ ap (λ c. switched b.next open_switch (with_stream (update_place flash) stream c)) (one_spent flash a.spent b.spent l a.is_spent b.is_spent)
     ∙ sym b.is

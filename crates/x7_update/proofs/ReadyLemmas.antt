@@ -7,7 +7,7 @@ use Rattle.x7_update.specs.Layout.{CanStandAt, HasLayout, HasSize, HasNoOpenSlot
 use Rattle.x7_update.specs.ReadBack.{AllReadBack, ReadBack, WasReady}
 use Rattle.x7_update.specs.Slots.{Finds, IsFound, TargetFits}
 use Rattle.x7_update.specs.Writing.{CanReadBack, HasWanted, ReadsWanted, ReadsWantedTo, ReplacingUpdate, SeesWanted, wanted_at}
-use Rattle.x7_update.proofs.CaseLemmas.{between_below, between_closed, open_not_free, stream_keeps}
+use Rattle.x7_update.proofs.CaseLemmas.{between_below, between_spent, open_not_free, stream_keeps}
 use Rattle.x7_update.proofs.StreamLemmas.{wanted_inside}
 use Rattle.x7_update.proofs.SwitchLemmas.{switch_switched}
 use Rattle.x7_update.proofs.KnownLemmas.{known_map}
@@ -68,10 +68,10 @@ still_read_back old new update stream buffer after attached size bytes long can 
 -- what was seen before a write
 pub was_ready : {F : Type 0} (state : F → FlashState) (update : ℕ) (stream : List ℕ) (old new : FlashState) (ready : F) → new.extent ≡ old.extent → SeesWanted update stream update old.extent (state ready)
     → (state ready).bytes ≡ old.bytes → IfKnown old.bytes HasNoOpenSlot → new.moments ≤ (state ready).moments + 1 → WasReady state update stream new
-was_ready state update stream old new ready size seen same closed last = record {
+was_ready state update stream old new ready size seen same none_open last = record {
   ready = ready;
   seen = subst (λ n. SeesWanted update stream update n (state ready)) (sym size) seen;
-  closed = subst (λ (o : Option (List ℕ)). IfKnown o HasNoOpenSlot) (sym same) closed;
+  none_open = subst (λ (o : Option (List ℕ)). IfKnown o HasNoOpenSlot) (sym same) none_open;
   last = last;
 }
 
@@ -100,13 +100,13 @@ module _ {F : Type 0} (state : F → FlashState) (stream : List ℕ) (old new : 
 
 module _ (stream flash found : List ℕ) (l : HasLayout flash) (a : IsAfter stream flash found) where
   abbrev now : List ℕ
-  now = with_stream (update_place flash) stream a.closed
+  now = with_stream (update_place flash) stream a.spent
 
-  shut : IsBetween flash a.closed
-  shut = between_closed flash a.closed l.slots a.closes
+  is_between : IsBetween flash a.spent
+  is_between = between_spent flash a.spent l.slots a.is_spent
 
   written : IsBetween flash now
-  written = between_below (length flash) flash a.closed now l.slots shut (stream_keeps (update_place flash) stream a.closed (omega (arith, a.fits, shut.size)))
+  written = between_below (length flash) flash a.spent now l.slots is_between (stream_keeps (update_place flash) stream a.spent (omega (arith, a.fits, is_between.size)))
 
   within : 32 * a.next + 4 ≤ length now
   within = omega (arith, written.size, a.is_next.within, l.size.least)
@@ -115,7 +115,7 @@ module _ (stream flash found : List ℕ) (l : HasLayout flash) (a : IsAfter stre
   after_opens = ap (λ f. switch_of f a.next) a.is ∙ switch_switched a.next 0xAA 0x99 0x55 0x66 now within
 
   pub after_not_between : IsBetween flash found → ⊥
-  after_not_between b = b.closed a.next a.is_next.within after_opens
+  after_not_between b = b.none_open a.next a.is_next.within after_opens
 
   pub after_not_same : found ≡ flash → ⊥
   after_not_same same = open_not_free flash a.next (subst (λ f. IsOpen f a.next) same after_opens) (a.is_next.free a.next (omega arith) a.is_next.within)

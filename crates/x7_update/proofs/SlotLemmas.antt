@@ -15,9 +15,9 @@ up_to P count before here k h = elim (cases_eq k count) [
 ]
 
 module _ (first : List ℕ) (slot : ℕ) (leads : LeadsToUpdate first slot) where
-  closed_more : (count : ℕ) (one : Option ℕ) → count ≡ slot → (IsOpen first slot → ⊥) → OpenAmong first slot one → OpenAmong first (slot + 1) one
-  closed_more count None e n o = up_to (λ k. IsOpen first k → ⊥) slot o n
-  closed_more count (Some k) e n o = (omega (arith, o.0), o.1)
+  not_open_more : (count : ℕ) (one : Option ℕ) → count ≡ slot → (IsOpen first slot → ⊥) → OpenAmong first slot one → OpenAmong first (slot + 1) one
+  not_open_more count None e n o = up_to (λ k. IsOpen first k → ⊥) slot o n
+  not_open_more count (Some k) e n o = (omega (arith, o.0), o.1)
 
   once_more : (before : Slots) → (IsOpen first slot → ⊥) → SoFar first slot before → (k : ℕ) → k < slot + 1 → OpensAgain first k → ⊥
   once_more before n so = up_to (λ k. OpensAgain first k → ⊥) slot so.once (λ again. n again.second)
@@ -27,18 +27,18 @@ module _ (first : List ℕ) (slot : ℕ) (leads : LeadsToUpdate first slot) wher
   so_far_free before n is so = record {
     leads = up_to (λ k. LeadsToUpdate first k) slot so.leads leads;
     once = once_more before n so;
-    opens = closed_more slot before.opened refl n so.opens;
+    opens = not_open_more slot before.open_slot refl n so.opens;
     within = omega (arith, so.within);
     free = λ k h l. elim (cases_eq k slot) [ inl e ↦ subst (λ m. IsFree first m) (sym e) is | inr d ↦ so.free k h (omega arith) ];
     first = so.first;
   }
 
   -- the slot is spent
-  pub so_far_spent : (before : Slots) → (IsOpen first slot → ⊥) → (IsFree first slot → ⊥) → SoFar first slot before → SoFar first (slot + 1) (record { opened = before.opened; next = slot + 1 })
+  pub so_far_spent : (before : Slots) → (IsOpen first slot → ⊥) → (IsFree first slot → ⊥) → SoFar first slot before → SoFar first (slot + 1) (record { open_slot = before.open_slot; next = slot + 1 })
   so_far_spent before n f so = record {
     leads = up_to (λ k. LeadsToUpdate first k) slot so.leads leads;
     once = once_more before n so;
-    opens = closed_more slot before.opened refl n so.opens;
+    opens = not_open_more slot before.open_slot refl n so.opens;
     within = omega arith;
     free = λ k h l. absurd (omega arith);
     first = λ k e is_free. let same : k ≡ slot = omega arith in f (subst (λ m. IsFree first m) same is_free);
@@ -82,5 +82,5 @@ target_fits size first target f = record {
   sized = f.sized;
   place = subst (λ u. CanStandAt size u) (sym f.update) f.has.place;
   next = f.next.within;
-  opens = within_slots first target.slots.opened f.opens;
+  opens = within_slots first target.slots.open_slot f.opens;
 }

@@ -62,7 +62,7 @@ module _ (first all : List ℕ) (same : (i : ℕ) → i < 65536 → get_or first
       last_free = free_same first all same 2047 (omega arith) f.has.last_free;
     };
     update = f.update ∙ place_same first all same;
-    opens = opens_same target.slots.opened f.opens;
+    opens = opens_same target.slots.open_slot f.opens;
     next = record {
       within = f.next.within;
       free = λ slot h k. free_same first all same slot k (f.next.free slot h k);

@@ -2,38 +2,38 @@
 use Rattle.std.specs.Prelude.{◌≡◌, ℕ, ◌+◌, ◌-◌, ◌*◌, ◌%◌, ◌<◌, ◌≤◌, List, ◌++◌, length, get_or, take, replicate}
 use Rattle.x7_words.specs.Flash.{erased_byte, replaced}
 use Rattle.x7_words.specs.Word.{AreBytes}
-use Rattle.x7_packets.specs.FlashSlot.{sector_bytes, slot_count}
+use Rattle.x7_packets.specs.FlashSlot.{sector_bytes, slot_bytes, slot_count}
 use Rattle.x7_update.specs.Layout.{HasLayout, HasNoOpenSlot, IsNextFreeSlot, IsOpen, open_switch, spent_switch, switch_of, update_place}
 
 -- the flash with this switch word in a slot
 abbrev pub switched : ℕ → List ℕ → List ℕ → List ℕ
-switched slot word flash = replaced (32 * slot) word flash
+switched slot word flash = replaced (slot_bytes * slot) word flash
 
 -- the flash with this stream at its place, and FF from the stream's end to the flash's end
 abbrev pub with_stream : ℕ → List ℕ → List ℕ → List ℕ
 with_stream place stream flash = take place flash ++ (stream ++ replicate (length flash - (place + length stream)) erased_byte)
 
 -- the flash with its open slot spent, if it has one
-pub data ClosesTo (flash closed : List ℕ) : Type 0 where
-  already : HasNoOpenSlot flash → closed ≡ flash → ClosesTo flash closed
-  spends : (slot : ℕ) → slot < slot_count → IsOpen flash slot → closed ≡ switched slot spent_switch flash → ClosesTo flash closed
+pub data SpendsOpen (flash spent : List ℕ) : Type 0 where
+  already : HasNoOpenSlot flash → spent ≡ flash → SpendsOpen flash spent
+  spends : (slot : ℕ) → slot < slot_count → IsOpen flash slot → spent ≡ switched slot spent_switch flash → SpendsOpen flash spent
 
 -- The flash after an update with a stream: its open slot is spent, the stream stands at U with FF after it, and the
 -- first slot from which on all are free is open.
 pub record IsAfter (stream flash after : List ℕ) : Type 0 where
-  pub closed : List ℕ
-  pub closes : ClosesTo flash closed
+  pub spent : List ℕ
+  pub is_spent : SpendsOpen flash spent
   pub next : ℕ
   pub is_next : IsNextFreeSlot flash next
   pub fits : update_place flash + length stream ≤ length flash
-  pub is : after ≡ switched next open_switch (with_stream (update_place flash) stream closed)
+  pub is : after ≡ switched next open_switch (with_stream (update_place flash) stream spent)
 
--- Between closing the open slot and opening the next: no slot is open, all slots lead to U still, each switch word but
+-- After the open slot was spent and before the next is opened: no slot is open, all slots lead to U still, each switch word but
 -- the open slot's and the next one's stays, the golden stream stands, and from U on there may be anything.
 pub record IsBetween (flash found : List ℕ) : Type 0 where
   pub size : length found ≡ length flash
-  pub slots : (i : ℕ) → i < sector_bytes → 4 ≤ i % 32 → get_or found i 0 ≡ get_or flash i 0
-  pub closed : HasNoOpenSlot found
+  pub slots : (i : ℕ) → i < sector_bytes → 4 ≤ i % slot_bytes → get_or found i 0 ≡ get_or flash i 0
+  pub none_open : HasNoOpenSlot found
   pub switches : (slot : ℕ) → slot < slot_count → (IsOpen flash slot → ⊥) → (IsNextFreeSlot flash slot → ⊥) → switch_of found slot ≡ switch_of flash slot
   pub golden : (i : ℕ) → sector_bytes ≤ i → i < update_place flash → get_or found i 0 ≡ get_or flash i 0
 

@@ -1,7 +1,7 @@
 -- Why an update is refused, and where a flash has no layout (this project's choice).
 use Rattle.std.specs.Prelude.{◌≡◌, ◌≢◌, ℕ, ◌+◌, ◌-◌, ◌*◌, ◌<◌, ◌≤◌, ◌⊎◌, true, false, List, length, get_or, None, Some}
 use Rattle.x7_words.specs.Flash.{FlashFails, FlashState, IfKnown, WriteFails}
-use Rattle.x7_packets.specs.FlashSlot.{slot_count}
+use Rattle.x7_packets.specs.FlashSlot.{slot_bytes, slot_count}
 use Rattle.x7_update.specs.Layout.{CanStandAt, HasLayout, HasSize, IsFree, IsOpen, LeadsToUpdate, first_slot, start_place, update_place}
 use Rattle.x7_update.specs.Writing.{IsFirstRead, IsReadWrong}
 use Rattle.x7_update.specs.declared.fault.UpdateFault.{UpdateFault}
@@ -11,10 +11,10 @@ use Rattle.x7_update.specs.declared.fault.UpdateFault.TheVariants.{Differs, Fail
 pub record DiffersAt (flash : List ℕ) (slot place : ℕ) : Type 0 where
   pub i : ℕ
   pub after_switch : 4 ≤ i
-  pub within : i < 32
-  pub is : place ≡ 32 * slot + i
+  pub within : i < slot_bytes
+  pub is : place ≡ slot_bytes * slot + i
   pub differs : get_or flash place 0 ≢ get_or (first_slot flash) i 0
-  pub first : (j : ℕ) → 4 ≤ j → j < i → get_or flash (32 * slot + j) 0 ≡ get_or (first_slot flash) j 0
+  pub first : (j : ℕ) → 4 ≤ j → j < i → get_or flash (slot_bytes * slot + j) 0 ≡ get_or (first_slot flash) j 0
 
 -- the slot is open, and so is one before it
 pub record OpensAgain (flash : List ℕ) (slot : ℕ) : Type 0 where
@@ -30,7 +30,7 @@ IsGoodSlot flash slot = LeadsToUpdate flash slot × (OpensAgain flash slot → �
 -- why a slot is none of a layout, and the place that shows it: the slot doesn't lead to U (where it differs), or is
 -- open as one before it is (the slot's place)
 abbrev pub IsBadSlotAt : List ℕ → ℕ → ℕ → Type 0
-IsBadSlotAt flash slot place = DiffersAt flash slot place ⊎ (LeadsToUpdate flash slot × OpensAgain flash slot × (place ≡ 32 * slot))
+IsBadSlotAt flash slot place = DiffersAt flash slot place ⊎ (LeadsToUpdate flash slot × OpensAgain flash slot × (place ≡ slot_bytes * slot))
 
 -- the size and the first slot are good
 pub record BeginsWell (size : ℕ) (flash : List ℕ) : Type 0 where
@@ -47,7 +47,7 @@ pub data NoLayoutAt (size : ℕ) (flash : List ℕ) (place : ℕ) : Type 0 where
   bad_place : HasSize size → LeadsToUpdate flash 0 → (CanStandAt size (update_place flash) → ⊥) → place ≡ start_place → NoLayoutAt size flash place
   bad_slot : BeginsWell size flash → (slot : ℕ) → slot < slot_count → ((earlier : ℕ) → earlier < slot → IsGoodSlot flash earlier)
       → IsBadSlotAt flash slot place → NoLayoutAt size flash place
-  last_taken : BeginsWell size flash → ((slot : ℕ) → slot < slot_count → IsGoodSlot flash slot) → (IsFree flash (slot_count - 1) → ⊥) → place ≡ 32 * (slot_count - 1)
+  last_taken : BeginsWell size flash → ((slot : ℕ) → slot < slot_count → IsGoodSlot flash slot) → (IsFree flash (slot_count - 1) → ⊥) → place ≡ slot_bytes * (slot_count - 1)
       → NoLayoutAt size flash place
 
 -- the stream passes the end of a flash with a layout

@@ -10,7 +10,7 @@
 use Rattle.std.specs.Prelude.{◌≡◌, ◌≢◌, ℕ, suc, ◌+◌, ◌-◌, ◌*◌, ◌%◌, ◌<◌, ◌≤◌, List, [], ◌∷◌, length, get_or}
 use Rattle.x7_words.specs.Flash.{flash_limit}
 use Rattle.x7_words.specs.Word.{word_of_bytes}
-use Rattle.x7_packets.specs.FlashSlot.{flash_slot, sector_bytes, slot_count}
+use Rattle.x7_packets.specs.FlashSlot.{flash_slot, sector_bytes, slot_bytes, slot_count}
 use Rattle.x7_packets.specs.SyncWord.{sync_bytes}
 
 -- the four bytes from a place on
@@ -19,7 +19,7 @@ four_at flash place = get_or flash place 0 ∷ get_or flash (place + 1) 0 ∷ ge
 
 -- the switch word of a slot, by its bytes
 abbrev pub switch_of : List ℕ → ℕ → List ℕ
-switch_of flash slot = four_at flash (32 * slot)
+switch_of flash slot = four_at flash (slot_bytes * slot)
 
 -- the switch word of an open slot: the sync word
 abbrev pub open_switch : List ℕ
@@ -41,7 +41,7 @@ start_place = 12
 abbrev pub update_place : List ℕ → ℕ
 update_place flash = word_of_bytes (four_at flash start_place)
 
--- the 32 bytes that the first slot has to have, and each other one after its switch word
+-- the bytes that the first slot has to have, and each other one after its switch word
 abbrev pub first_slot : List ℕ → List ℕ
 first_slot flash = flash_slot open_switch (four_at flash start_place)
 
@@ -59,7 +59,7 @@ pub record CanStandAt (size place : ℕ) : Type 0 where
 
 -- the slot leads to U: after its switch word it has the bytes that the first one has to have
 abbrev pub LeadsToUpdate : List ℕ → ℕ → Type 0
-LeadsToUpdate flash slot = (i : ℕ) → 4 ≤ i → i < 32 → get_or flash (32 * slot + i) 0 ≡ get_or (first_slot flash) i 0
+LeadsToUpdate flash slot = (i : ℕ) → 4 ≤ i → i < slot_bytes → get_or flash (slot_bytes * slot + i) 0 ≡ get_or (first_slot flash) i 0
 
 -- the slot is open
 abbrev pub IsOpen : List ℕ → ℕ → Type 0

@@ -1,7 +1,7 @@
 -- That an update is read back before its slot is opened, and the slot's switch word after it (this project's choice).
 use Rattle.std.specs.Prelude.{◌≡◌, ℕ, ◌+◌, ◌*◌, ◌<◌, ◌≤◌, List}
 use Rattle.x7_words.specs.Flash.{FlashState, IfKnown, Sees}
-use Rattle.x7_packets.specs.FlashSlot.{slot_count}
+use Rattle.x7_packets.specs.FlashSlot.{slot_bytes, slot_count}
 use Rattle.x7_update.specs.After.{IsAfter}
 use Rattle.x7_update.specs.Layout.{CanStandAt, HasLayout, HasNoOpenSlot, IsNextFreeSlot, open_switch, update_place}
 use Rattle.x7_update.specs.Writing.{SeesWanted}
@@ -12,7 +12,7 @@ module _ {F : Type 0} (state : F → FlashState) where
   pub record WasReady (update : ℕ) (stream : List ℕ) (new : FlashState) : Type 0 where
     pub ready : F
     pub seen : SeesWanted update stream update new.extent (state ready)
-    pub closed : IfKnown (state ready).bytes HasNoOpenSlot
+    pub none_open : IfKnown (state ready).bytes HasNoOpenSlot
     pub last : new.moments ≤ (state ready).moments + 1
 
   -- all of an update with a stream was read back, and no slot was open as yet
@@ -33,4 +33,4 @@ module _ {F : Type 0} (state : F → FlashState) where
     pub slot : ℕ
     pub within : slot < slot_count
     pub next : IfKnown old.bytes (λ all. IsNextFreeSlot all slot)
-    pub switch : Sees new (32 * slot) open_switch
+    pub switch : Sees new (slot_bytes * slot) open_switch

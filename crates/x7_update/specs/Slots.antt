@@ -22,7 +22,7 @@ OpenAmong flash count (Some slot) = (slot < count) × IsOpen flash slot
 pub record SoFar (flash : List ℕ) (count : ℕ) (slots : Slots) : Type 0 where
   pub leads : (slot : ℕ) → slot < count → LeadsToUpdate flash slot
   pub once : (slot : ℕ) → slot < count → OpensAgain flash slot → ⊥
-  pub opens : OpenAmong flash count slots.opened
+  pub opens : OpenAmong flash count slots.open_slot
   pub within : slots.next ≤ count
   pub free : (slot : ℕ) → slots.next ≤ slot → slot < count → IsFree flash slot
   pub first : (slot : ℕ) → suc slot ≡ slots.next → switch_of flash slot ≢ free_switch
@@ -33,7 +33,7 @@ pub record Finds (size : ℕ) (flash : List ℕ) (target : UpdateTarget) : Type 
   pub sized : HasSize size
   pub has : HasSlots size flash
   pub update : target.place ≡ update_place flash
-  pub opens : OpenAmong flash slot_count target.slots.opened
+  pub opens : OpenAmong flash slot_count target.slots.open_slot
   pub next : IsNextFreeSlot flash target.slots.next
 
 -- a slot of the first sector, or none
@@ -46,7 +46,7 @@ pub record TargetFits (size : ℕ) (target : UpdateTarget) : Type 0 where
   pub sized : HasSize size
   pub place : CanStandAt size target.place
   pub next : target.slots.next < slot_count
-  pub opens : WithinSlots target.slots.opened
+  pub opens : WithinSlots target.slots.open_slot
 
 -- a flash is attached, and this is where its update goes, by its bytes where these are known
 pub record IsFound (state : FlashState) (target : UpdateTarget) : Type 0 where

@@ -2,8 +2,8 @@
 use Rattle.std.specs.Prelude.{◌≡◌, ◌≢◌, ℕ, ◌+◌, ◌-◌, ◌*◌, ◌%◌, ◌<◌, ◌≤◌, ◌⊎◌, IsTrue, List, length, get_or, Option, Some, None, nat_lt, if◌then◌else◌, true, false}
 use Rattle.x7_words.specs.Flash.{erased_byte, Elapses, FlashFails, FlashState, IfKnown, OnlyWrites, WriteFails}
 use Rattle.x7_words.specs.Word.{AreBytes}
-use Rattle.x7_packets.specs.FlashSlot.{sector_bytes, slot_count}
-use Rattle.x7_update.specs.After.{ClosesTo, IsBetween, switched, with_stream}
+use Rattle.x7_packets.specs.FlashSlot.{sector_bytes, slot_bytes, slot_count}
+use Rattle.x7_update.specs.After.{SpendsOpen, IsBetween, switched, with_stream}
 use Rattle.x7_update.specs.Layout.{CanStandAt, HasSize, open_switch, switch_of}
 use Rattle.x7_update.specs.declared.fault.UpdateFault.{UpdateFault}
 use Rattle.x7_update.specs.declared.fault.UpdateFault.TheVariants.{Differs, Failed, NoLayout, NoMemory, TooLong}
@@ -51,7 +51,7 @@ pub record Writes (old new : FlashState) (past since : ℕ → List ℕ → Type
 pub record CanSwitch (state : FlashState) (slot : ℕ) : Type 0 where
   pub attached : state.attached ≡ true
   pub among : slot < slot_count
-  pub within : 32 * slot + 4 ≤ state.extent
+  pub within : slot_bytes * slot + 4 ≤ state.extent
 
 -- all from a place on can be erased: the flash is attached, and whole sectors are before the place and up to the end
 pub record CanEraseFrom (state : FlashState) (place : ℕ) : Type 0 where
@@ -73,12 +73,12 @@ pub record ErasedTo (place end : ℕ) (old now : List ℕ) : Type 0 where
 -- only the slot's switch word may have changed, and the slot isn't open
 pub record OnlySwitch (slot : ℕ) (old found : List ℕ) : Type 0 where
   pub size : length found ≡ length old
-  pub others : (i : ℕ) → (i < 32 * slot) ⊎ (32 * slot + 4 ≤ i) → get_or found i 0 ≡ get_or old i 0
+  pub others : (i : ℕ) → (i < slot_bytes * slot) ⊎ (slot_bytes * slot + 4 ≤ i) → get_or found i 0 ≡ get_or old i 0
   pub not_open : switch_of found slot ≢ open_switch
 
--- while an open slot is closed nothing has changed, or the slot isn't open
-abbrev pub ClosingSlot : ℕ → List ℕ → List ℕ → Type 0
-ClosingSlot slot old found = (found ≡ old) ⊎ OnlySwitch slot old found
+-- while an open slot is spent nothing has changed, or the slot isn't open
+abbrev pub SpendingSlot : ℕ → List ℕ → List ℕ → Type 0
+SpendingSlot slot old found = (found ≡ old) ⊎ OnlySwitch slot old found
 
 -- while a free slot is opened the slot is open, and nothing else has changed, or it isn't open yet
 abbrev pub OpeningSlot : ℕ → List ℕ → List ℕ → Type 0
@@ -94,9 +94,9 @@ StreamStands place stream old now = now ≡ with_stream place stream old
 
 -- the open slot is spent, and the stream stands at its place
 pub record Replaced (place : ℕ) (stream old now : List ℕ) : Type 0 where
-  pub closed : List ℕ
-  pub closes : ClosesTo old closed
-  pub stands : StreamStands place stream closed now
+  pub spent : List ℕ
+  pub is_spent : SpendsOpen old spent
+  pub stands : StreamStands place stream spent now
 
 -- the byte that is wanted at a place from U on: the stream's, or FF after it
 abbrev pub wanted_at : ℕ → List ℕ → ℕ → ℕ
@@ -143,7 +143,7 @@ IsWrong update stream place buffer NoMemory = ⊥
 -- the switch word of the slot that is opened.
 pub data IsWritten (size : ℕ) (stream piece : List ℕ) (from end : ℕ) : Type 0 where
   in_stream : CanStandAt size from → from + length stream ≤ size → piece ≡ stream → end ≡ size → IsWritten size stream piece from end
-  in_switch : (slot : ℕ) → slot < slot_count → from ≡ 32 * slot → piece ≡ open_switch → end ≡ from + 4 → IsWritten size stream piece from end
+  in_switch : (slot : ℕ) → slot < slot_count → from ≡ slot_bytes * slot → piece ≡ open_switch → end ≡ from + 4 → IsWritten size stream piece from end
 
 -- a byte is another than the one that an update with this stream writes at a place of a flash of a size
 pub record IsReadWrong (size : ℕ) (stream : List ℕ) (place wrote read : ℕ) : Type 0 where

@@ -15,9 +15,9 @@ pub fn updates_have_one_outcome()
     ensures { (stream flash one other : List ℕ) → HasLayout flash → IsAfter stream flash one → IsAfter stream flash other → one ≡ other }
 {}
 
-/// A flash that was left between closing a slot and opening the next has no sync word in its first sector, nor one that
-/// begins there: a device that searches from its first byte on comes to the golden stream.
-pub fn closed_slots_hold_no_sync_word()
+/// A flash that was left after its open slot was spent and before the next was opened has no sync word in its first
+/// sector, nor one that begins there: a device that searches from its first byte on comes to the golden stream.
+pub fn flashes_between_slots_hold_no_sync_word()
     ensures { (flash found : List ℕ) → HasLayout flash → IsBetween flash found
         → (place : ℕ) → place < sector_bytes → four_at found place ≢ open_switch }
 {}

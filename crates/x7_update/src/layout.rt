@@ -5,14 +5,14 @@ ghost use Rattle.x7_update.specs.Layout.{CanStandAt, HasSize, first_slot, four_a
 use x7_packets::{SYNC_BYTES, flash_slot};
 use x7_words::{FLASH_LIMIT, SECTOR_BYTES};
 
-/// The sync word: a slot with it is open.
-pub(crate) const OPEN: [u8; 4] = SYNC_BYTES;
+/// The switch word of an open slot: the sync word.
+pub(crate) const OPEN_SWITCH: [u8; 4] = SYNC_BYTES;
 
-/// A dummy word: a slot with it is free.
-pub(crate) const FREE: [u8; 4] = [0xFF; 4];
+/// The switch word of a free slot: a dummy word.
+pub(crate) const FREE_SWITCH: [u8; 4] = [0xFF; 4];
 
-/// Zeros: a slot with them is spent.
-pub(crate) const SPENT: [u8; 4] = [0; 4];
+/// The switch word of a spent slot, as an update leaves it: zeros.
+pub(crate) const SPENT_SWITCH: [u8; 4] = [0; 4];
 
 /// Where in a slot its start address stands.
 pub(crate) const START_PLACE: usize = 12;
@@ -35,7 +35,7 @@ pub(crate) fn first_slot(first: &[u8]) -> [u8; 32]
     requires { 16 ≤ length first.now }
     ensures { result ≡ first_slot first.now }
 {
-    flash_slot(OPEN, four_at(first, START_PLACE))
+    flash_slot(OPEN_SWITCH, four_at(first, START_PLACE))
 }
 
 /// Whether a flash of this size can be updated.

@@ -1,4 +1,4 @@
-//! The update of a flash that may lose its power at any moment: it closes the open
+//! The update of a flash that may lose its power at any moment: it spends the open
 //! slot, writes the stream, and opens the next.
 #![tactic(auto)]
 
@@ -13,7 +13,7 @@ mod write;
 
 pub use fault::UpdateFault;
 pub use laws::{
-    closed_slots_hold_no_sync_word, layouts_are_not_refused, left_flashes_have_a_layout,
+    flashes_between_slots_hold_no_sync_word, layouts_are_not_refused, left_flashes_have_a_layout,
     updates_have_one_outcome,
 };
 pub use steps::update;

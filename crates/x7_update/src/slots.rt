@@ -7,15 +7,17 @@ ghost use Rattle.x7_update.specs.Fault.{DiffersAt, HasCause, IsBadSlotAt, IsGood
 ghost use Rattle.x7_update.specs.Slots.{Finds, HasFirstSlot, IsFound, SoFar};
 
 use crate::fault::UpdateFault;
-use crate::layout::{FREE, OPEN, START_PLACE, can_stand, first_slot, four_at, has_size};
-use x7_packets::SLOT_COUNT;
+use crate::layout::{
+    FREE_SWITCH, OPEN_SWITCH, START_PLACE, can_stand, first_slot, four_at, has_size,
+};
+use x7_packets::{SLOT_BYTES, SLOT_COUNT};
 use x7_words::{Flash, is_same, word_of};
 
 /// The slots that an update switches, by their numbers.
 #[derive(Clone, Copy, Drop)]
 pub(crate) struct Slots {
     /// The number of the open slot.
-    pub(crate) opened: Option<u64>,
+    pub(crate) open_slot: Option<u64>,
     /// The number of the first slot from which on all are free.
     pub(crate) next: u64,
 }
@@ -36,8 +38,8 @@ fn difference(first: &[u8], wanted: &[u8; 32], slot: usize) -> Option<u64>
     ensures none { IfNone result (LeadsToUpdate first.now slot) }
     ensures some { IfSome result (λ place. DiffersAt first.now slot place) }
 {
-    let at = 32 * slot;
-    for i in 4..32 {
+    let at = SLOT_BYTES as usize * slot;
+    for i in 4..SLOT_BYTES as usize {
         if first[at + i] != wanted[i] {
             return Some((at + i) as u64);
         }
@@ -56,22 +58,22 @@ fn take_slot(first: &[u8], wanted: &[u8; 32], slot: u64, before: Slots) -> Resul
     if let Some(place) = difference(first, wanted, slot as usize) {
         return Err(place);
     }
-    let switch = four_at(first, 32 * slot as usize);
-    let Slots { opened, next } = before;
-    if is_same(&switch, &OPEN) {
-        if opened.is_some() {
-            return Err(32 * slot);
+    let switch = four_at(first, SLOT_BYTES as usize * slot as usize);
+    let Slots { open_slot, next } = before;
+    if is_same(&switch, &OPEN_SWITCH) {
+        if open_slot.is_some() {
+            return Err(SLOT_BYTES * slot);
         }
         return Ok(Slots {
-            opened: Some(slot),
+            open_slot: Some(slot),
             next: slot + 1,
         });
     }
-    if is_same(&switch, &FREE) {
-        return Ok(Slots { opened, next });
+    if is_same(&switch, &FREE_SWITCH) {
+        return Ok(Slots { open_slot, next });
     }
     Ok(Slots {
-        opened,
+        open_slot,
         next: slot + 1,
     })
 }
@@ -84,7 +86,7 @@ fn take_slots(first: &[u8], wanted: &[u8; 32]) -> Result<Slots, u64>
         × ((earlier : ℕ) → earlier < slot → IsGoodSlot first.now earlier) × IsBadSlotAt first.now slot place) }
 {
     let mut slots = Slots {
-        opened: None,
+        open_slot: None,
         next: 0,
     };
     for slot in 0..SLOT_COUNT {
@@ -110,7 +112,7 @@ fn target_of(first: &[u8], size: u64) -> Result<UpdateTarget, u64>
     }
     let slots = take_slots(first, &wanted)?;
     if slots.next >= SLOT_COUNT {
-        return Err(32 * (SLOT_COUNT - 1));
+        return Err(SLOT_BYTES * (SLOT_COUNT - 1));
     }
     Ok(UpdateTarget { place, slots })
 }

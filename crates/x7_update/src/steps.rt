@@ -1,8 +1,8 @@
-//! The steps of an update, in their order: look, close, write, read back, open.
+//! The steps of an update, in their order: look, spend the open slot, write, read back, open the next.
 ghost use Rattle.std.specs.Prelude.{◌≡◌, ◌+◌, ◌*◌, ◌<◌, ◌≤◌, ◌⊎◌, ℕ, List, true, length, IfErr, OnOk, OnErr, option_map};
 ghost use Rattle.x7_words.specs.Flash.{OnlyReads, IfKnown, Sees, WriteFails};
-ghost use Rattle.x7_packets.specs.FlashSlot.{slot_count};
-ghost use Rattle.x7_update.specs.After.{ClosesTo, IsAfter, MayBeLeft, switched};
+ghost use Rattle.x7_packets.specs.FlashSlot.{slot_bytes, slot_count};
+ghost use Rattle.x7_update.specs.After.{SpendsOpen, IsAfter, MayBeLeft, switched};
 ghost use Rattle.x7_update.specs.Layout.{HasLayout, HasNoOpenSlot, IsFree, open_switch};
 ghost use Rattle.x7_update.specs.ReadBack.{AllReadBack, OpensReadBack, WasReady};
 ghost use Rattle.x7_update.specs.Fault.{CanBeUpdated, HasCause, IsEarly};
@@ -12,27 +12,27 @@ ghost use Rattle.x7_update.specs.declared.fault.UpdateFault.TheVariants.{NoMemor
 
 use crate::fault::UpdateFault;
 use crate::slots::{UpdateTarget, find_target};
-use crate::switch::{close_slot, open_slot};
+use crate::switch::{open_slot, spend_slot};
 use crate::verify::{verify_stream, verify_switch};
 use crate::write::write_stream;
 use std::alloc::Global;
 use x7_words::{Failed, Flash, SECTOR_BYTES};
 
-/// Closes the open slot, if there is one.
-fn close_opened<F: Flash>(flash: &mut F, target: UpdateTarget) -> Result<(), Failed>
+/// Spends the open slot, if there is one.
+fn spend_open_slot<F: Flash>(flash: &mut F, target: UpdateTarget) -> Result<(), Failed>
     requires { IsFound (F.state flash.old) target }
-    ensures closed { OnOk result (Becomes (F.state flash.old) (F.state flash.new) ClosesTo) }
+    ensures spent { OnOk result (Becomes (F.state flash.old) (F.state flash.new) SpendsOpen) }
     ensures writes { Writes (F.state flash.old) (F.state flash.new) (F.found_since flash.old) (F.found_since flash.new)
         ReplacingUpdate }
     ensures failed { OnErr result (WriteFails (F.state flash.old) (F.state flash.new)) }
 {
-    match target.slots.opened {
+    match target.slots.open_slot {
         None => Ok(()),
-        Some(slot) => close_slot(flash, slot),
+        Some(slot) => spend_slot(flash, slot),
     }
 }
 
-/// Closes the open slot and writes the stream.
+/// Spends the open slot and writes the stream.
 fn replace<F: Flash>(flash: &mut F, target: UpdateTarget, stream: &[u8]) -> Result<(), Failed>
     requires found { IsFound (F.state flash.old) target }
     requires stream { target.place + length stream.now ≤ (F.state flash.old).extent }
@@ -41,7 +41,7 @@ fn replace<F: Flash>(flash: &mut F, target: UpdateTarget, stream: &[u8]) -> Resu
         ReplacingUpdate }
     ensures failed { OnErr result (WriteFails (F.state flash.old) (F.state flash.new)) }
 {
-    close_opened(flash, target)?;
+    spend_open_slot(flash, target)?;
     write_stream(flash, target.place, stream)
 }
 
@@ -55,14 +55,14 @@ fn read_back_and_open<F: Flash>(
     requires written { CanReadBack (F.state flash.old) target.place stream.now buffer.old }
     requires next { target.slots.next < slot_count }
     requires free { IfKnown (F.state flash.old).bytes (λ all. IsFree all target.slots.next) }
-    requires closed { IfKnown (F.state flash.old).bytes HasNoOpenSlot }
+    requires none_open { IfKnown (F.state flash.old).bytes HasNoOpenSlot }
     ensures opened { OnOk result ((F.state flash.new).bytes ≡ option_map (switched target.slots.next open_switch) (F.state flash.old).bytes) }
     ensures any_moment { AtAnyMoment (F.state flash.old) (F.state flash.new) (F.found_since flash.old) (F.found_since flash.new)
         (OpeningSlot target.slots.next) }
     ensures bytes { AtAnyMoment (F.state flash.old) (F.state flash.new) (F.found_since flash.old) (F.found_since flash.new)
         StaysBytes }
     ensures ready { OnOk result (WasReady F.state target.place stream.now (F.state flash.new)) }
-    ensures switch { OnOk result (Sees (F.state flash.new) (32 * target.slots.next) open_switch) }
+    ensures switch { OnOk result (Sees (F.state flash.new) (slot_bytes * target.slots.next) open_switch) }
     ensures opens { AtAnyMoment (F.state flash.old) (F.state flash.new) (F.found_since flash.old) (F.found_since flash.new)
         (λ all found. (found ≡ all) ⊎ WasReady F.state target.place stream.now (F.state flash.new)) }
     ensures fault { IfErr result (EndFails stream.now (F.state flash.old) (F.state flash.new)) }
@@ -76,7 +76,7 @@ fn read_back_and_open<F: Flash>(
     verify_switch(flash, target.slots.next)
 }
 
-/// Updates a flash with a stream: the open slot is closed, the stream is written at its place with FF after it and read
+/// Updates a flash with a stream: the open slot is spent, the stream is written at its place with FF after it and read
 /// back, and the next slot is opened.
 ///
 /// Power may be lost at any moment. What is found then is the flash as it was, or a flash without an open slot, whose

@@ -1,23 +1,24 @@
-//! The switch words of slots: the open slot is closed, and the next is opened.
+//! The switch words of slots: the open slot is spent, and the next is opened.
 ghost use Rattle.std.specs.Prelude.{◌≡◌, ◌+◌, ◌≤◌, OnOk, OnErr, option_map};
 ghost use Rattle.x7_words.specs.Flash.{IfKnown, WriteFails};
 ghost use Rattle.x7_update.specs.After.{switched};
 ghost use Rattle.x7_update.specs.Layout.{IsFree, IsOpen, open_switch, spent_switch};
-ghost use Rattle.x7_update.specs.Writing.{CanSwitch, ClosingSlot, OpeningSlot, Writes};
+ghost use Rattle.x7_update.specs.Writing.{CanSwitch, SpendingSlot, OpeningSlot, Writes};
 
-use crate::layout::{OPEN, SPENT};
+use crate::layout::{OPEN_SWITCH, SPENT_SWITCH};
+use x7_packets::SLOT_BYTES;
 use x7_words::{Failed, Flash};
 
-/// Closes an open slot for ever.
-pub(crate) fn close_slot<F: Flash>(flash: &mut F, slot: u64) -> Result<(), Failed>
+/// Spends an open slot: no slot that is spent is ever free or open again, but by an erase of the first sector.
+pub(crate) fn spend_slot<F: Flash>(flash: &mut F, slot: u64) -> Result<(), Failed>
     requires slot { CanSwitch (F.state flash.old) slot }
     requires opened { IfKnown (F.state flash.old).bytes (λ all. IsOpen all slot) }
-    ensures closed { OnOk result ((F.state flash.new).bytes ≡ option_map (switched slot spent_switch) (F.state flash.old).bytes) }
+    ensures spent { OnOk result ((F.state flash.new).bytes ≡ option_map (switched slot spent_switch) (F.state flash.old).bytes) }
     ensures writes { Writes (F.state flash.old) (F.state flash.new) (F.found_since flash.old) (F.found_since flash.new)
-        (ClosingSlot slot) }
+        (SpendingSlot slot) }
     ensures failed { OnErr result (WriteFails (F.state flash.old) (F.state flash.new)) }
 {
-    flash.program(32 * slot, &SPENT)
+    flash.program(SLOT_BYTES * slot, &SPENT_SWITCH)
 }
 
 /// Opens a free slot.
@@ -30,5 +31,5 @@ pub(crate) fn open_slot<F: Flash>(flash: &mut F, slot: u64) -> Result<(), Failed
     ensures moment { (F.state flash.new).moments ≤ (F.state flash.old).moments + 1 }
     ensures failed { OnErr result (WriteFails (F.state flash.old) (F.state flash.new)) }
 {
-    flash.program(32 * slot, &OPEN)
+    flash.program(SLOT_BYTES * slot, &OPEN_SWITCH)
 }

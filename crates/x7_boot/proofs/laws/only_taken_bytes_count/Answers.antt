@@ -1,5 +1,5 @@
-use Rattle.x7_boot.proofs.OverLemmas.{trial_over}
+use Rattle.x7_boot.proofs.OverLemmas.{attempt_over}
 use Rattle.x7_boot.proofs.laws.only_taken_bytes_count.Goals as goal
 
 pub returns : goal.returns
-returns c = trial_over
+returns c = attempt_over

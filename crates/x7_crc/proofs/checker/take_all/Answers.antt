@@ -5,7 +5,7 @@ use Rattle.x7_crc.proofs.checker.take_all.Goals as goal
 
 pub returns-in-Need : goal.returns-in-Need
 returns-in-Need c = λ bytes s.
-    let used = used_up _ _ _ _ c.in-Need.is c.cut-run.ensures.goes in
+    let used = used_up _ _ _ _ c.in-Need.is c.cut-run.ensures.nearer in
     took_all _ _ _ _ _ _ _ bytes c.args.piece.now (c.loop-now.invariant.checks bytes s) c.cut-run.ensures.forward (omega (arith, used)) c.in-Need.is c.cut-run.ensures.adds
 
 pub loop-now-preserved : goal.loop-now-preserved

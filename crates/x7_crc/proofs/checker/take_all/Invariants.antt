@@ -6,7 +6,7 @@ use Rattle.x7_crc.proofs.checker.take_all.Given as goal
 abbrev pub invariant-loop-now : goal.invariant-loop-now
 invariant-loop-now l = record {
   within : l.at ≤ length l.piece;
-  checks : (bytes : List ℕ) → Checks l.fn.cutter l.fn.sum.check l.fn.sum.held bytes → Checks l.cutter l.now.check l.now.held (bytes ++ take l.at l.piece);
+  checks : (bytes : List ℕ) → Checks l.fn.cutter l.fn.state.check l.fn.state.held bytes → Checks l.cutter l.now.check l.now.held (bytes ++ take l.at l.piece);
 }
 
 abbrev pub decreases-loop-now : goal.decreases-loop-now

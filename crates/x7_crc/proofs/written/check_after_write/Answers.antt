@@ -9,4 +9,4 @@ returns-in-Crc c = λ h place e f. sym (check_cleared h (number_of c.args.reg) c
 
 pub returns-in_default : goal.returns-in_default
 returns-in_default c = λ h place e f.
-    sym (check_reset h (number_of c.args.reg) c.args.word place (sym (ap (is_command 7) f) ∙ sym c.is.ensures ∙ c.if-is.true))
+    sym (check_reset h (number_of c.args.reg) c.args.word place (sym (ap (is_command 7) f) ∙ sym c.is_command.ensures ∙ c.if-is_command.true))

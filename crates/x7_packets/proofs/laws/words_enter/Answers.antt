@@ -20,5 +20,5 @@ returns-clause-place c = next_word_is
 pub returns-clause-cut : goal.returns-clause-cut
 returns-clause-cut c = λ bytes more r run h. cut_enters h.old h.new bytes more r.sessions r.place run (next_in r) h.reads h.went (next_word_is bytes r.sessions r.place h.reads.reading)
 
-pub returns-clause-one : goal.returns-clause-one
-returns-clause-one c = history_is
+pub returns-clause-history : goal.returns-clause-history
+returns-clause-history c = history_is

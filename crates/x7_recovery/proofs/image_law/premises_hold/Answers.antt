@@ -1,4 +1,4 @@
-use Rattle.x7_recovery.proofs.PremiseLemmas.{empty_trial, left_torn, plan_is, some_update_fails, tiny_image, tiny_is, tiny_prepared}
+use Rattle.x7_recovery.proofs.PremiseLemmas.{empty_attempt, left_torn, plan_is, some_update_fails, tiny_image, tiny_is, tiny_prepared}
 use Rattle.std.proofs.Common.{[]}
 use Rattle.x7_recovery.specs.Example.{nothing_planned, tiny}
 use Rattle.x7_recovery.proofs.image_law.premises_hold.Goals as goal
@@ -10,7 +10,7 @@ pub returns-clause-plan : goal.returns-clause-plan
 returns-clause-plan c = plan_is
 
 pub returns-clause-fails : goal.returns-clause-fails
-returns-clause-fails c = λ part golden. (empty_trial part golden, some_update_fails part golden)
+returns-clause-fails c = λ part golden. (empty_attempt part golden, some_update_fails part golden)
 
 pub returns-clause-image : goal.returns-clause-image
 returns-clause-image c = tiny_image

@@ -28,7 +28,7 @@ returns-clause-ready g c =
     let read = c.verify_stream.ensures.only in
     let again = c.verify_switch.ensures.only in
     on_ok (WasReady g.F.Flash.state c.args.target.place c.args.stream.now last) c.verify_switch.result
-    (was_ready g.F.Flash.state c.args.target.place c.args.stream.now old last c.verify_stream.new.flash (again.extent ∙ c.open_slot.ensures.writes.only.extent ∙ read.extent) c.in_ok-verify_stream.ensures.seen read.bytes c.requires.closed
+    (was_ready g.F.Flash.state c.args.target.place c.args.stream.now old last c.verify_stream.new.flash (again.extent ∙ c.open_slot.ensures.writes.only.extent ∙ read.extent) c.in_ok-verify_stream.ensures.seen read.bytes c.requires.none_open
     (omega (arith, c.open_slot.ensures.moment, again.unwritten.moments)))
 
 pub returns-in_err-verify_stream-clause-opens : goal.returns-in_err-verify_stream-clause-opens
@@ -45,7 +45,7 @@ returns-in-Err-clause-opens g c =
     let mid = g.F.Flash.state c.open_slot.new.flash in
     let read = c.verify_stream.ensures.only in
     let Was : Type 0 = WasReady g.F.Flash.state c.args.target.place c.args.stream.now mid in
-    let was : Was = was_ready g.F.Flash.state c.args.target.place c.args.stream.now old mid c.verify_stream.new.flash (c.open_slot.ensures.writes.only.extent ∙ read.extent) c.in_ok-verify_stream.ensures.seen read.bytes c.requires.closed c.open_slot.ensures.moment in
+    let was : Was = was_ready g.F.Flash.state c.args.target.place c.args.stream.now old mid c.verify_stream.new.flash (c.open_slot.ensures.writes.only.extent ∙ read.extent) c.in_ok-verify_stream.ensures.seen read.bytes c.requires.none_open c.open_slot.ensures.moment in
     read_moments old ready mid _ _ _ (λ all found. (found ≡ all) ⊎ Was) (λ all e. inl refl) read.bytes read.unwritten
     (moments_weaker ready mid _ _ (OpeningSlot c.args.target.slots.next) (λ all found. (found ≡ all) ⊎ Was) (λ all found e h. inr was) c.open_slot.ensures.writes.any_moment)
 
@@ -59,7 +59,7 @@ returns-clause-opens g c =
     let again = c.verify_switch.ensures.only in
     let Was : Type 0 = WasReady g.F.Flash.state c.args.target.place c.args.stream.now last in
     let was : Was =
-    was_ready g.F.Flash.state c.args.target.place c.args.stream.now old last c.verify_stream.new.flash (again.extent ∙ c.open_slot.ensures.writes.only.extent ∙ read.extent) c.in_ok-verify_stream.ensures.seen read.bytes c.requires.closed
+    was_ready g.F.Flash.state c.args.target.place c.args.stream.now old last c.verify_stream.new.flash (again.extent ∙ c.open_slot.ensures.writes.only.extent ∙ read.extent) c.in_ok-verify_stream.ensures.seen read.bytes c.requires.none_open
     (omega (arith, c.open_slot.ensures.moment, again.unwritten.moments)) in
     moments_read old mid last _ _ _ (λ all found. (found ≡ all) ⊎ Was)
     (read_moments old ready mid _ _ _ (λ all found. (found ≡ all) ⊎ Was) (λ all e. inl refl) read.bytes read.unwritten

@@ -1,5 +1,5 @@
 use Rattle.std.proofs.Common.{length, ◌∙◌, arith}
-use Rattle.x7_update.specs.After.{ClosesTo}
+use Rattle.x7_update.specs.After.{SpendsOpen}
 use Rattle.x7_update.specs.Slots.{Finds}
 use Rattle.x7_update.specs.Writing.{Becomes, KeepsBelow, Replaced, ReplacingUpdate, StreamStands}
 use Rattle.x7_update.proofs.ByteLemmas.{bytes_on}
@@ -10,32 +10,32 @@ use Rattle.x7_update.proofs.steps.replace.Goals as goal
 pub returns-clause-replaced : goal.returns-clause-replaced
 returns-clause-replaced g c =
     let first = g.F.Flash.state c.args.flash.now in
-    let mid = g.F.Flash.state c.close_opened.new.flash in
+    let mid = g.F.Flash.state c.spend_open_slot.new.flash in
     let last = g.F.Flash.state c.write_stream.new.flash in
     let place = c.args.target.place in
     let stream = c.args.stream.now in
     on_ok_map (Becomes mid last (StreamStands place stream)) (Becomes first last (Replaced place stream)) c.write_stream.result c.write_stream.ensures.written
-    (λ written. becomes_on first mid last ClosesTo (StreamStands place stream) (Replaced place stream) (λ all closed now e closes stands. record { closed = closed; closes = closes; stands = stands })
-    c.in_ok-close_opened.ensures.closed written)
+    (λ written. becomes_on first mid last SpendsOpen (StreamStands place stream) (Replaced place stream) (λ all spent now e is_spent stands. record { spent = spent; is_spent = is_spent; stands = stands })
+    c.in_ok-spend_open_slot.ensures.spent written)
 
 pub returns-clause-writes : goal.returns-clause-writes
 returns-clause-writes g c =
     let first = g.F.Flash.state c.args.flash.now in
-    let mid = g.F.Flash.state c.close_opened.new.flash in
+    let mid = g.F.Flash.state c.spend_open_slot.new.flash in
     let last = g.F.Flash.state c.write_stream.new.flash in
-    let closes = c.close_opened.ensures.writes in
+    let spends = c.spend_open_slot.ensures.writes in
     let writes = c.write_stream.ensures.writes in
     record {
-      any_moment = moments_on first mid last _ _ _ ClosesTo (KeepsBelow c.args.target.place) ReplacingUpdate
-          (λ all closed found e closes keeps.
-          writing_replaces all c.args.target (known_at first.bytes (λ all. Finds (length all) all c.args.target) c.requires.found.finds all e) closed found closes keeps)
-          closes.any_moment (becomes_leaves first mid ClosesTo c.in_ok-close_opened.ensures.closed) writes.any_moment;
-      bytes = bytes_on first mid last _ _ _ closes.bytes writes.bytes;
-      only = writes_on first mid last closes.only writes.only;
+      any_moment = moments_on first mid last _ _ _ SpendsOpen (KeepsBelow c.args.target.place) ReplacingUpdate
+          (λ all spent found e is_spent keeps.
+          writing_replaces all c.args.target (known_at first.bytes (λ all. Finds (length all) all c.args.target) c.requires.found.finds all e) spent found is_spent keeps)
+          spends.any_moment (becomes_leaves first mid SpendsOpen c.in_ok-spend_open_slot.ensures.spent) writes.any_moment;
+      bytes = bytes_on first mid last _ _ _ spends.bytes writes.bytes;
+      only = writes_on first mid last spends.only writes.only;
     }
 
 pub write_stream-requires-clause-place : goal.write_stream-requires-clause-place
 write_stream-requires-clause-place g c =
     let found = c.requires.found in
-    let only = c.close_opened.ensures.writes.only in
+    let only = c.spend_open_slot.ensures.writes.only in
     record { attached = only.attached ∙ found.attached; size = omega (arith, only.extent, found.fits.sized.whole); begins = found.fits.place.whole }

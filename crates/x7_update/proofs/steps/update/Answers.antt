@@ -147,8 +147,8 @@ read_back_and_open-requires-clause-free g c =
     replaced_free all target finds stream now fits r)
     c.in-Ok-replace.ensures.replaced
 
-pub read_back_and_open-requires-clause-closed : goal.read_back_and_open-requires-clause-closed
-read_back_and_open-requires-clause-closed g c =
+pub read_back_and_open-requires-clause-none_open : goal.read_back_and_open-requires-clause-none_open
+read_back_and_open-requires-clause-none_open g c =
     let first = g.F.Flash.state c.args.flash.now in
     let mid = g.F.Flash.state c.find_target.new.flash in
     let then = g.F.Flash.state c.replace.new.flash in
@@ -160,7 +160,7 @@ read_back_and_open-requires-clause-closed g c =
     (λ all now e r.
     let long : mid.extent ≡ length all = known_at mid.bytes (λ all. mid.extent ≡ length all) (g.met.F.Flash.counted c.find_target.new.flash) all e in
     let fits : target.place + length stream ≤ length all = omega (arith, long, c.find_target.ensures.only.extent, c.size.ensures.extent, c.in_ok-target.ensures.found.fits.place.most, c.if-stream-size.false) in
-    (replaced_between all target (known all e) stream now fits r).closed)
+    (replaced_between all target (known all e) stream now fits r).none_open)
     c.in-Ok-replace.ensures.replaced
 
 pub returns-in-Err-clause-any_moment : goal.returns-in-Err-clause-any_moment

@@ -131,7 +131,7 @@ returns c = record {
       let done = c.is_done.ensures.yes e in
       let going : c.run-left.new.self.stop ≡ None = sym c.stop.ensures ∙ done.1 in
       let need : IsNeed c.cut-run.result = c.is_need-used_up.ensures.0 done.0 in
-      let all : length c.args.piece.now - c.cut-run.new.at ≡ 0 = all_used c.cut-run.result _ _ _ need c.cut-run.ensures.goes in
+      let all : length c.args.piece.now - c.cut-run.new.at ≡ 0 = all_used c.cut-run.result _ _ _ need c.cut-run.ensures.nearer in
       record {
         all = omega (arith, all, c.cut-run.ensures.within, c.run-left.ensures.left.goes_on going);
         going = going;
@@ -141,7 +141,7 @@ returns c = record {
       let unused : c.is_need-used_up.result ≡ false = c.is_done.ensures.no e (c.stop.ensures ∙ f) in
       let piece : ℕ = length c.args.piece.now in
       let nearer : calls_left c.cut-run.new.self (piece - c.cut-run.new.at) < calls_left c.self.inside.cutter (piece - c.args.at.now) =
-      comes_nearer c.cut-run.result _ _ _ (λ n. absurd (let both : true ≡ false = sym (c.is_need-used_up.ensures.1 n) ∙ unused in cc)) c.cut-run.ensures.goes in
+      comes_nearer c.cut-run.result _ _ _ (λ n. absurd (let both : true ≡ false = sym (c.is_need-used_up.ensures.1 n) ∙ unused in cc)) c.cut-run.ensures.nearer in
       let same : calls_left c.self.inside.cutter (piece - c.args.at.now) ≡ calls_left c.args.self.now.cutter (piece - c.args.at.now) = ap (λ (d : DeviceState). calls_left d.cutter (piece - c.args.at.now)) c.self.view_is in
       omega (arith, nearer, same, c.run-left.ensures.left.goes_on f));
 }

@@ -18,7 +18,7 @@ loop-taken-init c = record {
 pub returns-in-Need : goal.returns-in-Need
 returns-in-Need c = record {
   rests = λ given before bytes s.
-      let used = goes_out _ _ _ _ c.in-Need.is c.cut-run.ensures.goes in
+      let used = goes_out _ _ _ _ c.in-Need.is c.cut-run.ensures.nearer in
       took_all _ _ _ _ _ _ _ _ _ given before bytes c.args.piece.now
       (listed_as c.loop-taken.cutter c.take_short.new.cutter c.loop-taken.text c.take_short.new.text _ _ _ given before _ (c.in_default.ensures.none) (c.in_default.ensures.same) (c.loop-taken.invariant.tells given before bytes s)) c.cut-run.ensures.forward (omega (arith, used)) c.in-Need.is c.cut-run.ensures.adds;
 }
@@ -38,7 +38,7 @@ loop-taken-preserved c =
     let same : c.take_short.new.cutter ≡ c.loop-taken.cutter = c.in_default.ensures.none in
     let text : c.take_short.new.text ≡ c.loop-taken.text = c.in_default.ensures.same in
     let long : length c.take_short.new.cutter.kept + (c.cut-run.new.at - c.loop-taken.at) ≡ length (run_bytes c.cut-run.result) + length c.cut-run.new.self.kept = run_length _ _ _ c.args.piece.now _ _ c.cut-run.ensures.forward c.cut-run.ensures.within c.cut-run.ensures.joined in
-    let less : calls_left c.cut-run.new.self (length c.args.piece.now - c.cut-run.new.at) < calls_left c.take_short.new.cutter (length c.args.piece.now - c.loop-taken.at) = goes_less _ _ _ _ c.in_default-run.not-Need c.cut-run.ensures.goes in
+    let less : calls_left c.cut-run.new.self (length c.args.piece.now - c.cut-run.new.at) < calls_left c.take_short.new.cutter (length c.args.piece.now - c.loop-taken.at) = goes_less _ _ _ _ c.in_default-run.not-Need c.cut-run.ensures.nearer in
     let calls : calls_left c.take_short.new.cutter (length c.args.piece.now - c.loop-taken.at) ≡ calls_left c.loop-taken.cutter (length c.args.piece.now - c.loop-taken.at) = ap (λ (k : CutterState). calls_left k (length c.args.piece.now - c.loop-taken.at)) same in
     record {
       within = c.cut-run.ensures.within;

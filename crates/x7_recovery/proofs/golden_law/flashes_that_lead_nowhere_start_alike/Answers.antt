@@ -1,5 +1,5 @@
 use Rattle.x7_recovery.proofs.GoldenLemmas.{same_golden_alike}
-use Rattle.x7_recovery.proofs.golden_law.shut_flashes_start_alike.Goals as goal
+use Rattle.x7_recovery.proofs.golden_law.flashes_that_lead_nowhere_start_alike.Goals as goal
 
 pub returns : goal.returns
 returns c = same_golden_alike

@@ -7,8 +7,8 @@ use Rattle.x7_boot.specs.Attempt.{Feeds, attempt_at}
 use Rattle.x7_boot.specs.Pages.{page_size}
 use Rattle.x7_boot.specs.declared.fault.BootFault.TheVariants.{Failed, NoMemory}
 use Rattle.x7_boot.proofs.PageLemmas.{from_limited, loaded_from, pages_of, reaches}
-use Rattle.x7_boot.proofs.TrialLemmas.{ends_here, feeds_on, feeds_ready, known_ended, known_out, known_stopped, stops_here}
-use Rattle.x7_boot.proofs.trial.try_once.Goals as goal
+use Rattle.x7_boot.proofs.FlashAttemptLemmas.{ends_here, feeds_on, feeds_ready, known_ended, known_out, known_stopped, stops_here}
+use Rattle.x7_boot.proofs.flash_attempt.try_once.Goals as goal
 
 pub pages-init : goal.pages-init
 pages-init g c = record {

@@ -4,11 +4,11 @@ use Rattle.x7_words.proofs.FlashLemmas.{bytes_cleared, length_cleared}
 use Rattle.x7_words.specs.Word.{AreBytes}
 use Rattle.x7_update.specs.After.{switched}
 use Rattle.x7_update.specs.Layout.{IsOpen, spent_switch}
-use Rattle.x7_update.specs.Writing.{ClosingSlot}
+use Rattle.x7_update.specs.Writing.{SpendingSlot}
 use Rattle.x7_update.proofs.ByteLemmas.{bytes_write}
-use Rattle.x7_update.proofs.SwitchLemmas.{clears_to_spent, closing, programs_switch}
+use Rattle.x7_update.proofs.SwitchLemmas.{clears_to_spent, spending, programs_switch}
 use Rattle.x7_update.proofs.KnownLemmas.{known_all, known_at, moments_weaker, on_ok_map, write_moments}
-use Rattle.x7_update.proofs.switch.close_slot.Goals as goal
+use Rattle.x7_update.proofs.switch.spend_slot.Goals as goal
 
 pub returns-clause-writes : goal.returns-clause-writes
 returns-clause-writes g c =
@@ -20,15 +20,15 @@ returns-clause-writes g c =
     λ all e. omega (arith, known_at s.bytes (λ all. s.extent ≡ length all) (g.met.F.Flash.counted c.args.flash.now) all e, c.requires.slot.within) in
     let within : (all : List ℕ) → s.bytes ≡ Some all → place + length (cleared place spent_switch all) ≤ length all = λ all e. omega (arith, inside all e, length_cleared place spent_switch all (inside all e)) in
     record {
-      any_moment = moments_weaker s n _ _ (λ all found. IsTorn place (cleared place spent_switch all) all found) (ClosingSlot c.args.slot)
-          (λ all found e torn. closing c.args.slot (cleared place spent_switch all) all found (length_cleared place spent_switch all (inside all e)) (known_at s.bytes (λ all. IsOpen all c.args.slot) c.requires.opened all e) torn)
+      any_moment = moments_weaker s n _ _ (λ all found. IsTorn place (cleared place spent_switch all) all found) (SpendingSlot c.args.slot)
+          (λ all found e torn. spending c.args.slot (cleared place spent_switch all) all found (length_cleared place spent_switch all (inside all e)) (known_at s.bytes (λ all. IsOpen all c.args.slot) c.requires.opened all e) torn)
           (write_moments place (cleared place spent_switch) s n _ _ c.program.result within c.program.ensures.programmed c.program.ensures.torn c.program.ensures.passes);
       bytes = bytes_write place (cleared place spent_switch) s n _ _ c.program.result (λ all. bytes_cleared place spent_switch all fits) within c.program.ensures.programmed c.program.ensures.torn c.program.ensures.passes;
       only = c.program.ensures.only;
     }
 
-pub returns-clause-closed : goal.returns-clause-closed
-returns-clause-closed g c =
+pub returns-clause-spent : goal.returns-clause-spent
+returns-clause-spent g c =
     let s = g.F.Flash.state c.args.flash.now in
     let n = g.F.Flash.state c.program.new.self in
     let slot = c.args.slot in

@@ -2,7 +2,7 @@ use Rattle.std.proofs.Common.{◌≡◌, ◌-◌}
 use Rattle.x7_words.specs.Flash.{OnlyReads}
 use Rattle.x7_boot.specs.Attempt.{Feeds, attempt_at}
 use Rattle.x7_boot.specs.Pages.{ArePages}
-use Rattle.x7_boot.proofs.trial.try_once.Given as goal
+use Rattle.x7_boot.proofs.flash_attempt.try_once.Given as goal
 
 abbrev pub invariant-pages : goal.invariant-pages
 invariant-pages g l =

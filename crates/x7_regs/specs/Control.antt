@@ -1,0 +1,39 @@
+-- The fields of control register 0 (UG470, control register 0), each by the number of its lowest bit.
+use Rattle.std.specs.Prelude.{ℕ, ◌+◌, ◌==◌, Bool, not}
+use Rattle.x7_words.specs.Word.{field_of}
+
+-- GTS_USER_B: 1 where the outputs are as startup says
+abbrev pub gts_user_b : ℕ
+gts_user_b = 0
+
+-- SBITS, two bits: 00 allows reading and writing of frames, 01 forbids reading, 1x forbids both
+abbrev pub sbits : ℕ
+sbits = 4
+
+-- DEC: 1 where a stream would be encrypted
+abbrev pub dec : ℕ
+dec = 6
+
+-- GLUTMASK_B: 1 where readback shows memories in logic
+abbrev pub glutmask_b : ℕ
+glutmask_b = 8
+
+-- CONFIG_FALLBACK: 1 forbids a fallback
+abbrev pub config_fallback : ℕ
+config_fallback = 10
+
+-- SBITS forbid to write frames
+abbrev pub forbids_writing : ℕ → Bool
+forbids_writing ctl0 = field_of (sbits + 1) 1 ctl0 == 1
+
+-- SBITS forbid to read frames
+abbrev pub forbids_reading : ℕ → Bool
+forbids_reading ctl0 = not (field_of sbits 2 ctl0 == 0)
+
+-- DEC is 1
+abbrev pub has_dec : ℕ → Bool
+has_dec ctl0 = field_of dec 1 ctl0 == 1
+
+-- CONFIG_FALLBACK is 1
+abbrev pub forbids_fallback : ℕ → Bool
+forbids_fallback ctl0 = field_of config_fallback 1 ctl0 == 1
