@@ -1,5 +1,6 @@
 -- What a planner writes after a history in which nothing stops the device, and which leaves startup as it is.
 use Rattle.std.proofs.Common.{◌≡◌, ◌==◌, ◌&&◌, ◌||◌, ◌+◌, ◌*◌, ◌%◌, ◌^◌, ◌≤◌, ℕ, Bool, true, false, if◌then◌else◌, None, List, [], ◌∷◌, ◌++◌, length, refl, sym, ap, ◌∙◌, arith}
+use Rattle.std.specs.Option.{option_or}
 use Rattle.x7_packets.specs.History as access
 use Rattle.x7_packets.specs.History.{Access, History, command_held, entry, executes, last_word}
 use Rattle.x7_crc.specs.RunningCheck.{running_check}
@@ -12,7 +13,7 @@ use Rattle.x7_engine.specs.Registers.{clears_check, is_pending, takes_shutdown}
 use Rattle.x7_engine.specs.Startup.{startup_call}
 use Rattle.x7_flow.specs.Flow.{frame_fault}
 use Rattle.x7_regs.specs.Control.{has_dec}
-use Rattle.x7_engine.specs.Stop.{why_by_access, why_by_frames, why_at, or_else}
+use Rattle.x7_engine.specs.Stop.{why_by_access, why_by_frames, why_at}
 use Rattle.x7_effects.proofs.Items.{Item, item_words, items_entered, item_entered}
 use Rattle.x7_effects.proofs.Checking.{Checking, Piece, checking_of, piece_item, piece_length, pieces_length, with_checks}
 use Rattle.x7_effects.proofs.CheckingLemmas.{item_checked}
@@ -111,7 +112,7 @@ quiet_far h far held e a b c d = record { start = rw (e, c, d) a; shutdown = rw 
 
 -- no stop by the registers, and no fault of the frames
 pub why_none : (part : PartData) (kept : Kept) (h : History) (access : Access) → why_by_access part kept h access ≡ None → frame_fault part h access ≡ None → why_at part kept h access ≡ None
-why_none part kept h access e f = ap (λ o. or_else o (why_by_frames (frame_fault part h access))) e ∙ ap why_by_frames f
+why_none part kept h access e f = ap (λ o. option_or o (why_by_frames (frame_fault part h access))) e ∙ ap why_by_frames f
 
 pub far_passes : (part : PartData) (kept : Kept) (h : History) (far held : ℕ) → command_held h ≡ held → (held == 5) ≡ false → (held == 13) ≡ false → (held == 15) ≡ false → why_by_access part kept h (access.Write 1 far) ≡ None
 far_passes part kept h far held e a b c = rw (e, b, c, a) refl
