@@ -73,7 +73,7 @@ taken_whole name limit (Broken bytes) = and_so (within name limit bytes) (λ _. 
 abbrev pub whole_in : Known → ℕ → List ℕ → Result (List ℕ) Event
 whole_in known limit name = taken_whole name limit (known.inputs name)
 
--- ---- play
+-- ---- a part file, and streams
 
 -- the most bytes of a part file
 abbrev pub part_limit : ℕ

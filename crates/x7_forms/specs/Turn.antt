@@ -2,7 +2,7 @@
 -- read is used before the next turn.
 use Rattle.std.specs.Prelude.{◌≡◌, ◌≢◌, ◌<◌, ◌≤◌, ◌⊎◌, ◌++◌, ℕ, Bool, true, false, List, [], Some, Ok, Err, IfSome, drop, length, ◌+◌}
 use Rattle.x7_words.specs.Input.{InputsState, AtEnd, Fails, Misses, Stays, Takes, preceded}
-use Rattle.x7_header.specs.Header.{Contents, EndsInHeader, HasOtherLetterAt, HaveHeader, fixed_bytes, header_bytes, longest_header}
+use Rattle.x7_header.specs.Header.{Contents, EndsInHeader, HasOtherLetterAt, HaveHeader, fixed_bytes, fixed_size, header_bytes, longest_header}
 use Rattle.x7_forms.specs.Event.{Event, bad_input, missing, no_memory, reading_failed, too_large}
 use Rattle.x7_forms.specs.declared.bad_input.InputFault.TheVariants as input
 use Rattle.x7_forms.specs.Known.{stream_limit}
@@ -81,9 +81,9 @@ BeginAt bytes start =
     ((x : Contents) × HaveHeader x × (bytes ≡ header_bytes x ++ drop start bytes) × (start ≡ length (header_bytes x)))
     ⊎ ((start ≡ 0) × ((rest : List ℕ) → bytes ≢ fixed_bytes ++ rest))
 
--- no byte after a header is held, and where there is none, no more than the 13 bytes that show it
+-- no byte after a header is held, and where there is none, no more than the fixed bytes, which show it
 abbrev pub HoldsFew : List ℕ → ℕ → Type 0
-HoldsFew bytes start = (start ≡ length bytes) ⊎ ((start ≡ 0) × (length bytes ≤ 13))
+HoldsFew bytes start = (start ≡ length bytes) ⊎ ((start ≡ 0) × (length bytes ≤ fixed_size))
 
 -- a header is refused at this byte: the bytes end there inside it, or another letter stands there
 abbrev pub RefusedAt : List ℕ → ℕ → Type 0

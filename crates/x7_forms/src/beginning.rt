@@ -1,5 +1,6 @@
 //! The beginning of a stream that is listed, up to where its header is judged.
 ghost use Rattle.std.specs.Prelude.{◌≡◌, ◌≤◌, ◌+◌, ◌⊎◌, ℕ, length, true, false, IfErr, IfOk, MatchOption, OnOk};
+ghost use Rattle.x7_header.specs.Header.{fixed_size};
 ghost use Rattle.x7_words.specs.Input.{Stays};
 ghost use Rattle.x7_forms.specs.Event.{bad_input, no_memory};
 ghost use Rattle.x7_forms.specs.Message.{event_of};
@@ -13,6 +14,7 @@ use crate::refusal::{Refusal, Why};
 use std::alloc::Global;
 use x7_header::{HeaderFault, header_of, wanted};
 use x7_listing::header_line;
+use x7_text::put_text;
 use x7_words::Inputs;
 
 /// The line of a stream's header with its end, or nothing; and where the data begin.
@@ -39,7 +41,7 @@ fn judge<'w>(
     bytes: &[u8],
     last: bool,
 ) -> Result<Option<Judged>, Refusal<'w>>
-    requires long { last ≡ false → 13 ≤ length bytes.now }
+    requires long { last ≡ false → fixed_size ≤ length bytes.now }
     ensures judged { IfOk result (λ found. MatchOption found (HeaderGoesOn bytes.now last)
         (λ judged. (judged.start ≤ length bytes.now) × IsBeginning bytes.now last judged.line.items judged.start)) }
     ensures begin { IfOk result (λ found. MatchOption found (Unit {0}) (λ judged. BeginAt bytes.now judged.start)) }
@@ -99,10 +101,7 @@ pub fn read_beginning<'w, I: Inputs>(
         let count = wanted(&bytes).min(TURN_BYTES);
         let left = STREAM_LIMIT - bytes.len();
         let turn = next_turn(inputs, stream, left, &mut piece[..count])?;
-        match bytes.extend_from_slice(&piece[..turn.count]) {
-            Ok(()) => (),
-            Err(_) => return Err(Refusal::unnamed(Why::NoMemory)),
-        }
+        put_text(&mut bytes, &piece[..turn.count])?;
         if let Some(judged) = judge(alloc, stream, &bytes, turn.last)? {
             return Ok(Beginning {
                 bytes,

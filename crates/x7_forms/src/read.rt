@@ -12,6 +12,7 @@ use crate::bad_input::InputFault;
 use crate::refusal::{Refusal, Why};
 use std::alloc::Global;
 use x7_header::{HeaderFault, header_of};
+use x7_text::put_text;
 use x7_words::{Inputs, SelectFault};
 
 /// The most bytes of a stream, and of all streams of one command together.
@@ -153,10 +154,7 @@ fn read_rest<'w, I: Inputs>(
     let mut left = limit;
     loop {
         let turn = next_turn(inputs, name, left, &mut piece)?;
-        match onto.extend_from_slice(&piece[..turn.count]) {
-            Ok(()) => (),
-            Err(_) => return Err(Refusal::unnamed(Why::NoMemory)),
-        }
+        put_text(onto, &piece[..turn.count])?;
         left -= turn.count;
         if turn.last {
             return Ok(());

@@ -1,5 +1,5 @@
 -- Frame texts: a line for each planned frame (this project's choice).
-use Rattle.std.specs.Prelude.{◌≡◌, ℕ, ◌+◌, ◌*◌, ◌^◌, ◌<◌, ◌==◌, Bool, true, false, List, [], ◌∷◌, ◌++◌, length, codes, Contains, IsPermutation, Some, Result, Ok, Err}
+use Rattle.std.specs.Prelude.{◌≡◌, ℕ, ◌+◌, ◌*◌, ◌^◌, ◌<◌, true, false, List, [], ◌∷◌, ◌++◌, length, codes, Contains, IsPermutation, Some, Result, Ok, Err}
 use Rattle.std.specs.List.{flat_map}
 use Rattle.x7_words.specs.Word.{words_of_bytes}
 use Rattle.x7_text.specs.Digits.{hex_word}

@@ -39,10 +39,8 @@ impl<'p> FrameLines<'p> {
         ensures begun { IfOk result (λ lines. HasRows lines.part lines []) }
         ensures part { IfOk result (λ lines. lines.part ≡ part.now) }
     {
-        match Reading::new(alloc, part) {
-            Ok(reading) => Ok(FrameLines { part, reading }),
-            Err(_) => Err(NoMemory),
-        }
+        let reading = Reading::new(alloc, part)?;
+        Ok(FrameLines { part, reading })
     }
 
     /// Takes line `n`, after which nothing more may be taken where there is an
@@ -94,9 +92,7 @@ impl<'p> TakesLines for FrameLines<'p> {
 
     fn put_last(self, n: u64, line: &[u8]) -> Result<Plan, FramesFault> {
         let mut last = self;
-        match last.take(n, line) {
-            Ok(()) => Ok(last.finish()),
-            Err(fault) => Err(fault),
-        }
+        last.take(n, line)?;
+        Ok(last.finish())
     }
 }

@@ -35,12 +35,8 @@ impl Reading {
     {
         let width = part.words() as usize;
         let draft = Draft::with_room(alloc, part.words(), part.frames() as usize)?;
-        let Ok(marks) = vec![in alloc; false; part.frames() as usize] else {
-            return Err(NoMemory);
-        };
-        let Ok(frame) = Vec::with_capacity(alloc, width) else {
-            return Err(NoMemory);
-        };
+        let marks = vec![in alloc; false; part.frames() as usize]?;
+        let frame = Vec::with_capacity(alloc, width)?;
         Ok(Reading {
             draft,
             marks,
@@ -96,8 +92,5 @@ pub fn plan_of(alloc: Global, text: &[u8], part: &Part) -> Result<Plan, FramesFa
 fn read_text(alloc: Global, text: &[u8], part: &Part) -> Result<Plan, FramesFault>
     ensures { MatchResult result (λ plan. IsPlanOf part.now text.now (Ok plan)) (λ fault. (fault ≡ FramesFault.NoMemory) ⊎ IsPlanOf part.now text.now (Err fault)) }
 {
-    let Ok(lines) = FrameLines::new(alloc, part) else {
-        return Err(FramesFault::NoMemory);
-    };
-    read_lines(lines, text)
+    read_lines(FrameLines::new(alloc, part)?, text)
 }

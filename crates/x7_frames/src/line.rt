@@ -12,6 +12,9 @@ use x7_words::{is_same, word_of};
 /// The most bytes of a frame: four for each of its words, of which it has 255 at most.
 const MOST_FRAME_BYTES: usize = 4 * 255;
 
+/// How many bytes stand before the digits of a frame's line: `frame`, a space, the eight digits of its address, a space.
+const HEAD_SIZE: usize = 15;
+
 /// What stands on a frame's line: its address, and the digits of its words.
 #[derive(Clone, Copy)]
 struct Parts<'t> {
@@ -21,11 +24,12 @@ struct Parts<'t> {
 
 /// The parts of the line of a frame with this many digits.
 fn parts_of(line: &[u8], digit_count: usize) -> Option<Parts<'_>>
+    requires { digit_count ≤ 8 * most_frame_words }
     ensures { MatchOption result
         (HasNoFrameHead digit_count line.now)
         (λ parts. (line.now ≡ frame_head parts.far ++ parts.digits.now) × (length parts.digits.now ≡ digit_count)) }
 {
-    if line.len() < 15 || line.len() - 15 != digit_count {
+    if line.len() != HEAD_SIZE + digit_count {
         return None;
     }
     if !is_same(&line[..6], b"frame ") || line[14] != b' ' {
@@ -34,7 +38,7 @@ fn parts_of(line: &[u8], digit_count: usize) -> Option<Parts<'_>>
     let far = word_of_hex(&line[6..14])?;
     Some(Parts {
         far,
-        digits: &line[15..],
+        digits: &line[HEAD_SIZE..],
     })
 }
 

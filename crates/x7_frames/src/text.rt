@@ -43,10 +43,7 @@ pub fn plan_text(alloc: Global, plan: &Plan) -> Result<Vec<u8>, NoMemory>
         let Some((far, words)) = plan.row(i) else {
             unreachable!()
         };
-        match put_line(&mut text, far, words) {
-            Ok(()) => (),
-            Err(_) => return Err(NoMemory),
-        }
+        put_line(&mut text, far, words)?;
     }
     Ok(text)
 }

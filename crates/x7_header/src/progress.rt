@@ -75,8 +75,8 @@ fn after_fields(bytes: &[u8]) -> Result<(), usize>
     after_number(rest, b'e')
 }
 
-/// How many bytes to read next of an input that begins with these, where they are the first bytes of a header: up to
-/// the end of the fixed bytes, of a letter, of a count, of a text or of the number, whichever is next.
+/// How many bytes to read next of an input that begins with these, the first bytes of a header. With them the part ends
+/// that is being read: the fixed bytes, or a field's letter, count, text or number.
 pub fn wanted(bytes: &[u8]) -> usize
     ensures some { 0 < result }
     // At first the fixed bytes.

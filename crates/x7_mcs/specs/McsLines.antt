@@ -1,5 +1,5 @@
 -- A flash text that is read line by line (this project's choice).
-use Rattle.std.specs.Prelude.{◌≡◌, ◌⊎◌, ℕ, List, [], ◌∷◌, ◌++◌, map, Result, Err, MatchResult}
+use Rattle.std.specs.Prelude.{◌≡◌, ◌⊎◌, ℕ, List, [], ◌∷◌, ◌++◌, map, Option, MatchOption, Result, Err, MatchResult}
 use Rattle.x7_text.specs.Lines.{split}
 use Rattle.x7_mcs.specs.Flash.{FlashReading, after_lines, flash_in, of_no_line, with_end}
 use Rattle.x7_mcs.specs.Readings.{CameTo}
@@ -39,3 +39,7 @@ pub record TakesFirstLine (lines : List (List ℕ)) (text rest : List ℕ) (new 
   pub line : List ℕ
   pub cut : split text ≡ line ∷ split rest
   pub read : HasReadRecords (mcs_lines_state new) (lines ++ line ∷ [])
+
+-- the first line of a text was taken after these, and a rest is left; or no line of it has its end, and none was taken
+abbrev pub TakesIfEnded : {R : Type 0} → (R → List ℕ) → List (List ℕ) → List ℕ → Option R → McsLines → Type 0
+TakesIfEnded bytes lines text found new = MatchOption found (HasReadRecords (mcs_lines_state new) lines) (λ rest. TakesFirstLine lines text (bytes rest) new)

@@ -59,9 +59,7 @@ impl McsText {
         requires { length image.items ≤ flash_limit }
         ensures { IfOk result (λ text. text ≡ image.items) }
     {
-        let Ok(block) = Vec::with_capacity(alloc, BLOCK_ROOM) else {
-            return Err(NoMemory);
-        };
+        let block = Vec::with_capacity(alloc, BLOCK_ROOM)?;
         Ok(McsText { image, block })
     }
 

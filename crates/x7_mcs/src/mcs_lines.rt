@@ -1,12 +1,12 @@
 //! What the lines of a flash text give, as they come.
 ghost use Rattle.std.specs.Prelude.{◌≡◌, ◌+◌, ◌<◌, ◌++◌, ◌∷◌, [], List, ℕ, length, Ok, IfErr, IfOk, MatchOption, MatchResult};
-ghost use Rattle.x7_text.specs.LineReader.{WantsAt};
+ghost use Rattle.x7_text.specs.LineReader.{FailsAfter, WantsAt};
 ghost use Rattle.x7_text.specs.Lines.{split};
 ghost use Rattle.x7_mcs.specs.Flash.{after_data, after_line};
 ghost use Rattle.x7_mcs.specs.Readings.{HoldsIn, flash_reading_at};
 ghost use Rattle.x7_mcs.specs.DataRecords.{DataRecord};
 ghost use Rattle.x7_mcs.specs.Text.{row_size};
-ghost use Rattle.x7_mcs.specs.McsLines.{AreGoodWith, HasMcsFault, HasReadRecords, ReachesIn, TakesFirstLine, mcs_lines_state, flash_of_lines};
+ghost use Rattle.x7_mcs.specs.McsLines.{AreGoodWith, HasMcsFault, HasReadRecords, ReachesIn, TakesIfEnded, mcs_lines_state, flash_of_lines};
 ghost use Rattle.x7_mcs.specs.declared.mcs_lines.McsLines.{McsLines};
 ghost use Rattle.x7_mcs.specs.declared.fault.McsFault.{McsFault};
 
@@ -66,8 +66,7 @@ impl McsLines {
     #[inline(always)]
     fn take_line<'t>(&mut self, n: u64, text: &'t [u8]) -> Result<Option<&'t [u8]>, McsFault>
         ensures read { (lines : List (List ℕ)) → n ≡ length lines + 1 → HasReadRecords (mcs_lines_state self.old) lines
-            → MatchResult result (λ found. MatchOption found (HasReadRecords (mcs_lines_state self.new) lines) (λ rest. TakesFirstLine lines text.now rest.now self.new))
-            (λ f. (more : List ℕ) → HasMcsFault f (lines ++ split (text.now ++ more))) }
+            → MatchResult result (λ found. TakesIfEnded (λ rest. rest.now) lines text.now found self.new) (λ f. FailsAfter (HasMcsFault f) lines text.now) }
         ensures memory { (lines : List (List ℕ)) → n ≡ length lines + 1 → HasReadRecords (mcs_lines_state self.old) lines
             → IfErr result (λ f. f ≡ McsFault.NoMemory → WantsAt AreGoodWith lines text.now) }
         ensures left { IfOk result (λ found. MatchOption found (split text.now ≡ text.now ∷ []) (λ rest. length rest.now < length text.now)) }

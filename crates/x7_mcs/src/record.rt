@@ -1,7 +1,7 @@
 //! What the bytes of one record say.
 ghost use Rattle.std.specs.Prelude.{◌≡◌, ◌<◌, ◌+◌, ◌%◌, ◌++◌, get_or, length, MatchResult};
 ghost use Rattle.std.specs.List.{sum};
-ghost use Rattle.x7_mcs.specs.Record.{record_data, meaning_by_type, meaning_of, sum_byte, byte_values, bytes_beside};
+ghost use Rattle.x7_mcs.specs.Record.{base_value, record_data, meaning_by_type, meaning_of, sum_byte, byte_values, bytes_beside};
 ghost use Rattle.x7_mcs.specs.Image.{SaysMeaning};
 
 use crate::fault::McsFault;
@@ -45,6 +45,14 @@ pub(crate) fn sum_byte(fields: &[u8], content: &[u8]) -> u8
     0u8.wrapping_sub(sum_of(fields).wrapping_add(sum_of(content)))
 }
 
+/// The number in the two data bytes of a record that gives a base.
+fn base_value(bytes: &[u8]) -> u32
+    requires { bytes_beside < length bytes.now }
+    ensures { result ≡ base_value bytes.now }
+{
+    256 * u32::from(bytes[4]) + u32::from(bytes[5])
+}
+
 /// What the record of line `n` says by its type, its count and its address.
 fn meaning_by_type(n: u64, bytes: &[u8]) -> Result<Meaning, McsFault>
     requires { get_or bytes.now 0 0 + bytes_beside ≡ length bytes.now }
@@ -52,23 +60,14 @@ fn meaning_by_type(n: u64, bytes: &[u8]) -> Result<Meaning, McsFault>
 {
     let count = u32::from(bytes[0]);
     let address = 256 * u32::from(bytes[1]) + u32::from(bytes[2]);
-    let kind = bytes[3];
-    if kind == 0 && address + count <= BLOCK_SIZE {
-        return Ok(Meaning::Data(address));
+    match (bytes[3], count) {
+        (0, _) if address + count <= BLOCK_SIZE => Ok(Meaning::Data(address)),
+        (1, 0) => Ok(Meaning::End),
+        (2, 2) => Ok(Meaning::Base(16 * base_value(bytes))),
+        (4, 2) => Ok(Meaning::Base(BLOCK_SIZE * base_value(bytes))),
+        (3 | 5, 4) => Ok(Meaning::Start),
+        _ => Err(McsFault::Line(n)),
     }
-    if kind == 1 && count == 0 {
-        return Ok(Meaning::End);
-    }
-    if kind == 2 && count == 2 {
-        return Ok(Meaning::Base(16 * (256 * u32::from(bytes[4]) + u32::from(bytes[5]))));
-    }
-    if kind == 4 && count == 2 {
-        return Ok(Meaning::Base(BLOCK_SIZE * (256 * u32::from(bytes[4]) + u32::from(bytes[5]))));
-    }
-    if (kind == 3 || kind == 5) && count == 4 {
-        return Ok(Meaning::Start);
-    }
-    Err(McsFault::Line(n))
 }
 
 /// What the bytes of line `n` say, where a record 01 stood before or not.

@@ -33,10 +33,8 @@ pub(crate) fn put_data(
     requires address { address < 2 ^ 16 }
     ensures { (xs : List DataRecord) → HoldsIn image.old xs → CallComesTo result (after_data n (flash_reading_at context xs) address content.now) image.new }
 {
-    match put_content(image, n, context.base as usize + address as usize, content) {
-        Ok(()) => Ok(context),
-        Err(fault) => Err(fault),
-    }
+    put_content(image, n, context.base as usize + address as usize, content)?;
+    Ok(context)
 }
 
 /// Takes the record of line `n`, by its bytes, into the image, and gives the base and the end that stand after it.
@@ -48,18 +46,17 @@ fn put_record(
 ) -> Result<Context, McsFault>
     ensures { (xs : List DataRecord) → HoldsIn image.old xs → CallComesTo result (after_record n context xs bytes.now) image.new }
 {
-    match meaning_of(n, context.ended, bytes) {
-        Err(fault) => Err(fault),
-        Ok(Meaning::Start) => Ok(context),
-        Ok(Meaning::End) => Ok(Context {
+    match meaning_of(n, context.ended, bytes)? {
+        Meaning::Start => Ok(context),
+        Meaning::End => Ok(Context {
             base: context.base,
             ended: true,
         }),
-        Ok(Meaning::Base(base)) => Ok(Context {
+        Meaning::Base(base) => Ok(Context {
             base,
             ended: context.ended,
         }),
-        Ok(Meaning::Data(address)) => put_data(image, n, context, address, record_data(bytes)),
+        Meaning::Data(address) => put_data(image, n, context, address, record_data(bytes)),
     }
 }
 

@@ -119,12 +119,8 @@ pub fn mcs_text(alloc: Global, flash: &[u8]) -> Result<Vec<u8>, NoMemory>
     ensures back { AreBytes flash.now → IfOk result (λ text. mcs_of text.items ≡ Ok flash.now) }
 {
     let room = 4 * flash.len() + BASE_LINE_SIZE + ROW_LINE_SIZE + END_LINE.len();
-    let Ok(mut text) = Vec::with_capacity(alloc, room) else {
-        return Err(NoMemory);
-    };
+    let mut text = Vec::with_capacity(alloc, room)?;
     put_rows(&mut text, 0, flash);
-    let Ok(()) = text.extend_from_slice(END_LINE) else {
-        return Err(NoMemory);
-    };
+    text.extend_from_slice(END_LINE)?;
     Ok(text)
 }

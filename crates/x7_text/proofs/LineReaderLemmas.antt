@@ -177,7 +177,7 @@ module _ {B : Type 0} (taken : B → List (List ℕ) → Type 0) where
       let p = some_line piece line rest e in
       record {
         prefix = line ++ 10 ∷ [];
-        is = p.0 ∙ sym (append_assoc line (10 ∷ []) rest);
+        parts = p.0 ∙ sym (append_assoc line (10 ∷ []) rest);
         clear = clear;
         stands = record {
           lines = s.lines ++ (r.held ++ line) ∷ [];

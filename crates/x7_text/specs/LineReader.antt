@@ -1,5 +1,5 @@
 -- A text that comes in pieces, and is taken line by line (this project's choice).
-use Rattle.std.specs.Prelude.{◌≡◌, ◌⊎◌, ℕ, List, [], ◌∷◌, ◌++◌, length}
+use Rattle.std.specs.Prelude.{◌≡◌, ◌⊎◌, ◌<◌, ◌^◌, ℕ, List, [], ◌∷◌, ◌++◌, length, Option, MatchOption, Result, MatchResult, IfErr}
 use Rattle.x7_text.specs.Lines.{split}
 
 -- what a reader keeps: what takes the lines, the beginning of the line that comes, and how many lines were taken
@@ -19,6 +19,10 @@ pub record StandsFor {B : Type 0} (taken : B → List (List ℕ) → Type 0) (r 
   pub took : taken r.taker lines
   pub count : r.count ≡ length lines
 
+-- after some lines, a fault of every text that goes on with this one
+abbrev pub FailsAfter : (List (List ℕ) → Type 0) → List (List ℕ) → List ℕ → Type 0
+FailsAfter fails lines text = (more : List ℕ) → fails (lines ++ split (text ++ more))
+
 -- a fault of every text that begins with this one
 abbrev pub FailsFrom : (List (List ℕ) → Type 0) → List ℕ → Type 0
 FailsFrom fails text = (more : List ℕ) → fails (split (text ++ more))
@@ -33,9 +37,26 @@ pub record TakesWhole {B : Type 0} (taken : B → List (List ℕ) → Type 0) (l
 -- a reader was given only a prefix of a piece, and holds nothing
 pub record TakesPrefix {B : Type 0} (taken : B → List (List ℕ) → Type 0) (r : ReaderState B) (text piece rest : List ℕ) : Type 0 where
   pub prefix : List ℕ
-  pub is : piece ≡ prefix ++ rest
+  pub parts : piece ≡ prefix ++ rest
   pub clear : r.held ≡ []
   pub stands : StandsFor taken r (text ++ prefix)
+
+module _ {B F : Type 0} (taken : B → List (List ℕ) → Type 0) (fails : F → List (List ℕ) → Type 0) where
+  -- Whatever text of fewer than 2^63 bytes, the piece among them, a reader stood for: after a call it stands for that
+  -- text and the piece, or the fault is one of every text that begins so.
+  abbrev pub TakesPiece : {A : Type 0} → ReaderState B → List ℕ → Result A F → (A → ReaderState B) → Type 0
+  TakesPiece old piece result new =
+      (text : List ℕ) → length (text ++ piece) < 2 ^ 63 → StandsFor taken old text
+      → MatchResult result (λ x. StandsFor taken (new x) (text ++ piece)) (λ fault. FailsFrom (fails fault) (text ++ piece))
+
+  -- A piece was taken up to the end of the line that was held, and this is left; or all of it, where no line ends in it,
+  -- and nothing is. Or the fault is one of every text that begins so.
+  abbrev pub CompletesLine : {R : Type 0} → (R → List ℕ) → ReaderState B → List ℕ → Result (Option R) F → ReaderState B → Type 0
+  CompletesLine bytes old piece result new =
+      (text : List ℕ) → length (text ++ piece) < 2 ^ 63 → StandsFor taken old text
+      → MatchResult result
+      (λ found. MatchOption found (StandsFor taken new (text ++ piece)) (λ rest. TakesPrefix taken new text piece (bytes rest)))
+      (λ fault. FailsFrom (fails fault) (text ++ piece))
 
 -- ---- where memory may be wanting
 
@@ -60,3 +81,9 @@ pub record HoldsPart {B : Type 0} (taken : B → List (List ℕ) → Type 0) (li
 -- after some lines, memory may be wanting as a piece is taken: at one of its lines, or to hold the beginning of a line
 abbrev pub WantsIn : {B : Type 0} → (B → List (List ℕ) → Type 0) → (List (List ℕ) → List ℕ → Type 0) → List (List ℕ) → List ℕ → Type 0
 WantsIn taken wants lines piece = WantsAt wants lines piece ⊎ HoldsPart taken lines piece
+
+-- where a reader held no beginning of a line, memory is wanting only in the piece that a call took
+abbrev pub WantsOnlyIn : {A B F : Type 0} → (B → List (List ℕ) → Type 0) → (List (List ℕ) → List ℕ → Type 0) → (F → Type 0) → ReaderState B → List ℕ → Result A F → Type 0
+WantsOnlyIn taken wants is_want old piece result =
+    (text : List ℕ) → length (text ++ piece) < 2 ^ 63 → old.held ≡ [] → (s : StandsFor taken old text)
+    → IfErr result (λ fault. is_want fault → WantsIn taken wants s.lines piece)

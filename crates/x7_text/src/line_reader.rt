@@ -1,6 +1,6 @@
 //! A text that comes in pieces, line by line.
 ghost use Rattle.std.specs.Prelude.{◌≡◌, ◌+◌, ◌<◌, ◌^◌, ◌++◌, ◌∷◌, [], List, ℕ, length, IfErr, MatchOption, MatchResult};
-ghost use Rattle.x7_text.specs.LineReader.{FailsFrom, StandsFor, TakesPrefix, TakesWhole, WantsAt, WantsIn};
+ghost use Rattle.x7_text.specs.LineReader.{CompletesLine, FailsAfter, StandsFor, TakesPiece, TakesWhole, WantsAt, WantsOnlyIn};
 ghost use Rattle.x7_text.specs.Lines.{split};
 
 use crate::lines::first_line;
@@ -46,7 +46,7 @@ pub trait TakesLines: Drop {
     /// lines were taken in all. After an error nothing more may be taken.
     fn put_lines<'t>(&mut self, n: u64, text: &'t [u8]) -> Result<(&'t [u8], u64), Self::Fault>
         ensures read { (first : Self) (lines : List (List ℕ)) → n ≡ length lines → n + length text.now < 2 ^ 63 → took first self.old lines
-            → MatchResult result (λ left. TakesWhole (took first) lines text.now self.new left.0.now left.1) (λ fault. (more : List ℕ) → fails first fault (lines ++ split (text.now ++ more))) }
+            → MatchResult result (λ left. TakesWhole (took first) lines text.now self.new left.0.now left.1) (λ fault. FailsAfter (fails first fault) lines text.now) }
         ensures memory { (first : Self) (lines : List (List ℕ)) → n ≡ length lines → n + length text.now < 2 ^ 63 → took first self.old lines
             → IfErr result (λ fault. is_want fault → WantsAt (wants first) lines text.now) }
     {
@@ -111,9 +111,7 @@ impl<T: TakesLines> LineReader<T> {
 
     /// Takes the line that a piece completes, if it completes the one that is held. Answers the text after it.
     fn complete<'t>(&mut self, piece: &'t [u8]) -> Result<Option<&'t [u8]>, T::Fault>
-        ensures { (first : T) (text : List ℕ) → length (text ++ piece.now) < 2 ^ 63 → StandsFor (T.took first) self.old text
-            → MatchResult result (λ found. MatchOption found (StandsFor (T.took first) self.new (text ++ piece.now)) (λ rest. TakesPrefix (T.took first) self.new text piece.now rest.now))
-            (λ fault. FailsFrom (T.fails first fault) (text ++ piece.now)) }
+        ensures { (first : T) → CompletesLine (T.took first) (T.fails first) (λ rest. rest.now) self.old piece.now result self.new }
     {
         let (line, more) = first_line(piece);
         let Ok(()) = self.held.extend_from_slice(line) else {
@@ -130,10 +128,8 @@ impl<T: TakesLines> LineReader<T> {
 
     /// Takes a piece where no line is held.
     fn take_lines(&mut self, piece: &[u8]) -> Result<(), T::Fault>
-        ensures read { (first : T) (text : List ℕ) → length (text ++ piece.now) < 2 ^ 63 → self.old.held ≡ [] → StandsFor (T.took first) self.old text
-            → MatchResult result (λ _. StandsFor (T.took first) self.new (text ++ piece.now)) (λ fault. FailsFrom (T.fails first fault) (text ++ piece.now)) }
-        ensures memory { (first : T) (text : List ℕ) → length (text ++ piece.now) < 2 ^ 63 → self.old.held ≡ [] → (s : StandsFor (T.took first) self.old text)
-            → IfErr result (λ fault. T.is_want fault → WantsIn (T.took first) (T.wants first) s.lines piece.now) }
+        ensures read { (first : T) → self.old.held ≡ [] → TakesPiece (T.took first) (T.fails first) self.old piece.now result (λ _. self.new) }
+        ensures memory { (first : T) → WantsOnlyIn (T.took first) (T.wants first) T.is_want self.old piece.now result }
     {
         let (rest, count) = self.taker.put_lines(self.count, piece)?;
         self.count = count;
@@ -148,10 +144,8 @@ impl<T: TakesLines> LineReader<T> {
 
     /// Takes the next piece of a text.
     fn take(&mut self, piece: &[u8]) -> Result<(), T::Fault>
-        ensures read { (first : T) (text : List ℕ) → length (text ++ piece.now) < 2 ^ 63 → StandsFor (T.took first) self.old text
-            → MatchResult result (λ _. StandsFor (T.took first) self.new (text ++ piece.now)) (λ fault. FailsFrom (T.fails first fault) (text ++ piece.now)) }
-        ensures memory { (first : T) (text : List ℕ) → length (text ++ piece.now) < 2 ^ 63 → self.old.held ≡ [] → (s : StandsFor (T.took first) self.old text)
-            → IfErr result (λ fault. T.is_want fault → WantsIn (T.took first) (T.wants first) s.lines piece.now) }
+        ensures read { (first : T) → TakesPiece (T.took first) (T.fails first) self.old piece.now result (λ _. self.new) }
+        ensures memory { (first : T) → WantsOnlyIn (T.took first) (T.wants first) T.is_want self.old piece.now result }
     {
         if self.held.is_empty() {
             return self.take_lines(piece);
@@ -166,10 +160,8 @@ impl<T: TakesLines> LineReader<T> {
     /// whole text, whatever follows. Where no beginning of a line is held, memory is wanting only at a line of the
     /// piece, or to hold the beginning of a line after them.
     pub fn feed(self, piece: &[u8]) -> Result<LineReader<T>, T::Fault>
-        ensures read { (first : T) (text : List ℕ) → length (text ++ piece.now) < 2 ^ 63 → StandsFor (T.took first) self text
-            → MatchResult result (λ reader. StandsFor (T.took first) reader (text ++ piece.now)) (λ fault. FailsFrom (T.fails first fault) (text ++ piece.now)) }
-        ensures memory { (first : T) (text : List ℕ) → length (text ++ piece.now) < 2 ^ 63 → self.held ≡ [] → (s : StandsFor (T.took first) self text)
-            → IfErr result (λ fault. T.is_want fault → WantsIn (T.took first) (T.wants first) s.lines piece.now) }
+        ensures read { (first : T) → TakesPiece (T.took first) (T.fails first) self piece.now result (λ reader. reader) }
+        ensures memory { (first : T) → WantsOnlyIn (T.took first) (T.wants first) T.is_want self piece.now result }
     {
         let mut reader = self;
         reader.take(piece)?;

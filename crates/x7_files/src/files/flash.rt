@@ -49,7 +49,7 @@ fn read_from<F: Read + Seek>(file: &mut F, place: u64, buf: &mut [u8]) -> io::Re
 }
 
 /// How many bytes a program reads and writes at once.
-const PIECE: usize = 4096;
+const PIECE_SIZE: usize = 4096;
 
 /// Opens a file for reading and writing, or for reading alone where it may not be written.
 fn open_flash<R: Files>(rt: &R, name: &str) -> io::Result<R::File> {
@@ -100,11 +100,11 @@ fn clear_bits(bytes: &mut [u8], given: &[u8])
 
 /// Makes each byte of a piece from the place on the old one AND the given one.
 fn clear_piece<F: Read + Write + Seek>(file: &mut F, place: u64, given: &[u8]) -> io::Result<()>
-    requires { length given.now ≤ PIECE }
+    requires { length given.now ≤ PIECE_SIZE }
     ensures { OnOk result (ClearsAt (file_tells F.stream_position F.remaining) (file_tells F.stream_position F.contents)
         place given.now file.old file.new) }
 {
-    let mut buffer = [0; PIECE];
+    let mut buffer = [0; PIECE_SIZE];
     let piece = &mut buffer[..given.len()];
     read_from(file, place, piece)?;
     clear_bits(piece, given);
@@ -123,7 +123,7 @@ fn program_from<F: Read + Write + Seek + OpenFile>(
 {
     let mut done = 0;
     while done < given.len() {
-        let count = PIECE.min(given.len() - done);
+        let count = PIECE_SIZE.min(given.len() - done);
         clear_piece(file, place + done as u64, &given[done..done + count])?;
         done += count;
     }

@@ -18,10 +18,10 @@ returns-in-Some-clause-begins g c =
     let count = c.in_ok-turn.turn.count in
     let old = c.loop-bytes.bytes.items in
     let piece = take count c.next_turn.new.buf in
-    let mid = c.extend_from_slice.new.self.items in
+    let mid = c.put_text.new.text.items in
     let bytes = c.deref-in-loop-bytes.result.now in
     let within : count ≤ length c.next_turn.new.buf = omega (arith, c.in_ok-turn.ensures.within.1, c.next_turn.ensures.length) in
-    let joined = c.in-Ok.ensures.items ∙ ap (λ t. old ++ t) (take-append-le count c.next_turn.new.buf _ within) in
+    let joined = c.in_ok-put_text.ensures.text ∙ ap (λ t. old ++ t) (take-append-le count c.next_turn.new.buf _ within) in
     let long = length-take-le count c.next_turn.new.buf within in
     let p = piece_of old mid piece c.deref.result.now bytes c.wanted.result joined c.deref-in-loop-bytes.ensures.value (omega (arith, long, c.in_ok-turn.ensures.within.1, c.min-count.ensures, length-take-le c.min-count.result c.loop-bytes.piece (omega (arith, c.min-count.ensures, v.piece)))) c.wanted.ensures.some c.deref.ensures.value c.wanted.ensures.fixed c.wanted.ensures.waits v.waiting in
     beginning_read old mid piece bytes c.in-Some.judged.line.items c.wanted.result c.in-Some.judged.start c.in_ok-turn.turn.last (i.state c.args.inputs.now) (i.state c.loop-bytes.inputs) (i.state c.next_turn.new.inputs)
@@ -33,10 +33,10 @@ returns-in_err-judged-clause-err g c = rw (handed_on c.from_residual-in_err-judg
     let count = c.in_ok-turn.turn.count in
     let old = c.loop-bytes.bytes.items in
     let piece = take count c.next_turn.new.buf in
-    let mid = c.extend_from_slice.new.self.items in
+    let mid = c.put_text.new.text.items in
     let bytes = c.deref-in-loop-bytes.result.now in
     let within : count ≤ length c.next_turn.new.buf = omega (arith, c.in_ok-turn.ensures.within.1, c.next_turn.ensures.length) in
-    let joined = c.in-Ok.ensures.items ∙ ap (λ t. old ++ t) (take-append-le count c.next_turn.new.buf _ within) in
+    let joined = c.in_ok-put_text.ensures.text ∙ ap (λ t. old ++ t) (take-append-le count c.next_turn.new.buf _ within) in
     let long = length-take-le count c.next_turn.new.buf within in
     let p = piece_of old mid piece c.deref.result.now bytes c.wanted.result joined c.deref-in-loop-bytes.ensures.value (omega (arith, long, c.in_ok-turn.ensures.within.1, c.min-count.ensures, length-take-le c.min-count.result c.loop-bytes.piece (omega (arith, c.min-count.ensures, v.piece)))) c.wanted.ensures.some c.deref.ensures.value c.wanted.ensures.fixed c.wanted.ensures.waits v.waiting in
     elim c.in_err-judged.ensures.refused [
@@ -72,11 +72,11 @@ loop-bytes-preserved g c =
     let old = c.loop-bytes.bytes.items in
     let buf = c.next_turn.new.buf in
     let piece = take count buf in
-    let mid = c.extend_from_slice.new.self.items in
+    let mid = c.put_text.new.text.items in
     let bytes = c.deref-in-loop-bytes.result.now in
     let asked_for : length (take c.min-count.result c.loop-bytes.piece) ≡ c.min-count.result = length-take-le c.min-count.result c.loop-bytes.piece (omega (arith, c.min-count.ensures, v.piece)) in
     let within : count ≤ length buf = omega (arith, c.in_ok-turn.ensures.within.1, c.next_turn.ensures.length) in
-    let joined = c.in-Ok.ensures.items ∙ ap (λ t. old ++ t) (take-append-le count buf _ within) in
+    let joined = c.in_ok-put_text.ensures.text ∙ ap (λ t. old ++ t) (take-append-le count buf _ within) in
     let none = found_none c.in_ok-judged.field-0 ((c.in_ok-turn.turn.last ≡ false) × (length bytes ≤ longest_header) × EndsInHeader bytes) (λ (j : Judged). (j.start ≤ length bytes) × IsBeginning bytes c.in_ok-turn.turn.last j.line.items j.start) c.in_default.is c.in_ok-judged.ensures.judged in
     record {
       selected = c.in_ok-turn.ensures.ok.selected;
@@ -106,20 +106,20 @@ returns-in_err-turn-clause-short g c =
 pub returns-in_err-turn-clause-inputs : goal.returns-in_err-turn-clause-inputs
 returns-in_err-turn-clause-inputs g c = stays_on _ _ _ c.loop-bytes.invariant.inputs c.next_turn.ensures.inputs
 
-pub returns-in-Err-clause-few : goal.returns-in-Err-clause-few
-returns-in-Err-clause-few g c =
+pub returns-in_err-put_text-clause-few : goal.returns-in_err-put_text-clause-few
+returns-in_err-put_text-clause-few g c =
     let i = g.I.Inputs in
     let v = c.loop-bytes.invariant in
     gives_on (i.state c.args.inputs.now) (i.state c.loop-bytes.inputs) (i.state c.next_turn.new.inputs) c.loop-bytes.bytes.items stream_limit (stream_limit - c.len-left.result)
     (reads_by (i.state c.args.inputs.now) (i.state c.loop-bytes.inputs) c.loop-bytes.bytes.items v.selected v.taken v.given v.asked v.inputs v.selects) (omega (arith, v.few, c.len-left.ensures)) v.ends c.next_turn.ensures.few
 
-pub returns-in-Err-clause-short : goal.returns-in-Err-clause-short
-returns-in-Err-clause-short g c =
+pub returns-in_err-put_text-clause-short : goal.returns-in_err-put_text-clause-short
+returns-in_err-put_text-clause-short g c =
     let v = c.loop-bytes.invariant in
     omega (arith, v.given, v.few, c.next_turn.ensures.turn, v.piece, c.min-count.ensures, length-take-le c.min-count.result c.loop-bytes.piece (omega (arith, c.min-count.ensures, v.piece)))
 
-pub returns-in-Err-clause-inputs : goal.returns-in-Err-clause-inputs
-returns-in-Err-clause-inputs g c = stays_on _ _ _ c.loop-bytes.invariant.inputs c.next_turn.ensures.inputs
+pub returns-in_err-put_text-clause-inputs : goal.returns-in_err-put_text-clause-inputs
+returns-in_err-put_text-clause-inputs g c = stays_on _ _ _ c.loop-bytes.invariant.inputs c.next_turn.ensures.inputs
 
 pub returns-in-Some-clause-few : goal.returns-in-Some-clause-few
 returns-in-Some-clause-few g c =

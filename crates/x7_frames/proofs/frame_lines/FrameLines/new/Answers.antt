@@ -3,5 +3,5 @@ use Rattle.x7_frames.specs.FramesText.{AreGood}
 use Rattle.x7_frames.proofs.GoodLemmas.{no_rows_good}
 use Rattle.x7_frames.proofs.frame_lines.FrameLines.new.Goals as goal
 
-pub returns-in-Ok-clause-begun : goal.returns-in-Ok-clause-begun
-returns-in-Ok-clause-begun c = (refl, subst (λ rows. AreGood c.args.part.now [] rows) (sym c.in-Ok.ensures.rows) (no_rows_good c.args.part.now))
+pub returns-clause-begun : goal.returns-clause-begun
+returns-clause-begun c = (refl, subst (λ rows. AreGood c.args.part.now [] rows) (sym c.in_ok-reading.ensures.rows) (no_rows_good c.args.part.now))

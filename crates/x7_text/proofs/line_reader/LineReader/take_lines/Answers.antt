@@ -7,7 +7,7 @@ use Rattle.x7_text.proofs.line_reader.LineReader.take_lines.Goals as goal
 pub returns-in_err-rest-clause-read : goal.returns-in_err-rest-clause-read
 returns-in_err-rest-clause-read g c =
     let p = err_from_is_err_and c.from_residual.result c.from_residual.ensures.1 in
-    rw (p.1, p.2) (λ first text fits clear now.
+    rw (p.1, p.2) (λ first clear text fits now.
     let taken = g.T.TakesLines.took first in
     let piece = c.args.piece.now in
     let r : ReaderState g.row.T.Denot = record { taker = c.self.inside.taker; held = c.self.inside.held.items; count = c.self.inside.count } in
@@ -25,7 +25,7 @@ returns-in_err-rest-clause-memory g c =
     inl (c.in_err-rest.ensures.memory first s.lines count (omega (arith, count, few_lines taken c.args.self.now text s, s.count, fits, length-append text c.args.piece.now)) (view_took taken r c.args.self.now s.lines c.self.view_is s.took) want))
 
 pub returns-then-is_empty-clause-read : goal.returns-then-is_empty-clause-read
-returns-then-is_empty-clause-read g c = λ first text fits clear now.
+returns-then-is_empty-clause-read g c = λ first clear text fits now.
     let taken = g.T.TakesLines.took first in
     let piece = c.args.piece.now in
     let rest = c.in_ok-rest.rest.now in
@@ -48,7 +48,7 @@ returns-in_default-clause-memory g c = λ first text fits clear s want.
     inr (record { taker = c.put_lines.new.self; more = w.more; rest = rest; cut = w.cut; took = w.took; begun = λ e. absurd (grind (arith, ap length e, c.is_empty.ensures, c.if-is_empty.false)) })
 
 pub returns-clause-read : goal.returns-clause-read
-returns-clause-read g c = λ first text fits clear now.
+returns-clause-read g c = λ first clear text fits now.
     let taken = g.T.TakesLines.took first in
     let piece = c.args.piece.now in
     let r : ReaderState g.row.T.Denot = record { taker = c.self.inside.taker; held = c.self.inside.held.items; count = c.self.inside.count } in
