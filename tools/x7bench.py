@@ -7,6 +7,7 @@ from collections import namedtuple
 import x7run
 from x7device import Device
 from x7formats import CMD, CODES, REGISTERS, SYNC, Refused, payload, read_file, steps, stream_of, word_at
+from x7parts import is_7_series
 
 # ---- x7
 
@@ -108,10 +109,6 @@ class Asked:
         return self.idcodes[0]
 
 
-def is_7_series(idcode):
-    return idcode >> 21 & 0x7F == 0x1B
-
-
 def asked_of(path):
     """What the stream of a file asks."""
     raw = read_file(path)
@@ -143,6 +140,7 @@ def slot_of(start):
 
 
 def refuse_layout(place, why):
+    """Refuses a flash without a layout, by the first byte that differs from one."""
     raise Refused(f"layout byte {place}: {why}")
 
 

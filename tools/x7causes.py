@@ -31,6 +31,7 @@ class Source:
 
     @property
     def header_count(self):
+        """How many bytes of data the header tells of, or none without a header."""
         return self.header.length if self.header else None
 
     @property
@@ -40,6 +41,7 @@ class Source:
 
     @property
     def part(self):
+        """The part that the header names, or nothing."""
         return x7.text_of(self.header.part) if self.header else ""
 
 
@@ -58,11 +60,13 @@ class Subject:
         self.fate = self.fate_of(report) if report else self.fate_of_device()
 
     def fate_of(self, report):
+        """What a report says of the device; a register that it lacks counts as 0."""
         registers = {**dict.fromkeys(("COR0", "CTL0", "TIMER", "STAT", "WBSTAR"), 0), **report.registers}
         ghigh = registers["STAT"] >> 7 & 1
         return Fate(report.end, report.taken, report.phase, report.gts, report.gwe, ghigh, registers)
 
     def fate_of_device(self):
+        """What the streams do to a device without frames."""
         it = self.device
         return Fate(it.end, it.taken, it.phase, it.gts, it.gwe, int(it.ghigh), {**it.registers, "STAT": 12})
 
@@ -252,6 +256,7 @@ def packets_begin(data, step):
 
 
 def swallowed(source, step, begins):
+    """The cause where packets begin within the payload of frame data, or none."""
     missing = step.first + 4 * step.count - begins
     head, place = x7.head_line(step), source.first + begins + 4
     if source.header and source.lost == 0:
@@ -357,6 +362,7 @@ def of_identification(subject, source, words, after):
 
 
 def named(idcode):
+    """The device of an IDCODE in brackets, or nothing."""
     name = name_of_idcode(idcode)
     return f" ({name})" if name else ""
 
@@ -537,6 +543,7 @@ def of_unchecked_loss(subject):
 
 
 def has_check(source):
+    """Whether a stream writes a word to CRC."""
     return any(step.kind == "write" and step.register == x7.CRC and step.present for step in x7.steps(source.data))
 
 

@@ -48,23 +48,28 @@ class Device:
 
     @property
     def phase(self):
+        """The phase of startup after the bytes taken, four bytes a tick."""
         ticks = 0 if self.begun is None else (self.taken - self.begun) // 4
         return phase_after(ticks, self.cor0, self.lock, self.match)
 
     @property
     def done_phase(self):
+        """The phase in which DONE goes high."""
         return min((self.cor0 >> 12 & 7) + 1, 6)
 
     @property
     def gts(self):
+        """Whether the outputs are on, as 0 or 1."""
         return int(is_high(self.cor0 >> 3 & 7, self.phase, self.done_phase))
 
     @property
     def gwe(self):
+        """Whether flip-flops and memories can be written, as 0 or 1."""
         return int(is_high(self.cor0 & 7, self.phase, self.done_phase))
 
     @property
     def has_stopped(self):
+        """Whether a fault or IPROG ended the device's play."""
         return self.end[0] in ("fault", "iprog")
 
     def last(self, register):
@@ -103,6 +108,7 @@ class Device:
             self.write(data, step)
 
     def stop(self, after, *end):
+        """Ends the play after this many bytes, where nothing ended it before."""
         if not self.has_stopped:
             self.end, self.taken = list(end), after
 
@@ -186,6 +192,7 @@ class Device:
         self.matched = True
 
     def load_watchdog(self, after):
+        """Sets by TIMER the byte at which the watchdog fires, where it runs."""
         timer = self.registers["TIMER"]
         runs = timer >> 30 & 1 and timer & 0x3FFFFFFF
         self.deadline, self.loaded = after + 4 * (timer & 0x3FFFFFFF) if runs else None, after

@@ -366,6 +366,7 @@ class Tables:
 
     @classmethod
     def make(cls):
+        """Makes the tables of halves of a word and of registers."""
         quarters = [[shifted(byte << shift, 37) for byte in range(256)] for shift in (0, 8, 16, 24)]
         cls.low = [one ^ other for one in quarters[1] for other in quarters[0]]
         cls.high = [one ^ other for one in quarters[3] for other in quarters[2]]
@@ -523,10 +524,12 @@ class Toml:
         return taken
 
     def want(self, token):
+        """Takes this token, or refuses the text."""
         if self.next() != token:
             raise Refused(f"line {self.text.count(chr(10), 0, self.at) + 1} lacks '{token}', or has it elsewhere")
 
     def value(self):
+        """Takes a value: a text, a list, a table or a number."""
         token = self.next()
         if token[:1] in ("'", '"') and token:
             return token[1:-1]
@@ -551,6 +554,7 @@ class Toml:
         return found
 
     def pair(self):
+        """Takes a key and its value."""
         key = self.next()
         self.want("=")
         return key, self.value()

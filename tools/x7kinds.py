@@ -38,6 +38,7 @@ Kind = namedtuple("Kind", "what remedy")
 
 
 def is_text(data):
+    """Whether data begin as a text of ASCII."""
     return bool(data) and all(32 <= byte < 127 or byte in b"\t\r\n" for byte in data[:4096])
 
 
@@ -66,7 +67,8 @@ def kind_of(raw):
 
 # ---- bytes that were turned
 
-BITS = bytes(int(f"{byte:08b}"[::-1], 2) for byte in range(256))
+# each byte with its bits in the other order
+MIRRORED = bytes(int(f"{byte:08b}"[::-1], 2) for byte in range(256))
 NIBBLES = bytes(byte >> 4 | (byte & 15) << 4 for byte in range(256))
 INVERTED = bytes(255 - byte for byte in range(256))
 # by so many first bytes a way is judged
@@ -85,11 +87,11 @@ def exchanged(data, size, order):
 # What was turned, how, in groups of how many bytes, and the way back.
 Way = namedtuple("Way", "what how size back")
 WAYS = [
-    Way("the bits of each byte", "swapped", 1, lambda data: data.translate(BITS)),
+    Way("the bits of each byte", "swapped", 1, lambda data: data.translate(MIRRORED)),
     Way("the bytes of each word", "swapped", 4, lambda data: exchanged(data, 4, (3, 2, 1, 0))),
     Way("the bytes of each halfword", "swapped", 2, lambda data: exchanged(data, 2, (1, 0))),
-    Way("the bits of each byte and the bytes of each word", "swapped", 4, lambda data: exchanged(data.translate(BITS), 4, (3, 2, 1, 0))),
-    Way("the bits of each byte and the bytes of each halfword", "swapped", 2, lambda data: exchanged(data.translate(BITS), 2, (1, 0))),
+    Way("the bits of each byte and the bytes of each word", "swapped", 4, lambda data: exchanged(data.translate(MIRRORED), 4, (3, 2, 1, 0))),
+    Way("the bits of each byte and the bytes of each halfword", "swapped", 2, lambda data: exchanged(data.translate(MIRRORED), 2, (1, 0))),
     Way("the halfwords of each word", "swapped", 4, lambda data: exchanged(data, 4, (2, 3, 0, 1))),
     Way("the bytes of each 64 bits", "swapped", 8, lambda data: exchanged(data, 8, (7, 6, 5, 4, 3, 2, 1, 0))),
     Way("the words of each 64 bits", "swapped", 8, lambda data: exchanged(data, 8, (4, 5, 6, 7, 0, 1, 2, 3))),

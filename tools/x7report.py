@@ -145,6 +145,7 @@ class PartDevice(Device):
             super().execute(command, after)
 
     def load_watchdog(self, after):
+        """A fallback has no watchdog."""
         if self.start.kind != "fallback":
             super().load_watchdog(after)
 
@@ -157,6 +158,7 @@ class PartDevice(Device):
     # what it shows
 
     def is_fault(self, name):
+        """Whether a fault of this name ended the play."""
         return self.end[:2] == ["fault", name]
 
     def value(self, name):
@@ -180,6 +182,7 @@ class PartDevice(Device):
 
     @property
     def done(self):
+        """Whether DONE is high, as 0 or 1."""
         return int(self.phase >= self.done_phase)
 
     def boot_byte(self):
@@ -205,6 +208,7 @@ class PartDevice(Device):
 
 
 def text_of(lines):
+    """Lines as a text, each with its end."""
     return "".join(f"{line}\n" for line in lines)
 
 

@@ -1,6 +1,8 @@
 """What a word that a board gives tells at once, and where the page BOARD has more."""
 from x7fields import PHASE_OF_STATE, field_of
 
+HELD_LOW = "the device has released DONE, and the pin is low: something on the board holds it"
+
 
 def of_stat(word):
     """What STAT says (UG470, status register), the first that holds."""
@@ -18,20 +20,27 @@ def of_stat(word):
     if phase == 0 and not word >> 14 & 1:
         return "startup hasn't begun: nothing came, or no sync word, or the stream ended early", "No sync word"
     if phase < 7:
-        return f"startup stands in phase {phase}{waits(word, phase)}", "Startup waits"
+        return f"startup stands in phase {phase}{waits(word)}", "Startup waits"
     return of_phase_7(word)
 
 
-def waits(word, phase):
+def is_held_low(word):
+    """Whether STAT says that DONE is released, and yet low."""
+    return word >> 13 & 1 == 1 and word >> 14 & 1 == 0
+
+
+def waits(word):
+    """What startup waits for by STAT, as the end of a sentence."""
     found = [name for bit, name in ((2, "MMCM_LOCK is 0: clocks aren't locked"), (3, "DCI_MATCH is 0: the impedance isn't matched")) if not word >> bit & 1]
-    if word >> 13 & 1 and not word >> 14 & 1:
-        found.append("the device has released DONE, and the pin is low: something on the board holds it")
+    if is_held_low(word):
+        found.append(HELD_LOW)
     return f": {'; '.join(found)}" if found else ": the clock of startup has stopped"
 
 
 def of_phase_7(word):
-    if word >> 13 & 1 and not word >> 14 & 1:
-        return "the device has released DONE, and the pin is low: something on the board holds it", "Phase 7, and the board doesn't run"
+    """What STAT says once startup has ended."""
+    if is_held_low(word):
+        return HELD_LOW, "Phase 7, and the board doesn't run"
     off = [name for bit, name in ((5, "GTS_CFG_B"), (6, "GWE"), (7, "GHIGH_B")) if not word >> bit & 1]
     if off:
         return f"startup has ended, and {' and '.join(off)} {'is' if len(off) == 1 else 'are'} 0", "Phase 7, and the board doesn't run"
@@ -51,6 +60,7 @@ def of_bootsts(word):
 
 
 def of_cor0(word):
+    """What COR0 says (UG470, configuration options register 0), the first that holds."""
     if word & 7 == 7 or word >> 3 & 7 == 7:
         return "GTS_CYCLE or GWE_CYCLE is 7 (KEEP): outputs or writes stay off for ever", "Phase 7, and the board doesn't run"
     if word >> 15 & 3:
@@ -61,6 +71,7 @@ def of_cor0(word):
 
 
 def of_ctl0(word):
+    """What CTL0 says (UG470, control register 0), the first that holds."""
     if word >> 6 & 1:
         return "the stream is encrypted", "Further faults"
     if word >> 5 & 1:

@@ -31,7 +31,7 @@ def check_edit(tally, crate, edit):
 def check_words(tally):
     """The tool takes names of crates with attacks alone."""
     ran = subprocess.run([sys.executable, os.path.join(TOOLS, "attack"), "x7_nothing"], check=False, capture_output=True)
-    tally.same("a crate without attacks", (ran.returncode, ran.stdout, ran.stderr.startswith(b"Tries the wrong bodies")), (2, b"", True))
+    tally.same("a crate without attacks", (ran.returncode, ran.stdout, ran.stderr.startswith(b"attack: no wrong bodies")), (2, b"", True))
 
 
 def check_folder(tally, folder):

@@ -120,6 +120,10 @@ def refused(bench):
     bench.refuses("svf", "jump")
     for name, what in (("full", "full stream"), ("read", "no frame"), ("nothing", "no sync word"), ("image", "IPROG")):
         bench.refuses("svf", "--partial", name, what=what)
+
+
+def refused_reads(bench):
+    """What is no stream or no report of a read, and words that the tool doesn't take."""
     bench.refuses("svf", "--read", "made.part", "full", "report", what="no stream of")
     bench.refuses("svf", "--read", "made.part", "change", "report", what="no stream of")
     bench.refuses("svf", "--read", "made.part", "read", "both", what="read out")
@@ -140,6 +144,7 @@ def main(folder):
         plays(bench)
         masked(bench)
         refused(bench)
+        refused_reads(bench)
     else:
         bench.tally.skip("svf: x7 isn't built")
     bench.tally.end()

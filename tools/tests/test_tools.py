@@ -144,8 +144,9 @@ def helps(bench, names):
         for word in ("--help", "-h"):
             came = bench.many(name, word)
             bench.tally.check(f"{name} {word}", came.status == 0 and len(came.out) > 200 and not came.err, f"status {came.status}, {came.err[:200]!r}")
-        if name != "test":
+        if name not in ("test", "attack"):
             bench.refuses(name)
+        if name != "test":
             bench.refuses(name, *["x"] * 12)
         bench.refuses(name, "--nonsense", "x", "y", "z")
         bench.refuses(name, "--help", closed=[1])

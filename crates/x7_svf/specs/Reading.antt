@@ -8,7 +8,7 @@ use Rattle.x7_svf.specs.declared.token.NextToken.{NextToken}
 
 -- blanks were passed, or nothing was
 pub record PassesBlanks (old new : SourceState) : Type 0 where
-  pub same : tokens_left old ≡ tokens_left new
+  pub tokens : tokens_left old ≡ tokens_left new
   pub kept : new.kept ≡ old.kept
   pub passed : length new.rest ≤ length old.rest
 
