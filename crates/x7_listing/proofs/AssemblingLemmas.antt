@@ -34,7 +34,7 @@ begins_at limit texts lines left left2 e b = subst (λ s. BeginsWithLines limit 
 
 module _ (limit : ℕ) (texts : List (List ℕ)) (t old new : List ℕ) (left : List (List ℕ)) (n : ℕ) (g : LinesAreRead limit texts (t ∷ left) old n) where
   pub bad : Reads FitsLine text_of (line_bytes (check_of_bytes old)) false t old new → IsFirstBadText limit texts (n + 1)
-  bad r = record { lines = g.lines; bad = t; left = left; begins = g.begins; count = ap (λ (k : ℕ). k + 1) g.count; no_line = λ l i. r.0 l i.fits i.is }
+  bad r = record { lines = g.lines; bad = t; left = left; begins = g.begins; count = ap (λ (k : ℕ). k + 1) g.count; no_line = λ l i. r.0 l i.fits i.text_is }
 
   pub too_long : Reads FitsLine text_of (line_bytes (check_of_bytes old)) true t old new → limit < length new → PassesLimitAt limit texts (n + 1)
   too_long r h = record {
@@ -44,19 +44,19 @@ module _ (limit : ℕ) (texts : List (List ℕ)) (t old new : List ℕ) (left : 
     begins = begins_at limit texts g.lines (t ∷ left) (text_of r.0 ∷ left) (ap (λ s. s ∷ left) r.2) g.begins;
     fits = r.1;
     count = ap (λ (k : ℕ). k + 1) g.count;
-    passes = subst (λ b. limit < length b) (grown g.lines r.0 old new g.is r.3) h;
+    passes = subst (λ b. limit < length b) (grown g.lines r.0 old new g.bytes_are r.3) h;
   }
 
   pub next : Reads FitsLine text_of (line_bytes (check_of_bytes old)) true t old new → length new ≤ limit → LinesAreRead limit texts left new (n + 1)
   next r h =
-      let e : new ≡ assembled (g.lines ++ r.0 ∷ []) = grown g.lines r.0 old new g.is r.3 in
-      record { lines = g.lines ++ r.0 ∷ []; begins = begins_more limit texts g.lines r.0 t left g.begins r.1 r.2 (subst (λ b. length b ≤ limit) e h); is = e; count = ap (λ (k : ℕ). k + 1) g.count ∙ sym (longer g.lines r.0) }
+      let e : new ≡ assembled (g.lines ++ r.0 ∷ []) = grown g.lines r.0 old new g.bytes_are r.3 in
+      record { lines = g.lines ++ r.0 ∷ []; begins = begins_more limit texts g.lines r.0 t left g.begins r.1 r.2 (subst (λ b. length b ≤ limit) e h); bytes_are = e; count = ap (λ (k : ℕ). k + 1) g.count ∙ sym (longer g.lines r.0) }
 
 pub went_nothing : (limit : ℕ) (texts : List (List ℕ)) → LinesAreRead limit texts texts [] 0
-went_nothing limit texts = record { lines = []; begins = record { texts = refl; fits = tt; within = omega arith }; is = refl; count = refl }
+went_nothing limit texts = record { lines = []; begins = record { texts = refl; fits = tt; within = omega arith }; bytes_are = refl; count = refl }
 
 pub went_all : (limit : ℕ) (texts : List (List ℕ)) (bytes : List ℕ) (n : ℕ) → LinesAreRead limit texts [] bytes n → Assembles limit texts bytes
-went_all limit texts bytes n g = record { lines = g.lines; begins = g.begins; is = g.is }
+went_all limit texts bytes n g = record { lines = g.lines; begins = g.begins; bytes_are = g.bytes_are }
 
 -- a line is read after a header's bytes as it is without them
 pub dropped : (start a : ℕ) (r : Bool) (t old new : List ℕ) → start ≤ length old → Reads FitsLine text_of (line_bytes a) r t old new → Reads FitsLine text_of (line_bytes a) r t (drop start old) (drop start new)
@@ -76,45 +76,45 @@ close_ok all others prefix out start first n (inl h) a same = inl (record {
   texts = h.texts;
   follows = record {
     rest = Ok (drop start out);
-    lines = subst (λ (k : ℕ). Assembles (67108864 - k) others (drop start out)) (n ∙ ap length h.are) a;
-    is = ap Ok (sym (take-append-drop start out) ∙ ap (λ t. t ++ drop start out) (same ∙ h.are));
+    lines = subst (λ (k : ℕ). Assembles (67108864 - k) others (drop start out)) (n ∙ ap length h.prefix_is) a;
+    outcome_is = ap Ok (sym (take-append-drop start out) ∙ ap (λ t. t ++ drop start out) (same ∙ h.prefix_is));
   };
 })
 close_ok all others prefix out start first n (inr p) a same =
-    let zero : start ≡ 0 = n ∙ ap length p.are in
+    let zero : start ≡ 0 = n ∙ ap length p.prefix_is in
     let is : drop start out ≡ out = ap (λ (k : ℕ). drop k out) zero in
     let b : Assembles 67108864 others (drop start out) = subst (λ (k : ℕ). Assembles (67108864 - k) others (drop start out)) zero a in
     inr (p.no_head, subst (λ (t : List (List ℕ)). Assembles 67108864 t out) (sym p.texts) (subst (Assembles 67108864 others) is b))
 
 pub close_bad : (all others : List (List ℕ)) (prefix : List ℕ) (start first m n : ℕ) → start ≡ length prefix → OpensText all others prefix first → IsFirstBadText (67108864 - start) others m → n ≡ first + m → AreHeadedAsm all (Err (fault.Line n))
 close_bad all others prefix start first m n s (inl h) b e =
-    let one : n ≡ m + 1 = omega (arith, e, h.one) in
+    let one : n ≡ m + 1 = omega (arith, e, h.count) in
     inl (record {
       header = h.header;
       held = h.held;
       others = others;
       texts = h.texts;
-      follows = record { rest = Err (fault.Line m); lines = subst (λ (k : ℕ). IsFirstBadText (67108864 - k) others m) (s ∙ ap length h.are) b; is = ap (λ (k : ℕ). Err (fault.Line k)) one };
+      follows = record { rest = Err (fault.Line m); lines = subst (λ (k : ℕ). IsFirstBadText (67108864 - k) others m) (s ∙ ap length h.prefix_is) b; outcome_is = ap (λ (k : ℕ). Err (fault.Line k)) one };
     })
 close_bad all others prefix start first m n s (inr p) b e =
-    let zero : start ≡ 0 = s ∙ ap length p.are in
-    let same : m ≡ n = omega (arith, e, p.none) in
+    let zero : start ≡ 0 = s ∙ ap length p.prefix_is in
+    let same : m ≡ n = omega (arith, e, p.count) in
     let c : IsFirstBadText 67108864 others m = subst (λ (k : ℕ). IsFirstBadText (67108864 - k) others m) zero b in
     inr (p.no_head, subst (λ (t : List (List ℕ)). IsFirstBadText 67108864 t n) (sym p.texts) (subst (IsFirstBadText 67108864 others) same c))
 
 pub close_long : (all others : List (List ℕ)) (prefix : List ℕ) (start first m n : ℕ) → start ≡ length prefix → OpensText all others prefix first → PassesLimitAt (67108864 - start) others m → n ≡ first + m → AreHeadedAsm all (Err (fault.TooLong n))
 close_long all others prefix start first m n s (inl h) b e =
-    let one : n ≡ m + 1 = omega (arith, e, h.one) in
+    let one : n ≡ m + 1 = omega (arith, e, h.count) in
     inl (record {
       header = h.header;
       held = h.held;
       others = others;
       texts = h.texts;
-      follows = record { rest = Err (fault.TooLong m); lines = subst (λ (k : ℕ). PassesLimitAt (67108864 - k) others m) (s ∙ ap length h.are) b; is = ap (λ (k : ℕ). Err (fault.TooLong k)) one };
+      follows = record { rest = Err (fault.TooLong m); lines = subst (λ (k : ℕ). PassesLimitAt (67108864 - k) others m) (s ∙ ap length h.prefix_is) b; outcome_is = ap (λ (k : ℕ). Err (fault.TooLong k)) one };
     })
 close_long all others prefix start first m n s (inr p) b e =
-    let zero : start ≡ 0 = s ∙ ap length p.are in
-    let same : m ≡ n = omega (arith, e, p.none) in
+    let zero : start ≡ 0 = s ∙ ap length p.prefix_is in
+    let same : m ≡ n = omega (arith, e, p.count) in
     let c : PassesLimitAt 67108864 others m = subst (λ (k : ℕ). PassesLimitAt (67108864 - k) others m) zero b in
     inr (p.no_head, subst (λ (t : List (List ℕ)). PassesLimitAt 67108864 t n) (sym p.texts) (subst (PassesLimitAt 67108864 others) same c))
 

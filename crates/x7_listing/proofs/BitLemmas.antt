@@ -75,7 +75,7 @@ one_header x y h k e =
     same_contents x y a.0 b.0 c.0 d.0 n
 
 pub no_line : (x : Contents) (l : Line) → IsLine (bit_text x) l → ⊥
-no_line x l i = let none : l ≡ Empty = line_is (bit_text x) l i in let e : bit_text x ≡ [] = i.is ∙ ap text_of none in cc
+no_line x l i = let none : l ≡ Empty = line_is (bit_text x) l i in let e : bit_text x ≡ [] = i.text_is ∙ ap text_of none in cc
 
 -- what the fields of a header's line hold, where a text is that of such fields
 pub header_by : List ℕ → Contents
@@ -110,7 +110,7 @@ same_rest a b r s h k e = (same_field a b r s h k e).1
 -- a text without a field before its first space
 pub no_cut : (t digits rest : List ℕ) → IsCutAtSpace t digits rest → ((field : List ℕ) → IsField field → digits ≡ field_text field → ⊥) → (field more : List ℕ) → IsField field → t ≡ field_text field ++ 32 ∷ more → ⊥
 no_cut t digits rest c none field more h e =
-    none field h (sym (name_before_space digits rest c.free) ∙ ap before_space (sym c.is ∙ e) ∙ name_before_space (field_text field) more (field_free field))
+    none field h (sym (name_before_space digits rest c.free) ∙ ap before_space (sym c.parts ∙ e) ∙ name_before_space (field_text field) more (field_free field))
 
 -- a text that is no field's, where its pairs are those of no bytes
 pub no_field : (t : List ℕ) → (t ≡ codes "-" → ⊥) → ((bs : List ℕ) → AreBytes bs → t ≡ flat_map hex_byte bs → ⊥) → (field : List ℕ) → IsField field → t ≡ field_text field → ⊥
@@ -179,7 +179,7 @@ header_made line fields r1 r2 r3 digits x bytes e a b c d n is = record {
   header = x;
   held = record { have = record { a = a.0.short; b = b.0.short; c = c.0.short; d = d.0.short; data_length = n.0 }; a = a.0.bytes; b = b.0.bytes; c = c.0.bytes; d = d.0.bytes };
   text = e ∙ ap (λ t. codes "bit " ++ t) (a.1 ∙ ap (λ t. field_text x.a ++ 32 ∷ t) (b.1 ∙ ap (λ t. field_text x.b ++ 32 ∷ t) (c.1 ∙ ap (λ t. field_text x.c ++ 32 ∷ t) (d.1 ∙ ap (λ t. field_text x.d ++ 32 ∷ t) n.1))));
-  are = is;
+  bytes_are = is;
 }
 
 -- no header is longer than the longest
@@ -196,7 +196,7 @@ header_limit x k =
     omega (arith, counted 0x61 x.a after_a k.a, counted 0x62 x.b after_b k.b, counted 0x63 x.c after_c k.c, counted 0x64 x.d after_d k.d)
 
 pub header_short : (line bytes : List ℕ) → IsHeaderOf line bytes → length bytes ≤ longest_header
-header_short line bytes h = subst (λ b. length b ≤ longest_header) (sym h.are) (header_limit h.header h.held.have)
+header_short line bytes h = subst (λ b. length b ≤ longest_header) (sym h.bytes_are) (header_limit h.header h.held.have)
 
 pub is_field : (bs : List ℕ) → AreBytes bs → length bs < 2 ^ 16 → IsField bs
 is_field bs a h = record { bytes = a; short = h }

@@ -101,9 +101,9 @@ line_by : (t : List ℕ) (g : Line) → ((l : Line) → IsLine t l → l ≡ g) 
 line_by t g only = by (fits_or g) (texts_or t (text_of g))
   where
     by : Decided (FitsLine g) → Decided (t ≡ text_of g) → ((l : Line) × IsLine t l) ⊎ ((l : Line) → IsLine t l → ⊥)
-    by (inl f) (inl e) = inl (g, record { fits = f; is = e })
+    by (inl f) (inl e) = inl (g, record { fits = f; text_is = e })
     by (inr n) e = inr (λ l i. n (subst FitsLine (only l i) i.fits))
-    by (inl f) (inr n) = inr (λ l i. n (i.is ∙ ap text_of (only l i)))
+    by (inl f) (inr n) = inr (λ l i. n (i.text_is ∙ ap text_of (only l i)))
 
 line_or : (t : List ℕ) → ((l : Line) × IsLine t l) ⊎ ((l : Line) → IsLine t l → ⊥)
 line_or t = line_by t (guess t) (line_is t)
@@ -132,18 +132,18 @@ HasAsm limit texts = (outcome : Result (List ℕ) AsmFault) × AreAsm limit text
 
 from : (limit : ℕ) (all left : List (List ℕ)) (lines : List Line) → BeginsWithLines limit all lines left → HasAsm limit all
 unfolding HasAsm
-from limit all [] lines b = (Ok (assembled lines), record { lines = lines; begins = b; is = refl })
+from limit all [] lines b = (Ok (assembled lines), record { lines = lines; begins = b; bytes_are = refl })
 from limit all (t ∷ left) lines b = by (λ l. from limit all left (lines ++ l ∷ [])) (line_or t)
   where
     by_size : (l : Line) → IsLine t l → (BeginsWithLines limit all (lines ++ l ∷ []) left → HasAsm limit all) → Decided (length (assembled (lines ++ l ∷ [])) ≤ limit) → HasAsm limit all
-    by_size l i goes-on (inl h) = goes-on (begins_more limit all lines l t left b i.fits i.is h)
+    by_size l i goes-on (inl h) = goes-on (begins_more limit all lines l t left b i.fits i.text_is h)
     by_size l i goes-on (inr n) = (
       Err (fault.TooLong (length lines + 1)),
       record {
         lines = lines;
         last = l;
         left = left;
-        begins = begins_at limit all lines (t ∷ left) (text_of l ∷ left) (ap (λ s. s ∷ left) i.is) b;
+        begins = begins_at limit all lines (t ∷ left) (text_of l ∷ left) (ap (λ s. s ∷ left) i.text_is) b;
         fits = i.fits;
         count = refl;
         passes = more (length (assembled (lines ++ l ∷ []))) n;
@@ -174,7 +174,7 @@ headed (t ∷ others) = by (header_or t)
     by : HeaderOr t → (outcome : Result (List ℕ) AsmFault) × AreHeadedAsm (t ∷ others) outcome
     by (inl (x, h, e)) =
         let o = has_asm (asm_limit - length (header_bytes x)) others in
-        (after_one_line (header_bytes x) o.0, inl (record { header = x; held = h; others = others; texts = ap (λ s. s ∷ others) e; follows = record { rest = o.0; lines = o.1; is = refl } }))
+        (after_one_line (header_bytes x) o.0, inl (record { header = x; held = h; others = others; texts = ap (λ s. s ∷ others) e; follows = record { rest = o.0; lines = o.1; outcome_is = refl } }))
     by (inr none) = let o = has_asm asm_limit (t ∷ others) in (o.0, inr (plain none, o.1))
 
 -- a text assembles to something

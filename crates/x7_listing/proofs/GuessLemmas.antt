@@ -196,7 +196,7 @@ guess_is (Cmd c) h = ap Cmd (command_back c)
 guess_is Check h = refl
 
 pub line_is : (t : List ℕ) (l : Line) → IsLine t l → l ≡ guess t
-line_is t l i = sym (ap guess i.is ∙ guess_is l i.fits)
+line_is t l i = sym (ap guess i.text_is ∙ guess_is l i.fits)
 
 pub one_line : (t : List ℕ) (a b : Line) → IsLine t a → IsLine t b → a ≡ b
 one_line t a b i j = line_is t a i ∙ sym (line_is t b j)

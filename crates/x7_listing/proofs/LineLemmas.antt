@@ -24,7 +24,7 @@ lift : {A : Type 0} (fits : A → Type 0) (text bytes : A → List ℕ) (check :
 lift fits text bytes check word line true t rest old new e into from texts byteses only r =
     (line r.0, into r.0 r.1, e ∙ ap (λ s. word ++ s) r.2 ∙ sym (texts r.0), r.3 ∙ ap (λ s. old ++ s) (sym (byteses r.0)))
 lift fits text bytes check word line false t rest old new e into from texts byteses only r = (
-  λ l h k. let p = only l (record { fits = h; is = sym e ∙ k }) in
+  λ l h k. let p = only l (record { fits = h; text_is = sym e ∙ k }) in
       r.0 p.0 (from p.0 (subst FitsLine p.1 h)) (append_cancel_left word rest (text p.0) (sym e ∙ k ∙ ap text_of p.1 ∙ texts p.0)),
   r.1,
 )

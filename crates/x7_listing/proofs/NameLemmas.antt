@@ -62,4 +62,4 @@ pub cut_at : (t : List ℕ) (k : ℕ) → ((j : ℕ) → 0 ≤ j → j < k → (
 cut_at t k h l e =
     let one : suc k ≡ k + 1 = omega arith in
     let all : take (length t - (k + 1)) (drop (k + 1) t) ≡ drop (k + 1) t = take_all (length t - (k + 1)) (drop (k + 1) t) (omega (arith, length-drop (k + 1) t)) in
-    record { is = split_at t k l e ∙ ap (λ (j : ℕ). take k t ++ 32 ∷ drop j t) one ∙ ap (λ s. take k t ++ 32 ∷ s) (sym all); free = free_before t k h l }
+    record { parts = split_at t k l e ∙ ap (λ (j : ℕ). take k t ++ 32 ∷ drop j t) one ∙ ap (λ s. take k t ++ 32 ∷ s) (sym all); free = free_before t k h l }

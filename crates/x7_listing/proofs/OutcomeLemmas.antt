@@ -24,7 +24,7 @@ record IsPrefixOf (ls ms : List Line) (here there : List (List ℕ)) : Type 0 wh
   fits : AllByRecursion FitsLine more
 
 same_line : (a b : Line) → FitsLine a → FitsLine b → text_of a ≡ text_of b → a ≡ b
-same_line a b h k e = one_line (text_of a) a b (record { fits = h; is = refl }) (record { fits = k; is = e })
+same_line a b h k e = one_line (text_of a) a b (record { fits = h; text_is = refl }) (record { fits = k; text_is = e })
 
 cons_prefix : (l m : Line) (ls ms : List Line) (here there : List (List ℕ)) → l ≡ m → IsPrefixOf ls ms here there → IsPrefixOf (l ∷ ls) (m ∷ ms) here there
 cons_prefix l m ls ms here there e f = record { more = f.more; lines = ap (λ t. m ∷ t) f.lines ∙ ap (λ x. x ∷ (ls ++ f.more)) (sym e); texts = f.texts; fits = f.fits }
@@ -66,7 +66,7 @@ end_stops limit texts ls = λ ms there b f. none_after f.more there f.texts
 
 bad_after : (more : List Line) (bad : List ℕ) (left there : List (List ℕ)) → AllByRecursion FitsLine more → bad ∷ left ≡ map text_of more ++ there → ((l : Line) → IsLine bad l → ⊥) → more ≡ []
 bad_after [] bad left there a e h = refl
-bad_after (l ∷ more) bad left there a e h = let is : bad ≡ text_of l = cc in absurd (h l (record { fits = a.0; is = is }))
+bad_after (l ∷ more) bad left there a e h = let is : bad ≡ text_of l = cc in absurd (h l (record { fits = a.0; text_is = is }))
 
 bad_stops : (limit : ℕ) (texts : List (List ℕ)) (ls : List Line) (bad : List ℕ) (left : List (List ℕ)) → ((l : Line) → IsLine bad l → ⊥) → Stops limit texts ls (bad ∷ left)
 unfolding Stops
@@ -96,7 +96,7 @@ long_stops limit texts ls last left h p = λ ms there b f. long_after limit ls m
 
 module _ (limit : ℕ) (texts : List (List ℕ)) where
   pub one_bytes : (x y : List ℕ) → Assembles limit texts x → Assembles limit texts y → x ≡ y
-  one_bytes x y a b = let p = one_place limit texts a.lines b.lines [] [] a.begins b.begins (end_stops limit texts a.lines) (end_stops limit texts b.lines) in a.is ∙ ap assembled p.0 ∙ sym b.is
+  one_bytes x y a b = let p = one_place limit texts a.lines b.lines [] [] a.begins b.begins (end_stops limit texts a.lines) (end_stops limit texts b.lines) in a.bytes_are ∙ ap assembled p.0 ∙ sym b.bytes_are
 
   pub not_bad : (x : List ℕ) (n : ℕ) → Assembles limit texts x → IsFirstBadText limit texts n → ⊥
   not_bad x n a b = let p = one_place limit texts a.lines b.lines [] (b.bad ∷ b.left) a.begins b.begins (end_stops limit texts a.lines) (bad_stops limit texts b.lines b.bad b.left b.no_line) in
@@ -117,7 +117,7 @@ module _ (limit : ℕ) (texts : List (List ℕ)) where
   pub not_both : (m n : ℕ) → IsFirstBadText limit texts m → PassesLimitAt limit texts n → ⊥
   not_both m n a b = let p = one_place limit texts a.lines b.lines (a.bad ∷ a.left) (text_of b.last ∷ b.left) a.begins b.begins (bad_stops limit texts a.lines a.bad a.left a.no_line) (long_stops limit texts b.lines b.last b.left b.fits b.passes) in
       let e : a.bad ∷ a.left ≡ text_of b.last ∷ b.left = p.1 in
-      let is : a.bad ≡ text_of b.last = cc in a.no_line b.last (record { fits = b.fits; is = is })
+      let is : a.bad ≡ text_of b.last = cc in a.no_line b.last (record { fits = b.fits; text_is = is })
 
 -- texts of lines have one outcome
 pub same_asm : (limit : ℕ) (texts : List (List ℕ)) (a b : Result (List ℕ) AsmFault) → AreAsm limit texts a → AreAsm limit texts b → a ≡ b
@@ -136,7 +136,7 @@ same_asm limit texts (Err (fault.TooLong m)) (Err fault.NoMemory) h k = absurd k
 same_asm limit texts (Err fault.NoMemory) b h k = absurd h
 
 same_follows : (prefix : List ℕ) (others : List (List ℕ)) (a b : Result (List ℕ) AsmFault) → Follows prefix others a → Follows prefix others b → a ≡ b
-same_follows prefix others a b h k = h.is ∙ ap (after_one_line prefix) (same_asm (asm_limit - length prefix) others h.rest k.rest h.lines k.lines) ∙ sym k.is
+same_follows prefix others a b h k = h.outcome_is ∙ ap (after_one_line prefix) (same_asm (asm_limit - length prefix) others h.rest k.rest h.lines k.lines) ∙ sym k.outcome_is
 
 same_headed : (texts : List (List ℕ)) (a b : Result (List ℕ) AsmFault) → IsHeaded texts a → IsHeaded texts b → a ≡ b
 same_headed texts a b h k =

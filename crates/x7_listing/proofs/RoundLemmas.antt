@@ -44,5 +44,5 @@ round_trip limit bytes a h =
         fits = fit_all (listing_lines bytes ++ Empty ∷ []) each;
         within = subst (λ b. length b ≤ limit) (sym is) h;
       };
-      is = sym is;
+      bytes_are = sym is;
     }

@@ -59,7 +59,7 @@ none_first : (lines : List Line) (texts : List (List ℕ)) → AllByRecursion Fi
 none_first [] texts a e x others h is = let no : ◌≡◌ {A = List (List ℕ)} [] (bit_text x ∷ others) = sym e ∙ is in absurd cc
 none_first (l ∷ ls) texts a e x others h is =
     let parts : text_of l ∷ (map text_of ls ++ []) ≡ bit_text x ∷ others = sym e ∙ is in
-    let same : bit_text x ≡ text_of l = cc in no_line x l (record { fits = a.0; is = same })
+    let same : bit_text x ≡ text_of l = cc in no_line x l (record { fits = a.0; text_is = same })
 
 pub no_head : (limit : ℕ) (texts : List (List ℕ)) (bytes : List ℕ) → Assembles limit texts bytes → HasNoHeaderLine texts
 no_head limit texts bytes h = none_first h.lines texts h.begins.fits h.begins.texts
@@ -73,7 +73,7 @@ headed b head p a h =
       held = held_of head.0 p.have_header (all_prefix (λ c. c < 256) (header_bytes head.0) (drop head.1 b) whole);
       others = split (listing_of (drop head.1 b));
       texts = split_line (bit_text head.0) (listing_of (drop head.1 b)) (bit_free head.0 p.have_header);
-      follows = record { rest = Ok (drop head.1 b); lines = round_trip (asm_limit - length (header_bytes head.0)) (drop head.1 b) fits (omega (arith, h, ap length p.prefix, length-append (header_bytes head.0) (drop head.1 b))); is = ap Ok p.prefix };
+      follows = record { rest = Ok (drop head.1 b); lines = round_trip (asm_limit - length (header_bytes head.0)) (drop head.1 b) fits (omega (arith, h, ap length p.prefix, length-append (header_bytes head.0) (drop head.1 b))); outcome_is = ap Ok p.prefix };
     }
 
 back_by : (b text : List ℕ) (r : Result (Contents × ℕ) HeaderFault) → header_at b ≡ r → AreBytes b → length b ≤ asm_limit → listing_by b r ≡ Ok text → IsAsm text (Ok b)

@@ -16,7 +16,7 @@ use Rattle.x7_listing.specs.declared.assembler.AsmFault.TheVariants as fault
 pub record LinesAreRead (limit : ℕ) (all left : List (List ℕ)) (bytes : List ℕ) (n : ℕ) : Type 0 where
   pub lines : List Line
   pub begins : BeginsWithLines limit all lines left
-  pub is : bytes ≡ assembled lines
+  pub bytes_are : bytes ≡ assembled lines
   pub count : n ≡ length lines
 
 -- a header's line stands first, which stands for the header's bytes, and the others follow it
@@ -24,15 +24,15 @@ pub record OpensHeaded (all others : List (List ℕ)) (prefix : List ℕ) (n : �
   pub header : Contents
   pub held : IsHeld header
   pub texts : all ≡ bit_text header ∷ others
-  pub are : prefix ≡ header_bytes header
-  pub one : n ≡ 1
+  pub prefix_is : prefix ≡ header_bytes header
+  pub count : n ≡ 1
 
 -- the first of the texts is no header's line
 pub record OpensPlain (all others : List (List ℕ)) (prefix : List ℕ) (n : ℕ) : Type 0 where
   pub no_head : HasNoHeaderLine all
   pub texts : all ≡ others
-  pub are : prefix ≡ []
-  pub none : n ≡ 0
+  pub prefix_is : prefix ≡ []
+  pub count : n ≡ 0
 
 -- the texts after n texts of a header
 abbrev pub OpensText : List (List ℕ) → List (List ℕ) → List ℕ → ℕ → Type 0

@@ -28,7 +28,7 @@ pub record BeginsWithLines (limit : ℕ) (all : List (List ℕ)) (lines : List L
 pub record Assembles (limit : ℕ) (all : List (List ℕ)) (bytes : List ℕ) : Type 0 where
   pub lines : List Line
   pub begins : BeginsWithLines limit all lines []
-  pub is : bytes ≡ assembled lines
+  pub bytes_are : bytes ≡ assembled lines
 
 -- text n is the first that is of no line, and the bytes before it are within the limit
 pub record IsFirstBadText (limit : ℕ) (all : List (List ℕ)) (n : ℕ) : Type 0 where
@@ -71,7 +71,7 @@ after_one_line prefix (Err fault.NoMemory) = Err fault.NoMemory
 pub record Follows (prefix : List ℕ) (others : List (List ℕ)) (outcome : Result (List ℕ) AsmFault) : Type 0 where
   pub rest : Result (List ℕ) AsmFault
   pub lines : AreAsm (asm_limit - length prefix) others rest
-  pub is : outcome ≡ after_one_line prefix rest
+  pub outcome_is : outcome ≡ after_one_line prefix rest
 
 -- the first text is a header's line, and the others follow it; the check leaves the header out
 pub record IsHeaded (all : List (List ℕ)) (outcome : Result (List ℕ) AsmFault) : Type 0 where

@@ -36,7 +36,7 @@ pub record IsHeaderOf (line bytes : List ℕ) : Type 0 where
   pub header : Contents
   pub held : IsHeld header
   pub text : line ≡ bit_text header
-  pub are : bytes ≡ header_bytes header
+  pub bytes_are : bytes ≡ header_bytes header
 
 -- the text has no space
 abbrev pub has_no_space : List ℕ → Bool
@@ -49,5 +49,5 @@ IsFirstSpace text at = (at < length text) × (slice_index text at ≡ 32) × ((j
 
 -- the text stands before the first space of all, and the rest after it
 pub record IsCutAtSpace (all text rest : List ℕ) : Type 0 where
-  pub is : all ≡ text ++ 32 ∷ rest
+  pub parts : all ≡ text ++ 32 ∷ rest
   pub free : has_no_space text ≡ true

@@ -72,7 +72,7 @@ FitsLine _ = Unit {0}
 -- the text is that of this line
 pub record IsLine (text : List ℕ) (line : Line) : Type 0 where
   pub fits : FitsLine line
-  pub is : text ≡ text_of line
+  pub text_is : text ≡ text_of line
 
 -- the bytes that a line stands for, where the bytes of the lines before have this check
 abbrev pub line_bytes : ℕ → Line → List ℕ

@@ -6,7 +6,7 @@ use Rattle.x7_packets.specs.Reading.{Place, Searching, Synced, Session}
 use Rattle.x7_packets.specs.ByHand.{reading_of}
 use Rattle.x7_regs.specs.Register.{number_of}
 use Rattle.x7_regs.specs.declared.register.Reg.TheVariants.{Cmd}
-use Rattle.x7_text.specs.Row.{rows}
+use Rattle.x7_text.specs.Row.{row_bytes, row_words, rows}
 use Rattle.x7_listing.specs.HeadLine.{line_of_head}
 use Rattle.x7_listing.specs.declared.line.head_line.HeadLine.{HeadLine}
 use Rattle.x7_listing.specs.declared.line.head_line.HeadLine.TheVariants as head
@@ -22,9 +22,9 @@ line_as (head.Write2 count) = Write2 count
 line_as (head.Read2 count) = Read2 count
 line_as (head.Word w) = Word w
 
--- the lines of a payload: one a word where the register is CMD, else one for each eight words
+-- the lines of a payload: one a word where the register is CMD, else one for each row of words
 abbrev pub payload_lines : ℕ → List ℕ → List Line
-payload_lines register ws = if register == number_of Cmd then map cmd_line ws else map Data (rows 8 ws)
+payload_lines register ws = if register == number_of Cmd then map cmd_line ws else map Data (rows row_words ws)
 
 -- the lines of a packet
 abbrev pub packet_lines : Packet → List Line
@@ -32,7 +32,7 @@ packet_lines p = line_as (line_of_head p.step p.head) ∷ payload_lines (named_b
 
 -- the lines of bytes of a gap, and of no whole word
 abbrev pub gap_lines : List ℕ → List Line
-gap_lines bs = map Bytes (rows 32 bs)
+gap_lines bs = map Bytes (rows row_bytes bs)
 
 -- the lines of a gap, the sync word after it and packets
 abbrev pub packets_lines : List ℕ → List Packet → List Line

@@ -149,7 +149,7 @@ pub record TakerStandsFor (l : ListerState) (given before bytes : List ℕ) (due
 -- new listing begins, of bytes or of runs.
 pub record Finished (l : ListerState) (given before bytes : List ℕ) : Type 0 where
   pub listing : List ℕ
-  pub is : IsListing bytes listing
+  pub listing_is : IsListing bytes listing
   pub listed : given ++ l.text ≡ before ++ listing
   pub stands : ListerStandsFor l given (before ++ listing) []
   pub takes : TakerStandsFor l given (before ++ listing) [] Mode.Searching

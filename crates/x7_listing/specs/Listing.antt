@@ -39,7 +39,7 @@ pub record IsListing (bytes text : List ℕ) : Type 0 where
   pub sessions : List Session
   pub place : Place
   pub reading : IsReading bytes sessions place
-  pub is : text ≡ reading_text sessions place
+  pub text_is : text ≡ reading_text sessions place
 
 -- the listing of bytes
 abbrev pub listing_of : List ℕ → List ℕ

@@ -78,7 +78,7 @@ full_promised known part frames (Ok texts) answer e p = record {
   plays = λ kept bytes fits rests.
       let is : IsPart texts.part = part_is known part texts.part (texts_by (part_of known part) (whole_in known text_limit frames) texts e) in
       subst (λ (stream : List ℕ). PlaysFull (resting_after texts.part kept bytes) stream p.1) (sym p.3)
-      (full_law texts.part kept bytes p.1 fits rests is p.2.is p.2.width (All-permutation (λ row. Contains (addresses_in texts.part) row.far) p.2.rows p.1.rows p.2.same p.2.good.addresses));
+      (full_law texts.part kept bytes p.1 fits rests is p.2.is_plan p.2.width (All-permutation (λ row. Contains (addresses_in texts.part) row.far) p.2.rows p.1.rows p.2.same p.2.good.addresses));
 }
 
 partial_promised : (known : Known) (part frames : List ℕ) (read : Result PlanTexts Event) (answer : Answer) → plan_texts known part frames ≡ read → PlannedPartial frames read (Ok answer) → PromisesPartial known part frames answer.text
@@ -91,7 +91,7 @@ partial_promised known part frames (Ok texts) answer e p = record {
   plays = λ kept bytes fits rests.
       let is : IsPart texts.part = part_is known part texts.part (texts_by (part_of known part) (whole_in known text_limit frames) texts e) in
       subst (λ (stream : List ℕ). PlaysPartial (resting_after texts.part kept bytes) stream p.1) (sym p.4)
-      (partial_law texts.part kept bytes p.1 fits rests is p.2.is p.2.width (All-permutation (λ row. Contains (addresses_in texts.part) row.far) p.2.rows p.1.rows p.2.same p.2.good.addresses));
+      (partial_law texts.part kept bytes p.1 fits rests is p.2.is_plan p.2.width (All-permutation (λ row. Contains (addresses_in texts.part) row.far) p.2.rows p.1.rows p.2.same p.2.good.addresses));
 }
 
 read_promised : (known : Known) (part : List ℕ) (far n : ℕ) (read : Result PartData Event) (answer : Answer) → part_of known part ≡ read → PlannedRead part far n read (Ok answer) → PromisesRead known part far n answer.text

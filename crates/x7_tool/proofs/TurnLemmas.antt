@@ -25,7 +25,7 @@ use Rattle.x7_forms.proofs.ReadLemmas.{at_fault, known_all}
 pub listing_is : (bytes text : List ℕ) → IsListing bytes text → text ≡ listing_of bytes
 listing_is bytes text l =
     let same = reading_is bytes l.sessions l.place l.reading in
-    l.is ∙ ap (λ s. reading_text s l.place) same.0 ∙ ap (λ p. reading_text (reading_of bytes).sessions p) same.1
+    l.text_is ∙ ap (λ s. reading_text s l.place) same.0 ∙ ap (λ p. reading_text (reading_of bytes).sessions p) same.1
 
 -- the bytes of which a lister has listed are bytes
 stands_fit : (l : ListerState) (given bytes : List ℕ) → ListerStandsFor l given [] bytes → AreBytes bytes
@@ -72,7 +72,7 @@ pub end_put : (l done : ListerState) (first mid now : Option (List ℕ)) (bytes 
     → ((given before taken : List ℕ) → ListerStandsFor l given before taken → Finished done given before taken) → text ≡ done.text → now ≡ appended mid text → now ≡ appended first (listing_of bytes)
 end_put l done first mid now bytes text t ends same put =
     let f = ends t.given [] bytes t.stands in
-    let whole : t.given ++ text ≡ listing_of bytes = ap (λ x. t.given ++ x) same ∙ f.listed ∙ listing_is bytes f.listing f.is in
+    let whole : t.given ++ text ≡ listing_of bytes = ap (λ x. t.given ++ x) same ∙ f.listed ∙ listing_is bytes f.listing f.listing_is in
     rw (put, t.put) (appended_appended first t.given text) ∙ ap (appended first) whole
 
 -- the end of a listing was written in part
@@ -80,7 +80,7 @@ pub end_part : (l done : ListerState) (first mid now : Option (List ℕ)) (bytes
     → ((given before taken : List ℕ) → ListerStandsFor l given before taken → Finished done given before taken) → text ≡ done.text → PutsPrefix mid text now → PutsPrefix first (listing_of bytes) now
 end_part l done first mid now bytes text t ends same prefix =
     let f = ends t.given [] bytes t.stands in
-    let whole : listing_of bytes ≡ t.given ++ (text ++ []) = sym (ap (λ x. t.given ++ x) (append-nil text ∙ same) ∙ f.listed ∙ listing_is bytes f.listing f.is) in
+    let whole : listing_of bytes ≡ t.given ++ (text ++ []) = sym (ap (λ x. t.given ++ x) (append-nil text ∙ same) ∙ f.listed ∙ listing_is bytes f.listing f.listing_is) in
     rw whole (prefix_more first mid now t.given text [] t.put prefix)
 
 -- what a lister that was fed all of a stream's data lists
@@ -88,7 +88,7 @@ pub whole_text : (l fed done : ListerState) (sent text : List ℕ) → ListerSta
     → ((given before taken : List ℕ) → ListerStandsFor fed given before taken → Finished done given before taken) → text ≡ done.text → text ≡ listing_of sent
 whole_text l fed done sent text stands feeds ends same =
     let f = ends [] [] sent (feeds [] [] [] stands) in
-    same ∙ f.listed ∙ listing_is sent f.listing f.is
+    same ∙ f.listed ∙ listing_is sent f.listing f.listing_is
 
 -- a text was put whole, or a prefix of it and the sink failed
 pub puts_a_prefix : (old new : SinkState) (text : List ℕ) → PutsOrFails old text new → PutsPrefix old.written text new.written

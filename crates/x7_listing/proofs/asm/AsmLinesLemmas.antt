@@ -33,7 +33,7 @@ goes_header all left held out header start len c n checker fresh h short size up
       long = omega (arith, size);
       short = omega (arith, size, short);
       keeps = subst (λ (b : List ℕ). Keeps fresh b) (sym none) new;
-      opens = inl (record { header = h.header; held = h.held; texts = u.texts ∙ ap (λ t. t ∷ left) h.text; are = take_all len header (omega (arith, size)) ∙ h.are; one = refl });
+      opens = inl (record { header = h.header; held = h.held; texts = u.texts ∙ ap (λ t. t ∷ left) h.text; prefix_is = take_all len header (omega (arith, size)) ∙ h.bytes_are; count = refl });
       went = subst (λ (b : List ℕ). LinesAreRead (67108864 - len) left left b 0) (sym none) (went_nothing (67108864 - len) left);
       count_is = omega (arith, up, u.count_is);
     }
@@ -54,8 +54,8 @@ goes_plain all left held out start n checker none u =
       opens = inr (record {
         no_head = λ x others hx e. none x hx (first_is held (bit_text x) left others (sym u.texts ∙ e));
         texts = u.texts;
-        are = ap (λ (k : ℕ). take k out) u.start_is;
-        none = refl;
+        prefix_is = ap (λ (k : ℕ). take k out) u.start_is;
+        count = refl;
       });
       went = subst (λ (b : List ℕ). LinesAreRead (67108864 - start) (held ∷ left) (held ∷ left) b 0) (sym empty) (went_nothing (67108864 - start) (held ∷ left));
       count_is = u.count_is;

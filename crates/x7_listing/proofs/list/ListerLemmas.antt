@@ -122,7 +122,7 @@ same_text ss ts p q e f = ap (λ x. reading_text x p) e ∙ ap (reading_text ts)
 pub one_listing : (bytes t u : List ℕ) → IsListing bytes t → IsListing bytes u → t ≡ u
 one_listing bytes t u p q =
     let e = one_reading bytes p.sessions q.sessions p.place q.place p.reading q.reading in
-    p.is ∙ same_text p.sessions q.sessions p.place q.place e.0 e.1 ∙ sym q.is
+    p.text_is ∙ same_text p.sessions q.sessions p.place q.place e.0 e.1 ∙ sym q.text_is
 
 -- the bytes of a run and those kept then are those kept before and those taken
 pub run_length : (kept kept2 run piece : List ℕ) (at to : ℕ) → at ≤ to → to ≤ length piece → kept ++ between piece at to ≡ run ++ kept2 → length kept + (to - at) ≡ length run + length kept2

@@ -148,7 +148,7 @@ takes_end l n given before bytes due next c s i h writes t x =
     let listed : given ++ n.text ≡ before ++ listing = writes given before bytes t.sessions t.at due t.listed x.turns.0 t.reading t.tail in
     record {
       listing = listing;
-      is = record { sessions = t.sessions; place = t.at; reading = rw (append-nil bytes) t.reading; is = refl };
+      listing_is = record { sessions = t.sessions; place = t.at; reading = rw (append-nil bytes) t.reading; text_is = refl };
       listed = listed;
       stands = begins n.cutter n.synced n.line n.held n.text given (before ++ listing) cutter s i h listed (not_due n.cutter cutter);
       takes = starts n given (before ++ listing) cutter s i h listed;

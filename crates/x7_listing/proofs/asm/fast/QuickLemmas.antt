@@ -81,8 +81,8 @@ goes_quick all left text rest out new start k n c checker t limit e g =
     let body : drop start new ≡ drop start out ++ added = ap (drop start) t.appended ∙ drop-append-le start out added g.long in
     let prefix : take start new ≡ take start out = ap (take start) t.appended ∙ take-append-le start out added g.long in
     let size : length new ≡ length out + length added = ap length t.appended ∙ length-append out added in
-    let now : drop start new ≡ assembled (g.went.lines ++ t.lines) = body ∙ ap (λ b. b ++ added) g.went.is ∙ sym (bytes_after (assembled g.went.lines) t.lines t.listed) ∙ sym (fold-append with_line [] g.went.lines t.lines) in
-    let few : length (drop start out) ≤ 67108864 - start = subst (λ (b : List ℕ). length b ≤ 67108864 - start) (sym g.went.is) g.went.begins.within in
+    let now : drop start new ≡ assembled (g.went.lines ++ t.lines) = body ∙ ap (λ b. b ++ added) g.went.bytes_are ∙ sym (bytes_after (assembled g.went.lines) t.lines t.listed) ∙ sym (fold-append with_line [] g.went.lines t.lines) in
+    let few : length (drop start out) ≤ 67108864 - start = subst (λ (b : List ℕ). length b ≤ 67108864 - start) (sym g.went.bytes_are) g.went.begins.within in
     let old_limit : length out ≤ 67108864 = omega (arith, few, length-drop start out, g.short) in
     let within : length (drop start new) ≤ 67108864 - start = omega (arith, limit old_limit, length-drop start new) in
     record {
@@ -100,7 +100,7 @@ goes_quick all left text rest out new start k n c checker t limit e g =
           fits = all_append FitsLine g.went.lines t.lines g.went.begins.fits t.fit;
           within = subst (λ (b : List ℕ). length b ≤ 67108864 - start) now within;
         };
-        is = now;
+        bytes_are = now;
         count = omega (arith, g.went.count, t.count_is, length-append g.went.lines t.lines);
       };
       count_is = omega (arith, e, g.count_is);

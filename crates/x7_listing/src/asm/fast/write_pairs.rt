@@ -16,9 +16,8 @@ use x7_regs::Reg;
 use x7_text::{put, word_of_hex};
 use x7_words::bytes_of;
 
-/// The factor by which the first four bytes of a name give its place in a table of
-/// 64, the highest six bits of the product:
-/// no two registers have one place, nor two commands. `bench/name_tables.py` makes the tables.
+/// The factor by which the first four bytes of a name give its place in a table of 64, the highest six bits of the
+/// product: no two registers have one place, nor two commands. `bench/name_tables.py` makes the tables.
 const SPREAD_FACTOR: u32 = 0x3F20_35EB;
 
 /// The register numbers by the places of their names, of which a space ends the short ones. A place of no name has 0.

@@ -16,7 +16,7 @@ returns-clause-ok c = λ given before bytes s.
     let listed : given ++ c.put_end.new.text.items ≡ before ++ listing = c.put_end.ensures.listed given before t.sessions t.at (record { bytes = bytes; reading = t.cut.reading; mode = _; listed = t.listed; not_due = r.ready }) (c.kept.ensures.tail bytes t.sessions t.at t.cut) in
     record {
       listing = listing;
-      is = record { sessions = t.sessions; place = t.at; reading = t.cut.reading; is = refl };
+      listing_is = record { sessions = t.sessions; place = t.at; reading = t.cut.reading; text_is = refl };
       listed = listed;
       stands = begins _ _ _ _ _ given (before ++ listing) c.new-self-inside.ensures refl c.new_pen.ensures.line c.new_pen.ensures.held listed (not_due _ c.new-self-inside.ensures);
       takes = starts _ given (before ++ listing) c.new-self-inside.ensures refl c.new_pen.ensures.line c.new_pen.ensures.held listed;
