@@ -94,17 +94,17 @@ nothing_written old new l before after o n =
     record { text = []; lists = nothing_listed; written = omega (arith, none, ap length all, length-append before l.0) }
 
 -- the listing so far of the bytes that were taken, and whatever was put after it
-turn_written : (taken line sent : List ℕ) (l : ListerState) (old mid new : Option (List ℕ)) → stream_listing taken ≡ Ok (line ++ listing_of sent) → Lists l (appended old line) mid sent → Longer mid new
+turn_written : (taken line content : List ℕ) (l : ListerState) (old mid new : Option (List ℕ)) → stream_listing taken ≡ Ok (line ++ listing_of content) → Lists l (appended old line) mid content → Longer mid new
     → (before after : List ℕ) → old ≡ Some before → new ≡ Some after → HasWritten taken before after
-turn_written taken line sent l old mid new e t m before after o n =
+turn_written taken line content l old mid new e t m before after o n =
     let got : mid ≡ Some (before ++ line ++ t.given) = t.put ∙ ap (λ (k : Option (List ℕ)). appended (appended k line) t.given) o in
     let all : after ≡ before ++ line ++ t.given ++ m.0 = let e = m.1 in let f : appended mid m.0 ≡ Some (before ++ line ++ t.given ++ m.0) = ap (λ (k : Option (List ℕ)). appended k m.0) got in cc in
-    let held = listing_held l t.given [] sent t.stands in
+    let held = listing_held l t.given [] content t.stands in
     let known : length (t.given ++ l.text) ≡ length t.given = ap (λ (x : List ℕ). length (t.given ++ x)) t.clear ∙ ap length (append-nil t.given) in
     record {
-      text = line ++ listing_of sent;
+      text = line ++ listing_of content;
       lists = e;
-      written = omega (arith, held, known, ap length all, length-append (before ++ line ++ t.given) m.0, length-append (before ++ line) t.given, length-append before line, length-append line (listing_of sent));
+      written = omega (arith, held, known, ap length all, length-append (before ++ line ++ t.given) m.0, length-append (before ++ line) t.given, length-append before line, length-append line (listing_of content));
     }
 
 -- ---- what the sink's failure finds
@@ -134,16 +134,16 @@ prefix_near contents stream taken rest old new s few l =
     let near : length taken + length before ≤ length after + most_ahead = omega (arith, few, ap length all, length-append before l.0) in
     (w, near))
 
-pub turn_near : (contents : Option (List ℕ → Option (List ℕ))) (stream taken piece line sent : List ℕ) (l : ListerState) (rest old mid new : Option (List ℕ)) → Selects contents stream (preceded (taken ++ piece) rest)
-    → length taken ≤ length sent + longest_beginning → length piece ≤ turn_bytes → stream_listing taken ≡ Ok (line ++ listing_of sent) → Lists l (appended old line) mid sent → Longer mid new → NearBy contents stream rest old new
-turn_near contents stream taken piece line sent l rest old mid new s close few e t m =
+pub turn_near : (contents : Option (List ℕ → Option (List ℕ))) (stream taken piece line content : List ℕ) (l : ListerState) (rest old mid new : Option (List ℕ)) → Selects contents stream (preceded (taken ++ piece) rest)
+    → length taken ≤ length content + longest_beginning → length piece ≤ turn_bytes → stream_listing taken ≡ Ok (line ++ listing_of content) → Lists l (appended old line) mid content → Longer mid new → NearBy contents stream rest old new
+turn_near contents stream taken piece line content l rest old mid new s close few e t m =
     near_by contents stream taken piece rest old new s (omega (arith, few))
     (λ before after o n.
     let got : mid ≡ Some (before ++ line ++ t.given) = t.put ∙ ap (λ (k : Option (List ℕ)). appended (appended k line) t.given) o in
     let all : after ≡ before ++ line ++ t.given ++ m.0 = let e = m.1 in let f : appended mid m.0 ≡ Some (before ++ line ++ t.given ++ m.0) = ap (λ (k : Option (List ℕ)). appended k m.0) got in cc in
-    let held = few_held l t.given [] sent t.stands in
+    let held = few_held l t.given [] content t.stands in
     let known : length (t.given ++ l.text) ≡ length t.given = ap (λ (x : List ℕ). length (t.given ++ x)) t.clear ∙ ap length (append-nil t.given) in
-    (turn_written taken line sent l old mid new e t m before after o n, omega (arith, few, close, held, known, ap length all, length-append (before ++ line ++ t.given) m.0, length-append (before ++ line) t.given, length-append before line, length-append taken piece)))
+    (turn_written taken line content l old mid new e t m before after o n, omega (arith, few, close, held, known, ap length all, length-append (before ++ line ++ t.given) m.0, length-append (before ++ line) t.given, length-append before line, length-append taken piece)))
 
 -- ---- what was given
 
@@ -152,12 +152,12 @@ prefix_given contents stream given old new few l inputs bytes before after c b o
     let none : length {A = ℕ} [] ≡ 0 = refl in
     record { early = []; others = bytes; split = refl; few = omega (arith, none, few); written = nothing_written old new l before after o n }
 
-pub turn_given : (contents : Option (List ℕ → Option (List ℕ))) (stream taken line sent : List ℕ) (given : ℕ) (l : ListerState) (rest old mid new : Option (List ℕ)) → Selects contents stream (preceded taken rest)
-    → given ≤ length taken + turn_bytes → stream_listing taken ≡ Ok (line ++ listing_of sent) → Lists l (appended old line) mid sent → Longer mid new → GivenBy contents stream given old new
-turn_given contents stream taken line sent given l rest old mid new s few e t m inputs bytes before after c b o n =
+pub turn_given : (contents : Option (List ℕ → Option (List ℕ))) (stream taken line content : List ℕ) (given : ℕ) (l : ListerState) (rest old mid new : Option (List ℕ)) → Selects contents stream (preceded taken rest)
+    → given ≤ length taken + turn_bytes → stream_listing taken ≡ Ok (line ++ listing_of content) → Lists l (appended old line) mid content → Longer mid new → GivenBy contents stream given old new
+turn_given contents stream taken line content given l rest old mid new s few e t m inputs bytes before after c b o n =
     let k = known_all inputs stream taken rest (subst (λ (k : Option (List ℕ → Option (List ℕ))). Selects k stream (preceded taken rest)) c s) in
     let whole : bytes ≡ taken ++ k.0 = let e = k.1.1 in cc in
-    record { early = taken; others = k.0; split = whole; few = omega (arith, few); written = turn_written taken line sent l old mid new e t m before after o n }
+    record { early = taken; others = k.0; split = whole; few = omega (arith, few); written = turn_written taken line content l old mid new e t m before after o n }
 
 -- ---- what the refusal of a header finds
 
@@ -216,13 +216,13 @@ module _ (contents : Option (List ℕ → Option (List ℕ))) (stream : List ℕ
       → n.given ≤ length taken + turn_bytes → (event ≡ too_large name → left < turn_bytes) → Longer new new → Unread s name n left event → StaysBy (status_of_event event) contents stream n.given rest old new
   unread_near s n name taken l left event e sel t few over same (inl h) =
       as_event n.given event (reading_failed name) h.0 (
-        judged_unjudged contents stream taken s.rest n.given sel (λ more. (t.line ++ listing_of (t.sent ++ more), t.goes more)),
-        turn_given contents stream taken t.line t.sent n.given l s.rest old new new sel few (stream_whole taken t.line t.sent (t.goes [])) t.lists same,
+        judged_unjudged contents stream taken s.rest n.given sel (λ more. (t.line ++ listing_of (t.content ++ more), t.listing more)),
+        turn_given contents stream taken t.line t.content n.given l s.rest old new new sel few (stream_whole taken t.line t.content (t.listing [])) t.lists same,
       )
   unread_near s n name taken l left event e sel t few over same (inr h) =
       let piece = h.1.0 in
       let some = over h.0 in
-      let near = turn_near contents stream taken piece t.line t.sent l n.rest old new new (taken_more contents stream taken piece s.rest n.rest sel h.1.1.0) t.close (omega (arith, some, h.1.1.1)) (stream_whole taken t.line t.sent (t.goes [])) t.lists same in
+      let near = turn_near contents stream taken piece t.line t.content l n.rest old new new (taken_more contents stream taken piece s.rest n.rest sel h.1.1.0) t.short_header (omega (arith, some, h.1.1.1)) (stream_whole taken t.line t.content (t.listing [])) t.lists same in
       as_event n.given event (too_large name) h.0 (subst (λ (r : Option (List ℕ)). NearBy contents stream r old new) e near)
 
   pub unwritten_near : (Q : Type 0) (given : ℕ) (event : Event) → GivenBy contents stream given old new → NearBy contents stream rest old new → (event ≡ no_memory) ⊎ ((event ≡ writing_failed) × Q) → StaysBy (status_of_event event) contents stream given rest old new

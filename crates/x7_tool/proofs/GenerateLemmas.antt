@@ -32,7 +32,7 @@ use Rattle.x7_effects.proofs.FormLemmas.{full_length}
 use Rattle.x7_effects.proofs.PlannerLemmas.{full_same}
 use Rattle.x7_effects.specs.Played.{PlaysFull, resting_after}
 use Rattle.x7_effects.proofs.LawLemmas.{new_law}
-use Rattle.x7_tool.specs.Generate.{count_line, counted, gen_text, generated, head_line, next_number, planned_summary, played_summary, row_by, rows_after, sum_line, summary_text, words_sum}
+use Rattle.x7_tool.specs.Generate.{count_line, counted, gen_text, generated, head_line, least_planned, next_number, planned_summary, played_summary, row_by, rows_after, sum_line, summary_text, words_sum}
 use Rattle.x7_forms.specs.Known.{reads_limit}
 use Rattle.x7_playing.specs.Playing.{HasPlayed, HasPlayedBy, PlayState, Plays, PlaysOn}
 use Rattle.x7_playing.specs.declared.player.Player.{Player}
@@ -82,7 +82,7 @@ low_by false least far width n rest l low = low_one least (record { far = far; w
 
 rows_low : (width x least : ℕ) (fars : List ℕ) → Rises least fars → IsLow least (rows_after width x fars)
 rows_low width x least [] r = λ i d h. absurd (omega (arith, h))
-rows_low width x least (far ∷ fars) (rise m y ys l r) = low_by (nat_lt (next_number x) (2 ^ 31)) least far width (next_number x) (rows_after width (next_number x) fars) l (rows_low width (next_number x) (far + 1) fars r)
+rows_low width x least (far ∷ fars) (rise m y ys l r) = low_by (nat_lt (next_number x) least_planned) least far width (next_number x) (rows_after width (next_number x) fars) l (rows_low width (next_number x) (far + 1) fars r)
 
 order_by : (b : Bool) (far width n : ℕ) (rest : List PlanRow) → IsLow (far + 1) rest → AreInOrder rest → AreInOrder ((if b then [] else record { far = far; words = counted width n } ∷ []) ++ rest)
 order_by true far width n rest low order = order
@@ -91,7 +91,7 @@ order_by false far width n rest low order = order_one (record { far = far; words
 rows_order : (width x least : ℕ) (fars : List ℕ) → Rises least fars → AreInOrder (rows_after width x fars)
 rows_order width x least [] r = λ i j d l h. absurd (omega (arith, h))
 rows_order width x least (far ∷ fars) (rise m y ys l r) =
-    order_by (nat_lt (next_number x) (2 ^ 31)) far width (next_number x) (rows_after width (next_number x) fars) (rows_low width (next_number x) (far + 1) fars r) (rows_order width (next_number x) (far + 1) fars r)
+    order_by (nat_lt (next_number x) least_planned) far width (next_number x) (rows_after width (next_number x) fars) (rows_low width (next_number x) (far + 1) fars r) (rows_order width (next_number x) (far + 1) fars r)
 
 pub rows_apart : (part : PartData) (seed : ℕ) → Rises 0 (addresses_in part) → AreApart (generated part seed).rows
 rows_apart part seed r = λ i j d l h e. let k = rows_order (frame_words part) seed 0 (addresses_in part) r i j d l h in omega (arith, k, e)
@@ -184,7 +184,7 @@ each_by false P row rest p all = All-cons P row rest p all
 rows_each : (P : PlanRow → Type 0) (width x : ℕ) (fars : List ℕ) → All (λ far. (n : ℕ) → P record { far = far; words = counted width n }) fars → All P (rows_after width x fars)
 rows_each P width x [] all = All-nil P
 rows_each P width x (far ∷ fars) all =
-    each_by (nat_lt (next_number x) (2 ^ 31)) P record { far = far; words = counted width (next_number x) } (rows_after width (next_number x) fars)
+    each_by (nat_lt (next_number x) least_planned) P record { far = far; words = counted width (next_number x) } (rows_after width (next_number x) fars)
     (All-head (λ (a : ℕ). (n : ℕ) → P record { far = a; words = counted width n }) far fars all (next_number x))
     (rows_each P width (next_number x) fars (All-tail (λ (a : ℕ). (n : ℕ) → P record { far = a; words = counted width n }) far fars all))
 

@@ -84,11 +84,11 @@ end_part l done first mid now bytes text t ends same prefix =
     rw whole (prefix_more first mid now t.given text [] t.put prefix)
 
 -- what a lister that was fed all of a stream's data lists
-pub whole_text : (l fed done : ListerState) (sent text : List ℕ) → ListerStandsFor l [] [] [] → ((given before taken : List ℕ) → ListerStandsFor l given before taken → ListerStandsFor fed given before (taken ++ sent))
-    → ((given before taken : List ℕ) → ListerStandsFor fed given before taken → Finished done given before taken) → text ≡ done.text → text ≡ listing_of sent
-whole_text l fed done sent text stands feeds ends same =
-    let f = ends [] [] sent (feeds [] [] [] stands) in
-    same ∙ f.listed ∙ listing_is sent f.listing f.listing_is
+pub whole_text : (l fed done : ListerState) (content text : List ℕ) → ListerStandsFor l [] [] [] → ((given before taken : List ℕ) → ListerStandsFor l given before taken → ListerStandsFor fed given before (taken ++ content))
+    → ((given before taken : List ℕ) → ListerStandsFor fed given before taken → Finished done given before taken) → text ≡ done.text → text ≡ listing_of content
+whole_text l fed done content text stands feeds ends same =
+    let f = ends [] [] content (feeds [] [] [] stands) in
+    same ∙ f.listed ∙ listing_is content f.listing f.listing_is
 
 -- a text was put whole, or a prefix of it and the sink failed
 pub puts_a_prefix : (old new : SinkState) (text : List ℕ) → PutsOrFails old text new → PutsPrefix old.written text new.written
@@ -106,8 +106,8 @@ pub line_prefix : (first now : Option (List ℕ)) (line text : List ℕ) → Put
 line_prefix first now line text p = subst (λ t. PutsPrefix first (line ++ t) now) (append-nil text) (prefix_more first (appended first line) now line text [] refl p)
 
 -- the listing of a whole stream
-pub stream_whole : (bytes line sent : List ℕ) → stream_listing (bytes ++ []) ≡ Ok (line ++ listing_of (sent ++ [])) → stream_listing bytes ≡ Ok (line ++ listing_of sent)
-stream_whole bytes line sent e = ap stream_listing (sym (append-nil bytes)) ∙ e ∙ ap (λ s. Ok (line ++ listing_of s)) (append-nil sent)
+pub stream_whole : (bytes line content : List ℕ) → stream_listing (bytes ++ []) ≡ Ok (line ++ listing_of (content ++ [])) → stream_listing bytes ≡ Ok (line ++ listing_of content)
+stream_whole bytes line content e = ap stream_listing (sym (append-nil bytes)) ∙ e ∙ ap (λ s. Ok (line ++ listing_of s)) (append-nil content)
 
 -- a line that was written in part, and what would follow it
 pub line_part : (first now : Option (List ℕ)) (line more : List ℕ) → PutsPrefix first line now → PutsPrefix first (line ++ more) now
@@ -128,54 +128,54 @@ one_text all given r g e = let same : Ok given ≡ r = sym g in cc
 -- what was put is a prefix of the listing of every stream that begins with these bytes
 pub stream_so_far : (l : ListerState) (first now : Option (List ℕ)) (bytes : List ℕ) → ListsStream l first now bytes → ListsSoFar bytes first now
 stream_so_far l first now bytes t = record {
-  has = (t.line ++ listing_of t.sent, stream_whole bytes t.line t.sent (t.goes []));
+  has = (t.line ++ listing_of t.content, stream_whole bytes t.line t.content (t.listing []));
   goes = λ rest text fits e.
-      let sent : AreBytes (t.sent ++ rest) = all_append (λ b. b < 256) t.sent rest (stands_fit l t.lists.given t.sent t.lists.stands) fits in
-      let prefix = line_prefix first now t.line (listing_of (t.sent ++ rest)) (lists_prefix l (appended first t.line) now t.sent rest t.lists sent) in
-      subst (λ (x : List ℕ). PutsPrefix first x now) (one_text text (t.line ++ listing_of (t.sent ++ rest)) (stream_listing (bytes ++ rest)) (t.goes rest) e) prefix;
+      let all_fit : AreBytes (t.content ++ rest) = all_append (λ b. b < 256) t.content rest (stands_fit l t.lists.given t.content t.lists.stands) fits in
+      let prefix = line_prefix first now t.line (listing_of (t.content ++ rest)) (lists_prefix l (appended first t.line) now t.content rest t.lists all_fit) in
+      subst (λ (x : List ℕ). PutsPrefix first x now) (one_text text (t.line ++ listing_of (t.content ++ rest)) (stream_listing (bytes ++ rest)) (t.listing rest) e) prefix;
 }
 
 -- a prefix of the listing of a stream that may go on, put while its first data are listed
-pub prefix_so_far : (taken line sent : List ℕ) (old now : Option (List ℕ)) → AreBytes sent → ((left : List ℕ) → stream_listing (taken ++ left) ≡ Ok (line ++ listing_of (sent ++ left)))
-    → ((left : List ℕ) → AreBytes (sent ++ left) → PutsPrefix old (line ++ listing_of (sent ++ left)) now) → ListsSoFar taken old now
-prefix_so_far taken line sent old now fits g p = record {
-  has = (line ++ listing_of sent, stream_whole taken line sent (g []));
+pub prefix_so_far : (taken line content : List ℕ) (old now : Option (List ℕ)) → AreBytes content → ((left : List ℕ) → stream_listing (taken ++ left) ≡ Ok (line ++ listing_of (content ++ left)))
+    → ((left : List ℕ) → AreBytes (content ++ left) → PutsPrefix old (line ++ listing_of (content ++ left)) now) → ListsSoFar taken old now
+prefix_so_far taken line content old now fits g p = record {
+  has = (line ++ listing_of content, stream_whole taken line content (g []));
   goes = λ rest text more e.
-      subst (λ (x : List ℕ). PutsPrefix old x now) (one_text text (line ++ listing_of (sent ++ rest)) (stream_listing (taken ++ rest)) (g rest) e) (p rest (all_append (λ b. b < 256) sent rest fits more));
+      subst (λ (x : List ℕ). PutsPrefix old x now) (one_text text (line ++ listing_of (content ++ rest)) (stream_listing (taken ++ rest)) (g rest) e) (p rest (all_append (λ b. b < 256) content rest fits more));
 }
 
 -- a stream that goes on
-pub goes_on : (bytes piece line sent : List ℕ) → ((rest : List ℕ) → stream_listing (bytes ++ rest) ≡ Ok (line ++ listing_of (sent ++ rest))) → (rest : List ℕ) → stream_listing ((bytes ++ piece) ++ rest) ≡ Ok (line ++ listing_of ((sent ++ piece) ++ rest))
-goes_on bytes piece line sent g rest = ap stream_listing (append_assoc bytes piece rest) ∙ g (piece ++ rest) ∙ ap (λ s. Ok (line ++ listing_of s)) (sym (append_assoc sent piece rest))
+pub goes_on : (bytes piece line content : List ℕ) → ((rest : List ℕ) → stream_listing (bytes ++ rest) ≡ Ok (line ++ listing_of (content ++ rest))) → (rest : List ℕ) → stream_listing ((bytes ++ piece) ++ rest) ≡ Ok (line ++ listing_of ((content ++ piece) ++ rest))
+goes_on bytes piece line content g rest = ap stream_listing (append_assoc bytes piece rest) ∙ g (piece ++ rest) ∙ ap (λ s. Ok (line ++ listing_of s)) (sym (append_assoc content piece rest))
 
 -- a sink that failed in a turn
 pub write_failed : (contents : Option (List ℕ → Option (List ℕ))) (flash : Option (List ℕ)) (C : Mishap → Type 0) (stream taken piece same : List ℕ) (l : ListerState) (rest : Option (List ℕ)) (Full : Type 0) (old mid now : Option (List ℕ))
-    → same ≡ piece → Selects contents stream (preceded (taken ++ piece) rest) → Full → (t : ListsStream l old mid taken) → AreBytes same → ((left : List ℕ) → AreBytes (t.sent ++ (same ++ left)) → PutsPrefix (appended old t.line) (listing_of (t.sent ++ (same ++ left))) now)
+    → same ≡ piece → Selects contents stream (preceded (taken ++ piece) rest) → Full → (t : ListsStream l old mid taken) → AreBytes same → ((left : List ℕ) → AreBytes (t.content ++ (same ++ left)) → PutsPrefix (appended old t.line) (listing_of (t.content ++ (same ++ left))) now)
     → Ended (with_inputs contents flash) C stream Full old now (Err writing_failed)
 write_failed contents flash C stream taken piece same l rest Full old mid now e s f t fits p =
-    let sent : AreBytes t.sent = stands_fit l t.lists.given t.sent t.lists.stands in
+    let content_fits : AreBytes t.content = stands_fit l t.lists.given t.content t.lists.stands in
     let q : (left : List ℕ) → AreBytes left → PutsListed ((taken ++ piece) ++ left) old now
     = λ left fit.
-    let prefix : PutsPrefix (appended old t.line) (listing_of (t.sent ++ (piece ++ left))) now = subst (λ x. PutsPrefix (appended old t.line) (listing_of (t.sent ++ (x ++ left))) now) e (p left (all_append (λ b. b < 256) t.sent (same ++ left) sent (all_append (λ b. b < 256) same left fits fit))) in
-    (t.line ++ listing_of (t.sent ++ (piece ++ left)), (ap stream_listing (append_assoc taken piece left) ∙ t.goes (piece ++ left), line_prefix old now t.line (listing_of (t.sent ++ (piece ++ left))) prefix)) in
+    let prefix : PutsPrefix (appended old t.line) (listing_of (t.content ++ (piece ++ left))) now = subst (λ x. PutsPrefix (appended old t.line) (listing_of (t.content ++ (x ++ left))) now) e (p left (all_append (λ b. b < 256) t.content (same ++ left) content_fits (all_append (λ b. b < 256) same left fits fit))) in
+    (t.line ++ listing_of (t.content ++ (piece ++ left)), (ap stream_listing (append_assoc taken piece left) ∙ t.listing (piece ++ left), line_prefix old now t.line (listing_of (t.content ++ (piece ++ left))) prefix)) in
     let here : PutsListed (taken ++ piece) old now = subst (λ x. PutsListed x old now) (append-nil (taken ++ piece)) (q [] tt) in
     unwritten contents flash C stream (taken ++ piece) rest false Full old now s (λ l. absurd cc) f here (λ left m fit. q left (all_back (λ b. b < 256) (taken ++ piece) left fit))
 
 -- what was put at the beginning of a stream
-pub prefix_here : (taken line sent : List ℕ) (last : Bool) (old now : Option (List ℕ)) → AreBytes sent → ((left : List ℕ) → FollowsUnlessLast last left → stream_listing (taken ++ left) ≡ Ok (line ++ listing_of (sent ++ left)))
-    → ((left : List ℕ) → AreBytes (sent ++ left) → PutsPrefix old (line ++ listing_of (sent ++ left)) now) → PutsListed taken old now
-prefix_here taken line sent last old now fits g p =
-    let put : PutsPrefix old (line ++ listing_of sent) now = subst (λ s. PutsPrefix old (line ++ listing_of s) now) (append-nil sent) (p [] (subst AreBytes (sym (append-nil sent)) fits)) in
-    (line ++ listing_of sent, (stream_whole taken line sent (g [] (λ l. refl)), put))
+pub prefix_here : (taken line content : List ℕ) (last : Bool) (old now : Option (List ℕ)) → AreBytes content → ((left : List ℕ) → FollowsUnlessLast last left → stream_listing (taken ++ left) ≡ Ok (line ++ listing_of (content ++ left)))
+    → ((left : List ℕ) → AreBytes (content ++ left) → PutsPrefix old (line ++ listing_of (content ++ left)) now) → PutsListed taken old now
+prefix_here taken line content last old now fits g p =
+    let put : PutsPrefix old (line ++ listing_of content) now = subst (λ s. PutsPrefix old (line ++ listing_of s) now) (append-nil content) (p [] (subst AreBytes (sym (append-nil content)) fits)) in
+    (line ++ listing_of content, (stream_whole taken line content (g [] (λ l. refl)), put))
 
 -- a sink that failed at the beginning of a stream
-pub prefix_failed : (contents : Option (List ℕ → Option (List ℕ))) (flash : Option (List ℕ)) (C : Mishap → Type 0) (stream taken line sent : List ℕ) (rest : Option (List ℕ)) (last : Bool) (Full : Type 0) (old now : Option (List ℕ))
-    → Selects contents stream (preceded taken rest) → (last ≡ true → AtEnd rest) → Full → AreBytes sent → ((left : List ℕ) → FollowsUnlessLast last left → stream_listing (taken ++ left) ≡ Ok (line ++ listing_of (sent ++ left)))
-    → ((left : List ℕ) → AreBytes (sent ++ left) → PutsPrefix old (line ++ listing_of (sent ++ left)) now) → Ended (with_inputs contents flash) C stream Full old now (Err writing_failed)
-prefix_failed contents flash C stream taken line sent rest last Full old now s e f fits g p =
+pub prefix_failed : (contents : Option (List ℕ → Option (List ℕ))) (flash : Option (List ℕ)) (C : Mishap → Type 0) (stream taken line content : List ℕ) (rest : Option (List ℕ)) (last : Bool) (Full : Type 0) (old now : Option (List ℕ))
+    → Selects contents stream (preceded taken rest) → (last ≡ true → AtEnd rest) → Full → AreBytes content → ((left : List ℕ) → FollowsUnlessLast last left → stream_listing (taken ++ left) ≡ Ok (line ++ listing_of (content ++ left)))
+    → ((left : List ℕ) → AreBytes (content ++ left) → PutsPrefix old (line ++ listing_of (content ++ left)) now) → Ended (with_inputs contents flash) C stream Full old now (Err writing_failed)
+prefix_failed contents flash C stream taken line content rest last Full old now s e f fits g p =
     let q : (left : List ℕ) → FollowsUnlessLast last left → AreBytes left → PutsListed (taken ++ left) old now
-    = λ left m fit. (line ++ listing_of (sent ++ left), (g left m, p left (all_append (λ b. b < 256) sent left fits fit))) in
-    let here : PutsListed taken old now = prefix_here taken line sent last old now fits g p in
+    = λ left m fit. (line ++ listing_of (content ++ left), (g left m, p left (all_append (λ b. b < 256) content left fits fit))) in
+    let here : PutsListed taken old now = prefix_here taken line content last old now fits g p in
     unwritten contents flash C stream taken rest last Full old now s e f here (λ left m fit. q left m (all_back (λ b. b < 256) taken left fit))
 
 -- a sink that failed at the end
@@ -200,4 +200,4 @@ unread_end s m n flash stream taken l left Full old now event f sel a t k (inr h
     let over : stream_limit < length (taken ++ piece) = omega (arith, length-append taken piece, h.1.1.1, k) in
     ends_same (with_inputs s.contents flash) (CameIn (step_over (stream ∷ []) s n)) stream Full old now event (too_large stream) h.0
     (oversized s.contents flash (CameIn (step_over (stream ∷ []) s n)) stream (taken ++ piece) taken n.rest m.rest Full old now (taken_more s.contents stream taken piece m.rest n.rest sel h.1.1.0) sel
-    (λ more. (t.line ++ listing_of ((t.sent ++ piece) ++ more), goes_on taken piece t.line t.sent t.goes more)) over (stream_so_far l old now taken t))
+    (λ more. (t.line ++ listing_of ((t.content ++ piece) ++ more), goes_on taken piece t.line t.content t.listing more)) over (stream_so_far l old now taken t))

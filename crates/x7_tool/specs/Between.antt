@@ -28,13 +28,13 @@ abbrev pub StopsIn : ListerState → Option (List ℕ) → List ℕ → Option (
 StopsIn l old piece new = (first : Option (List ℕ)) (bytes rest : List ℕ) → Lists l first old bytes → AreBytes (bytes ++ (piece ++ rest)) → PutsPrefix first (listing_of (bytes ++ (piece ++ rest))) new
 
 -- What was put after the first bytes is so far the listing of each stream that begins with these bytes: a header's line
--- or nothing, and the listing of the data.
+-- or nothing, and the listing of the content, which is the data of the stream so far.
 pub record ListsStream (l : ListerState) (first now : Option (List ℕ)) (bytes : List ℕ) : Type 0 where
   pub line : List ℕ
-  pub sent : List ℕ
-  pub lists : Lists l (appended first line) now sent
-  pub goes : (rest : List ℕ) → stream_listing (bytes ++ rest) ≡ Ok (line ++ listing_of (sent ++ rest))
-  pub close : length bytes ≤ length sent + longest_beginning
+  pub content : List ℕ
+  pub lists : Lists l (appended first line) now content
+  pub listing : (rest : List ℕ) → stream_listing (bytes ++ rest) ≡ Ok (line ++ listing_of (content ++ rest))
+  pub short_header : length bytes ≤ length content + longest_beginning
 
 -- a text was read line by line by this, or a first part of it, in which there was this fault
 abbrev pub IsFed : {T F : Type 0} → (T → List (List ℕ) → Type 0) → (F → List (List ℕ) → Type 0) → Result (ReaderState T) F → List ℕ → Type 0

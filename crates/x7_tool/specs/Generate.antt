@@ -13,7 +13,7 @@ use Rattle.x7_forms.specs.Known.{reads_limit}
 use Rattle.x7_playing.specs.Playing.{HasPlayed}
 use Rattle.x7_playing.specs.declared.player.Player.{Player}
 
--- the number after a number
+-- the number after this one in the sequence that a seed begins
 abbrev pub next_number : ℕ → ℕ
 next_number x = (1664525 * x + 1013904223) % 2 ^ 32
 
@@ -21,9 +21,13 @@ next_number x = (1664525 * x + 1013904223) % 2 ^ 32
 abbrev pub counted : ℕ → ℕ → List ℕ
 counted count n = map (λ i. (n + i) % 2 ^ 32) (range_with_len 0 count)
 
--- what is planned for an address by its number: nothing where that is below 2^31
+-- the least number with which a frame is planned
+abbrev pub least_planned : ℕ
+least_planned = 2 ^ 31
+
+-- what is planned for an address by its number: nothing where that is below the least
 abbrev pub row_by : ℕ → ℕ → ℕ → List PlanRow
-row_by width far n = if nat_lt n (2 ^ 31) then [] else record { far = far; words = counted width n } ∷ []
+row_by width far n = if nat_lt n least_planned then [] else record { far = far; words = counted width n } ∷ []
 
 -- what is planned for these addresses: the first one's number is that after x,
 -- each other's that after the number before

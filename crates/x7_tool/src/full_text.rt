@@ -19,7 +19,7 @@ use x7_planner::FullStream;
 use x7_words::{Failed, Sink, write_all};
 
 /// The most bytes of a piece of a full stream.
-const MOST_BYTES: usize = 163_200;
+const PIECE_LIMIT: usize = 163_200;
 
 /// A part, a plan for it, and room for a piece of its full stream.
 #[derive(Drop)]
@@ -49,7 +49,7 @@ impl FullText {
         ensures plan { IfOk result (λ text. text.plan ≡ plan) }
         ensures err { IfErr result (λ r. event_of r ≡ no_memory) }
     {
-        match Vec::with_capacity(alloc, MOST_BYTES) {
+        match Vec::with_capacity(alloc, PIECE_LIMIT) {
             Ok(block) => Ok(FullText { part, plan, block }),
             Err(_) => Err(Refusal::unnamed(Why::NoMemory)),
         }

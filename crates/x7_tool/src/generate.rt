@@ -27,10 +27,10 @@ use x7_playing::Player;
 use x7_text::{hex_of_word, put_number, put_text};
 use x7_words::{Inputs, NoMemory};
 
-/// The least number that plans a frame.
-const LEAST: u32 = 1 << 31;
+/// The least number with which a frame is planned: with a smaller one it is not.
+const LEAST_PLANNED: u32 = 1 << 31;
 
-/// The number after a number.
+/// The number after this one in the sequence that a seed begins (this project's choice).
 fn next_number(x: u32) -> u32
     ensures { result ≡ next_number x }
 {
@@ -56,7 +56,7 @@ fn push_row(draft: &mut Draft, frame: &mut Vec<u32>, far: u32, n: u32) -> Result
     ensures width { draft.new.width ≡ draft.old.width }
     ensures room { length frame.new.items ≡ length frame.old.items }
 {
-    if n < LEAST {
+    if n < LEAST_PLANNED {
         return Ok(());
     }
     count_up(frame, n);

@@ -76,6 +76,7 @@ fn statements_of<'w>(alloc: Global, text: Vec<u8>, name: &'w str) -> Result<Svf,
     }
 }
 
+/// Whether one of two things holds, or both.
 fn either(one: bool, other: bool) -> bool
     ensures { result ≡ (one || other) }
 {

@@ -106,8 +106,9 @@ fn carry_out<I: Inputs, O: Sink, E: Sink, F: Flash>(
 /// Power may be lost at any moment. Where the bytes of the flash are known, what is found of it then is what it held,
 /// or what an update may leave of it. Where the stream is known too, and the golden stream, whoever made it, starts
 /// after an erased first sector and ends at the update's place or before it, a boot from what is found is the one
-/// before the update, or starts as the golden stream does, or is the one after the update. The full stream of a plan is
-/// such a golden stream (`x7_recovery::full_streams_start`).
+/// before the update, or starts as the golden stream does, or is the one after the update.
+///
+/// The full stream of a plan is such a golden stream (`x7_recovery::full_streams_start`).
 pub fn run<I: Inputs, O: Sink, E: Sink, F: Flash>(
     alloc: Global,
     words: &Vec<String>,

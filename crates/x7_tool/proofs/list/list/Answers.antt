@@ -79,20 +79,20 @@ returns-in_err-put_beginning g c = rw (handed_on c.from_residual-in_err-put_begi
     let line = c.deref-line.result.now in
     let start = c.in_ok-beginning.beginning.start in
     let bytes = c.deref.result.now in
-    let sent = take (length bytes - start) (drop start bytes) in
-    let cut : sent ≡ drop start taken = take_all (length bytes - start) (drop start bytes) (omega (arith, length-drop start bytes)) ∙ ap (drop start) c.deref.ensures.value in
+    let content = take (length bytes - start) (drop start bytes) in
+    let cut : content ≡ drop start taken = take_all (length bytes - start) (drop start bytes) (omega (arith, length-drop start bytes)) ∙ ap (drop start) c.deref.ensures.value in
     let rest = (i.state c.read_beginning.new.inputs).rest in
     let sel : Selects contents stream (preceded taken rest) = subst (λ r. Selects contents stream r) f.reads.takes.taken c.in_ok-open.ensures.ok.found in
-    let goes : (left : List ℕ) → FollowsUnlessLast last left → stream_listing (taken ++ left) ≡ Ok (line ++ listing_of (sent ++ left)) = λ left m. f.begins left m ∙ ap (λ (l : List ℕ). Ok (l ++ listing_of (drop start taken ++ left))) (sym c.deref-line.ensures.value) ∙ ap (λ (s : List ℕ). Ok (line ++ listing_of (s ++ left))) (sym cut) in
+    let listing : (left : List ℕ) → FollowsUnlessLast last left → stream_listing (taken ++ left) ≡ Ok (line ++ listing_of (content ++ left)) = λ left m. f.begins left m ∙ ap (λ (l : List ℕ). Ok (l ++ listing_of (drop start taken ++ left))) (sym c.deref-line.ensures.value) ∙ ap (λ (s : List ℕ). Ok (line ++ listing_of (s ++ left))) (sym cut) in
     let now = (o.state c.put_beginning.new.out).written in
     let Full : Type 0 = SinkFails (o.state c.args.out.now) (o.state c.put_beginning.new.out) in
     let r = event_of c.in_err-put_beginning.field-0.0 in
     let flash = before.flash.bytes in
-    let on : (left : List ℕ) → stream_listing (taken ++ left) ≡ Ok (line ++ listing_of (sent ++ left)) = λ left. goes left (λ l. let never : false ≡ true = sym c.if-beginning.false ∙ l in absurd cc) in
+    let on : (left : List ℕ) → stream_listing (taken ++ left) ≡ Ok (line ++ listing_of (content ++ left)) = λ left. listing left (λ l. let never : false ≡ true = sym c.if-beginning.false ∙ l in absurd cc) in
     let end : (r ≡ no_memory) ⊎ ((r ≡ writing_failed) × SinkFails (o.state c.args.out.now) (o.state c.put_beginning.new.out)) → Ended (with_inputs contents flash) C stream Full old now (Err r)
     = elim [
-      | inl h ↦ ends_same (with_inputs contents flash) C stream Full old now r no_memory h (out_of_memory contents flash C stream taken rest Full old now sel (prefix_so_far taken line sent old now c.put_beginning.ensures.fits on c.in_err-put_beginning.ensures.err))
-      | inr h ↦ ends_same (with_inputs contents flash) C stream Full old now r writing_failed h.0 (prefix_failed contents flash C stream taken line sent rest last Full old now sel f.end h.1 c.put_beginning.ensures.fits goes c.in_err-put_beginning.ensures.err)
+      | inl h ↦ ends_same (with_inputs contents flash) C stream Full old now r no_memory h (out_of_memory contents flash C stream taken rest Full old now sel (prefix_so_far taken line content old now c.put_beginning.ensures.fits on c.in_err-put_beginning.ensures.err))
+      | inr h ↦ ends_same (with_inputs contents flash) C stream Full old now r writing_failed h.0 (prefix_failed contents flash C stream taken line content rest last Full old now sel f.end h.1 c.put_beginning.ensures.fits listing c.in_err-put_beginning.ensures.err)
     ] in
     let put = c.in_err-put_beginning.ensures.err [] (subst AreBytes (sym (append-nil _)) c.put_beginning.ensures.fits) in
     let longer = longer_prefix old now _ put in
@@ -122,15 +122,15 @@ returns-then-beginning g c = λ before after.
     let line = c.deref-line.result.now in
     let start = c.in_ok-beginning.beginning.start in
     let bytes = c.deref.result.now in
-    let sent = take (length bytes - start) (drop start bytes) in
-    let cut : sent ≡ drop start taken = take_all (length bytes - start) (drop start bytes) (omega (arith, length-drop start bytes)) ∙ ap (drop start) c.deref.ensures.value in
+    let content = take (length bytes - start) (drop start bytes) in
+    let cut : content ≡ drop start taken = take_all (length bytes - start) (drop start bytes) (omega (arith, length-drop start bytes)) ∙ ap (drop start) c.deref.ensures.value in
     let rest = (i.state c.read_beginning.new.inputs).rest in
     let sel : Selects contents stream (preceded taken rest) = subst (λ r. Selects contents stream r) f.reads.takes.taken c.in_ok-open.ensures.ok.found in
-    let goes : (left : List ℕ) → FollowsUnlessLast last left → stream_listing (taken ++ left) ≡ Ok (line ++ listing_of (sent ++ left)) = λ left m. f.begins left m ∙ ap (λ (l : List ℕ). Ok (l ++ listing_of (drop start taken ++ left))) (sym c.deref-line.ensures.value) ∙ ap (λ (s : List ℕ). Ok (line ++ listing_of (s ++ left))) (sym cut) in
+    let listing : (left : List ℕ) → FollowsUnlessLast last left → stream_listing (taken ++ left) ≡ Ok (line ++ listing_of (content ++ left)) = λ left m. f.begins left m ∙ ap (λ (l : List ℕ). Ok (l ++ listing_of (drop start taken ++ left))) (sym c.deref-line.ensures.value) ∙ ap (λ (s : List ℕ). Ok (line ++ listing_of (s ++ left))) (sym cut) in
     let now = (o.state c.put_short.new.out).written in
     let Full : Type 0 = SinkFails (o.state c.args.out.now) (o.state c.put_short.new.out) in
-    let text = line ++ listing_of sent in
-    let same = stream_whole taken line sent (goes [] (λ l. refl)) in
+    let text = line ++ listing_of content in
+    let same = stream_whole taken line content (listing [] (λ l. refl)) in
     let end = f.end c.if-beginning.true in
     let flash = before.flash.bytes in
     let first = record before { inputs = i.state c.args.inputs.now; out = o.state c.args.out.now } in
@@ -212,17 +212,17 @@ returns-in_err-put_turn g c = rw (handed_on c.from_residual-in_err-put_turn.resu
           ends_same (with_inputs contents flash) C stream Full old now r no_memory h.0 (out_of_memory contents flash C stream taken (i.state c.loop-lister.inputs).rest Full old now v.known.1.0 prefix_2)
       | inr h ↦
           let risen = risen_from (o.state c.args.out.now).faults (o.state c.loop-lister.out).faults (o.state c.put_turn.new.out).faults v.written h.1 in
-          let err : (left : List ℕ) → AreBytes (t.sent ++ (piece ++ left)) → PutsPrefix (appended old t.line) (listing_of (t.sent ++ (piece ++ left))) now
-          = λ left fits. c.in_err-put_turn.ensures.err (appended old t.line) t.sent left t.lists fits in
+          let err : (left : List ℕ) → AreBytes (t.content ++ (piece ++ left)) → PutsPrefix (appended old t.line) (listing_of (t.content ++ (piece ++ left))) now
+          = λ left fits. c.in_err-put_turn.ensures.err (appended old t.line) t.content left t.lists fits in
           ends_same (with_inputs contents flash) C stream Full old now r writing_failed h.0
           (write_failed contents flash C stream taken piece piece c.loop-lister.lister (i.state c.next_turn.new.inputs).rest Full old (o.state c.loop-lister.out).written now refl sel risen t c.put_turn.ensures.fits err)
     ] in
     let n = c.in_ok-turn.turn.count in
     let rest = (i.state c.next_turn.new.inputs).rest in
     let few : length piece ≤ turn_bytes = omega (arith, length-take-le n c.next_turn.new.buf (omega (arith, c.in_ok-turn.ensures.within.1, c.next_turn.ensures.length, v.piece)), c.in_ok-turn.ensures.within.1, v.piece) in
-    let known = stream_whole taken t.line t.sent (t.goes []) in
-    let near = turn_near contents stream taken piece t.line t.sent c.loop-lister.lister rest old (o.state c.loop-lister.out).written now sel t.close few known t.lists c.put_turn.ensures.longer in
-    let gives = turn_given contents stream taken t.line t.sent given c.loop-lister.lister (i.state c.loop-lister.inputs).rest old (o.state c.loop-lister.out).written now v.known.1.0 (omega (arith, v.known.1.3.given, c.next_turn.ensures.turn, v.piece)) known t.lists c.put_turn.ensures.longer in
+    let known = stream_whole taken t.line t.content (t.listing []) in
+    let near = turn_near contents stream taken piece t.line t.content c.loop-lister.lister rest old (o.state c.loop-lister.out).written now sel t.short_header few known t.lists c.put_turn.ensures.longer in
+    let gives = turn_given contents stream taken t.line t.content given c.loop-lister.lister (i.state c.loop-lister.inputs).rest old (o.state c.loop-lister.out).written now v.known.1.0 (omega (arith, v.known.1.3.given, c.next_turn.ensures.turn, v.piece)) known t.lists c.put_turn.ensures.longer in
     let asks = few_read (i.state c.args.inputs.now) (i.state c.loop-lister.inputs) (i.state c.next_turn.new.inputs) c.loop-lister.left c.loop-lister.invariant.once c.next_turn.ensures.few in
     record {
       ends = list_ends stream (record before { inputs = i.state c.args.inputs.now; out = o.state c.args.out.now }) (record after { inputs = i.state c.next_turn.new.inputs; out = o.state c.put_turn.new.out }) (Err r) (end c.in_err-put_turn.ensures.why) (stays_near r stream (record before { inputs = i.state c.args.inputs.now; out = o.state c.args.out.now }) (record after { inputs = i.state c.next_turn.new.inputs; out = o.state c.put_turn.new.out }) (unwritten_near contents stream rest old now _ given r gives near (why_weaker c.in_err-put_turn.ensures.why)));
@@ -247,24 +247,24 @@ returns-then-turn g c = λ before after.
     let n = c.in_ok-turn.turn.count in
     let piece = take n c.next_turn.new.buf in
     let sel = taken_more contents stream taken piece (i.state c.loop-lister.inputs).rest (i.state c.next_turn.new.inputs).rest v.known.1.0 c.in_ok-turn.ensures.ok.taken in
-    let lists : Lists c.put_turn.new.lister (appended old t.line) (o.state c.put_turn.new.out).written (t.sent ++ piece) = c.in_ok-put_turn.ensures.ok (appended old t.line) t.sent t.lists in
-    let goes = goes_on taken piece t.line t.sent t.goes in
+    let lists : Lists c.put_turn.new.lister (appended old t.line) (o.state c.put_turn.new.out).written (t.content ++ piece) = c.in_ok-put_turn.ensures.ok (appended old t.line) t.content t.lists in
+    let listing = goes_on taken piece t.line t.content t.listing in
     let now = (o.state c.put_end.new.out).written in
     let Full : Type 0 = SinkFails (o.state c.args.out.now) (o.state c.put_end.new.out) in
     let size : length (taken ++ piece) ≡ length taken + n = length-append taken piece ∙ ap (λ k. length taken + k) (length-take-le n c.next_turn.new.buf (omega (arith, c.in_ok-turn.ensures.within.1, c.next_turn.ensures.length, v.piece))) in
     let short : length (taken ++ piece) ≤ stream_limit = omega (arith, size, c.in_ok-turn.ensures.within.0, v.known.1.2) in
     let end = c.in_ok-turn.ensures.end c.if-turn.true in
-    let text = t.line ++ listing_of (t.sent ++ piece) in
-    let same = stream_whole (taken ++ piece) t.line (t.sent ++ piece) (goes []) in
+    let text = t.line ++ listing_of (t.content ++ piece) in
+    let same = stream_whole (taken ++ piece) t.line (t.content ++ piece) (listing []) in
     let flash = before.flash.bytes in
-    let ok = on_ok_weaker c.put_end.result (λ h. (text, listed_whole contents flash C stream (taken ++ piece) text (i.state c.next_turn.new.inputs).rest Full old now sel end same short (line_then old now t.line (listing_of (t.sent ++ piece)) (h (appended old t.line) (t.sent ++ piece) lists)))) c.put_end.ensures.ok in
+    let ok = on_ok_weaker c.put_end.result (λ h. (text, listed_whole contents flash C stream (taken ++ piece) text (i.state c.next_turn.new.inputs).rest Full old now sel end same short (line_then old now t.line (listing_of (t.content ++ piece)) (h (appended old t.line) (t.content ++ piece) lists)))) c.put_end.ensures.ok in
     let mid = (o.state c.put_turn.new.out).written in
-    let known : ListsStream c.put_turn.new.lister old mid (taken ++ piece) = record { line = t.line; sent = t.sent ++ piece; lists = lists; goes = goes; close = omega (arith, t.close, length-append taken piece, length-append t.sent piece) } in
+    let known : ListsStream c.put_turn.new.lister old mid (taken ++ piece) = record { line = t.line; content = t.content ++ piece; lists = lists; listing = listing; short_header = omega (arith, t.short_header, length-append taken piece, length-append t.content piece) } in
     let err = both_err c.put_end.result (λ r. (first : Option (List ℕ)) (bytes : List ℕ) → Lists c.put_turn.new.lister first mid bytes → PutsPrefix first (listing_of bytes) now)
     (λ r. ((event_of r ≡ no_memory) × (now ≡ mid)) ⊎ ((event_of r ≡ writing_failed) × SinkFails (o.state c.put_turn.new.out) (o.state c.put_end.new.out)))
     (λ r. Ended (with_inputs contents flash) C stream Full old now (Err (event_of r)))
     (λ r p w.
-    let prefix : PutsListed (taken ++ piece) old now = (text, (same, line_prefix old now t.line (listing_of (t.sent ++ piece)) (p (appended old t.line) (t.sent ++ piece) lists))) in
+    let prefix : PutsListed (taken ++ piece) old now = (text, (same, line_prefix old now t.line (listing_of (t.content ++ piece)) (p (appended old t.line) (t.content ++ piece) lists))) in
     let end : ((event_of r ≡ no_memory) × (now ≡ mid)) ⊎ ((event_of r ≡ writing_failed) × SinkFails (o.state c.put_turn.new.out) (o.state c.put_end.new.out)) → Ended (with_inputs contents flash) C stream Full old now (Err (event_of r))
     = elim [
       | inl h ↦
@@ -278,9 +278,9 @@ returns-then-turn g c = λ before after.
     c.put_end.ensures.err c.put_end.ensures.why in
     let few : length piece ≤ turn_bytes = omega (arith, length-take-le n c.next_turn.new.buf (omega (arith, c.in_ok-turn.ensures.within.1, c.next_turn.ensures.length, v.piece)), c.in_ok-turn.ensures.within.1, v.piece) in
     let longer = longer_twice (o.state c.loop-lister.out).written (o.state c.put_turn.new.out).written now c.put_turn.ensures.longer c.put_end.ensures.longer in
-    let whole = stream_whole taken t.line t.sent (t.goes []) in
-    let near = turn_near contents stream taken piece t.line t.sent c.loop-lister.lister (i.state c.next_turn.new.inputs).rest old (o.state c.loop-lister.out).written now sel t.close few whole t.lists longer in
-    let gives = turn_given contents stream taken t.line t.sent given c.loop-lister.lister (i.state c.loop-lister.inputs).rest old (o.state c.loop-lister.out).written now v.known.1.0 (omega (arith, v.known.1.3.given, c.next_turn.ensures.turn, v.piece)) whole t.lists longer in
+    let whole = stream_whole taken t.line t.content (t.listing []) in
+    let near = turn_near contents stream taken piece t.line t.content c.loop-lister.lister (i.state c.next_turn.new.inputs).rest old (o.state c.loop-lister.out).written now sel t.short_header few whole t.lists longer in
+    let gives = turn_given contents stream taken t.line t.content given c.loop-lister.lister (i.state c.loop-lister.inputs).rest old (o.state c.loop-lister.out).written now v.known.1.0 (omega (arith, v.known.1.3.given, c.next_turn.ensures.turn, v.piece)) whole t.lists longer in
     let close = err_weaker c.put_end.result (λ r w. stays_near (event_of r) stream (record before { inputs = i.state c.args.inputs.now; out = o.state c.args.out.now }) (record after { inputs = i.state c.next_turn.new.inputs; out = o.state c.put_end.new.out }) (unwritten_near contents stream (i.state c.next_turn.new.inputs).rest old now _ given (event_of r) gives near (why_weaker w))) c.put_end.ensures.why in
     let asks = few_read (i.state c.args.inputs.now) (i.state c.loop-lister.inputs) (i.state c.next_turn.new.inputs) c.loop-lister.left c.loop-lister.invariant.once c.next_turn.ensures.few in
     record {
@@ -304,8 +304,8 @@ loop-lister-preserved g c =
     let n = c.in_ok-turn.turn.count in
     let piece = take n c.next_turn.new.buf in
     let sel = taken_more contents stream taken piece (i.state c.loop-lister.inputs).rest (i.state c.next_turn.new.inputs).rest v.known.1.0 c.in_ok-turn.ensures.ok.taken in
-    let lists : Lists c.put_turn.new.lister (appended old t.line) (o.state c.put_turn.new.out).written (t.sent ++ piece) = c.in_ok-put_turn.ensures.ok (appended old t.line) t.sent t.lists in
-    let goes = goes_on taken piece t.line t.sent t.goes in
+    let lists : Lists c.put_turn.new.lister (appended old t.line) (o.state c.put_turn.new.out).written (t.content ++ piece) = c.in_ok-put_turn.ensures.ok (appended old t.line) t.content t.lists in
+    let listing = goes_on taken piece t.line t.content t.listing in
     let size : length (taken ++ piece) ≡ length taken + n = length-append taken piece ∙ ap (λ k. length taken + k) (length-take-le n c.next_turn.new.buf (omega (arith, c.in_ok-turn.ensures.within.1, c.next_turn.ensures.length, v.piece))) in
     let full : n ≡ turn_bytes = c.in_ok-turn.ensures.fills c.if-turn.false ∙ v.piece in
     record {
@@ -315,7 +315,7 @@ loop-lister-preserved g c =
       written = omega (arith, v.written, c.put_turn.ensures.counts.faults);
       left = omega (arith, v.left);
       piece = omega (arith, c.next_turn.ensures.length, v.piece);
-      known = (taken ++ piece, (sel, record { line = t.line; sent = t.sent ++ piece; lists = lists; goes = goes; close = omega (arith, t.close, length-append taken piece, length-append t.sent piece) }, omega (arith, size, v.known.1.2, c.in_ok-turn.ensures.within.0), at_on stream taken piece (i.state c.loop-lister.inputs) (i.state c.next_turn.new.inputs) v.known.1.3 c.in_ok-turn.ensures.ok c.next_turn.ensures.asked));
+      known = (taken ++ piece, (sel, record { line = t.line; content = t.content ++ piece; lists = lists; listing = listing; short_header = omega (arith, t.short_header, length-append taken piece, length-append t.content piece) }, omega (arith, size, v.known.1.2, c.in_ok-turn.ensures.within.0), at_on stream taken piece (i.state c.loop-lister.inputs) (i.state c.next_turn.new.inputs) v.known.1.3 c.in_ok-turn.ensures.ok c.next_turn.ensures.asked));
     }
 
 pub loop-lister-init : goal.loop-lister-init
@@ -332,10 +332,10 @@ loop-lister-init g c =
     let line = c.deref-line.result.now in
     let start = c.in_ok-beginning.beginning.start in
     let bytes = c.deref.result.now in
-    let sent = take (length bytes - start) (drop start bytes) in
-    let cut : sent ≡ drop start taken = take_all (length bytes - start) (drop start bytes) (omega (arith, length-drop start bytes)) ∙ ap (drop start) c.deref.ensures.value in
+    let content = take (length bytes - start) (drop start bytes) in
+    let cut : content ≡ drop start taken = take_all (length bytes - start) (drop start bytes) (omega (arith, length-drop start bytes)) ∙ ap (drop start) c.deref.ensures.value in
     let sel : Selects contents stream (preceded taken now.rest) = subst (λ r. Selects contents stream r) f.reads.takes.taken c.in_ok-open.ensures.ok.found in
-    let goes : (left : List ℕ) → stream_listing (taken ++ left) ≡ Ok (line ++ listing_of (sent ++ left)) = λ left. f.begins left (λ l. let never : false ≡ true = sym c.if-beginning.false ∙ l in absurd cc) ∙ ap (λ (l : List ℕ). Ok (l ++ listing_of (drop start taken ++ left))) (sym c.deref-line.ensures.value) ∙ ap (λ (s : List ℕ). Ok (line ++ listing_of (s ++ left))) (sym cut) in
+    let listing : (left : List ℕ) → stream_listing (taken ++ left) ≡ Ok (line ++ listing_of (content ++ left)) = λ left. f.begins left (λ l. let never : false ≡ true = sym c.if-beginning.false ∙ l in absurd cc) ∙ ap (λ (l : List ℕ). Ok (l ++ listing_of (drop start taken ++ left))) (sym c.deref-line.ensures.value) ∙ ap (λ (s : List ℕ). Ok (line ++ listing_of (s ++ left))) (sym cut) in
     record {
       selected = c.in_ok-beginning.ensures.selected;
       inputs = stays_on _ _ _ c.open.ensures.inputs c.read_beginning.ensures.inputs;
@@ -343,5 +343,5 @@ loop-lister-init g c =
       once = once_on _ _ _ c.open.ensures.once c.read_beginning.ensures.few.selects (f.goes c.if-beginning.false);
       left = omega arith;
       piece = refl;
-      known = (taken, (sel, record { line = line; sent = sent; lists = c.in_ok-put_beginning.ensures.ok; goes = goes; close = omega (arith, f.few) }, omega (arith, f.few, c.len-left.ensures), record { asked = asked_on stream (i.state c.open.new.inputs) now c.open.ensures.asks f.reads.asked; given = omega (arith, c.open.ensures.asks.given, f.reads.takes.given) }));
+      known = (taken, (sel, record { line = line; content = content; lists = c.in_ok-put_beginning.ensures.ok; listing = listing; short_header = omega (arith, f.few) }, omega (arith, f.few, c.len-left.ensures), record { asked = asked_on stream (i.state c.open.new.inputs) now c.open.ensures.asks f.reads.asked; given = omega (arith, c.open.ensures.asks.given, f.reads.takes.given) }));
     }
