@@ -49,6 +49,7 @@ fn ask(part: &Part, kind: &str, addresses: &[u32], rank: u32, far: u32) -> u64 {
     }
 }
 
+/// What stands this many slots after an address, as a number: a frame's address, 1 for a pad, 2 for the end.
 fn slot_after(part: &Part, far: u32, place: u32) -> u64 {
     if !part.is_address(far) {
         return 0;
@@ -60,6 +61,7 @@ fn slot_after(part: &Part, far: u32, place: u32) -> u64 {
     }
 }
 
+/// The number of slots from an address on; 0 where the part lacks the address.
 fn slots_from(part: &Part, far: u32) -> u64 {
     if part.is_address(far) {
         part.slots_from(far)
@@ -68,7 +70,7 @@ fn slots_from(part: &Part, far: u32) -> u64 {
     }
 }
 
-/// The sum of the answers.
+/// The sum of the answers to all questions of this kind.
 fn ask_all(part: &Part, kind: &str, addresses: &[u32]) -> u64 {
     let mut sum = 0u64;
     let mut x = 1u32;
@@ -93,6 +95,7 @@ fn addresses_of(alloc: Global, part: &Part) -> Result<Vec<u32>, AllocError> {
     Ok(addresses)
 }
 
+/// The sum of the answers to all questions of this kind, about a large part.
 fn answer(alloc: Global, kind: &str) -> Result<u64, PartFault> {
     let text = part_text(alloc)?;
     let part = part_of(alloc, text.as_bytes())?;

@@ -10,6 +10,9 @@ use crate::running::{Ending, Turn, ran};
 use std::alloc::Global;
 use std::mem::swap;
 
+/// The most calls of an object that fail in turn.
+const MOST_CALLS: u64 = 1_000_000;
+
 /// A case and the inputs that it shares with others of its file, the command, and what its runs left.
 #[derive(Drop)]
 pub(crate) struct Bench<'a, C: Command> {
@@ -63,7 +66,7 @@ impl<'a, C: Command> Bench<'a, C> {
 
     /// Runs with each call of the object failing in turn, until a run has no such call.
     fn run_calls(&mut self, turn: &Turn, blamed: &mut Blamed) {
-        for call in 1..=1_000_000u64 {
+        for call in 1..=MOST_CALLS {
             if self.is_past(&turn.failing(turn.object, call), blamed) {
                 return;
             }

@@ -38,6 +38,9 @@ fn object_of(name: &str) -> Result<Object, Fault> {
     }
 }
 
+/// The most bytes that `out` takes where a case says nothing of it.
+const OUT_ROOM: u32 = 1_000_000;
+
 /// A call that fails, by its number from 1 among those of its object.
 #[derive(Drop)]
 pub(crate) struct Failing {
@@ -85,7 +88,7 @@ impl Outside {
             write_piece: u32::MAX,
             failing: Vec::new(alloc),
             each: Vec::new(alloc),
-            room: 1_000_000,
+            room: OUT_ROOM,
         }
     }
 

@@ -9,6 +9,9 @@ use std::alloc::Global;
 use x7_in_memory::{MemoryFlash, MemoryInputs, MemorySink};
 use x7_words::{Flash, Inputs, SelectFault, Sink};
 
+/// The most bytes that `err` takes.
+const ERR_ROOM: usize = 1_000;
+
 /// What differs from run to run of one case.
 #[derive(Clone, Copy, Drop)]
 pub(crate) struct Turn {
@@ -167,7 +170,7 @@ fn flash_of(alloc: Global, given: &[Named]) -> Result<MemoryFlash, Fault> {
     }
 }
 
-/// What a sink's writes take, and which of them fails.
+/// Says to a sink how many bytes a write takes at most, and which of its calls fails; 0 is no limit, and no call.
 fn limit(sink: &mut MemorySink, piece: u32, fails: u64) -> Result<(), Fault> {
     if piece > 0 {
         sink.piece(piece as usize);
@@ -187,7 +190,7 @@ impl Objects {
     /// Objects without inputs, and no call that fails.
     fn new(alloc: Global, given: &Outside) -> Result<Objects, Fault> {
         let out = MemorySink::new(alloc, given.room as usize)?;
-        let err = MemorySink::new(alloc, 1_000)?;
+        let err = MemorySink::new(alloc, ERR_ROOM)?;
         let flash = flash_of(alloc, &given.flash)?;
         let inputs = MemoryInputs::new(alloc);
         Ok(Objects {

@@ -14,7 +14,7 @@ fn at_the_top(key: PartKey) -> Which {
 }
 
 #[test]
-fn texts_of_part_faults(rt: HostRuntime) -> Result<(), Fail> {
+fn part_faults_name_the_key_and_the_row(rt: HostRuntime) -> Result<(), Fail> {
     let cases = [
         (PartFault::Toml, "the text is no TOML"),
         (
@@ -35,7 +35,7 @@ fn texts_of_part_faults(rt: HostRuntime) -> Result<(), Fail> {
 }
 
 #[test]
-fn texts_of_assembly_faults(rt: HostRuntime) -> Result<(), Fail> {
+fn assembly_faults_name_the_line(rt: HostRuntime) -> Result<(), Fail> {
     let cases = [
         (AsmFault::Line(2), "line 2 is no line"),
         (

@@ -49,7 +49,7 @@ fn slots(part: &Part) -> [Option<Slot>; 5] {
 }
 
 #[test]
-fn addresses_ranks_and_slots_of_two_rows(rt: HostRuntime) -> Result<(), Fail> {
+fn two_rows_have_their_addresses_ranks_and_slots_in_order(rt: HostRuntime) -> Result<(), Fail> {
     let part = part_of(rt.alloc(), TINY)?;
     let top = Some(0x0040_0000);
     assert!(rt; answers(&part) == [top, None, None, Some(2), None, top, None]);

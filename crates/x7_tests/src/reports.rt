@@ -21,7 +21,7 @@ fn reported(alloc: Global, reads: &[u32]) -> Option<Vec<u8>> {
 }
 
 #[test]
-fn the_report_of_a_new_device(rt: HostRuntime) {
+fn a_new_device_reports_its_reset_values(rt: HostRuntime) {
     let Some(text) = reported(rt.alloc(), &[1, 0xFFFF_FFFF]) else {
         panic!(rt; "no memory")
     };

@@ -14,7 +14,7 @@ fn text_and_image(alloc: Global) -> Option<(Vec<u8>, Vec<u8>)> {
 }
 
 #[test]
-fn the_intel_hex_text_of_three_bytes_and_its_image(rt: HostRuntime) {
+fn an_image_comes_back_from_its_intel_hex_text(rt: HostRuntime) {
     let Some((text, image)) = text_and_image(rt.alloc()) else {
         panic!(rt; "no memory")
     };
@@ -32,8 +32,8 @@ fn a_text_assembles_at_once(rt: HostRuntime) {
     assert!(rt; bytes.as_slice() == want.as_slice());
 }
 
-/// How many bytes the first run of an input has that gives five bytes at a time, and how
-/// many were taken of it; none without memory.
+/// How many bytes the first run has of an input that gives five bytes at a time, where it is a gap, and how many were
+/// taken of the input; none without memory.
 fn first_run(alloc: Global, stream: &[u8]) -> Option<(usize, u64)> {
     let mut inputs = MemoryInputs::new(alloc);
     inputs.put("stream", stream).ok()?;
@@ -49,7 +49,7 @@ fn first_run(alloc: Global, stream: &[u8]) -> Option<(usize, u64)> {
 }
 
 #[test]
-fn the_first_run_of_an_input(rt: HostRuntime) {
+fn the_first_run_is_a_gap_up_to_its_sync_word(rt: HostRuntime) {
     assert!(rt; first_run(rt.alloc(), b"\xFF\xAA\x99\x55\x66\x20\0\0\0") == Some((5, 5)));
     assert!(rt; first_run(rt.alloc(), b"") == Some((0, 0)));
 }

@@ -27,7 +27,7 @@ fn booted(alloc: Global, bytes: &[u8]) -> Option<Vec<u8>> {
 }
 
 #[test]
-fn the_text_of_a_boot_that_stops(rt: HostRuntime) {
+fn a_boot_that_stops_tells_both_attempts(rt: HostRuntime) {
     let Some(text) = booted(rt.alloc(), WRONG_CHECK) else {
         panic!(rt; "no memory")
     };
