@@ -111,7 +111,7 @@ place_long (Synced gap packets tail) is =
 -- a lister's text is at most four bytes short
 pub few_held : (l : ListerState) (given before bytes : List ℕ) → ListerStandsFor l given before bytes → length before + length bytes ≤ length (given ++ l.text) + 4
 few_held l given before bytes s =
-    let t = s.tells in
+    let t = s.has_listed in
     let r = t.cut.reading in
     omega (arith, ap length (listed_after l given before bytes s), length-append (before ++ flat_map session_text t.sessions) (sure_place t.at), length-append before (flat_map session_text t.sessions), ap length r.joined, length-append (flat_map session_bytes t.sessions) (place_bytes t.at), sessions_long t.sessions r.each, place_long t.at r.ends)
 
@@ -210,5 +210,5 @@ place_short (Synced gap packets tail) is =
 pub listing_held : (l : ListerState) (given before bytes : List ℕ) → ListerStandsFor l given before bytes → length before + length (listing_of bytes) ≤ length (given ++ l.text) + 64
 listing_held l given before bytes s =
     let r : Reading = reading_of bytes in
-    let is = reading_is_found bytes s.tells.cut.reading.fits in
+    let is = reading_is_found bytes s.has_listed.cut.reading.fits in
     omega (arith, ap length (sure_after l given before bytes s), length-append before (sure_text bytes), place_short r.place is.ends, length-append (flat_map session_text r.sessions) (place_text r.place), length-append (flat_map session_text r.sessions) (sure_place r.place))

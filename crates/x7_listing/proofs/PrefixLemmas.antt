@@ -238,7 +238,7 @@ place_sure true line held all start (Synced gap packets tail) m d t =
 -- what a lister has listed of bytes is their sure text
 pub listed_sure : (l : ListerState) (given bytes : List ℕ) → ListerStandsFor l given [] bytes → given ++ l.text ≡ sure_text bytes
 listed_sure l given bytes s =
-    let t = s.tells in
+    let t = s.has_listed in
     let e : (t.sessions ≡ (reading_of bytes).sessions) × (t.at ≡ (reading_of bytes).place) = reading_is bytes t.sessions t.at t.cut.reading in
     place_sure l.synced l.line l.held (given ++ l.text) (flat_map session_text t.sessions) t.at l.cutter.mode s.ready t.listed
     ∙ ap (λ x. flat_map session_text x ++ sure_place t.at) e.0 ∙ ap (λ x. flat_map session_text (reading_of bytes).sessions ++ sure_place x) e.1
@@ -251,12 +251,12 @@ listed_prefix l given bytes rest s f =
     subst (λ t. IsPrefixOf t (listing_of (bytes ++ rest))) (sym (listed_sure l given bytes s)) all
 
 -- what a lister has listed after other listings is the sure text of its bytes
-pub listed_after : (l : ListerState) (given before bytes : List ℕ) (s : ListerStandsFor l given before bytes) → given ++ l.text ≡ (before ++ flat_map session_text s.tells.sessions) ++ sure_place s.tells.at
-listed_after l given before bytes s = place_sure l.synced l.line l.held (given ++ l.text) (before ++ flat_map session_text s.tells.sessions) s.tells.at l.cutter.mode s.ready s.tells.listed
+pub listed_after : (l : ListerState) (given before bytes : List ℕ) (s : ListerStandsFor l given before bytes) → given ++ l.text ≡ (before ++ flat_map session_text s.has_listed.sessions) ++ sure_place s.has_listed.at
+listed_after l given before bytes s = place_sure l.synced l.line l.held (given ++ l.text) (before ++ flat_map session_text s.has_listed.sessions) s.has_listed.at l.cutter.mode s.ready s.has_listed.listed
 
 pub sure_after : (l : ListerState) (given before bytes : List ℕ) → ListerStandsFor l given before bytes → given ++ l.text ≡ before ++ sure_text bytes
 sure_after l given before bytes s =
-    let t = s.tells in
+    let t = s.has_listed in
     let e : (t.sessions ≡ (reading_of bytes).sessions) × (t.at ≡ (reading_of bytes).place) = reading_is bytes t.sessions t.at t.cut.reading in
     listed_after l given before bytes s ∙ append_assoc before (flat_map session_text t.sessions) (sure_place t.at)
     ∙ ap (λ x. before ++ (flat_map session_text x ++ sure_place t.at)) e.0 ∙ ap (λ x. before ++ (flat_map session_text (reading_of bytes).sessions ++ sure_place x)) e.1

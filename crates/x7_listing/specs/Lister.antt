@@ -131,7 +131,7 @@ pub record HasListedJust (l : ListerState) (given before bytes : List ℕ) : Typ
 -- A lister of pieces: the texts given and its own are those of listings before, and then what is listed of these bytes;
 -- no sync word is still to be listed.
 pub record ListerStandsFor (l : ListerState) (given before bytes : List ℕ) : Type 0 where
-  pub tells : HasListedJust l given before bytes
+  pub has_listed : HasListedJust l given before bytes
   pub ready : l.cutter.mode ≡ Mode.Due → ⊥
 
 -- A lister that takes the runs of a stream: the texts given and its own are those of listings before, and

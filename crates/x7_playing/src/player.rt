@@ -92,7 +92,7 @@ impl Player {
 
     /// Plays the bytes of a piece, up to one that stops the device. A player that
     /// is over plays nothing and stays as it is.
-    /// After an error the device has taken some first bytes of the piece, and has the words that these
+    /// After an error the device has taken a prefix of the piece, and has the words that these
     /// read out but for those that are still due.
     pub fn play(&mut self, piece: &[u8]) -> Result<(), NoMemory>
         requires { MayPlay self.old (length piece.now) }

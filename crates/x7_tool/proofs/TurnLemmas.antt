@@ -29,7 +29,7 @@ listing_is bytes text l =
 
 -- the bytes of which a lister has listed are bytes
 stands_fit : (l : ListerState) (given bytes : List ℕ) → ListerStandsFor l given [] bytes → AreBytes bytes
-stands_fit l given bytes stands = stands.tells.cut.reading.fits
+stands_fit l given bytes stands = stands.has_listed.cut.reading.fits
 
 -- what was put is a prefix of the listing of the bytes and any that may follow
 pub lists_prefix : (l : ListerState) (first now : Option (List ℕ)) (bytes rest : List ℕ) → Lists l first now bytes → AreBytes (bytes ++ rest) → PutsPrefix first (listing_of (bytes ++ rest)) now

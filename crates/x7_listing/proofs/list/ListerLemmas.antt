@@ -59,7 +59,7 @@ took_all c d run synced line at to held text given before bytes piece s h full i
       cut = w.stands;
       listed = need_adds synced line held (given ++ text) before s.sessions w.new_sessions s.at w.new_place c.mode d.mode s.listed w.adds w.turns;
     } in
-    record { tells = subst (λ t. HasListedJust (lister_of d synced line held text) given before t) e all; ready = w.turns.1 }
+    record { has_listed = subst (λ t. HasListedJust (lister_of d synced line held text) given before t) e all; ready = w.turns.1 }
 
 -- a pen that is in no gap is in a session
 pub not_gap : (p : Pen) → ((gap : GapPen) → p ≡ pen.Gap gap → ⊥) → is_in_session p ≡ true
@@ -89,7 +89,7 @@ pub begins : (c : CutterState) (synced : Bool) (line : ℕ) (held text given bef
     → ListerStandsFor (lister_of c synced line held text) given before []
 begins c synced line held text given before s e f g t d =
     record {
-      tells = record {
+      has_listed = record {
         sessions = [];
         at = Searching [];
         cut = s;
@@ -107,11 +107,11 @@ not_due c s e = let h = s.at in let a = rw e at h in a
 pub moved : (c : CutterState) (synced : Bool) (line : ℕ) (held text given before bytes : List ℕ) → ListerStandsFor (lister_of c synced line held text) given before bytes → ListerStandsFor (lister_of c synced line held []) (given ++ text) before bytes
 moved c synced line held text given before bytes r =
     record {
-      tells = record {
-        sessions = r.tells.sessions;
-        at = r.tells.at;
-        cut = r.tells.cut;
-        listed = subst (λ t. HasListed (written_of synced line held t) before r.tells.sessions r.tells.at c.mode) (sym (append-nil (given ++ text))) r.tells.listed;
+      has_listed = record {
+        sessions = r.has_listed.sessions;
+        at = r.has_listed.at;
+        cut = r.has_listed.cut;
+        listed = subst (λ t. HasListed (written_of synced line held t) before r.has_listed.sessions r.has_listed.at c.mode) (sym (append-nil (given ++ text))) r.has_listed.listed;
       };
       ready = r.ready;
     }

@@ -12,7 +12,7 @@ pub loop-taken-init : goal.loop-taken-init
 loop-taken-init c = record {
   within = omega arith;
   room = omega (arith, one_due c.args.cutter.now.mode, c.requires);
-  tells = λ given before bytes s. rw append-nil s;
+  has_listed = λ given before bytes s. rw append-nil s;
 }
 
 pub returns-in-Need : goal.returns-in-Need
@@ -20,7 +20,7 @@ returns-in-Need c = record {
   rests = λ given before bytes s.
       let used = goes_out _ _ _ _ c.in-Need.is c.cut-run.ensures.nearer in
       took_all _ _ _ _ _ _ _ _ _ given before bytes c.args.piece.now
-      (listed_as c.loop-taken.cutter c.take_short.new.cutter c.loop-taken.text c.take_short.new.text _ _ _ given before _ (c.in_default.ensures.none) (c.in_default.ensures.same) (c.loop-taken.invariant.tells given before bytes s)) c.cut-run.ensures.forward (omega (arith, used)) c.in-Need.is c.cut-run.ensures.adds;
+      (listed_as c.loop-taken.cutter c.take_short.new.cutter c.loop-taken.text c.take_short.new.text _ _ _ given before _ (c.in_default.ensures.none) (c.in_default.ensures.same) (c.loop-taken.invariant.has_listed given before bytes s)) c.cut-run.ensures.forward (omega (arith, used)) c.in-Need.is c.cut-run.ensures.adds;
 }
 
 pub put_run-now-requires : goal.put_run-now-requires
@@ -43,9 +43,9 @@ loop-taken-preserved c =
     record {
       within = c.cut-run.ensures.within;
       room = omega (arith, long, less, calls, ap (λ (k : CutterState). length k.kept) same, ap (λ (t : Vec ℕ Global). vec_len t) text, ap (λ (t : Vec ℕ Global). vec_capacity t) text, c.cut-run.ensures.within, c.cut-run.ensures.forward, c.loop-taken.invariant.room, c.put_run-now.ensures.room.within, c.put_run-now.ensures.room.room);
-      tells = λ given before bytes s.
+      has_listed = λ given before bytes s.
           took _ _ _ _ _ _ _ _ _ _ _ _ _ given before bytes c.args.piece.now
-          (listed_as c.loop-taken.cutter c.take_short.new.cutter c.loop-taken.text c.take_short.new.text _ _ _ given before _ (c.in_default.ensures.none) (c.in_default.ensures.same) (c.loop-taken.invariant.tells given before bytes s)) c.cut-run.ensures.forward c.cut-run.ensures.adds c.cut-run.ensures.run (c.put_run-now.ensures.listed given);
+          (listed_as c.loop-taken.cutter c.take_short.new.cutter c.loop-taken.text c.take_short.new.text _ _ _ given before _ (c.in_default.ensures.none) (c.in_default.ensures.same) (c.loop-taken.invariant.has_listed given before bytes s)) c.cut-run.ensures.forward c.cut-run.ensures.adds c.cut-run.ensures.run (c.put_run-now.ensures.listed given);
     }
 
 pub loop-taken-preserved-in-Some : goal.loop-taken-preserved-in-Some
@@ -55,8 +55,8 @@ loop-taken-preserved-in-Some c =
     record {
       within = omega (arith, left, taken.within, c.loop-taken.invariant.within);
       room = omega (arith, left, taken.within, taken.some, taken.kept, taken.grown, one_due c.take_short.new.cutter.mode, c.loop-taken.invariant.within, c.loop-taken.invariant.room, c.take_short.ensures.room);
-      tells = λ given before bytes s.
+      has_listed = λ given before bytes s.
           subst (HasListedJust (lister_with c.take_short.new.cutter (Session c.in-Some.taken.in_line) c.take_short.new.text.items) given before)
           (seam c.args.piece.now bytes _ c.loop-taken.at c.in-Some.taken.size c.loop-taken.invariant.within refl)
-          (c.in-Some.ensures.listed given before (bytes ++ take c.loop-taken.at c.args.piece.now) (c.loop-taken.invariant.tells given before bytes s));
+          (c.in-Some.ensures.listed given before (bytes ++ take c.loop-taken.at c.args.piece.now) (c.loop-taken.invariant.has_listed given before bytes s));
     }

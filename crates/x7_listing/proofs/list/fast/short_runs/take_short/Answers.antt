@@ -13,7 +13,7 @@ loop-len-init c = record {
   kept = omega arith;
   inside = omega arith;
   few = omega arith;
-  tells = λ given before bytes s.
+  has_listed = λ given before bytes s.
       rw (append-nil bytes, append-nil c.args.text.now.items)
       (subst (λ (p : Pen). HasListedJust (lister_with c.args.cutter.now p c.args.text.now.items) given before bytes) c.in-Session.is s);
 }
@@ -28,8 +28,8 @@ loop-len-preserved c =
       kept = omega (arith, next.kept, c.loop-len.invariant.kept);
       inside = next.inside;
       few = omega (arith, next.grown, c.loop-len.invariant.few);
-      tells = λ given before bytes s.
+      has_listed = λ given before bytes s.
           subst (HasListedJust (lister_with c.take_next.new.cutter (Session c.in-Some.next.in_line) (c.args.text.now.items ++ take c.in-Some.next.len c.take_next.new.sheet)) given before)
           (seam c.args.rest.now bytes _ c.loop-len.at c.in-Some.next.size c.loop-len.invariant.within refl)
-          (c.in-Some.ensures.listed c.args.text.now.items given before (bytes ++ take c.loop-len.at c.args.rest.now) (c.loop-len.invariant.tells given before bytes s));
+          (c.in-Some.ensures.listed c.args.text.now.items given before (bytes ++ take c.loop-len.at c.args.rest.now) (c.loop-len.invariant.has_listed given before bytes s));
     }

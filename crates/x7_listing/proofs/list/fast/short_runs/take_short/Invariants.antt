@@ -10,7 +10,7 @@ invariant-loop-len l = record {
   kept : length l.cutter.kept ≤ length l.fn.cutter.kept;
   inside : l.len ≤ 2048;
   few : l.len ≤ 25 * l.at;
-  tells : ListsMore (lister_with l.fn.cutter l.fn.pen l.fn.text.items) (lister_with l.cutter (Session l.now) (l.fn.text.items ++ take l.len l.sheet)) (take l.at l.rest);
+  has_listed : ListsMore (lister_with l.fn.cutter l.fn.pen l.fn.text.items) (lister_with l.cutter (Session l.now) (l.fn.text.items ++ take l.len l.sheet)) (take l.at l.rest);
 }
 
 abbrev pub decreases-loop-len : goal.decreases-loop-len

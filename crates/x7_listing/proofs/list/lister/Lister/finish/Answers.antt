@@ -11,7 +11,7 @@ returns-clause-ok c = λ given before bytes s.
     let i = c.self.inside in
     let r : ListerStandsFor (lister_with i.cutter i.pen i.text.items) given before bytes = subst (λ (l : ListerState). ListerStandsFor l given before bytes) (sym c.self.view_is) s in
     let P : List ℕ → Type 0 = λ x. HasListedJust (lister_with i.cutter i.pen x) given before bytes in
-    let t : P c.reserve.new.self.items = subst P (sym c.reserve.ensures.items) r.tells in
+    let t : P c.reserve.new.self.items = subst P (sym c.reserve.ensures.items) r.has_listed in
     let listing : List ℕ = reading_text t.sessions t.at in
     let listed : given ++ c.put_end.new.text.items ≡ before ++ listing = c.put_end.ensures.listed given before t.sessions t.at (record { bytes = bytes; reading = t.cut.reading; mode = _; listed = t.listed; not_due = r.ready }) (c.kept.ensures.tail bytes t.sessions t.at t.cut) in
     record {
