@@ -15,8 +15,8 @@ record_room = 64
 abbrev pub record_bytes : ℕ
 record_bytes = 4
 
--- how many bytes before a position records lead back at least, where all of them are in use: four bytes for each but the
--- newest, which may be one byte before the position
+-- how many bytes before a position records lead back at least, where all of them are in use: four bytes for each but
+-- the newest, which may be one byte before the position
 abbrev pub reach : ℕ
 reach = (record_room - 1) * record_bytes + 1
 

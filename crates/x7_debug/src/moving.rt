@@ -18,8 +18,8 @@ pub(crate) const RECORD_BYTES: u64 = 4;
 /// the newest, which may be one byte before the position.
 pub(crate) const REACH: u64 = (RECORD_ROOM as u64 - 1) * RECORD_BYTES + 1;
 
-/// How many bytes before its end a move forward makes records, one each four bytes: as many as there is room for, so that
-/// a move back by a multiple of four bytes feeds none.
+/// How many bytes before its end a move forward makes records, one each four bytes: as many as there is room for, so
+/// that a move back by a multiple of four bytes feeds none.
 const RECORDED_BYTES: u64 = RECORD_ROOM as u64 * RECORD_BYTES;
 
 /// Feeds a piece to a device, up to what stops it. Words read out are dropped.

@@ -21,8 +21,8 @@ pub fn every_text_is_read()
     ensures { (part : PartData) (text : List ℕ) → HasPlan part text }
 {}
 
-/// Where memory is wanting as the lines of a text for a part are taken. While a piece is taken and no beginning of a line
-/// was held, the first line that ends in it is good; at the end of the text, the text has a plan.
+/// Where memory is wanting as the lines of a text for a part are taken. While a piece is taken and no beginning of a
+/// line was held, the first line that ends in it is good; at the end of the text, the text has a plan.
 pub fn memory_wants_for_good_lines()
     ensures piece { (part : PartData) (r : ReaderState Rows) (text piece line after : List ℕ) (s : StandsFor (HasRows part) r text)
         → WantsIn (HasRows part) (AreGoodWith part) s.lines piece → split piece ≡ line ∷ split after → IsGoodLine part r.taker.rows line }

@@ -12,7 +12,8 @@ use x7_words::{is_same, word_of};
 /// The most bytes of a frame: four for each of its words, of which it has 255 at most.
 const MOST_FRAME_BYTES: usize = 4 * 255;
 
-/// How many bytes stand before the digits of a frame's line: `frame`, a space, the eight digits of its address, a space.
+/// How many bytes stand before the digits of a frame's line: `frame`, a space,
+/// the eight digits of its address, a space.
 const HEAD_SIZE: usize = 15;
 
 /// What stands on a frame's line: its address, and the digits of its words.

@@ -1,4 +1,5 @@
-//! Laws of maps, memories and plans, for the proofs of crates above. The functions do nothing: their contracts are the laws.
+//! Laws of maps, memories and plans, for the proofs of crates above. The functions
+//! do nothing: their contracts are the laws.
 ghost use Rattle.std.specs.Prelude.{◌≡◌, ℕ, ◌<◌, ◌++◌, ◌==◌, ◌↔◌, if◌then◌else◌, List, length, replicate, slice_index_or, Contains, IsPermutation, Some, None};
 ghost use Rattle.x7_part.specs.AddressOrder.{addresses_in};
 ghost use Rattle.x7_part.specs.Part.{PartData, frame_words};

@@ -25,9 +25,9 @@ pub fn flashes_between_slots_lead_nowhere()
     ensures between { (flash found : List ℕ) → HasLayout flash → IsBetween flash found → LeadsNowhere found }
 {}
 
-/// A flash has a golden stream that starts where the first sector is erased, and that ends at U or before it. Whatever a
-/// power loss left of the flash in an update boots as the flash did before, or starts as the golden stream does, or
-/// boots as the updated flash.
+/// A flash has a golden stream that starts where the first sector is erased, and that ends at U or before it.
+/// Whatever a power loss left of the flash in an update boots as the flash did before, or starts as the golden
+/// stream does, or boots as the updated flash.
 pub fn found_flashes_start()
     ensures { (u : UpdatingAny) (found : List ℕ) (b : BootedState) → IsPreparedAny u
         → MayBeLeft u.stream u.flash found → IsBoot u.part found b → BootsAlike u found b }

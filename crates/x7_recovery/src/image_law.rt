@@ -25,7 +25,8 @@ pub fn images_boot()
 {}
 
 /// The laws of this crate speak of something. There is a part with a plan and their image, which is prepared for an
-/// update. Every part and plan have an update that fails, and their image leaves, in an update, a flash that is another.
+/// update. Every part and plan have an update that fails, and their image
+/// leaves, in an update, a flash that is another.
 pub fn premises_hold()
     ensures part { IsPart tiny }
     ensures plan { IsPlanFor tiny nothing_planned }

@@ -6,8 +6,8 @@ use Rattle.x7_memory.specs.FrameMap.{FrameMap}
 use Rattle.x7_memory.specs.Frames.{are_zeros}
 use Rattle.x7_text.specs.Digits.{hex_word}
 
--- the most bytes that the line of a frame takes: the digits of the most words, and 16 bytes for its name, its address, a
--- blank and a line end
+-- the most bytes that the line of a frame takes: the digits of the most words, and 16 bytes for its
+-- name, its address, a blank and a line end
 abbrev pub frame_line_room : ℕ
 frame_line_room = 16 + 8 * most_frame_words
 

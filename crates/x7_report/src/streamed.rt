@@ -20,8 +20,8 @@ use x7_words::{Failed, NoMemory, Sink, write_all};
 /// How many lines of frames are written at once, as a group.
 const GROUP_LINES: usize = 128;
 
-/// The most bytes that the line of a frame takes: the digits of 255 words, and 16 bytes for its name, its address, a blank
-/// and a line end.
+/// The most bytes that the line of a frame takes: the digits of 255 words, and 16 bytes for its
+/// name, its address, a blank and a line end.
 const FRAME_LINE_ROOM: usize = 2_056;
 
 /// The most bytes that the lines of a group take.

@@ -119,7 +119,8 @@ impl<'t> Bits<'t> {
         Some(bit_in(self.digits, i))
     }
 
-    /// The bytes of the bits from this one on, a multiple of eight: those that end before the last bit, and at most 1,024.
+    /// The bytes of the bits from this one on, a multiple of eight: those that
+    /// end before the last bit, and at most 1,024.
     /// The first of eight bits is the highest of its byte.
     pub fn bytes_from(&self, from: u32) -> ArrayVec<u8, MOST_BYTES_AT_ONCE>
         requires whole { from % 8 ≡ 0 }

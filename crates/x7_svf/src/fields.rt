@@ -125,7 +125,8 @@ fn close(source: &Source, given: Given, field: Field, from: usize) -> Option<Giv
     put(given, field, Span::new(from, end))
 }
 
-/// The reader of a scan after one token more, which is passed, or kept where it is digits; none where no scan goes on so.
+/// The reader of a scan after one token more, which is passed, or kept where it
+/// is digits; none where no scan goes on so.
 fn step(source: &mut Source, scanner: Scanner, token: NextToken) -> Option<Scanner>
     requires token { token_size token ≤ length source.old.rest }
     requires within { IsWithin (length source.old.kept) scanner }

@@ -49,8 +49,8 @@ module _ {B F : Type 0} (taken : B → List (List ℕ) → Type 0) (fails : F �
       (text : List ℕ) → length (text ++ piece) < 2 ^ 63 → StandsFor taken old text
       → MatchResult result (λ x. StandsFor taken (new x) (text ++ piece)) (λ fault. FailsFrom (fails fault) (text ++ piece))
 
-  -- A piece was taken up to the end of the line that was held, and this is left; or all of it, where no line ends in it,
-  -- and nothing is. Or the fault is one of every text that begins so.
+  -- A piece was taken up to the end of the line that was held, and this is left; or all of it, where no line ends in
+  -- it, and nothing is. Or the fault is one of every text that begins so.
   abbrev pub CompletesLine : {R : Type 0} → (R → List ℕ) → ReaderState B → List ℕ → Result (Option R) F → ReaderState B → Type 0
   CompletesLine bytes old piece result new =
       (text : List ℕ) → length (text ++ piece) < 2 ^ 63 → StandsFor taken old text

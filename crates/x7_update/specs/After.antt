@@ -28,8 +28,8 @@ pub record IsAfter (stream flash after : List ℕ) : Type 0 where
   pub fits : update_place flash + length stream ≤ length flash
   pub is : after ≡ switched next open_switch (with_stream (update_place flash) stream spent)
 
--- After the open slot was spent and before the next is opened: no slot is open, all slots lead to U still, each switch word but
--- the open slot's and the next one's stays, the golden stream stands, and from U on there may be anything.
+-- After the open slot was spent and before the next is opened: no slot is open, all slots lead to U still, each switch
+-- word but the open slot's and the next one's stays, the golden stream stands, and from U on there may be anything.
 pub record IsBetween (flash found : List ℕ) : Type 0 where
   pub size : length found ≡ length flash
   pub slots : (i : ℕ) → i < sector_bytes → 4 ≤ i % slot_bytes → get_or found i 0 ≡ get_or flash i 0
