@@ -35,7 +35,7 @@ pub fn partial_streams_write_once()
 /// After any bytes at rest the read stream of n slots from an address on reads out a frame of zeros and the frames
 /// along the slots; memory, phase, lines and settings stay, there is no stop, and the device is at rest again.
 pub fn read_streams_play()
-    ensures { (r : Resting) (address n : ℕ) → Rests r → CanRead r.part address n → PlaysRead r (read_stream r.part address n) address n }
+    ensures { (r : Resting) (far n : ℕ) → Rests r → CanRead r.part far n → PlaysRead r (read_stream r.part far n) far n }
 {}
 
 /// Streams one after another, from a device at rest on: a read stream after a full one reads the plan over zeros back,

@@ -1,4 +1,4 @@
-//! The stored values of registers, kept.
+//! A copy of all that a device's registers store, except their frames, to go back to.
 ghost use Rattle.std.specs.Prelude.{◌≡◌, [], None};
 ghost use Rattle.x7_part.specs.Part.{PartData};
 ghost use Rattle.x7_pipeline.specs.Saved.{IsSavedOf};
@@ -20,7 +20,7 @@ use x7_part::Part;
 use x7_pipeline::Saved;
 use x7_regs::{Attempt, Kind};
 
-/// The stored values of registers but their frames.
+/// All that the registers of a device store, except their frames.
 #[derive(Clone, Copy)]
 pub(crate) struct SavedRegisters {
     pub(crate) words: Words,
@@ -56,7 +56,7 @@ impl SavedRegisters {
 impl Registers {
     ghost use Rattle.x7_engine.specs.Standing.{registers_in};
 
-    /// The stored values but the frames.
+    /// A copy of all that the registers store, except their frames.
     pub(crate) fn values(&self) -> SavedRegisters
         ensures { values_in result ≡ values_of (registers_in self.now) }
     {
@@ -72,11 +72,11 @@ impl Registers {
         }
     }
 
-    /// Makes the registers those to which what is kept leads back.
+    /// Takes the registers back: their values to the kept ones, their frames by what is kept of those.
     pub(crate) fn restore(&mut self, part: &Part, values: &SavedRegisters, frames: &Saved)
         requires frames { FramesFit part.now self.old.frames }
         requires saved { IsSavedOf part.now frames.now }
-        ensures back { (old : RegistersState) → values_in values.now ≡ values_of old → FramesBack part.now frames.now self.old.frames old.frames → registers_in self.new ≡ old }
+        ensures back { (kept : RegistersState) → values_in values.now ≡ values_of kept → FramesBack part.now frames.now self.old.frames kept.frames → registers_in self.new ≡ kept }
         ensures frames { FramesFit part.now self.new.frames }
     {
         self.words = values.words;

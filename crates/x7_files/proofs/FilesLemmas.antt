@@ -4,7 +4,7 @@ use Rattle.std.proofs.lemmas.Bool.Decides.{nat_tests}
 use Rattle.std.proofs.lemmas.List.{length-take-le}
 use Rattle.std.specs.declared.io.ErrorKind.{ErrorKind}
 use Rattle.x7_words.specs.Count.{added, ends_counted, raised}
-use Rattle.x7_words.specs.Input.{Asks, Fails, Opens, Refuses, Takes}
+use Rattle.x7_words.specs.Input.{Asks, InputsFail, Opens, Refuses, TakesInput}
 use Rattle.x7_words.proofs.CountLemmas.{raised_risen}
 use Rattle.x7_files.specs.Files.{RealInputs, after_open, known_inputs}
 use Rattle.x7_words.specs.declared.input.Failed.{Failed as FailedRead}
@@ -29,7 +29,7 @@ opened_err old new rest refusal (Err Missing) e = ap (λ f. f.selected) e
 opened_err old new rest refusal (Err Failed) e = ap (λ f. f.selected) e
 
 -- a read that fails counts a fault
-pub failed_read : (old new : RealInputs) (answer : Result ℕ FailedRead) → OnErr answer (new ≡ record old { selected = false; rest = None; faults = raised old.faults }) → OnErr answer (Fails (known_inputs old) (known_inputs new))
+pub failed_read : (old new : RealInputs) (answer : Result ℕ FailedRead) → OnErr answer (new ≡ record old { selected = false; rest = None; faults = raised old.faults }) → OnErr answer (InputsFail (known_inputs old) (known_inputs new))
 failed_read old new (Ok _) e = tt
 failed_read old new (Err _) e = raised_risen old.faults new.faults (ap (λ f. f.faults) e)
 
@@ -46,7 +46,7 @@ opened_asks old new rest refusal name (Err Failed) e = record { asked = tt; give
 
 -- a read that is Ok leaves the file selected, and of a rest that is never known nothing is said
 pub read_ok : (old new : RealInputs) (buf : List ℕ) (answer : Result ℕ FailedRead) → old.selected ≡ true → IfOk answer (λ n. n ≤ length buf) → IfOk answer (λ n. new ≡ record old { rest = new.rest; ends = ends_counted n old.ends; given = added old.given n })
-    → IfOk answer (λ n. Takes (known_inputs old) (take n buf) (known_inputs new))
+    → IfOk answer (λ n. TakesInput (known_inputs old) (take n buf) (known_inputs new))
 read_ok old new buf (Ok n) s h e = record {
   selected = ap (λ f. f.selected) e ∙ s;
   taken = refl;

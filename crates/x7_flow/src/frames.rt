@@ -64,7 +64,7 @@ impl Frames {
         &self.memory
     }
 
-    /// Takes a word written to a register, and says why it can't. A refused word changes nothing.
+    /// Takes a word written to a register, or answers why it is refused. A refused word changes nothing.
     pub fn write(
         &mut self,
         settings: FrameSettings,
@@ -156,7 +156,7 @@ impl Frames {
         self.pipeline.fault_of_read(part)
     }
 
-    /// The next of the words of frame data that are due, of which there is one.
+    /// The next word of frame data that is due. At least one must be.
     pub fn read_word(&mut self, part: &Part) -> u32
         requires part { FramesFit part.now self.old }
         requires due { HaveWordsDue part.now self.old 1 }

@@ -4,7 +4,7 @@ use Rattle.std.specs.Prelude.{MatchOption, nat_eq, nat_le}
 use Rattle.std.proofs.lemmas.Bool.{leb-true}
 use Rattle.std.specs.List.{starts_with}
 use Rattle.std.proofs.Math.Seq.{drop-append_seam}
-use Rattle.x7_words.specs.Input.{InputsState, AtEnd, Stays, Takes, preceded}
+use Rattle.x7_words.specs.Input.{InputsState, AtEnd, InputsStay, TakesInput, preceded}
 use Rattle.x7_words.specs.Word.{AreBytes}
 use Rattle.x7_words.proofs.CountLemmas.{risen_from}
 use Rattle.x7_words.proofs.InputLemmas.{preceded_preceded}
@@ -280,7 +280,7 @@ piece_of (x ∷ old) mid piece all bytes n a b c e s f h g = record {
 }
 
 -- the beginning that was read
-pub beginning_read : (old mid piece bytes line : List ℕ) (n start : ℕ) (last : Bool) (s0 s1 s2 : InputsState) → IsPiece old piece bytes n → mid ≡ old ++ piece → bytes ≡ mid → Reads s0 old s1 → Takes s1 piece s2 → s2.asked ≡ s1.asked → Stays s1 s2 → (last ≡ true → AtEnd s2.rest) → (last ≡ false → s2.ends ≤ s0.ends)
+pub beginning_read : (old mid piece bytes line : List ℕ) (n start : ℕ) (last : Bool) (s0 s1 s2 : InputsState) → IsPiece old piece bytes n → mid ≡ old ++ piece → bytes ≡ mid → Reads s0 old s1 → TakesInput s1 piece s2 → s2.asked ≡ s1.asked → InputsStay s1 s2 → (last ≡ true → AtEnd s2.rest) → (last ≡ false → s2.ends ≤ s0.ends)
     → length old ≤ longest_header → length piece ≤ turn_bytes → (start ≤ length bytes) × IsBeginning bytes last line start → BeginAt bytes start → ReadsBeginning mid line start last s0 s2
 beginning_read old mid piece bytes line n start last s0 s1 s2 p a b r t q k e more few short j begin =
     subst (λ (m : List ℕ). ReadsBeginning m line start last s0 s2) b (record {
@@ -300,5 +300,5 @@ unread_turn old mid new name bytes left event r n q small late (inl h) =
 unread_turn old mid new name bytes left event r n q small late (inr h) = absurd (small h.0)
 
 -- what was read, by its parts
-pub reads_by : (old new : InputsState) (bytes : List ℕ) → new.selected ≡ true → old.rest ≡ preceded bytes new.rest → new.given ≤ old.given + length bytes → new.asked ≡ old.asked → Stays old new → new.selects ≡ old.selects → Reads old bytes new
+pub reads_by : (old new : InputsState) (bytes : List ℕ) → new.selected ≡ true → old.rest ≡ preceded bytes new.rest → new.given ≤ old.given + length bytes → new.asked ≡ old.asked → InputsStay old new → new.selects ≡ old.selects → Reads old bytes new
 reads_by old new bytes s t g q k c = record { takes = record { selected = s; taken = t; given = g; selects = c }; asked = q; stays = k }

@@ -6,7 +6,7 @@ use Rattle.std.proofs.lemmas.Bool.Decides.{nat_tests}
 use Rattle.std.proofs.lemmas.List.{drop-take, length-take, length-take-le, take-take}
 use Rattle.std.proofs.lemmas.Slice.Eq.{bytes_eq-Decides}
 use Rattle.x7_words.specs.Count.{HasRisen}
-use Rattle.x7_words.specs.Input.{InputsState, Asks, AtEnd, Misses, Selects, Stays, Takes, preceded}
+use Rattle.x7_words.specs.Input.{InputsState, Asks, AtEnd, Misses, RestIsWhole, InputsStay, TakesInput, preceded}
 use Rattle.x7_words.specs.Input.{Lacks as MapLacks}
 use Rattle.x7_words.specs.Word.{AreBytes}
 use Rattle.x7_words.proofs.CountLemmas.{risen_from}
@@ -30,7 +30,7 @@ use Rattle.std.proofs.Math.Seq.{take-append-add}
 -- ---- what was taken
 
 -- what is known of a stream of which these bytes were taken
-pub known_all : (inputs : List ℕ → Option (List ℕ)) (stream taken : List ℕ) (rest : Option (List ℕ)) → Selects (Some inputs) stream (preceded taken rest) → (left : List ℕ) × ((rest ≡ Some left) × (inputs stream ≡ Some (taken ++ left)))
+pub known_all : (inputs : List ℕ → Option (List ℕ)) (stream taken : List ℕ) (rest : Option (List ℕ)) → RestIsWhole (Some inputs) stream (preceded taken rest) → (left : List ℕ) × ((rest ≡ Some left) × (inputs stream ≡ Some (taken ++ left)))
 known_all inputs stream taken None s = let h = s.2 in absurd (cc)
 known_all inputs stream taken (Some left) s =
     let h = s.2 in
@@ -236,13 +236,13 @@ among_one names name h n (inl e) = rw e h
 among_one names name h n (inr e) = absurd e
 
 -- a name that failed is one of more names, and its count rose over more calls
-fails_in : (some all : List (List ℕ)) (old mid new : InputsState) → ((n : List ℕ) → Among some n → Among all n) → Stays old mid → (n : List ℕ) → FailsAmong some mid new n → FailsAmong all old new n
+fails_in : (some all : List (List ℕ)) (old mid new : InputsState) → ((n : List ℕ) → Among some n → Among all n) → InputsStay old mid → (n : List ℕ) → FailsAmong some mid new n → FailsAmong all old new n
 fails_in some all old mid new a s n f = record { among = a n f.among; over = f.over; risen = risen_from old.faults mid.faults new.faults s.faults f.risen }
 
-lacks_in : (some all : List (List ℕ)) (old mid new : InputsState) → ((n : List ℕ) → Among some n → Among all n) → Stays old mid → (n : List ℕ) → LacksAmong some mid new n → LacksAmong all old new n
+lacks_in : (some all : List (List ℕ)) (old mid new : InputsState) → ((n : List ℕ) → Among some n → Among all n) → InputsStay old mid → (n : List ℕ) → LacksAmong some mid new n → LacksAmong all old new n
 lacks_in some all old mid new a s n f = record { among = a n f.among; over = f.over; risen = risen_from old.absences mid.absences new.absences s.absences f.risen }
 
-pub came_in : (some all : List (List ℕ)) (old mid new : InputsState) → ((n : List ℕ) → Among some n → Among all n) → Stays old mid → (m : Mishap) → CameIn (step_over some mid new) m → CameIn (step_over all old new) m
+pub came_in : (some all : List (List ℕ)) (old mid new : InputsState) → ((n : List ℕ) → Among some n → Among all n) → InputsStay old mid → (m : Mishap) → CameIn (step_over some mid new) m → CameIn (step_over all old new) m
 came_in some all old mid new a s (Failing name given) h = (h.0, fails_in some all old mid new a s name h.1)
 came_in some all old mid new a s (Lacking name) h = lacks_in some all old mid new a s name h
 
@@ -253,7 +253,7 @@ left_at f ss k s h e =
 
 -- a stream that ended the command
 pub stream_err : {X : Type 0} (f : X → List ℕ) (old mid new : InputsState) (flash : Option (List ℕ)) (ss : List X) (k limit room : ℕ) (s : X) (name whole : List ℕ) (event : Event)
-    → Stays old mid → k < length ss → s ≡ get_or ss k s → name ≡ f s → Rests old.contents (map f ss) limit (map f (drop k ss)) room whole
+    → InputsStay old mid → k < length ss → s ≡ get_or ss k s → name ≡ f s → Rests old.contents (map f ss) limit (map f (drop k ss)) room whole
     → IsCaused (with_inputs mid.contents flash) (CameIn (step_over (name ∷ []) mid new)) (λ t. read_of t room name) (Err event)
     → IsCaused (with_inputs old.contents flash) (CameIn (step_over (map f ss) old new)) (λ t. data_of t limit (map f ss)) (Err event)
 stream_err f old mid new flash ss k limit room s name whole event stays h e nm due got =
@@ -354,7 +354,7 @@ pub rest_more : (old mid new : Option (List ℕ)) (taken piece : List ℕ) → o
 rest_more old mid new taken piece e f = e ∙ ap (preceded taken) f ∙ preceded_preceded taken piece new
 
 -- what was read of an input from a moment on, and a piece more
-pub reads_on : (old mid new : InputsState) (taken piece : List ℕ) → Reads old taken mid → Takes mid piece new → new.asked ≡ mid.asked → Stays mid new → Reads old (taken ++ piece) new
+pub reads_on : (old mid new : InputsState) (taken piece : List ℕ) → Reads old taken mid → TakesInput mid piece new → new.asked ≡ mid.asked → InputsStay mid new → Reads old (taken ++ piece) new
 reads_on old mid new taken piece r t a s = record { takes = takes_on old mid new taken piece r.takes t; asked = a ∙ r.asked; stays = stays_on old mid new r.stays s }
 
 pub reads_none : (s : InputsState) → s.selected ≡ true → Reads s [] s
@@ -376,7 +376,7 @@ pub rest_unread : (old mid new : InputsState) (name taken : List ℕ) (limit lef
 rest_unread old mid new name taken limit left event r n u a = (unread_on old mid new name taken limit left event r n u, a ∙ r.asked)
 
 -- the first turn of an input
-pub reads_first : (old new : InputsState) (piece : List ℕ) → Takes old piece new → new.asked ≡ old.asked → Stays old new → Reads old piece new
+pub reads_first : (old new : InputsState) (piece : List ℕ) → TakesInput old piece new → new.asked ≡ old.asked → InputsStay old new → Reads old piece new
 reads_first old new piece t a s = record { takes = t; asked = a; stays = s }
 
 -- want of memory, or what was left after the first turn was not read
@@ -385,7 +385,7 @@ want_or_rest old mid new name taken limit left event r n (inl e) = inl e
 want_or_rest old mid new name taken limit left event r n (inr h) = inr (rest_unread old mid new name taken limit left event r n h.0 h.1)
 
 -- an input that was read to its end
-pub whole_read : (contents : Option (List ℕ → Option (List ℕ))) (flash : Option (List ℕ)) (C : Mishap → Type 0) (name whole : List ℕ) (rest : Option (List ℕ)) (limit : ℕ) → Selects contents name (preceded whole rest) → AtEnd rest → length whole ≤ limit
+pub whole_read : (contents : Option (List ℕ → Option (List ℕ))) (flash : Option (List ℕ)) (C : Mishap → Type 0) (name whole : List ℕ) (rest : Option (List ℕ)) (limit : ℕ) → RestIsWhole contents name (preceded whole rest) → AtEnd rest → length whole ≤ limit
     → IsCaused (with_inputs contents flash) C (λ t. whole_in t limit name) (Ok whole)
 whole_read None flash C name whole rest limit s e h = inr tt
 whole_read (Some inputs) flash C name whole rest limit s e h =
@@ -396,13 +396,13 @@ whole_read (Some inputs) flash C name whole rest limit s e h =
     inr (tt, rw (is, short) refl)
 
 -- where the first turn was the last one, nothing more was read
-none_more : (inputs : List ℕ → Option (List ℕ)) (name first more : List ℕ) (mid rest : Option (List ℕ)) → Selects (Some inputs) name (preceded first mid) → mid ≡ preceded more rest → AtEnd mid → more ≡ []
+none_more : (inputs : List ℕ → Option (List ℕ)) (name first more : List ℕ) (mid rest : Option (List ℕ)) → RestIsWhole (Some inputs) name (preceded first mid) → mid ≡ preceded more rest → AtEnd mid → more ≡ []
 none_more inputs name first more mid None s e h = let t = known_all inputs name first mid s in let same = t.1.0 in absurd (cc)
 none_more inputs name first [] mid (Some rest) s e h = refl
 none_more inputs name first (x ∷ more) mid (Some rest) s e h = let none = rw e at h in absurd (cc)
 
 -- the first turn is the whole stream, or has as many bytes as the longest header
-enough : (inputs : List ℕ → Option (List ℕ)) (name first more : List ℕ) (mid rest : Option (List ℕ)) (last : Bool) → Selects (Some inputs) name (preceded first mid) → mid ≡ preceded more rest → (last ≡ true → AtEnd mid) → (last ≡ false → longest_header ≤ length first)
+enough : (inputs : List ℕ → Option (List ℕ)) (name first more : List ℕ) (mid rest : Option (List ℕ)) (last : Bool) → RestIsWhole (Some inputs) name (preceded first mid) → mid ≡ preceded more rest → (last ≡ true → AtEnd mid) → (last ≡ false → longest_header ≤ length first)
     → (more ≡ []) ⊎ (longest_header ≤ length first)
 enough inputs name first more mid rest true s e end long = inl (none_more inputs name first more mid rest s e (end refl))
 enough inputs name first more mid rest false s e end long = inr (long refl)
@@ -411,14 +411,14 @@ sum_more : (first more : List ℕ) (left limit : ℕ) → length more + left ≡
 sum_more first more left limit n l = (omega (arith, n, l, length-append first more), omega (arith, n, l, length-append first more))
 
 -- a stream whose data were read turn by turn
-pub stream_read : (contents : Option (List ℕ → Option (List ℕ))) (flash : Option (List ℕ)) (C : Mishap → Type 0) (name first more after : List ℕ) (mid rest : Option (List ℕ)) (limit left : ℕ) (last : Bool) → Selects contents name (preceded first mid) → mid ≡ preceded more rest → AtEnd rest
+pub stream_read : (contents : Option (List ℕ → Option (List ℕ))) (flash : Option (List ℕ)) (C : Mishap → Type 0) (name first more after : List ℕ) (mid rest : Option (List ℕ)) (limit left : ℕ) (last : Bool) → RestIsWhole contents name (preceded first mid) → mid ≡ preceded more rest → AtEnd rest
     → (last ≡ true → AtEnd mid) → (last ≡ false → longest_header ≤ length first) → AreBytes first → length more + left ≡ limit - length first → length first ≤ limit → Ok after ≡ data_in name first
     → IsCaused (with_inputs contents flash) C (λ t. read_of t limit name) (Ok (record { bytes = after ++ more; room = left }))
 stream_read None flash C name first more after mid rest limit left last s e end ends long fits n l head = inr tt
 stream_read (Some inputs) flash C name first more after mid rest limit left last s e end ends long fits n l head =
     let whole = first ++ more in
     let sizes = sum_more first more left limit n l in
-    let taken : Selects (Some inputs) name (preceded whole rest) = subst (λ (r : Option (List ℕ)). Selects (Some inputs) name r) (ap (preceded first) e ∙ preceded_preceded first more rest) s in
+    let taken : RestIsWhole (Some inputs) name (preceded whole rest) = subst (λ (r : Option (List ℕ)). RestIsWhole (Some inputs) name r) (ap (preceded first) e ∙ preceded_preceded first more rest) s in
     let judged : data_in name whole ≡ Ok (after ++ more) = data_more name first more fits (enough inputs name first more mid rest last s e ends long) ∙ ap (λ d. and_so d (λ bytes. Ok (bytes ++ more))) (sym head) in
     let read = stream_judged (with_inputs (Some inputs) flash) C limit name whole (Ok (after ++ more)) (whole_read (Some inputs) flash C name whole rest limit taken end sizes.1) (sym judged) in
     subst (λ (room : ℕ). IsCaused (with_inputs (Some inputs) flash) C (λ t. read_of t limit name) (Ok (record { bytes = after ++ more; room = room }))) (sym sizes.0) read
@@ -472,7 +472,7 @@ open_refused old new flash name limit event (inr h, s) a =
     (inl (fault_from (List ℕ) (with_inputs old.contents flash) old new name (λ t r. whole_in t limit name ≡ r) (record { among = inl refl; over = record { asked = a.asked; selected = s }; risen = h.1 }) (broken_due old.contents flash name limit new.given (omega (arith, a.given)))))
 
 -- an input of which more was taken than its limit
-over_whole : (contents : Option (List ℕ → Option (List ℕ))) (flash : Option (List ℕ)) (C : Mishap → Type 0) (name whole : List ℕ) (rest : Option (List ℕ)) (limit : ℕ) → Selects contents name (preceded whole rest) → limit < length whole
+over_whole : (contents : Option (List ℕ → Option (List ℕ))) (flash : Option (List ℕ)) (C : Mishap → Type 0) (name whole : List ℕ) (rest : Option (List ℕ)) (limit : ℕ) → RestIsWhole contents name (preceded whole rest) → limit < length whole
     → IsCaused (with_inputs contents flash) C (λ t. whole_in t limit name) (Err (too_large name))
 over_whole None flash C name whole rest limit s h = inr tt
 over_whole (Some inputs) flash C name whole rest limit s h =
@@ -481,7 +481,7 @@ over_whole (Some inputs) flash C name whole rest limit s h =
     inr (tt, rw (all.1.1, long) refl)
 
 -- an input that was opened and then not read to its end
-pub whole_refused : (old opened new : InputsState) (flash : Option (List ℕ)) (name : List ℕ) (limit : ℕ) (event : Event) → Stays old opened → Selects old.contents name opened.rest → Asks name opened → (event ≡ no_memory) ⊎ UnreadRest opened name new limit event
+pub whole_refused : (old opened new : InputsState) (flash : Option (List ℕ)) (name : List ℕ) (limit : ℕ) (event : Event) → InputsStay old opened → RestIsWhole old.contents name opened.rest → Asks name opened → (event ≡ no_memory) ⊎ UnreadRest opened name new limit event
     → IsCaused (with_inputs old.contents flash) (CameIn (step_over (name ∷ []) old new)) (λ t. whole_in t limit name) (Err event)
 whole_refused old opened new flash name limit event k s a (inl e) =
     caused_event (with_inputs old.contents flash) (CameIn (step_over (name ∷ []) old new)) (λ t. whole_in t limit name) event no_memory e (inl (inl refl))
@@ -492,7 +492,7 @@ whole_refused old opened new flash name limit event k s a (inr (inl h, q)) =
     (broken_due old.contents flash name limit new.given (omega (arith, a.given, h.1.given)))))
 whole_refused old opened new flash name limit event k s a (inr (inr h, q)) =
     let more = h.1.0 in
-    let taken : Selects old.contents name (preceded more new.rest) = subst (λ (r : Option (List ℕ)). Selects old.contents name r) h.1.1.0 s in
+    let taken : RestIsWhole old.contents name (preceded more new.rest) = subst (λ (r : Option (List ℕ)). RestIsWhole old.contents name r) h.1.1.0 s in
     caused_event (with_inputs old.contents flash) (CameIn (step_over (name ∷ []) old new)) (λ t. whole_in t limit name) event (too_large name) h.0
     (over_whole old.contents flash (CameIn (step_over (name ∷ []) old new)) name more new.rest limit taken (omega (arith, h.1.1.1)))
 
@@ -500,16 +500,16 @@ whole_refused old opened new flash name limit event k s a (inr (inr h, q)) =
 pub at_open : (name : List ℕ) (s : InputsState) → Asks name s → IsAt name [] s
 at_open name s a = record { asked = a.asked; given = omega (arith, a.given) }
 
-pub at_on : (name taken piece : List ℕ) (mid new : InputsState) → IsAt name taken mid → Takes mid piece new → new.asked ≡ mid.asked → IsAt name (taken ++ piece) new
+pub at_on : (name taken piece : List ℕ) (mid new : InputsState) → IsAt name taken mid → TakesInput mid piece new → new.asked ≡ mid.asked → IsAt name (taken ++ piece) new
 at_on name taken piece mid new a t q = record { asked = subst (λ (k : Option (List ℕ)). IfSome k (λ kept. kept ≡ name)) (sym q) a.asked; given = omega (arith, a.given, t.given, length-append taken piece) }
 
 -- an input that failed within its limit
-pub at_fault : (old mid new : InputsState) (name taken : List ℕ) (left : ℕ) → Stays old mid → IsAt name taken mid → Breaks mid (left + 1) new → new.asked ≡ mid.asked → FailsAmong (name ∷ []) old new name × (new.given ≤ length taken + left)
+pub at_fault : (old mid new : InputsState) (name taken : List ℕ) (left : ℕ) → InputsStay old mid → IsAt name taken mid → Breaks mid (left + 1) new → new.asked ≡ mid.asked → FailsAmong (name ∷ []) old new name × (new.given ≤ length taken + left)
 at_fault old mid new name taken left k a b q =
     (record { among = inl refl; over = record { asked = subst (λ (k : Option (List ℕ)). IfSome k (λ kept. kept ≡ name)) (sym q) a.asked; selected = b.selected }; risen = risen_from old.faults mid.faults new.faults k.faults b.risen }, omega (arith, a.given, b.given))
 
 -- a turn of an input that was not read
-pub turn_refused : (old mid new : InputsState) (flash : Option (List ℕ)) (name taken : List ℕ) (limit left : ℕ) (event : Event) → Stays old mid → Selects old.contents name (preceded taken mid.rest) → IsAt name taken mid → length taken + left ≡ limit → Unread mid name new left event → new.asked ≡ mid.asked
+pub turn_refused : (old mid new : InputsState) (flash : Option (List ℕ)) (name taken : List ℕ) (limit left : ℕ) (event : Event) → InputsStay old mid → RestIsWhole old.contents name (preceded taken mid.rest) → IsAt name taken mid → length taken + left ≡ limit → Unread mid name new left event → new.asked ≡ mid.asked
     → IsCaused (with_inputs old.contents flash) (CameIn (step_over (name ∷ []) old new)) (λ t. whole_in t limit name) (Err event)
 turn_refused old mid new flash name taken limit left event k s a n (inl h) q =
     let f = at_fault old mid new name taken left k a h.1 q in
@@ -517,12 +517,12 @@ turn_refused old mid new flash name taken limit left event k s a n (inl h) q =
     (inl (fault_from (List ℕ) (with_inputs old.contents flash) old new name (λ t r. whole_in t limit name ≡ r) f.0 (broken_due old.contents flash name limit new.given (omega (arith, f.1, n)))))
 turn_refused old mid new flash name taken limit left event k s a n (inr h) q =
     let piece = h.1.0 in
-    let all : Selects old.contents name (preceded (taken ++ piece) new.rest) = subst (λ (r : Option (List ℕ)). Selects old.contents name r) (ap (preceded taken) h.1.1.0 ∙ preceded_preceded taken piece new.rest) s in
+    let all : RestIsWhole old.contents name (preceded (taken ++ piece) new.rest) = subst (λ (r : Option (List ℕ)). RestIsWhole old.contents name r) (ap (preceded taken) h.1.1.0 ∙ preceded_preceded taken piece new.rest) s in
     caused_event (with_inputs old.contents flash) (CameIn (step_over (name ∷ []) old new)) (λ t. whole_in t limit name) event (too_large name) h.0
     (over_whole old.contents flash (CameIn (step_over (name ∷ []) old new)) name (taken ++ piece) new.rest limit all (omega (arith, n, h.1.1.1, length-append taken piece)))
 
 -- a stream whose data are read, and whose rest was not
-pub stream_unread : (old opened new : InputsState) (flash : Option (List ℕ)) (name : List ℕ) (limit : ℕ) (event : Event) → Stays old opened → Selects old.contents name opened.rest → Asks name opened → (event ≡ no_memory) ⊎ UnreadRest opened name new limit event
+pub stream_unread : (old opened new : InputsState) (flash : Option (List ℕ)) (name : List ℕ) (limit : ℕ) (event : Event) → InputsStay old opened → RestIsWhole old.contents name opened.rest → Asks name opened → (event ≡ no_memory) ⊎ UnreadRest opened name new limit event
     → IsCaused (with_inputs old.contents flash) (CameIn (step_over (name ∷ []) old new)) (λ t. read_of t limit name) (Err event)
 stream_unread old opened new flash name limit event k s a h =
     stops (with_inputs old.contents flash) (CameIn (step_over (name ∷ []) old new)) (λ t. whole_in t limit name) (λ t whole. and_so (data_in name whole) (λ bytes. Ok (record { bytes = bytes; room = limit - length whole }))) event
@@ -535,14 +535,14 @@ stream_unopened old new flash name limit event u a =
     (open_refused old new flash name limit event u a)
 
 -- a stream whose header is refused, after it was read to its end
-pub stream_refused : (contents : Option (List ℕ → Option (List ℕ))) (flash : Option (List ℕ)) (C : Mishap → Type 0) (name first more : List ℕ) (mid rest : Option (List ℕ)) (limit : ℕ) (last : Bool) (event : Event) → Selects contents name (preceded first mid) → mid ≡ preceded more rest → AtEnd rest
+pub stream_refused : (contents : Option (List ℕ → Option (List ℕ))) (flash : Option (List ℕ)) (C : Mishap → Type 0) (name first more : List ℕ) (mid rest : Option (List ℕ)) (limit : ℕ) (last : Bool) (event : Event) → RestIsWhole contents name (preceded first mid) → mid ≡ preceded more rest → AtEnd rest
     → (last ≡ true → AtEnd mid) → (last ≡ false → longest_header ≤ length first) → AreBytes first → length more ≤ limit - length first → length first ≤ limit → Err event ≡ data_in name first
     → IsCaused (with_inputs contents flash) C (λ t. read_of t limit name) (Err event)
 stream_refused None flash C name first more mid rest limit last event s e end ends long fits n l head = inr (head_by StreamRead name first (header_at first) event (sym head)).0
 stream_refused (Some inputs) flash C name first more mid rest limit last event s e end ends long fits n l head =
     let whole = first ++ more in
     let size : length whole ≤ limit = omega (arith, n, l, length-append first more) in
-    let taken : Selects (Some inputs) name (preceded whole rest) = subst (λ (r : Option (List ℕ)). Selects (Some inputs) name r) (ap (preceded first) e ∙ preceded_preceded first more rest) s in
+    let taken : RestIsWhole (Some inputs) name (preceded whole rest) = subst (λ (r : Option (List ℕ)). RestIsWhole (Some inputs) name r) (ap (preceded first) e ∙ preceded_preceded first more rest) s in
     let judged : data_in name whole ≡ Err event = data_more name first more fits (enough inputs name first more mid rest last s e ends long) ∙ ap (λ d. and_so d (λ bytes. Ok (bytes ++ more))) (sym head) in
     stream_judged (with_inputs (Some inputs) flash) C limit name whole (Err event) (whole_read (Some inputs) flash C name whole rest limit taken end size) (sym judged)
 
@@ -568,7 +568,7 @@ answers_stop A B some all old new due next event a h flash =
     (stops (with_inputs old.contents flash) (CameIn (step_over some old new)) due next event (h flash))
 
 -- a step that went on, and the next
-pub answers_go : (A B : Type 0) (some more all : List (List ℕ)) (old mid new : InputsState) (due : Known → Result A Event) (next : Known → A → Result B Event) (a : A) (got : Result B Event) → Steady A due → Stays old mid → ((n : List ℕ) → Among more n → Among all n)
+pub answers_go : (A B : Type 0) (some more all : List (List ℕ)) (old mid new : InputsState) (due : Known → Result A Event) (next : Known → A → Result B Event) (a : A) (got : Result B Event) → Steady A due → InputsStay old mid → ((n : List ℕ) → Among more n → Among all n)
     → AnswersAs {A = A} (step_over some old mid) due (Ok a) → AnswersAs {A = B} (step_over more mid new) (λ t. next t a) got → AnswersAs {A = B} (step_over all old new) (λ t. and_so (due t) (next t)) got
 answers_go A B some more all old mid new due next a got steady stays names h q flash =
     let q1 = subst (λ (c : Option (List ℕ → Option (List ℕ))). IsCaused (with_inputs c flash) (CameIn (step_over more mid new)) (λ t. next t a) got) stays.map (q flash) in

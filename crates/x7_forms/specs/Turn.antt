@@ -1,7 +1,7 @@
 -- Inputs that are read turn by turn (this project's choice). A turn reads as many bytes as a buffer holds, and what it
 -- read is used before the next turn.
 use Rattle.std.specs.Prelude.{◌≡◌, ◌≢◌, ◌<◌, ◌≤◌, ◌⊎◌, ◌++◌, ℕ, Bool, true, false, List, [], Some, Ok, Err, IfSome, drop, length, ◌+◌}
-use Rattle.x7_words.specs.Input.{InputsState, AtEnd, Fails, Misses, Stays, Takes, preceded}
+use Rattle.x7_words.specs.Input.{InputsState, AtEnd, InputsFail, Misses, InputsStay, TakesInput, preceded}
 use Rattle.x7_header.specs.Header.{Contents, EndsInHeader, HasOtherLetterAt, HaveHeader, fixed_bytes, fixed_size, header_bytes, longest_header}
 use Rattle.x7_forms.specs.Event.{Event, bad_input, missing, no_memory, reading_failed, too_large}
 use Rattle.x7_forms.specs.declared.bad_input.InputFault.TheVariants as input
@@ -24,19 +24,19 @@ play_turn_bytes = 266240
 
 -- an input was not opened: its name isn't there, or the inputs failed
 abbrev pub Unopened : InputsState → List ℕ → InputsState → Event → Type 0
-Unopened old name new event = (((event ≡ missing name) × Misses old name new) ⊎ ((event ≡ reading_failed name) × Fails old new)) × (new.selected ≡ false)
+Unopened old name new event = (((event ≡ missing name) × Misses old name new) ⊎ ((event ≡ reading_failed name) × InputsFail old new)) × (new.selected ≡ false)
 
 -- the selected input failed after fewer than `most` bytes more, and no input is selected any more
 pub record Breaks (old : InputsState) (most : ℕ) (new : InputsState) : Type 0 where
-  pub risen : Fails old new
+  pub risen : InputsFail old new
   pub selected : new.selected ≡ false
   pub given : new.given < old.given + most
 
 -- the bytes were read of the open input, and the name last asked for stays
 pub record Reads (old : InputsState) (bytes : List ℕ) (new : InputsState) : Type 0 where
-  pub takes : Takes old bytes new
+  pub takes : TakesInput old bytes new
   pub asked : new.asked ≡ old.asked
-  pub stays : Stays old new
+  pub stays : InputsStay old new
 
 -- no more than these bytes were given of the input of this name, the last that was asked for
 pub record IsAt (name bytes : List ℕ) (now : InputsState) : Type 0 where

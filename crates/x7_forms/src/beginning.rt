@@ -1,7 +1,7 @@
 //! The beginning of a stream that is listed, up to where its header is judged.
 ghost use Rattle.std.specs.Prelude.{◌≡◌, ◌≤◌, ◌+◌, ◌⊎◌, ℕ, length, true, false, IfErr, IfOk, MatchOption, OnOk};
 ghost use Rattle.x7_header.specs.Header.{fixed_size};
-ghost use Rattle.x7_words.specs.Input.{Stays};
+ghost use Rattle.x7_words.specs.Input.{InputsStay};
 ghost use Rattle.x7_forms.specs.Event.{bad_input, no_memory};
 ghost use Rattle.x7_forms.specs.Message.{event_of};
 ghost use Rattle.x7_forms.specs.Known.{stream_limit};
@@ -93,7 +93,7 @@ pub fn read_beginning<'w, I: Inputs>(
     ensures err { IfErr result (λ r. UnreadBeginning (I.state inputs.old) stream.now (I.state inputs.new) (event_of r)) }
     ensures few { GivesFew (I.state inputs.old) stream_limit (I.state inputs.new) }
     ensures short { (I.state inputs.new).given ≤ (I.state inputs.old).given + longest_beginning }
-    ensures inputs { Stays (I.state inputs.old) (I.state inputs.new) }
+    ensures inputs { InputsStay (I.state inputs.old) (I.state inputs.new) }
 {
     let mut bytes = Vec::new(alloc);
     let mut piece = [0u8; TURN_BYTES];

@@ -1,6 +1,6 @@
 //! Reading an input in turns: each fills a buffer, which is used before the next turn.
 ghost use Rattle.std.specs.Prelude.{◌≡◌, ◌+◌, ◌-◌, ◌<◌, ◌≤◌, ◌++◌, ◌⊎◌, ℕ, List, drop, length, take, true, false, vec_len, IfErr, IfOk, OnOk};
-ghost use Rattle.x7_words.specs.Input.{Asks, AsksFew, AsksOnce, AtEnd, Opens, Stays, Takes};
+ghost use Rattle.x7_words.specs.Input.{Asks, AsksFew, AsksOnce, AtEnd, Opens, InputsStay, TakesInput};
 ghost use Rattle.x7_words.specs.Word.{AreBytes};
 ghost use Rattle.x7_forms.specs.Message.{event_of};
 ghost use Rattle.x7_forms.specs.Event.{no_memory, reading_failed, too_large};
@@ -40,7 +40,7 @@ fn turn_len(left: usize, room: usize) -> usize
 /// fewer than it holds only where the input ended.
 fn fill<'w, I: Inputs>(inputs: &mut I, name: &'w str, buf: &mut [u8]) -> Result<usize, Refusal<'w>>
     requires { (I.state inputs.old).selected ≡ true }
-    ensures ok { IfOk result (λ n. Takes (I.state inputs.old) (take n buf.new) (I.state inputs.new)) }
+    ensures ok { IfOk result (λ n. TakesInput (I.state inputs.old) (take n buf.new) (I.state inputs.new)) }
     ensures within { IfOk result (λ n. n ≤ length buf.old) }
     ensures end { IfOk result (λ n. n < length buf.old → AtEnd (I.state inputs.new).rest) }
     ensures full { IfOk result (λ n. n ≡ length buf.old → (I.state inputs.new).ends ≤ (I.state inputs.old).ends) }
@@ -50,7 +50,7 @@ fn fill<'w, I: Inputs>(inputs: &mut I, name: &'w str, buf: &mut [u8]) -> Result<
     ensures asked { (I.state inputs.new).asked ≡ (I.state inputs.old).asked }
     ensures given { (I.state inputs.new).given ≤ (I.state inputs.old).given + length buf.old }
     ensures selects { (I.state inputs.new).selects ≡ (I.state inputs.old).selects }
-    ensures inputs { Stays (I.state inputs.old) (I.state inputs.new) }
+    ensures inputs { InputsStay (I.state inputs.old) (I.state inputs.new) }
 {
     let mut at = 0;
     while at < buf.len() {
@@ -75,7 +75,7 @@ pub fn open<'w, I: Inputs>(inputs: &mut I, name: &'w str) -> Result<(), Refusal<
     ensures err { IfErr result (λ r. Unopened (I.state inputs.old) name.now (I.state inputs.new) (event_of r)) }
     ensures asks { Asks name.now (I.state inputs.new) }
     ensures once { AsksOnce (I.state inputs.old) (I.state inputs.new) }
-    ensures inputs { Stays (I.state inputs.old) (I.state inputs.new) }
+    ensures inputs { InputsStay (I.state inputs.old) (I.state inputs.new) }
 {
     match inputs.select(name) {
         Ok(()) => Ok(()),
@@ -108,7 +108,7 @@ pub fn next_turn<'w, I: Inputs>(
 ) -> Result<Turn, Refusal<'w>>
     requires selected { (I.state inputs.old).selected ≡ true }
     requires some { 0 < length buf.old }
-    ensures ok { IfOk result (λ turn. Takes (I.state inputs.old) (take turn.count buf.new) (I.state inputs.new)) }
+    ensures ok { IfOk result (λ turn. TakesInput (I.state inputs.old) (take turn.count buf.new) (I.state inputs.new)) }
     ensures within { IfOk result (λ turn. (turn.count ≤ left) × (turn.count ≤ length buf.old)) }
     ensures fills { IfOk result (λ turn. turn.last ≡ false → turn.count ≡ length buf.old) }
     ensures end { IfOk result (λ turn. turn.last ≡ true → AtEnd (I.state inputs.new).rest) }
@@ -120,7 +120,7 @@ pub fn next_turn<'w, I: Inputs>(
     ensures asked { (I.state inputs.new).asked ≡ (I.state inputs.old).asked }
     ensures few { GivesFew (I.state inputs.old) left (I.state inputs.new) }
     ensures turn { (I.state inputs.new).given ≤ (I.state inputs.old).given + length buf.old }
-    ensures inputs { Stays (I.state inputs.old) (I.state inputs.new) }
+    ensures inputs { InputsStay (I.state inputs.old) (I.state inputs.new) }
 {
     let most = turn_len(left, buf.len());
     let count = fill(inputs, name, &mut buf[..most])?;
@@ -148,7 +148,7 @@ fn read_rest<'w, I: Inputs>(
     ensures ok { OnOk result ((more : List ℕ) × (onto.new.items ≡ onto.old.items ++ more) × (length more ≤ limit) × ReadsRest (I.state inputs.old) (I.state inputs.new) more) }
     ensures err { IfErr result (λ r. (event_of r ≡ no_memory) ⊎ UnreadRest (I.state inputs.old) name.now (I.state inputs.new) limit (event_of r)) }
     ensures few { GivesFew (I.state inputs.old) limit (I.state inputs.new) }
-    ensures inputs { Stays (I.state inputs.old) (I.state inputs.new) }
+    ensures inputs { InputsStay (I.state inputs.old) (I.state inputs.new) }
 {
     let mut piece = [0u8; TURN_BYTES];
     let mut left = limit;
@@ -174,7 +174,7 @@ pub fn read_whole<'w, I: Inputs>(
     ensures within { IfOk result (λ whole. vec_len whole ≤ limit) }
     ensures stands { StandsAt name.now limit (I.state inputs.new) }
     ensures once { AsksFew (I.state inputs.old) 1 (I.state inputs.new) }
-    ensures inputs { Stays (I.state inputs.old) (I.state inputs.new) }
+    ensures inputs { InputsStay (I.state inputs.old) (I.state inputs.new) }
 {
     open(inputs, name)?;
     let mut whole = Vec::new(alloc);
@@ -199,7 +199,7 @@ pub fn skip_rest<'w, I: Inputs>(
     ensures length { length buf.new ≡ length buf.old }
     ensures few { GivesFew (I.state inputs.old) limit (I.state inputs.new) }
     ensures ended { last ≡ true → (I.state inputs.new).ends ≤ (I.state inputs.old).ends }
-    ensures inputs { Stays (I.state inputs.old) (I.state inputs.new) }
+    ensures inputs { InputsStay (I.state inputs.old) (I.state inputs.new) }
 {
     if last {
         return Ok(());

@@ -41,7 +41,7 @@ HasRegister (Write register count) = register < 32
 HasRegister (Read register count) = register < 32
 HasRegister _ = Unit {0}
 
--- how many bytes the line of one word has at most, with its end
+-- a bound on the bytes of the line of one word, with its end (the longest, `write BOOTSTS 2047`, has 19)
 abbrev pub line_size : ℕ
 line_size = 47
 

@@ -84,8 +84,8 @@ abbrev pub in_session : List Packet → Reading
 in_session packets = reading_of_place (Synced [] packets [])
 
 -- a session after no gap, with these packets and this tail of bytes
-abbrev pub with_tail : List Packet → List ℕ → Reading
-with_tail packets tail = reading_of_place (Synced [] packets tail)
+abbrev pub session_with_tail : List Packet → List ℕ → Reading
+session_with_tail packets tail = reading_of_place (Synced [] packets tail)
 
 -- ended sessions, and the gap after them
 abbrev pub then_gap : List Session → List ℕ → Reading

@@ -3,7 +3,7 @@
 use Rattle.std.specs.Prelude.{◌≡◌, ℕ, ◌+◌, ◌^◌, ◌<◌, ◌≤◌, ◌↔◌, List, [], ◌++◌, length, take, drop, Bool, true, false, if◌then◌else◌, Option, Result, Ok, Err, OnErr, OnOk, ◌⊎◌}
 use Rattle.std.specs.Borrow.{Bor, Fml, MutBor}
 use Rattle.std.specs.Io.BufRead.{Rests}
-use Rattle.x7_words.specs.Input.{AtEnd, Fails, InputsState, Stays, preceded}
+use Rattle.x7_words.specs.Input.{AtEnd, InputsFail, InputsState, InputsStay, preceded}
 use Rattle.x7_words.specs.declared.input.Failed.{Failed}
 use Rattle.x7_packets.specs.Reading.{Place, Searching, Synced, Session, IsReading, tail_of}
 use Rattle.x7_packets.specs.Cutter.{CutterStandsFor, Cuts, IsLent, IsNeed, SkipsAll}
@@ -17,7 +17,7 @@ use Rattle.x7_packets.specs.contracts.stream.Packets.{the_row}
 use Rattle.x7_packets.specs.PacketsState.{PacketsState, piece_size}
 use Rattle.x7_packets.specs.Run.{IsNext, cut_of, is_last, bytes_of_run}
 
--- the place with these bytes of no whole word
+-- the place with these bytes of no whole word where it is in a session; a gap stays
 abbrev pub with_tail : List ℕ → Place → Place
 with_tail tail (Searching gap) = Searching gap
 with_tail tail (Synced gap packets old) = Synced gap packets tail
@@ -26,8 +26,8 @@ with_tail tail (Synced gap packets old) = Synced gap packets tail
 abbrev pub not_given : PacketsState → List ℕ
 not_given p = if p.done then [] else p.cutter.kept
 
--- The reader stands for these bytes: those that its runs gave, those that its
--- cutter keeps, and those that it has not taken.
+-- The reader stands for these bytes: those that its runs gave, those that its cutter keeps, and those in
+-- the buffer that the cutter hasn't taken.
 pub record PacketsStandFor (p : PacketsState) (bytes given : List ℕ) : Type 0 where
   pub sessions : List Session
   pub place : Place
@@ -137,10 +137,10 @@ pub record MayCall (p : PacketsState) (input : InputsState) : Type 0 where
 -- what a call makes of the input, and of an earlier failure: the input stays one and is selected after a run; the call
 -- fails where a read failed in it or an earlier call failed, and then always
 pub record CallsOn {T : Type 0} (p : PacketsState) (old new : InputsState) (result : Result T Failed) : Type 0 where
-  pub failed : OnErr result ((p.failed ≡ true) ⊎ Fails old new)
+  pub failed : OnErr result ((p.failed ≡ true) ⊎ InputsFail old new)
   pub selected : OnOk result (new.selected ≡ true)
   pub stays : p.failed ≡ true → OnOk result ⊥
-  pub inputs : Stays old new
+  pub inputs : InputsStay old new
 
 -- the call failed: what it took before that still counts
 pub record GivesUp (old new : PacketsState) : Type 0 where

@@ -1,7 +1,7 @@
 //! Worked examples: the definitions compute to these values, which follow from the format's rules.
 ghost use Rattle.std.specs.Prelude.{◌≡◌, [], ◌∷◌, ◌++◌};
 ghost use Rattle.x7_packets.specs.ByHand.{packets_of, reading_of};
-ghost use Rattle.x7_packets.specs.Examples.{bad, bad_at, desync, desynced, filler, in_session, nop, opened, opening, read, read_at, reading_of_place, session_with, synced, then_gap, with_tail, write_at, write_of, write_packet};
+ghost use Rattle.x7_packets.specs.Examples.{bad, bad_at, desync, desynced, filler, in_session, nop, opened, opening, read, read_at, reading_of_place, session_with, synced, then_gap, session_with_tail, write_at, write_of, write_packet};
 ghost use Rattle.x7_packets.specs.History.{executed, history_of};
 ghost use Rattle.x7_packets.specs.Reading.{Searching, Synced};
 ghost use Rattle.x7_packets.specs.CheckedWrites.{open_writes};
@@ -45,11 +45,11 @@ pub fn examples_of_ends()
     ensures cut_off_count { reading_of (synced (0x30004004 ∷ 17 ∷ []))
         ≡ in_session (opening 0x30004004 2 4 (17 ∷ []) ∷ []) }
     ensures tail_of_one { reading_of (synced (0x20000000 ∷ []) ++ 0x30 ∷ [])
-        ≡ with_tail (nop 0x20000000 ∷ []) (0x30 ∷ []) }
+        ≡ session_with_tail (nop 0x20000000 ∷ []) (0x30 ∷ []) }
     ensures tail_of_two { reading_of (synced (0x20000000 ∷ []) ++ 0x30 ∷ 0 ∷ [])
-        ≡ with_tail (nop 0x20000000 ∷ []) (0x30 ∷ 0 ∷ []) }
+        ≡ session_with_tail (nop 0x20000000 ∷ []) (0x30 ∷ 0 ∷ []) }
     ensures tail_of_three { reading_of (synced (0x20000000 ∷ []) ++ 0x30 ∷ 0 ∷ 0x80 ∷ [])
-        ≡ with_tail (nop 0x20000000 ∷ []) (0x30 ∷ 0 ∷ 0x80 ∷ []) }
+        ≡ session_with_tail (nop 0x20000000 ∷ []) (0x30 ∷ 0 ∷ 0x80 ∷ []) }
 {}
 
 /// What a stream asks of the registers: a write to FAR executes RCRC again.

@@ -1,6 +1,6 @@
 //! Packets over an input: its runs, one after another, lent out of one buffer.
 ghost use Rattle.std.specs.Prelude.{◌≡◌, ◌≢◌, ◌≤◌, ◌<◌, ◌+◌, ◌^◌, ◌⊎◌, ℕ, List, [], length, take, vec_len, true, false, IfNone, IfOk, IfSome, OnErr, OnOk};
-ghost use Rattle.x7_words.specs.Input.{AtEnd, Fails, Stays};
+ghost use Rattle.x7_words.specs.Input.{AtEnd, InputsFail, InputsStay};
 ghost use Rattle.x7_packets.specs.Cutter.{IsNeed};
 ghost use Rattle.x7_packets.specs.Mode.{Mode};
 ghost use Rattle.x7_packets.specs.FoundRun.{FoundRun, found_of};
@@ -79,7 +79,8 @@ fn buffer_of(alloc: Global, first: &[u8]) -> Result<Vec<u8>, NoMemory>
 pub struct Packets {
     cutter: Cutter,
     buffer: Vec<u8>,
-    // The last run's bytes end where those begin that the cutter has not taken.
+    // In the buffer: the last run's bytes from `start` to `at`, and from there to
+    // `end` those that the cutter hasn't taken.
     start: usize,
     at: usize,
     end: usize,
@@ -143,11 +144,11 @@ impl Packets {
         requires end { self.old.done ≡ true → AtEnd (I.state inputs.old).rest }
         requires count { self.old.taken ≤ 2 ^ 63 }
         ensures* next { sem 𝓛 (EndsNextCall self.entry (I.state inputs.old).rest (I.state inputs.new).rest result) }
-        ensures failed { OnErr result ((self.old.failed ≡ true) ⊎ Fails (I.state inputs.old) (I.state inputs.new)) }
+        ensures failed { OnErr result ((self.old.failed ≡ true) ⊎ InputsFail (I.state inputs.old) (I.state inputs.new)) }
         ensures selected { OnOk result ((I.state inputs.new).selected ≡ true) }
         ensures stays { self.old.failed ≡ true → OnOk result ⊥ }
         ensures ended { self.old.done ≡ true → inputs.new ≡ inputs.old }
-        ensures inputs { Stays (I.state inputs.old) (I.state inputs.new) }
+        ensures inputs { InputsStay (I.state inputs.old) (I.state inputs.new) }
     {
         self.advance(inputs)?;
         Ok(self.run())
@@ -224,9 +225,9 @@ impl Packets {
         requires count { self.old.taken + piece_size < 2 ^ 64 }
         ensures ok { IfOk result (λ any. Fills self.old self.new (I.state inputs.old).rest (I.state inputs.new).rest any) }
         ensures err { OnErr result (self.new ≡ record self.old { bytes = []; failed = true }) }
-        ensures failed { OnErr result (Fails (I.state inputs.old) (I.state inputs.new)) }
+        ensures failed { OnErr result (InputsFail (I.state inputs.old) (I.state inputs.new)) }
         ensures selected { OnOk result ((I.state inputs.new).selected ≡ true) }
-        ensures inputs { Stays (I.state inputs.old) (I.state inputs.new) }
+        ensures inputs { InputsStay (I.state inputs.old) (I.state inputs.new) }
     {
         self.start = 0;
         self.at = 0;

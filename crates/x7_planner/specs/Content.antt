@@ -35,18 +35,18 @@ pub record IsFirst (rows : List PlanRow) (words : List ℕ) (start : ℕ) : Type
   pub has : (d : PlanRow) → (slice_index_or rows start d).words ≡ words
   pub before : (d : PlanRow) → 0 < start → (slice_index_or rows (start - 1) d).words ≢ words
 
--- the content of the row before a place begins at start, which is 0 at the first place
+-- `start` is the first place with the words of the row before `place`; at place 0 it is 0
 pub record IsBegun (rows : List PlanRow) (start place : ℕ) : Type 0 where
   pub no_later : start ≤ place
   pub none : place ≡ 0 → start ≡ 0
   pub first : (d : PlanRow) → 0 < place → IsFirst rows (slice_index_or rows (place - 1) d).words start
 
--- the content at each place begins where firsts says
+-- for each place `firsts` has the first place with the same words
 pub record AreFirsts (rows : List PlanRow) (firsts : List ℕ) : Type 0 where
   pub count : length firsts ≡ length rows
   pub each : (k : ℕ) (d : PlanRow) → k < length rows → IsFirst rows (slice_index_or rows k d).words (slice_index_or firsts k 0)
 
--- each row's content begins where starts says
+-- for each row of the plan `starts` has the first place of its words among the grouped rows
 pub record AreStarts (rows grouped : List PlanRow) (starts : List ℕ) : Type 0 where
   pub count : length starts ≡ length rows
   pub each : (i : ℕ) (d : PlanRow) → i < length rows → IsFirst grouped (slice_index_or rows i d).words (slice_index_or starts i 0)

@@ -16,7 +16,7 @@ pub(crate) struct Content<'p> {
 }
 
 /// Whether two frames have the same words.
-pub(crate) fn is_same(a: &[u32], b: &[u32]) -> bool
+pub(crate) fn have_same_words(a: &[u32], b: &[u32]) -> bool
     ensures { result ≡ same_words a.now b.now }
 {
     a == b
@@ -53,7 +53,7 @@ fn start_at(contents: &[Content], start: usize, place: usize) -> usize
     ensures first { (d : PlanRow) → IsFirst (content_rows contents.now) (slice_index_or (content_rows contents.now) place d).words result }
     ensures no_later { result ≤ place }
 {
-    if is_same(contents[place].words, contents[start].words) {
+    if have_same_words(contents[place].words, contents[start].words) {
         return start;
     }
     place

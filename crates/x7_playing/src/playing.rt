@@ -1,6 +1,6 @@
 //! Playing the data of streams while they are read.
 ghost use Rattle.std.specs.Prelude.{◌≡◌, ℕ, List, [], ◌∷◌, ◌+◌, ◌<◌, ◌≤◌, ◌⊎◌, true, length, map, string_bytes, Ok, Err, IfErr, IfOk};
-ghost use Rattle.x7_words.specs.Input.{AsksFew, AtEnd, Stays};
+ghost use Rattle.x7_words.specs.Input.{AsksFew, AtEnd, InputsStay};
 ghost use Rattle.x7_forms.specs.Message.{event_of};
 ghost use Rattle.x7_forms.specs.Event.{no_memory};
 ghost use Rattle.x7_forms.specs.Known.{stream_limit};
@@ -39,7 +39,7 @@ fn play_rest<'w, I: Inputs>(
     ensures length { length piece.new ≡ length piece.old }
     ensures few { GivesFew (I.state inputs.old) limit (I.state inputs.new) }
     ensures ended { last ≡ true → (I.state inputs.new).ends ≤ (I.state inputs.old).ends }
-    ensures inputs { Stays (I.state inputs.old) (I.state inputs.new) }
+    ensures inputs { InputsStay (I.state inputs.old) (I.state inputs.new) }
 {
     if last {
         return Ok(limit);
@@ -74,7 +74,7 @@ fn play_stream<'w, I: Inputs>(
     ensures stands { StandsAt name.now limit (I.state inputs.new) }
     ensures once { AsksFew (I.state inputs.old) 1 (I.state inputs.new) }
     ensures length { length piece.new ≡ length piece.old }
-    ensures inputs { Stays (I.state inputs.old) (I.state inputs.new) }
+    ensures inputs { InputsStay (I.state inputs.old) (I.state inputs.new) }
 {
     open(inputs, name)?;
     let first = next_turn(inputs, name, limit, piece)?;
@@ -107,7 +107,7 @@ pub fn play_streams<'w, I: Inputs>(
     ensures stops { IfErr result (λ r. StopsAmong (limited_together (I.state inputs.old).contents stream_limit (map string_bytes streams.now))
         (I.state inputs.old) (I.state inputs.new) (event_of r)) }
     ensures once { AsksFew (I.state inputs.old) (length streams.now) (I.state inputs.new) }
-    ensures inputs { Stays (I.state inputs.old) (I.state inputs.new) }
+    ensures inputs { InputsStay (I.state inputs.old) (I.state inputs.new) }
 {
     let Ok(mut player) = Player::new(alloc, part) else {
         return Err(Refusal::unnamed(Why::NoMemory));

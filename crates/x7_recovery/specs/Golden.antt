@@ -44,7 +44,8 @@ pub record HaveSameGolden (part : PartData) (one other : List ℕ) (t : AttemptC
   pub fits : AreBytes one × AreBytes other
   pub least : (sector_bytes ≤ length one) × (sector_bytes ≤ length other)
 
--- The golden stream starts: with the first sector erased the attempt at power starts, and it ends at U or before it.
+-- The golden stream starts: with the first sector erased the attempt at power starts, and it ends
+-- at the update's place or before it.
 pub record GoldenStarts (part : PartData) (flash : List ℕ) (t : AttemptCourse) : Type 0 where
   pub starts : StartsAtPower part (with_erased flash) t
   pub ends : length t.bytes ≤ update_place flash

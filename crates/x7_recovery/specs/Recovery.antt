@@ -29,7 +29,7 @@ pub record Updating : Type 0 where
 abbrev pub updating_image : PartData → PlanData → List ℕ → List ℕ → Updating
 updating_image part golden update stream = record { part = part; golden = golden; flash = golden_image part golden update; stream = stream }
 
--- after the first sector stands the full stream of the plan, which ends at U or before it
+-- after the first sector stands the full stream of the plan, which ends at the update's place or before it
 pub record HasGolden (part : PartData) (golden : PlanData) (flash : List ℕ) : Type 0 where
   pub rest : List ℕ
   pub stands : drop sector_bytes flash ≡ full_stream part golden ++ rest

@@ -25,7 +25,8 @@ pub fn flashes_between_slots_lead_nowhere()
     ensures between { (flash found : List ℕ) → HasLayout flash → IsBetween flash found → LeadsNowhere found }
 {}
 
-/// A flash has a golden stream that starts where the first sector is erased, and that ends at U or before it.
+/// A flash has a golden stream that starts where the first sector is erased, and that
+/// ends at the update's place or before it.
 /// Whatever a power loss left of the flash in an update boots as the flash did before, or starts as the golden
 /// stream does, or boots as the updated flash.
 pub fn found_flashes_start()

@@ -6,10 +6,10 @@ ghost use Rattle.x7_regs.specs.Control.{forbids_fallback, forbids_reading, forbi
 pub const GTS_USER_B: u32 = 0;
 
 /// The number of the lower of two bits of CTL0: 00 allows reading and writing of frames, 01 forbids reading, 1x both.
-pub const SBITS: u32 = 4;
+const SBITS: u32 = 4;
 
 /// The number of the bit of CTL0 that says that a stream would be encrypted.
-pub const DEC: u32 = 6;
+const DEC: u32 = 6;
 
 /// The number of the bit of CTL0 by which readback shows memories in logic.
 pub const GLUTMASK_B: u32 = 8;

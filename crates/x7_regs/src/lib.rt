@@ -14,8 +14,8 @@ mod status;
 pub use boot_status::{Attempt, Cause, Kind, boot_word};
 pub use command::{Command, command_of};
 pub use control::{
-    CONFIG_FALLBACK, DEC, GLUTMASK_B, GTS_USER_B, SBITS, forbids_fallback, forbids_reading,
-    forbids_writing, has_dec,
+    CONFIG_FALLBACK, GLUTMASK_B, GTS_USER_B, forbids_fallback, forbids_reading, forbids_writing,
+    has_dec,
 };
 pub use laws::{codes_are_distinct, names_are_distinct, numbers_are_distinct};
 pub use name::{CommandName, RegName, command_text, name_of};

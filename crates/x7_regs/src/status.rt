@@ -24,7 +24,7 @@ pub struct StatParts {
     pub mode: u8,
     /// The pin INIT_B.
     pub init_b: bool,
-    /// The pin DONE, which nothing else holds.
+    /// The pin DONE as the device releases it. Nothing outside holds it low, so bits 13 and 14 of STAT are equal.
     pub done: bool,
     /// A written idcode was not the part's.
     pub id_error: bool,

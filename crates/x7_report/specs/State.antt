@@ -1,5 +1,5 @@
 -- The state of a device as a report gives it (this project's choice). Words are eight hexadecimal digits.
-use Rattle.std.specs.Prelude.{ℕ, Bool, if◌then◌else◌, List, [], ◌∷◌, ◌++◌, codes, decimal}
+use Rattle.std.specs.Prelude.{ℕ, ◌+◌, Bool, if◌then◌else◌, List, [], ◌∷◌, ◌++◌, codes, decimal}
 use Rattle.std.specs.List.{flat_map}
 use Rattle.x7_regs.specs.Register.{number_of, reg_name}
 use Rattle.x7_regs.specs.declared.register.Reg.{Reg}
@@ -22,6 +22,14 @@ fault_text fault.Multi = codes "Multi"
 fault_text fault.Encrypted = codes "Encrypted"
 fault_text fault.Watchdog = codes "Watchdog"
 
+-- the most bytes of a fault's kind and words: `Crc ` or `Id `, and two words with a space between
+abbrev pub fault_room : ℕ
+fault_room = 21
+
+-- the most bytes of where the bytes taken end
+abbrev pub end_room : ℕ
+end_room = 6 + fault_room
+
 -- where the bytes taken end
 unfoldable pub end_text : End → List ℕ
 end_text at_end.Searching = codes "searching"
@@ -32,6 +40,10 @@ end_text (at_end.Fault f) = codes "fault " ++ fault_text f
 -- the digit of a line, 0 or 1
 abbrev pub line_digit : Bool → List ℕ
 line_digit b = if b then codes "1" else codes "0"
+
+-- the most bytes of the line of startup, whatever number its phase is
+abbrev pub phase_room : ℕ
+phase_room = 46
 
 -- the line of startup: its phase, and DONE, GTS and GWE
 unfoldable pub phase_text : Regs → List ℕ

@@ -3,12 +3,18 @@ ghost use Rattle.std.specs.Prelude.{◌≡◌, ◌∷◌, ◌++◌, ◌+◌, ◌
 ghost use Rattle.std.specs.List.{flat_map};
 ghost use Rattle.x7_text.specs.Appends.{Appends, HasSpareRoom};
 ghost use Rattle.x7_text.specs.Digits.{hex_word};
-ghost use Rattle.x7_report.specs.State.{line_digit, end_text, fault_text, phase_text, reg_line, reg_line_room, reg_text, reg_words, state_text};
+ghost use Rattle.x7_report.specs.State.{end_room, end_text, fault_room, fault_text, line_digit, phase_room, phase_text, reg_line, reg_line_room, reg_text, reg_words, state_text};
 
 use x7_engine::{End, Fault, Regs};
 use x7_regs::{Reg, name_of};
 use x7_text::{hex_of_word, make_room, put, put_decimal, put_number, put_text};
 use x7_words::NoMemory;
+
+/// The most bytes of where the bytes taken end: `fault `, and a fault's kind and words.
+const END_ROOM: usize = 27;
+
+/// The most bytes of the line of startup.
+const PHASE_ROOM: usize = 46;
 
 /// Appends a name and the digits of a word.
 fn put_named_word(out: &mut Vec<u8>, name: &[u8], word: u32)
@@ -32,7 +38,7 @@ fn put_named_pair(out: &mut Vec<u8>, name: &[u8], want: u32, got: u32)
 
 /// Appends the kind of a fault, and its words.
 fn put_fault(out: &mut Vec<u8>, fault: Fault)
-    requires { HasSpareRoom out.old 21 }
+    requires { HasSpareRoom out.old fault_room }
     ensures { out.new.items ≡ out.old.items ++ fault_text fault }
 {
     match fault {
@@ -50,7 +56,7 @@ fn put_fault(out: &mut Vec<u8>, fault: Fault)
 /// Appends where the bytes taken end.
 #[tactic(auto, unfolding(crate::specs::State::end_text))]
 fn put_end(out: &mut Vec<u8>, end: End)
-    requires { HasSpareRoom out.old 27 }
+    requires { HasSpareRoom out.old end_room }
     ensures { out.new.items ≡ out.old.items ++ end_text end }
 {
     match end {
@@ -71,7 +77,7 @@ pub fn end_words(out: &mut Vec<u8>, r: &Regs) -> Result<(), NoMemory>
     ensures ok { OnOk result (out.new.items ≡ out.old.items ++ end_text r.now.end) }
     ensures err { OnErr result (out.new.items ≡ out.old.items) }
 {
-    make_room(out, 27)?;
+    make_room(out, END_ROOM)?;
     put_end(out, r.end);
     Ok(())
 }
@@ -88,7 +94,7 @@ fn put_bit(out: &mut Vec<u8>, name: &[u8], bit: bool)
 /// Appends the line of startup.
 #[tactic(auto, unfolding(crate::specs::State::phase_text))]
 fn put_phase(out: &mut Vec<u8>, r: &Regs)
-    requires { HasSpareRoom out.old 46 }
+    requires { HasSpareRoom out.old phase_room }
     ensures { out.new.items ≡ out.old.items ++ phase_text r.now }
 {
     put(out, b"phase ");
@@ -105,7 +111,7 @@ pub fn phase_line(out: &mut Vec<u8>, r: &Regs) -> Result<(), NoMemory>
     ensures ok { OnOk result (out.new.items ≡ out.old.items ++ phase_text r.now) }
     ensures err { OnErr result (out.new.items ≡ out.old.items) }
 {
-    make_room(out, 46)?;
+    make_room(out, PHASE_ROOM)?;
     put_phase(out, r);
     Ok(())
 }

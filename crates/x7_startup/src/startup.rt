@@ -59,7 +59,7 @@ impl Startup {
         self.armed = false;
     }
 
-    /// One byte more was taken, by a part with these lock and match numbers.
+    /// One byte more was taken, by a part whose clocks lock and whose impedance matches after these ticks of startup.
     pub fn byte(&mut self, lock: u16, matched: u16)
         ensures stands { (calls : List Call) → StandsForCalls lock matched self.old calls → StandsForCalls lock matched self.new (calls ++ Byte ∷ []) }
     {

@@ -1,6 +1,6 @@
 -- Lemmas on specs/Ahead.
 use Rattle.std.proofs.Common.{◌≡◌, ℕ, ◌+◌, ◌<◌, ◌≤◌, ◌⊎◌, inl, inr, List, [], ◌++◌, Option, Some, Result, Ok, Err, length, length-append, ap, refl, sym, subst, ◌∙◌, append-nil, append_assoc, arith}
-use Rattle.x7_words.specs.Input.{Asks, InputsState, preceded, Selects}
+use Rattle.x7_words.specs.Input.{Asks, InputsState, preceded, RestIsWhole}
 use Rattle.x7_words.specs.Word.{AreBytes}
 use Rattle.x7_words.specs.Sink.{SinkState, appended, PutsPrefix}
 use Rattle.x7_words.proofs.SinkLemmas.{appended_appended, appended_nil}
@@ -109,10 +109,10 @@ turn_written taken line content l old mid new e t m before after o n =
 
 -- ---- what the sink's failure finds
 
-near_by : (contents : Option (List ℕ → Option (List ℕ))) (stream early late : List ℕ) (rest old new : Option (List ℕ)) → Selects contents stream (preceded (early ++ late) rest) → length late ≤ most_ahead
+near_by : (contents : Option (List ℕ → Option (List ℕ))) (stream early late : List ℕ) (rest old new : Option (List ℕ)) → RestIsWhole contents stream (preceded (early ++ late) rest) → length late ≤ most_ahead
     → ((before after : List ℕ) → old ≡ Some before → new ≡ Some after → HasWritten early before after × (length (early ++ late) + length before ≤ length after + most_ahead)) → NearBy contents stream rest old new
 near_by contents stream early late rest old new s few h inputs bytes left before after c b r o n =
-    let t = known_all inputs stream (early ++ late) rest (subst (λ (k : Option (List ℕ → Option (List ℕ))). Selects k stream (preceded (early ++ late) rest)) c s) in
+    let t = known_all inputs stream (early ++ late) rest (subst (λ (k : Option (List ℕ → Option (List ℕ))). RestIsWhole k stream (preceded (early ++ late) rest)) c s) in
     let tail : left ≡ t.0 = let e = t.1.0 in cc in
     let whole : bytes ≡ (early ++ late) ++ t.0 = let e = t.1.1 in cc in
     let w = h before after o n in
@@ -125,7 +125,7 @@ near_by contents stream early late rest old new s few h inputs bytes left before
       near = omega (arith, ap length whole, ap length tail, length-append (early ++ late) t.0, w.1);
     }
 
-pub prefix_near : (contents : Option (List ℕ → Option (List ℕ))) (stream taken : List ℕ) (rest old new : Option (List ℕ)) → Selects contents stream (preceded taken rest) → length taken ≤ longest_beginning → Longer old new → NearBy contents stream rest old new
+pub prefix_near : (contents : Option (List ℕ → Option (List ℕ))) (stream taken : List ℕ) (rest old new : Option (List ℕ)) → RestIsWhole contents stream (preceded taken rest) → length taken ≤ longest_beginning → Longer old new → NearBy contents stream rest old new
 prefix_near contents stream taken rest old new s few l =
     near_by contents stream [] taken rest old new s (omega (arith, few))
     (λ before after o n.
@@ -134,7 +134,7 @@ prefix_near contents stream taken rest old new s few l =
     let near : length taken + length before ≤ length after + most_ahead = omega (arith, few, ap length all, length-append before l.0) in
     (w, near))
 
-pub turn_near : (contents : Option (List ℕ → Option (List ℕ))) (stream taken piece line content : List ℕ) (l : ListerState) (rest old mid new : Option (List ℕ)) → Selects contents stream (preceded (taken ++ piece) rest)
+pub turn_near : (contents : Option (List ℕ → Option (List ℕ))) (stream taken piece line content : List ℕ) (l : ListerState) (rest old mid new : Option (List ℕ)) → RestIsWhole contents stream (preceded (taken ++ piece) rest)
     → length taken ≤ length content + longest_beginning → length piece ≤ turn_bytes → stream_listing taken ≡ Ok (line ++ listing_of content) → Lists l (appended old line) mid content → Longer mid new → NearBy contents stream rest old new
 turn_near contents stream taken piece line content l rest old mid new s close few e t m =
     near_by contents stream taken piece rest old new s (omega (arith, few))
@@ -152,10 +152,10 @@ prefix_given contents stream given old new few l inputs bytes before after c b o
     let none : length {A = ℕ} [] ≡ 0 = refl in
     record { early = []; others = bytes; split = refl; few = omega (arith, none, few); written = nothing_written old new l before after o n }
 
-pub turn_given : (contents : Option (List ℕ → Option (List ℕ))) (stream taken line content : List ℕ) (given : ℕ) (l : ListerState) (rest old mid new : Option (List ℕ)) → Selects contents stream (preceded taken rest)
+pub turn_given : (contents : Option (List ℕ → Option (List ℕ))) (stream taken line content : List ℕ) (given : ℕ) (l : ListerState) (rest old mid new : Option (List ℕ)) → RestIsWhole contents stream (preceded taken rest)
     → given ≤ length taken + turn_bytes → stream_listing taken ≡ Ok (line ++ listing_of content) → Lists l (appended old line) mid content → Longer mid new → GivenBy contents stream given old new
 turn_given contents stream taken line content given l rest old mid new s few e t m inputs bytes before after c b o n =
-    let k = known_all inputs stream taken rest (subst (λ (k : Option (List ℕ → Option (List ℕ))). Selects k stream (preceded taken rest)) c s) in
+    let k = known_all inputs stream taken rest (subst (λ (k : Option (List ℕ → Option (List ℕ))). RestIsWhole k stream (preceded taken rest)) c s) in
     let whole : bytes ≡ taken ++ k.0 = let e = k.1.1 in cc in
     record { early = taken; others = k.0; split = whole; few = omega (arith, few); written = turn_written taken line content l old mid new e t m before after o n }
 
@@ -164,10 +164,10 @@ turn_given contents stream taken line content given l rest old mid new s few e t
 same_place : (m n : ℕ) (r : Result (List ℕ) ℕ) → r ≡ Err m → r ≡ Err n → m ≡ n
 same_place m n r a b = let e : Err m ≡ r = sym a in cc
 
-pub bad_soon : (contents : Option (List ℕ → Option (List ℕ))) (stream name : List ℕ) (m n : InputsState) (event : Event) → Selects contents stream m.rest → IsBadBeginning m n name event → SoonBy contents stream n.rest
+pub bad_soon : (contents : Option (List ℕ → Option (List ℕ))) (stream name : List ℕ) (m n : InputsState) (event : Event) → RestIsWhole contents stream m.rest → IsBadBeginning m n name event → SoonBy contents stream n.rest
 bad_soon contents stream name m n event s b inputs bytes left place c i r l =
-    let sel : Selects contents stream (preceded b.bytes n.rest) = subst (λ (k : Option (List ℕ)). Selects contents stream k) b.taken s in
-    let t = known_all inputs stream b.bytes n.rest (subst (λ (k : Option (List ℕ → Option (List ℕ))). Selects k stream (preceded b.bytes n.rest)) c sel) in
+    let sel : RestIsWhole contents stream (preceded b.bytes n.rest) = subst (λ (k : Option (List ℕ)). RestIsWhole contents stream k) b.taken s in
+    let t = known_all inputs stream b.bytes n.rest (subst (λ (k : Option (List ℕ → Option (List ℕ))). RestIsWhole k stream (preceded b.bytes n.rest)) c sel) in
     let tail : left ≡ t.0 = let e = t.1.0 in cc in
     let whole : bytes ≡ b.bytes ++ t.0 = let e = t.1.1 in cc in
     let refused = b.refused t.0 (may_follow b.last n.rest t.0 t.1.0 b.end) in
@@ -177,18 +177,18 @@ bad_soon contents stream name m n event s b inputs bytes left place c i r l =
 -- ---- what a fault finds
 
 -- where the header was not judged yet, no wrong letter was given
-pub prefix_unjudged : (contents : Option (List ℕ → Option (List ℕ))) (stream name : List ℕ) (m n : InputsState) → Selects contents stream m.rest → Asks name m → NoLetterGiven m n → UnjudgedBy contents stream n.given
+pub prefix_unjudged : (contents : Option (List ℕ → Option (List ℕ))) (stream name : List ℕ) (m n : InputsState) → RestIsWhole contents stream m.rest → Asks name m → NoLetterGiven m n → UnjudgedBy contents stream n.given
 prefix_unjudged contents stream name m n s a g inputs bytes place c i fits e l =
-    let t = known_all inputs stream [] m.rest (nothing_taken (Some inputs) stream m.rest (subst (λ (k : Option (List ℕ → Option (List ℕ))). Selects k stream m.rest) c s)) in
+    let t = known_all inputs stream [] m.rest (nothing_taken (Some inputs) stream m.rest (subst (λ (k : Option (List ℕ → Option (List ℕ))). RestIsWhole k stream m.rest) c s)) in
     let whole : bytes ≡ t.0 = let f = t.1.1 in cc in
     let rest : m.rest ≡ Some bytes = t.1.0 ∙ ap Some (sym whole) in
     omega (arith, a.given, g bytes place rest (letter_there bytes place fits e l))
 
 -- where the header was judged well, none is refused
-pub judged_unjudged : (contents : Option (List ℕ → Option (List ℕ))) (stream taken : List ℕ) (rest : Option (List ℕ)) (given : ℕ) → Selects contents stream (preceded taken rest) → ((left : List ℕ) → (text : List ℕ) × (stream_listing (taken ++ left) ≡ Ok text))
+pub judged_unjudged : (contents : Option (List ℕ → Option (List ℕ))) (stream taken : List ℕ) (rest : Option (List ℕ)) (given : ℕ) → RestIsWhole contents stream (preceded taken rest) → ((left : List ℕ) → (text : List ℕ) × (stream_listing (taken ++ left) ≡ Ok text))
     → UnjudgedBy contents stream given
 judged_unjudged contents stream taken rest given s goes inputs bytes place c i fits e l =
-    let t = known_all inputs stream taken rest (subst (λ (k : Option (List ℕ → Option (List ℕ))). Selects k stream (preceded taken rest)) c s) in
+    let t = known_all inputs stream taken rest (subst (λ (k : Option (List ℕ → Option (List ℕ))). RestIsWhole k stream (preceded taken rest)) c s) in
     let whole : bytes ≡ taken ++ t.0 = let f = t.1.1 in cc in
     let well = goes t.0 in
     let both : Err place ≡ Ok well.0 = sym e ∙ ap stream_listing whole ∙ well.1 in
@@ -204,7 +204,7 @@ module _ (contents : Option (List ℕ → Option (List ℕ))) (stream : List ℕ
   unopened_near s n name event a l (inl h, none) = as_event n.given event (missing name) h.0 tt
   unopened_near s n name event a l (inr h, none) = as_event n.given event (reading_failed name) h.0 (λ inputs bytes place c i fits e f. omega (arith, a.given), prefix_given contents stream n.given old new (omega (arith, a.given)) l)
 
-  pub without_prefix_near : (m n : InputsState) (name : List ℕ) (event : Event) → n.rest ≡ rest → Selects contents stream m.rest → Asks name m → n.given ≤ m.given + longest_beginning → Longer old new → UnreadBeginning m name n event
+  pub without_prefix_near : (m n : InputsState) (name : List ℕ) (event : Event) → n.rest ≡ rest → RestIsWhole contents stream m.rest → Asks name m → n.given ≤ m.given + longest_beginning → Longer old new → UnreadBeginning m name n event
       → StaysBy (status_of_event event) contents stream n.given rest old new
   without_prefix_near m n name event e s a few l (inl h) = as_event n.given event no_memory h (prefix_given contents stream n.given old new (omega (arith, a.given, few)) l)
   without_prefix_near m n name event e s a few l (inr (inl h)) =
@@ -212,7 +212,7 @@ module _ (contents : Option (List ℕ → Option (List ℕ))) (stream : List ℕ
   without_prefix_near m n name event e s a few l (inr (inr h)) =
       as_event n.given event (bad_input name (input.Byte h.place)) h.is (subst (λ (r : Option (List ℕ)). SoonBy contents stream r) e (bad_soon contents stream name m n event s h))
 
-  pub unread_near : (s n : InputsState) (name taken : List ℕ) (l : ListerState) (left : ℕ) (event : Event) → n.rest ≡ rest → Selects contents stream (preceded taken s.rest) → (t : ListsStream l old new taken)
+  pub unread_near : (s n : InputsState) (name taken : List ℕ) (l : ListerState) (left : ℕ) (event : Event) → n.rest ≡ rest → RestIsWhole contents stream (preceded taken s.rest) → (t : ListsStream l old new taken)
       → n.given ≤ length taken + turn_bytes → (event ≡ too_large name → left < turn_bytes) → Longer new new → Unread s name n left event → StaysBy (status_of_event event) contents stream n.given rest old new
   unread_near s n name taken l left event e sel t few over same (inl h) =
       as_event n.given event (reading_failed name) h.0 (

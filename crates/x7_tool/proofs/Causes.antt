@@ -5,7 +5,7 @@ use Rattle.std.specs.List.{starts_with}
 use Rattle.std.proofs.lemmas.Bool.Decides.{nat_tests}
 use Rattle.std.proofs.lemmas.List.{length-take}
 use Rattle.x7_words.specs.Count.{HasRisen}
-use Rattle.x7_words.specs.Input.{InputsState, Asks, AtEnd, Misses, Selects, Stays, preceded}
+use Rattle.x7_words.specs.Input.{InputsState, Asks, AtEnd, Misses, RestIsWhole, InputsStay, preceded}
 use Rattle.x7_words.specs.Input.{Lacks as MapLacks}
 use Rattle.x7_words.specs.Sink.{SinkFails, SinkState, appended, PutsPrefix}
 use Rattle.x7_words.specs.Word.{AreBytes}
@@ -145,7 +145,7 @@ pub nothing_put : (old : Option (List ℕ)) → ListsSoFar [] old old
 nothing_put old = record { has = (listing_of [], nothing_listed); goes = λ rest text fits e. none_put old text }
 
 -- the bytes that were taken are a prefix of the input
-prefix_taken : (contents : Option (List ℕ → Option (List ℕ))) (flash : Option (List ℕ)) (name taken : List ℕ) (rest : Option (List ℕ)) → Selects contents name (preceded taken rest) → IsPrefixOf (with_inputs contents flash) name taken
+prefix_taken : (contents : Option (List ℕ → Option (List ℕ))) (flash : Option (List ℕ)) (name taken : List ℕ) (rest : Option (List ℕ)) → RestIsWhole contents name (preceded taken rest) → IsPrefixOf (with_inputs contents flash) name taken
 prefix_taken None flash name taken rest s = tt
 prefix_taken (Some inputs) flash name taken None s = let h = s.2 in absurd (cc)
 prefix_taken (Some inputs) flash name taken (Some rest) s =
@@ -155,12 +155,12 @@ prefix_taken (Some inputs) flash name taken (Some rest) s =
 
 -- a stream whose reading failed after these bytes
 pub broken : (contents : Option (List ℕ → Option (List ℕ))) (flash : Option (List ℕ)) (C : Mishap → Type 0) (stream taken : List ℕ) (rest : Option (List ℕ)) (Full : Type 0) (old now : Option (List ℕ))
-    → Selects contents stream (preceded taken rest) → IsCaused {A = Answer} (with_inputs contents flash) C (λ known. listed known stream) (Err (reading_failed stream)) → ListsSoFar taken old now → Ended (with_inputs contents flash) C stream Full old now (Err (reading_failed stream))
+    → RestIsWhole contents stream (preceded taken rest) → IsCaused {A = Answer} (with_inputs contents flash) C (λ known. listed known stream) (Err (reading_failed stream)) → ListsSoFar taken old now → Ended (with_inputs contents flash) C stream Full old now (Err (reading_failed stream))
 broken contents flash C stream taken rest Full old now s c p = (c, (taken, (prefix_taken contents flash stream taken rest s, p)))
 
 -- memory that ended after these bytes
 pub out_of_memory : (contents : Option (List ℕ → Option (List ℕ))) (flash : Option (List ℕ)) (C : Mishap → Type 0) (stream taken : List ℕ) (rest : Option (List ℕ)) (Full : Type 0) (old now : Option (List ℕ))
-    → Selects contents stream (preceded taken rest) → ListsSoFar taken old now → Ended (with_inputs contents flash) C stream Full old now (Err no_memory)
+    → RestIsWhole contents stream (preceded taken rest) → ListsSoFar taken old now → Ended (with_inputs contents flash) C stream Full old now (Err no_memory)
 out_of_memory contents flash C stream taken rest Full old now s p = (inl (inl refl), (taken, (prefix_taken contents flash stream taken rest s, p)))
 
 -- what may follow the bytes that were taken
@@ -169,7 +169,7 @@ may_follow last rest left e end = λ l. let none = rw e at (end l) in none
 
 -- a sink that failed after a prefix of the listing of these bytes and any that may follow
 pub unwritten : (contents : Option (List ℕ → Option (List ℕ))) (flash : Option (List ℕ)) (C : Mishap → Type 0) (stream taken : List ℕ) (rest : Option (List ℕ)) (last : Bool) (Full : Type 0) (old now : Option (List ℕ))
-    → Selects contents stream (preceded taken rest) → (last ≡ true → AtEnd rest) → Full → PutsListed taken old now → ((left : List ℕ) → FollowsUnlessLast last left → AreBytes (taken ++ left) → PutsListed (taken ++ left) old now)
+    → RestIsWhole contents stream (preceded taken rest) → (last ≡ true → AtEnd rest) → Full → PutsListed taken old now → ((left : List ℕ) → FollowsUnlessLast last left → AreBytes (taken ++ left) → PutsListed (taken ++ left) old now)
     → Ended (with_inputs contents flash) C stream Full old now (Err writing_failed)
 unwritten None flash C stream taken rest last Full old now s e f here p = (refl, f, (here.0, here.1.1))
 unwritten (Some inputs) flash C stream taken rest last Full old now s e f here p =
@@ -189,7 +189,7 @@ listed_is inputs flash stream bytes e = rw e refl
 
 -- a stream of which more than the limit was taken
 pub oversized : (contents : Option (List ℕ → Option (List ℕ))) (flash : Option (List ℕ)) (C : Mishap → Type 0) (stream taken listed_prefix : List ℕ) (rest more : Option (List ℕ)) (Full : Type 0) (old now : Option (List ℕ))
-    → Selects contents stream (preceded taken rest) → Selects contents stream (preceded listed_prefix more) → ((left : List ℕ) → (text : List ℕ) × (stream_listing (taken ++ left) ≡ Ok text)) → stream_limit < length taken → ListsSoFar listed_prefix old now
+    → RestIsWhole contents stream (preceded taken rest) → RestIsWhole contents stream (preceded listed_prefix more) → ((left : List ℕ) → (text : List ℕ) × (stream_listing (taken ++ left) ≡ Ok text)) → stream_limit < length taken → ListsSoFar listed_prefix old now
     → Ended (with_inputs contents flash) C stream Full old now (Err (too_large stream))
 oversized None flash C stream taken listed_prefix rest more Full old now s t h l p = (inr tt, (listed_prefix, (tt, p)))
 oversized (Some inputs) flash C stream taken listed_prefix rest more Full old now s t h l p =
@@ -200,7 +200,7 @@ oversized (Some inputs) flash C stream taken listed_prefix rest more Full old no
 
 -- a stream whose header is refused
 pub refused : (contents : Option (List ℕ → Option (List ℕ))) (flash : Option (List ℕ)) (C : Mishap → Type 0) (stream taken : List ℕ) (rest : Option (List ℕ)) (last : Bool) (place : ℕ) (Full : Type 0) (old : Option (List ℕ))
-    → Selects contents stream (preceded taken rest) → (last ≡ true → AtEnd rest) → IsRefused taken last place → Ended (with_inputs contents flash) C stream Full old old (Err (bad_input stream (input.Byte place)))
+    → RestIsWhole contents stream (preceded taken rest) → (last ≡ true → AtEnd rest) → IsRefused taken last place → Ended (with_inputs contents flash) C stream Full old old (Err (bad_input stream (input.Byte place)))
 refused None flash C stream taken rest last place Full old s e r = (inr tt, refl)
 refused (Some inputs) flash C stream taken rest last place Full old s e r =
     let all = known_all inputs stream taken rest s in
@@ -208,7 +208,7 @@ refused (Some inputs) flash C stream taken rest last place Full old s e r =
 
 -- a stream whose listing was written
 pub listed_whole : (contents : Option (List ℕ → Option (List ℕ))) (flash : Option (List ℕ)) (C : Mishap → Type 0) (stream taken text : List ℕ) (rest : Option (List ℕ)) (Full : Type 0) (old now : Option (List ℕ))
-    → Selects contents stream (preceded taken rest) → AtEnd rest → stream_listing taken ≡ Ok text → length taken ≤ stream_limit → now ≡ appended old text
+    → RestIsWhole contents stream (preceded taken rest) → AtEnd rest → stream_listing taken ≡ Ok text → length taken ≤ stream_limit → now ≡ appended old text
     → Ended (with_inputs contents flash) C stream Full old now (Ok (record { stopped = false; text = text }))
 listed_whole None flash C stream taken text rest Full old now s e h l p = (inr tt, p)
 listed_whole (Some inputs) flash C stream taken text rest Full old now s e h l p =
@@ -237,13 +237,13 @@ both_err (Ok a) P Q R f p q = tt
 both_err (Err e) P Q R f p q = f e p q
 
 -- nothing was taken of a selected stream
-pub nothing_taken : (contents : Option (List ℕ → Option (List ℕ))) (stream : List ℕ) (rest : Option (List ℕ)) → Selects contents stream rest → Selects contents stream (preceded [] rest)
+pub nothing_taken : (contents : Option (List ℕ → Option (List ℕ))) (stream : List ℕ) (rest : Option (List ℕ)) → RestIsWhole contents stream rest → RestIsWhole contents stream (preceded [] rest)
 nothing_taken contents stream None s = s
 nothing_taken contents stream (Some rest) s = s
 
 -- a stream whose beginning was not read
 pub without_prefix : (s m n : InputsState) (flash : Option (List ℕ)) (stream : List ℕ) (Full : Type 0) (old : Option (List ℕ)) (event : Event)
-    → Stays s m → Selects s.contents stream m.rest → Asks stream m → UnreadBeginning m stream n event
+    → InputsStay s m → RestIsWhole s.contents stream m.rest → Asks stream m → UnreadBeginning m stream n event
     → Ended (with_inputs s.contents flash) (CameIn (step_over (stream ∷ []) s n)) stream Full old old (Err event)
 without_prefix s m n flash stream Full old event f sel a (inl h) =
     ends_same (with_inputs s.contents flash) (CameIn (step_over (stream ∷ []) s n)) stream Full old old event no_memory h
@@ -254,4 +254,4 @@ without_prefix s m n flash stream Full old event f sel a (inr (inl h)) =
     (broken s.contents flash (CameIn (step_over (stream ∷ []) s n)) stream [] m.rest Full old old (nothing_taken s.contents stream m.rest sel) (faulted s n flash stream fault.0 (omega (arith, fault.1))) (nothing_put old))
 without_prefix s m n flash stream Full old event f sel a (inr (inr h)) =
     ends_same (with_inputs s.contents flash) (CameIn (step_over (stream ∷ []) s n)) stream Full old old event (bad_input stream (input.Byte h.place)) h.is
-    (refused s.contents flash (CameIn (step_over (stream ∷ []) s n)) stream h.bytes n.rest h.last h.place Full old (subst (λ r. Selects s.contents stream r) h.taken sel) h.end h.refused)
+    (refused s.contents flash (CameIn (step_over (stream ∷ []) s n)) stream h.bytes n.rest h.last h.place Full old (subst (λ r. RestIsWhole s.contents stream r) h.taken sel) h.end h.refused)

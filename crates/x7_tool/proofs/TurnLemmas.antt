@@ -9,7 +9,7 @@ use Rattle.x7_listing.specs.Listing.{IsListing, listing_of, reading_text}
 use Rattle.x7_listing.specs.StreamListing.{stream_listing}
 use Rattle.x7_listing.specs.Lister.{Finished, ListerStandsFor, ListerState}
 use Rattle.x7_listing.proofs.PrefixLemmas.{listed_prefix}
-use Rattle.x7_words.specs.Input.{InputsState, AtEnd, Selects, Stays, preceded}
+use Rattle.x7_words.specs.Input.{InputsState, AtEnd, RestIsWhole, InputsStay, preceded}
 use Rattle.x7_words.proofs.ListLemmas.{all_append, all_back}
 use Rattle.x7_forms.specs.Step.{CameIn, step_over}
 use Rattle.x7_words.proofs.InputLemmas.{preceded_preceded}
@@ -96,10 +96,10 @@ puts_a_prefix old new text (inl all) = (text, ([], sym (append-nil text), all))
 puts_a_prefix old new text (inr some) = some.1
 
 -- bytes more were taken
-pub taken_more : (contents : Option (List ℕ → Option (List ℕ))) (name taken piece : List ℕ) (old new : Option (List ℕ)) → Selects contents name (preceded taken old) → old ≡ preceded piece new → Selects contents name (preceded (taken ++ piece) new)
+pub taken_more : (contents : Option (List ℕ → Option (List ℕ))) (name taken piece : List ℕ) (old new : Option (List ℕ)) → RestIsWhole contents name (preceded taken old) → old ≡ preceded piece new → RestIsWhole contents name (preceded (taken ++ piece) new)
 taken_more contents name taken piece old new s e =
     let whole : preceded taken old ≡ preceded (taken ++ piece) new = ap (preceded taken) e ∙ preceded_preceded taken piece new in
-    subst (λ r. Selects contents name r) whole s
+    subst (λ r. RestIsWhole contents name r) whole s
 
 -- what was put is a prefix of the listing of the stream's bytes
 pub line_prefix : (first now : Option (List ℕ)) (line text : List ℕ) → PutsPrefix (appended first line) text now → PutsPrefix first (line ++ text) now
@@ -150,7 +150,7 @@ goes_on bytes piece line content g rest = ap stream_listing (append_assoc bytes 
 
 -- a sink that failed in a turn
 pub write_failed : (contents : Option (List ℕ → Option (List ℕ))) (flash : Option (List ℕ)) (C : Mishap → Type 0) (stream taken piece same : List ℕ) (l : ListerState) (rest : Option (List ℕ)) (Full : Type 0) (old mid now : Option (List ℕ))
-    → same ≡ piece → Selects contents stream (preceded (taken ++ piece) rest) → Full → (t : ListsStream l old mid taken) → AreBytes same → ((left : List ℕ) → AreBytes (t.content ++ (same ++ left)) → PutsPrefix (appended old t.line) (listing_of (t.content ++ (same ++ left))) now)
+    → same ≡ piece → RestIsWhole contents stream (preceded (taken ++ piece) rest) → Full → (t : ListsStream l old mid taken) → AreBytes same → ((left : List ℕ) → AreBytes (t.content ++ (same ++ left)) → PutsPrefix (appended old t.line) (listing_of (t.content ++ (same ++ left))) now)
     → Ended (with_inputs contents flash) C stream Full old now (Err writing_failed)
 write_failed contents flash C stream taken piece same l rest Full old mid now e s f t fits p =
     let content_fits : AreBytes t.content = stands_fit l t.lists.given t.content t.lists.stands in
@@ -170,7 +170,7 @@ prefix_here taken line content last old now fits g p =
 
 -- a sink that failed at the beginning of a stream
 pub prefix_failed : (contents : Option (List ℕ → Option (List ℕ))) (flash : Option (List ℕ)) (C : Mishap → Type 0) (stream taken line content : List ℕ) (rest : Option (List ℕ)) (last : Bool) (Full : Type 0) (old now : Option (List ℕ))
-    → Selects contents stream (preceded taken rest) → (last ≡ true → AtEnd rest) → Full → AreBytes content → ((left : List ℕ) → FollowsUnlessLast last left → stream_listing (taken ++ left) ≡ Ok (line ++ listing_of (content ++ left)))
+    → RestIsWhole contents stream (preceded taken rest) → (last ≡ true → AtEnd rest) → Full → AreBytes content → ((left : List ℕ) → FollowsUnlessLast last left → stream_listing (taken ++ left) ≡ Ok (line ++ listing_of (content ++ left)))
     → ((left : List ℕ) → AreBytes (content ++ left) → PutsPrefix old (line ++ listing_of (content ++ left)) now) → Ended (with_inputs contents flash) C stream Full old now (Err writing_failed)
 prefix_failed contents flash C stream taken line content rest last Full old now s e f fits g p =
     let q : (left : List ℕ) → FollowsUnlessLast last left → AreBytes left → PutsListed (taken ++ left) old now
@@ -180,7 +180,7 @@ prefix_failed contents flash C stream taken line content rest last Full old now 
 
 -- a sink that failed at the end
 pub end_failed : (contents : Option (List ℕ → Option (List ℕ))) (flash : Option (List ℕ)) (C : Mishap → Type 0) (stream taken : List ℕ) (rest : Option (List ℕ)) (Full : Type 0) (old now : Option (List ℕ))
-    → Selects contents stream (preceded taken rest) → AtEnd rest → Full → PutsListed taken old now → Ended (with_inputs contents flash) C stream Full old now (Err writing_failed)
+    → RestIsWhole contents stream (preceded taken rest) → AtEnd rest → Full → PutsListed taken old now → Ended (with_inputs contents flash) C stream Full old now (Err writing_failed)
 end_failed None flash C stream taken rest Full old now s e f p = (refl, f, (p.0, p.1.1))
 end_failed (Some inputs) flash C stream taken rest Full old now s e f p =
     let all = known_all inputs stream taken rest s in
@@ -189,7 +189,7 @@ end_failed (Some inputs) flash C stream taken rest Full old now s e f p =
 
 -- a turn that could not be read
 pub unread_end : (s m n : InputsState) (flash : Option (List ℕ)) (stream taken : List ℕ) (l : ListerState) (left : ℕ) (Full : Type 0) (old now : Option (List ℕ)) (event : Event)
-    → Stays s m → Selects s.contents stream (preceded taken m.rest) → IsAt stream taken m → ListsStream l old now taken → length taken + left ≡ stream_limit → Unread m stream n left event → n.asked ≡ m.asked
+    → InputsStay s m → RestIsWhole s.contents stream (preceded taken m.rest) → IsAt stream taken m → ListsStream l old now taken → length taken + left ≡ stream_limit → Unread m stream n left event → n.asked ≡ m.asked
     → Ended (with_inputs s.contents flash) (CameIn (step_over (stream ∷ []) s n)) stream Full old now (Err event)
 unread_end s m n flash stream taken l left Full old now event f sel a t k (inl h) q =
     let fault = at_fault s m n stream taken left f a h.1 q in

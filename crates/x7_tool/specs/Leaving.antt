@@ -34,7 +34,7 @@ abbrev pub PowerLossMayLeave : Option AskedForm → Sources → List ℕ → Typ
 PowerLossMayLeave form old found = IfKnown old.flash.bytes (λ all. MayBeFound (known_from old) (updated_by form) all found)
 
 -- A run updates a flash with a stream, whose bytes and data are known; the flash has a layout, and its golden stream,
--- of any kind, starts where the first sector is erased, and ends at U or before it.
+-- of any kind, starts where the first sector is erased, and ends at the update's place or before it.
 pub record IsUpdateOf (form : Option AskedForm) (old : Sources) (u : UpdatingAny) : Type 0 where
   pub known : Known
   pub is_known : known_from old ≡ Some known

@@ -1,6 +1,6 @@
 -- What a run comes to: how it ended and why, its status, and what the outside holds then (this project's choice).
 use Rattle.std.specs.Prelude.{◌≡◌, ◌≤◌, ℕ, length, List, Option, None, Some, ◌⊎◌, false, Result, Ok}
-use Rattle.x7_words.specs.Input.{AsksFew, Stays}
+use Rattle.x7_words.specs.Input.{AsksFew, InputsStay}
 use Rattle.x7_words.specs.Word.{AreBytes}
 use Rattle.x7_listing.specs.StreamListing.{stream_listing}
 use Rattle.x7_mcs.specs.Text.{mcs_text}
@@ -41,7 +41,8 @@ TextsLeadBack (Some (Assembling name)) old new s end = ListingAssembles name old
 TextsLeadBack (Some (FromMcs name)) old new s end = GivesImage name old new s end
 TextsLeadBack form old new s end = Unit {0}
 
--- A command ended so, with this status, and said why where there is no whole text.
+-- A command ended so, with this status, and said why where there is no whole text: what is shown of it before `Runs`,
+-- which follows from it.
 pub record RanAs (form : Option AskedForm) (old new : Outside) (s : Status) : Type 0 where
   pub end : Result Answer Event
   pub ends_as : s ≡ final_status end
@@ -50,7 +51,7 @@ pub record RanAs (form : Option AskedForm) (old new : Outside) (s : Status) : Ty
   pub stops : Stops form old.inputs new.inputs end
   pub judges : JudgesFlash form (sources old.inputs old.flash) (sources new.inputs new.flash) end
   pub asks : AsksFew old.inputs (length (names_of form)) new.inputs
-  pub stays : Stays old.inputs new.inputs
+  pub stays : InputsStay old.inputs new.inputs
 
 -- a run of the command that the words ask for
 pub record Runs (form : Option AskedForm) (old new : Outside) (s : Status) : Type 0 where
@@ -87,8 +88,8 @@ pub record Runs (form : Option AskedForm) (old new : Outside) (s : Status) : Typ
   pub judges : JudgesFlash form (sources old.inputs old.flash) (sources new.inputs new.flash) end
   -- no more inputs were asked for than the words name, so that none was read again, nor more ends of inputs read
   pub asks : AsksFew old.inputs (length (names_of form)) new.inputs
-  -- every input keeps its bytes, and no count of theirs falls
-  pub stays : Stays old.inputs new.inputs
+  -- every input keeps its bytes, and the counts of faults and of absences don't fall
+  pub stays : InputsStay old.inputs new.inputs
   -- the flash is untouched, read or written as the form says, and was asked for no name but the form's
   pub flash : KeepsFlash (flash_use form) old.flash new.flash
   -- an update that is done left the flash as it is after one; one that isn't left its bytes, but where a write or a

@@ -1,6 +1,6 @@
 //! Streams that are read whole, each of a limit of its own.
 ghost use Rattle.std.specs.Prelude.{◌≡◌, ◌≤◌, [], ◌∷◌, IfErr, IfOk, length};
-ghost use Rattle.x7_words.specs.Input.{AsksFew, Stays};
+ghost use Rattle.x7_words.specs.Input.{AsksFew, InputsStay};
 ghost use Rattle.x7_tool.specs.Outcome.{stream_data};
 ghost use Rattle.x7_forms.specs.Known.{stream_limit};
 ghost use Rattle.x7_forms.specs.Message.{event_of};
@@ -31,7 +31,7 @@ pub(crate) fn read_stream<'w, I: Inputs>(
     ensures stands { StandsAt name.now stream_limit (I.state inputs.new) }
     ensures within { IfOk result (λ stream. stream.start ≤ length stream.bytes.items) }
     ensures asks { AsksFew (I.state inputs.old) 1 (I.state inputs.new) }
-    ensures inputs { Stays (I.state inputs.old) (I.state inputs.new) }
+    ensures inputs { InputsStay (I.state inputs.old) (I.state inputs.new) }
 {
     let bytes = read_whole(alloc, inputs, name, STREAM_LIMIT)?;
     let start = data_start(name, &bytes)?;
@@ -64,7 +64,7 @@ pub(crate) fn read_data<'w, I: Inputs>(
     ensures named { IfErr result (λ r. IsUnplayed name.now (event_of r)) }
     ensures stands { StandsAt name.now stream_limit (I.state inputs.new) }
     ensures asks { AsksFew (I.state inputs.old) 1 (I.state inputs.new) }
-    ensures inputs { Stays (I.state inputs.old) (I.state inputs.new) }
+    ensures inputs { InputsStay (I.state inputs.old) (I.state inputs.new) }
 {
     let stream = read_stream(alloc, inputs, name)?;
     Ok(data_of(stream))

@@ -98,11 +98,11 @@ pub record Replaced (place : ℕ) (stream old now : List ℕ) : Type 0 where
   pub is_spent : SpendsOpen old spent
   pub stands : StreamStands place stream spent now
 
--- the byte that is wanted at a place from U on: the stream's, or FF after it
+-- the byte that is wanted at a place from the update's place on: the stream's, or FF after it
 abbrev pub wanted_at : ℕ → List ℕ → ℕ → ℕ
 wanted_at update stream place = if nat_lt (place - update) (length stream) then get_or stream (place - update) 0 else erased_byte
 
--- all from U on is as it is wanted
+-- all from the update's place on is as it is wanted
 abbrev pub HasWanted : ℕ → List ℕ → List ℕ → Type 0
 HasWanted update stream flash = (place : ℕ) → update ≤ place → place < length flash → get_or flash place 0 ≡ wanted_at update stream place
 

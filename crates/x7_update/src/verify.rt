@@ -21,19 +21,20 @@ fn wanted(stream: &[u8], after: u64) -> u8
     }
 }
 
-/// Compares what was read from a place on with what is wanted there, and answers the first byte that differs.
-fn compare(buffer: &[u8], after: u64, update: u64, stream: &[u8]) -> Result<(), UpdateFault>
-    requires { update + after + length buffer.now < 2 ^ 63 }
-    ensures same { OnOk result (ReadsWanted update stream.now (update + after) buffer.now) }
-    ensures wrong { IfErr result (IsWrong update stream.now (update + after) buffer.now) }
+/// Compares what was read, from `after` bytes after `from` on, with the piece that was written at `from` and FF after
+/// it; the first byte that differs is the fault.
+fn compare(buffer: &[u8], after: u64, from: u64, piece: &[u8]) -> Result<(), UpdateFault>
+    requires { from + after + length buffer.now < 2 ^ 63 }
+    ensures same { OnOk result (ReadsWanted from piece.now (from + after) buffer.now) }
+    ensures wrong { IfErr result (IsWrong from piece.now (from + after) buffer.now) }
 {
     for i in 0..buffer.len() {
         let at = after + i as u64;
-        let wrote = wanted(stream, at);
+        let wrote = wanted(piece, at);
         let read = buffer[i];
         if read != wrote {
             return Err(UpdateFault::Differs {
-                place: update + at,
+                place: from + at,
                 wrote,
                 read,
             });

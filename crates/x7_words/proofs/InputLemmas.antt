@@ -1,6 +1,6 @@
 -- Lemmas on a rest that is taken piece by piece, for the crates that read inputs.
 use Rattle.std.proofs.Common.{◌≡◌, ℕ, List, [], ◌++◌, ◌+◌, ◌≤◌, Option, None, Some, true, refl, ap, sym, ◌∙◌, append_assoc, arith, length-append}
-use Rattle.x7_words.specs.Input.{AsksFew, AsksOnce, InputsState, Stays, Takes, preceded}
+use Rattle.x7_words.specs.Input.{AsksFew, AsksOnce, InputsState, InputsStay, TakesInput, preceded}
 
 -- before anything was taken, the rest is all
 pub preceded_nil : (rest : Option (List ℕ)) → preceded [] rest ≡ rest
@@ -13,15 +13,15 @@ preceded_preceded first second None = refl
 preceded_preceded first second (Some rest) = ap Some (sym (append_assoc first second rest))
 
 -- where nothing happened, all stays
-pub stays_at : (s : InputsState) → Stays s s
+pub stays_at : (s : InputsState) → InputsStay s s
 stays_at s = record { map = refl; faults = omega arith; absences = omega arith }
 
 -- what stays over one call and over the next stays over both
-pub stays_on : (a b c : InputsState) → Stays a b → Stays b c → Stays a c
+pub stays_on : (a b c : InputsState) → InputsStay a b → InputsStay b c → InputsStay a c
 stays_on a b c p q = record { map = q.map ∙ p.map; faults = omega (arith, p.faults, q.faults); absences = omega (arith, p.absences, q.absences) }
 
 -- a piece taken after another is the joined piece taken
-pub takes_on : (a b c : InputsState) (first second : List ℕ) → Takes a first b → Takes b second c → Takes a (first ++ second) c
+pub takes_on : (a b c : InputsState) (first second : List ℕ) → TakesInput a first b → TakesInput b second c → TakesInput a (first ++ second) c
 takes_on a b c first second p q = record {
   selected = q.selected;
   taken = p.taken ∙ ap (preceded first) q.taken ∙ preceded_preceded first second c.rest;
@@ -30,11 +30,11 @@ takes_on a b c first second p q = record {
 }
 
 -- a piece that is equal to the bytes taken was taken
-pub takes_as : (a b : InputsState) (bytes same : List ℕ) → bytes ≡ same → Takes a same b → Takes a bytes b
+pub takes_as : (a b : InputsState) (bytes same : List ℕ) → bytes ≡ same → TakesInput a same b → TakesInput a bytes b
 takes_as a b bytes same e t = rw e t
 
 -- before anything was taken
-pub takes_none : (s : InputsState) → s.selected ≡ true → Takes s [] s
+pub takes_none : (s : InputsState) → s.selected ≡ true → TakesInput s [] s
 takes_none s e = record { selected = e; taken = sym (preceded_nil s.rest); given = omega arith; selects = refl }
 
 -- ---- how often inputs are asked for, and their ends read

@@ -28,9 +28,9 @@ pub record InputsState : Type 0 where
   pub absences : ℕ
 
 -- the rest is all that the name has, where the map is known
-abbrev pub Selects : Option (List ℕ → Option (List ℕ)) → List ℕ → Option (List ℕ) → Type 0
-Selects None name rest = Unit {0}
-Selects (Some map) name rest = (bytes : List ℕ) × (map name ≡ Some bytes) × (rest ≡ Some bytes)
+abbrev pub RestIsWhole : Option (List ℕ → Option (List ℕ)) → List ℕ → Option (List ℕ) → Type 0
+RestIsWhole None name rest = Unit {0}
+RestIsWhole (Some map) name rest = (bytes : List ℕ) × (map name ≡ Some bytes) × (rest ≡ Some bytes)
 
 -- the map is known and has no such name
 abbrev pub Lacks : Option (List ℕ → Option (List ℕ)) → List ℕ → Type 0
@@ -47,19 +47,19 @@ abbrev pub AtEnd : Option (List ℕ) → Type 0
 AtEnd None = Unit {0}
 AtEnd (Some rest) = rest ≡ []
 
--- every name keeps its bytes, and no count falls
-pub record Stays (old new : InputsState) : Type 0 where
+-- every name keeps its bytes, and the counts of faults and of absences don't fall
+pub record InputsStay (old new : InputsState) : Type 0 where
   pub map : new.contents ≡ old.contents
   pub faults : old.faults ≤ new.faults
   pub absences : old.absences ≤ new.absences
 
 -- the counts of faults and of absences fit a u64
-abbrev pub Fits : InputsState → Type 0
-Fits state = (state.faults < 2 ^ 64) × (state.absences < 2 ^ 64)
+abbrev pub InputCountsFit : InputsState → Type 0
+InputCountsFit state = (state.faults < 2 ^ 64) × (state.absences < 2 ^ 64)
 
 -- the inputs failed: their count of faults has risen
-abbrev pub Fails : InputsState → InputsState → Type 0
-Fails old new = HasRisen old.faults new.faults
+abbrev pub InputsFail : InputsState → InputsState → Type 0
+InputsFail old new = HasRisen old.faults new.faults
 
 -- the name is missing: it has no bytes where they are known, or the count of absences rose
 abbrev pub Misses : InputsState → List ℕ → InputsState → Type 0
@@ -68,7 +68,7 @@ Misses old name new = Lacks old.contents name ⊎ HasRisen old.absences new.abse
 -- the input of this name is selected, at its first byte
 pub record Opens (old : InputsState) (name : List ℕ) (new : InputsState) : Type 0 where
   pub selected : new.selected ≡ true
-  pub found : Selects old.contents name new.rest
+  pub found : RestIsWhole old.contents name new.rest
 
 -- the name is that of the last select, where that is kept, and no byte was given since
 pub record Asks (name : List ℕ) (new : InputsState) : Type 0 where
@@ -87,7 +87,7 @@ pub record AsksFew (old : InputsState) (count : ℕ) (new : InputsState) : Type 
 
 -- the bytes were taken from the selected input and are counted as given; the input
 -- stays selected and was not asked for again
-pub record Takes (old : InputsState) (bytes : List ℕ) (new : InputsState) : Type 0 where
+pub record TakesInput (old : InputsState) (bytes : List ℕ) (new : InputsState) : Type 0 where
   pub selected : new.selected ≡ true
   pub taken : old.rest ≡ preceded bytes new.rest
   pub given : new.given ≤ old.given + length bytes
@@ -96,4 +96,4 @@ pub record Takes (old : InputsState) (bytes : List ℕ) (new : InputsState) : Ty
 -- why a name was not selected
 abbrev pub Refuses : InputsState → List ℕ → InputsState → SelectFault → Type 0
 Refuses old name new Missing = Misses old name new
-Refuses old name new Failed = Fails old new
+Refuses old name new Failed = InputsFail old new

@@ -31,7 +31,7 @@ abbrev pub SinkFails : SinkState → SinkState → Type 0
 SinkFails old new = HasRisen old.faults new.faults
 
 -- the count of faults does not fall, and stays that of a u64
-pub record Counts (old new : SinkState) : Type 0 where
+pub record SinkCountsStay (old new : SinkState) : Type 0 where
   pub faults : old.faults ≤ new.faults
   pub fits : old.faults < 2 ^ 64 → new.faults < 2 ^ 64
 

@@ -1,6 +1,6 @@
 //! Inputs that are read by name, and what can go wrong with the outside.
 ghost use Rattle.std.specs.Prelude.{◌≡◌, ◌<◌, ◌≤◌, ◌+◌, length, take, true, false, IfErr, IfOk, OnOk, OnErr};
-ghost use Rattle.x7_words.specs.Input.{InputsState, Asks, AsksOnce, AtEnd, Fails, Fits, Opens, Refuses, Stays, Takes};
+ghost use Rattle.x7_words.specs.Input.{InputsState, Asks, AsksOnce, AtEnd, InputsFail, InputCountsFit, Opens, Refuses, InputsStay, TakesInput};
 
 use std::alloc::{AllocError, AllocFailed};
 
@@ -49,19 +49,19 @@ pub trait Inputs {
         ensures err { OnErr result ((state self.new).selected ≡ false) }
         ensures asks { Asks name.now (state self.new) }
         ensures once { AsksOnce (state self.old) (state self.new) }
-        ensures stays { Stays (state self.old) (state self.new) }
-        ensures fits { Fits (state self.new) };
+        ensures stays { InputsStay (state self.old) (state self.new) }
+        ensures fits { InputCountsFit (state self.new) };
 
     /// Puts the next bytes of the selected input at the start of the buffer, and answers how many.
     /// 0 for a buffer that is not empty is the end. After an error no input is selected, and the
     /// buffer may hold anything: a system's failed read promises nothing of it.
     fn read(&mut self, buf: &mut [u8]) -> Result<usize, Failed>
         requires { (state self.old).selected ≡ true }
-        ensures ok { IfOk result (λ n. Takes (state self.old) (take n buf.new) (state self.new)) }
+        ensures ok { IfOk result (λ n. TakesInput (state self.old) (take n buf.new) (state self.new)) }
         ensures within { IfOk result (λ n. n ≤ length buf.old) }
         ensures end { IfOk result (λ n. n ≡ 0 → 0 < length buf.old → AtEnd (state self.new).rest) }
         ensures length { length buf.new ≡ length buf.old }
-        ensures failed { OnErr result (Fails (state self.old) (state self.new)) }
+        ensures failed { OnErr result (InputsFail (state self.old) (state self.new)) }
         ensures err { OnErr result ((state self.new).selected ≡ false) }
         ensures given { OnErr result ((state self.new).given ≤ (state self.old).given) }
         ensures asked { (state self.new).asked ≡ (state self.old).asked }
@@ -69,6 +69,6 @@ pub trait Inputs {
         ensures more { IfOk result (λ n. 0 < n → (state self.new).ends ≤ (state self.old).ends) }
         ensures lost { OnErr result ((state self.new).ends ≤ (state self.old).ends) }
         ensures once { (state self.new).ends ≤ (state self.old).ends + 1 }
-        ensures stays { Stays (state self.old) (state self.new) }
-        ensures fits { Fits (state self.new) };
+        ensures stays { InputsStay (state self.old) (state self.new) }
+        ensures fits { InputCountsFit (state self.new) };
 }

@@ -19,6 +19,12 @@ use x7_regs::{Reg, command_named, reg_named};
 use x7_text::{after, decimal_below, put, put_byte_row, put_word_row, word_of_hex};
 use x7_words::{bytes_of, is_same};
 
+/// The count of a type 1 packet is below this (UG470, packets).
+const TYPE1_COUNTS: u32 = 1 << 11;
+
+/// The count of a type 2 packet is below this (UG470, packets).
+const TYPE2_COUNTS: u32 = 1 << 27;
+
 /// The place of the first space, if one stands among the first ten bytes. No register's name is longer.
 #[inline(always)]
 fn space_in(text: &[u8]) -> Option<usize>
@@ -58,7 +64,7 @@ pub(crate) fn access_at(text: &[u8], space: usize) -> Option<(u8, u32)>
     let Some(register) = reg_named(&text[..space]) else {
         return None;
     };
-    let Some(count) = decimal_below(&text[space + 1..], 2048) else {
+    let Some(count) = decimal_below(&text[space + 1..], TYPE1_COUNTS) else {
         return None;
     };
     Some((register, count))
@@ -72,7 +78,7 @@ pub(crate) fn put_word(out: &mut Vec<u8>, w: u32)
     put(out, &bytes_of(w));
 }
 
-/// Appends the bytes of a word, where there is one.
+/// Appends the bytes of a word, and answers whether there is one.
 fn put_found(out: &mut Vec<u8>, word: Option<u32>) -> bool
     requires { HasRoomForLine out.old }
     ensures puts { PutsWord word result out.old.items out.new.items }
@@ -111,7 +117,7 @@ fn command_word(name: &[u8]) -> Option<u32>
 fn write2_of(digits: &[u8]) -> Option<u32>
     ensures { IsWordOf (λ n. n < 2 ^ 27) decimal type2_write digits.now result }
 {
-    let Some(count) = decimal_below(digits, 1 << 27) else {
+    let Some(count) = decimal_below(digits, TYPE2_COUNTS) else {
         return None;
     };
     Some(type2_write(count))
@@ -121,20 +127,20 @@ fn write2_of(digits: &[u8]) -> Option<u32>
 fn read2_of(digits: &[u8]) -> Option<u32>
     ensures { IsWordOf (λ n. n < 2 ^ 27) decimal type2_read digits.now result }
 {
-    let Some(count) = decimal_below(digits, 1 << 27) else {
+    let Some(count) = decimal_below(digits, TYPE2_COUNTS) else {
         return None;
     };
     Some(type2_read(count))
 }
 
-/// A register's number and a word count.
+/// The register and the word count of `NAME N`; none for any other text.
 fn access_of(text: &[u8]) -> Option<(u8, u32)>
     ensures { MatchOption result ((a : ℕ × ℕ) → IsAccess a → text.now ≢ access_text a) (λ a. IsAccess (a.0, a.1) × (text.now ≡ access_text (a.0, a.1))) }
 {
     let Some((register, digits)) = register_before(text) else {
         return None;
     };
-    let Some(count) = decimal_below(digits, 2048) else {
+    let Some(count) = decimal_below(digits, TYPE1_COUNTS) else {
         return None;
     };
     Some((register, count))
@@ -160,7 +166,8 @@ fn read_of(text: &[u8]) -> Option<u32>
     Some(type1_read(register, count))
 }
 
-/// Appends the bytes of a line that is empty, `sync` or `crc`.
+/// Appends the bytes of a line that is empty, `sync` or `crc`, with this check of the
+/// lines before; `false`: it is none of these.
 fn put_plain(out: &mut Vec<u8>, check: u32, line: &[u8]) -> bool
     requires { HasRoomForLine out.old }
     ensures reads { Reads IsPlain text_of (line_bytes check) result line.now out.old.items out.new.items }

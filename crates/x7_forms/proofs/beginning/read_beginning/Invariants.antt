@@ -1,6 +1,6 @@
 use Rattle.std.proofs.Common.{◌≡◌, ◌≤◌, ◌<◌, ◌+◌, ◌-◌, length, true}
 use Rattle.x7_header.specs.Header.{EndsInHeader, longest_header}
-use Rattle.x7_words.specs.Input.{Stays, preceded}
+use Rattle.x7_words.specs.Input.{InputsStay, preceded}
 use Rattle.x7_forms.specs.Known.{stream_limit}
 use Rattle.x7_forms.specs.Turn.{turn_bytes}
 use Rattle.x7_forms.proofs.beginning.read_beginning.Given as goal
@@ -10,7 +10,7 @@ invariant-loop-bytes g l =
     let i = g.I.Inputs in
     record {
       selected : (i.state l.inputs).selected ≡ true;
-      inputs : Stays (i.state l.fn.inputs) (i.state l.inputs);
+      inputs : InputsStay (i.state l.fn.inputs) (i.state l.inputs);
       piece : length l.piece ≡ turn_bytes;
       few : length l.bytes.items ≤ longest_header;
       waiting : 0 < length l.bytes.items → EndsInHeader l.bytes.items;

@@ -1,5 +1,5 @@
 use Rattle.std.proofs.Common.{◌≡◌, ◌≤◌, ◌-◌, length, take}
-use Rattle.x7_words.specs.Input.{Stays, Takes}
+use Rattle.x7_words.specs.Input.{InputsStay, TakesInput}
 use Rattle.x7_forms.proofs.read.fill.Given as goal
 
 abbrev pub invariant-loop-at : goal.invariant-loop-at
@@ -8,10 +8,10 @@ invariant-loop-at g l =
     record {
       within : l.at ≤ length l.buf;
       length : length l.buf ≡ length l.fn.buf;
-      took : Takes (i.state l.fn.inputs) (take l.at l.buf) (i.state l.inputs);
+      took : TakesInput (i.state l.fn.inputs) (take l.at l.buf) (i.state l.inputs);
       asked : (i.state l.inputs).asked ≡ (i.state l.fn.inputs).asked;
       ends : (i.state l.inputs).ends ≤ (i.state l.fn.inputs).ends;
-      inputs : Stays (i.state l.fn.inputs) (i.state l.inputs);
+      inputs : InputsStay (i.state l.fn.inputs) (i.state l.inputs);
     }
 
 abbrev pub decreases-loop-at : goal.decreases-loop-at

@@ -1,6 +1,6 @@
 use Rattle.std.proofs.Common.{ℕ, List, arith, inl, inr, length-take-le, refl, subst, sym, take}
 use Rattle.std.proofs.lemmas.List.{take-append-le}
-use Rattle.x7_words.specs.Input.{Takes}
+use Rattle.x7_words.specs.Input.{TakesInput}
 use Rattle.x7_forms.proofs.ResultLemmas.{handed_on}
 use Rattle.x7_forms.proofs.read.next_turn.Goals as goal
 
@@ -37,7 +37,7 @@ returns-clause-few g c =
 pub returns-clause-ok : goal.returns-clause-ok
 returns-clause-ok g c =
     let i = g.I.Inputs in
-    subst (λ (bytes : List ℕ). Takes (i.state c.args.inputs.now) bytes (i.state c.fill.new.inputs)) (sym (take-append-le c.in_ok-count.count c.fill.new.buf _ (omega (arith, c.in_ok-count.ensures.within, c.fill.ensures.length)))) c.in_ok-count.ensures.ok
+    subst (λ (bytes : List ℕ). TakesInput (i.state c.args.inputs.now) bytes (i.state c.fill.new.inputs)) (sym (take-append-le c.in_ok-count.count c.fill.new.buf _ (omega (arith, c.in_ok-count.ensures.within, c.fill.ensures.length)))) c.in_ok-count.ensures.ok
 
 pub returns-then-count-left-clause-err : goal.returns-then-count-left-clause-err
 returns-then-count-left-clause-err g c =

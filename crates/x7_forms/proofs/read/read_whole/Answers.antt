@@ -1,5 +1,5 @@
 use Rattle.std.proofs.Common.{◌≡◌, [], ◌∷◌, ◌++◌, Ok, Err, ap, subst, sym, ◌∙◌}
-use Rattle.x7_words.specs.Input.{Selects}
+use Rattle.x7_words.specs.Input.{RestIsWhole}
 use Rattle.x7_forms.specs.Message.{event_of}
 use Rattle.x7_forms.specs.Step.{CameIn, IsCaused, step_over}
 use Rattle.x7_forms.specs.Known.{whole_in, with_inputs}
@@ -20,7 +20,7 @@ returns-clause-caused g c = λ flash.
     let name = c.args.name.now in
     let contents = (i.state c.args.inputs.now).contents in
     let p = c.in_ok-read_rest.ensures.ok in
-    let sel : Selects contents name _ = subst (λ r. Selects contents name r) p.3.0 c.in_ok-open.ensures.ok.found in
+    let sel : RestIsWhole contents name _ = subst (λ r. RestIsWhole contents name r) p.3.0 c.in_ok-open.ensures.ok.found in
     let C = CameIn (step_over (name ∷ []) (i.state c.args.inputs.now) (i.state c.read_rest.new.inputs)) in
     let is : c.read_rest.new.onto.items ≡ p.0 = p.1 ∙ ap (λ x. x ++ p.0) c.new-whole.ensures.items in
     subst (λ x. IsCaused (with_inputs contents flash) C (λ t. whole_in t c.args.limit name) (Ok x)) (sym is)

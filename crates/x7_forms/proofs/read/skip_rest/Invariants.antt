@@ -1,5 +1,5 @@
 use Rattle.std.proofs.Common.{◌≡◌, ℕ, List, ◌+◌, ◌≤◌, length, true}
-use Rattle.x7_words.specs.Input.{Stays}
+use Rattle.x7_words.specs.Input.{InputsStay}
 use Rattle.x7_forms.specs.Turn.{Reads}
 use Rattle.x7_forms.proofs.read.skip_rest.Given as goal
 
@@ -8,7 +8,7 @@ invariant-loop-turn g l =
     let i = g.I.Inputs in
     record {
       selected : (i.state l.inputs).selected ≡ true;
-      inputs : Stays (i.state l.fn.inputs) (i.state l.inputs);
+      inputs : InputsStay (i.state l.fn.inputs) (i.state l.inputs);
       ends : (i.state l.inputs).ends ≤ (i.state l.fn.inputs).ends;
       left : l.left ≤ l.limit;
       buf : length l.buf ≡ length l.fn.buf;

@@ -11,7 +11,7 @@ use crate::list::pen::{CALL_ROOM, Pen, TailBytes, new_pen, open_in, put_end, put
 use x7_packets::{Cut, Run};
 use x7_words::NoMemory;
 
-/// A run as a cutter gives it; nothing for the tail and the end.
+/// A run as a cutter gives it; `Need` for the tail and the end, which no cutter gives.
 fn cut_of<'b>(run: Run<'b>) -> Cut<'b>
     ensures { result ≡ cut_of run.entry }
 {

@@ -1,5 +1,5 @@
 use Rattle.std.proofs.Common.{◌≡◌, ℕ, List, ◌+◌, ◌≤◌, length, true}
-use Rattle.x7_words.specs.Input.{Stays}
+use Rattle.x7_words.specs.Input.{InputsStay}
 use Rattle.x7_forms.specs.Turn.{Reads, play_turn_bytes}
 use Rattle.x7_playing.specs.Playing.{MayPlay, PlaysOn}
 use Rattle.x7_playing.proofs.playing.play_rest.Given as goal
@@ -9,7 +9,7 @@ invariant-loop-turn g l =
     let i = g.I.Inputs in
     record {
       selected : (i.state l.inputs).selected ≡ true;
-      inputs : Stays (i.state l.fn.inputs) (i.state l.inputs);
+      inputs : InputsStay (i.state l.fn.inputs) (i.state l.inputs);
       ends : (i.state l.inputs).ends ≤ (i.state l.fn.inputs).ends;
       left : l.left ≤ l.limit;
       piece : length l.piece ≡ play_turn_bytes;

@@ -1,7 +1,7 @@
 use Rattle.std.proofs.Common.{◌≡◌, ℕ, List, [], ◌∷◌, ◌++◌, ◌-◌, ◌≤◌, false, Ok, drop, length, length-append, length-take-le, take, ap, arith, inl, inr, subst, sym, ◌∙◌}
 use Rattle.x7_header.specs.Header.{longest_header}
 use Rattle.std.proofs.lemmas.List.{length-take}
-use Rattle.x7_words.specs.Input.{Selects, preceded}
+use Rattle.x7_words.specs.Input.{RestIsWhole, preceded}
 use Rattle.x7_words.specs.Word.{AreBytes}
 use Rattle.x7_forms.specs.Message.{event_of}
 use Rattle.x7_forms.specs.Known.{read_of, with_inputs}
@@ -41,7 +41,7 @@ returns-else-is_err-clause-ok g c =
     let fits : AreBytes first = c.data_start.ensures.fits in
     let within : length first ≤ c.args.limit = omega (arith, size, c.in_ok-first.ensures.within.0) in
     let long : c.in_ok-first.first.last ≡ false → longest_header ≤ length first = λ e. omega (arith, size, c.in_ok-first.ensures.fills e, c.requires.buffer) in
-    let select : Selects contents name (preceded first (i.state c.next_turn.new.inputs).rest) = subst (λ r. Selects contents name r) c.in_ok-first.ensures.ok.taken c.in_ok-open.ensures.ok.found in
+    let select : RestIsWhole contents name (preceded first (i.state c.next_turn.new.inputs).rest) = subst (λ r. RestIsWhole contents name r) c.in_ok-first.ensures.ok.taken c.in_ok-open.ensures.ok.found in
     let start = c.in-Ok.start in
     let slice = take (count - start) (drop start buf) in
     let same : drop start first ≡ slice = slice_of start count buf (omega (arith, size, c.in-Ok.ensures.within)) in
@@ -103,7 +103,7 @@ returns-in_ok-skip_rest-in-Err-clause-err g c = λ flash.
     let fits : AreBytes first = c.data_start.ensures.fits in
     let within : length first ≤ c.args.limit = omega (arith, size, c.in_ok-first.ensures.within.0) in
     let long : c.in_ok-first.first.last ≡ false → longest_header ≤ length first = λ e. omega (arith, size, c.in_ok-first.ensures.fills e, c.requires.buffer) in
-    let select : Selects contents name (preceded first (i.state c.next_turn.new.inputs).rest) = subst (λ r. Selects contents name r) c.in_ok-first.ensures.ok.taken c.in_ok-open.ensures.ok.found in
+    let select : RestIsWhole contents name (preceded first (i.state c.next_turn.new.inputs).rest) = subst (λ r. RestIsWhole contents name r) c.in_ok-first.ensures.ok.taken c.in_ok-open.ensures.ok.found in
     let C = CameIn (step_over (name ∷ []) (i.state c.args.inputs.now) (i.state c.skip_rest.new.inputs)) in
     let p = c.in_ok-skip_rest-in-Err.ensures.ok in
     stream_refused contents flash C name first p.0 (i.state c.next_turn.new.inputs).rest (i.state c.skip_rest.new.inputs).rest c.args.limit c.in_ok-first.first.last (event_of c.in-Err.refusal) select p.2.0 p.2.1 c.in_ok-first.ensures.end long fits (omega (arith, p.1, size)) within c.in-Err.ensures.data

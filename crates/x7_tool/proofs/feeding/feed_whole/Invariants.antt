@@ -1,5 +1,5 @@
 use Rattle.std.proofs.Common.{◌≡◌, ℕ, List, ◌+◌, ◌≤◌, length, true}
-use Rattle.x7_words.specs.Input.{AsksOnce, Selects, Stays, preceded}
+use Rattle.x7_words.specs.Input.{AsksOnce, RestIsWhole, InputsStay, preceded}
 use Rattle.x7_tool.specs.Outcome.{text_limit}
 use Rattle.x7_forms.specs.Turn.{IsAt, turn_bytes}
 use Rattle.x7_tool.specs.Between.{IsFed}
@@ -11,11 +11,11 @@ invariant-loop-read g l =
     let t = g.T.TakesLines in
     record {
       selected : (i.state l.inputs).selected ≡ true;
-      inputs : Stays (i.state l.fn.inputs) (i.state l.inputs);
+      inputs : InputsStay (i.state l.fn.inputs) (i.state l.inputs);
       once : AsksOnce (i.state l.fn.inputs) (i.state l.inputs);
       left : l.left ≤ text_limit;
       piece : length l.piece ≡ turn_bytes;
-      known : (taken : List ℕ) × (Selects (i.state l.fn.inputs).contents l.name (preceded taken (i.state l.inputs).rest) × IsFed (t.took l.fn.taker) (t.fails l.fn.taker) l.read taken × (length taken + l.left ≡ text_limit) × IsAt l.name taken (i.state l.inputs));
+      known : (taken : List ℕ) × (RestIsWhole (i.state l.fn.inputs).contents l.name (preceded taken (i.state l.inputs).rest) × IsFed (t.took l.fn.taker) (t.fails l.fn.taker) l.read taken × (length taken + l.left ≡ text_limit) × IsAt l.name taken (i.state l.inputs));
     }
 
 abbrev pub decreases-loop-read : goal.decreases-loop-read

@@ -1,7 +1,7 @@
 use Rattle.std.proofs.Common.{◌≡◌, ℕ, ◌+◌, ◌-◌, ◌≤◌, ◌⊎◌, List, [], ◌∷◌, ◌++◌, Option, Some, Ok, Err, true, false, drop, subst, take, length, length-append, append-nil, length-drop, length-take-le, take_all, refl, sym, ap, ◌∙◌, inl, inr, arith}
 use Rattle.std.proofs.lemmas.Result.{on_ok_weaker}
 use Rattle.x7_words.specs.Sink.{SinkFails, appended, PutsPrefix}
-use Rattle.x7_words.specs.Input.{preceded, Selects}
+use Rattle.x7_words.specs.Input.{preceded, RestIsWhole}
 use Rattle.x7_words.specs.Word.{AreBytes}
 use Rattle.x7_words.proofs.InputLemmas.{few_once, once_on, stays_on}
 use Rattle.x7_words.proofs.CountLemmas.{risen_from}
@@ -82,7 +82,7 @@ returns-in_err-put_beginning g c = rw (handed_on c.from_residual-in_err-put_begi
     let content = take (length bytes - start) (drop start bytes) in
     let cut : content ≡ drop start taken = take_all (length bytes - start) (drop start bytes) (omega (arith, length-drop start bytes)) ∙ ap (drop start) c.deref.ensures.value in
     let rest = (i.state c.read_beginning.new.inputs).rest in
-    let sel : Selects contents stream (preceded taken rest) = subst (λ r. Selects contents stream r) f.reads.takes.taken c.in_ok-open.ensures.ok.found in
+    let sel : RestIsWhole contents stream (preceded taken rest) = subst (λ r. RestIsWhole contents stream r) f.reads.takes.taken c.in_ok-open.ensures.ok.found in
     let listing : (left : List ℕ) → FollowsUnlessLast last left → stream_listing (taken ++ left) ≡ Ok (line ++ listing_of (content ++ left)) = λ left m. f.begins left m ∙ ap (λ (l : List ℕ). Ok (l ++ listing_of (drop start taken ++ left))) (sym c.deref-line.ensures.value) ∙ ap (λ (s : List ℕ). Ok (line ++ listing_of (s ++ left))) (sym cut) in
     let now = (o.state c.put_beginning.new.out).written in
     let Full : Type 0 = SinkFails (o.state c.args.out.now) (o.state c.put_beginning.new.out) in
@@ -125,7 +125,7 @@ returns-then-beginning g c = λ before after.
     let content = take (length bytes - start) (drop start bytes) in
     let cut : content ≡ drop start taken = take_all (length bytes - start) (drop start bytes) (omega (arith, length-drop start bytes)) ∙ ap (drop start) c.deref.ensures.value in
     let rest = (i.state c.read_beginning.new.inputs).rest in
-    let sel : Selects contents stream (preceded taken rest) = subst (λ r. Selects contents stream r) f.reads.takes.taken c.in_ok-open.ensures.ok.found in
+    let sel : RestIsWhole contents stream (preceded taken rest) = subst (λ r. RestIsWhole contents stream r) f.reads.takes.taken c.in_ok-open.ensures.ok.found in
     let listing : (left : List ℕ) → FollowsUnlessLast last left → stream_listing (taken ++ left) ≡ Ok (line ++ listing_of (content ++ left)) = λ left m. f.begins left m ∙ ap (λ (l : List ℕ). Ok (l ++ listing_of (drop start taken ++ left))) (sym c.deref-line.ensures.value) ∙ ap (λ (s : List ℕ). Ok (line ++ listing_of (s ++ left))) (sym cut) in
     let now = (o.state c.put_short.new.out).written in
     let Full : Type 0 = SinkFails (o.state c.args.out.now) (o.state c.put_short.new.out) in
@@ -334,7 +334,7 @@ loop-lister-init g c =
     let bytes = c.deref.result.now in
     let content = take (length bytes - start) (drop start bytes) in
     let cut : content ≡ drop start taken = take_all (length bytes - start) (drop start bytes) (omega (arith, length-drop start bytes)) ∙ ap (drop start) c.deref.ensures.value in
-    let sel : Selects contents stream (preceded taken now.rest) = subst (λ r. Selects contents stream r) f.reads.takes.taken c.in_ok-open.ensures.ok.found in
+    let sel : RestIsWhole contents stream (preceded taken now.rest) = subst (λ r. RestIsWhole contents stream r) f.reads.takes.taken c.in_ok-open.ensures.ok.found in
     let listing : (left : List ℕ) → stream_listing (taken ++ left) ≡ Ok (line ++ listing_of (content ++ left)) = λ left. f.begins left (λ l. let never : false ≡ true = sym c.if-beginning.false ∙ l in absurd cc) ∙ ap (λ (l : List ℕ). Ok (l ++ listing_of (drop start taken ++ left))) (sym c.deref-line.ensures.value) ∙ ap (λ (s : List ℕ). Ok (line ++ listing_of (s ++ left))) (sym cut) in
     record {
       selected = c.in_ok-beginning.ensures.selected;

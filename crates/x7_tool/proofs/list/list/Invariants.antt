@@ -1,5 +1,5 @@
 use Rattle.std.proofs.Common.{◌≡◌, ℕ, List, ◌+◌, ◌≤◌, length, true}
-use Rattle.x7_words.specs.Input.{AsksOnce, Selects, Stays, preceded}
+use Rattle.x7_words.specs.Input.{AsksOnce, RestIsWhole, InputsStay, preceded}
 use Rattle.x7_forms.specs.Known.{stream_limit}
 use Rattle.x7_forms.specs.Turn.{IsAt, turn_bytes}
 use Rattle.x7_tool.specs.Between.{ListsStream}
@@ -11,12 +11,12 @@ invariant-loop-lister g l =
     let o = g.O.Sink in
     record {
       selected : (i.state l.inputs).selected ≡ true;
-      inputs : Stays (i.state l.fn.inputs) (i.state l.inputs);
+      inputs : InputsStay (i.state l.fn.inputs) (i.state l.inputs);
       written : (o.state l.fn.out).faults ≤ (o.state l.out).faults;
       once : AsksOnce (i.state l.fn.inputs) (i.state l.inputs);
       left : l.left ≤ stream_limit;
       piece : length l.piece ≡ turn_bytes;
-      known : (taken : List ℕ) × (Selects (i.state l.fn.inputs).contents l.stream (preceded taken (i.state l.inputs).rest) × ListsStream l.lister (o.state l.fn.out).written (o.state l.out).written taken × (length taken + l.left ≡ stream_limit) × IsAt l.stream taken (i.state l.inputs));
+      known : (taken : List ℕ) × (RestIsWhole (i.state l.fn.inputs).contents l.stream (preceded taken (i.state l.inputs).rest) × ListsStream l.lister (o.state l.fn.out).written (o.state l.out).written taken × (length taken + l.left ≡ stream_limit) × IsAt l.stream taken (i.state l.inputs));
     }
 
 abbrev pub decreases-loop-lister : goal.decreases-loop-lister

@@ -10,6 +10,6 @@ loop-i-preserved c = λ k h. elim (cases_lt k c.loop-i.i) [
   | inr from ↦
       let same : k ≡ c.loop-i.i = omega (arith, h, from) in
       let is : get_or c.args.buffer.now c.loop-i.i 0 ≡ c.wanted-wrote.result = grind (arith, common_steps) in
-      let at : c.args.update + (c.args.after + c.loop-i.i) ≡ c.args.update + c.args.after + k = omega (arith, same) in
-      ap (λ n. get_or c.args.buffer.now n 0) same ∙ is ∙ c.wanted-wrote.ensures c.args.update ∙ ap (wanted_at c.args.update c.args.stream.now) at
+      let at : c.args.from + (c.args.after + c.loop-i.i) ≡ c.args.from + c.args.after + k = omega (arith, same) in
+      ap (λ n. get_or c.args.buffer.now n 0) same ∙ is ∙ c.wanted-wrote.ensures c.args.from ∙ ap (wanted_at c.args.from c.args.piece.now) at
 ]

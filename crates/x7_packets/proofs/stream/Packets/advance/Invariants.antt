@@ -1,5 +1,5 @@
 use Rattle.std.proofs.Common.{◌≡◌, ℕ, List, ◌≤◌, ◌+◌, ◌*◌, true, false}
-use Rattle.x7_words.specs.Input.{Stays, preceded}
+use Rattle.x7_words.specs.Input.{InputsStay, preceded}
 use Rattle.x7_packets.specs.Stream.{TookBytes}
 use Rattle.x7_packets.proofs.StreamLemmas.{turns_left}
 use Rattle.x7_packets.proofs.stream.Packets.advance.Given as goal
@@ -9,7 +9,7 @@ invariant-loop-self g l =
     let i = g.I.Inputs in
     record {
       selected : (i.state l.inputs).selected ≡ true;
-      inputs : Stays (i.state l.fn.inputs) (i.state l.inputs);
+      inputs : InputsStay (i.state l.fn.inputs) (i.state l.inputs);
       good : l.self.failed ≡ false;
       on : l.self.done ≡ false;
       reads : (more : List ℕ) × ((i.state l.fn.inputs).rest ≡ preceded more (i.state l.inputs).rest) × TookBytes l.fn.self l.self more;
