@@ -80,6 +80,7 @@ fn kept_by(device: &Device, kind: Kind) -> Kept
     ensures kept { (part : PartData) (t : AttemptCourse) → IsDeviceOf part device.now t → result ≡ kept_after part t.kept t.wrapped t.bytes kind }
 {
     Kept {
+        // `Device::kept` says its kind of a device with a past alone.
         kind,
         ..device.kept(kind)
     }

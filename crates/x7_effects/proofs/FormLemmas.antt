@@ -23,8 +23,8 @@ use Rattle.x7_effects.proofs.Items.{Item, Write, WriteLong, items_entered, item_
 use Rattle.x7_effects.proofs.Checking.{Checking, Piece, Put, Check, IsPiece, ArePieces, ClearFirst, at_first, with_checks, piece_item, piece_length, pieces_length, after_item}
 use Rattle.x7_effects.proofs.Frames.{joined, AreWide, frame_of, frames_at, row_frames}
 use Rattle.x7_planner.specs.FullStream.{zero_frame}
-use Rattle.x7_planner.specs.PartialStream.{Stretch, Copies, Rows}
-use Rattle.x7_effects.proofs.Streams.{stream_of, full_pieces, full_stream, copy_pieces, stretch_pieces, stretches_pieces, partial_pieces, read_pieces, HaveWords, IsStretch, AreStretches}
+use Rattle.x7_planner.specs.PartialStream.{Section, Copies, Rows}
+use Rattle.x7_effects.proofs.Streams.{stream_of, full_pieces, full_stream, copy_pieces, section_pieces, sections_pieces, partial_pieces, read_pieces, HaveWords, IsSection, AreSections}
 use Rattle.x7_effects.proofs.FrameLemmas.{all_wide, plan_wide, first_small}
 use Rattle.x7_effects.proofs.StreamLemmas.{bytes_count, appended_history, appended_ends, head_leads, items_entered_append}
 use Rattle.x7_effects.proofs.CheckingLemmas.{pieces_fit}
@@ -146,15 +146,15 @@ first_fits : (fars : List ℕ) → AreWords fars → get_or fars 0 0 < 2 ^ 32
 first_fits [] f = omega arith
 first_fits (far ∷ fars) f = f.0
 
-stretch_fits : (part : PartData) (s : Stretch) → IsStretch part s → ArePieces (stretch_pieces part s)
-stretch_fits part (Copies words fars) f = (
+section_fits : (part : PartData) (s : Section) → IsSection part s → ArePieces (section_pieces part s)
+section_fits part (Copies words fars) f = (
   one_fits 4 1 (omega arith) (λ h. omega (arith, h)) refl (omega arith),
   (
     one_fits 1 (get_or fars 0 0) (omega arith) (λ h. omega (arith, h)) refl (first_fits fars f.2),
     (long_fits words f.0 f.1, (one_fits 4 2 (omega arith) (λ h. omega (arith, h)) refl (omega arith), copies_fit fars f.2)),
   ),
 )
-stretch_fits part (Rows rows) f = (
+section_fits part (Rows rows) f = (
   one_fits 4 1 (omega arith) (λ h. omega (arith, h)) refl (omega arith),
   (
     one_fits 1 (get_or (planned_addresses rows) 0 0) (omega arith) (λ h. omega (arith, h)) refl (first_fits (planned_addresses rows) f.2),
@@ -162,12 +162,12 @@ stretch_fits part (Rows rows) f = (
   ),
 )
 
-stretches_fit : (part : PartData) (stretches : List Stretch) → AreStretches part stretches → ArePieces (stretches_pieces part stretches)
-stretches_fit part [] f = tt
-stretches_fit part (s ∷ stretches) f = all_append IsPiece (stretch_pieces part s) (stretches_pieces part stretches) (stretch_fits part s f.0) (stretches_fit part stretches f.1)
+sections_fit : (part : PartData) (sections : List Section) → AreSections part sections → ArePieces (sections_pieces part sections)
+sections_fit part [] f = tt
+sections_fit part (s ∷ sections) f = all_append IsPiece (section_pieces part s) (sections_pieces part sections) (section_fits part s f.0) (sections_fit part sections f.1)
 
-pub partial_fits : (part : PartData) (stretches : List Stretch) → part.idcode < 2 ^ 32 → AreStretches part stretches → ArePieces (partial_pieces part stretches)
-partial_fits part stretches i f = (
+pub partial_fits : (part : PartData) (sections : List Section) → part.idcode < 2 ^ 32 → AreSections part sections → ArePieces (partial_pieces part sections)
+partial_fits part sections i f = (
   (tt, λ s. cc),
   (
     one_fits 4 7 (omega arith) (λ h. omega (arith, h)) refl (omega arith),
@@ -175,7 +175,7 @@ partial_fits part stretches i f = (
       (tt, λ s. cc),
       (
         one_fits 12 part.idcode (omega arith) (λ h. omega (arith, h)) refl i,
-        all_append IsPiece (stretches_pieces part stretches) (Check ∷ []) (stretches_fit part stretches f) (tt, tt),
+        all_append IsPiece (sections_pieces part sections) (Check ∷ []) (sections_fit part sections f) (tt, tt),
       ),
     ),
   ),
@@ -185,8 +185,8 @@ partial_fits part stretches i f = (
 pub full_clears : (part : PartData) (plan : PlanData) → ClearFirst (full_pieces part plan)
 full_clears part plan c = refl
 
-pub partial_clears : (part : PartData) (stretches : List Stretch) → ClearFirst (partial_pieces part stretches)
-partial_clears part stretches c = refl
+pub partial_clears : (part : PartData) (sections : List Section) → ClearFirst (partial_pieces part sections)
+partial_clears part sections c = refl
 
 pub read_clears : (part : PartData) (far n : ℕ) → ClearFirst (read_pieces part far n)
 read_clears part far n c = refl

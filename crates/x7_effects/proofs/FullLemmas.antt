@@ -48,7 +48,7 @@ use Rattle.x7_effects.proofs.PlanLemmas.{target}
 use Rattle.x7_effects.proofs.RestingLemmas.{going_at_rest}
 use Rattle.x7_effects.proofs.SilentLemmas.{stream_silent}
 use Rattle.x7_effects.proofs.StillLemmas.{HasStartup, IsStill, ends_in_seven, lines_at, startup_armed, startup_bytes, startup_desynced, startup_dropped, startup_none}
-use Rattle.x7_effects.proofs.StretchLemmas.{IsTarget}
+use Rattle.x7_effects.proofs.SectionLemmas.{IsTarget}
 use Rattle.x7_effects.proofs.WalkLemmas.{HasWritten, IsLoaded, IsReady, going_one, loaded_words, quiet_one, ready_load}
 
 -- ---- CTL0 never has DEC where there is no stop

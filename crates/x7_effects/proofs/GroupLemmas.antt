@@ -1,4 +1,4 @@
--- The stretches of a plan put just the plan.
+-- The sections of a plan put just the plan.
 use Rattle.std.proofs.Common.{◌≡◌, ℕ, suc, ◌<◌, ◌⊎◌, inl, inr, Bool, true, false, if◌then◌else◌, List, [], ◌∷◌, ◌++◌, length, map, reverse, get_or, Some, None, refl, ap, sym, subst, ◌∙◌, arith, eq-eqb}
 use Rattle.std.specs.List.{flat_map, AllByRecursion}
 use Rattle.std.proofs.lemmas.Grind.{flat_map-append, reverse_onto}
@@ -12,11 +12,11 @@ use Rattle.x7_memory.proofs.PlanLemmas.{planned_here, planned_after, order_tail}
 use Rattle.x7_memory.proofs.MapLemmas.{override_same}
 use Rattle.x7_pipeline.specs.Runs.{put_over}
 use Rattle.x7_pipeline.proofs.LawLemmas.{put_twice}
-use Rattle.x7_planner.specs.PartialStream.{Stretch, Copies, Rows}
-use Rattle.x7_planner.specs.PartialStream.{same_words, with_content, is_shared, leads_group, groups_led, others, follows, with_row, runs_of, stretches_of}
+use Rattle.x7_planner.specs.PartialStream.{Section, Copies, Rows}
+use Rattle.x7_planner.specs.PartialStream.{same_words, with_content, is_shared, leads_group, groups_led, others, follows, with_row, runs_of, sections_of}
 use Rattle.x7_planner.specs.PartialStream.{joined_runs, IsRunOfRows, AreLongest, pairs_of}
 use Rattle.x7_planner.proofs.ContentLemmas.{same_words_true, same_words_own}
-use Rattle.x7_effects.proofs.Groups.{put_stretches}
+use Rattle.x7_effects.proofs.Groups.{put_sections}
 
 -- ---- the address is one of these rows'
 
@@ -100,52 +100,52 @@ pub own : (rows : List PlanRow) → AreInOrder rows → Agree rows rows
 own [] o = tt
 own (r ∷ rows) o = (planned_here r rows r.far refl, own_rest r rows rows (λ far n. later far r rows o n) (own rows (order_tail r rows o)))
 
--- ---- stretches in order
+-- ---- sections in order
 
 all_reverse : (P : PlanRow → Type 0) (ps : List PlanRow) → AllByRecursion P ps → AllByRecursion P (reverse ps)
 all_reverse P [] a = tt
 all_reverse P (p ∷ ps) a = subst (AllByRecursion P) (sym (reverse_onto ps p [])) (all_append P (reverse ps) (p ∷ []) (all_reverse P ps a.1) (a.0, tt))
 
--- all pairs of stretches, the newest first
-abbrev pub newest : List Stretch → List PlanRow
+-- all pairs of sections, the newest first
+abbrev pub newest : List Section → List PlanRow
 newest [] = []
-newest (s ∷ stretches) = newest stretches ++ reverse (pairs_of s)
+newest (s ∷ sections) = newest sections ++ reverse (pairs_of s)
 
-put_all : (stretches : List Stretch) (memory : FrameMap) → AreSame (put_stretches memory stretches) (put_over (newest stretches) memory)
+put_all : (sections : List Section) (memory : FrameMap) → AreSame (put_sections memory sections) (put_over (newest sections) memory)
 unfolding planned
 put_all [] memory far = refl
-put_all (s ∷ stretches) memory far =
-    put_twice (reverse (pairs_of s)) (newest stretches) memory (put_over (reverse (pairs_of s)) memory) (put_stretches (put_over (reverse (pairs_of s)) memory) stretches) (λ a. refl) (put_all stretches (put_over (reverse (pairs_of s)) memory)) far
+put_all (s ∷ sections) memory far =
+    put_twice (reverse (pairs_of s)) (newest sections) memory (put_over (reverse (pairs_of s)) memory) (put_sections (put_over (reverse (pairs_of s)) memory) sections) (λ a. refl) (put_all sections (put_over (reverse (pairs_of s)) memory)) far
 
-newest_agrees : (rows : List PlanRow) (stretches : List Stretch) → Agree rows (flat_map pairs_of stretches) → Agree rows (newest stretches)
+newest_agrees : (rows : List PlanRow) (sections : List Section) → Agree rows (flat_map pairs_of sections) → Agree rows (newest sections)
 newest_agrees rows [] a = tt
-newest_agrees rows (s ∷ stretches) a =
-    all_append (λ p. planned rows p.far ≡ Some p.words) (newest stretches) (reverse (pairs_of s))
-    (newest_agrees rows stretches (all_back (λ p. planned rows p.far ≡ Some p.words) (pairs_of s) (flat_map pairs_of stretches) a))
-    (all_reverse (λ p. planned rows p.far ≡ Some p.words) (pairs_of s) (all_prefix (λ p. planned rows p.far ≡ Some p.words) (pairs_of s) (flat_map pairs_of stretches) a))
+newest_agrees rows (s ∷ sections) a =
+    all_append (λ p. planned rows p.far ≡ Some p.words) (newest sections) (reverse (pairs_of s))
+    (newest_agrees rows sections (all_back (λ p. planned rows p.far ≡ Some p.words) (pairs_of s) (flat_map pairs_of sections) a))
+    (all_reverse (λ p. planned rows p.far ≡ Some p.words) (pairs_of s) (all_prefix (λ p. planned rows p.far ≡ Some p.words) (pairs_of s) (flat_map pairs_of sections) a))
 
 pub names_either : (far : ℕ) (ps qs : List PlanRow) → Names far (ps ++ qs) → Names far ps ⊎ Names far qs
 names_either far [] qs n = inr n
 names_either far (p ∷ ps) qs (inl e) = inl (inl e)
 names_either far (p ∷ ps) qs (inr n) = elim (names_either far ps qs n) [ inl m ↦ inl (inr m) | inr m ↦ inr m ]
 
-newest_names : (far : ℕ) (stretches : List Stretch) → Names far (flat_map pairs_of stretches) → Names far (newest stretches)
+newest_names : (far : ℕ) (sections : List Section) → Names far (flat_map pairs_of sections) → Names far (newest sections)
 newest_names far [] n = n
-newest_names far (s ∷ stretches) n = elim (names_either far (pairs_of s) (flat_map pairs_of stretches) n) [
-  | inl m ↦ names_back far (newest stretches) (reverse (pairs_of s)) (names_reverse far (pairs_of s) m)
-  | inr m ↦ names_prefix far (newest stretches) (reverse (pairs_of s)) (newest_names far stretches m)
+newest_names far (s ∷ sections) n = elim (names_either far (pairs_of s) (flat_map pairs_of sections) n) [
+  | inl m ↦ names_back far (newest sections) (reverse (pairs_of s)) (names_reverse far (pairs_of s) m)
+  | inr m ↦ names_prefix far (newest sections) (reverse (pairs_of s)) (newest_names far sections m)
 ]
 
-cover_newest : (rows : List PlanRow) (stretches : List Stretch) → Cover rows (flat_map pairs_of stretches) → Cover rows (newest stretches)
-cover_newest [] stretches c = tt
-cover_newest (q ∷ rows) stretches c = (newest_names q.far stretches c.0, cover_newest rows stretches c.1)
+cover_newest : (rows : List PlanRow) (sections : List Section) → Cover rows (flat_map pairs_of sections) → Cover rows (newest sections)
+cover_newest [] sections c = tt
+cover_newest (q ∷ rows) sections c = (newest_names q.far sections c.0, cover_newest rows sections c.1)
 
--- stretches whose pairs agree with rows and name each of them put just the rows
-pub stretches_put : (rows : List PlanRow) (stretches : List Stretch) (memory : FrameMap) → Agree rows (flat_map pairs_of stretches) → Cover rows (flat_map pairs_of stretches)
-    → AreSame (put_stretches memory stretches) (override memory (planned rows))
-stretches_put rows stretches memory a c far =
-    put_all stretches memory far
-    ∙ override_same memory memory (planned (newest stretches)) (planned rows) (λ x. refl) (same_map rows (newest stretches) (newest_agrees rows stretches a) (cover_newest rows stretches c)) far
+-- sections whose pairs agree with rows and name each of them put just the rows
+pub sections_put : (rows : List PlanRow) (sections : List Section) (memory : FrameMap) → Agree rows (flat_map pairs_of sections) → Cover rows (flat_map pairs_of sections)
+    → AreSame (put_sections memory sections) (override memory (planned rows))
+sections_put rows sections memory a c far =
+    put_all sections memory far
+    ∙ override_same memory memory (planned (newest sections)) (planned rows) (λ x. refl) (same_map rows (newest sections) (newest_agrees rows sections a) (cover_newest rows sections c)) far
 
 -- ---- the groups and the runs of a plan
 
@@ -197,13 +197,13 @@ runs_pairs : (runs : List (List PlanRow)) → flat_map pairs_of (map Rows runs) 
 runs_pairs [] = refl
 runs_pairs (run ∷ runs) = ap (λ t. run ++ t) (runs_pairs runs)
 
-pub stretches_pairs : (part : PartData) (rows : List PlanRow) → flat_map pairs_of (stretches_of part rows) ≡ flat_map pairs_of (groups_led rows rows) ++ others rows rows
-stretches_pairs part rows =
+pub sections_pairs : (part : PartData) (rows : List PlanRow) → flat_map pairs_of (sections_of part rows) ≡ flat_map pairs_of (groups_led rows rows) ++ others rows rows
+sections_pairs part rows =
     flat_map-append pairs_of (groups_led rows rows) (map Rows (runs_of part (others rows rows)))
     ∙ ap (λ t. flat_map pairs_of (groups_led rows rows) ++ t) (runs_pairs (runs_of part (others rows rows)) ∙ runs_joined part (others rows rows))
 
-pub stretches_agree : (part : PartData) (rows : List PlanRow) → AreInOrder rows → Agree rows (flat_map pairs_of (stretches_of part rows))
-stretches_agree part rows o = rw (stretches_pairs part rows) (all_append (λ p. planned rows p.far ≡ Some p.words) (flat_map pairs_of (groups_led rows rows)) (others rows rows) (groups_agree rows rows (own rows o)) (others_agree rows rows (own rows o)))
+pub sections_agree : (part : PartData) (rows : List PlanRow) → AreInOrder rows → Agree rows (flat_map pairs_of (sections_of part rows))
+sections_agree part rows o = rw (sections_pairs part rows) (all_append (λ p. planned rows p.far ≡ Some p.words) (flat_map pairs_of (groups_led rows rows)) (others rows rows) (groups_agree rows rows (own rows o)) (others_agree rows rows (own rows o)))
 
 -- the row is one of these
 abbrev IsIn : PlanRow → List PlanRow → Type 0
@@ -282,12 +282,12 @@ all_rows_named : (rows qs pairs : List PlanRow) → ((q : PlanRow) → IsIn q ro
 all_rows_named rows [] pairs f g = tt
 all_rows_named rows (q ∷ qs) pairs f g = (f q (g q (inl refl)), all_rows_named rows qs pairs f (λ r i. g r (inr i)))
 
-pub stretches_cover : (part : PartData) (rows : List PlanRow) → Cover rows (flat_map pairs_of (stretches_of part rows))
-stretches_cover part rows = rw (stretches_pairs part rows) (all_rows_named rows rows (flat_map pairs_of (groups_led rows rows) ++ others rows rows) (λ q i. row_named rows q (is_shared rows q) refl i) (λ q i. i))
+pub sections_cover : (part : PartData) (rows : List PlanRow) → Cover rows (flat_map pairs_of (sections_of part rows))
+sections_cover part rows = rw (sections_pairs part rows) (all_rows_named rows rows (flat_map pairs_of (groups_led rows rows) ++ others rows rows) (λ q i. row_named rows q (is_shared rows q) refl i) (λ q i. i))
 
--- the stretches of a plan put just the plan
-pub plan_put : (part : PartData) (rows : List PlanRow) (memory : FrameMap) → AreInOrder rows → AreSame (put_stretches memory (stretches_of part rows)) (override memory (planned rows))
-plan_put part rows memory o = stretches_put rows (stretches_of part rows) memory (stretches_agree part rows o) (stretches_cover part rows)
+-- the sections of a plan put just the plan
+pub plan_put : (part : PartData) (rows : List PlanRow) (memory : FrameMap) → AreInOrder rows → AreSame (put_sections memory (sections_of part rows)) (override memory (planned rows))
+plan_put part rows memory o = sections_put rows (sections_of part rows) memory (sections_agree part rows o) (sections_cover part rows)
 
 -- the runs are the longest
 run_first : (part : PartData) (run : List PlanRow) (runs : List (List PlanRow)) → AreLongest part (run ∷ runs) → IsRunOfRows part run

@@ -10,7 +10,7 @@ use Rattle.x7_part.specs.Ranges.{IsPart}
 use Rattle.x7_memory.specs.FrameMap.{FrameMap, AreSame, override}
 use Rattle.x7_memory.specs.Plan.{IsPlanFor, PlanData, PlanRow, planned, total}
 use Rattle.x7_planner.specs.FullStream.{full_pieces, full_stream}
-use Rattle.x7_planner.specs.PartialStream.{partial_ending, partial_opening, partial_stream, stretch_words, stretches_of}
+use Rattle.x7_planner.specs.PartialStream.{partial_ending, partial_opening, partial_stream, section_words, sections_of}
 use Rattle.x7_planner.specs.ReadStream.{read_stream}
 use Rattle.x7_planner.specs.Fault.{CanRead}
 use Rattle.x7_planner.specs.Writer.{StreamPiece, Words, Check, bytes_of_words, check_words, stream_of, with_piece}
@@ -40,7 +40,7 @@ full_fits part bytes plan f = longer_fits bytes (full_pieces part plan) f
 partial_fits : (part : PartData) (bytes : List ℕ) (rows : List PlanRow) → AreBytes bytes → AreBytes (bytes ++ partial_stream part rows)
 partial_fits part bytes rows f =
     longer_fits bytes
-    (Words (partial_opening part ++ flat_map (stretch_words part) (stretches_of part rows)) ∷ Check ∷ Words partial_ending ∷ []) f
+    (Words (partial_opening part ++ flat_map (section_words part) (sections_of part rows)) ∷ Check ∷ Words partial_ending ∷ []) f
 
 -- ---- in turn
 

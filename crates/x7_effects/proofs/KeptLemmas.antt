@@ -13,13 +13,13 @@ use Rattle.x7_engine.specs.declared.kept.Kept.{Kept}
 use Rattle.x7_engine.specs.Kept.{kept_word}
 use Rattle.x7_engine.specs.State.{history_by, history_taken, state_of, stop_in}
 use Rattle.x7_engine.specs.Stop.{Stopped}
-use Rattle.x7_planner.specs.PartialStream.{Copies, Rows, Stretch, stretches_of}
+use Rattle.x7_planner.specs.PartialStream.{Copies, Rows, Section, sections_of}
 use Rattle.x7_effects.specs.Played.{KeepsSettings, KeepsUnwritten}
 use Rattle.x7_effects.proofs.Items as item
 use Rattle.x7_effects.proofs.Items.{item_entered, writes_entered}
 use Rattle.x7_effects.proofs.Checking.{ArePieces, Check, Checking, ClearFirst, Piece, Put, checking_of, piece_item, piece_length, pieces_length}
 use Rattle.x7_effects.proofs.Groups.{plan_pieces}
-use Rattle.x7_effects.proofs.Streams.{copy_pieces, full_with, read_with, stream_of, stretch_pieces, stretches_pieces}
+use Rattle.x7_effects.proofs.Streams.{copy_pieces, full_with, read_with, stream_of, section_pieces, sections_pieces}
 use Rattle.x7_effects.proofs.GoingLemmas.{written}
 use Rattle.x7_effects.proofs.RestingLemmas.{stream_history}
 
@@ -91,17 +91,17 @@ copies_apart : (r : ℕ) (fars : List ℕ) → IsOther r → AreApart r (flat_ma
 copies_apart r [] o = tt
 copies_apart r (far ∷ fars) o = (o.far, (o.mfwr, copies_apart r fars o))
 
-stretch_apart : (r : ℕ) (part : PartData) (s : Stretch) → IsOther r → AreApart r (stretch_pieces part s)
-stretch_apart r part (Copies words fars) o = (o.cmd, (o.far, (o.fdri, (o.cmd, copies_apart r fars o))))
-stretch_apart r part (Rows rows) o = (o.cmd, (o.far, (o.fdri, tt)))
+section_apart : (r : ℕ) (part : PartData) (s : Section) → IsOther r → AreApart r (section_pieces part s)
+section_apart r part (Copies words fars) o = (o.cmd, (o.far, (o.fdri, (o.cmd, copies_apart r fars o))))
+section_apart r part (Rows rows) o = (o.cmd, (o.far, (o.fdri, tt)))
 
-stretches_apart : (r : ℕ) (part : PartData) (stretches : List Stretch) → IsOther r → AreApart r (stretches_pieces part stretches)
-stretches_apart r part [] o = tt
-stretches_apart r part (s ∷ stretches) o = apart_append r (stretch_pieces part s) (stretches_pieces part stretches) (stretch_apart r part s o) (stretches_apart r part stretches o)
+sections_apart : (r : ℕ) (part : PartData) (sections : List Section) → IsOther r → AreApart r (sections_pieces part sections)
+sections_apart r part [] o = tt
+sections_apart r part (s ∷ sections) o = apart_append r (section_pieces part s) (sections_pieces part sections) (section_apart r part s o) (sections_apart r part sections o)
 
 pub partial_apart : (part : PartData) (rows : List PlanRow) (r : ℕ) → IsOther r → AreApart r (plan_pieces part rows)
 partial_apart part rows r o =
-    (tt, (o.cmd, (tt, (o.idcode, apart_append r (stretches_pieces part (stretches_of part rows)) (Check ∷ []) (stretches_apart r part (stretches_of part rows) o) (o.crc, tt)))))
+    (tt, (o.cmd, (tt, (o.idcode, apart_append r (sections_pieces part (sections_of part rows)) (Check ∷ []) (sections_apart r part (sections_of part rows) o) (o.crc, tt)))))
 
 pub read_apart : (far count r : ℕ) → IsOther r → AreApart r (read_with far count)
 read_apart far count r o = (tt, (o.cmd, (tt, (o.cmd, (o.far, (tt, tt))))))

@@ -15,7 +15,7 @@ pub mod CalmLemmas
 pub mod StillLemmas
 pub mod GoingLemmas
 pub mod WalkLemmas
-pub mod StretchLemmas
+pub mod SectionLemmas
 pub mod RestingLemmas
 pub mod PlanLemmas
 pub mod ReadLemmas

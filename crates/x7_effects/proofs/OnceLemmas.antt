@@ -1,4 +1,4 @@
--- The stretches of a plan write each of its rows once.
+-- The sections of a plan write each of its rows once.
 use Rattle.std.proofs.Common.{◌≡◌, ℕ, zero, suc, ◌<◌, ◌==◌, ◌&&◌, ◌⊎◌, inl, inr, Bool, true, false, if◌then◌else◌, List, [], ◌∷◌, ◌++◌, length, get_or, Option, Some, refl, ap, sym, subst, ◌∙◌, arith}
 use Rattle.std.specs.Prelude.{Contains, nat_le}
 use Rattle.std.specs.List.{AllByRecursion}
@@ -7,8 +7,8 @@ use Rattle.x7_memory.proofs.PlanLemmas.{order_tail}
 use Rattle.x7_planner.proofs.RunLemmas.{all_rows}
 use Rattle.x7_part.specs.Part.{PartData}
 use Rattle.x7_memory.specs.Plan.{AreApart, AreInOrder, PlanRow, planned, planned_addresses}
-use Rattle.x7_planner.specs.PartialStream.{Copies, WritesOnce, groups_led, is_shared, leads_group, others, pairs_in, same_words, stretches_of, with_content}
-use Rattle.x7_effects.proofs.GroupLemmas.{Agree, Names, Pairs, content_agrees, later, names_either, own, stretches_agree, stretches_cover, stretches_pairs}
+use Rattle.x7_planner.specs.PartialStream.{Copies, WritesOnce, groups_led, is_shared, leads_group, others, pairs_in, same_words, sections_of, with_content}
+use Rattle.x7_effects.proofs.GroupLemmas.{Agree, Names, Pairs, content_agrees, later, names_either, own, sections_agree, sections_cover, sections_pairs}
 
 -- no address comes twice
 abbrev Apart : List PlanRow → Type 0
@@ -145,10 +145,10 @@ group_or_other all far a n m =
     let shared : is_shared all o.row ≡ true = ap (λ t. nat_le 3 (length (with_content t all))) (sym words) ∙ shared_of all l.row l.leads in
     absurd (let no : true ≡ false = sym shared ∙ o.lone in cc)
 
-stretches_apart : (part : PartData) (rows : List PlanRow) → AreInOrder rows → Apart (pairs_in (stretches_of part rows))
-stretches_apart part rows o =
+sections_apart : (part : PartData) (rows : List PlanRow) → AreInOrder rows → Apart (pairs_in (sections_of part rows))
+sections_apart part rows o =
     let apart : Apart rows = apart_rows rows o in
-    subst Apart (sym (stretches_pairs part rows))
+    subst Apart (sym (sections_pairs part rows))
     (apart_append (pairs_in (groups_led rows rows)) (others rows rows) (groups_apart rows rows (own rows o) apart apart) (others_apart rows rows apart) (λ far n m. group_or_other rows far (own rows o) n m))
 
 -- ---- by places
@@ -175,9 +175,9 @@ covered [] pairs c far (k, low, e) = absurd (omega arith)
 covered (q ∷ rows) pairs c far (zero, low, e) = subst (Contains (planned_addresses pairs)) e (contained pairs q.far c.0)
 covered (q ∷ rows) pairs c far (suc k, low, e) = covered rows pairs c.1 far (k, omega arith, e)
 
-pub written_once : (part : PartData) (rows : List PlanRow) → AreInOrder rows → WritesOnce rows (pairs_in (stretches_of part rows))
+pub written_once : (part : PartData) (rows : List PlanRow) → AreInOrder rows → WritesOnce rows (pairs_in (sections_of part rows))
 written_once part rows o = record {
-  frames = all_rows (λ pair. planned rows pair.far ≡ Some pair.words) (pairs_in (stretches_of part rows)) (stretches_agree part rows o);
-  each = covered rows (pairs_in (stretches_of part rows)) (stretches_cover part rows);
-  once = apart_places (pairs_in (stretches_of part rows)) (stretches_apart part rows o);
+  frames = all_rows (λ pair. planned rows pair.far ≡ Some pair.words) (pairs_in (sections_of part rows)) (sections_agree part rows o);
+  each = covered rows (pairs_in (sections_of part rows)) (sections_cover part rows);
+  once = apart_places (pairs_in (sections_of part rows)) (sections_apart part rows o);
 }

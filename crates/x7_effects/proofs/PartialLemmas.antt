@@ -22,23 +22,23 @@ use Rattle.x7_engine.specs.Startup.{startup_progress}
 use Rattle.x7_engine.proofs.UntilLemmas.{phase_going}
 use Rattle.x7_effects.proofs.Items as item
 use Rattle.x7_effects.proofs.Checking.{ArePieces, Check, Piece, Put, pieces_length}
-use Rattle.x7_planner.specs.PartialStream.{stretches_of}
-use Rattle.x7_effects.proofs.Groups.{plan_pieces, put_stretches}
+use Rattle.x7_planner.specs.PartialStream.{sections_of}
+use Rattle.x7_effects.proofs.Groups.{plan_pieces, put_sections}
 use Rattle.x7_effects.specs.Played.{PlaysPartial, resting_after}
-use Rattle.x7_planner.specs.PartialStream.{Stretch}
+use Rattle.x7_planner.specs.PartialStream.{Section}
 use Rattle.x7_planner.proofs.FewLemmas as few
-use Rattle.x7_effects.proofs.Streams.{HaveWords, command, one, stream_of, stretches_pieces}
+use Rattle.x7_effects.proofs.Streams.{HaveWords, command, one, stream_of, sections_pieces}
 use Rattle.x7_effects.proofs.EndLemmas.{HasPlayed, lines_going, memory_all, played, ready_begin, ready_check}
 use Rattle.x7_effects.proofs.FormLemmas.{partial_clears}
 use Rattle.x7_effects.proofs.FrameLemmas.{address_small}
 use Rattle.x7_effects.proofs.GoingLemmas.{IsGoing, going_bytes, written, written_append}
 use Rattle.x7_effects.proofs.GroupLemmas.{plan_put}
 use Rattle.x7_effects.proofs.KeptLemmas.{partial_apart, settings_stay}
-use Rattle.x7_effects.proofs.PlacedLemmas.{plan_fits, stretches_land}
-use Rattle.x7_effects.proofs.PlanLemmas.{stretches_stand}
+use Rattle.x7_effects.proofs.PlacedLemmas.{plan_fits, sections_land}
+use Rattle.x7_effects.proofs.PlanLemmas.{sections_stand}
 use Rattle.x7_effects.proofs.RestingLemmas.{going_at_rest, going_closed}
-use Rattle.x7_effects.proofs.SilentLemmas.{stream_silent, stretches_silent}
-use Rattle.x7_effects.proofs.StretchLemmas.{pieces_sum, stretches_ready}
+use Rattle.x7_effects.proofs.SilentLemmas.{stream_silent, sections_silent}
+use Rattle.x7_effects.proofs.SectionLemmas.{pieces_sum, sections_ready}
 use Rattle.x7_effects.proofs.WalkLemmas.{IsReady}
 
 -- ---- how many words a plan's rows have
@@ -78,30 +78,30 @@ partial_plays part kept bytes plan f r is p e within =
     let n : ℕ = length bytes + 36 in
     let startup : StartupProgress = startup_progress h (length bytes) in
     let wide : All (λ row. length row.words ≡ frame_words part) rows = subst (λ (w : ℕ). All (λ row. length row.words ≡ w) rows) e p.width in
-    let stretches : List Stretch = stretches_of part rows in
-    let middle : List Piece = stretches_pieces part stretches in
+    let sections : List Section = sections_of part rows in
+    let middle : List Piece = sections_pieces part sections in
     let some : 0 < frame_words part = omega (arith, is.words) in
     let going : IsGoing part kept startup h n = going_bytes part kept startup h (length bytes) n (omega arith) (going_at_rest part kept bytes f r) in
     let k : ℕ = n + 4 + 8 + 4 + 8 in
     let first : History = written n (Put item.Noop ∷ command Rcrc ∷ Put item.Noop ∷ one Idcode part.idcode ∷ []) h in
     let begun : IsReady part kept startup first k (memory_of part h) = ready_begin part kept startup h n going r.sbits in
-    let stretched : IsReady part kept startup (written k middle first) (k + 4 * pieces_length middle) (put_stretches (memory_of part h) stretches) =
-    stretches_ready part kept startup stretches first k (memory_of part h) some begun (stretches_land part rows is wide within) (stretches_stand part rows is wide within) in
-    let checked = ready_check part kept startup (written k middle first) (k + 4 * pieces_length middle) (put_stretches (memory_of part h) stretches) stretched in
+    let sectioned : IsReady part kept startup (written k middle first) (k + 4 * pieces_length middle) (put_sections (memory_of part h) sections) =
+    sections_ready part kept startup sections first k (memory_of part h) some begun (sections_land part rows is wide within) (sections_stand part rows is wide within) in
+    let checked = ready_check part kept startup (written k middle first) (k + 4 * pieces_length middle) (put_sections (memory_of part h) sections) sectioned in
     let last : k + 4 * pieces_length middle + 8 ≡ n + 4 * pieces_length (plan_pieces part rows) = omega (arith, pieces_sum middle (Check ∷ [])) in
-    let whole : IsReady part kept startup (written n (plan_pieces part rows) h) (n + 4 * pieces_length (plan_pieces part rows)) (put_stretches (memory_of part h) stretches) =
-    subst (λ (x : History). IsReady part kept startup x (n + 4 * pieces_length (plan_pieces part rows)) (put_stretches (memory_of part h) stretches)) (sym (written_append k middle (Check ∷ []) first))
-    (subst (λ (x : ℕ). IsReady part kept startup (written (k + 4 * pieces_length middle) (Check ∷ []) (written k middle first)) x (put_stretches (memory_of part h) stretches)) last checked) in
-    let all : HasPlayed part kept startup bytes (stream_of (plan_pieces part rows) 4) (put_stretches (memory_of part h) stretches) =
-    played part kept startup bytes (plan_pieces part rows) 4 (put_stretches (memory_of part h) stretches) f r.searching
-    (partial_fits_plan part plan is p e within) (partial_clears part stretches)
+    let whole : IsReady part kept startup (written n (plan_pieces part rows) h) (n + 4 * pieces_length (plan_pieces part rows)) (put_sections (memory_of part h) sections) =
+    subst (λ (x : History). IsReady part kept startup x (n + 4 * pieces_length (plan_pieces part rows)) (put_sections (memory_of part h) sections)) (sym (written_append k middle (Check ∷ []) first))
+    (subst (λ (x : ℕ). IsReady part kept startup (written (k + 4 * pieces_length middle) (Check ∷ []) (written k middle first)) x (put_sections (memory_of part h) sections)) last checked) in
+    let all : HasPlayed part kept startup bytes (stream_of (plan_pieces part rows) 4) (put_sections (memory_of part h) sections) =
+    played part kept startup bytes (plan_pieces part rows) 4 (put_sections (memory_of part h) sections) f r.searching
+    (partial_fits_plan part plan is p e within) (partial_clears part sections)
     (going_closed part kept startup (written n (plan_pieces part rows) h) (n + 4 * pieces_length (plan_pieces part rows)) 4 whole.going) whole.allows whole.memory in
     record {
       memory = λ far. all.memory far ∙ plan_put part rows (memory_of part h) p.order far ∙ ap (λ (x : FrameMap). override x (planned rows) far) (sym (memory_all part kept bytes r.no_stop));
       phase = λ wrapped. all.phase_is wrapped ∙ sym (phase_going part kept wrapped bytes r.no_stop);
       lines = λ wrapped. all.lines_are wrapped ∙ sym (lines_going part kept wrapped bytes r.no_stop);
-      registers = settings_stay part kept bytes (plan_pieces part rows) 4 f r.searching (partial_fits_plan part plan is p e within) (partial_clears part stretches) r.no_stop all.rests_again.no_stop (partial_apart part rows);
-      reads = stream_silent part kept bytes (plan_pieces part rows) 4 f r.searching (partial_fits_plan part plan is p e within) (partial_clears part stretches)
-          (tt, (tt, (tt, (tt, stretches_silent part stretches (Check ∷ []) (tt, tt))))) r.no_stop all.rests_again.no_stop;
+      registers = settings_stay part kept bytes (plan_pieces part rows) 4 f r.searching (partial_fits_plan part plan is p e within) (partial_clears part sections) r.no_stop all.rests_again.no_stop (partial_apart part rows);
+      reads = stream_silent part kept bytes (plan_pieces part rows) 4 f r.searching (partial_fits_plan part plan is p e within) (partial_clears part sections)
+          (tt, (tt, (tt, (tt, sections_silent part sections (Check ∷ []) (tt, tt))))) r.no_stop all.rests_again.no_stop;
       rests = all.rests_again;
     }

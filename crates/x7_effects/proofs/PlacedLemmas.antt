@@ -23,8 +23,8 @@ use Rattle.x7_planner.proofs.FewLemmas.{rises_in, rises_rest, by_rows}
 use Rattle.x7_effects.proofs.Frames.{joined, AreWide, row_frames}
 use Rattle.x7_planner.specs.FullStream.{zero_frame}
 use Rattle.x7_planner.specs.PartialStream.{Copies, Rows}
-use Rattle.x7_effects.proofs.Streams.{HaveWords, IsStretch, AreStretches}
-use Rattle.x7_planner.specs.PartialStream.{with_content, leads_group, groups_led, others, is_frame, follows, with_row, runs_of, stretches_of, same_words}
+use Rattle.x7_effects.proofs.Streams.{HaveWords, IsSection, AreSections}
+use Rattle.x7_planner.specs.PartialStream.{with_content, leads_group, groups_led, others, is_frame, follows, with_row, runs_of, sections_of, same_words}
 use Rattle.x7_effects.proofs.Groups.{IsPlaced, LandsAs, plan_pieces}
 use Rattle.x7_flow.proofs.StreamLemmas.{whole_cut}
 use Rattle.x7_effects.proofs.FrameLemmas.{rows_land}
@@ -124,7 +124,7 @@ of_content P words (r ∷ qs) a = by_test (same_words r.words words) (of_content
 pub of_runs : (P : PlanRow → Type 0) (part : PartData) (rows : List PlanRow) → AllByRecursion P rows → AllByRecursion (AllByRecursion P) (runs_of part (others rows rows))
 of_runs P part rows a = each_run P (runs_of part (others rows rows)) (rw (runs_joined part (others rows rows)) (others_all P rows rows a))
 
--- ---- how stretches land
+-- ---- how sections land
 
 pub rows_wide : (width : ℕ) (rows : List PlanRow) (last : List ℕ) → AllByRecursion (λ row. length row.words ≡ width) rows → length last ≡ width → AreWide width (row_frames rows ++ last ∷ [])
 rows_wide width [] last a l = (l, tt)
@@ -161,8 +161,8 @@ plan_placed part rows is h =
     let rises : Rises 0 (addresses_among (slots_in part)) = rw (addresses_among_slots part.far part.rows) (part_rises part.far part.rows is.far is.rows) in
     runs_placed part (others rows rows) rises (others_all (λ row. Contains (addresses_among (slots_in part)) row.far) rows rows (here_of part rows h))
 
-pub stretches_land : (part : PartData) (rows : List PlanRow) → IsPart part → All (λ row. length row.words ≡ frame_words part) rows → All (λ row. Contains (addresses_in part) row.far) rows → AllByRecursion (LandsAs part) (stretches_of part rows)
-stretches_land part rows is w h =
+pub sections_land : (part : PartData) (rows : List PlanRow) → IsPart part → All (λ row. length row.words ≡ frame_words part) rows → All (λ row. Contains (addresses_in part) row.far) rows → AllByRecursion (LandsAs part) (sections_of part rows)
+sections_land part rows is w h =
     let wide : AllByRecursion (λ row. length row.words ≡ frame_words part) rows = by_rows (λ row. length row.words ≡ frame_words part) rows w in
     all_append (LandsAs part) (groups_led rows rows) (map Rows (runs_of part (others rows rows)))
     (groups_land part rows rows (omega (arith, is.words)) wide)
@@ -176,15 +176,15 @@ addresses_words : (rows : List PlanRow) → AllByRecursion (λ row. row.far < 2 
 addresses_words [] a = tt
 addresses_words (r ∷ rows) a = (a.0, addresses_words rows a.1)
 
-groups_fit : (part : PartData) (all qs : List PlanRow) → frame_words part < 2 ^ 27 → AllByRecursion (λ row. row.far < 2 ^ 32) all → AllByRecursion (λ row. AreWords row.words) qs → AllByRecursion (λ row. length row.words ≡ frame_words part) qs → AreStretches part (groups_led all qs)
+groups_fit : (part : PartData) (all qs : List PlanRow) → frame_words part < 2 ^ 27 → AllByRecursion (λ row. row.far < 2 ^ 32) all → AllByRecursion (λ row. AreWords row.words) qs → AllByRecursion (λ row. length row.words ≡ frame_words part) qs → AreSections part (groups_led all qs)
 groups_fit part all [] n f a w = tt
 groups_fit part all (r ∷ qs) n f a w = by_test (leads_group all r) (groups_fit part all qs n f a.1 w.1)
   where
-    by_test : (b : Bool) → AreStretches part (groups_led all qs) → AreStretches part (if b then Copies r.words (planned_addresses (with_content r.words all)) ∷ groups_led all qs else groups_led all qs)
+    by_test : (b : Bool) → AreSections part (groups_led all qs) → AreSections part (if b then Copies r.words (planned_addresses (with_content r.words all)) ∷ groups_led all qs else groups_led all qs)
     by_test true ih = ((omega (arith, w.0), a.0, addresses_words (with_content r.words all) (of_content (λ row. row.far < 2 ^ 32) r.words all f)), ih)
     by_test false ih = ih
 
-run_fits : (part : PartData) (k : ℕ) (run : List PlanRow) → length run ≤ k → frame_words part * (k + 1) < 2 ^ 27 → AllByRecursion (λ row. row.far < 2 ^ 32) run → AllByRecursion (λ row. AreWords row.words) run → AllByRecursion (λ row. length row.words ≡ frame_words part) run → IsStretch part (Rows run)
+run_fits : (part : PartData) (k : ℕ) (run : List PlanRow) → length run ≤ k → frame_words part * (k + 1) < 2 ^ 27 → AllByRecursion (λ row. row.far < 2 ^ 32) run → AllByRecursion (λ row. AreWords row.words) run → AllByRecursion (λ row. length row.words ≡ frame_words part) run → IsSection part (Rows run)
 run_fits part k run l n f a w =
     let count : length (row_frames run ++ zero_frame part ∷ []) ≡ length run + 1 = length-append (row_frames run) (zero_frame part ∷ []) ∙ ap (λ x. x + 1) (length_map run) in
     let long : length (joined (row_frames run ++ zero_frame part ∷ [])) ≡ frame_words part * (length run + 1) = joined_length (frame_words part) (row_frames run ++ zero_frame part ∷ []) (rows_wide (frame_words part) run (zero_frame part) w (length-replicate (frame_words part) 0)) ∙ ap (λ x. frame_words part * x) count in
@@ -195,21 +195,21 @@ run_fits part k run l n f a w =
     length_map [] = refl
     length_map (r ∷ rows) = omega (arith, length_map rows)
 
-runs_fit : (part : PartData) (k : ℕ) (runs : List (List PlanRow)) → length (run_rows runs) ≤ k → frame_words part * (k + 1) < 2 ^ 27 → AllByRecursion (AllByRecursion (λ row. row.far < 2 ^ 32)) runs → AllByRecursion (AllByRecursion (λ row. AreWords row.words)) runs → AllByRecursion (AllByRecursion (λ row. length row.words ≡ frame_words part)) runs → AreStretches part (map Rows runs)
+runs_fit : (part : PartData) (k : ℕ) (runs : List (List PlanRow)) → length (run_rows runs) ≤ k → frame_words part * (k + 1) < 2 ^ 27 → AllByRecursion (AllByRecursion (λ row. row.far < 2 ^ 32)) runs → AllByRecursion (AllByRecursion (λ row. AreWords row.words)) runs → AllByRecursion (AllByRecursion (λ row. length row.words ≡ frame_words part)) runs → AreSections part (map Rows runs)
 runs_fit part k [] l n f a w = tt
 runs_fit part k (run ∷ runs) l n f a w =
     let both : length (run ++ run_rows runs) ≡ length run + length (run_rows runs) = length-append run (run_rows runs) in
     (run_fits part k run (omega arith) n f.0 a.0 w.0, runs_fit part k runs (omega arith) n f.1 a.1 w.1)
 
-pub stretches_are : (part : PartData) (rows : List PlanRow) → frame_words part * (length rows + 1) < 2 ^ 27 → All (λ row. row.far < 2 ^ 32) rows → HaveWords rows → All (λ row. length row.words ≡ frame_words part) rows → AreStretches part (stretches_of part rows)
-stretches_are part rows n f a w =
+pub sections_are : (part : PartData) (rows : List PlanRow) → frame_words part * (length rows + 1) < 2 ^ 27 → All (λ row. row.far < 2 ^ 32) rows → HaveWords rows → All (λ row. length row.words ≡ frame_words part) rows → AreSections part (sections_of part rows)
+sections_are part rows n f a w =
     let ff : AllByRecursion (λ row. row.far < 2 ^ 32) rows = by_rows (λ row. row.far < 2 ^ 32) rows f in
     let aa : AllByRecursion (λ row. AreWords row.words) rows = by_rows (λ row. AreWords row.words) rows a in
     let ww : AllByRecursion (λ row. length row.words ≡ frame_words part) rows = by_rows (λ row. length row.words ≡ frame_words part) rows w in
     let few : length (run_rows (runs_of part (others rows rows))) ≤ length rows = rw (runs_joined part (others rows rows)) (others_fewer rows rows) in
-    all_append (IsStretch part) (groups_led rows rows) (map Rows (runs_of part (others rows rows)))
+    all_append (IsSection part) (groups_led rows rows) (map Rows (runs_of part (others rows rows)))
     (groups_fit part rows rows (omega arith) ff aa ww)
     (runs_fit part (length rows) (runs_of part (others rows rows)) few n (of_runs (λ row. row.far < 2 ^ 32) part rows ff) (of_runs (λ row. AreWords row.words) part rows aa) (of_runs (λ row. length row.words ≡ frame_words part) part rows ww))
 
 pub plan_fits : (part : PartData) (rows : List PlanRow) → part.idcode < 2 ^ 32 → frame_words part * (length rows + 1) < 2 ^ 27 → All (λ row. row.far < 2 ^ 32) rows → HaveWords rows → All (λ row. length row.words ≡ frame_words part) rows → ArePieces (plan_pieces part rows)
-plan_fits part rows i n f a w = partial_fits part (stretches_of part rows) i (stretches_are part rows n f a w)
+plan_fits part rows i n f a w = partial_fits part (sections_of part rows) i (sections_are part rows n f a w)

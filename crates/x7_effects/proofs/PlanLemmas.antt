@@ -1,4 +1,4 @@
--- The stretches of a plan stand at addresses of the part, with slots for all their words.
+-- The sections of a plan stand at addresses of the part, with slots for all their words.
 use Rattle.std.proofs.Common.{◌≡◌, ◌==◌, ◌&&◌, ◌+◌, ◌*◌, ◌≤◌, ◌<◌, ℕ, Bool, true, false, if◌then◌else◌, List, [], ◌∷◌, ◌++◌, length, map, get_or, inl, inr, refl, sym, ap, subst, ◌∙◌, arith, append-nil, eq-eqb, ne_eqb, length-append}
 use Rattle.std.specs.Prelude.{All, Contains, nat_le}
 use Rattle.std.specs.List.{AllByRecursion}
@@ -20,14 +20,14 @@ use Rattle.x7_pipeline.specs.Runs.{slots_from}
 use Rattle.x7_pipeline.proofs.SlotLemmas.{address_has}
 use Rattle.x7_effects.proofs.Frames.{joined, row_frames, row_slots}
 use Rattle.x7_planner.specs.FullStream.{zero_frame}
-use Rattle.x7_planner.specs.PartialStream.{Rows, Stretch}
-use Rattle.x7_planner.specs.PartialStream as stretch
-use Rattle.x7_planner.specs.PartialStream.{groups_led, is_shared, leads_group, others, runs_of, stretches_of, with_content}
+use Rattle.x7_planner.specs.PartialStream.{Rows, Section}
+use Rattle.x7_planner.specs.PartialStream as section
+use Rattle.x7_planner.specs.PartialStream.{groups_led, is_shared, leads_group, others, runs_of, sections_of, with_content}
 use Rattle.x7_effects.proofs.Groups.{IsPlaced}
 use Rattle.x7_effects.proofs.FormLemmas.{joined_length}
 use Rattle.x7_effects.proofs.FrameLemmas.{EndsInPad, address_low, slots_end}
 use Rattle.x7_effects.proofs.PlacedLemmas.{of_content, of_runs, plan_placed, rows_wide}
-use Rattle.x7_effects.proofs.StretchLemmas.{IsTarget, Stands}
+use Rattle.x7_effects.proofs.SectionLemmas.{IsTarget, Stands}
 
 -- ---- an address of the part is a target
 
@@ -73,7 +73,7 @@ one_more part far rows (s ∷ more) is a e =
     slots_count [] = refl
     slots_count (r ∷ rows) = omega (arith, slots_count rows)
 
--- ---- stretches
+-- ---- sections
 
 pub frames_count : (rows : List PlanRow) → length (row_frames rows) ≡ length rows
 frames_count [] = refl
@@ -98,7 +98,7 @@ runs_stand part (run ∷ runs) is p h w = (run_stands part run is p.0 h.0 w.0, r
 one_frame : (width slots : ℕ) → 0 < slots → width ≤ width * slots
 one_frame width slots l = let more : width * 1 ≤ width * slots = mul-le-mul_left width (omega (arith, l)) in omega (arith, more)
 
-group_stands : (part : PartData) (words : List ℕ) (rows : List PlanRow) → IsPart part → length words ≡ frame_words part → 1 ≤ length rows → AllByRecursion (λ row. Contains (addresses_in part) row.far) rows → Stands part (stretch.Copies words (planned_addresses rows))
+group_stands : (part : PartData) (words : List ℕ) (rows : List PlanRow) → IsPart part → length words ≡ frame_words part → 1 ≤ length rows → AllByRecursion (λ row. Contains (addresses_in part) row.far) rows → Stands part (section.Copies words (planned_addresses rows))
 group_stands part words [] is w l h = absurd (omega (arith, l))
 group_stands part words (r ∷ rows) is w l h =
     let t : IsTarget part r.far = target part r.far is h.0 in
@@ -113,7 +113,7 @@ groups_stand : (part : PartData) (all qs : List PlanRow) → IsPart part → All
 groups_stand part all [] is h w = tt
 groups_stand part all (r ∷ qs) is h w = by (leads_group all r) refl (groups_stand part all qs is h w.1)
   where
-    by : (b : Bool) → leads_group all r ≡ b → AllByRecursion (Stands part) (groups_led all qs) → AllByRecursion (Stands part) (if b then stretch.Copies r.words (planned_addresses (with_content r.words all)) ∷ groups_led all qs else groups_led all qs)
+    by : (b : Bool) → leads_group all r ≡ b → AllByRecursion (Stands part) (groups_led all qs) → AllByRecursion (Stands part) (if b then section.Copies r.words (planned_addresses (with_content r.words all)) ∷ groups_led all qs else groups_led all qs)
     by true e ih = (
       group_stands part r.words (with_content r.words all) is w.0 (shared_some (is_shared all r) (get_or (planned_addresses (with_content r.words all)) 0 0 == r.far) (length (with_content r.words all)) e refl)
           (of_content (λ row. Contains (addresses_in part) row.far) r.words all h),
@@ -121,8 +121,8 @@ groups_stand part all (r ∷ qs) is h w = by (leads_group all r) refl (groups_st
     )
     by false e ih = ih
 
-pub stretches_stand : (part : PartData) (rows : List PlanRow) → IsPart part → All (λ row. length row.words ≡ frame_words part) rows → All (λ row. Contains (addresses_in part) row.far) rows → AllByRecursion (Stands part) (stretches_of part rows)
-stretches_stand part rows is w h =
+pub sections_stand : (part : PartData) (rows : List PlanRow) → IsPart part → All (λ row. length row.words ≡ frame_words part) rows → All (λ row. Contains (addresses_in part) row.far) rows → AllByRecursion (Stands part) (sections_of part rows)
+sections_stand part rows is w h =
     let wide : AllByRecursion (λ row. length row.words ≡ frame_words part) rows = by_rows (λ row. length row.words ≡ frame_words part) rows w in
     let here : AllByRecursion (λ row. Contains (addresses_in part) row.far) rows = by_rows (λ row. Contains (addresses_in part) row.far) rows h in
     all_append (Stands part) (groups_led rows rows) (map Rows (runs_of part (others rows rows)))

@@ -28,9 +28,9 @@ use Rattle.x7_effects.proofs.Checking.{ArePieces, Check, Checking, IsPiece, Piec
 use Rattle.x7_effects.proofs.Frames.{frame_of, frames_at, joined, row_frames}
 use Rattle.x7_planner.specs.FullStream.{zero_frame}
 use Rattle.x7_effects.proofs.Groups.{plan_pieces}
-use Rattle.x7_effects.proofs.Streams.{command, copy_pieces, full_pieces, full_stream, one, read_stream, stream_of, stretch_pieces, stretches_pieces}
-use Rattle.x7_planner.specs.PartialStream.{Stretch, copy_words, frames_words, groups_led, leads_group, others, partial_stream, runs_of, stretch_words, stretches_of, with_content}
-use Rattle.x7_planner.specs.PartialStream as stretch
+use Rattle.x7_effects.proofs.Streams.{command, copy_pieces, full_pieces, full_stream, one, read_stream, stream_of, section_pieces, sections_pieces}
+use Rattle.x7_planner.specs.PartialStream.{Section, copy_words, frames_words, groups_led, leads_group, others, partial_stream, runs_of, section_words, sections_of, with_content}
+use Rattle.x7_planner.specs.PartialStream as section
 use Rattle.x7_effects.proofs.CheckingLemmas.{begins, checks_after, items_checked, pieces_fit}
 use Rattle.x7_effects.proofs.FormLemmas.{frames_long, full_fits, joined_length}
 use Rattle.x7_effects.proofs.PlacedLemmas.{of_runs, rows_wide}
@@ -168,31 +168,31 @@ run_length part rows w =
     joined_length (frame_words part) (row_frames rows ++ zero_frame part ∷ []) (rows_wide (frame_words part) rows (zero_frame part) w (length-replicate (frame_words part) 0))
     ∙ ap (λ (k : ℕ). frame_words part * k) (length-append (row_frames rows) (zero_frame part ∷ []) ∙ ap (λ (k : ℕ). k + 1) (frames_count rows))
 
-abbrev HasWidth : PartData → Stretch → Type 0
-HasWidth part (stretch.Copies words fars) = length words ≡ frame_words part
-HasWidth part (stretch.Rows rows) = AllByRecursion (λ row. length row.words ≡ frame_words part) rows
+abbrev HasWidth : PartData → Section → Type 0
+HasWidth part (section.Copies words fars) = length words ≡ frame_words part
+HasWidth part (section.Rows rows) = AllByRecursion (λ row. length row.words ≡ frame_words part) rows
 
-stretch_spelled : (part : PartData) (c : Checking) (s : Stretch) → HasWidth part s → items_words (with_checks c (stretch_pieces part s)) ≡ stretch_words part s
-stretch_spelled part c (stretch.Copies words fars) w =
+section_spelled : (part : PartData) (c : Checking) (s : Section) → HasWidth part s → items_words (with_checks c (section_pieces part s)) ≡ section_words part s
+section_spelled part c (section.Copies words fars) w =
     let first : Checking = after_pieces c (command Wcfg ∷ one Far (get_or fars 0 0) ∷ Put (WriteLong (number_of Fdri) words) ∷ command Mfw ∷ []) in
     ap (λ t. (packet_words.command Wcfg) ++ (packet_words.write_one Far (get_or fars 0 0) ++ (packet_words.frame_data (length words) ++ (words ++ ((packet_words.command Mfw) ++ t))))) (copies_spelled first fars)
     ∙ ap (λ (k : ℕ). (packet_words.command Wcfg) ++ (packet_words.write_one Far (get_or fars 0 0) ++ (packet_words.frame_data k ++ (words ++ ((packet_words.command Mfw) ++ flat_map copy_words fars))))) w
-stretch_spelled part c (stretch.Rows rows) w =
+section_spelled part c (section.Rows rows) w =
     let ws : List ℕ = joined (row_frames rows ++ zero_frame part ∷ []) in
     let far : ℕ = get_or (planned_addresses rows) 0 0 in
     ap (λ t. (packet_words.command Wcfg) ++ (packet_words.write_one Far far ++ (packet_words.frame_data (length ws) ++ t))) (append-nil ws ∙ run_words part rows)
     ∙ ap (λ (k : ℕ). (packet_words.command Wcfg) ++ (packet_words.write_one Far far ++ (packet_words.frame_data k ++ (frames_words rows ++ zero_frame part)))) (run_length part rows w)
 
-stretches_spelled : (part : PartData) (c : Checking) (stretches : List Stretch) → AllByRecursion (HasWidth part) stretches → items_words (with_checks c (stretches_pieces part stretches)) ≡ flat_map (stretch_words part) stretches
-stretches_spelled part c [] w = refl
-stretches_spelled part c (s ∷ stretches) w =
-    let pieces : List Piece = stretch_pieces part s in
-    ap items_words (checks_after c pieces (stretches_pieces part stretches))
-    ∙ flat_map-append item_words (with_checks c pieces) (with_checks (after_items c (with_checks c pieces)) (stretches_pieces part stretches))
-    ∙ ap (λ t. t ++ items_words (with_checks (after_items c (with_checks c pieces)) (stretches_pieces part stretches))) (stretch_spelled part c s w.0)
-    ∙ ap (λ t. stretch_words part s ++ t) (stretches_spelled part (after_items c (with_checks c pieces)) stretches w.1)
+sections_spelled : (part : PartData) (c : Checking) (sections : List Section) → AllByRecursion (HasWidth part) sections → items_words (with_checks c (sections_pieces part sections)) ≡ flat_map (section_words part) sections
+sections_spelled part c [] w = refl
+sections_spelled part c (s ∷ sections) w =
+    let pieces : List Piece = section_pieces part s in
+    ap items_words (checks_after c pieces (sections_pieces part sections))
+    ∙ flat_map-append item_words (with_checks c pieces) (with_checks (after_items c (with_checks c pieces)) (sections_pieces part sections))
+    ∙ ap (λ t. t ++ items_words (with_checks (after_items c (with_checks c pieces)) (sections_pieces part sections))) (section_spelled part c s w.0)
+    ∙ ap (λ t. section_words part s ++ t) (sections_spelled part (after_items c (with_checks c pieces)) sections w.1)
 
-runs_width : (part : PartData) (runs : List (List PlanRow)) → AllByRecursion (AllByRecursion (λ row. length row.words ≡ frame_words part)) runs → AllByRecursion (HasWidth part) (map stretch.Rows runs)
+runs_width : (part : PartData) (runs : List (List PlanRow)) → AllByRecursion (AllByRecursion (λ row. length row.words ≡ frame_words part)) runs → AllByRecursion (HasWidth part) (map section.Rows runs)
 runs_width part [] w = tt
 runs_width part (run ∷ runs) w = (w.0, runs_width part runs w.1)
 
@@ -200,18 +200,18 @@ groups_width : (part : PartData) (all qs : List PlanRow) → AllByRecursion (λ 
 groups_width part all [] w = tt
 groups_width part all (r ∷ qs) w = by (leads_group all r) (groups_width part all qs w.1)
   where
-    by : (b : Bool) → AllByRecursion (HasWidth part) (groups_led all qs) → AllByRecursion (HasWidth part) (if b then stretch.Copies r.words (planned_addresses (with_content r.words all)) ∷ groups_led all qs else groups_led all qs)
+    by : (b : Bool) → AllByRecursion (HasWidth part) (groups_led all qs) → AllByRecursion (HasWidth part) (if b then section.Copies r.words (planned_addresses (with_content r.words all)) ∷ groups_led all qs else groups_led all qs)
     by true ih = (w.0, ih)
     by false ih = ih
 
-stretches_width : (part : PartData) (rows : List PlanRow) → AllByRecursion (λ row. length row.words ≡ frame_words part) rows → AllByRecursion (HasWidth part) (stretches_of part rows)
-stretches_width part rows w =
-    all_append (HasWidth part) (groups_led rows rows) (map stretch.Rows (runs_of part (others rows rows)))
+sections_width : (part : PartData) (rows : List PlanRow) → AllByRecursion (λ row. length row.words ≡ frame_words part) rows → AllByRecursion (HasWidth part) (sections_of part rows)
+sections_width part rows w =
+    all_append (HasWidth part) (groups_led rows rows) (map section.Rows (runs_of part (others rows rows)))
     (groups_width part rows rows w) (runs_width part (runs_of part (others rows rows)) (of_runs (λ row. length row.words ≡ frame_words part) part rows w))
 
 -- the pieces before the check
 abbrev before_check : PartData → List PlanRow → List Piece
-before_check part rows = Put item.Noop ∷ command Rcrc ∷ Put item.Noop ∷ one Idcode part.idcode ∷ stretches_pieces part (stretches_of part rows)
+before_check part rows = Put item.Noop ∷ command Rcrc ∷ Put item.Noop ∷ one Idcode part.idcode ∷ sections_pieces part (sections_of part rows)
 
 prefix_of : (P : Piece → Type 0) (xs ys : List Piece) → AllByRecursion P (xs ++ ys) → AllByRecursion P xs
 prefix_of P [] ys a = tt
@@ -221,9 +221,9 @@ pub partial_same : (part : PartData) (rows : List PlanRow) → AllByRecursion (�
 partial_same part rows w fits =
     let prefix : List Piece = before_check part rows in
     let c : Checking = after_pieces at_first (Put item.Noop ∷ command Rcrc ∷ Put item.Noop ∷ one Idcode part.idcode ∷ []) in
-    let words : flat_map (stretch_words part) (stretches_of part rows) ≡ items_words (with_checks c (stretches_pieces part (stretches_of part rows))) = sym (stretches_spelled part c (stretches_of part rows) (stretches_width part rows w)) in
-    ap (λ t. planner.with_piece (planner.with_piece (bytes_of_words (planner.opening_words ++ ((packet_words.command Rcrc) ++ (packet_words.no_op ∷ (packet_words.write_one Idcode part.idcode ++ t))))) planner.Check) (planner.Words stretch.partial_ending)) words
-    ∙ ap (λ b. planner.with_piece b (planner.Words stretch.partial_ending)) (spelled_one prefix Check (prefix_of IsPiece prefix (Check ∷ []) fits))
+    let words : flat_map (section_words part) (sections_of part rows) ≡ items_words (with_checks c (sections_pieces part (sections_of part rows))) = sym (sections_spelled part c (sections_of part rows) (sections_width part rows w)) in
+    ap (λ t. planner.with_piece (planner.with_piece (bytes_of_words (planner.opening_words ++ ((packet_words.command Rcrc) ++ (packet_words.no_op ∷ (packet_words.write_one Idcode part.idcode ++ t))))) planner.Check) (planner.Words section.partial_ending)) words
+    ∙ ap (λ b. planner.with_piece b (planner.Words section.partial_ending)) (spelled_one prefix Check (prefix_of IsPiece prefix (Check ∷ []) fits))
     ∙ spelled_end (plan_pieces part rows) 4
 
 -- ---- addresses

@@ -48,7 +48,7 @@ use Rattle.x7_effects.proofs.KeptLemmas.{read_apart, settings_stay}
 use Rattle.x7_effects.proofs.PlanLemmas.{target}
 use Rattle.x7_effects.proofs.ReadLemmas as reading
 use Rattle.x7_effects.proofs.RestingLemmas.{going_at_rest, going_closed, stream_history}
-use Rattle.x7_effects.proofs.StretchLemmas.{IsTarget}
+use Rattle.x7_effects.proofs.SectionLemmas.{IsTarget}
 use Rattle.x7_effects.proofs.WalkLemmas.{going_one, quiet_one}
 
 -- ---- the same words of the same memory

@@ -10,11 +10,11 @@ use Rattle.x7_part.specs.Part.{PartData}
 use Rattle.x7_engine.specs.declared.kept.Kept.{Kept}
 use Rattle.x7_engine.specs.State.{reads_of, stop_in}
 use Rattle.x7_engine.specs.Value.{read_out}
-use Rattle.x7_planner.specs.PartialStream.{Copies, Rows, Stretch}
+use Rattle.x7_planner.specs.PartialStream.{Copies, Rows, Section}
 use Rattle.x7_effects.proofs.Items as item
 use Rattle.x7_effects.proofs.Items.{Item, item_entered, writes_entered}
 use Rattle.x7_effects.proofs.Checking.{ArePieces, Check, Checking, ClearFirst, Piece, Put, checking_of, piece_item, piece_length}
-use Rattle.x7_effects.proofs.Streams.{copy_pieces, stream_of, stretch_pieces, stretches_pieces}
+use Rattle.x7_effects.proofs.Streams.{copy_pieces, stream_of, section_pieces, sections_pieces}
 use Rattle.x7_effects.proofs.EndLemmas.{reads_all}
 use Rattle.x7_effects.proofs.GoingLemmas.{written}
 use Rattle.x7_effects.proofs.RestingLemmas.{stream_history}
@@ -66,13 +66,13 @@ copies_silent : (fars : List ℕ) → AreSilent (flat_map copy_pieces fars)
 copies_silent [] = tt
 copies_silent (far ∷ fars) = (tt, (tt, copies_silent fars))
 
-stretch_silent : (part : PartData) (s : Stretch) → AreSilent (stretch_pieces part s)
-stretch_silent part (Copies words fars) = (tt, (tt, (tt, (tt, copies_silent fars))))
-stretch_silent part (Rows rows) = (tt, (tt, (tt, tt)))
+section_silent : (part : PartData) (s : Section) → AreSilent (section_pieces part s)
+section_silent part (Copies words fars) = (tt, (tt, (tt, (tt, copies_silent fars))))
+section_silent part (Rows rows) = (tt, (tt, (tt, tt)))
 
-pub stretches_silent : (part : PartData) (stretches : List Stretch) (more : List Piece) → AreSilent more → AreSilent (stretches_pieces part stretches ++ more)
-stretches_silent part stretches more a = silent_append (stretches_pieces part stretches) more (each stretches) a
+pub sections_silent : (part : PartData) (sections : List Section) (more : List Piece) → AreSilent more → AreSilent (sections_pieces part sections ++ more)
+sections_silent part sections more a = silent_append (sections_pieces part sections) more (each sections) a
   where
-    each : (stretches : List Stretch) → AreSilent (stretches_pieces part stretches)
+    each : (sections : List Section) → AreSilent (sections_pieces part sections)
     each [] = tt
-    each (s ∷ stretches) = silent_append (stretch_pieces part s) (stretches_pieces part stretches) (stretch_silent part s) (each stretches)
+    each (s ∷ sections) = silent_append (section_pieces part s) (sections_pieces part sections) (section_silent part s) (each sections)

@@ -14,7 +14,7 @@ use Rattle.x7_part.specs.Slot.{slots_in}
 use Rattle.x7_memory.specs.Plan.{PlanRow, PlanData, planned_addresses}
 use Rattle.x7_effects.proofs.Items.{Noop, Write, WriteLong, ReadLong, bytes_of_words, closed, bus_width_head}
 use Rattle.x7_effects.proofs.Checking.{Piece, Put, Check, with_checks, at_first}
-use Rattle.x7_planner.specs.PartialStream.{Stretch, Copies, Rows}
+use Rattle.x7_planner.specs.PartialStream.{Section, Copies, Rows}
 use Rattle.x7_effects.proofs.Frames.{joined, frames_at, row_frames}
 use Rattle.x7_planner.specs.FullStream.{zero_frame}
 
@@ -45,15 +45,15 @@ full_stream part plan = stream_of (full_pieces part plan) 16
 abbrev pub copy_pieces : ℕ → List Piece
 copy_pieces far = one Far far ∷ one Mfwr 0 ∷ []
 
-abbrev pub stretch_pieces : PartData → Stretch → List Piece
-stretch_pieces part (Copies words fars) = command Wcfg ∷ one Far (slice_index fars 0) ∷ Put (WriteLong (number_of Fdri) words) ∷ command Mfw ∷ flat_map copy_pieces fars
-stretch_pieces part (Rows rows) = command Wcfg ∷ one Far (slice_index (planned_addresses rows) 0) ∷ Put (WriteLong (number_of Fdri) (joined (row_frames rows ++ zero_frame part ∷ []))) ∷ []
+abbrev pub section_pieces : PartData → Section → List Piece
+section_pieces part (Copies words fars) = command Wcfg ∷ one Far (slice_index fars 0) ∷ Put (WriteLong (number_of Fdri) words) ∷ command Mfw ∷ flat_map copy_pieces fars
+section_pieces part (Rows rows) = command Wcfg ∷ one Far (slice_index (planned_addresses rows) 0) ∷ Put (WriteLong (number_of Fdri) (joined (row_frames rows ++ zero_frame part ∷ []))) ∷ []
 
-abbrev pub stretches_pieces : PartData → List Stretch → List Piece
-stretches_pieces part stretches = flat_map (stretch_pieces part) stretches
+abbrev pub sections_pieces : PartData → List Section → List Piece
+sections_pieces part sections = flat_map (section_pieces part) sections
 
-abbrev pub partial_pieces : PartData → List Stretch → List Piece
-partial_pieces part stretches = Put Noop ∷ command Rcrc ∷ Put Noop ∷ one Idcode part.idcode ∷ (stretches_pieces part stretches ++ Check ∷ [])
+abbrev pub partial_pieces : PartData → List Section → List Piece
+partial_pieces part sections = Put Noop ∷ command Rcrc ∷ Put Noop ∷ one Idcode part.idcode ∷ (sections_pieces part sections ++ Check ∷ [])
 
 -- a readback of this many words, and of n slots, from an address on
 abbrev pub read_with : ℕ → ℕ → List Piece
@@ -69,10 +69,10 @@ read_stream part far n = stream_of (read_pieces part far n) 4
 abbrev pub HaveWords : List PlanRow → Type 0
 HaveWords rows = All (λ row. AreWords row.words) rows
 
--- a stretch that can be written
-abbrev pub IsStretch : PartData → Stretch → Type 0
-IsStretch part (Copies words fars) = (length words < 2 ^ 27) × AreWords words × AreWords fars
-IsStretch part (Rows rows) = (length (joined (row_frames rows ++ zero_frame part ∷ [])) < 2 ^ 27) × HaveWords rows × AreWords (planned_addresses rows)
+-- a section that can be written
+abbrev pub IsSection : PartData → Section → Type 0
+IsSection part (Copies words fars) = (length words < 2 ^ 27) × AreWords words × AreWords fars
+IsSection part (Rows rows) = (length (joined (row_frames rows ++ zero_frame part ∷ [])) < 2 ^ 27) × HaveWords rows × AreWords (planned_addresses rows)
 
-abbrev pub AreStretches : PartData → List Stretch → Type 0
-AreStretches part stretches = AllByRecursion (IsStretch part) stretches
+abbrev pub AreSections : PartData → List Section → Type 0
+AreSections part sections = AllByRecursion (IsSection part) sections

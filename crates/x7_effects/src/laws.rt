@@ -1,6 +1,6 @@
 //! What planned streams do on a device at rest. The functions do nothing: their contracts are the laws.
 ghost use Rattle.std.specs.Prelude.{◌≡◌, ◌++◌, ℕ, List, []};
-ghost use Rattle.x7_planner.specs.PartialStream.{AreLongest, WritesOnce, joined_runs, pairs_in, partial_stream, runs_of, stretches_of};
+ghost use Rattle.x7_planner.specs.PartialStream.{AreLongest, WritesOnce, joined_runs, pairs_in, partial_stream, runs_of, sections_of};
 ghost use Rattle.x7_effects.specs.Played.{CanPlay, changed_memory, with_full, with_partial, Playing, PlaysBoth, PlaysFull, PlaysPartial, PlaysRead, ReadsBackAfter, Resting, resting_after, Rests};
 ghost use Rattle.x7_engine.specs.Kept.{on_the_bench};
 ghost use Rattle.x7_memory.specs.Plan.{AreInOrder, IsPlanFor, PlanData, PlanRow, total};
@@ -27,7 +27,7 @@ pub fn partial_streams_play()
 /// The groups and runs of a plan write each of its rows once, with its frame, and no other address. Runs are their rows
 /// in order, cut where an address isn't the next one in its row and nowhere else.
 pub fn partial_streams_write_once()
-    ensures once { (part : PartData) (rows : List PlanRow) → AreInOrder rows → WritesOnce rows (pairs_in (stretches_of part rows)) }
+    ensures once { (part : PartData) (rows : List PlanRow) → AreInOrder rows → WritesOnce rows (pairs_in (sections_of part rows)) }
     ensures runs { (part : PartData) (rows : List PlanRow) → joined_runs (runs_of part rows) ≡ rows }
     ensures longest { (part : PartData) (rows : List PlanRow) → AreLongest part (runs_of part rows) }
 {}

@@ -16,7 +16,7 @@ abbrev pub masked_word : ℕ → ℕ → Access → ℕ → ℕ
 masked_word register mask (Write r w) old = if r == register then bit_or (bit_and old (2 ^ 32 - 1 - mask)) (bit_and w mask) else old
 masked_word register mask _ old = old
 
--- CTL0 or CTL1 by its number
+-- CTL0 or CTL1, by its number, after a history
 abbrev pub masked : ℕ → History → ℕ
 masked register [] = 0
 masked register (e ∷ h) = masked_word register (mask_held h) e.access (masked register h)

@@ -68,8 +68,8 @@ Hold (field ∷ fields) [] = ⊥
 Hold [] (content ∷ contents) = ⊥
 Hold [] [] = Unit {0}
 
--- after whole fields, the first of these, stands another byte than the next
--- field's letter, with `left` bytes from it on
+-- the bytes are whole fields, the first ones of these, and then a byte that isn't the next field's letter; `left` bytes
+-- stand from it on
 pub record HasOtherLetter (fields : List Field) (bytes : List ℕ) (left : ℕ) : Type 0 where
   pub done : List Field
   pub contents : List (List ℕ)

@@ -37,6 +37,7 @@ pub fn header_of(bytes: &[u8]) -> Result<Head<'_>, HeaderFault>
     // Each header that stands at the beginning is read, whatever follows it.
     ensures only { (x : Contents) (rest : List ℕ) → HaveHeader x → bytes.now ≡ header_bytes x ++ rest →
         IsOkAnd result (λ head. contents_of head ≡ x) }
+    // `Raw` comes exactly where the input doesn't begin with the fixed bytes.
     ensures raw { IsErrOf result HeaderFault.Raw ↔ ((rest : List ℕ) → bytes.now ≢ fixed_bytes ++ rest) }
     // `Cut` comes, with the input's length, exactly where the input begins some header,
     // has its fixed bytes, and ends inside it.

@@ -14,8 +14,8 @@ use x7_words::NoMemory;
 /// The frames of a part, as they stand in a device.
 #[derive(Drop)]
 pub struct Memory {
-    /// The words of the frames that are stored, one after another. The first one is
-    /// zeros. There is room for one a rank more.
+    /// The words of the frames that are stored, one after another. The first one is zeros.
+    /// There is room for it and for a frame of each rank.
     words: Vec<u32>,
     /// By rank, the number of its frame among those that are stored: 0 for zeros, until other words are put there.
     numbers: Vec<u32>,

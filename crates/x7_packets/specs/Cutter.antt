@@ -115,7 +115,7 @@ IsRun (Skip bytes) = 0 < length bytes.now
 IsRun _ = Unit {0}
 
 -- where no byte is kept, a payload's whole words that lie in the piece are lent at once, all of one packet (one word of
--- CMD); a word whose bytes lie in two pieces comes by itself
+-- CMD); a word whose bytes lie in two pieces or more comes by itself
 abbrev pub IsLent : CutterState → ℕ → Cut → Type 0
 IsLent c left (Word register w) = 0 < length c.kept
 IsLent c left (Body register bytes) = (c.kept ≡ []) × (length bytes.now ≡ 4 * min (min c.machine.due (left / 4)) (if register == number_of Cmd then 1 else left / 4))

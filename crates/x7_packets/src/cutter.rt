@@ -43,7 +43,7 @@ pub enum Cut<'p> {
     Sync,
     /// A word in a header's place, and its step.
     Head(u32, Step),
-    /// A payload word whose bytes lie in two pieces, with its register.
+    /// A payload word whose bytes lie in two pieces or more, with its register.
     Word(u8, u32),
     /// Payload words of one packet that lie in the piece, with their register: a
     /// positive multiple of four bytes, four for CMD.

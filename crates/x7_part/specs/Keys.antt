@@ -5,7 +5,7 @@ use Rattle.x7_part.specs.declared.fault.PartKey.{PartKey}
 use Rattle.x7_part.specs.declared.fault.PartKey.TheVariants as key
 use Rattle.x7_part.specs.declared.fault.Which.{Which}
 
--- the key as it is written
+-- the key as a part file writes it, `other` for an unknown one
 abbrev pub name_of : PartKey → List ℕ
 name_of key.Name = codes "name"
 name_of key.Idcode = codes "idcode"
@@ -44,7 +44,7 @@ abbrev pub is_known : List PartKey → List ℕ → Bool
 is_known [] name = false
 is_known (k ∷ keys) name = bytes_eq name (name_of k) || is_known keys name
 
--- a table has these keys alone
+-- each key of the table is one of these
 abbrev pub has_only : List PartKey → Members → Bool
 has_only keys no_members = true
 has_only keys (member name d ms) = is_known keys name && has_only keys ms

@@ -11,7 +11,7 @@ use Rattle.x7_regs.specs.declared.command.Command.TheVariants.{Mfw, Wcfg}
 use Rattle.x7_regs.specs.declared.register.Reg.TheVariants.{Far}
 use Rattle.x7_packets.specs.PacketWords.{command, frame_data, write_one}
 use Rattle.x7_planner.specs.Content.{AreFirsts, AreGrouped, AreStarts, AreTogether, IsFirst, content_row, content_rows}
-use Rattle.x7_planner.specs.PartialStream.{Copies, copy_words, groups_led, is_shared, leads_group, others, stretch_words, with_content}
+use Rattle.x7_planner.specs.PartialStream.{Copies, copy_words, groups_led, is_shared, leads_group, others, section_words, with_content}
 use Rattle.x7_planner.specs.Writer.{bytes_of_words}
 use Rattle.x7_planner.specs.declared.content.Content.{Content}
 use Rattle.x7_planner.proofs.ContentLemmas.{content_append, content_same, first_of, is_group, no_group, no_group_short, none_before, place_other, place_same, row_at, up_to}
@@ -127,13 +127,13 @@ same_led rows others r e =
     ap (λ t. if nat_le 3 (length t) && (get_or (planned_addresses t) 0 0 == r.far) then Copies r.words (planned_addresses t) ∷ [] else []) e
 
 pub group_more : (part : PartData) (rows : List PlanRow) (contents : List Content) (old mid new : List ℕ) (a n : ℕ) (r : PlanRow) (d : PlanRow) → AreGrouped rows contents → IsFirst (content_rows contents) r.words a → n < length rows → get_or rows n d ≡ r
-    → mid ≡ old ++ bytes_of_words (flat_map (stretch_words part) (groups_led rows (take n rows))) → new ≡ mid ++ bytes_of_words (flat_map (stretch_words part) (groups_led (content_rows contents) (r ∷ [])))
-    → new ≡ old ++ bytes_of_words (flat_map (stretch_words part) (groups_led rows (take (n + 1) rows)))
+    → mid ≡ old ++ bytes_of_words (flat_map (section_words part) (groups_led rows (take n rows))) → new ≡ mid ++ bytes_of_words (flat_map (section_words part) (groups_led (content_rows contents) (r ∷ [])))
+    → new ≡ old ++ bytes_of_words (flat_map (section_words part) (groups_led rows (take (n + 1) rows)))
 group_more part rows contents old mid new a n r d g f l at e h =
-    written_on old mid new (flat_map (stretch_words part) (groups_led rows (take n rows))) (flat_map (stretch_words part) (groups_led (content_rows contents) (r ∷ []))) e h
-    ∙ ap (λ t. old ++ bytes_of_words (flat_map (stretch_words part) (groups_led rows (take n rows)) ++ flat_map (stretch_words part) t)) (same_led rows (content_rows contents) r (same_content rows contents r.words a g f))
-    ∙ ap (λ t. old ++ bytes_of_words t) (sym (flat_map-append (stretch_words part) (groups_led rows (take n rows)) (groups_led rows (r ∷ []))))
-    ∙ ap (λ t. old ++ bytes_of_words (flat_map (stretch_words part) t)) (sym (groups_append rows (take n rows) (r ∷ [])) ∙ ap (groups_led rows) (ap (λ (x : PlanRow). take n rows ++ x ∷ []) (sym at) ∙ sym (take_more rows n d l)))
+    written_on old mid new (flat_map (section_words part) (groups_led rows (take n rows))) (flat_map (section_words part) (groups_led (content_rows contents) (r ∷ []))) e h
+    ∙ ap (λ t. old ++ bytes_of_words (flat_map (section_words part) (groups_led rows (take n rows)) ++ flat_map (section_words part) t)) (same_led rows (content_rows contents) r (same_content rows contents r.words a g f))
+    ∙ ap (λ t. old ++ bytes_of_words t) (sym (flat_map-append (section_words part) (groups_led rows (take n rows)) (groups_led rows (r ∷ []))))
+    ∙ ap (λ t. old ++ bytes_of_words (flat_map (section_words part) t)) (sym (groups_append rows (take n rows) (r ∷ [])) ∙ ap (groups_led rows) (ap (λ (x : PlanRow). take n rows ++ x ∷ []) (sym at) ∙ sym (take_more rows n d l)))
 
 -- ---- what a group writes
 
@@ -171,7 +171,7 @@ copies_end contents words firsts old new a k x t m f l inner n h =
 
 pub group_written : (part : PartData) (old one two three new words fars : List ℕ) (first width : ℕ) → width ≡ frame_words part → get_or fars 0 0 ≡ first
     → one ≡ old ++ bytes_of_words (command Wcfg ++ (write_one Far first ++ frame_data width)) → two ≡ one ++ bytes_of_words words → three ≡ two ++ bytes_of_words (command Mfw)
-    → new ≡ three ++ bytes_of_words (flat_map copy_words fars) → new ≡ old ++ bytes_of_words (stretch_words part (Copies words fars))
+    → new ≡ three ++ bytes_of_words (flat_map copy_words fars) → new ≡ old ++ bytes_of_words (section_words part (Copies words fars))
 group_written part old one two three new words fars first width w f a b c d =
     let opening : List ℕ = command Wcfg ++ (write_one Far first ++ frame_data width) in
     let copies : List ℕ = flat_map copy_words fars in
@@ -181,9 +181,9 @@ group_written part old one two three new words fars first width w f a b c d =
     ∙ ap (λ (x : ℕ). command Wcfg ++ (write_one Far x ++ (frame_data width ++ (words ++ (command Mfw ++ copies))))) (sym f)
     ∙ ap (λ (x : ℕ). command Wcfg ++ (write_one Far (get_or fars 0 0) ++ (frame_data x ++ (words ++ (command Mfw ++ copies))))) w)
 
-pub led_none : (part : PartData) (old : List ℕ) (all : List PlanRow) (r : PlanRow) (b : Bool) → b ≡ leads_group all r → b ≡ false → old ≡ old ++ bytes_of_words (flat_map (stretch_words part) (groups_led all (r ∷ [])))
+pub led_none : (part : PartData) (old : List ℕ) (all : List PlanRow) (r : PlanRow) (b : Bool) → b ≡ leads_group all r → b ≡ false → old ≡ old ++ bytes_of_words (flat_map (section_words part) (groups_led all (r ∷ [])))
 led_none part old all r b e y = rw (sym e ∙ y) (sym (append-nil old))
 
 pub led_some : (part : PartData) (old new : List ℕ) (all : List PlanRow) (r : PlanRow) (b : Bool) → b ≡ leads_group all r → b ≡ true
-    → new ≡ old ++ bytes_of_words (stretch_words part (Copies r.words (planned_addresses (with_content r.words all)))) → new ≡ old ++ bytes_of_words (flat_map (stretch_words part) (groups_led all (r ∷ [])))
-led_some part old new all r b e y h = rw (sym e ∙ y) (h ∙ ap (λ t. old ++ bytes_of_words t) (sym (append-nil (stretch_words part (Copies r.words (planned_addresses (with_content r.words all)))))))
+    → new ≡ old ++ bytes_of_words (section_words part (Copies r.words (planned_addresses (with_content r.words all)))) → new ≡ old ++ bytes_of_words (flat_map (section_words part) (groups_led all (r ∷ [])))
+led_some part old new all r b e y h = rw (sym e ∙ y) (h ∙ ap (λ t. old ++ bytes_of_words t) (sym (append-nil (section_words part (Copies r.words (planned_addresses (with_content r.words all)))))))

@@ -16,7 +16,7 @@ use Rattle.x7_regs.specs.declared.command.Command.TheVariants.{Wcfg}
 use Rattle.x7_regs.specs.declared.register.Reg.TheVariants.{Far}
 use Rattle.x7_packets.specs.PacketWords.{command, frame_data, write_one}
 use Rattle.x7_planner.specs.Content.{IsRunLength, content_row, content_rows}
-use Rattle.x7_planner.specs.PartialStream.{Rows, follows, frames_words, groups_led, is_shared, others, partial_ending, partial_opening, partial_stream, stretches_of, runs_of, runs_words, stretch_words, with_row}
+use Rattle.x7_planner.specs.PartialStream.{Rows, follows, frames_words, groups_led, is_shared, others, partial_ending, partial_opening, partial_stream, sections_of, runs_of, runs_words, section_words, with_row}
 use Rattle.x7_planner.specs.Writer.{Check, Words, bytes_of_words, with_piece}
 use Rattle.x7_planner.specs.declared.content.Content.{Content}
 use Rattle.x7_planner.proofs.ContentLemmas.{row_at}
@@ -95,7 +95,7 @@ run_whole part frames k l h m p = record {
 
 pub run_written : (part : PartData) (old one two new : List ℕ) (rows : List PlanRow) (first width count : ℕ) → width ≡ frame_words part → get_or (planned_addresses rows) 0 0 ≡ first → count ≡ length rows
     → one ≡ old ++ bytes_of_words (command Wcfg ++ (write_one Far first ++ frame_data (width * (count + 1)))) → two ≡ one ++ bytes_of_words (frames_words rows) → new ≡ two ++ bytes_of_words (replicate width 0)
-    → new ≡ old ++ bytes_of_words (stretch_words part (Rows rows))
+    → new ≡ old ++ bytes_of_words (section_words part (Rows rows))
 run_written part old one two new rows first width count w f n a b c =
     let opening : List ℕ = command Wcfg ++ (write_one Far first ++ frame_data (width * (count + 1))) in
     written_on old two new (opening ++ frames_words rows) (replicate width 0) (written_on old one two opening (frames_words rows) a b) c
@@ -121,27 +121,27 @@ pub addresses_drop : (part : PartData) (n : ℕ) (frames : List Content) → All
 addresses_drop part n frames a = subst (All (λ (row : PlanRow). Contains (addresses_in part) row.far)) (sym (rows_drop n frames)) (All-drop (λ (row : PlanRow). Contains (addresses_in part) row.far) n (content_rows frames) a)
 
 pub runs_step : (part : PartData) (frames : List Content) (all mid new : List ℕ) (at count : ℕ) → IsRunLength part (content_rows (drop at frames)) count → mid ++ bytes_of_words (runs_words part (content_rows (drop at frames))) ≡ all
-    → new ≡ mid ++ bytes_of_words (stretch_words part (Rows (content_rows (take count (drop at frames))))) → new ++ bytes_of_words (runs_words part (content_rows (drop (at + count) frames))) ≡ all
+    → new ≡ mid ++ bytes_of_words (section_words part (Rows (content_rows (take count (drop at frames))))) → new ++ bytes_of_words (runs_words part (content_rows (drop (at + count) frames))) ≡ all
 runs_step part frames all mid new at count l e h =
     let rest : List PlanRow = content_rows (drop at frames) in
-    let cut : runs_words part rest ≡ stretch_words part (Rows (content_rows (take count (drop at frames)))) ++ runs_words part (content_rows (drop (at + count) frames)) =
-    ap (λ t. flat_map (stretch_words part) (map Rows t)) (first_run part rest count l)
-    ∙ ap (λ t. stretch_words part (Rows t) ++ runs_words part (drop count rest)) (take-map content_row count (drop at frames))
-    ∙ ap (λ t. stretch_words part (Rows (content_rows (take count (drop at frames)))) ++ runs_words part t) (sym (rows_drop count (drop at frames)) ∙ ap content_rows (drop-drop count at frames)) in
+    let cut : runs_words part rest ≡ section_words part (Rows (content_rows (take count (drop at frames)))) ++ runs_words part (content_rows (drop (at + count) frames)) =
+    ap (λ t. flat_map (section_words part) (map Rows t)) (first_run part rest count l)
+    ∙ ap (λ t. section_words part (Rows t) ++ runs_words part (drop count rest)) (take-map content_row count (drop at frames))
+    ∙ ap (λ t. section_words part (Rows (content_rows (take count (drop at frames)))) ++ runs_words part t) (sym (rows_drop count (drop at frames)) ∙ ap content_rows (drop-drop count at frames)) in
     ap (λ t. t ++ bytes_of_words (runs_words part (content_rows (drop (at + count) frames)))) h
-    ∙ append_assoc mid (bytes_of_words (stretch_words part (Rows (content_rows (take count (drop at frames)))))) (bytes_of_words (runs_words part (content_rows (drop (at + count) frames))))
-    ∙ ap (λ t. mid ++ t) (sym (flat_map-append bytes_of_word (stretch_words part (Rows (content_rows (take count (drop at frames))))) (runs_words part (content_rows (drop (at + count) frames)))) ∙ ap bytes_of_words (sym cut))
+    ∙ append_assoc mid (bytes_of_words (section_words part (Rows (content_rows (take count (drop at frames)))))) (bytes_of_words (runs_words part (content_rows (drop (at + count) frames))))
+    ∙ ap (λ t. mid ++ t) (sym (flat_map-append bytes_of_word (section_words part (Rows (content_rows (take count (drop at frames))))) (runs_words part (content_rows (drop (at + count) frames)))) ∙ ap bytes_of_words (sym cut))
     ∙ e
 
 pub runs_stepped : (part : PartData) (frames : List Content) (all mid new : List ℕ) (at count : ℕ) → at ≤ length frames → IsRunLength part (content_rows (take (length frames - at) (drop at frames))) count
-    → mid ++ bytes_of_words (runs_words part (content_rows (drop at frames))) ≡ all → new ≡ mid ++ bytes_of_words (stretch_words part (Rows (content_rows (take (at + count - at) (drop at frames)))))
+    → mid ++ bytes_of_words (runs_words part (content_rows (drop at frames))) ≡ all → new ≡ mid ++ bytes_of_words (section_words part (Rows (content_rows (take (at + count - at) (drop at frames)))))
     → (at + count ≤ length frames) × (new ++ bytes_of_words (runs_words part (content_rows (drop (at + count) frames))) ≡ all)
 runs_stepped part frames all mid new at count i l e h =
     let run : IsRunLength part (content_rows (drop at frames)) count = subst (λ t. IsRunLength part (content_rows t) count) (take_rest frames at) l in
     let inside : count ≤ length (content_rows (drop at frames)) = run.inside in
     let same : at + count - at ≡ count = omega arith in (
       omega (arith, i, inside, length-map (drop at frames) content_row, length-drop at frames),
-      runs_step part frames all mid new at count run e (h ∙ ap (λ (n : ℕ). mid ++ bytes_of_words (stretch_words part (Rows (content_rows (take n (drop at frames)))))) same),
+      runs_step part frames all mid new at count run e (h ∙ ap (λ (n : ℕ). mid ++ bytes_of_words (section_words part (Rows (content_rows (take n (drop at frames)))))) same),
     )
 
 -- ---- the other rows are some of the rows
@@ -174,16 +174,16 @@ alone_addressed part rows alone a e =
 pub alone_few : (part : PartData) (rows : List PlanRow) (alone : List Content) → IsPart part → AreInOrder rows → All (λ row. Contains (addresses_in part) row.far) rows → content_rows alone ≡ others rows rows → length alone ≤ 131072
 alone_few part rows alone is o a e = omega (arith, rows_few part rows is o a, is.few, others_fewer rows rows, ap length e, length-map alone content_row)
 
-pub stretches_written : (part : PartData) (rows : List PlanRow) (alone : List Content) (old mid new : List ℕ) → content_rows alone ≡ others rows rows → mid ≡ old ++ bytes_of_words (flat_map (stretch_words part) (groups_led rows rows))
-    → new ≡ mid ++ bytes_of_words (runs_words part (content_rows alone)) → new ≡ old ++ bytes_of_words (flat_map (stretch_words part) (stretches_of part rows))
-stretches_written part rows alone old mid new e g h =
-    written_on old mid new (flat_map (stretch_words part) (groups_led rows rows)) (runs_words part (content_rows alone)) g h
-    ∙ ap (λ t. old ++ bytes_of_words (flat_map (stretch_words part) (groups_led rows rows) ++ runs_words part t)) e
-    ∙ ap (λ t. old ++ bytes_of_words t) (sym (flat_map-append (stretch_words part) (groups_led rows rows) (map Rows (runs_of part (others rows rows)))))
+pub sections_written : (part : PartData) (rows : List PlanRow) (alone : List Content) (old mid new : List ℕ) → content_rows alone ≡ others rows rows → mid ≡ old ++ bytes_of_words (flat_map (section_words part) (groups_led rows rows))
+    → new ≡ mid ++ bytes_of_words (runs_words part (content_rows alone)) → new ≡ old ++ bytes_of_words (flat_map (section_words part) (sections_of part rows))
+sections_written part rows alone old mid new e g h =
+    written_on old mid new (flat_map (section_words part) (groups_led rows rows)) (runs_words part (content_rows alone)) g h
+    ∙ ap (λ t. old ++ bytes_of_words (flat_map (section_words part) (groups_led rows rows) ++ runs_words part t)) e
+    ∙ ap (λ t. old ++ bytes_of_words t) (sym (flat_map-append (section_words part) (groups_led rows rows) (map Rows (runs_of part (others rows rows)))))
 
 pub stream_written : (part : PartData) (rows : List PlanRow) (none one two three new : List ℕ) → none ≡ [] → one ≡ none ++ bytes_of_words (partial_opening part)
-    → two ≡ one ++ bytes_of_words (flat_map (stretch_words part) (stretches_of part rows)) → three ≡ with_piece two Check → new ≡ with_piece three (Words partial_ending) → new ≡ partial_stream part rows
+    → two ≡ one ++ bytes_of_words (flat_map (section_words part) (sections_of part rows)) → three ≡ with_piece two Check → new ≡ with_piece three (Words partial_ending) → new ≡ partial_stream part rows
 stream_written part rows none one two three new z a b c d =
-    let words : List ℕ = flat_map (stretch_words part) (stretches_of part rows) in
+    let words : List ℕ = flat_map (section_words part) (sections_of part rows) in
     d ∙ ap (λ t. with_piece t (Words partial_ending))
     (c ∙ ap (λ t. with_piece t Check) (written_on none one two (partial_opening part) words a b ∙ ap (λ t. t ++ bytes_of_words (partial_opening part ++ words)) z))

@@ -13,10 +13,11 @@ use Rattle.x7_packets.specs.PacketWords.{command, frame_data, no_op, write_one}
 use Rattle.x7_planner.specs.Writer.{Words, Check, opening_words, stream_of}
 use Rattle.x7_planner.specs.FullStream.{zero_frame}
 
--- what a partial stream writes after one command: a content at some addresses, or frames from an address on
-pub data Stretch : Type 0 where
-  Copies : (words : List ℕ) (fars : List ℕ) → Stretch
-  Rows : (rows : List PlanRow) → Stretch
+-- what a partial stream writes from one WCFG up to the next, or to its ending: a content at its first address and
+-- copies of it, or frames from an address on
+pub data Section : Type 0 where
+  Copies : (words : List ℕ) (fars : List ℕ) → Section
+  Rows : (rows : List PlanRow) → Section
 
 -- the two lists have the same words
 abbrev pub same_words : List ℕ → List ℕ → Bool
@@ -47,7 +48,7 @@ abbrev pub leads_group : List PlanRow → PlanRow → Bool
 leads_group all r = is_shared all r && (slice_index (planned_addresses (with_content r.words all)) 0 == r.far)
 
 -- the groups that these rows lead, in order
-abbrev pub groups_led : List PlanRow → List PlanRow → List Stretch
+abbrev pub groups_led : List PlanRow → List PlanRow → List Section
 groups_led all [] = []
 groups_led all (r ∷ rows) =
     if leads_group all r then Copies r.words (planned_addresses (with_content r.words all)) ∷ groups_led all rows else groups_led all rows
@@ -79,8 +80,8 @@ runs_of part [] = []
 runs_of part (r ∷ rows) = with_row part r (runs_of part rows)
 
 -- the groups, and then the runs
-abbrev pub stretches_of : PartData → List PlanRow → List Stretch
-stretches_of part rows = groups_led rows rows ++ map Rows (runs_of part (others rows rows))
+abbrev pub sections_of : PartData → List PlanRow → List Section
+sections_of part rows = groups_led rows rows ++ map Rows (runs_of part (others rows rows))
 
 -- a copy of the frame to an address
 abbrev pub copy_words : ℕ → List ℕ
@@ -90,12 +91,12 @@ copy_words address = write_one Far address ++ write_one Mfwr 0
 abbrev pub frames_words : List PlanRow → List ℕ
 frames_words rows = flat_map (λ row. row.words) rows
 
--- the words of a stretch: a content at its first address, and copies of it; or frames
+-- the words of a section: a content at its first address, and copies of it; or frames
 -- from an address on, and a frame of zeros
-abbrev pub stretch_words : PartData → Stretch → List ℕ
-stretch_words part (Copies words fars) =
+abbrev pub section_words : PartData → Section → List ℕ
+section_words part (Copies words fars) =
     command Wcfg ++ (write_one Far (slice_index fars 0) ++ (frame_data (frame_words part) ++ (words ++ (command Mfw ++ flat_map copy_words fars))))
-stretch_words part (Rows rows) =
+section_words part (Rows rows) =
     command Wcfg ++ (write_one Far (slice_index (planned_addresses rows) 0) ++ (frame_data (frame_words part * (length rows + 1)) ++ (frames_words rows ++ zero_frame part)))
 
 -- what stands before the groups
@@ -104,7 +105,7 @@ partial_opening part = opening_words ++ (command Rcrc ++ (no_op ∷ write_one Id
 
 -- the words of the longest runs of rows
 abbrev pub runs_words : PartData → List PlanRow → List ℕ
-runs_words part rows = flat_map (stretch_words part) (map Rows (runs_of part rows))
+runs_words part rows = flat_map (section_words part) (map Rows (runs_of part rows))
 
 -- the end of the session, and no-ops
 abbrev pub partial_ending : List ℕ
@@ -112,18 +113,18 @@ partial_ending = command Desync ++ replicate 4 no_op
 
 -- the partial stream of a plan's rows
 abbrev pub partial_stream : PartData → List PlanRow → List ℕ
-partial_stream part rows = stream_of (Words (partial_opening part ++ flat_map (stretch_words part) (stretches_of part rows)) ∷ Check ∷ Words partial_ending ∷ [])
+partial_stream part rows = stream_of (Words (partial_opening part ++ flat_map (section_words part) (sections_of part rows)) ∷ Check ∷ Words partial_ending ∷ [])
 
--- ---- what the stretches put, in other words
+-- ---- what the sections put, in other words
 
--- what a stretch puts, in order: addresses with their frames
-abbrev pub pairs_of : Stretch → List PlanRow
+-- what a section puts, in order: addresses with their frames
+abbrev pub pairs_of : Section → List PlanRow
 pairs_of (Copies words fars) = map (λ far. record { far = far; words = words }) fars
 pairs_of (Rows rows) = rows
 
--- what stretches put, in order
-abbrev pub pairs_in : List Stretch → List PlanRow
-pairs_in stretches = flat_map pairs_of stretches
+-- what sections put, in order
+abbrev pub pairs_in : List Section → List PlanRow
+pairs_in sections = flat_map pairs_of sections
 
 -- pairs write each of these rows once, with its frame, and no other address
 pub record WritesOnce (rows pairs : List PlanRow) : Type 0 where

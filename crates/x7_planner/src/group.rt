@@ -3,7 +3,7 @@ ghost use Rattle.std.specs.Prelude.{◌≡◌, ◌==◌, ◌&&◌, ◌<◌, ◌+
 ghost use Rattle.std.specs.List.{flat_map};
 ghost use Rattle.x7_memory.specs.Plan.{planned_addresses};
 ghost use Rattle.x7_planner.specs.Content.{AreByContent, BeginsAt, content_rows};
-ghost use Rattle.x7_planner.specs.PartialStream.{are_shared, copy_words, groups_led, others, stretch_words, with_content, Copies};
+ghost use Rattle.x7_planner.specs.PartialStream.{are_shared, copy_words, groups_led, others, section_words, with_content, Copies};
 ghost use Rattle.x7_planner.specs.Writer.{with_piece, Words};
 
 use crate::content::Content;
@@ -26,7 +26,7 @@ fn is_group(contents: &[Content], firsts: &[usize], start: usize, _words: &[u32]
     if contents.len() - start < GROUP_LEAST {
         return false;
     }
-    firsts[start + 2] == start
+    firsts[start + GROUP_LEAST - 1] == start
 }
 
 /// Whether the row at an address is the first of three or more with its content.
@@ -73,7 +73,7 @@ fn put_group(
     words: &[u32],
 ) -> Result<(), NoMemory>
     requires { BeginsAt contents.now firsts.now words.now start }
-    ensures { OnOk result (writer.new ≡ with_piece writer.old (Words (stretch_words part.now (Copies words.now (planned_addresses (with_content words.now (content_rows contents.now))))))) }
+    ensures { OnOk result (writer.new ≡ with_piece writer.old (Words (section_words part.now (Copies words.now (planned_addresses (with_content words.now (content_rows contents.now))))))) }
 {
     let far = contents[start].far;
     writer.packets(&[
@@ -98,7 +98,7 @@ fn put_led(
     words: &[u32],
 ) -> Result<(), NoMemory>
     requires { BeginsAt contents.now firsts.now words.now start }
-    ensures { OnOk result (writer.new ≡ with_piece writer.old (Words (flat_map (stretch_words part.now) (groups_led (content_rows contents.now) (record { far = far; words = words.now } ∷ []))))) }
+    ensures { OnOk result (writer.new ≡ with_piece writer.old (Words (flat_map (section_words part.now) (groups_led (content_rows contents.now) (record { far = far; words = words.now } ∷ []))))) }
 {
     if !leads(contents, firsts, start, far, words) {
         return Ok(());
@@ -117,7 +117,7 @@ pub(crate) fn put_groups(
     starts: &[usize],
 ) -> Result<(), NoMemory>
     requires { AreByContent plan.now.rows contents.now firsts.now starts.now }
-    ensures { OnOk result (writer.new ≡ with_piece writer.old (Words (flat_map (stretch_words part.now) (groups_led plan.now.rows plan.now.rows)))) }
+    ensures { OnOk result (writer.new ≡ with_piece writer.old (Words (flat_map (section_words part.now) (groups_led plan.now.rows plan.now.rows)))) }
 {
     for i in 0..plan.len() {
         let Some((far, words)) = plan.row(i) else {

@@ -4,7 +4,7 @@ ghost use Rattle.std.specs.List.{flat_map};
 ghost use Rattle.x7_memory.specs.Plan.{AreAddressed};
 ghost use Rattle.x7_part.specs.Part.{frame_words};
 ghost use Rattle.x7_planner.specs.Grouping.{IsGrouping};
-ghost use Rattle.x7_planner.specs.PartialStream.{partial_opening, partial_stream, stretch_words, stretches_of};
+ghost use Rattle.x7_planner.specs.PartialStream.{partial_opening, partial_stream, section_words, sections_of};
 ghost use Rattle.x7_planner.specs.Fault.{IsPartialFault};
 ghost use Rattle.x7_planner.specs.Writer.{with_piece, Words};
 ghost use Rattle.x7_planner.specs.declared.fault.PlanFault.{PlanFault};
@@ -62,7 +62,7 @@ fn put_opening(writer: &mut Writer, part: &Part) -> Result<(), NoMemory>
 }
 
 /// Writes the groups and the runs of a plan.
-fn put_stretches(
+fn put_sections(
     writer: &mut Writer,
     part: &Part,
     plan: &Plan,
@@ -70,7 +70,7 @@ fn put_stretches(
 ) -> Result<(), NoMemory>
     requires grouping { IsGrouping plan.now.rows grouping.now }
     requires addresses { AreAddressed part.now plan.now.rows }
-    ensures { OnOk result (writer.new ≡ with_piece writer.old (Words (flat_map (stretch_words part.now) (stretches_of part.now plan.now.rows)))) }
+    ensures { OnOk result (writer.new ≡ with_piece writer.old (Words (flat_map (section_words part.now) (sections_of part.now plan.now.rows)))) }
 {
     // For the proof alone: the part is in range and the plan in order, so its rows are few.
     let _frames = part.frames();
@@ -97,7 +97,7 @@ fn partial_of(alloc: Global, part: &Part, plan: &Plan) -> Result<Vec<u8>, NoMemo
     };
     let mut writer = Writer::new(alloc, SMALL_STREAM_WORDS)?;
     put_opening(&mut writer, part)?;
-    put_stretches(&mut writer, part, plan, &grouping)?;
+    put_sections(&mut writer, part, plan, &grouping)?;
     writer.check()?;
     writer.words(&command(Command::Desync))?;
     writer.words(&[NO_OP; 4])?;

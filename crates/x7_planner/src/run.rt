@@ -3,7 +3,7 @@ ghost use Rattle.std.specs.Prelude.{◌≡◌, ◌+◌, ◌-◌, ◌*◌, ◌<�
 ghost use Rattle.x7_part.specs.AddressOrder.{addresses_in};
 ghost use Rattle.x7_part.specs.Limits.{most_frames};
 ghost use Rattle.x7_planner.specs.Content.{IsRunLength, content_rows};
-ghost use Rattle.x7_planner.specs.PartialStream.{follows, frames_words, runs_words, stretch_words, Rows};
+ghost use Rattle.x7_planner.specs.PartialStream.{follows, frames_words, runs_words, section_words, Rows};
 ghost use Rattle.x7_planner.specs.Writer.{with_piece, Words};
 
 use crate::content::Content;
@@ -53,7 +53,7 @@ fn put_frames(writer: &mut Writer, frames: &[Content]) -> Result<(), NoMemory>
 fn put_run(writer: &mut Writer, part: &Part, run: &[Content]) -> Result<(), NoMemory>
     requires some { 0 < length run.now }
     requires limit { length run.now ≤ most_frames }
-    ensures { OnOk result (writer.new ≡ with_piece writer.old (Words (stretch_words part.now (Rows (content_rows run.now))))) }
+    ensures { OnOk result (writer.new ≡ with_piece writer.old (Words (section_words part.now (Rows (content_rows run.now))))) }
 {
     let words = part.words() * (run.len() as u32 + 1);
     writer.packets(&[

@@ -112,7 +112,7 @@ pub record FallsBackClean (o : Opened) (cause : Cause) (t : AttemptCourse) (c : 
   pub memory : memory_in o.part c.last.kept c.last.bytes ≡ memory_in o.part t.kept t.bytes
   pub bootsts : (end_state o.part c.last).bootsts ≡ fallback_status cause
 
--- some fallback over the flash starts, whatever its device kept over the reset
+-- the attempt is a fallback over the flash that starts; its device may have kept anything over the reset
 pub record StartsAsFallback (o : Opened) (f : AttemptCourse) : Type 0 where
   pub is : IsAttemptOver o.part o.flash f
   pub kind : f.kept.kind ≡ Fallback

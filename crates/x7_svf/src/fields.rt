@@ -12,7 +12,7 @@ use crate::span::Span;
 use crate::token::{NextToken, next_within};
 use crate::words::is_keyword;
 
-/// The fields of a scan.
+/// A field of a scan.
 #[derive(Clone, Copy)]
 pub(crate) enum Field {
     Tdi,

@@ -23,12 +23,12 @@ pub record OpensAgain (flash : List ℕ) (slot : ℕ) : Type 0 where
   pub first : IsOpen flash other
   pub second : IsOpen flash slot
 
--- a slot leads to U, and isn't open where one before it is
+-- a slot leads to the update's place, and isn't open where one before it is
 abbrev pub IsGoodSlot : List ℕ → ℕ → Type 0
 IsGoodSlot flash slot = LeadsToUpdate flash slot × (OpensAgain flash slot → ⊥)
 
--- why a slot is none of a layout, and the place that shows it: the slot doesn't lead to U (where it differs), or is
--- open as one before it is (the slot's place)
+-- why a slot is none of a layout, and the place that shows it: the slot doesn't lead to the update's place
+-- (where it differs), or is open as one before it is (the slot's place)
 abbrev pub IsBadSlotAt : List ℕ → ℕ → ℕ → Type 0
 IsBadSlotAt flash slot place = DiffersAt flash slot place ⊎ (LeadsToUpdate flash slot × OpensAgain flash slot × (place ≡ slot_bytes * slot))
 
@@ -39,8 +39,8 @@ pub record BeginsWell (size : ℕ) (flash : List ℕ) : Type 0 where
   pub place : CanStandAt size (update_place flash)
 
 -- The place at which a flash of a size has no layout. The first of these lines that holds gives it: the size is bad
--- (the size); the first slot differs (there); U is no place for an update (where the first slot has it); a further slot
--- is bad, the slots in their order; the last slot isn't free (its place).
+-- (the size); the first slot differs (there); the update's place is none where an update can stand (where the first
+-- slot has it); a further slot is bad, the slots in their order; the last slot isn't free (its place).
 pub data NoLayoutAt (size : ℕ) (flash : List ℕ) (place : ℕ) : Type 0 where
   bad_size : (HasSize size → ⊥) → place ≡ size → NoLayoutAt size flash place
   bad_first : HasSize size → DiffersAt flash 0 place → NoLayoutAt size flash place

@@ -1,4 +1,4 @@
--- Stretch by stretch through what a planner writes: runs of frames, and a content with its copies.
+-- Section by section through what a planner writes: runs of frames, and a content with its copies.
 use Rattle.std.proofs.Common.{◌≡◌, ◌+◌, ◌*◌, ◌≤◌, ◌<◌, ℕ, Bool, true, if◌then◌else◌, Option, None, Some, List, [], ◌∷◌, ◌++◌, length, map, reverse, get_or, refl, sym, ap, subst, ◌∙◌, append-nil, arith}
 use Rattle.std.specs.List.{flat_map, AllByRecursion}
 use Rattle.std.proofs.lemmas.Grind.{reverse_onto}
@@ -31,11 +31,11 @@ use Rattle.x7_effects.proofs.Items.{Write, WriteLong, item_entered}
 use Rattle.x7_effects.proofs.Checking.{Piece, Put, piece_length, pieces_length}
 use Rattle.x7_effects.proofs.Frames.{joined, row_frames}
 use Rattle.x7_planner.specs.FullStream.{zero_frame}
-use Rattle.x7_planner.specs.PartialStream.{Stretch, Rows}
-use Rattle.x7_effects.proofs.Streams.{command, copy_pieces, one, stretch_pieces, stretches_pieces}
-use Rattle.x7_planner.specs.PartialStream as stretch
+use Rattle.x7_planner.specs.PartialStream.{Section, Rows}
+use Rattle.x7_effects.proofs.Streams.{command, copy_pieces, one, section_pieces, sections_pieces}
+use Rattle.x7_planner.specs.PartialStream as section
 use Rattle.x7_planner.specs.PartialStream.{pairs_of}
-use Rattle.x7_effects.proofs.Groups.{LandsAs, put_stretches}
+use Rattle.x7_effects.proofs.Groups.{LandsAs, put_sections}
 use Rattle.x7_effects.proofs.GoingLemmas.{IsGoing, copy_passes, far_passes, quiet_far, written, written_append}
 use Rattle.x7_effects.proofs.WalkLemmas.{HasWritten, IsLoaded, IsReady, allows_writing, going_one, loaded_words, put_same, quiet_one, ready_load}
 
@@ -139,36 +139,36 @@ copy_all part kept startup words (far ∷ fars) h n m c a =
       source_is = rest.source_is;
     })
 
--- ---- stretches
+-- ---- sections
 
--- a stretch at addresses of the part, for whose words there are slots
-pub record IsStretchOf (part : PartData) (first : ℕ) (fars words : List ℕ) : Type 0 where
+-- a section at addresses of the part, for whose words there are slots
+pub record IsSectionOf (part : PartData) (first : ℕ) (fars words : List ℕ) : Type 0 where
   pub targets : AllByRecursion (IsTarget part) fars
   pub begins : IsTarget part first
   pub few : length words ≤ frame_words part * length (slots_from part first)
 
-abbrev pub Stands : PartData → Stretch → Type 0
-Stands part (stretch.Copies words fars) = IsStretchOf part (get_or fars 0 0) fars words × (length words ≡ frame_words part)
-Stands part (Rows rows) = IsStretchOf part (get_or (planned_addresses rows) 0 0) [] (joined (row_frames rows ++ zero_frame part ∷ []))
+abbrev pub Stands : PartData → Section → Type 0
+Stands part (section.Copies words fars) = IsSectionOf part (get_or fars 0 0) fars words × (length words ≡ frame_words part)
+Stands part (Rows rows) = IsSectionOf part (get_or (planned_addresses rows) 0 0) [] (joined (row_frames rows ++ zero_frame part ∷ []))
 
 rows_ready : (part : PartData) (kept : Kept) (startup : StartupProgress) (rows : List PlanRow) (h : History) (n : ℕ) (m : FrameMap) → IsReady part kept startup h n m → LandsAs part (Rows rows) → Stands part (Rows rows)
-    → IsReady part kept startup (written n (stretch_pieces part (Rows rows)) h) (n + 4 * pieces_length (stretch_pieces part (Rows rows))) (put_over (reverse rows) m)
+    → IsReady part kept startup (written n (section_pieces part (Rows rows)) h) (n + 4 * pieces_length (section_pieces part (Rows rows))) (put_over (reverse rows) m)
 rows_ready part kept startup rows h n m r l s =
     let far : ℕ = get_or (planned_addresses rows) 0 0 in
     let ws : List ℕ = joined (row_frames rows ++ zero_frame part ∷ []) in
     let loaded : IsLoaded part kept startup 1 far (written n (command Wcfg ∷ one Far far ∷ []) h) (n + 8 + 8) m = ready_load part kept startup far h n m r s.begins.0 in
     let w : HasWritten part kept startup far ws (written (n + 8 + 8) (Put (WriteLong 2 ws) ∷ []) (written n (command Wcfg ∷ one Far far ∷ []) h)) (n + 8 + 8 + 4 * piece_length (Put (WriteLong 2 ws))) m =
     loaded_words part kept startup far (written n (command Wcfg ∷ one Far far ∷ []) h) (n + 8 + 8) m ws loaded s.begins.1 s.few in
-    let end : n + 8 + 8 + 4 * piece_length (Put (WriteLong 2 ws)) ≡ n + 4 * pieces_length (stretch_pieces part (Rows rows)) = omega arith in
-    subst (λ (k : ℕ). IsReady part kept startup (written n (stretch_pieces part (Rows rows)) h) k (put_over (reverse rows) m)) end (record {
+    let end : n + 8 + 8 + 4 * piece_length (Put (WriteLong 2 ws)) ≡ n + 4 * pieces_length (section_pieces part (Rows rows)) = omega arith in
+    subst (λ (k : ℕ). IsReady part kept startup (written n (section_pieces part (Rows rows)) h) k (put_over (reverse rows) m)) end (record {
       going = w.ready.going;
       matched = w.ready.matched;
       allows = w.ready.allows;
       memory = λ a. w.ready.memory a ∙ put_same (written_frames part far (onto ws [])) (reverse rows) m m l (λ x. refl) a;
     })
 
-copies_ready : (part : PartData) (kept : Kept) (startup : StartupProgress) (words fars : List ℕ) (h : History) (n : ℕ) (m : FrameMap) → 0 < frame_words part → IsReady part kept startup h n m → LandsAs part (stretch.Copies words fars) → Stands part (stretch.Copies words fars)
-    → IsReady part kept startup (written n (stretch_pieces part (stretch.Copies words fars)) h) (n + 4 * pieces_length (stretch_pieces part (stretch.Copies words fars))) (put_over (reverse (Pairs words fars)) m)
+copies_ready : (part : PartData) (kept : Kept) (startup : StartupProgress) (words fars : List ℕ) (h : History) (n : ℕ) (m : FrameMap) → 0 < frame_words part → IsReady part kept startup h n m → LandsAs part (section.Copies words fars) → Stands part (section.Copies words fars)
+    → IsReady part kept startup (written n (section_pieces part (section.Copies words fars)) h) (n + 4 * pieces_length (section_pieces part (section.Copies words fars))) (put_over (reverse (Pairs words fars)) m)
 copies_ready part kept startup words fars h n m some r l s =
     let far : ℕ = get_or fars 0 0 in
     let prefix : History = written n (command Wcfg ∷ one Far far ∷ []) h in
@@ -179,30 +179,30 @@ copies_ready part kept startup words fars h n m some r l s =
     let copying : IsCopying part kept startup words (written k (command Mfw ∷ []) data_in) (k + 8) m = begins_copies part kept startup far words data_in k m some s.1 w l.0 in
     let all : IsCopying part kept startup words (written (k + 8) (flat_map copy_pieces fars) (written k (command Mfw ∷ []) data_in)) (k + 8 + 16 * length fars) (put_over (reverse (Pairs words fars)) m) =
     copy_all part kept startup words fars (written k (command Mfw ∷ []) data_in) (k + 8) m copying s.0.targets in
-    let end : k + 8 + 16 * length fars ≡ n + 4 * pieces_length (stretch_pieces part (stretch.Copies words fars)) = omega (arith, copies_length fars) in
+    let end : k + 8 + 16 * length fars ≡ n + 4 * pieces_length (section_pieces part (section.Copies words fars)) = omega (arith, copies_length fars) in
     subst (λ (x : ℕ). IsReady part kept startup (written (k + 8) (flat_map copy_pieces fars) (written k (command Mfw ∷ []) data_in)) x (put_over (reverse (Pairs words fars)) m)) end all.ready
 
-stretch_ready : (part : PartData) (kept : Kept) (startup : StartupProgress) (s : Stretch) (h : History) (n : ℕ) (m : FrameMap) → 0 < frame_words part → IsReady part kept startup h n m → LandsAs part s → Stands part s
-    → IsReady part kept startup (written n (stretch_pieces part s) h) (n + 4 * pieces_length (stretch_pieces part s)) (put_over (reverse (pairs_of s)) m)
-stretch_ready part kept startup (stretch.Copies words fars) h n m some r l t = copies_ready part kept startup words fars h n m some r l t
-stretch_ready part kept startup (Rows rows) h n m some r l t = rows_ready part kept startup rows h n m r l t
+section_ready : (part : PartData) (kept : Kept) (startup : StartupProgress) (s : Section) (h : History) (n : ℕ) (m : FrameMap) → 0 < frame_words part → IsReady part kept startup h n m → LandsAs part s → Stands part s
+    → IsReady part kept startup (written n (section_pieces part s) h) (n + 4 * pieces_length (section_pieces part s)) (put_over (reverse (pairs_of s)) m)
+section_ready part kept startup (section.Copies words fars) h n m some r l t = copies_ready part kept startup words fars h n m some r l t
+section_ready part kept startup (Rows rows) h n m some r l t = rows_ready part kept startup rows h n m r l t
 
 pub pieces_sum : (xs ys : List Piece) → pieces_length (xs ++ ys) ≡ pieces_length xs + pieces_length ys
 pieces_sum [] ys = omega arith
 pieces_sum (x ∷ xs) ys = omega (arith, pieces_sum xs ys)
 
-pub stretches_ready : (part : PartData) (kept : Kept) (startup : StartupProgress) (stretches : List Stretch) (h : History) (n : ℕ) (m : FrameMap) → 0 < frame_words part → IsReady part kept startup h n m → AllByRecursion (LandsAs part) stretches → AllByRecursion (Stands part) stretches
-    → IsReady part kept startup (written n (stretches_pieces part stretches) h) (n + 4 * pieces_length (stretches_pieces part stretches)) (put_stretches m stretches)
-stretches_ready part kept startup [] h n m some r l t =
+pub sections_ready : (part : PartData) (kept : Kept) (startup : StartupProgress) (sections : List Section) (h : History) (n : ℕ) (m : FrameMap) → 0 < frame_words part → IsReady part kept startup h n m → AllByRecursion (LandsAs part) sections → AllByRecursion (Stands part) sections
+    → IsReady part kept startup (written n (sections_pieces part sections) h) (n + 4 * pieces_length (sections_pieces part sections)) (put_sections m sections)
+sections_ready part kept startup [] h n m some r l t =
     let same : n ≡ n + 4 * pieces_length [] = omega arith in
     subst (λ (k : ℕ). IsReady part kept startup h k m) same r
-stretches_ready part kept startup (s ∷ stretches) h n m some r l t =
-    let pieces : List Piece = stretch_pieces part s in
-    let rest : List Piece = stretches_pieces part stretches in
+sections_ready part kept startup (s ∷ sections) h n m some r l t =
+    let pieces : List Piece = section_pieces part s in
+    let rest : List Piece = sections_pieces part sections in
     let k : ℕ = n + 4 * pieces_length pieces in
-    let first : IsReady part kept startup (written n pieces h) k (put_over (reverse (pairs_of s)) m) = stretch_ready part kept startup s h n m some r l.0 t.0 in
-    let all : IsReady part kept startup (written k rest (written n pieces h)) (k + 4 * pieces_length rest) (put_stretches (put_over (reverse (pairs_of s)) m) stretches) =
-    stretches_ready part kept startup stretches (written n pieces h) k (put_over (reverse (pairs_of s)) m) some first l.1 t.1 in
+    let first : IsReady part kept startup (written n pieces h) k (put_over (reverse (pairs_of s)) m) = section_ready part kept startup s h n m some r l.0 t.0 in
+    let all : IsReady part kept startup (written k rest (written n pieces h)) (k + 4 * pieces_length rest) (put_sections (put_over (reverse (pairs_of s)) m) sections) =
+    sections_ready part kept startup sections (written n pieces h) k (put_over (reverse (pairs_of s)) m) some first l.1 t.1 in
     let end : k + 4 * pieces_length rest ≡ n + 4 * pieces_length (pieces ++ rest) = omega (arith, pieces_sum pieces rest) in
-    subst (λ (x : History). IsReady part kept startup x (n + 4 * pieces_length (pieces ++ rest)) (put_stretches (put_over (reverse (pairs_of s)) m) stretches)) (sym (written_append n pieces rest h))
-    (subst (λ (x : ℕ). IsReady part kept startup (written k rest (written n pieces h)) x (put_stretches (put_over (reverse (pairs_of s)) m) stretches)) end all)
+    subst (λ (x : History). IsReady part kept startup x (n + 4 * pieces_length (pieces ++ rest)) (put_sections (put_over (reverse (pairs_of s)) m) sections)) (sym (written_append n pieces rest h))
+    (subst (λ (x : ℕ). IsReady part kept startup (written k rest (written n pieces h)) x (put_sections (put_over (reverse (pairs_of s)) m) sections)) end all)
