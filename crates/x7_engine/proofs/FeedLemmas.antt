@@ -15,7 +15,7 @@ use Rattle.x7_engine.specs.declared.kept.Kept.{Kept}
 use Rattle.x7_engine.specs.declared.stop.Stop.{Stop}
 use Rattle.x7_engine.specs.declared.stop.Stop.TheVariants as stop
 use Rattle.x7_engine.specs.ReadBuffer.{ReadBufState, gathered, with_words}
-use Rattle.x7_engine.specs.Readout.{Gave, GotAllBut, Gives}
+use Rattle.x7_engine.specs.Readout.{RegistersGaveWords, GotAllBut, DeviceGaveWords}
 use Rattle.x7_engine.specs.Past.{Answers, past_of}
 use Rattle.x7_engine.specs.Standing.{DeviceStandsFor, DeviceState, NoWordDue, RegistersStandFor, RegistersState, due_count, fed_by, frames_among, frames_due, taken_in, reads_given, words_left}
 use Rattle.x7_engine.specs.State.{history_taken, reads_of}
@@ -25,7 +25,7 @@ use Rattle.x7_engine.proofs.FrameLemmas.{frames_at, frames_of, goes_on}
 
 -- the device gave words that were due
 pub given : (part : PartData) (kept : Kept) (wrapped : Bool) (d : DeviceState) (r : RegistersState) (bytes : List ℕ) (old new : ReadBufState) → d.registers.stop ≡ None → r.stop ≡ None → DeviceStandsFor part kept wrapped d bytes
-    → Gave (course_at part kept (history_taken part kept bytes) (length bytes)) d.registers r old new → Gives (record { part = part; kept = kept; wrapped = wrapped; bytes = bytes }) d (record d { registers = r }) old new
+    → RegistersGaveWords (course_at part kept (history_taken part kept bytes) (length bytes)) d.registers r old new → DeviceGaveWords (record { part = part; kept = kept; wrapped = wrapped; bytes = bytes }) d (record d { registers = r }) old new
 given part kept wrapped d r bytes old new going on s g =
     let known : List ℕ = s.due_are.given in
     let h : History = history_taken part kept bytes in
@@ -86,7 +86,7 @@ pub given_on : (part : PartData) (kept : Kept) (wrapped : Bool) (d e : DeviceSta
 given_on part kept wrapped d e bytes piece from to l f s = sym (ap (reads_given part kept e) (taken_more bytes piece from to l)) ∙ f (bytes ++ take from piece) s
 
 -- the words given before, and those that are given now
-pub now_given : (part : PartData) (kept : Kept) (wrapped : Bool) (d e : DeviceState) (first read next : ReadBufState) (taken known : List ℕ) → Gives (record { part = part; kept = kept; wrapped = wrapped; bytes = taken }) d e read next
+pub now_given : (part : PartData) (kept : Kept) (wrapped : Bool) (d e : DeviceState) (first read next : ReadBufState) (taken known : List ℕ) → DeviceGaveWords (record { part = part; kept = kept; wrapped = wrapped; bytes = taken }) d e read next
     → ((more : List ℕ) × (read ≡ with_words first more) × (reads_given part kept d taken ≡ known ++ more))
     → (more : List ℕ) × (next ≡ with_words first more) × (reads_given part kept e taken ≡ known ++ more)
 now_given part kept wrapped d e first read next taken known g m = (
@@ -96,7 +96,7 @@ now_given part kept wrapped d e first read next taken known g m = (
 )
 
 -- the words given once a run more is taken, which gives none
-pub read_here : (part : PartData) (kept : Kept) (wrapped : Bool) (old new next : DeviceState) (first read last : ReadBufState) (bytes piece known : List ℕ) (from to : ℕ) → Gives (record { part = part; kept = kept; wrapped = wrapped; bytes = bytes ++ take from piece }) old new read last → from ≤ to
+pub read_here : (part : PartData) (kept : Kept) (wrapped : Bool) (old new next : DeviceState) (first read last : ReadBufState) (bytes piece known : List ℕ) (from to : ℕ) → DeviceGaveWords (record { part = part; kept = kept; wrapped = wrapped; bytes = bytes ++ take from piece }) old new read last → from ≤ to
     → ((b : List ℕ) → DeviceStandsFor part kept wrapped new b → reads_given part kept next (b ++ between piece from to) ≡ reads_given part kept new b)
     → ((more : List ℕ) × (read ≡ with_words first more) × (reads_given part kept old (bytes ++ take from piece) ≡ known ++ more))
     → (more : List ℕ) × (last ≡ with_words first more) × (reads_given part kept next (bytes ++ take to piece) ≡ known ++ more)
@@ -169,7 +169,7 @@ fewer_among (a ∷ h) count left l e = by (reads_frame_data h a.access) e
 -- registers after some of the words of frame data that were due
 pub gave_frames : (part : PartData) (kept : Kept) (d : RegistersState) (frames : FramesState) (h : History) (n count left : ℕ) (old new : ReadBufState) → d.stop ≡ None → d.due ≡ due.Frames count → left ≤ count
     → (FramesStandFor part d.frames h count → GotAllBut (words_due part h left) (words_due part h count) old new) → (FramesStandFor part d.frames h count → FramesStandFor part frames h left)
-    → RegistersStandFor part kept d h n → Gave (course_at part kept h n) d (record d { due = due.Frames left; frames = frames }) old new
+    → RegistersStandFor part kept d h n → RegistersGaveWords (course_at part kept h n) d (record d { due = due.Frames left; frames = frames }) old new
 gave_frames part kept d frames h n count left old new going is few got stands s =
     let here : FramesStandFor part d.frames h count = subst (FramesStandFor part d.frames h) (ap frames_due is) (frames_of part d.frames d.stop h (frames_due d.due) (goes_on d.stop going) s.frames) in
     let gets : GotAllBut (words_due part h left) (words_due part h count) old new = got here in

@@ -16,7 +16,7 @@ pub record GotAllBut (rest words : List ℕ) (old new : ReadBufState) : Type 0 w
   pub words_are : words ≡ more ++ rest
 
 -- of the words due the buffer got the first ones, and the registers stand for the same history as before
-pub record Gave (c : Course) (d e : RegistersState) (old new : ReadBufState) : Type 0 where
+pub record RegistersGaveWords (c : Course) (d e : RegistersState) (old new : ReadBufState) : Type 0 where
   pub more : List ℕ
   pub read_is : new ≡ with_words old more
   pub words_are : words_left c.part c.history d.due ≡ more ++ words_left c.part c.history e.due
@@ -30,14 +30,14 @@ pub record MayGive (part : PartData) (d : Registers) : Type 0 where
   pub history : HaveHistory part (registers_in d)
 
 -- registers gave a buffer the words due, all of them or as many as it has room for
-pub record GaveDue (x : Change) (old new : ReadBufState) : Type 0 where
+pub record GaveWordsDue (x : Change) (old new : ReadBufState) : Type 0 where
   pub full : 0 < due_count x.new.due → IsFull new
   pub going : x.new.stop ≡ None
   pub frames : FramesFit x.part x.new.frames
-  pub given : OfHistory x.part x.old (λ kept h n. Gave (course_at x.part kept h n) x.old x.new old new)
+  pub given : OfHistory x.part x.old (λ kept h n. RegistersGaveWords (course_at x.part kept h n) x.old x.new old new)
 
 -- of the words due the buffer got the first ones, and the device stands for the same bytes as before
-pub record Gives (p : Past) (d e : DeviceState) (old new : ReadBufState) : Type 0 where
+pub record DeviceGaveWords (p : Past) (d e : DeviceState) (old new : ReadBufState) : Type 0 where
   pub more : List ℕ
   pub read_is : new ≡ with_words old more
   pub given_are : reads_given_at e p ≡ reads_given_at d p ++ more

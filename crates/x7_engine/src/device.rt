@@ -6,7 +6,7 @@ ghost use Rattle.x7_memory.specs.FrameMap.{AreSame};
 ghost use Rattle.x7_memory.specs.Frames.{AreFramesOf, frame_at};
 ghost use Rattle.x7_engine.specs.UntilRead.{RoomBefore};
 ghost use Rattle.x7_engine.specs.Kept.{on_the_bench};
-ghost use Rattle.x7_engine.specs.Readout.{Gives};
+ghost use Rattle.x7_engine.specs.Readout.{DeviceGaveWords};
 ghost use Rattle.x7_engine.specs.ReadBuffer.{HoldsWithinMost, IsFull};
 ghost use Rattle.x7_engine.specs.Standing.{DeviceStandsFor, MayWrap, NoWordDue, due_count, fed_by, fed_more, fed_of, frames_due, taken_in, with_wrap};
 ghost use Rattle.x7_engine.specs.State.{attempt_in, end_by, kept_after, why_of, memory_in, state_owing};
@@ -203,7 +203,7 @@ impl Device {
         self.registers.stop().is_some()
     }
 
-    /// Gives the words due to a buffer, as many as it has room for, and says whether none is left.
+    /// DeviceGaveWords the words due to a buffer, as many as it has room for, and says whether none is left.
     fn give(&mut self, read: &mut ReadBuf) -> bool
         requires going { self.old.registers.stop ≡ None }
         ensures none_left { IsTrue result ↔ NoWordDue self.new }
@@ -214,7 +214,7 @@ impl Device {
         ensures part { self.new.part ≡ self.old.part }
         ensures fed { self.new.fed ≡ self.old.fed }
         ensures cutter { self.new.cutter ≡ self.old.cutter }
-        ensures given { OfPast self.old (λ p. Gives p self.old self.new read.old read.new) }
+        ensures given { OfPast self.old (λ p. DeviceGaveWords p self.old self.new read.old read.new) }
     {
         self.registers.give(&self.part, read)
     }

@@ -2,7 +2,7 @@
 ghost use Rattle.std.specs.Prelude.{◌≡◌, ◌≤◌, ◌<◌, ℕ, IsTrue, ◌↔◌, None, Some};
 ghost use Rattle.x7_packets.specs.History.{History};
 ghost use Rattle.x7_flow.specs.Standing.{FramesFit, FramesStandFor, HaveDue, read_entry, words_due};
-ghost use Rattle.x7_engine.specs.Readout.{GaveDue, GotAllBut, MayGive};
+ghost use Rattle.x7_engine.specs.Readout.{GaveWordsDue, GotAllBut, MayGive};
 ghost use Rattle.x7_engine.specs.ReadBuffer.{HoldsWithinMost, IsFull};
 ghost use Rattle.x7_engine.specs.Ready.{AreReady, RestsAtStop};
 ghost use Rattle.x7_engine.specs.Standing.{due_count};
@@ -73,7 +73,7 @@ impl Registers {
     /// Gives the words due to a buffer, as many as it has room for.
     fn give_due(&mut self, part: &Part, read: &mut ReadBuf)
         requires { MayGive part.now self.old }
-        ensures { GaveDue (change_of part.now self.old self.new) read.old read.new }
+        ensures { GaveWordsDue (change_of part.now self.old self.new) read.old read.new }
     {
         match self.due {
             Due::Nothing => (),
@@ -93,7 +93,7 @@ impl Registers {
         requires { MayGive part.now self.old }
         ensures none_left { IsTrue result ↔ (due_count self.new.due ≡ 0) }
         ensures within_most { HoldsWithinMost read.new.most read.new.words }
-        ensures gave { GaveDue (change_of part.now self.old self.new) read.old read.new }
+        ensures gave { GaveWordsDue (change_of part.now self.old self.new) read.old read.new }
     {
         self.give_due(part, read);
         read.holds_few();

@@ -178,7 +178,7 @@ pub(crate) fn rank_at(columns: &[Column], place: u64, near: &mut usize) -> Optio
 }
 
 /// The place of an address among the slots.
-pub(crate) fn slot_of(columns: &[Column], far: u32) -> u64
+pub(crate) fn place_of(columns: &[Column], far: u32) -> u64
     requires columns { AreColumns columns.now }
     requires address { Contains (column_addresses columns.now) far }
     ensures within { result < length (column_slots columns.now) }
@@ -198,7 +198,7 @@ pub(crate) fn slot_after(columns: &[Column], far: u32, n: u64) -> Slot
     requires address { Contains (column_addresses columns.now) far }
     ensures { result ≡ slice_index_or (from far (column_slots columns.now)) n Slot.End }
 {
-    match slot_of(columns, far).checked_add(n) {
+    match place_of(columns, far).checked_add(n) {
         Some(place) => slot_at(columns, place),
         None => Slot::End,
     }
@@ -232,5 +232,5 @@ pub(crate) fn slots_from(columns: &[Column], far: u32) -> u64
     requires address { Contains (column_addresses columns.now) far }
     ensures { result ≡ length (from far (column_slots columns.now)) }
 {
-    slot_count(columns) - slot_of(columns, far)
+    slot_count(columns) - place_of(columns, far)
 }

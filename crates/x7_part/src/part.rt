@@ -212,7 +212,7 @@ impl Part {
         ensures slots { (n : ℕ) → slice_index_or (slots_in self.now) (result + n) Slot.End ≡ slice_index_or (from far (slots_in self.now)) n Slot.End }
         ensures few { length (slots_in self.now) < 2 ^ 63 }
     {
-        column::slot_of(self.table(), far)
+        column::place_of(self.table(), far)
     }
 
     /// The rank of the frame at a slot that has `place` slots before it, none at a pad and past the last slot. `near`

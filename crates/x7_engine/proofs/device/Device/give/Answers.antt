@@ -3,7 +3,7 @@ use Rattle.x7_packets.specs.History.{History}
 use Rattle.x7_part.specs.Part.{PartData}
 use Rattle.x7_engine.specs.DeviceFields.{device_in}
 use Rattle.x7_engine.specs.Past.{Past, past_of}
-use Rattle.x7_engine.specs.Readout.{Gives}
+use Rattle.x7_engine.specs.Readout.{DeviceGaveWords}
 use Rattle.x7_engine.specs.Standing.{DeviceStandsFor, DeviceState, registers_in}
 use Rattle.x7_engine.specs.State.{history_taken}
 use Rattle.x7_engine.proofs.FeedLemmas.{given}
@@ -19,8 +19,8 @@ returns-clause-given c = λ wanted kept wrapped bytes s.
     let after : DeviceState = record fields { registers = registers_in c.give.new.self } in
     let h : History = history_taken part kept bytes in
     let going : c.self.inside.registers.stop ≡ None = ap (λ (d : DeviceState). d.registers.stop) c.self.view_is ∙ c.requires.going in
-    subst (λ (d : DeviceState). Gives (record { part = wanted; kept = kept; wrapped = wrapped; bytes = bytes }) d after c.args.read.now c.give.new.read) c.self.view_is
-    (subst (λ (p : PartData). Gives (record { part = p; kept = kept; wrapped = wrapped; bytes = bytes }) fields after c.args.read.now c.give.new.read) here
+    subst (λ (d : DeviceState). DeviceGaveWords (record { part = wanted; kept = kept; wrapped = wrapped; bytes = bytes }) d after c.args.read.now c.give.new.read) c.self.view_is
+    (subst (λ (p : PartData). DeviceGaveWords (record { part = p; kept = kept; wrapped = wrapped; bytes = bytes }) fields after c.args.read.now c.give.new.read) here
     (given part kept wrapped fields (registers_in c.give.new.self) bytes c.args.read.now c.give.new.read going c.give.ensures.gave.going stands (c.give.ensures.gave.given kept h (length bytes) stands.registers_are)))
 
 pub invariant_of-self : goal.invariant_of-self
@@ -31,6 +31,6 @@ invariant_of-self c =
     let stands : DeviceStandsFor part p.kept p.wrapped fields p.bytes = own_past fields c.self.invariant.past in
     let h : History = history_taken part p.kept p.bytes in
     let going : c.self.inside.registers.stop ≡ None = ap (λ (d : DeviceState). d.registers.stop) c.self.view_is ∙ c.requires.going in
-    let gives : Gives (past_of part p.kept p.wrapped p.bytes) fields (record fields { registers = registers_in c.give.new.self }) c.args.read.now c.give.new.read =
+    let gives : DeviceGaveWords (past_of part p.kept p.wrapped p.bytes) fields (record fields { registers = registers_in c.give.new.self }) c.args.read.now c.give.new.read =
     given part p.kept p.wrapped fields (registers_in c.give.new.self) p.bytes c.args.read.now c.give.new.read going c.give.ensures.gave.going stands (c.give.ensures.gave.given p.kept h (length p.bytes) stands.registers_are) in
     record { frames = c.give.ensures.gave.frames; past = record { past = past_of part p.kept p.wrapped p.bytes; has = gives.stands } }

@@ -1,13 +1,13 @@
 use Rattle.x7_part.proofs.part.Part.place_of.Goals as goal
 
-pub slot_of-requires-clause-address : goal.slot_of-requires-clause-address
-slot_of-requires-clause-address c = rw c.table.ensures.addresses c.requires.address
+pub place_of-requires-clause-address : goal.place_of-requires-clause-address
+place_of-requires-clause-address c = rw c.table.ensures.addresses c.requires.address
 
 pub returns-clause-within : goal.returns-clause-within
-returns-clause-within c = rw (← c.table.ensures.slots) c.slot_of.ensures.within
+returns-clause-within c = rw (← c.table.ensures.slots) c.place_of.ensures.within
 
 pub returns-clause-slots : goal.returns-clause-slots
-returns-clause-slots c = rw (← c.table.ensures.slots) c.slot_of.ensures.slot
+returns-clause-slots c = rw (← c.table.ensures.slots) c.place_of.ensures.slot
 
 pub returns-clause-few : goal.returns-clause-few
 returns-clause-few c = rw (← c.table.ensures.slots) c.table.ensures.are_columns.slots

@@ -1,6 +1,6 @@
 use Rattle.std.proofs.Common.{arith}
 use Rattle.x7_part.proofs.ColumnLemmas.{slot_after_is, slots_from_is, slot_ends, nothing}
-use Rattle.x7_part.proofs.column.slot_of.Goals as goal
+use Rattle.x7_part.proofs.column.place_of.Goals as goal
 
 pub overflow_add-result : goal.overflow_add-result
 overflow_add-result c =
