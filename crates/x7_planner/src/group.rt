@@ -26,7 +26,7 @@ fn is_group(contents: &[Content], firsts: &[usize], start: usize, _words: &[u32]
     if contents.len() - start < GROUP_LEAST {
         return false;
     }
-    firsts[start + GROUP_LEAST - 1] == start
+    firsts[start + (GROUP_LEAST - 1)] == start
 }
 
 /// Whether the row at an address is the first of three or more with its content.
