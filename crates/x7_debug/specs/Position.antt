@@ -15,7 +15,7 @@ use Rattle.x7_debug.specs.declared.order.Stop.TheVariants as stop
 abbrev pub last_of : PartData → List ℕ → ℕ
 last_of part stream = taken_of part on_the_bench stream
 
--- the registers at a position
+-- the state of the device at a position, without its memory
 abbrev pub state_at_position : PartData → List ℕ → ℕ → Regs
 state_at_position part stream n = state_of part on_the_bench false (take n stream)
 

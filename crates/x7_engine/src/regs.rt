@@ -1,4 +1,4 @@
-//! The registers as a report shows them.
+//! The state of a device but its memory, as a report shows it.
 
 use crate::fault::Fault;
 use x7_startup::Lines;

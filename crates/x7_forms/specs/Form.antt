@@ -38,7 +38,7 @@ two_names form (first ∷ []) = None
 two_names form (first ∷ second ∷ []) = Some (form first second)
 two_names form (first ∷ second ∷ third ∷ more) = None
 
--- the word of eight upper-case digits: written again it has these digits
+-- the word of eight upper-case hexadecimal digits: written again it has these digits
 abbrev pub word_in : List ℕ → Option ℕ
 word_in digits = if bytes_eq (hex_word (word_value digits)) digits && nat_lt (word_value digits) (2 ^ 32) then Some (word_value digits) else None
 

@@ -102,7 +102,7 @@ pub record StreamRead : Type 0 where
   pub bytes : List ℕ
   pub room : ℕ
 
--- the stream of this name, whose limit is judged before its header
+-- the stream of this name: one that is too large is refused before its header is looked at
 abbrev pub read_of : Known → ℕ → List ℕ → Result StreamRead Event
 read_of known limit name = and_so (whole_in known limit name) (λ whole. and_so (data_in name whole) (λ bytes. Ok (record { bytes = bytes; room = limit - length whole })))
 
@@ -131,7 +131,7 @@ flash_found (Some bytes) = Some (Held bytes)
 abbrev pub known_of : (List ℕ → Option (List ℕ)) → Option (List ℕ) → Known
 known_of inputs flash = record { inputs = λ name. found (inputs name); flash = λ name. flash_found flash }
 
--- what is known where the inputs are, of them and of the flash; nothing where the inputs aren't known
+-- what is known of the inputs and of the flash, if the inputs are known; else nothing
 abbrev pub with_inputs : Option (List ℕ → Option (List ℕ)) → Option (List ℕ) → Option Known
 with_inputs None flash = None
 with_inputs (Some inputs) flash = Some (known_of inputs flash)

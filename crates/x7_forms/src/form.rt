@@ -173,7 +173,7 @@ fn unmcs_form(names: &[String]) -> Option<Form<'_>>
     }
 }
 
-/// The word of eight upper-case digits.
+/// The word of eight upper-case hexadecimal digits.
 fn word_in(digits: &str) -> Option<u32>
     ensures { result ≡ word_in digits.now }
 {

@@ -24,7 +24,7 @@ pub record Rows : Type 0 where
 abbrev pub HasRows : PartData → Rows → List (List ℕ) → Type 0
 HasRows part r lines = (r.part ≡ part) × AreGood part lines r.rows
 
--- memory may be wanting at a line: it is good, as are those before it
+-- the lines and one more after them are good: only at such a line may memory be wanting
 abbrev pub AreGoodWith : PartData → List (List ℕ) → List ℕ → Type 0
 AreGoodWith part lines line = (rows : List PlanRow) × AreGood part (lines ++ line ∷ []) rows
 

@@ -23,7 +23,8 @@ queue_of given held out = record { given = given; held = held; out = out }
 abbrev pub with_given : Queue → List ℕ → Queue
 with_given q more = record { given = q.given ++ more; held = q.held; out = q.out }
 
--- the number of all bits of the words read out
+-- the number of all bits of the words read out; here and below `reads` gives the words that a device reads out of the
+-- bytes given to it
 abbrev pub bits_read : (List ℕ → List ℕ) → List ℕ → ℕ
 bits_read reads given = 32 * length (reads given)
 

@@ -17,7 +17,8 @@ pub fn five_ones_reset()
 {}
 
 /// The device of a tap took the bytes that its port gives, or those up to its stop; the words due are those after the
-/// one whose bits go out; and its state is that of these bytes, where FAR counts the words that were taken.
+/// one whose bits go out; and its state (`Device::state`) is that of these bytes, where FAR counts the words that the
+/// port took.
 pub fn devices_take_what_is_given()
     ensures taken { OfEachPort (λ part d p. DeviceStandsFor part on_the_bench false d (bytes_taken part p)) }
     ensures due { OfEachPort (λ part d p. due_count d.registers.due ≡ port_words_due part p) }

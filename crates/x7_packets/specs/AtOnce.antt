@@ -1,5 +1,5 @@
--- What a cutter takes at once: no-ops in a row, a write of one word, a short write, and a short gap with the sync word
--- after it (UG470, packet types).
+-- What a cutter takes at once: a write of one word, a short write, and a short gap with the sync word after it (this
+-- project's choice; UG470, packet types, has the packets). No-ops in a row are in Nops.
 use Rattle.std.specs.Prelude.{◌≡◌, ℕ, ◌+◌, ◌*◌, ◌^◌, ◌<◌, ◌≤◌, List, [], ◌++◌, length, take, drop, Some}
 use Rattle.std.specs.Borrow.{Bor}
 use Rattle.x7_words.specs.Word.{bytes_of_word}
@@ -25,7 +25,7 @@ longest_short_write = 68
 abbrev pub longest_short_gap : ℕ
 longest_short_gap = 32
 
--- how many bytes must be left of a piece for a short gap to be taken at once
+-- how many bytes must be left of a piece for a short gap to be taken at once: those, and a word more
 abbrev pub short_gap_room : ℕ
 short_gap_room = 36
 

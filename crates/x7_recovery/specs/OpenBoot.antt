@@ -28,8 +28,8 @@ use Rattle.x7_recovery.specs.OpenSlot.{BeginsAsImage, Opened, image_of_flash}
 
 -- ---- the attempt at the update
 
--- what an attempt at an update keeps that an IPROG of the attempt at power led to: the start address in WBSTAR, and the
--- attempt at power, which did not fail
+-- what is kept over the reset between the attempt at power, which obeyed an IPROG, and the attempt at the update: the
+-- start address in WBSTAR, and the attempt at power, which did not fail
 abbrev pub kept_at_update : ℕ → Kept
 kept_at_update start = record { wbstar = start; timer = 0; bspi = 0; kind = Iprog; before = Some (record { kind = Power; cause = None; ignored = false }) }
 

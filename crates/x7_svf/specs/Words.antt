@@ -86,12 +86,12 @@ run_words (i ∷ n ∷ t ∷ []) = run_if (is_key i (codes "IDLE") && is_key t (
 run_words (n ∷ t ∷ x ∷ s ∷ []) = run_if (is_key t (codes "TCK") && is_time x && is_key s (codes "SEC")) n
 run_words _ = None
 
--- the statement of the words after ENDIR and ENDDR
+-- the statement of the words after ENDIR or ENDDR: IDLE alone
 abbrev pub end_words : List (List ℕ) → Option Statement
 end_words (w ∷ []) = some_if (is_key w (codes "IDLE")) statement.Nothing
 end_words _ = None
 
--- the statement of the words after HIR, HDR, TIR and TDR: no other device stands in the chain
+-- the statement of the words after HIR, HDR, TIR or TDR: 0 alone, as no other device stands in the chain
 abbrev pub zero_words : List (List ℕ) → Option Statement
 zero_words (w ∷ []) = some_if (is_key w (codes "0")) statement.Nothing
 zero_words _ = None

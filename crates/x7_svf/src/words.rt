@@ -158,7 +158,7 @@ fn run_of(words: &[&[u8]]) -> Option<Stored>
     }
 }
 
-/// The statement of the words after ENDIR and ENDDR.
+/// The statement of the words after ENDIR or ENDDR: IDLE alone.
 fn end(words: &[&[u8]]) -> Option<Stored>
     ensures { IsStored [] result (end_words (word_list words.now)) }
 {
@@ -168,7 +168,7 @@ fn end(words: &[&[u8]]) -> Option<Stored>
     }
 }
 
-/// The statement of the words after HIR, HDR, TIR and TDR.
+/// The statement of the words after HIR, HDR, TIR or TDR: 0 alone, as no other device stands in the chain.
 fn no_others(words: &[&[u8]]) -> Option<Stored>
     ensures { IsStored [] result (zero_words (word_list words.now)) }
 {

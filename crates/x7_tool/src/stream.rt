@@ -1,4 +1,4 @@
-//! Streams that are read whole, each of a limit of its own.
+//! Streams that are read whole, each within the limit of a stream, whatever the others have.
 ghost use Rattle.std.specs.Prelude.{◌≡◌, ◌≤◌, [], ◌∷◌, IfErr, IfOk, length};
 ghost use Rattle.x7_words.specs.Input.{AsksFew, InputsStay};
 ghost use Rattle.x7_tool.specs.Outcome.{stream_data};
@@ -19,7 +19,7 @@ pub(crate) struct Stream {
     pub(crate) start: usize,
 }
 
-/// A stream of its own limit, which is judged before its header.
+/// A stream, read whole: one that is too large is refused before its header is looked at.
 pub(crate) fn read_stream<'w, I: Inputs>(
     alloc: Global,
     inputs: &mut I,
