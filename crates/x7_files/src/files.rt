@@ -11,7 +11,7 @@ use std::fs;
 use std::io::{ErrorKind, Read, Write};
 use std::marker::Model;
 use std::rt::Files;
-use x7_words::{Failed, Inputs, SelectFault, Sink, count_end, next_count};
+use x7_words::{Failed, Inputs, SelectFault, Sink, ends_counted, raised};
 
 /// Why a file was not opened, by the error's kind. Only a file that isn't there is missing.
 fn refused(kind: ErrorKind) -> SelectFault
@@ -31,8 +31,8 @@ pub(crate) fn count_refusal(kind: ErrorKind, faults: &mut u64, absences: &mut u6
 {
     let fault = refused(kind);
     match fault {
-        SelectFault::Missing => *absences = next_count(*absences),
-        SelectFault::Failed => *faults = next_count(*faults),
+        SelectFault::Missing => *absences = raised(*absences),
+        SelectFault::Failed => *faults = raised(*faults),
     }
     fault
 }
@@ -114,7 +114,7 @@ impl<'r, R: Files> Inputs for FileInputs<'r, R> {
     {
         self.file = None;
         self.refusal = None;
-        self.selects = next_count(self.selects);
+        self.selects = raised(self.selects);
         self.given = 0;
         match fs::open(self.rt, name) {
             Ok(file) => {
@@ -146,13 +146,13 @@ impl<'r, R: Files> Inputs for FileInputs<'r, R> {
         };
         match read_once(file, buf) {
             Ok(count) => {
-                self.ends = count_end(count, self.ends);
+                self.ends = ends_counted(count, self.ends);
                 self.given = self.given.saturating_add(count as u64);
                 Ok(count)
             }
             Err(Failed) => {
                 self.file = None;
-                self.faults = next_count(self.faults);
+                self.faults = raised(self.faults);
                 Err(Failed)
             }
         }
@@ -201,7 +201,7 @@ impl<W: Write + Drop> Sink for StdSink<W> {
         match self.writer.write(piece) {
             Ok(count) if count > 0 || piece.is_empty() => Ok(count),
             _ => {
-                self.faults = next_count(self.faults);
+                self.faults = raised(self.faults);
                 Err(Failed)
             }
         }

@@ -9,7 +9,7 @@ use crate::calls::Calls;
 use crate::record::Record;
 use std::alloc::Global;
 use std::marker::Model;
-use x7_words::{ERASED_BYTE, Failed, Flash, NoMemory, SECTOR_BYTES, SelectFault, next_count};
+use x7_words::{ERASED_BYTE, Failed, Flash, NoMemory, SECTOR_BYTES, SelectFault, raised};
 
 /// A write that is torn: the number of its call, and the pattern of the bits that stay old.
 #[derive(Clone, Copy, Drop)]
@@ -209,7 +209,7 @@ impl MemoryFlash {
         if self.next_call().is_ok() && self.writes.has_room(count) {
             return Ok(());
         }
-        self.write_faults = next_count(self.write_faults);
+        self.write_faults = raised(self.write_faults);
         Err(Failed)
     }
 
@@ -235,7 +235,7 @@ impl MemoryFlash {
             return Ok(());
         }
         self.stopped = true;
-        self.write_faults = next_count(self.write_faults);
+        self.write_faults = raised(self.write_faults);
         Err(Failed)
     }
 }
@@ -267,11 +267,11 @@ impl Flash for MemoryFlash {
         let is_own = self.name.as_str() == name;
         self.asked = self.asked || is_own;
         let Ok(()) = self.next_call() else {
-            self.read_faults = next_count(self.read_faults);
+            self.read_faults = raised(self.read_faults);
             return Err(SelectFault::Failed);
         };
         if !is_own {
-            self.absences = next_count(self.absences);
+            self.absences = raised(self.absences);
             return Err(SelectFault::Missing);
         }
         self.attached = true;
@@ -298,7 +298,7 @@ impl Flash for MemoryFlash {
         ensures faults { IsLaterCount self.old.read_faults self.new.read_faults }
     {
         let Ok(()) = self.next_call() else {
-            self.read_faults = next_count(self.read_faults);
+            self.read_faults = raised(self.read_faults);
             return Err(Failed);
         };
         let place = place as usize;

@@ -8,7 +8,7 @@ use crate::calls::Calls;
 use crate::put::{Put, left_at, next_place, place_of};
 use std::alloc::Global;
 use std::marker::Model;
-use x7_words::{Failed, Inputs, NoMemory, SelectFault, count_end, next_count};
+use x7_words::{Failed, Inputs, NoMemory, SelectFault, ends_counted, raised};
 
 /// Inputs in memory, known whole: what was put under each name last is what a select of it gives.
 ///
@@ -121,10 +121,10 @@ impl Inputs for MemoryInputs {
     {
         self.selected = None;
         self.place = 0;
-        self.selects = next_count(self.selects);
+        self.selects = raised(self.selects);
         self.asked = place_of(&self.puts, name);
         let Ok(()) = self.calls.next() else {
-            self.faults = next_count(self.faults);
+            self.faults = raised(self.faults);
             return Err(SelectFault::Failed);
         };
         if self.asked.is_none() {
@@ -154,13 +154,13 @@ impl Inputs for MemoryInputs {
         };
         let Ok(()) = self.calls.next() else {
             self.selected = None;
-            self.faults = next_count(self.faults);
+            self.faults = raised(self.faults);
             return Err(Failed);
         };
         let left = left_at(&self.puts, which, self.place);
         let count = buf.len().min(self.most).min(left.len());
         buf[..count].copy_from_slice(&left[..count]);
-        self.ends = count_end(count, self.ends);
+        self.ends = ends_counted(count, self.ends);
         self.place += count;
         Ok(count)
     }

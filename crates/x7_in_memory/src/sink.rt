@@ -6,7 +6,7 @@ ghost use Rattle.x7_in_memory.specs.Memory.{no_calls, with_failing_call, write_f
 use crate::calls::Calls;
 use std::alloc::Global;
 use std::marker::Model;
-use x7_words::{Failed, NoMemory, Sink, next_count};
+use x7_words::{Failed, NoMemory, Sink, raised};
 
 /// A sink in memory with a fixed room, known whole.
 ///
@@ -92,7 +92,7 @@ impl Sink for MemorySink {
         let is_planned = self.calls.next().is_err();
         let free = self.room - self.bytes.len();
         if is_planned || free == 0 && piece.len() > 0 {
-            self.faults = next_count(self.faults);
+            self.faults = raised(self.faults);
             return Err(Failed);
         }
         let count = piece.len().min(self.most).min(free);

@@ -10,7 +10,7 @@ pub const SECTOR_BYTES: u64 = 65_536;
 /// What an erase sets each byte to.
 pub const ERASED_BYTE: u8 = 0xFF;
 
-/// The most bytes of a flash.
+/// The most bytes of a flash: 128 MiB (this project's choice).
 pub const FLASH_LIMIT: u64 = 134_217_728;
 
 /// A flash: bytes at places from 0, which are read, erased and programmed once it is attached under its name.
@@ -18,7 +18,7 @@ pub const FLASH_LIMIT: u64 = 134_217_728;
 /// A power loss may stop a flash at any moment. Outside a write the flash's bytes are found then; within one each bit
 /// of the write's range is old or its target. A write takes one moment at most.
 ///
-/// What was read is seen until the next write, of which no clause says that anything is seen after it.
+/// What was read stays seen until the next write; no clause says that anything is seen after one.
 ///
 /// The counts only rise, by at least one at each fault or absence. A count that has reached the
 /// last u64 stays there, and counts as risen.

@@ -11,7 +11,7 @@ use std::fs::{self, OpenFile, OpenOptions};
 use std::io::{self, ErrorKind, Read, Seek, SeekFrom, Write};
 use std::marker::Model;
 use std::rt::Files;
-use x7_words::{ERASED_BYTE, Failed, Flash, SECTOR_BYTES, SelectFault, next_count};
+use x7_words::{ERASED_BYTE, Failed, Flash, SECTOR_BYTES, SelectFault, raised};
 
 /// The number of a file's bytes: where its end is. A folder is no file.
 fn extent_of<F: OpenFile + Seek>(file: &mut F) -> io::Result<u64>
@@ -241,7 +241,7 @@ impl<'r, R: Files> Flash for FileFlash<'r, R> {
         if read_from(file, place, buf).is_ok() {
             return Ok(());
         }
-        self.faults = next_count(self.faults);
+        self.faults = raised(self.faults);
         Err(Failed)
     }
 
@@ -257,7 +257,7 @@ impl<'r, R: Files> Flash for FileFlash<'r, R> {
         if erase_from(file, sector * SECTOR_BYTES).is_ok() {
             return Ok(());
         }
-        self.write_faults = next_count(self.write_faults);
+        self.write_faults = raised(self.write_faults);
         Err(Failed)
     }
 
@@ -273,7 +273,7 @@ impl<'r, R: Files> Flash for FileFlash<'r, R> {
         if program_from(file, place, given).is_ok() {
             return Ok(());
         }
-        self.write_faults = next_count(self.write_faults);
+        self.write_faults = raised(self.write_faults);
         Err(Failed)
     }
 }
