@@ -11,12 +11,12 @@ abbrev pub row_if_any : List ℕ → List (List ℕ)
 row_if_any [] = []
 row_if_any (x ∷ xs) = (x ∷ xs) ∷ []
 
--- the rows of n elements, the first of which begins with the elements of an open row
+-- the elements by rows of n, of which the first begins with the elements of an open row
 abbrev pub rows_from : ℕ → List ℕ → List ℕ → List (List ℕ)
-rows_from n part [] = row_if_any part
-rows_from n part (x ∷ xs) = if length part + 1 == n then (part ++ x ∷ []) ∷ rows_from n [] xs else rows_from n (part ++ x ∷ []) xs
+rows_from n open_row [] = row_if_any open_row
+rows_from n open_row (x ∷ xs) = if length open_row + 1 == n then (open_row ++ x ∷ []) ∷ rows_from n [] xs else rows_from n (open_row ++ x ∷ []) xs
 
--- the rows of n elements, the last of which may be shorter
+-- the elements by rows of n, of which the last may be shorter
 abbrev pub rows : ℕ → List ℕ → List (List ℕ)
 rows n xs = rows_from n [] xs
 
@@ -34,9 +34,9 @@ row_words = 8
 abbrev pub row_bytes : ℕ
 row_bytes = 32
 
--- the line of a row: the word that it begins with, the text of each element, and the line end
+-- the line of a row: its keyword, the text of each element, and the line end
 abbrev pub line : List ℕ → (ℕ → List ℕ) → List ℕ → List ℕ
-line word text row = word ++ flat_map text row ++ 10 ∷ []
+line keyword text row = keyword ++ flat_map text row ++ 10 ∷ []
 
 -- a word of a `data` line: a space and eight digits
 abbrev pub spaced : ℕ → List ℕ
@@ -50,19 +50,19 @@ bytes_text bs = flat_map (line (codes "bytes ") hex_byte) (rows row_bytes bs)
 abbrev pub data_text : List ℕ → List ℕ
 data_text ws = flat_map (line (codes "data") spaced) (rows row_words ws)
 
--- how many bytes of text a full `data` line has, with its end: its word, nine for each of eight words, and the line end
+-- how many bytes of text a full `data` line has: four of its keyword, nine of each word, and the line end
 abbrev pub data_line_size : ℕ
 data_line_size = 77
 
--- how many bytes of text a full `bytes` line has, with its end: its word, two for each of 32 bytes, and the line end
+-- how many bytes of text a full `bytes` line has: six of its keyword and a space, two of each byte, and the line end
 abbrev pub bytes_line_size : ℕ
 bytes_line_size = 71
 
 -- ---- the lines of rows element by element, where i elements stand in the open line (0 where none is open)
 
--- what stands before an element: the line's word before its first one
+-- what stands before an element: the line's keyword before its first one
 abbrev pub line_start : List ℕ → ℕ → List ℕ
-line_start word i = if i == 0 then word else []
+line_start keyword i = if i == 0 then keyword else []
 
 -- what stands after an element: the line end after the one that fills the line
 abbrev pub line_end : ℕ → ℕ → List ℕ
@@ -74,12 +74,12 @@ next_in_line n i = if i + 1 == n then 0 else i + 1
 
 -- what one more element adds to the text
 abbrev pub element_text : ℕ → List ℕ → (ℕ → List ℕ) → ℕ → ℕ → List ℕ
-element_text n word text i x = line_start word i ++ text x ++ line_end n i
+element_text n keyword text i x = line_start keyword i ++ text x ++ line_end n i
 
 -- what elements add to the text; the last line stays open unless it is full
 abbrev pub open_text : ℕ → List ℕ → (ℕ → List ℕ) → ℕ → List ℕ → List ℕ
-open_text n word text i [] = []
-open_text n word text i (x ∷ xs) = element_text n word text i x ++ open_text n word text (next_in_line n i) xs
+open_text n keyword text i [] = []
+open_text n keyword text i (x ∷ xs) = element_text n keyword text i x ++ open_text n keyword text (next_in_line n i) xs
 
 -- the count of elements in the open line after some elements
 abbrev pub in_line_after : ℕ → ℕ → List ℕ → ℕ
@@ -94,17 +94,17 @@ open_data i ws = open_text row_words (codes "data") spaced i ws
 abbrev pub open_bytes : ℕ → List ℕ → List ℕ
 open_bytes i bs = open_text row_bytes (codes "bytes ") hex_byte i bs
 
--- the most bytes of text that one word adds: the line's word, a space and eight digits, and the line end
-abbrev pub word_size : ℕ
-word_size = 14
+-- the most bytes of text that one word adds: the line's keyword, a space and eight digits, and the line end
+abbrev pub word_text_limit : ℕ
+word_text_limit = 14
 
--- the most bytes of text that one byte adds: the line's word, two digits, and the line end
-abbrev pub byte_size : ℕ
-byte_size = 9
+-- the most bytes of text that one byte adds: the line's keyword and a space, two digits, and the line end
+abbrev pub byte_text_limit : ℕ
+byte_text_limit = 9
 
--- the most bytes of text that the rows of n bytes add, whatever stands in the open line: three for each, and sixteen
-abbrev pub rows_size : ℕ → ℕ
-rows_size n = 3 * n + 16
+-- the most bytes of text that n bytes add to rows, whatever stands in the open line: three for each, and sixteen
+abbrev pub rows_text_limit : ℕ → ℕ
+rows_text_limit n = 3 * n + 16
 
 -- bytes were put to `bytes` lines, as text of at most this size: the open line had
 -- `in_line` bytes, and now has `next` of them
