@@ -89,9 +89,9 @@ impl Sink for MemorySink {
         ensures after { self.new ≡ after_write self.old piece.now }
         ensures faults { IsLaterCount self.old.faults self.new.faults }
     {
-        let is_planned = self.calls.next().is_err();
+        let is_to_fail = self.calls.next().is_err();
         let free = self.room - self.bytes.len();
-        if is_planned || free == 0 && piece.len() > 0 {
+        if is_to_fail || free == 0 && piece.len() > 0 {
             self.faults = raised(self.faults);
             return Err(Failed);
         }

@@ -3,7 +3,7 @@ ghost use Rattle.std.specs.Prelude.{◌≡◌, ◌+◌, ◌<◌, ◌≤◌, ◌^
 ghost use Rattle.std.specs.Io.KnownBytes.{Consumes};
 ghost use Rattle.std.specs.Io.Seek.{MovesTo};
 ghost use Rattle.x7_words.specs.Count.{IsLaterCount, raised};
-ghost use Rattle.x7_files.specs.Files.{after_opening, file_tells, known_flash, Clears, ClearsAt, EndsAt, IsExtent, ReadsAt, RefusedFor, TriesWrite, WhileOpen, WritesAt};
+ghost use Rattle.x7_files.specs.Files.{after_attach, file_tells, known_flash, Clears, ClearsAt, EndsAt, IsExtent, ReadsAt, RefusedFor, TriesWrite, WhileOpen, WritesAt};
 ghost use Rattle.x7_words.specs.Flash.{erased_sector, sector_bytes, sector_place, zip_with};
 
 use super::count_refusal;
@@ -193,7 +193,7 @@ impl<'r, R: Files> Flash for FileFlash<'r, R> {
     ghost only_now = { λ _ _ _. tt };
 
     fn attach(&mut self, name: &str) -> Result<(), SelectFault>
-        ensures after { self.new ≡ after_opening self.old result self.new }
+        ensures after { self.new ≡ after_attach self.old result self.new }
         ensures extent { OnOk result
             (IsExtent (file_tells R.File.stream_position R.File.stream_bytes) self.new.extent self.new.file) }
         ensures refused { IfErr result (RefusedFor self.new.refusal) }
