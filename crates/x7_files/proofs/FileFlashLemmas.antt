@@ -4,7 +4,7 @@ use Rattle.std.proofs.lemmas.List.{append-nil, length-append}
 use Rattle.std.proofs.lemmas.List.Folds.{concat-append}
 use Rattle.std.specs.List.{concat}
 use Rattle.x7_words.specs.Count.{HasRisen, raised}
-use Rattle.x7_words.specs.Flash.{Elapses, OnlyReads, OnlyWrites, Unattached, Unwritten}
+use Rattle.x7_words.specs.Flash.{Elapses, OnlyReads, OnlyWrites, FlashRefuses, Unwritten}
 use Rattle.x7_words.proofs.CountLemmas.{raised_risen}
 use Rattle.x7_files.specs.Files.{Clears, ClearsAt, ClearsPieces, IsExtent, RealFlash, KnowsOfFile, after_attach, known_flash}
 use Rattle.x7_words.specs.declared.input.Failed.{Failed as FailedCall}
@@ -29,7 +29,7 @@ attached_err old new (Ok _) e = tt
 attached_err old new (Err _) e = ap (λ f. is_some f.file) e
 
 -- an attach that is not Ok counts what it answers
-pub attached_refused : {F : Type 0} → (old new : RealFlash F) (answer : Result (Unit {0}) SelectFault) → new ≡ after_attach old answer new → IfErr answer (Unattached (known_flash old) (known_flash new))
+pub attached_refused : {F : Type 0} → (old new : RealFlash F) (answer : Result (Unit {0}) SelectFault) → new ≡ after_attach old answer new → IfErr answer (FlashRefuses (known_flash old) (known_flash new))
 attached_refused old new (Ok _) e = tt
 attached_refused old new (Err Missing) e = raised_risen old.absences new.absences (ap (λ f. f.absences) e)
 attached_refused old new (Err Failed) e = raised_risen old.faults new.faults (ap (λ f. f.faults) e)

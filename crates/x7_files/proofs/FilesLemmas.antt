@@ -4,7 +4,7 @@ use Rattle.std.proofs.lemmas.Bool.Decides.{nat_tests}
 use Rattle.std.proofs.lemmas.List.{length-take-le}
 use Rattle.std.specs.declared.io.ErrorKind.{ErrorKind}
 use Rattle.x7_words.specs.Count.{added, ends_counted, raised}
-use Rattle.x7_words.specs.Input.{Asks, Opens, ReadFails, Refuses, TakesInput}
+use Rattle.x7_words.specs.Input.{Asks, Opens, ReadFails, InputsRefuse, TakesInput}
 use Rattle.x7_words.proofs.CountLemmas.{raised_risen}
 use Rattle.x7_files.specs.Files.{RealInputs, after_select, known_inputs}
 use Rattle.x7_words.specs.declared.input.Failed.{Failed as FailedRead}
@@ -17,7 +17,7 @@ opened_ok old new rest refusal name (Ok _) e = record { selected = ap (λ f. f.s
 opened_ok old new rest refusal name (Err fault) e = tt
 
 -- an open that is not Ok counts what it answers
-pub opened_refused : (old new : RealInputs) (rest : Option (List ℕ)) (refusal : Option ErrorKind) (name : List ℕ) (answer : Result (Unit {0}) SelectFault) → new ≡ after_select old rest refusal answer → IfErr answer (Refuses (known_inputs old) name (known_inputs new))
+pub opened_refused : (old new : RealInputs) (rest : Option (List ℕ)) (refusal : Option ErrorKind) (name : List ℕ) (answer : Result (Unit {0}) SelectFault) → new ≡ after_select old rest refusal answer → IfErr answer (InputsRefuse (known_inputs old) name (known_inputs new))
 opened_refused old new rest refusal name (Ok _) e = tt
 opened_refused old new rest refusal name (Err Missing) e = inr (raised_risen old.absences new.absences (ap (λ f. f.absences) e))
 opened_refused old new rest refusal name (Err Failed) e = raised_risen old.faults new.faults (ap (λ f. f.faults) e)

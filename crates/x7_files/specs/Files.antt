@@ -178,8 +178,8 @@ known_flash f = record {
   moments = 0;
 }
 
--- the flash after an attach with this answer, which opened the file that the new one has: each fault and each absence is
--- counted once
+-- the flash after an attach with this answer, which opened the file that the new one has: each fault and each absence
+-- is counted once
 abbrev pub after_attach : {F : Type 0} → RealFlash F → Result (Unit {0}) SelectFault → RealFlash F → RealFlash F
 after_attach old (Ok _) new = record old { file = new.file; extent = new.extent; refusal = new.refusal }
 after_attach old (Err fault) new =

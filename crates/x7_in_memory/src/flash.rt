@@ -196,8 +196,8 @@ impl MemoryFlash {
         Ok(())
     }
 
-    /// Begins a write of `count` bytes: its call has the next number, and is refused where that call is to fail, or where
-    /// the record has no room for the write.
+    /// Begins a write of `count` bytes: its call has the next number, and is refused where that call is to fail, or
+    /// where the record has no room for the write.
     fn begin_write(&mut self, count: usize) -> Result<(), Failed>
         ensures answer { is_err result ≡ write_refused self.old count }
         ensures ok { OnOk result (self.new ≡ begun self.old) }

@@ -100,8 +100,8 @@ pub record AsksFor (old : FlashState) (name : List ℕ) (new : FlashState) : Typ
   pub no_other : (other : List ℕ) → IsTrue (new.names other) → IsTrue (old.names other) ⊎ (other ≡ name)
 
 -- the counts of faults and of absences fit a u64
-abbrev pub FlashFits : FlashState → Type 0
-FlashFits state = (state.faults < 2 ^ 64) × (state.absences < 2 ^ 64)
+abbrev pub FlashCountsFit : FlashState → Type 0
+FlashCountsFit state = (state.faults < 2 ^ 64) × (state.absences < 2 ^ 64)
 
 -- the flash failed: its count of faults has risen
 abbrev pub FlashFails : FlashState → FlashState → Type 0
@@ -109,9 +109,9 @@ FlashFails old new = HasRisen old.faults new.faults
 
 -- why a flash was not attached: its name is missing, or the flash failed; the count of absences, or of faults, has
 -- risen
-abbrev pub Unattached : FlashState → FlashState → SelectFault → Type 0
-Unattached old new Missing = HasRisen old.absences new.absences
-Unattached old new Failed = FlashFails old new
+abbrev pub FlashRefuses : FlashState → FlashState → SelectFault → Type 0
+FlashRefuses old new Missing = HasRisen old.absences new.absences
+FlashRefuses old new Failed = FlashFails old new
 
 -- ---- writing
 

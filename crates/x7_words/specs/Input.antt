@@ -86,7 +86,7 @@ pub record AsksOnce (old new : InputsState) : Type 0 where
   pub ends : new.ends ≤ old.ends
 
 -- at most this many inputs were asked for, and at most as many ends of inputs were read
-pub record AsksFew (old : InputsState) (count : ℕ) (new : InputsState) : Type 0 where
+pub record AsksAtMost (old : InputsState) (count : ℕ) (new : InputsState) : Type 0 where
   pub selects : new.selects ≤ old.selects + count
   pub ends : new.ends ≤ old.ends + count
 
@@ -106,6 +106,6 @@ pub record ReadFails (old new : InputsState) : Type 0 where
   pub ends : new.ends ≤ old.ends
 
 -- why a name was not selected
-abbrev pub Refuses : InputsState → List ℕ → InputsState → SelectFault → Type 0
-Refuses old name new Missing = Misses old name new
-Refuses old name new Failed = InputsFail old new
+abbrev pub InputsRefuse : InputsState → List ℕ → InputsState → SelectFault → Type 0
+InputsRefuse old name new Missing = Misses old name new
+InputsRefuse old name new Failed = InputsFail old new

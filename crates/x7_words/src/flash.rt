@@ -1,6 +1,6 @@
 //! A flash that is read, erased and programmed at places.
 ghost use Rattle.std.specs.Prelude.{◌≡◌, ℕ, List, ◌+◌, ◌<◌, ◌≤◌, ◌^◌, length, Some, true, false, IfErr, OnOk, OnErr, slice_range, option_map};
-ghost use Rattle.x7_words.specs.Flash.{AsksFor, Elapses, FlashFails, FlashFits, FlashState, FlashStays, IsSized, KnowsBytes, OnlyReads, OnlyWrites, Sees, TornFrom, Unattached, IfKnown, WithinWrite, WriteFails, cleared, erased, erased_sector, programmed, sector_bytes, sector_place};
+ghost use Rattle.x7_words.specs.Flash.{AsksFor, Elapses, FlashFails, FlashCountsFit, FlashState, FlashStays, IsSized, KnowsBytes, OnlyReads, OnlyWrites, Sees, TornFrom, FlashRefuses, IfKnown, WithinWrite, WriteFails, cleared, erased, erased_sector, programmed, sector_bytes, sector_place};
 
 use crate::input::{Failed, SelectFault};
 
@@ -32,13 +32,13 @@ pub trait Flash {
     /// Attaches the flash of this name. After an error none is attached.
     fn attach(&mut self, name: &str) -> Result<(), SelectFault>
         ensures ok { OnOk result ((state self.new).attached ≡ true) }
-        ensures refused { IfErr result (Unattached (state self.old) (state self.new)) }
+        ensures refused { IfErr result (FlashRefuses (state self.old) (state self.new)) }
         ensures err { OnErr result ((state self.new).attached ≡ false) }
         ensures asks { AsksFor (state self.old) name.now (state self.new) }
         ensures stays { FlashStays (state self.old) (state self.new) (found_since self.old) (found_since self.new) }
         ensures sized { IsSized (state self.new) }
         ensures bytes { KnowsBytes (state self.new) }
-        ensures fits { FlashFits (state self.new) };
+        ensures fits { FlashCountsFit (state self.new) };
 
     /// The number of the attached flash's bytes.
     fn size(&self) -> u64

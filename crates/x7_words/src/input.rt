@@ -1,6 +1,6 @@
 //! Inputs that are read by name, and what can go wrong with the outside.
 ghost use Rattle.std.specs.Prelude.{◌≡◌, ◌<◌, ◌≤◌, length, take, true, false, IfErr, IfOk, OnOk, OnErr};
-ghost use Rattle.x7_words.specs.Input.{InputsState, Asks, AsksForNone, AsksOnce, AtEnd, InputCountsFit, Opens, ReadFails, Refuses, InputsStay, TakesInput};
+ghost use Rattle.x7_words.specs.Input.{InputsState, Asks, AsksForNone, AsksOnce, AtEnd, InputCountsFit, Opens, ReadFails, InputsRefuse, InputsStay, TakesInput};
 
 use std::alloc::{AllocError, AllocFailed};
 
@@ -45,7 +45,7 @@ pub trait Inputs {
     /// After an error no input is selected.
     fn select(&mut self, name: &str) -> Result<(), SelectFault>
         ensures ok { OnOk result (Opens (state self.old) name.now (state self.new)) }
-        ensures refused { IfErr result (Refuses (state self.old) name.now (state self.new)) }
+        ensures refused { IfErr result (InputsRefuse (state self.old) name.now (state self.new)) }
         ensures err { OnErr result ((state self.new).selected ≡ false) }
         ensures asks { Asks name.now (state self.new) }
         ensures once { AsksOnce (state self.old) (state self.new) }
