@@ -50,10 +50,10 @@ const CODE_MASK: u32 = 0x1F;
 
 /// The command that a word of the command register calls for, by its low five bits: `Null` where these are no code.
 #[rattlefmt::skip]
-pub fn command_of(w: u32) -> Command
-    ensures { result ≡ command_by w }
+pub fn command_of(word: u32) -> Command
+    ensures { result ≡ command_by word }
 {
-    match w & CODE_MASK {
+    match word & CODE_MASK {
         1  => Command::Wcfg,
         2  => Command::Mfw,
         3  => Command::Lfrm,

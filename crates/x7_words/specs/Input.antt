@@ -60,7 +60,7 @@ InputCountsFit state = (state.faults < 2 ^ 64) × (state.absences < 2 ^ 64)
 abbrev pub InputsFail : InputsState → InputsState → Type 0
 InputsFail old new = HasRisen old.faults new.faults
 
--- the name is missing: it has no bytes where they are known, or the count of absences rose
+-- the name is missing: the map is known and lacks it, or the count of absences has risen
 abbrev pub Misses : InputsState → List ℕ → InputsState → Type 0
 Misses old name new = Lacks old.contents name ⊎ HasRisen old.absences new.absences
 
