@@ -160,8 +160,8 @@ TornFrom place target (Some old) new = (now : List ℕ) × (new ≡ Some now) ×
 abbrev pub WithinWrite : ℕ → (List ℕ → List ℕ) → Option (List ℕ) → List ℕ → Type 0
 WithinWrite place target known found = IfKnown known (λ old. IsTorn place (target old) old found)
 
--- Time went on over a write, from moment `before` to moment `now`: after a stop since a moment up to `before` the same
--- bytes may be found as before the write, and those that may be found within it.
+-- Time went on over a write, from moment `before` to moment `now`: what may be found after a stop since a moment up to
+-- `before` is what might have been found before the write, or what may be found within it.
 pub record Elapses (before now : ℕ) (found_before found_after : ℕ → List ℕ → Type 0) (within : List ℕ → Type 0) : Type 0 where
   pub later : before ≤ now
   pub nothing_else : (moment : ℕ) (found : List ℕ) → moment ≤ before → found_after moment found → found_before moment found ⊎ within found
