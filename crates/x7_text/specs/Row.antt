@@ -58,41 +58,41 @@ data_line_size = 77
 abbrev pub bytes_line_size : ℕ
 bytes_line_size = 71
 
--- ---- the lines of rows element by element, where i elements stand in the open line (0 where none is open)
+-- ---- the lines of rows element by element, where `in_line` elements stand in the open line (0 where none is open)
 
--- what stands before an element: the line's keyword before its first one
+-- what stands before an element of a line: the keyword before the first one, and else nothing
 abbrev pub line_start : List ℕ → ℕ → List ℕ
-line_start keyword i = if i == 0 then keyword else []
+line_start keyword in_line = if in_line == 0 then keyword else []
 
--- what stands after an element: the line end after the one that fills the line
+-- what stands after an element of a line: the line end after the one that fills it, and else nothing
 abbrev pub line_end : ℕ → ℕ → List ℕ
-line_end n i = if i + 1 == n then 10 ∷ [] else []
+line_end n in_line = if in_line + 1 == n then 10 ∷ [] else []
 
 -- the count of elements in the open line after one more
 abbrev pub next_in_line : ℕ → ℕ → ℕ
-next_in_line n i = if i + 1 == n then 0 else i + 1
+next_in_line n in_line = if in_line + 1 == n then 0 else in_line + 1
 
--- what one more element adds to the text
+-- the text that one more element adds
 abbrev pub element_text : ℕ → List ℕ → (ℕ → List ℕ) → ℕ → ℕ → List ℕ
-element_text n keyword text i x = line_start keyword i ++ text x ++ line_end n i
+element_text n keyword text in_line x = line_start keyword in_line ++ text x ++ line_end n in_line
 
--- what elements add to the text; the last line stays open unless it is full
+-- the text that elements add; the last line stays open unless it is full
 abbrev pub open_text : ℕ → List ℕ → (ℕ → List ℕ) → ℕ → List ℕ → List ℕ
-open_text n keyword text i [] = []
-open_text n keyword text i (x ∷ xs) = element_text n keyword text i x ++ open_text n keyword text (next_in_line n i) xs
+open_text n keyword text in_line [] = []
+open_text n keyword text in_line (x ∷ xs) = element_text n keyword text in_line x ++ open_text n keyword text (next_in_line n in_line) xs
 
 -- the count of elements in the open line after some elements
 abbrev pub in_line_after : ℕ → ℕ → List ℕ → ℕ
-in_line_after n i [] = i
-in_line_after n i (x ∷ xs) = in_line_after n (next_in_line n i) xs
+in_line_after n in_line [] = in_line
+in_line_after n in_line (x ∷ xs) = in_line_after n (next_in_line n in_line) xs
 
--- what words add to `data` lines, of which the open one has i words
+-- the text that words add to `data` lines, of which the open one has `in_line` words
 abbrev pub open_data : ℕ → List ℕ → List ℕ
-open_data i ws = open_text row_words (codes "data") spaced i ws
+open_data in_line ws = open_text row_words (codes "data") spaced in_line ws
 
--- what bytes add to `bytes` lines, of which the open one has i bytes
+-- the text that bytes add to `bytes` lines, of which the open one has `in_line` bytes
 abbrev pub open_bytes : ℕ → List ℕ → List ℕ
-open_bytes i bs = open_text row_bytes (codes "bytes ") hex_byte i bs
+open_bytes in_line bs = open_text row_bytes (codes "bytes ") hex_byte in_line bs
 
 -- the most bytes of text that one word adds: the line's keyword, a space and eight digits, and the line end
 abbrev pub word_text_limit : ℕ
@@ -122,7 +122,7 @@ pub record PutsWords (in_line : ℕ) (words : List ℕ) (old new : Vec ℕ Globa
 
 -- the end of an open line, and nothing where none is open
 abbrev pub close : ℕ → List ℕ
-close i = if i == 0 then [] else 10 ∷ []
+close in_line = if in_line == 0 then [] else 10 ∷ []
 
 -- the bytes of one `bytes` line
 abbrev pub IsByteRow : List ℕ → Type 0
