@@ -1,5 +1,6 @@
 -- A text that comes in pieces, and is taken line by line (this project's choice).
-use Rattle.std.specs.Prelude.{◌≡◌, ◌⊎◌, ◌<◌, ◌^◌, ℕ, List, [], ◌∷◌, ◌++◌, length, Option, MatchOption, Result, MatchResult, IfErr, Bor}
+use Rattle.std.specs.Prelude.{◌≡◌, ◌⊎◌, ◌<◌, ◌^◌, ℕ, List, [], ◌∷◌, ◌++◌, length, Option, MatchOption, Result, MatchResult, IfErr}
+use Rattle.std.specs.Borrow.{Bor}
 use Rattle.x7_text.specs.Lines.{split}
 
 -- what a reader keeps: what takes the lines, the beginning of the line that comes, and how many lines were taken
