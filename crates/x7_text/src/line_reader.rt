@@ -1,6 +1,6 @@
 //! A text that comes in pieces, line by line.
 ghost use Rattle.std.specs.Prelude.{◌≡◌, ◌+◌, ◌<◌, ◌^◌, ◌++◌, ◌∷◌, [], List, ℕ, length, IfErr, MatchOption, MatchResult};
-ghost use Rattle.x7_text.specs.LineReader.{CompletesLine, StandsFor, TakesEndedLines, TakesEndedLine, TakesPiece, WantsAt, WantsOnlyIn};
+ghost use Rattle.x7_text.specs.LineReader.{CompletesLine, StandsFor, TakesEndedLine, TakesEndedLines, TakesPiece, WantsAt, WantsOnlyIn};
 ghost use Rattle.x7_text.specs.Lines.{split};
 
 use crate::lines::first_line;
