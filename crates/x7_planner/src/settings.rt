@@ -2,8 +2,8 @@
 //! their values are this project's choice).
 
 use x7_regs::{
-    CONFIG_FALLBACK, DONE_CYCLE, DONE_PIPE, GLUTMASK_B, GTS_CYCLE, GTS_USER_B, GWE_CYCLE, LOCK_CYCLE,
-    MATCH_CYCLE,
+    CONFIG_FALLBACK, DONE_CYCLE, DONE_PIPE, GLUTMASK_B, GTS_CYCLE, GTS_USER_B, GWE_CYCLE,
+    LOCK_CYCLE, MATCH_CYCLE,
 };
 
 /// COR0 02003FE5: DONE rises in phase 4, GTS in phase 5 and GWE in phase 6, and startup waits for nothing.
