@@ -1,7 +1,7 @@
 -- The end of the flash shows in BOOTSTS.
 use Rattle.std.proofs.Common.{◌≡◌, ◌+◌, ◌^◌, ◌&&◌, ℕ, Bool, true, false, List, Option, None, Some, refl, ap, sym, ◌∙◌, arith}
 use Rattle.x7_part.specs.Part.{PartData}
-use Rattle.x7_regs.specs.BootStatus.{attempt_bits_by, before_bits_of, boot_status_of, word_by}
+use Rattle.x7_regs.specs.BootStatus.{attempt_bits_by, before_bits_of, boot_status_of, boot_word_by}
 use Rattle.x7_regs.specs.declared.boot_status.Attempt.{Attempt}
 use Rattle.x7_regs.specs.declared.boot_status.Cause.{Cause}
 use Rattle.x7_regs.specs.declared.boot_status.Cause.TheVariants as cause
@@ -27,7 +27,7 @@ cause_is (Some fault.Multi) e = refl
 cause_is (Some fault.Encrypted) e = refl
 cause_is (Some fault.Watchdog) e = absurd (cc e)
 
-one_bit : (kind : Kind) (ignored : Bool) (before : ℕ) → (kind ≡ Bench → ⊥) → word_by kind (attempt_bits_by kind (Some cause.Wrap) ignored) before ≡ word_by kind (attempt_bits_by kind None ignored) before + 2 ^ 6
+one_bit : (kind : Kind) (ignored : Bool) (before : ℕ) → (kind ≡ Bench → ⊥) → boot_word_by kind (attempt_bits_by kind (Some cause.Wrap) ignored) before ≡ boot_word_by kind (attempt_bits_by kind None ignored) before + 2 ^ 6
 one_bit Bench ignored before boots = absurd (boots refl)
 one_bit Power ignored before boots = omega arith
 one_bit Iprog ignored before boots = omega arith
@@ -40,9 +40,9 @@ shows : (kind : Kind) (f : Option Fault) (ignored : Bool) (before : Option Attem
     → boot_status_of (attempt_with kind (failure_of f true) ignored) before ≡ boot_status_of (attempt_with kind (failure_of f false) ignored) before + 2 ^ 6
 unfolding boot_status_of
 shows kind f ignored before boots e =
-    ap (λ (c : Option Cause). word_by kind (attempt_bits_by kind c ignored) (before_bits_of before)) (cause_is f e)
+    ap (λ (c : Option Cause). boot_word_by kind (attempt_bits_by kind c ignored) (before_bits_of before)) (cause_is f e)
     ∙ one_bit kind ignored (before_bits_of before) boots
-    ∙ ap (λ (c : Option Cause). word_by kind (attempt_bits_by kind c ignored) (before_bits_of before) + 2 ^ 6) (sym e)
+    ∙ ap (λ (c : Option Cause). boot_word_by kind (attempt_bits_by kind c ignored) (before_bits_of before) + 2 ^ 6) (sym e)
 
 pub wrap_alone : (part : PartData) (kept : Kept) (bytes : List ℕ) → state_of part kept true bytes ≡ record (state_of part kept false bytes) { bootsts = (state_of part kept true bytes).bootsts }
 wrap_alone part kept bytes = refl

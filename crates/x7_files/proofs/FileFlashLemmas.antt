@@ -4,9 +4,9 @@ use Rattle.std.proofs.lemmas.List.{append-nil, length-append}
 use Rattle.std.proofs.lemmas.List.Folds.{concat-append}
 use Rattle.std.specs.List.{concat}
 use Rattle.x7_words.specs.Count.{HasRisen, raised}
-use Rattle.x7_words.specs.Flash.{Elapses, OnlyReads, OnlyWrites, Unattached, Unwritten}
+use Rattle.x7_words.specs.Flash.{Elapses, OnlyReads, OnlyWrites, FlashRefuses, Unwritten}
 use Rattle.x7_words.proofs.CountLemmas.{raised_risen}
-use Rattle.x7_files.specs.Files.{Clears, ClearsAt, ClearsPieces, IsExtent, RealFlash, KnowsOfFile, after_opening, known_flash}
+use Rattle.x7_files.specs.Files.{Clears, ClearsAt, ClearsPieces, IsExtent, RealFlash, KnowsOfFile, after_attach, known_flash}
 use Rattle.x7_words.specs.declared.input.Failed.{Failed as FailedCall}
 use Rattle.x7_words.specs.declared.input.SelectFault.{SelectFault}
 use Rattle.x7_words.specs.declared.input.SelectFault.TheVariants.{Missing, Failed}
@@ -24,18 +24,18 @@ attached_ok t extent file (Ok _) e = open_extent t extent file e
 attached_ok t extent file (Err fault) e = tt
 
 -- an attach that is not Ok attaches nothing
-pub attached_err : {F : Type 0} → (old new : RealFlash F) (answer : Result (Unit {0}) SelectFault) → new ≡ after_opening old answer new → OnErr answer (is_some new.file ≡ false)
+pub attached_err : {F : Type 0} → (old new : RealFlash F) (answer : Result (Unit {0}) SelectFault) → new ≡ after_attach old answer new → OnErr answer (is_some new.file ≡ false)
 attached_err old new (Ok _) e = tt
 attached_err old new (Err _) e = ap (λ f. is_some f.file) e
 
 -- an attach that is not Ok counts what it answers
-pub attached_refused : {F : Type 0} → (old new : RealFlash F) (answer : Result (Unit {0}) SelectFault) → new ≡ after_opening old answer new → IfErr answer (Unattached (known_flash old) (known_flash new))
+pub attached_refused : {F : Type 0} → (old new : RealFlash F) (answer : Result (Unit {0}) SelectFault) → new ≡ after_attach old answer new → IfErr answer (FlashRefuses (known_flash old) (known_flash new))
 attached_refused old new (Ok _) e = tt
 attached_refused old new (Err Missing) e = raised_risen old.absences new.absences (ap (λ f. f.absences) e)
 attached_refused old new (Err Failed) e = raised_risen old.faults new.faults (ap (λ f. f.faults) e)
 
 -- an attach leaves the count of faults of writes
-pub attach_write_faults : {F : Type 0} → (old new : RealFlash F) (answer : Result (Unit {0}) SelectFault) → new ≡ after_opening old answer new → new.write_faults ≡ old.write_faults
+pub attach_write_faults : {F : Type 0} → (old new : RealFlash F) (answer : Result (Unit {0}) SelectFault) → new ≡ after_attach old answer new → new.write_faults ≡ old.write_faults
 attach_write_faults old new (Ok _) e = ap (λ f. f.write_faults) e
 attach_write_faults old new (Err _) e = ap (λ f. f.write_faults) e
 

@@ -1,4 +1,4 @@
--- What is known of the real inputs and sinks (this project's choice).
+-- What is known of the real inputs, flash and sinks (this project's choice).
 use Rattle.std.specs.Prelude.{◌≡◌, ◌↔◌, ◌+◌, ◌<◌, ℕ, Bool, true, false, List, [], ◌∷◌, length, take, bit_and, Option, None, Some, IfSome, is_some, Result, Ok, Err, OnOk, OnErr}
 use Rattle.std.specs.Io.KnownBytes.{Appends, Consumes, IsAtEnd, Keeps}
 use Rattle.std.specs.List.{concat}
@@ -11,20 +11,21 @@ use Rattle.x7_words.specs.declared.input.Failed.{Failed as FailedCall}
 use Rattle.x7_words.specs.declared.input.SelectFault.{SelectFault}
 use Rattle.x7_words.specs.declared.input.SelectFault.TheVariants.{Missing, Failed}
 
--- the answer where no file was opened, for this reason: `Missing` for a file that isn't there, and for nothing else
+-- the answer where no file was opened, by the kind of the error: `Missing` for a file that isn't there, and for nothing
+-- else
 abbrev pub RefusedFor : Option ErrorKind → SelectFault → Type 0
 RefusedFor None fault = ⊥
 RefusedFor (Some kind) fault = (fault ≡ Missing) ↔ (kind ≡ NotFound)
 
--- the count of faults after this answer
+-- the count of faults after a select or an attach with this answer
 abbrev pub faults_after : SelectFault → ℕ → ℕ
 faults_after Missing count = count
 faults_after Failed count = raised count
 
--- the count of absences after this answer
-abbrev pub missing_after : SelectFault → ℕ → ℕ
-missing_after Missing count = raised count
-missing_after Failed count = count
+-- the count of absences after a select or an attach with this answer
+abbrev pub absences_after : SelectFault → ℕ → ℕ
+absences_after Missing count = raised count
+absences_after Failed count = count
 
 -- files as inputs
 pub record RealInputs : Type 0 where
@@ -45,7 +46,7 @@ pub record RealInputs : Type 0 where
   -- the absences counted; the last u64 stays
   pub absences : ℕ
 
--- no count of faults or absences fell, and both fit a u64
+-- neither the count of faults nor that of absences fell, and both fit a u64
 pub record CountsFaults (old new : RealInputs) : Type 0 where
   pub faults : IsLaterCount old.faults new.faults
   pub absences : IsLaterCount old.absences new.absences
@@ -64,15 +65,15 @@ known_inputs f = record {
   absences = f.absences;
 }
 
--- what is left of an open file, as its reader knows it
+-- what is left of an open file, where its reader knows that; nothing where no file is open
 abbrev pub unread_of : {F : Type 0} → (F → Option (List ℕ)) → Option F → Option (List ℕ)
 unread_of remaining None = None
 unread_of remaining (Some file) = remaining file
 
--- the files after an open with this answer: each fault and each absence is counted once
-abbrev pub after_open : RealInputs → Option (List ℕ) → Option ErrorKind → Result (Unit {0}) SelectFault → RealInputs
-after_open f rest refusal (Ok _) = record f { selected = true; rest = rest; refusal = refusal; selects = raised f.selects; given = 0 }
-after_open f rest refusal (Err fault) =
+-- the files after a select with this answer: each fault and each absence is counted once
+abbrev pub after_select : RealInputs → Option (List ℕ) → Option ErrorKind → Result (Unit {0}) SelectFault → RealInputs
+after_select f rest refusal (Ok _) = record f { selected = true; rest = rest; refusal = refusal; selects = raised f.selects; given = 0 }
+after_select f rest refusal (Err fault) =
     record f {
       selected = false;
       rest = None;
@@ -80,27 +81,27 @@ after_open f rest refusal (Err fault) =
       selects = raised f.selects;
       given = 0;
       faults = faults_after fault f.faults;
-      absences = missing_after fault f.absences;
+      absences = absences_after fault f.absences;
     }
 
--- a read gave the first n bytes of the buffer and took them from the file, and
--- gave none only at the end or with no room
+-- a read put n bytes at the start of the buffer and took them from the file; it gave none only at the end, or where the
+-- buffer is empty
 abbrev pub ReadGives : Option (List ℕ) → Option (List ℕ) → List ℕ → ℕ → Type 0
 ReadGives old new buf n = Consumes old new (take n buf) × (n ≡ 0 → 0 < length buf → IsAtEnd new)
 
 -- what is known of a file of this type
 pub record KnowsOfFile (F : Type 0) : Type 0 where
-  -- the place at which the next read or write begins
+  -- the place, in bytes, at which the next read or write begins
   pub position : F → Option ℕ
   -- bytes of the file: those that reads will give, or those that were written, or all
   pub bytes : F → Option (List ℕ)
 
--- what is known of a file, by these two functions
+-- what a file tells of its place, and of its bytes
 abbrev pub file_tells : {F : Type 0} → (F → Option ℕ) → (F → Option (List ℕ)) → KnowsOfFile F
 file_tells position bytes = record { position = position; bytes = bytes }
 
 module _ {F : Type 0} (t : KnowsOfFile F) where
-  -- a file went to the place, as far as it knows where it is
+  -- a file went to the place, if it knows where it is
   abbrev pub StandsAt : ℕ → F → F → Type 0
   StandsAt place old there = IfSome (t.position old) (λ _. t.position there ≡ Some place)
 
@@ -177,16 +178,16 @@ known_flash f = record {
   moments = 0;
 }
 
--- the flash after an attach with this answer, which opened what the new one has:
--- each fault and each absence is counted once
-abbrev pub after_opening : {F : Type 0} → RealFlash F → Result (Unit {0}) SelectFault → RealFlash F → RealFlash F
-after_opening old (Ok _) new = record old { file = new.file; extent = new.extent; refusal = new.refusal }
-after_opening old (Err fault) new =
+-- the flash after an attach with this answer, which opened the file that the new one has: each fault and each absence
+-- is counted once
+abbrev pub after_attach : {F : Type 0} → RealFlash F → Result (Unit {0}) SelectFault → RealFlash F → RealFlash F
+after_attach old (Ok _) new = record old { file = new.file; extent = new.extent; refusal = new.refusal }
+after_attach old (Err fault) new =
     record old {
       file = None;
       refusal = new.refusal;
       faults = faults_after fault old.faults;
-      absences = missing_after fault old.absences;
+      absences = absences_after fault old.absences;
     }
 
 -- A write of the attached file was tried, and left it open: where the answer is Ok what was asked of the file was done,

@@ -2,7 +2,7 @@
 ghost use Rattle.std.specs.Prelude.{◌≡◌, ◌<◌, ◌≤◌, ◌+◌, ◌^◌, length, None, Some, true, false, is_some, IfErr, IfOk, OnOk, OnErr};
 ghost use Rattle.std.specs.Io.KnownBytes.{ReadConsumes, WriteAppends};
 ghost use Rattle.x7_words.specs.Count.{IsLaterCount, added, ends_counted, raised};
-ghost use Rattle.x7_files.specs.Files.{after_open, known_inputs, faults_after, missing_after, CountsFaults, ReadGives, RefusedFor};
+ghost use Rattle.x7_files.specs.Files.{after_select, known_inputs, faults_after, absences_after, CountsFaults, ReadGives, RefusedFor};
 
 mod flash;
 
@@ -11,10 +11,11 @@ use std::fs;
 use std::io::{ErrorKind, Read, Write};
 use std::marker::Model;
 use std::rt::Files;
-use x7_words::{Failed, Inputs, SelectFault, Sink, count_end, next_count};
+use x7_words::{Failed, Inputs, SelectFault, Sink, ends_counted, raised};
 
-/// Why a file was not opened, by the error's kind. Only a file that isn't there is missing.
-fn refused(kind: ErrorKind) -> SelectFault
+/// What a select or an attach answers where no file was opened, by the kind of the error: only a file that isn't there
+/// is missing.
+fn select_fault(kind: ErrorKind) -> SelectFault
     ensures { RefusedFor (Some kind) result }
 {
     if kind == ErrorKind::NotFound {
@@ -23,21 +24,21 @@ fn refused(kind: ErrorKind) -> SelectFault
     SelectFault::Failed
 }
 
-/// Counts a file that was not opened, by the error's kind, as an absence or a fault.
+/// Counts a file that was not opened as an absence or a fault, by the kind of the error, and says which.
 pub(crate) fn count_refusal(kind: ErrorKind, faults: &mut u64, absences: &mut u64) -> SelectFault
     ensures refused { RefusedFor (Some kind) result }
     ensures faults { faults.new ≡ faults_after result faults.old }
-    ensures absences { absences.new ≡ missing_after result absences.old }
+    ensures absences { absences.new ≡ absences_after result absences.old }
 {
-    let fault = refused(kind);
+    let fault = select_fault(kind);
     match fault {
-        SelectFault::Missing => *absences = next_count(*absences),
-        SelectFault::Failed => *faults = next_count(*faults),
+        SelectFault::Missing => *absences = raised(*absences),
+        SelectFault::Failed => *faults = raised(*faults),
     }
     fault
 }
 
-/// One read, of which every error is a fault.
+/// One read of a file; every error is a fault.
 fn read_once<F: Read>(file: &mut F, buf: &mut [u8]) -> Result<usize, Failed>
     ensures within { IfOk result (λ n. n ≤ length buf.old) }
     ensures length { length buf.new ≡ length buf.old }
@@ -85,7 +86,7 @@ impl<'r, R: Files> Model for FileInputs<'r, R> {
 }
 
 impl<'r, R: Files> FileInputs<'r, R> {
-    /// The files of the runtime. None is selected.
+    /// The files of the runtime, of which none is selected.
     pub fn new(rt: &'r R) -> FileInputs<'r, R>
         ensures { result ≡ record { selected = false; rest = None; refusal = None; selects = 0; ends = 0; given = 0; faults = 0; absences = 0 } }
     {
@@ -106,7 +107,7 @@ impl<'r, R: Files> Inputs for FileInputs<'r, R> {
     ghost state = { known_inputs };
 
     fn select(&mut self, name: &str) -> Result<(), SelectFault>
-        ensures after { self.new ≡ after_open self.old self.new.rest self.new.refusal result }
+        ensures after { self.new ≡ after_select self.old self.new.rest self.new.refusal result }
         ensures refused { IfErr result (RefusedFor self.new.refusal) }
         ensures once { self.new.selects ≤ self.old.selects + 1 }
         ensures ends { self.new.ends ≡ self.old.ends }
@@ -114,7 +115,7 @@ impl<'r, R: Files> Inputs for FileInputs<'r, R> {
     {
         self.file = None;
         self.refusal = None;
-        self.selects = next_count(self.selects);
+        self.selects = raised(self.selects);
         self.given = 0;
         match fs::open(self.rt, name) {
             Ok(file) => {
@@ -146,13 +147,13 @@ impl<'r, R: Files> Inputs for FileInputs<'r, R> {
         };
         match read_once(file, buf) {
             Ok(count) => {
-                self.ends = count_end(count, self.ends);
+                self.ends = ends_counted(count, self.ends);
                 self.given = self.given.saturating_add(count as u64);
                 Ok(count)
             }
             Err(Failed) => {
                 self.file = None;
-                self.faults = next_count(self.faults);
+                self.faults = raised(self.faults);
                 Err(Failed)
             }
         }
@@ -201,7 +202,7 @@ impl<W: Write + Drop> Sink for StdSink<W> {
         match self.writer.write(piece) {
             Ok(count) if count > 0 || piece.is_empty() => Ok(count),
             _ => {
-                self.faults = next_count(self.faults);
+                self.faults = raised(self.faults);
                 Err(Failed)
             }
         }
@@ -237,7 +238,7 @@ impl<W: Write + Drop> KnownSink<W> {
         }
     }
 
-    /// The writer, with what it holds by now.
+    /// The writer, with what it holds now.
     pub fn into_writer(self) -> W
         ensures { W.contents result ≡ self.contents }
     {

@@ -1,7 +1,7 @@
 -- Lemmas on the last input that was asked for, and on how few bytes of it are given.
 use Rattle.std.proofs.Common.{◌≡◌, ◌<◌, ◌≤◌, ◌+◌, ◌-◌, ℕ, Bool, true, false, if◌then◌else◌, List, [], ◌∷◌, ◌++◌, Option, None, Some, Result, Ok, Err, append_assoc, drop, length, length-append, map, suc, add-one, get_or, inl, inr, refl, subst, sym, ap, ◌∙◌, arith}
 use Rattle.std.specs.Prelude.{IfSome, nat_lt}
-use Rattle.x7_words.specs.Input.{Asks, AsksFew, AsksOnce, InputsState}
+use Rattle.x7_words.specs.Input.{Asks, AsksAtMost, AsksOnce, InputsState}
 use Rattle.x7_forms.specs.declared.bad_input.InputFault.TheVariants as input
 use Rattle.x7_forms.specs.Event.{Event, bad_input, bad_part, missing, no_memory, reading_failed, too_large}
 use Rattle.x7_forms.specs.Known.{Absent, Broken, Found, Held, Mishap, StreamRead, and_so, bytes_found, data_in, found, read_of, taken_whole, with_inputs, within}
@@ -31,11 +31,11 @@ pub stands_rest : (name taken : List ℕ) (limit left : ℕ) (opened mid new : I
 stands_rest name taken limit left opened mid new a r n g = record { asked = asked_on name opened new a (g.asked ∙ r.asked); given = omega (arith, n, a.given, r.takes.given, g.given) }
 
 -- an input that was asked for once, and its end read once at most
-pub few_read : (old opened new : InputsState) (limit : ℕ) → AsksOnce old opened → GivesFew opened limit new → AsksFew old 1 new
+pub few_read : (old opened new : InputsState) (limit : ℕ) → AsksOnce old opened → GivesFew opened limit new → AsksAtMost old 1 new
 few_read old opened new limit o g = record { selects = omega (arith, o.selects, g.selects); ends = omega (arith, o.ends, g.ends) }
 
 -- one of which a first turn was read, and what is after it where that was not the last
-pub few_after : (last : Bool) (old opened mid new : InputsState) (limit left : ℕ) → AsksOnce old opened → GivesFew opened limit mid → (last ≡ false → mid.ends ≤ opened.ends) → GivesFew mid left new → (last ≡ true → new.ends ≤ mid.ends) → AsksFew old 1 new
+pub few_after : (last : Bool) (old opened mid new : InputsState) (limit left : ℕ) → AsksOnce old opened → GivesFew opened limit mid → (last ≡ false → mid.ends ≤ opened.ends) → GivesFew mid left new → (last ≡ true → new.ends ≤ mid.ends) → AsksAtMost old 1 new
 few_after true old opened mid new limit left o f go g none = record { selects = omega (arith, o.selects, f.selects, g.selects); ends = omega (arith, o.ends, f.ends, none refl) }
 few_after false old opened mid new limit left o f go g none = record { selects = omega (arith, o.selects, f.selects, g.selects); ends = omega (arith, o.ends, go refl, g.ends) }
 
@@ -77,12 +77,12 @@ without_prefix_about old new name event (inr (inr h)) = about_same name event (b
 
 -- an event of one of the inputs
 pub about_among : (inputs before : List Limited) (input : Limited) (after : List Limited) (old now : InputsState) (event : Event)
-    → inputs ≡ before ++ input ∷ after → StandsAt input.name input.limit now → AsksFew old (length before + 1) now → IsAbout input.name event → StopsAmong inputs old now event
+    → inputs ≡ before ++ input ∷ after → StandsAt input.name input.limit now → AsksAtMost old (length before + 1) now → IsAbout input.name event → StopsAmong inputs old now event
 about_among inputs before input after old now event a s n (inl e) = inl e
 about_among inputs before input after old now event a s n (inr t) = inr (record { before = before; input = input; after = after; among = a; concerns = t; stands = s; asks = n })
 
 -- one of the inputs after a first one
-pub stops_after : (first : Limited) (inputs : List Limited) (old mid now : InputsState) (event : Event) → AsksFew old 1 mid → StopsAmong inputs mid now event → StopsAmong (first ∷ inputs) old now event
+pub stops_after : (first : Limited) (inputs : List Limited) (old mid now : InputsState) (event : Event) → AsksAtMost old 1 mid → StopsAmong inputs mid now event → StopsAmong (first ∷ inputs) old now event
 stops_after first inputs old mid now event n (inl e) = inl e
 stops_after first inputs old mid now event n (inr h) =
     inr (record {
@@ -157,7 +157,7 @@ limits_next f all contents ss k left less s name h e nm l fewer =
 
 -- a stream of several that isn't played
 pub limits_stop : {X : Type 0} (f : X → List ℕ) (all : List Limited) (contents : Option (List ℕ → Option (List ℕ))) (ss : List X) (k left : ℕ) (s : X) (name : List ℕ) (old mid now : InputsState) (event : Event)
-    → k < length ss → s ≡ get_or ss k s → name ≡ f s → LimitsFrom all contents k left (map f (drop k ss)) → AsksFew old k mid → AsksFew mid 1 now
+    → k < length ss → s ≡ get_or ss k s → name ≡ f s → LimitsFrom all contents k left (map f (drop k ss)) → AsksAtMost old k mid → AsksAtMost mid 1 now
     → StandsAt name left now → IsUnplayed name event → StopsAmong all old now event
 limits_stop f all contents ss k left s name old mid now event h e nm l few once stands u =
     let eq : map f (drop k ss) ≡ name ∷ map f (drop (suc k) ss) = rw nm (left_at f ss k s h e) in

@@ -1,6 +1,6 @@
 -- At which input reading stops (this project's choice).
 use Rattle.std.specs.Prelude.{◌≡◌, ◌+◌, ◌-◌, ◌⊎◌, ℕ, List, [], ◌∷◌, ◌++◌, Option, None, Some, length}
-use Rattle.x7_words.specs.Input.{AsksFew, InputsState}
+use Rattle.x7_words.specs.Input.{AsksAtMost, InputsState}
 use Rattle.x7_forms.specs.Event.{Event, no_memory}
 use Rattle.x7_forms.specs.Turn.{StandsAt}
 
@@ -42,7 +42,7 @@ pub record StopsAt (inputs : List Limited) (old now : InputsState) (event : Even
   pub among : inputs ≡ before ++ input ∷ after
   pub concerns : event.concerned ≡ input.name
   pub stands : StandsAt input.name input.limit now
-  pub asks : AsksFew old (length before + 1) now
+  pub asks : AsksAtMost old (length before + 1) now
 
 -- want of memory, or reading stopped at one of these inputs, which the event names
 abbrev pub StopsAmong : List Limited → InputsState → InputsState → Event → Type 0

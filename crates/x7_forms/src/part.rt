@@ -1,6 +1,6 @@
 //! The part of a part file.
 ghost use Rattle.std.specs.Prelude.{◌≡◌, [], ◌∷◌, IfErr};
-ghost use Rattle.x7_words.specs.Input.{AsksFew, InputsStay};
+ghost use Rattle.x7_words.specs.Input.{AsksAtMost, InputsStay};
 ghost use Rattle.x7_forms.specs.Message.{event_of};
 ghost use Rattle.x7_forms.specs.Known.{part_event, part_limit, part_of as part_due};
 ghost use Rattle.x7_forms.specs.Turn.{StandsAt};
@@ -38,7 +38,7 @@ pub fn read_part<'w, I: Inputs>(
         (λ known. part_due known name.now) (seen (λ part. part) result) }
     ensures named { IfErr result (λ r. IsNoPart name.now (event_of r)) }
     ensures stands { StandsAt name.now part_limit (I.state inputs.new) }
-    ensures once { AsksFew (I.state inputs.old) 1 (I.state inputs.new) }
+    ensures once { AsksAtMost (I.state inputs.old) 1 (I.state inputs.new) }
     ensures inputs { InputsStay (I.state inputs.old) (I.state inputs.new) }
 {
     let text = read_whole(alloc, inputs, name, PART_LIMIT)?;

@@ -1,6 +1,6 @@
 //! Reading an input in turns: each fills a buffer, which is used before the next turn.
 ghost use Rattle.std.specs.Prelude.{◌≡◌, ◌+◌, ◌-◌, ◌<◌, ◌≤◌, ◌++◌, ◌⊎◌, ℕ, List, drop, length, take, true, false, vec_len, IfErr, IfOk, OnOk};
-ghost use Rattle.x7_words.specs.Input.{Asks, AsksFew, AsksOnce, AtEnd, Opens, InputsStay, TakesInput};
+ghost use Rattle.x7_words.specs.Input.{Asks, AsksAtMost, AsksOnce, AtEnd, Opens, InputsStay, TakesInput};
 ghost use Rattle.x7_words.specs.Word.{AreBytes};
 ghost use Rattle.x7_forms.specs.Message.{event_of};
 ghost use Rattle.x7_forms.specs.Event.{no_memory, reading_failed, too_large};
@@ -173,7 +173,7 @@ pub fn read_whole<'w, I: Inputs>(
     ensures named { IfErr result (λ r. IsUnread name.now (event_of r)) }
     ensures within { IfOk result (λ whole. vec_len whole ≤ limit) }
     ensures stands { StandsAt name.now limit (I.state inputs.new) }
-    ensures once { AsksFew (I.state inputs.old) 1 (I.state inputs.new) }
+    ensures once { AsksAtMost (I.state inputs.old) 1 (I.state inputs.new) }
     ensures inputs { InputsStay (I.state inputs.old) (I.state inputs.new) }
 {
     open(inputs, name)?;

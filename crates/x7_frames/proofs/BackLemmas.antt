@@ -6,7 +6,7 @@ use Rattle.std.proofs.lemmas.List.Elements.{All-head, All-tail}
 use Rattle.std.proofs.lemmas.List.Sorted.{IsPermutation-refl}
 use Rattle.x7_words.specs.Word.{bytes_of_word, words_of_bytes}
 use Rattle.x7_text.specs.Digits.{hex_word}
-use Rattle.x7_text.specs.EitherCase.{pairs}
+use Rattle.x7_text.specs.EitherCase.{bytes_of_pairs}
 use Rattle.x7_text.specs.Lines.{has_no_end, split}
 use Rattle.x7_words.proofs.WordLemmas.{bytes_fit, length_bytes, words_back}
 use Rattle.x7_text.proofs.CaseLemmas.{pairs_back}
@@ -48,7 +48,7 @@ bare_line width row fits long = record {
   digits = flat_map hex_word row.words;
   text = refl;
   bytes = flat_map bytes_of_word row.words;
-  read = ap pairs (hex_words row.words fits.words) ∙ pairs_back (flat_map bytes_of_word row.words) (bytes_fit row.words);
+  read = ap bytes_of_pairs (hex_words row.words fits.words) ∙ pairs_back (flat_map bytes_of_word row.words) (bytes_fit row.words);
   long = length_bytes row.words ∙ ap (λ (n : ℕ). 4 * n) long;
   words = sym (ap words_of_bytes (sym (append-nil (flat_map bytes_of_word row.words))) ∙ words_back row.words [] fits.words ∙ append-nil row.words);
 }

@@ -9,16 +9,16 @@ use Rattle.std.specs.List.{flat_map}
 use Rattle.std.specs.Simd.{first_chunks}
 use Rattle.x7_words.specs.Word.{AreBytes}
 use Rattle.x7_text.specs.Digits.{hex_byte}
-use Rattle.x7_text.specs.EitherCase.{byte_of, digit_of, led, pairs}
+use Rattle.x7_text.specs.EitherCase.{byte_of, number_of_digit, byte_before, bytes_of_pairs}
 use Rattle.x7_text.proofs.CaseLemmas.{pairs_back}
 
 -- two digits a byte
-pub pairs_long : (ds bytes : List ℕ) → pairs ds ≡ Some bytes → length ds ≡ 2 * length bytes
+pub pairs_long : (ds bytes : List ℕ) → bytes_of_pairs ds ≡ Some bytes → length ds ≡ 2 * length bytes
 pairs_long [] bytes e = let same : [] ≡ bytes = same_Some [] bytes e in ap (λ (t : List ℕ). 2 * length t) same
 pairs_long (a ∷ []) bytes e = absurd (none-some bytes e)
-pairs_long (a ∷ b ∷ cs) bytes e = by (λ xs f. pairs_long cs xs f) (byte_of (digit_of a) (digit_of b)) (pairs cs) refl e
+pairs_long (a ∷ b ∷ cs) bytes e = by (λ xs f. pairs_long cs xs f) (byte_of (number_of_digit a) (number_of_digit b)) (bytes_of_pairs cs) refl e
   where
-    by : ((xs : List ℕ) → pairs cs ≡ Some xs → length cs ≡ 2 * length xs) → (o : Option ℕ) (more : Option (List ℕ)) → pairs cs ≡ more → led o more ≡ Some bytes → length (a ∷ b ∷ cs) ≡ 2 * length bytes
+    by : ((xs : List ℕ) → bytes_of_pairs cs ≡ Some xs → length cs ≡ 2 * length xs) → (o : Option ℕ) (more : Option (List ℕ)) → bytes_of_pairs cs ≡ more → byte_before o more ≡ Some bytes → length (a ∷ b ∷ cs) ≡ 2 * length bytes
     by back None more f g = absurd (none-some bytes g)
     by back (Some x) None f g = absurd (none-some bytes g)
     by back (Some x) (Some xs) f g =
@@ -38,22 +38,22 @@ unfolding after
 after_none None = refl
 after_none (Some bytes) = refl
 
-after_led : (x : ℕ) (xs : List ℕ) (o : Option (List ℕ)) → led (Some x) (after xs o) ≡ after (x ∷ xs) o
+after_led : (x : ℕ) (xs : List ℕ) (o : Option (List ℕ)) → byte_before (Some x) (after xs o) ≡ after (x ∷ xs) o
 unfolding after
 after_led x xs None = refl
 after_led x xs (Some bytes) = refl
 
-pub pairs_on : (ds more bytes : List ℕ) → pairs ds ≡ Some bytes → pairs (ds ++ more) ≡ after bytes (pairs more)
-pairs_on [] more bytes e = after_none (pairs more) ∙ ap (λ (t : List ℕ). after t (pairs more)) (same_Some [] bytes e)
+pub pairs_on : (ds more bytes : List ℕ) → bytes_of_pairs ds ≡ Some bytes → bytes_of_pairs (ds ++ more) ≡ after bytes (bytes_of_pairs more)
+pairs_on [] more bytes e = after_none (bytes_of_pairs more) ∙ ap (λ (t : List ℕ). after t (bytes_of_pairs more)) (same_Some [] bytes e)
 pairs_on (a ∷ []) more bytes e = absurd (none-some bytes e)
-pairs_on (a ∷ b ∷ cs) more bytes e = by (λ xs f. pairs_on cs more xs f) (byte_of (digit_of a) (digit_of b)) refl (pairs cs) refl e
+pairs_on (a ∷ b ∷ cs) more bytes e = by (λ xs f. pairs_on cs more xs f) (byte_of (number_of_digit a) (number_of_digit b)) refl (bytes_of_pairs cs) refl e
   where
-    by : ((xs : List ℕ) → pairs cs ≡ Some xs → pairs (cs ++ more) ≡ after xs (pairs more)) → (o : Option ℕ) → byte_of (digit_of a) (digit_of b) ≡ o → (r : Option (List ℕ)) → pairs cs ≡ r
-        → led o r ≡ Some bytes → pairs (a ∷ b ∷ cs ++ more) ≡ after bytes (pairs more)
+    by : ((xs : List ℕ) → bytes_of_pairs cs ≡ Some xs → bytes_of_pairs (cs ++ more) ≡ after xs (bytes_of_pairs more)) → (o : Option ℕ) → byte_of (number_of_digit a) (number_of_digit b) ≡ o → (r : Option (List ℕ)) → bytes_of_pairs cs ≡ r
+        → byte_before o r ≡ Some bytes → bytes_of_pairs (a ∷ b ∷ cs ++ more) ≡ after bytes (bytes_of_pairs more)
     by back None p r f g = absurd (none-some bytes g)
     by back (Some x) p None f g = absurd (none-some bytes g)
     by back (Some x) p (Some xs) f g =
-        ap₂ led p (back xs f) ∙ after_led x xs (pairs more) ∙ ap (λ (t : List ℕ). after t (pairs more)) (same_Some (x ∷ xs) bytes g)
+        ap₂ byte_before p (back xs f) ∙ after_led x xs (bytes_of_pairs more) ∙ ap (λ (t : List ℕ). after t (bytes_of_pairs more)) (same_Some (x ∷ xs) bytes g)
 
 put_rest : (n : ℕ) (bytes new : List ℕ) → take n bytes ++ (new ++ drop (length bytes - n) (drop n bytes)) ≡ take n bytes ++ new
 put_rest n bytes new =
@@ -61,21 +61,21 @@ put_rest n bytes new =
     ap (λ (t : List ℕ). take n bytes ++ t) (ap (λ (t : List ℕ). new ++ t) (drop_of_length-le (drop n bytes) (omega (arith, left))) ∙ append-nil new)
 
 -- what is read of the rest, after bytes that were read
-pub read_whole : (ds bytes new : List ℕ) (n : ℕ) (b : Bool) → pairs (take (2 * n) ds) ≡ Some (take n bytes)
-    → MatchBool b (pairs (take (length ds - 2 * n) (drop (2 * n) ds)) ≡ Some new) (pairs (take (length ds - 2 * n) (drop (2 * n) ds)) ≡ None)
-    → MatchBool b (pairs ds ≡ Some (take n bytes ++ (new ++ drop (length bytes - n) (drop n bytes)))) (pairs ds ≡ None)
+pub read_whole : (ds bytes new : List ℕ) (n : ℕ) (b : Bool) → bytes_of_pairs (take (2 * n) ds) ≡ Some (take n bytes)
+    → MatchBool b (bytes_of_pairs (take (length ds - 2 * n) (drop (2 * n) ds)) ≡ Some new) (bytes_of_pairs (take (length ds - 2 * n) (drop (2 * n) ds)) ≡ None)
+    → MatchBool b (bytes_of_pairs ds ≡ Some (take n bytes ++ (new ++ drop (length bytes - n) (drop n bytes)))) (bytes_of_pairs ds ≡ None)
 unfolding after
 read_whole ds bytes new n b e f = by b f
   where
     rest : take (length ds - 2 * n) (drop (2 * n) ds) ≡ drop (2 * n) ds
     rest = let left : length (drop (2 * n) ds) ≡ length ds - 2 * n = length-drop (2 * n) ds in take_all (length ds - 2 * n) (drop (2 * n) ds) (omega (arith, left))
 
-    whole : pairs ds ≡ after (take n bytes) (pairs (take (length ds - 2 * n) (drop (2 * n) ds)))
+    whole : bytes_of_pairs ds ≡ after (take n bytes) (bytes_of_pairs (take (length ds - 2 * n) (drop (2 * n) ds)))
     whole =
-        ap pairs (sym (take-append-drop (2 * n) ds)) ∙ pairs_on (take (2 * n) ds) (drop (2 * n) ds) (take n bytes) e ∙ ap (λ (t : List ℕ). after (take n bytes) (pairs t)) (sym rest)
+        ap bytes_of_pairs (sym (take-append-drop (2 * n) ds)) ∙ pairs_on (take (2 * n) ds) (drop (2 * n) ds) (take n bytes) e ∙ ap (λ (t : List ℕ). after (take n bytes) (bytes_of_pairs t)) (sym rest)
 
-    by : (b : Bool) → MatchBool b (pairs (take (length ds - 2 * n) (drop (2 * n) ds)) ≡ Some new) (pairs (take (length ds - 2 * n) (drop (2 * n) ds)) ≡ None)
-        → MatchBool b (pairs ds ≡ Some (take n bytes ++ (new ++ drop (length bytes - n) (drop n bytes)))) (pairs ds ≡ None)
+    by : (b : Bool) → MatchBool b (bytes_of_pairs (take (length ds - 2 * n) (drop (2 * n) ds)) ≡ Some new) (bytes_of_pairs (take (length ds - 2 * n) (drop (2 * n) ds)) ≡ None)
+        → MatchBool b (bytes_of_pairs ds ≡ Some (take n bytes ++ (new ++ drop (length bytes - n) (drop n bytes)))) (bytes_of_pairs ds ≡ None)
     by true g = whole ∙ ap (after (take n bytes)) g ∙ ap Some (sym (put_rest n bytes new))
     by false g = whole ∙ ap (after (take n bytes)) g
 
@@ -93,12 +93,12 @@ bytes_by_place (b ∷ bs) f = (f 0 (omega arith), bytes_by_place bs (λ i h. f (
 
 -- a block more
 pub block_read : (ds old new read : List ℕ) (blocks : List (List ℕ)) (k : ℕ) (d : List ℕ) → blocks ≡ first_chunks 64 (length ds / 64) ds → k < length blocks → length blocks ≡ length ds / 64
-    → get_or blocks k d ≡ flat_map hex_byte read → AreBytes read → pairs (take (64 * k) ds) ≡ Some (take (32 * k) old) → take (32 * k + 32) new ≡ take (32 * k) old ++ read
-    → pairs (take (64 * (k + 1)) ds) ≡ Some (take (32 * (k + 1)) new)
+    → get_or blocks k d ≡ flat_map hex_byte read → AreBytes read → bytes_of_pairs (take (64 * k) ds) ≡ Some (take (32 * k) old) → take (32 * k + 32) new ≡ take (32 * k) old ++ read
+    → bytes_of_pairs (take (64 * (k + 1)) ds) ≡ Some (take (32 * (k + 1)) new)
 unfolding after
 block_read ds old new read blocks k d e h n at fits was now =
     let here : take 64 (drop (64 * k) ds) ≡ flat_map hex_byte read =
     sym (ap (λ (t : List (List ℕ)). get_or t k d) e ∙ chunk_at 64 (length ds / 64) k ds d (omega (arith, h, n))) ∙ at in
     let prefix : take (64 * (k + 1)) ds ≡ take (64 * k) ds ++ take 64 (drop (64 * k) ds) = ap (λ (j : ℕ). take j ds) (let j : 64 * (k + 1) ≡ 64 * k + 64 = omega arith in j) ∙ take-add (64 * k) 64 ds in
-    ap pairs (prefix ∙ ap (λ (t : List ℕ). take (64 * k) ds ++ t) here) ∙ pairs_on (take (64 * k) ds) (flat_map hex_byte read) (take (32 * k) old) was ∙ ap (after (take (32 * k) old)) (pairs_back read fits)
+    ap bytes_of_pairs (prefix ∙ ap (λ (t : List ℕ). take (64 * k) ds ++ t) here) ∙ pairs_on (take (64 * k) ds) (flat_map hex_byte read) (take (32 * k) old) was ∙ ap (after (take (32 * k) old)) (pairs_back read fits)
     ∙ ap Some (sym now ∙ ap (λ (j : ℕ). take j new) (let j : 32 * k + 32 ≡ 32 * (k + 1) = omega arith in j))

@@ -8,7 +8,7 @@ use Rattle.std.proofs.lemmas.Option.{none-some, same_Some}
 use Rattle.x7_words.specs.Word.{AreBytes, AreWords, words_of_bytes}
 use Rattle.x7_words.proofs.WordLemmas.{words_fit}
 use Rattle.x7_text.specs.DigitValue.{word_value}
-use Rattle.x7_text.specs.EitherCase.{byte_of, digit_of, led, pairs}
+use Rattle.x7_text.specs.EitherCase.{byte_of, number_of_digit, byte_before, bytes_of_pairs}
 use Rattle.x7_text.specs.Lines.{means_nothing, split}
 use Rattle.x7_text.proofs.ValueLemmas.{word_back}
 use Rattle.x7_part.specs.AddressOrder.{addresses_in}
@@ -79,18 +79,18 @@ frame_or width line = by_head (lists_or line (frame_head far ++ digits))
     digits_are : (row : PlanRow) (is : IsFrameLine width line row) → is.digits ≡ digits
     digits_are row is = ap (λ (t : List ℕ). drop 15 t) (sym is.text)
 
-    by_count : (bytes : List ℕ) → line ≡ frame_head far ++ digits → far < 2 ^ 32 → pairs digits ≡ Some bytes → (length bytes ≡ 4 * width) ⊎ (length bytes ≡ 4 * width → ⊥) → FrameOr width line
+    by_count : (bytes : List ℕ) → line ≡ frame_head far ++ digits → far < 2 ^ 32 → bytes_of_pairs digits ≡ Some bytes → (length bytes ≡ 4 * width) ⊎ (length bytes ≡ 4 * width → ⊥) → FrameOr width line
     by_count bytes e l p (inl long) =
         inl (record { far = far; words = words_of_bytes bytes }, record { far = l; digits = digits; text = e; bytes = bytes; read = p; long = long; words = refl })
-    by_count bytes e l p (inr n) = inr (λ row is. n (ap length (same_Some bytes is.bytes (sym p ∙ ap pairs (sym (digits_are row is)) ∙ is.read)) ∙ is.long))
+    by_count bytes e l p (inr n) = inr (λ row is. n (ap length (same_Some bytes is.bytes (sym p ∙ ap bytes_of_pairs (sym (digits_are row is)) ∙ is.read)) ∙ is.long))
 
-    by_digits : line ≡ frame_head far ++ digits → far < 2 ^ 32 → (o : Option (List ℕ)) → pairs digits ≡ o → FrameOr width line
-    by_digits e l None p = inr (λ row is. none-some is.bytes (sym p ∙ ap pairs (sym (digits_are row is)) ∙ is.read))
+    by_digits : line ≡ frame_head far ++ digits → far < 2 ^ 32 → (o : Option (List ℕ)) → bytes_of_pairs digits ≡ o → FrameOr width line
+    by_digits e l None p = inr (λ row is. none-some is.bytes (sym p ∙ ap bytes_of_pairs (sym (digits_are row is)) ∙ is.read))
     by_digits e l (Some bytes) p = by_count bytes e l p (same_or (length bytes) (4 * width))
 
     by_far : line ≡ frame_head far ++ digits → (far ≡ 2 ^ 32) ⊎ ((far < 2 ^ 32) ⊎ (2 ^ 32 < far)) → FrameOr width line
     by_far e (inl f) = inr (λ row is. let l = is.far in let same = far_is row is in omega (arith, l, same, f))
-    by_far e (inr (inl l)) = by_digits e l (pairs digits) refl
+    by_far e (inr (inl l)) = by_digits e l (bytes_of_pairs digits) refl
     by_far e (inr (inr g)) = inr (λ row is. let l = is.far in let same = far_is row is in omega (arith, l, same, g))
 
     by_head : (line ≡ frame_head far ++ digits) ⊎ (line ≡ frame_head far ++ digits → ⊥) → FrameOr width line
@@ -122,23 +122,23 @@ line_or part rows n line = by (means_nothing line) refl
 
 -- ---- the plan of good lines
 
-digit_low : (c x : ℕ) → digit_of c ≡ Some x → x < 16
+digit_low : (c x : ℕ) → number_of_digit c ≡ Some x → x < 16
 digit_low c x e = grind (arith, nat_tests, e)
 
-byte_fits : (a b x : ℕ) → byte_of (digit_of a) (digit_of b) ≡ Some x → x < 256
-byte_fits a b x e = by (digit_of a) (digit_of b) refl refl e
+byte_fits : (a b x : ℕ) → byte_of (number_of_digit a) (number_of_digit b) ≡ Some x → x < 256
+byte_fits a b x e = by (number_of_digit a) (number_of_digit b) refl refl e
   where
-    by : (h l : Option ℕ) → digit_of a ≡ h → digit_of b ≡ l → byte_of h l ≡ Some x → x < 256
+    by : (h l : Option ℕ) → number_of_digit a ≡ h → number_of_digit b ≡ l → byte_of h l ≡ Some x → x < 256
     by None l p q f = absurd (none-some x f)
     by (Some h) None p q f = absurd (none-some x f)
     by (Some h) (Some l) p q f = omega (arith, digit_low a h p, digit_low b l q, same_Some (16 * h + l) x f)
 
-pairs_fit : (ds bytes : List ℕ) → pairs ds ≡ Some bytes → AreBytes bytes
+pairs_fit : (ds bytes : List ℕ) → bytes_of_pairs ds ≡ Some bytes → AreBytes bytes
 pairs_fit [] bytes e = subst AreBytes (same_Some [] bytes e) tt
 pairs_fit (a ∷ []) bytes e = absurd (none-some bytes e)
-pairs_fit (a ∷ b ∷ cs) bytes e = by (λ xs f. pairs_fit cs xs f) (byte_of (digit_of a) (digit_of b)) (pairs cs) refl refl e
+pairs_fit (a ∷ b ∷ cs) bytes e = by (λ xs f. pairs_fit cs xs f) (byte_of (number_of_digit a) (number_of_digit b)) (bytes_of_pairs cs) refl refl e
   where
-    by : ((xs : List ℕ) → pairs cs ≡ Some xs → AreBytes xs) → (o : Option ℕ) (more : Option (List ℕ)) → byte_of (digit_of a) (digit_of b) ≡ o → pairs cs ≡ more → led o more ≡ Some bytes → AreBytes bytes
+    by : ((xs : List ℕ) → bytes_of_pairs cs ≡ Some xs → AreBytes xs) → (o : Option ℕ) (more : Option (List ℕ)) → byte_of (number_of_digit a) (number_of_digit b) ≡ o → bytes_of_pairs cs ≡ more → byte_before o more ≡ Some bytes → AreBytes bytes
     by back None more p f g = absurd (none-some bytes g)
     by back (Some x) None p f g = absurd (none-some bytes g)
     by back (Some x) (Some xs) p f g = subst AreBytes (same_Some (x ∷ xs) bytes g) (byte_fits a b x p, back xs f)

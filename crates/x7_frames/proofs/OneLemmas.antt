@@ -10,7 +10,7 @@ use Rattle.x7_memory.proofs.PlanLemmas.{order_tail}
 use Rattle.x7_words.proofs.ListLemmas.{same_prefix}
 use Rattle.x7_words.specs.Word.{words_of_bytes}
 use Rattle.x7_text.specs.DigitValue.{word_value}
-use Rattle.x7_text.specs.EitherCase.{pairs}
+use Rattle.x7_text.specs.EitherCase.{bytes_of_pairs}
 use Rattle.x7_text.specs.Lines.{means_nothing, split}
 use Rattle.x7_text.proofs.ValueLemmas.{word_back}
 use Rattle.x7_part.specs.AddressOrder.{addresses_in}
@@ -31,7 +31,7 @@ one_row width line a b is other =
     let head : frame_head a.far ≡ frame_head b.far = same_prefix (frame_head a.far) (frame_head b.far) is.digits other.digits refl e in
     let far : a.far ≡ b.far = sym (word_back a.far is.far) ∙ ap (λ (t : List ℕ). word_value (take 8 (drop 6 t))) head ∙ word_back b.far other.far in
     let digits : is.digits ≡ other.digits = ap (λ (t : List ℕ). drop 15 t) e in
-    let bytes : is.bytes ≡ other.bytes = same_Some is.bytes other.bytes (sym is.read ∙ ap pairs digits ∙ other.read) in
+    let bytes : is.bytes ≡ other.bytes = same_Some is.bytes other.bytes (sym is.read ∙ ap bytes_of_pairs digits ∙ other.read) in
     row_is a b far (is.words ∙ ap words_of_bytes bytes ∙ sym other.words)
 
 no_comment : (width : ℕ) (line : List ℕ) (row : PlanRow) → IsFrameLine width line row → means_nothing line ≡ true → ⊥

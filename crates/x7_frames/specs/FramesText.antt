@@ -3,7 +3,7 @@ use Rattle.std.specs.Prelude.{◌≡◌, ℕ, ◌+◌, ◌*◌, ◌^◌, ◌<◌
 use Rattle.std.specs.List.{flat_map}
 use Rattle.x7_words.specs.Word.{words_of_bytes}
 use Rattle.x7_text.specs.Digits.{hex_word}
-use Rattle.x7_text.specs.EitherCase.{pairs}
+use Rattle.x7_text.specs.EitherCase.{bytes_of_pairs}
 use Rattle.x7_text.specs.Lines.{means_nothing, split}
 use Rattle.x7_part.specs.AddressOrder.{addresses_in}
 use Rattle.x7_part.specs.Part.{PartData, frame_words}
@@ -25,7 +25,7 @@ pub record IsFrameLine (width : ℕ) (line : List ℕ) (row : PlanRow) : Type 0 
   pub digits : List ℕ
   pub text : line ≡ frame_head row.far ++ digits
   pub bytes : List ℕ
-  pub read : pairs digits ≡ Some bytes
+  pub read : bytes_of_pairs digits ≡ Some bytes
   pub long : length bytes ≡ 4 * width
   pub words : row.words ≡ words_of_bytes bytes
 

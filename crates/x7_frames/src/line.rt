@@ -1,6 +1,6 @@
 //! One line.
 ghost use Rattle.std.specs.Prelude.{◌≡◌, ◌+◌, ◌*◌, ◌%◌, ◌<◌, ◌≤◌, ◌++◌, length, take, Some, None, MatchBool, MatchOption, vec_capacity};
-ghost use Rattle.x7_text.specs.EitherCase.{pairs};
+ghost use Rattle.x7_text.specs.EitherCase.{bytes_of_pairs};
 ghost use Rattle.x7_words.specs.Word.{AreBytes, words_of_bytes};
 ghost use Rattle.x7_memory.specs.Plan.{PlanRow};
 ghost use Rattle.x7_part.specs.Limits.{most_frame_words};
@@ -58,7 +58,7 @@ fn write_block(bytes: &mut [u8], at: usize, block: &[u8])
 /// Reads the blocks of 64 upper-case digits that stand first, and gives the number of their bytes.
 fn read_blocks(bytes: &mut [u8], digits: &[u8]) -> usize
     requires { length digits.now ≡ 2 * length bytes.old }
-    ensures value { pairs (take (2 * result) digits.now) ≡ Some (take result bytes.new) }
+    ensures value { bytes_of_pairs (take (2 * result) digits.now) ≡ Some (take result bytes.new) }
     ensures within { result ≤ length bytes.old }
     ensures long { length bytes.new ≡ length bytes.old }
 {
@@ -75,7 +75,7 @@ fn read_blocks(bytes: &mut [u8], digits: &[u8]) -> usize
 /// Reads the bytes of digits of either case. `false`: one of them is no digit.
 fn read_digits(bytes: &mut [u8], digits: &[u8]) -> bool
     requires { length digits.now ≡ 2 * length bytes.old }
-    ensures value { MatchBool result (pairs digits.now ≡ Some bytes.new) (pairs digits.now ≡ None) }
+    ensures value { MatchBool result (bytes_of_pairs digits.now ≡ Some bytes.new) (bytes_of_pairs digits.now ≡ None) }
     ensures long { length bytes.new ≡ length bytes.old }
 {
     let read = read_blocks(bytes, digits);

@@ -6,7 +6,7 @@ use Rattle.std.specs.Cmp.Lexicographic.{bytes_decides}
 use Rattle.std.specs.Str.{bytes_eq}
 use Rattle.x7_words.specs.Count.{HasRisen}
 use Rattle.x7_words.specs.Flash.{replaced, AsksFor, IsTorn, Elapses, FlashStays, OnlyReads, Sees, Unwritten}
-use Rattle.x7_in_memory.specs.Memory.{FlashInMemory, PastWrite, WriteRecord, left_by, write_refused, next_tear, latest_tear, write_fails_in, known_flash, names_asked, seen_in, after_attach, after_read_at, flash_fails, begun, after_refusal, after_tear, after_tearing, after_write_of, recorded, has_room}
+use Rattle.x7_in_memory.specs.Memory.{FlashInMemory, PastWrite, WriteRecord, left_by, write_refused, next_tear, latest_tear, flash_write_fails, known_flash, names_asked, seen_in, after_attach, after_read_at, flash_fails, begun, after_refusal, after_tear, after_begun_write, after_flash_write, recorded, has_room}
 use Rattle.x7_in_memory.specs.FoundSince.{FoundSince}
 use Rattle.x7_words.proofs.CountLemmas.{raised_risen}
 use Rattle.x7_words.proofs.FlashLemmas.{get_or_slice_range, old_is_torn}
@@ -17,9 +17,9 @@ use Rattle.x7_words.specs.declared.input.Failed.{Failed as FailedWrite}
 -- ---- how the code comes to it
 
 -- a write that is refused
-pub refused_after : (old new : FlashInMemory) (place count : ℕ) (target : List ℕ) → length target ≡ count → write_refused old count ≡ true → new ≡ after_refusal old → new ≡ after_write_of old place target
+pub refused_after : (old new : FlashInMemory) (place count : ℕ) (target : List ℕ) → length target ≡ count → write_refused old count ≡ true → new ≡ after_refusal old → new ≡ after_flash_write old place target
 refused_after old new place count target same is_refused e =
-    e ∙ sym (ap (λ b. cond b (after_refusal old) (after_tearing old place target (next_tear old))) (ap (write_refused old) same ∙ is_refused))
+    e ∙ sym (ap (λ b. cond b (after_refusal old) (after_begun_write old place target (next_tear old))) (ap (write_refused old) same ∙ is_refused))
 
 -- a write that is not refused has room
 pub room_left : (old start : FlashInMemory) (count asked : ℕ) → start ≡ begun old → write_refused old count ≡ false → asked ≡ count → IsTrue (has_room start.writes asked)
@@ -32,7 +32,7 @@ ended_by : (old : FlashInMemory) (place : ℕ) (target : List ℕ) (tear : Optio
       bytes = replaced place (left_by tear (slice_range old.bytes place (place + length target)) target) old.bytes;
       writes = recorded old.writes place (slice_range old.bytes place (place + length target)) target;
     }
-    → is_err answer ≡ is_some tear → OnOk answer (new ≡ mid) → OnErr answer (new ≡ after_tear mid) → new ≡ after_tearing old place target tear
+    → is_err answer ≡ is_some tear → OnOk answer (new ≡ mid) → OnErr answer (new ≡ after_tear mid) → new ≡ after_begun_write old place target tear
 ended_by old place target None (Ok _) mid new m a ok err = ok ∙ m
 ended_by old place target None (Err _) mid new m a ok err = absurd (cc)
 ended_by old place target (Some pattern) (Ok _) mid new m a ok err = absurd (cc)
@@ -44,7 +44,7 @@ pub ended : (old start : FlashInMemory) (bytes : List ℕ) (writes : WriteRecord
     → bytes ≡ replaced place (left_by tear (slice_range start.bytes place (place + length target)) target) start.bytes
     → writes ≡ recorded start.writes place (slice_range start.bytes place (place + length target)) target
     → is_err answer ≡ is_some tear → OnOk answer (new ≡ record start { bytes = bytes; writes = writes }) → OnErr answer (new ≡ after_tear (record start { bytes = bytes; writes = writes }))
-    → new ≡ after_write_of old place target
+    → new ≡ after_flash_write old place target
 ended old start bytes writes new place target tear answer b is_not t is_bytes is_writes a ok err =
     let tear_is : tear ≡ next_tear old = t ∙ ap latest_tear b in
     let mid : record start { bytes = bytes; writes = writes } ≡ record (begun old) {
@@ -58,29 +58,29 @@ ended old start bytes writes new place target tear answer b is_not t is_bytes is
       writes = recorded f.writes place (slice_range f.bytes place (place + length target)) target;
     }) b in
     ended_by old place target tear answer _ new mid a ok err
-    ∙ ap (after_tearing old place target) tear_is
-    ∙ sym (ap (λ v. cond v (after_refusal old) (after_tearing old place target (next_tear old))) is_not)
+    ∙ ap (after_begun_write old place target) tear_is
+    ∙ sym (ap (λ v. cond v (after_refusal old) (after_begun_write old place target (next_tear old))) is_not)
 
 -- ---- what a caller may know of it
 
 -- What a write does, by whether it was refused and how it was torn.
 data Went (old new : FlashInMemory) (place : ℕ) (target : List ℕ) (failed : Bool) : Type 0 where
   refused : failed ≡ true → new ≡ after_refusal old → Went old new place target failed
-  done : failed ≡ false → new ≡ after_tearing old place target None → Went old new place target failed
-  torn : (pattern : ℕ) → failed ≡ true → new ≡ after_tearing old place target (Some pattern) → Went old new place target failed
+  done : failed ≡ false → new ≡ after_begun_write old place target None → Went old new place target failed
+  torn : (pattern : ℕ) → failed ≡ true → new ≡ after_begun_write old place target (Some pattern) → Went old new place target failed
 
-went_tear : (old new : FlashInMemory) (place : ℕ) (target : List ℕ) (failed : Bool) (tear : Option ℕ) → failed ≡ is_some tear → new ≡ after_tearing old place target tear → Went old new place target failed
+went_tear : (old new : FlashInMemory) (place : ℕ) (target : List ℕ) (failed : Bool) (tear : Option ℕ) → failed ≡ is_some tear → new ≡ after_begun_write old place target tear → Went old new place target failed
 went_tear old new place target failed None a e = done a e
 went_tear old new place target failed (Some pattern) a e = torn pattern a e
 
-went : (old new : FlashInMemory) (place : ℕ) (target : List ℕ) (failed : Bool) → failed ≡ write_fails_in old (length target) → new ≡ after_write_of old place target → Went old new place target failed
+went : (old new : FlashInMemory) (place : ℕ) (target : List ℕ) (failed : Bool) → failed ≡ flash_write_fails old (length target) → new ≡ after_flash_write old place target → Went old new place target failed
 went old new place target failed a e = elim (cases_Bool (write_refused old (length target))) [
   | inl is_refused ↦ refused
       (a ∙ ap (λ b. b || is_some (next_tear old)) is_refused)
-      (e ∙ ap (λ b. cond b (after_refusal old) (after_tearing old place target (next_tear old))) is_refused)
+      (e ∙ ap (λ b. cond b (after_refusal old) (after_begun_write old place target (next_tear old))) is_refused)
   | inr is_not ↦ went_tear old new place target failed (next_tear old)
       (a ∙ ap (λ b. b || is_some (next_tear old)) is_not)
-      (e ∙ ap (λ b. cond b (after_refusal old) (after_tearing old place target (next_tear old))) is_not)
+      (e ∙ ap (λ b. cond b (after_refusal old) (after_begun_write old place target (next_tear old))) is_not)
 ]
 
 module _ (old new : FlashInMemory) (place : ℕ) (target : List ℕ) (within : place + length target ≤ length old.bytes) where
@@ -97,20 +97,20 @@ module _ (old new : FlashInMemory) (place : ℕ) (target : List ℕ) (within : p
       (passes_none old.writes.past old.bytes (λ found. IsTorn place target old.bytes found))
   tells_passes failed (done a e) = passes_by None e
     where
-      passes_by : (tear : Option ℕ) → new ≡ after_tearing old place target tear
+      passes_by : (tear : Option ℕ) → new ≡ after_begun_write old place target tear
           → Elapses (length old.writes.past) (length new.writes.past) (FoundSince old.writes.past old.bytes) (FoundSince new.writes.past new.bytes) (λ found. IsTorn place target old.bytes found)
       passes_by tear e =
           subst (λ (n : FlashInMemory). Elapses (length old.writes.past) (length n.writes.past) (FoundSince old.writes.past old.bytes) (FoundSince n.writes.past n.bytes) (λ found. IsTorn place target old.bytes found)) (sym e)
           (passes_more (record { place = place; before = slice_range old.bytes place (place + length target); target = target }) old.bytes _ (left_back tear place target old.bytes within) old.writes.past (left_is_torn tear place target old.bytes within) (old_is_torn place target old.bytes))
   tells_passes failed (torn pattern a e) = passes_by (Some pattern) e
     where
-      passes_by : (tear : Option ℕ) → new ≡ after_tearing old place target tear
+      passes_by : (tear : Option ℕ) → new ≡ after_begun_write old place target tear
           → Elapses (length old.writes.past) (length new.writes.past) (FoundSince old.writes.past old.bytes) (FoundSince new.writes.past new.bytes) (λ found. IsTorn place target old.bytes found)
       passes_by tear e =
           subst (λ (n : FlashInMemory). Elapses (length old.writes.past) (length n.writes.past) (FoundSince old.writes.past old.bytes) (FoundSince n.writes.past n.bytes) (λ found. IsTorn place target old.bytes found)) (sym e)
           (passes_more (record { place = place; before = slice_range old.bytes place (place + length target); target = target }) old.bytes _ (left_back tear place target old.bytes within) old.writes.past (left_is_torn tear place target old.bytes within) (old_is_torn place target old.bytes))
 
-  one_more : (tear : Option ℕ) → new ≡ after_tearing old place target tear → length new.writes.past ≤ length old.writes.past + 1
+  one_more : (tear : Option ℕ) → new ≡ after_begun_write old place target tear → length new.writes.past ≤ length old.writes.past + 1
   one_more tear e =
       let w : PastWrite = record { place = place; before = slice_range old.bytes place (place + length target); target = target } in
       omega (arith, ap (λ f. length f.writes.past) e, length-append old.writes.past (w ∷ []))
@@ -126,13 +126,13 @@ module _ (old new : FlashInMemory) (place : ℕ) (target : List ℕ) (within : p
   tells_risen (done a e) = absurd (cc)
   tells_risen (torn pattern a e) = raised_risen _ _ (ap (λ f. f.write_faults) e)
 
-  tells_done : Went old new place target false → new ≡ after_tearing old place target None
+  tells_done : Went old new place target false → new ≡ after_begun_write old place target None
   tells_done (refused a e) = absurd (cc)
   tells_done (done a e) = e
   tells_done (torn pattern a e) = absurd (cc)
 
   -- whatever a write does, this stays
-  tells_same : {A : Type 0} (part : FlashInMemory → A) → part (after_refusal old) ≡ part old → ((tear : Option ℕ) → part (after_tearing old place target tear) ≡ part old) → (failed : Bool) → Went old new place target failed → part new ≡ part old
+  tells_same : {A : Type 0} (part : FlashInMemory → A) → part (after_refusal old) ≡ part old → ((tear : Option ℕ) → part (after_begun_write old place target tear) ≡ part old) → (failed : Bool) → Went old new place target failed → part new ≡ part old
   tells_same part r t failed (refused a e) = ap part e ∙ r
   tells_same part r t failed (done a e) = ap part e ∙ t None
   tells_same part r t failed (torn pattern a e) = ap part e ∙ t (Some pattern)
@@ -150,7 +150,7 @@ module _ (old new : FlashInMemory) (place : ℕ) (target : List ℕ) (within : p
     pub names : names_asked new ≡ names_asked old
     pub moment : length new.writes.past ≤ length old.writes.past + 1
 
-  pub promised : (answer : Result (Unit {0}) FailedWrite) → is_err answer ≡ write_fails_in old (length target) → new ≡ after_write_of old place target → Promised answer
+  pub promised : (answer : Result (Unit {0}) FailedWrite) → is_err answer ≡ flash_write_fails old (length target) → new ≡ after_flash_write old place target → Promised answer
   promised answer a e =
       let w = went old new place target (is_err answer) a e in
       record {

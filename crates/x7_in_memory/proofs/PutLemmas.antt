@@ -52,8 +52,8 @@ pub bytes_under_position : (puts : List Put) (name : List ℕ) (place : Option �
 bytes_under_position puts name None e =
     let none = absent_from puts name (place_none (count_before puts name) (length puts) (sym e)) in
     (rw none refl, sym none)
-bytes_under_position puts name (Some which) e =
-    let at = place_some (count_before puts name) (length puts) which (sym e) in
+bytes_under_position puts name (Some place) e =
+    let at = place_some (count_before puts name) (length puts) place (sym e) in
     let h = found_from puts name at.0 in
     (rw h.1.0 refl, rw (← at.1) (h.1.1 ∙ sym h.1.0))
 
@@ -75,8 +75,8 @@ pub name_under_position : (puts : List Put) (name : List ℕ) (place : Option �
 name_under_position puts name None e =
     let none = absent_from puts name (place_none (count_before puts name) (length puts) (sym e)) in
     rw none refl
-name_under_position puts name (Some which) e =
-    let at = place_some (count_before puts name) (length puts) which (sym e) in
+name_under_position puts name (Some place) e =
+    let at = place_some (count_before puts name) (length puts) place (sym e) in
     let h = found_from puts name at.0 in
     rw h.1.0 (ap (λ n. put_name puts (Some n)) (sym at.1) ∙ name_from puts name at.0)
 
@@ -86,20 +86,20 @@ got (x ∷ xs) zero d h = refl
 got (x ∷ xs) (suc i) d h = got xs i d (omega arith)
 
 -- what is left of the one that was read
-pub left_of_at : (puts : List Put) (place which : ℕ) (put : Put) (left : List ℕ) → which < length puts → left ≡ drop place (get_or puts which put).bytes.items → left_of puts place (Some which) ≡ Some left
-left_of_at puts place which put left h e = rw (got puts which put h, e) refl
+pub left_of_at : (puts : List Put) (given place : ℕ) (put : Put) (left : List ℕ) → place < length puts → left ≡ drop given (get_or puts place put).bytes.items → left_of puts given (Some place) ≡ Some left
+left_of_at puts given place put left h e = rw (got puts place put h, e) refl
 
-left_in_add : (at : Option Put) (place n : ℕ) (left : List ℕ) → option_map (λ put. drop place put.bytes.items) at ≡ Some left → option_map (λ put. drop (place + n) put.bytes.items) at ≡ Some (drop n left)
-left_in_add None place n left e = absurd (cc)
-left_in_add (Some put) place n left e =
-    let same : drop place put.bytes.items ≡ left = cc in
-    let more : drop n (drop place put.bytes.items) ≡ drop (place + n) put.bytes.items = grind (arith, common_steps) in
+left_in_add : (at : Option Put) (given n : ℕ) (left : List ℕ) → option_map (λ put. drop given put.bytes.items) at ≡ Some left → option_map (λ put. drop (given + n) put.bytes.items) at ≡ Some (drop n left)
+left_in_add None given n left e = absurd (cc)
+left_in_add (Some put) given n left e =
+    let same : drop given put.bytes.items ≡ left = cc in
+    let more : drop n (drop given put.bytes.items) ≡ drop (given + n) put.bytes.items = grind (arith, common_steps) in
     rw (← same) (ap Some (sym more))
 
 -- what is left after some more bytes
-pub left_of_add : (puts : List Put) (place n : ℕ) (selected : Option ℕ) (left : List ℕ) → left_of puts place selected ≡ Some left → left_of puts (place + n) selected ≡ Some (drop n left)
-left_of_add puts place n None left e = absurd (cc)
-left_of_add puts place n (Some which) left e = left_in_add (slice_get puts which) place n left e
+pub left_of_add : (puts : List Put) (given n : ℕ) (selected : Option ℕ) (left : List ℕ) → left_of puts given selected ≡ Some left → left_of puts (given + n) selected ≡ Some (drop n left)
+left_of_add puts given n None left e = absurd (cc)
+left_of_add puts given n (Some place) left e = left_in_add (slice_get puts place) given n left e
 
 -- a read gives what it takes from the rest
 pub preceded_taken : (before after : Option (List ℕ)) (left given kept : List ℕ) (n : ℕ) → before ≡ Some left → after ≡ Some (drop n left) → n ≤ length left → given ≡ take n left → before ≡ preceded (take n (given ++ kept)) after

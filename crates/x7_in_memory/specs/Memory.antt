@@ -37,7 +37,7 @@ raised_if counts count = if counts then raised count else count
 
 -- inputs in memory
 pub record InputsInMemory : Type 0 where
-  -- the names and what was put under them, the last first
+  -- the names and what was put under each, what was put last first
   pub entries : List (List ℕ × List ℕ)
   -- what is left of the selected input; none where nothing is selected
   pub rest : Option (List ℕ)
@@ -101,19 +101,19 @@ after_select m name =
       given = 0;
     }
 
--- how many bytes a read into a buffer of this length gives
+-- how many bytes a read into a buffer with room for `room` bytes gives
 abbrev pub read_count : InputsInMemory → ℕ → ℕ
-read_count m len = min (min len m.most) (length (unwrap_or m.rest []))
+read_count m room = min (min room m.most) (length (unwrap_or m.rest []))
 
--- the inputs after a read into a buffer of this length
+-- the inputs after a read into a buffer with room for `room` bytes
 abbrev pub after_read : InputsInMemory → ℕ → InputsInMemory
-after_read m len =
+after_read m room =
     record m {
       calls = numbered m.calls;
       faults = raised_if (next_fails m.calls) m.faults;
-      rest = if next_fails m.calls then None else option_map (drop (read_count m len)) m.rest;
-      ends = if next_fails m.calls then m.ends else ends_counted (read_count m len) m.ends;
-      given = if next_fails m.calls then m.given else m.given + read_count m len;
+      rest = if next_fails m.calls then None else option_map (drop (read_count m room)) m.rest;
+      ends = if next_fails m.calls then m.ends else ends_counted (read_count m room) m.ends;
+      given = if next_fails m.calls then m.given else m.given + read_count m room;
     }
 
 -- a sink in memory
@@ -188,14 +188,16 @@ recorded w place before target =
 abbrev pub torn_byte : ℕ → ℕ → ℕ → ℕ
 torn_byte pattern old target = bit_or (bit_and old pattern) (bit_xor target (bit_and target pattern))
 
--- what a write leaves in its range: the target, or what a pattern tears
+-- what a write leaves in its range: the target, or each byte of it torn by a pattern
 abbrev pub left_by : Option ℕ → List ℕ → List ℕ → List ℕ
 left_by None before target = target
 left_by (Some pattern) before target = zip_with (torn_byte pattern) before target
 
--- a call that is to be torn, if it is a write, and its pattern
+-- a call that is to be torn, if it is a write
 pub record Tear : Type 0 where
+  -- the number of the call, from 1
   pub call : ℕ
+  -- the bits that stay old in each byte: those that are 1
   pub pattern : ℕ
 
 -- a flash in memory
@@ -206,8 +208,9 @@ pub record FlashInMemory : Type 0 where
   pub attached : Bool
   -- whether the flash was asked for under its name
   pub asked : Bool
-  -- the reads since the last write lie from this place on, and below the next one
+  -- the least place that was read since the last write; 2^64 - 1 where none was
   pub seen_from : ℕ
+  -- the place after the greatest one that was read since the last write; 0 where none was
   pub seen_to : ℕ
   -- the absences counted; the last u64 stays
   pub absences : ℕ
@@ -239,15 +242,16 @@ new_flash name bytes = record {
   stopped = false;
 }
 
--- the names for which the flash may have been asked: its own only where it was; others aren't kept
+-- the names that the flash may have been asked for: its own only where it was, and any other, since these aren't kept
 abbrev pub names_asked : FlashInMemory → List ℕ → Bool
 names_asked f name = if bytes_eq f.name name then f.asked else true
 
--- whether a byte may have been read at a place since the last write: it is there, and between the reads
+-- whether a byte may have been read at a place since the last write: it stands there, and the place is neither before
+-- all reads nor after them
 abbrev pub seen_in : FlashInMemory → ℕ → ℕ → Bool
 seen_in f place byte = nat_le f.seen_from place && (nat_lt place f.seen_to && (byte == get_or f.bytes place 0))
 
--- what is known of the flash: all but the other names for which it was asked
+-- what is known of the flash: all but the other names that it was asked for
 abbrev pub known_flash : FlashInMemory → FlashState
 known_flash f = record {
   bytes = Some f.bytes;
@@ -298,7 +302,7 @@ after_read_at f place count =
       seen_to = if flash_fails f then f.seen_to else max f.seen_to (place + count);
     }
 
--- a write of `count` bytes is refused and changes nothing: as planned, or since the record has no room
+-- a write of `count` bytes is refused and changes no byte: as planned, or since the record has no room
 abbrev pub write_refused : FlashInMemory → ℕ → Bool
 write_refused f count = flash_fails f || not (has_room f.writes count)
 
@@ -315,8 +319,8 @@ abbrev pub after_tear : FlashInMemory → FlashInMemory
 after_tear f = record f { stopped = true; write_faults = raised f.write_faults }
 
 -- a write of `count` bytes fails
-abbrev pub write_fails_in : FlashInMemory → ℕ → Bool
-write_fails_in f count = write_refused f count || is_some (next_tear f)
+abbrev pub flash_write_fails : FlashInMemory → ℕ → Bool
+flash_write_fails f count = write_refused f count || is_some (next_tear f)
 
 -- the flash as a write begins: the call has its number, and no byte is seen any more
 abbrev pub begun : FlashInMemory → FlashInMemory
@@ -326,9 +330,9 @@ begun f = record f { calls = numbered f.calls; seen_from = 2 ^ 64 - 1; seen_to =
 abbrev pub after_refusal : FlashInMemory → FlashInMemory
 after_refusal f = record (begun f) { write_faults = raised f.write_faults }
 
--- the flash after a write of the target, torn by a pattern or not
-abbrev pub after_tearing : FlashInMemory → ℕ → List ℕ → Option ℕ → FlashInMemory
-after_tearing f place target tear =
+-- the flash after a write of the target that was not refused, torn by a pattern or not
+abbrev pub after_begun_write : FlashInMemory → ℕ → List ℕ → Option ℕ → FlashInMemory
+after_begun_write f place target tear =
     record (begun f) {
       stopped = is_some tear || f.stopped;
       write_faults = raised_if (is_some tear) f.write_faults;
@@ -337,7 +341,7 @@ after_tearing f place target tear =
     }
 
 -- the flash after a write of the target at the place
-abbrev pub after_write_of : FlashInMemory → ℕ → List ℕ → FlashInMemory
-after_write_of f place target =
+abbrev pub after_flash_write : FlashInMemory → ℕ → List ℕ → FlashInMemory
+after_flash_write f place target =
     if write_refused f (length target) then after_refusal f
-    else after_tearing f place target (next_tear f)
+    else after_begun_write f place target (next_tear f)

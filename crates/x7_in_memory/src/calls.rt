@@ -4,7 +4,7 @@ ghost use Rattle.x7_in_memory.specs.Memory.{no_calls, next_fails, numbered, with
 
 use std::alloc::Global;
 use std::marker::Model;
-use x7_words::{Failed, NoMemory, next_count};
+use x7_words::{Failed, NoMemory, raised};
 
 /// The calls of an object: the number of the last one, and those that are to fail.
 #[derive(Drop)]
@@ -53,7 +53,7 @@ impl Calls {
         ensures answer { is_err result ≡ next_fails self.old }
         ensures after { self.new ≡ numbered self.old }
     {
-        self.last = next_count(self.last);
+        self.last = raised(self.last);
         if self.failing.contains(&self.last) {
             return Err(Failed);
         }

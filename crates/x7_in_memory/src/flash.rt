@@ -3,13 +3,13 @@ ghost use Rattle.std.specs.Prelude.{◌≡◌, ◌+◌, ◌<◌, ◌≤◌, ◌^
 ghost use Rattle.x7_words.specs.Count.{IsLaterCount};
 ghost use Rattle.x7_words.specs.Word.{AreBytes};
 ghost use Rattle.x7_words.specs.Flash.{zip_with, cleared, erased_sector, replaced, sector_bytes, sector_place};
-ghost use Rattle.x7_in_memory.specs.Memory.{new_flash, with_failing_call, flash_fails, numbered, with_room, has_room, recorded, left_by, torn_byte, attach_answer, after_attach, after_read_at, write_refused, write_fails_in, begun, after_refusal, after_write_of, latest_tear, after_tear};
+ghost use Rattle.x7_in_memory.specs.Memory.{new_flash, with_failing_call, flash_fails, numbered, with_room, has_room, recorded, left_by, torn_byte, attach_answer, after_attach, after_read_at, write_refused, flash_write_fails, begun, after_refusal, after_flash_write, latest_tear, after_tear};
 
 use crate::calls::Calls;
 use crate::record::Record;
 use std::alloc::Global;
 use std::marker::Model;
-use x7_words::{ERASED_BYTE, Failed, Flash, NoMemory, SECTOR_BYTES, SelectFault, next_count};
+use x7_words::{ERASED_BYTE, Failed, Flash, NoMemory, SECTOR_BYTES, SelectFault, raised};
 
 /// A write that is torn: the number of its call, and the pattern of the bits that stay old.
 #[derive(Clone, Copy, Drop)]
@@ -27,7 +27,7 @@ pub struct MemoryFlash {
     bytes: Vec<u8>,
     attached: bool,
     asked: bool,
-    // The reads since the last write lie from the first place on, and below the second.
+    // The least place that was read since the last write, and the one after the greatest; usize::MAX and 0 before any.
     seen_from: usize,
     seen_to: usize,
     absences: u64,
@@ -196,8 +196,8 @@ impl MemoryFlash {
         Ok(())
     }
 
-    /// Begins a write of `count` bytes: its call has the next number, and is
-    /// refused where that is to fail or has no room.
+    /// Begins a write of `count` bytes: its call has the next number, and is refused where that call is to fail, or
+    /// where the record has no room for the write.
     fn begin_write(&mut self, count: usize) -> Result<(), Failed>
         ensures answer { is_err result ≡ write_refused self.old count }
         ensures ok { OnOk result (self.new ≡ begun self.old) }
@@ -209,7 +209,7 @@ impl MemoryFlash {
         if self.next_call().is_ok() && self.writes.has_room(count) {
             return Ok(());
         }
-        self.write_faults = next_count(self.write_faults);
+        self.write_faults = raised(self.write_faults);
         Err(Failed)
     }
 
@@ -235,7 +235,7 @@ impl MemoryFlash {
             return Ok(());
         }
         self.stopped = true;
-        self.write_faults = next_count(self.write_faults);
+        self.write_faults = raised(self.write_faults);
         Err(Failed)
     }
 }
@@ -267,11 +267,11 @@ impl Flash for MemoryFlash {
         let is_own = self.name.as_str() == name;
         self.asked = self.asked || is_own;
         let Ok(()) = self.next_call() else {
-            self.read_faults = next_count(self.read_faults);
+            self.read_faults = raised(self.read_faults);
             return Err(SelectFault::Failed);
         };
         if !is_own {
-            self.absences = next_count(self.absences);
+            self.absences = raised(self.absences);
             return Err(SelectFault::Missing);
         }
         self.attached = true;
@@ -298,7 +298,7 @@ impl Flash for MemoryFlash {
         ensures faults { IsLaterCount self.old.read_faults self.new.read_faults }
     {
         let Ok(()) = self.next_call() else {
-            self.read_faults = next_count(self.read_faults);
+            self.read_faults = raised(self.read_faults);
             return Err(Failed);
         };
         let place = place as usize;
@@ -312,8 +312,8 @@ impl Flash for MemoryFlash {
     fn erase(&mut self, sector: u64) -> Result<(), Failed>
         requires attached { self.old.attached ≡ true }
         requires within { sector_place sector + sector_bytes ≤ length self.old.bytes }
-        ensures answer { is_err result ≡ write_fails_in self.old sector_bytes }
-        ensures after { self.new ≡ after_write_of self.old (sector_place sector) erased_sector }
+        ensures answer { is_err result ≡ flash_write_fails self.old sector_bytes }
+        ensures after { self.new ≡ after_flash_write self.old (sector_place sector) erased_sector }
         ensures write_faults { IsLaterCount self.old.write_faults self.new.write_faults }
     {
         self.begin_write(SECTOR_BYTES as usize)?;
@@ -335,8 +335,8 @@ impl Flash for MemoryFlash {
     fn program(&mut self, place: u64, given: &[u8]) -> Result<(), Failed>
         requires attached { self.old.attached ≡ true }
         requires within { place + length given.now ≤ length self.old.bytes }
-        ensures answer { is_err result ≡ write_fails_in self.old (length given.now) }
-        ensures after { self.new ≡ after_write_of self.old place (cleared place given.now self.old.bytes) }
+        ensures answer { is_err result ≡ flash_write_fails self.old (length given.now) }
+        ensures after { self.new ≡ after_flash_write self.old place (cleared place given.now self.old.bytes) }
         ensures write_faults { IsLaterCount self.old.write_faults self.new.write_faults }
     {
         self.begin_write(given.len())?;

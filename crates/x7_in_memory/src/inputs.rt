@@ -8,7 +8,7 @@ use crate::calls::Calls;
 use crate::put::{Put, left_at, next_place, place_of};
 use std::alloc::Global;
 use std::marker::Model;
-use x7_words::{Failed, Inputs, NoMemory, SelectFault, count_end, next_count};
+use x7_words::{Failed, Inputs, NoMemory, SelectFault, ends_counted, raised};
 
 /// Inputs in memory, known whole: what was put under each name last is what a select of it gives.
 ///
@@ -17,9 +17,9 @@ use x7_words::{Failed, Inputs, NoMemory, SelectFault, count_end, next_count};
 pub struct MemoryInputs {
     // What was put, the last first.
     puts: Vec<Put>,
-    // The place in `puts` of the selected input, and how many of its bytes were read since its select.
+    // The place in `puts` of the selected input, and how many of its bytes were given since its select.
     selected: Option<usize>,
-    place: usize,
+    given: usize,
     // The place in `puts` of the name last asked for, where it is there.
     asked: Option<usize>,
     selects: u64,
@@ -41,19 +41,19 @@ impl Model for MemoryInputs {
 
     ghost view = { λ m. record {
       entries = map entry_of m.puts.items;
-      rest = left_of m.puts.items m.place m.selected;
+      rest = left_of m.puts.items m.given m.selected;
       asked = put_name m.puts.items m.asked;
       selects = m.selects;
       ends = m.ends;
-      given = m.place;
+      given = m.given;
       most = m.most;
       calls = m.calls;
       faults = m.faults;
     } };
 
     ghost invariant = { λ m. (0 < m.most)
-        × ForSome m.selected (λ which. which < vec_len m.puts)
-        × ForSome m.asked (λ which. which < vec_len m.puts)
+        × ForSome m.selected (λ place. place < vec_len m.puts)
+        × ForSome m.asked (λ place. place < vec_len m.puts)
         × (m.selects < 2 ^ 64)
         × (m.ends < 2 ^ 64)
         × (m.faults < 2 ^ 64) };
@@ -67,7 +67,7 @@ impl MemoryInputs {
         MemoryInputs {
             puts: Vec::new(alloc),
             selected: None,
-            place: 0,
+            given: 0,
             asked: None,
             selects: 0,
             ends: 0,
@@ -120,11 +120,11 @@ impl Inputs for MemoryInputs {
         ensures faults { IsLaterCount self.old.faults self.new.faults }
     {
         self.selected = None;
-        self.place = 0;
-        self.selects = next_count(self.selects);
+        self.given = 0;
+        self.selects = raised(self.selects);
         self.asked = place_of(&self.puts, name);
         let Ok(()) = self.calls.next() else {
-            self.faults = next_count(self.faults);
+            self.faults = raised(self.faults);
             return Err(SelectFault::Failed);
         };
         if self.asked.is_none() {
@@ -149,19 +149,19 @@ impl Inputs for MemoryInputs {
         ensures lost { OnErr result (self.new.ends ≤ self.old.ends) }
         ensures faults { IsLaterCount self.old.faults self.new.faults }
     {
-        let Some(which) = self.selected else {
+        let Some(place) = self.selected else {
             unreachable!()
         };
         let Ok(()) = self.calls.next() else {
             self.selected = None;
-            self.faults = next_count(self.faults);
+            self.faults = raised(self.faults);
             return Err(Failed);
         };
-        let left = left_at(&self.puts, which, self.place);
+        let left = left_at(&self.puts, place, self.given);
         let count = buf.len().min(self.most).min(left.len());
         buf[..count].copy_from_slice(&left[..count]);
-        self.ends = count_end(count, self.ends);
-        self.place += count;
+        self.ends = ends_counted(count, self.ends);
+        self.given += count;
         Ok(count)
     }
 }

@@ -12,16 +12,16 @@ pub(crate) struct Put {
     pub(crate) bytes: Vec<u8>,
 }
 
-/// The place of the first one of this name.
+/// The place among the puts, from 0, of the first one under this name.
 fn first_place(puts: &[Put], name: &str) -> Option<usize>
     ensures { result ≡ position (λ put. bytes_eq (string_bytes put.name) name.now) puts.now }
 {
     puts.iter().position(|put| put.name.as_str() == name)
 }
 
-/// The place of what stands under the name, if anything does.
+/// The place among the puts, from 0, of what was put last under the name, if anything was.
 pub(crate) fn place_of(puts: &[Put], name: &str) -> Option<usize>
-    ensures within { IfSome result (λ which. which < length puts.now) }
+    ensures within { IfSome result (λ place. place < length puts.now) }
     ensures found { is_none result ≡ is_none (bytes_under (map entry_of puts.now) name.now) }
     ensures bytes { left_of puts.now 0 result ≡ bytes_under (map entry_of puts.now) name.now }
     ensures name { put_name puts.now result ≡ name_under (map entry_of puts.now) name.now }
@@ -29,28 +29,28 @@ pub(crate) fn place_of(puts: &[Put], name: &str) -> Option<usize>
     first_place(puts, name)
 }
 
-/// A place in the puts once one more stands before them.
+/// A place among the puts once one more stands before them.
 pub(crate) fn next_place(place: Option<usize>) -> Option<usize>
-    requires { ForSome place (λ which. which + 1 < usize.MAX) }
-    ensures { result ≡ option_map (λ which. which + 1) place }
+    requires { ForSome place (λ at. at + 1 < usize.MAX) }
+    ensures { result ≡ option_map (λ at. at + 1) place }
 {
     match place {
         None => None,
-        Some(which) => Some(which + 1),
+        Some(at) => Some(at + 1),
     }
 }
 
-/// What is left of the bytes from the place on.
-fn bytes_from(bytes: &[u8], place: usize) -> &[u8]
-    ensures { result.now ≡ drop place bytes.now }
+/// The bytes that are left once the first `given` ones were given.
+fn bytes_from(bytes: &[u8], given: usize) -> &[u8]
+    ensures { result.now ≡ drop given bytes.now }
 {
-    &bytes[place.min(bytes.len())..]
+    &bytes[given.min(bytes.len())..]
 }
 
-/// What is left of the bytes at one place of the puts, from a place among the bytes on.
-pub(crate) fn left_at(puts: &[Put], which: usize, place: usize) -> &[u8]
-    requires { which < length puts.now }
-    ensures { left_of puts.now place (Some which) ≡ Some result.now }
+/// The bytes of the put at a place that are left once the first `given` ones were given.
+pub(crate) fn left_at(puts: &[Put], place: usize, given: usize) -> &[u8]
+    requires { place < length puts.now }
+    ensures { left_of puts.now given (Some place) ≡ Some result.now }
 {
-    bytes_from(puts[which].bytes.as_slice(), place)
+    bytes_from(puts[place].bytes.as_slice(), given)
 }

@@ -6,7 +6,7 @@ ghost use Rattle.x7_in_memory.specs.Memory.{no_calls, with_failing_call, write_f
 use crate::calls::Calls;
 use std::alloc::Global;
 use std::marker::Model;
-use x7_words::{Failed, NoMemory, Sink, next_count};
+use x7_words::{Failed, NoMemory, Sink, raised};
 
 /// A sink in memory with a fixed room, known whole.
 ///
@@ -89,10 +89,10 @@ impl Sink for MemorySink {
         ensures after { self.new ≡ after_write self.old piece.now }
         ensures faults { IsLaterCount self.old.faults self.new.faults }
     {
-        let is_planned = self.calls.next().is_err();
+        let is_to_fail = self.calls.next().is_err();
         let free = self.room - self.bytes.len();
-        if is_planned || free == 0 && piece.len() > 0 {
-            self.faults = next_count(self.faults);
+        if is_to_fail || free == 0 && piece.len() > 0 {
+            self.faults = raised(self.faults);
             return Err(Failed);
         }
         let count = piece.len().min(self.most).min(free);

@@ -5,7 +5,7 @@ use Rattle.std.proofs.lemmas.List.{take-append-le}
 use Rattle.std.proofs.lemmas.List.FromFn.{get_or-map-range_with_len, length-map-range_with_len}
 use Rattle.x7_text.specs.Row.{rows}
 use Rattle.x7_mcs.specs.Lines.{lines_of}
-use Rattle.x7_mcs.specs.Record.{Meaning, record_address, record_count, record_data, sum_found, meaning_by_type, meaning_of, pairs, record_type, base_value, sum_wanted}
+use Rattle.x7_mcs.specs.Record.{Meaning, record_address, record_count, record_data, sum_found, meaning_by_type, meaning_of, bytes_of_pairs, record_type, base_value, sum_wanted}
 use Rattle.x7_mcs.specs.DataRecords.{HaveNoOverlap, DataRecord, byte_at, covered, covers, record_end, extent, records_image, overlap, unless_covered, with_record}
 use Rattle.x7_mcs.specs.Flash.{FlashReading, after_bytes, after_line, after_lines, after_meaning, and_then, flash_in, mcs_of, of_no_line, flash_reading, with_end, with_records}
 use Rattle.x7_mcs.specs.Text.{block_start, data_line, row_lines}
@@ -107,7 +107,7 @@ apart_colon false o n r s e a = absurd cc
 
 apart_line : (t : List ℕ) (n : ℕ) (r s : FlashReading) → after_line n r t ≡ Ok s → HaveNoOverlap r.records → HaveNoOverlap s.records
 apart_line [] n r s e a = let same : r ≡ s = cc in subst (λ (v : FlashReading). HaveNoOverlap v.records) same a
-apart_line (c ∷ cs) n r s e a = apart_colon (c == 58) (pairs cs) n r s e a
+apart_line (c ∷ cs) n r s e a = apart_colon (c == 58) (bytes_of_pairs cs) n r s e a
 
 apart_then : (q : Result FlashReading McsFault) (more : FlashReading → Result FlashReading McsFault) (s : FlashReading) → and_then q more ≡ Ok s → ((t : FlashReading) → q ≡ Ok t → more t ≡ Ok s → HaveNoOverlap s.records) → HaveNoOverlap s.records
 apart_then (Err f) more s e h = absurd cc
@@ -229,7 +229,7 @@ reported_colon false o n r e = absurd cc
 
 pub reported_one : (t : List ℕ) (n : ℕ) (r : FlashReading) → IsReported (after_line n r t)
 reported_one [] n r e = absurd cc
-reported_one (c ∷ cs) n r e = reported_colon (c == 58) (pairs cs) n r e
+reported_one (c ∷ cs) n r e = reported_colon (c == 58) (bytes_of_pairs cs) n r e
 
 reported_then : (q : Result FlashReading McsFault) (more : FlashReading → Result FlashReading McsFault) → IsReported q → ((s : FlashReading) → IsReported (more s)) → IsReported (and_then q more)
 reported_then (Err f) more h k e = h (let s : Err f ≡ Err fault.NoMemory = cc in s)

@@ -6,22 +6,22 @@ use Rattle.std.specs.List.{flat_map}
 use Rattle.x7_words.specs.Word.{AreBytes}
 use Rattle.x7_text.specs.Digits.{hex_byte, hex_digit}
 use Rattle.x7_mcs.specs.Lines.{lines_of, on_first, split, without_return}
-use Rattle.x7_mcs.specs.Record.{byte_of, record_count, digit_of, sum_found, led, meaning_by_type, meaning_of, pairs, sum_byte, sum_wanted}
+use Rattle.x7_mcs.specs.Record.{byte_of, record_count, number_of_digit, sum_found, byte_before, meaning_by_type, meaning_of, bytes_of_pairs, sum_byte, sum_wanted}
 use Rattle.x7_mcs.specs.Text.{record_line}
 use Rattle.x7_mcs.specs.declared.fault.McsFault.TheVariants as fault
 use Rattle.x7_mcs.proofs.LineLemmas.{line_ends}
 
-pub digit_back : (n : ℕ) → n < 16 → digit_of (hex_digit n) ≡ Some n
+pub digit_back : (n : ℕ) → n < 16 → number_of_digit (hex_digit n) ≡ Some n
 digit_back n h = grind (arith, common_steps)
 
 byte_whole : (b : ℕ) → b < 256 → 16 * (b / 2 ^ 4 % 16) + b % 16 ≡ b
 byte_whole b h = omega arith
 
-pub pairs_back : (bs : List ℕ) → AreBytes bs → pairs (flat_map hex_byte bs) ≡ Some bs
+pub pairs_back : (bs : List ℕ) → AreBytes bs → bytes_of_pairs (flat_map hex_byte bs) ≡ Some bs
 pairs_back [] h = refl
 pairs_back (b ∷ bs) h =
-    ap₂ (λ (x : Option ℕ) (y : Option ℕ). led (byte_of x y) (pairs (flat_map hex_byte bs))) (digit_back (b / 2 ^ 4 % 16) (omega arith)) (digit_back (b % 16) (omega arith))
-    ∙ ap₂ (λ (v : ℕ) (o : Option (List ℕ)). led (Some v) o) (byte_whole b h.0) (pairs_back bs h.1)
+    ap₂ (λ (x : Option ℕ) (y : Option ℕ). byte_before (byte_of x y) (bytes_of_pairs (flat_map hex_byte bs))) (digit_back (b / 2 ^ 4 % 16) (omega arith)) (digit_back (b % 16) (omega arith))
+    ∙ ap₂ (λ (v : ℕ) (o : Option (List ℕ)). byte_before (Some v) o) (byte_whole b h.0) (pairs_back bs h.1)
 
 -- no character is a line end or a 0D
 abbrev pub Plain : List ℕ → Type 0

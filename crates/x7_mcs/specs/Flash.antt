@@ -3,7 +3,7 @@ use Rattle.std.specs.Prelude.{ℕ, ◌+◌, ◌==◌, Bool, true, false, if◌th
 use Rattle.x7_mcs.specs.declared.fault.McsFault.{McsFault}
 use Rattle.x7_mcs.specs.declared.fault.McsFault.TheVariants as fault
 use Rattle.x7_mcs.specs.Lines.{lines_of}
-use Rattle.x7_mcs.specs.Record.{Meaning, record_data, meaning_of, pairs}
+use Rattle.x7_mcs.specs.Record.{Meaning, record_data, meaning_of, bytes_of_pairs}
 use Rattle.x7_mcs.specs.DataRecords.{DataRecord, records_image, with_record}
 
 -- what lines give: the base that stands, whether a record 01 stood, and the data records, the last first
@@ -41,7 +41,7 @@ after_bytes n r (Some bs) = after_meaning n r bs (meaning_of n r.ended bs)
 -- what lines give with line n: an empty line means nothing, and any other is `:` and pairs of digits
 abbrev pub after_line : ℕ → FlashReading → List ℕ → Result FlashReading McsFault
 after_line n r [] = Ok r
-after_line n r (c ∷ cs) = if c == 58 then after_bytes n r (pairs cs) else Err (fault.Line n)
+after_line n r (c ∷ cs) = if c == 58 then after_bytes n r (bytes_of_pairs cs) else Err (fault.Line n)
 
 -- the first fault stays
 abbrev pub and_then : Result FlashReading McsFault → (FlashReading → Result FlashReading McsFault) → Result FlashReading McsFault

@@ -2,11 +2,13 @@
 -- their values are this project's choice).
 use Rattle.std.specs.Prelude.{ℕ, ◌+◌, ◌*◌, ◌^◌}
 use Rattle.x7_regs.specs.Control.{config_fallback, glutmask_b, gts_user_b}
+use Rattle.x7_regs.specs.StartupOptions.{done_cycle, done_pipe, gts_cycle, gwe_cycle, lock_cycle, match_cycle}
 
--- COR0 02003FE5: DONE_PIPE 25; DONE_CYCLE 14:12 has DONE rise in phase 4, GTS_CYCLE 5:3 GTS in phase 5, GWE_CYCLE 2:0
--- GWE in phase 6; MATCH_CYCLE 11:9 and LOCK_CYCLE 8:6 wait for nothing
+-- COR0 02003FE5: DONE_PIPE; DONE_CYCLE has DONE rise in phase 4, GTS_CYCLE GTS in phase 5, GWE_CYCLE GWE in phase 6;
+-- MATCH_CYCLE and LOCK_CYCLE wait for nothing
 abbrev pub startup_options : ℕ
-startup_options = 2 ^ 25 + 3 * 2 ^ 12 + 7 * 2 ^ 9 + 7 * 2 ^ 6 + 4 * 2 ^ 3 + 5
+startup_options =
+    2 ^ done_pipe + 3 * 2 ^ done_cycle + 7 * 2 ^ match_cycle + 7 * 2 ^ lock_cycle + 4 * 2 ^ gts_cycle + 5 * 2 ^ gwe_cycle
 
 -- MASK 00000501: the bits of CTL0 that are written
 abbrev pub control_mask : ℕ

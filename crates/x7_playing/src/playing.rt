@@ -1,6 +1,6 @@
 //! Playing the data of streams while they are read.
 ghost use Rattle.std.specs.Prelude.{◌≡◌, ℕ, List, [], ◌∷◌, ◌+◌, ◌<◌, ◌≤◌, ◌⊎◌, true, length, map, string_bytes, Ok, Err, IfErr, IfOk};
-ghost use Rattle.x7_words.specs.Input.{AsksFew, AtEnd, InputsStay};
+ghost use Rattle.x7_words.specs.Input.{AsksAtMost, AtEnd, InputsStay};
 ghost use Rattle.x7_forms.specs.Message.{event_of};
 ghost use Rattle.x7_forms.specs.Event.{no_memory};
 ghost use Rattle.x7_forms.specs.Known.{stream_limit};
@@ -72,7 +72,7 @@ fn play_stream<'w, I: Inputs>(
     ensures err { IfErr result (λ r. ReadsStream (I.state inputs.old) (I.state inputs.new) limit name.now (Err (event_of r))) }
     ensures named { IfErr result (λ r. IsUnplayed name.now (event_of r)) }
     ensures stands { StandsAt name.now limit (I.state inputs.new) }
-    ensures once { AsksFew (I.state inputs.old) 1 (I.state inputs.new) }
+    ensures once { AsksAtMost (I.state inputs.old) 1 (I.state inputs.new) }
     ensures length { length piece.new ≡ length piece.old }
     ensures inputs { InputsStay (I.state inputs.old) (I.state inputs.new) }
 {
@@ -106,7 +106,7 @@ pub fn play_streams<'w, I: Inputs>(
     ensures named { IfErr result (λ r. IsOneUnplayed (map string_bytes streams.now) (event_of r)) }
     ensures stops { IfErr result (λ r. StopsAmong (limited_together (I.state inputs.old).contents stream_limit (map string_bytes streams.now))
         (I.state inputs.old) (I.state inputs.new) (event_of r)) }
-    ensures once { AsksFew (I.state inputs.old) (length streams.now) (I.state inputs.new) }
+    ensures once { AsksAtMost (I.state inputs.old) (length streams.now) (I.state inputs.new) }
     ensures inputs { InputsStay (I.state inputs.old) (I.state inputs.new) }
 {
     let Ok(mut player) = Player::new(alloc, part) else {

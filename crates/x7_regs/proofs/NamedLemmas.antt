@@ -4,7 +4,7 @@ use Rattle.std.proofs.lemmas.Bool.{cases_lt}
 use Rattle.std.proofs.lemmas.Grind.{common_steps}
 use Rattle.x7_regs.specs.Register.{reg_name}
 use Rattle.x7_regs.specs.Command.{code_of, command_by, command_name_of}
-use Rattle.x7_regs.specs.Named.{place_of}
+use Rattle.x7_regs.specs.Named.{place_of_name}
 use Rattle.x7_regs.specs.declared.command.Command.{Command}
 use Rattle.x7_regs.specs.declared.command.Command.TheVariants.{Null, Wcfg, Mfw, Lfrm, Rcfg, Start, Rcap, Rcrc, Aghigh, Switch, Grestore, Shutdown, Gcapture, Desync, Iprog, Crcc, Ltimer, BspiRead, FallEdge}
 use Rattle.x7_regs.specs.declared.named.TheConstants.{REGISTERS, COMMANDS}
@@ -32,7 +32,7 @@ each_holds test (suc k) n h e =
 
 -- the table has a register's number at the place of its name, and the name has the length that the table is for
 unfoldable is_found : ℕ → Bool
-is_found n = (get_or REGISTERS (place_of (reg_name n)) 0 == n) && (nat_lt 1 (length (reg_name n)) && nat_lt (length (reg_name n)) 10)
+is_found n = (get_or REGISTERS (place_of_name (reg_name n)) 0 == n) && (nat_lt 1 (length (reg_name n)) && nat_lt (length (reg_name n)) 10)
 
 all_found : each is_found 32 ≡ true
 unfolding each is_found
@@ -44,10 +44,10 @@ equal_numbers a b e = grind (arith, common_steps)
 less : (a b : ℕ) → nat_lt a b ≡ true → a < b
 less a b e = grind (arith, common_steps)
 
-pub register_place : (n : ℕ) → n < 32 → (get_or REGISTERS (place_of (reg_name n)) 0 ≡ n) × (1 < length (reg_name n)) × (length (reg_name n) < 10)
+pub register_place : (n : ℕ) → n < 32 → (get_or REGISTERS (place_of_name (reg_name n)) 0 ≡ n) × (1 < length (reg_name n)) × (length (reg_name n) < 10)
 unfolding is_found
 register_place n h =
-    let parts = both (get_or REGISTERS (place_of (reg_name n)) 0 == n) (nat_lt 1 (length (reg_name n)) && nat_lt (length (reg_name n)) 10) (each_holds is_found 32 n h all_found) in
+    let parts = both (get_or REGISTERS (place_of_name (reg_name n)) 0 == n) (nat_lt 1 (length (reg_name n)) && nat_lt (length (reg_name n)) 10) (each_holds is_found 32 n h all_found) in
     let lengths = both (nat_lt 1 (length (reg_name n))) (nat_lt (length (reg_name n)) 10) parts.1 in
     (equal_numbers _ _ parts.0, less _ _ lengths.0, less _ _ lengths.1)
 
@@ -69,7 +69,7 @@ below_at (x ∷ xs) (suc k) e = below_at xs k (both (nat_lt x 32) (are_below xs)
 pub register_below : (k : ℕ) → get_or REGISTERS k 0 < 32
 register_below k = below_at REGISTERS k all_below
 
-pub command_place : (c : Command) → (get_or COMMANDS (place_of (command_name_of c)) 0 ≡ code_of c) × (1 < length (command_name_of c)) × (length (command_name_of c) < 10)
+pub command_place : (c : Command) → (get_or COMMANDS (place_of_name (command_name_of c)) 0 ≡ code_of c) × (1 < length (command_name_of c)) × (length (command_name_of c) < 10)
 command_place Null = (refl, omega arith, omega arith)
 command_place Wcfg = (refl, omega arith, omega arith)
 command_place Mfw = (refl, omega arith, omega arith)
@@ -95,9 +95,9 @@ pub no_register_length : (text : List ℕ) → (1 < length text → length text 
 no_register_length text h n b e = let p = register_place n b in let l : length text ≡ length (reg_name n) = ap length e in h (omega (arith, p.1)) (omega (arith, p.2))
 
 -- no name of a register, where that of the table is another
-pub no_register : (text name : List ℕ) (k : ℕ) → k ≡ get_or REGISTERS (place_of text) 0 → name ≡ reg_name k → (name ≡ text → ⊥) → (n : ℕ) → n < 32 → text ≡ reg_name n → ⊥
+pub no_register : (text name : List ℕ) (k : ℕ) → k ≡ get_or REGISTERS (place_of_name text) 0 → name ≡ reg_name k → (name ≡ text → ⊥) → (n : ℕ) → n < 32 → text ≡ reg_name n → ⊥
 no_register text name k found is other n b e =
-    other (is ∙ ap reg_name (found ∙ ap (λ t. get_or REGISTERS (place_of t) 0) e ∙ (register_place n b).0) ∙ sym e)
+    other (is ∙ ap reg_name (found ∙ ap (λ t. get_or REGISTERS (place_of_name t) 0) e ∙ (register_place n b).0) ∙ sym e)
 
 small : (c : Command) → code_of c % 2 ^ 5 ≡ code_of c
 small Null = refl
@@ -121,8 +121,8 @@ small BspiRead = refl
 small FallEdge = refl
 
 -- no name of a command, where that of the table is another
-pub no_command : (text name : List ℕ) (k : ℕ) (found : Command) → k ≡ get_or COMMANDS (place_of text) 0 → found ≡ command_by k → name ≡ command_name_of found → (name ≡ text → ⊥) → (c : Command) → text ≡ command_name_of c → ⊥
+pub no_command : (text name : List ℕ) (k : ℕ) (found : Command) → k ≡ get_or COMMANDS (place_of_name text) 0 → found ≡ command_by k → name ≡ command_name_of found → (name ≡ text → ⊥) → (c : Command) → text ≡ command_name_of c → ⊥
 no_command text name k found is by named other c e =
-    let code : k ≡ code_of c = is ∙ ap (λ t. get_or COMMANDS (place_of t) 0) e ∙ (command_place c).0 in
+    let code : k ≡ code_of c = is ∙ ap (λ t. get_or COMMANDS (place_of_name t) 0) e ∙ (command_place c).0 in
     let same : found ≡ c = by ∙ ap command_by code ∙ command_by_named c (code_of c) (small c) in
     other (named ∙ ap command_name_of same ∙ sym e)

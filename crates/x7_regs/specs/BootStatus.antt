@@ -23,14 +23,15 @@ cause_bits_of (Some Id) = 2 ^ 4
 cause_bits_of (Some Crc) = 2 ^ 5
 cause_bits_of (Some Wrap) = 2 ^ 6
 
--- the bits of an attempt; a device on the bench has none (this project's choice)
+-- the bits of an attempt by its kind, the cause that it failed by and whether an IPROG was ignored in it; a device on
+-- the bench has none (this project's choice)
 abbrev pub attempt_bits_by : Kind → Option Cause → Bool → ℕ
 attempt_bits_by Bench cause ignored = 0
 attempt_bits_by Power cause ignored = kind_bits_of Power ignored + cause_bits_of cause
 attempt_bits_by Iprog cause ignored = kind_bits_of Iprog ignored + cause_bits_of cause
 attempt_bits_by Fallback cause ignored = kind_bits_of Fallback ignored + cause_bits_of cause
 
--- the bits of an attempt by its kind, its cause and whether its IPROG was ignored
+-- the bits of an attempt
 abbrev pub attempt_bits_of : Attempt → ℕ
 attempt_bits_of attempt = attempt_bits_by attempt.kind attempt.cause attempt.ignored
 
@@ -39,13 +40,13 @@ abbrev pub before_bits_of : Option Attempt → ℕ
 before_bits_of None = 0
 before_bits_of (Some attempt) = attempt_bits_of attempt
 
--- the word of the register by the kind of the present attempt: 0 on the bench
-abbrev pub word_by : Kind → ℕ → ℕ → ℕ
-word_by Bench latest before = 0
-word_by Power latest before = latest + before * 2 ^ 8
-word_by Iprog latest before = latest + before * 2 ^ 8
-word_by Fallback latest before = latest + before * 2 ^ 8
+-- the word of the register by the kind of the present attempt, its bits and those of the attempt before; 0 on the bench
+abbrev pub boot_word_by : Kind → ℕ → ℕ → ℕ
+boot_word_by Bench latest before = 0
+boot_word_by Power latest before = latest + before * 2 ^ 8
+boot_word_by Iprog latest before = latest + before * 2 ^ 8
+boot_word_by Fallback latest before = latest + before * 2 ^ 8
 
--- the word of the register
+-- the word of the register in the present attempt, and after the one before, if there was one
 unfoldable pub boot_status_of : Attempt → Option Attempt → ℕ
-boot_status_of latest before = word_by latest.kind (attempt_bits_of latest) (before_bits_of before)
+boot_status_of latest before = boot_word_by latest.kind (attempt_bits_of latest) (before_bits_of before)

@@ -51,7 +51,7 @@ command_name_of Ltimer = codes "LTIMER"
 command_name_of BspiRead = codes "BSPI_READ"
 command_name_of FallEdge = codes "FALL_EDGE"
 
--- the command with this code, and Null for a number that is no code (that it acts as Null is this project's choice)
+-- the command with this code; Null for a number that is no code, which acts as Null (this project's choice)
 abbrev pub command_with : ℕ → Command
 command_with n =
     if n == 1 then Wcfg else

@@ -3,4 +3,5 @@ pub mod Command
 pub mod Control
 pub mod Named
 pub mod Register
+pub mod StartupOptions
 pub mod Status

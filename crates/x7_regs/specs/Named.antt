@@ -1,5 +1,5 @@
--- The names read back: which number or code a name is that of, and where a table
--- of names has it (this project's choice).
+-- Names read back: the register number or the command's code of a name, and its place in a table (this project's
+-- choice).
 use Rattle.std.specs.Prelude.{◌≡◌, ℕ, ◌+◌, ◌-◌, ◌*◌, ◌%◌, ◌<◌, List, length, get_or}
 use Rattle.x7_regs.specs.Register.{reg_name}
 use Rattle.x7_regs.specs.Command.{code_of, command_name_of}
@@ -16,10 +16,10 @@ pub record IsCommandName (text : List ℕ) (code : ℕ) : Type 0 where
   pub name : text ≡ command_name_of command
   pub code_is : code ≡ code_of command
 
--- how many bytes a name has at least
+-- how many bytes a name has at least: its place in a table is made of its first two, its last and its length
 abbrev pub name_least : ℕ
 name_least = 2
 
--- the place of a name in a table of 64, which no two registers and no two commands share
-abbrev pub place_of : List ℕ → ℕ
-place_of name = (get_or name 0 0 + 13 * get_or name 1 0 + 3 * get_or name (length name - 1) 0 + 2 * length name) % 64
+-- the place of a name in a table of 64 places, which no two registers and no two commands share
+abbrev pub place_of_name : List ℕ → ℕ
+place_of_name name = (get_or name 0 0 + 13 * get_or name 1 0 + 3 * get_or name (length name - 1) 0 + 2 * length name) % 64

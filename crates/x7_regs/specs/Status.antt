@@ -2,11 +2,11 @@
 use Rattle.std.specs.Prelude.{ℕ, ◌+◌, ◌*◌, ◌^◌, Bool, List, [], ◌∷◌, get_or, if◌then◌else◌}
 use Rattle.x7_regs.specs.declared.status.StatParts.{StatParts}
 
--- a bit's value
+-- the value of a bit: 1 where it is set
 unfoldable pub flag_of : Bool → ℕ
 flag_of b = if b then 1 else 0
 
--- the states 000, 001, 011, 010, 110, 111, 101, 100 of the startup machine, for its phases from 0 to 7
+-- the codes of the startup machine's states for its phases from 0 to 7: 000, 001, 011, 010, 110, 111, 101, 100
 abbrev pub startup_states : List ℕ
 startup_states = 0 ∷ 1 ∷ 3 ∷ 2 ∷ 6 ∷ 7 ∷ 5 ∷ 4 ∷ []
 

@@ -22,9 +22,9 @@ pub enum Cause {
     Watchdog,
     /// A written idcode was not the part's.
     Id,
-    /// A written check differed from the running one.
+    /// A check word that was written differed from the running check.
     Crc,
-    /// The flash ended first.
+    /// The flash ended before startup did.
     Wrap,
 }
 
@@ -39,18 +39,27 @@ pub struct Attempt {
     pub ignored: bool,
 }
 
+/// VALID: the register has an attempt.
+const VALID: u32 = 1 << 0;
+
+/// FALLBACK: the attempt before failed.
+const FALLBACK: u32 = 1 << 1;
+
+/// IPROG: an IPROG command began the attempt, or was ignored in it.
+const IPROG: u32 = 1 << 2;
+
 /// The bits of an attempt's kind: VALID, FALLBACK and IPROG.
 #[tactic(auto, unfolding(crate::specs::Status::flag_of))]
 fn kind_bits(kind: Kind, ignored: bool) -> u32
     ensures value { result ≡ kind_bits_of kind ignored }
     ensures fits { result < 2 ^ 3 }
 {
-    let iprog = if ignored { 0b100 } else { 0 };
+    let iprog = if ignored { IPROG } else { 0 };
     match kind {
         Kind::Bench => 0,
-        Kind::Power => 0b001 + iprog,
-        Kind::Iprog => 0b101,
-        Kind::Fallback => 0b011 + iprog,
+        Kind::Power => VALID + iprog,
+        Kind::Iprog => VALID + IPROG,
+        Kind::Fallback => VALID + FALLBACK + iprog,
     }
 }
 

@@ -2,7 +2,7 @@
 ghost use Rattle.std.specs.Prelude.{◌≡◌, ◌<◌};
 ghost use Rattle.x7_regs.specs.Command.{code_of, command_by};
 
-/// A command, in the order of their codes.
+/// The commands, in the order of their codes.
 #[derive(Clone, Copy, Debug, PartialEq, Eq, Hash)]
 pub enum Command {
     /// Nothing.
@@ -17,7 +17,7 @@ pub enum Command {
     Rcfg,
     /// Arms the startup sequence.
     Start,
-    /// Ends a capture of states.
+    /// Ends a capture of the flip-flops' states.
     Rcap,
     /// Clears the running check.
     Rcrc,
@@ -25,11 +25,11 @@ pub enum Command {
     Aghigh,
     /// Changes the configuration clock.
     Switch,
-    /// Sets the states from the memory.
+    /// Sets the flip-flops' states from the configuration memory.
     Grestore,
     /// Begins the shutdown sequence.
     Shutdown,
-    /// Captures the states.
+    /// Captures the flip-flops' states.
     Gcapture,
     /// Ends the session.
     Desync,
@@ -45,12 +45,15 @@ pub enum Command {
     FallEdge,
 }
 
+/// The bits of a word of the command register that have the code of a command.
+const CODE_MASK: u32 = 0x1F;
+
 /// The command that a word of the command register calls for, by its low five bits: `Null` where these are no code.
 #[rattlefmt::skip]
-pub fn command_of(w: u32) -> Command
-    ensures { result ≡ command_by w }
+pub fn command_of(word: u32) -> Command
+    ensures { result ≡ command_by word }
 {
-    match w & 31 {
+    match word & CODE_MASK {
         1  => Command::Wcfg,
         2  => Command::Mfw,
         3  => Command::Lfrm,

@@ -1,5 +1,5 @@
 //! The registers and commands of the configuration logic: their numbers, codes and names, the fields of control
-//! register 0, and the words of the status registers.
+//! register 0 and of configuration options register 0, and the words of the status registers.
 #![tactic(auto)]
 
 mod boot_status;
@@ -9,6 +9,7 @@ mod laws;
 mod name;
 mod named;
 mod register;
+mod startup_options;
 mod status;
 
 pub use boot_status::{Attempt, Cause, Kind, boot_word};
@@ -21,4 +22,5 @@ pub use laws::{codes_are_distinct, names_are_distinct, numbers_are_distinct};
 pub use name::{CommandName, RegName, command_text, name_of};
 pub use named::{command_named, reg_named};
 pub use register::{Reg, reg_of};
+pub use startup_options::{DONE_CYCLE, DONE_PIPE, GTS_CYCLE, GWE_CYCLE, LOCK_CYCLE, MATCH_CYCLE};
 pub use status::{StatParts, stat_word};

@@ -62,11 +62,11 @@ impl CommandName {
 
 /// The name of a register number: of a number without a register, `R` and its two digits (this project's choice).
 #[rattlefmt::skip]
-pub fn name_of(n: u8) -> RegName
-    requires { n < 32 }
-    ensures { result ≡ reg_name n }
+pub fn name_of(number: u8) -> RegName
+    requires { number < 32 }
+    ensures { result ≡ reg_name number }
 {
-    let text: &'static [u8] = match n {
+    let text: &'static [u8] = match number {
         0  => b"CRC",
         1  => b"FAR",
         2  => b"FDRI",
@@ -103,12 +103,12 @@ pub fn name_of(n: u8) -> RegName
     RegName { text }
 }
 
-/// The name of a command.
+/// The name of a command (UG470, command register).
 #[rattlefmt::skip]
-pub fn command_text(c: Command) -> CommandName
-    ensures { result ≡ command_name_of c }
+pub fn command_text(command: Command) -> CommandName
+    ensures { result ≡ command_name_of command }
 {
-    let text: &'static [u8] = match c {
+    let text: &'static [u8] = match command {
         Command::Null     => b"NULL",
         Command::Wcfg     => b"WCFG",
         Command::Mfw      => b"MFW",

@@ -1,7 +1,7 @@
 //! Names of registers and commands read back.
 ghost use Rattle.std.specs.Prelude.{◌≡◌, ◌≢◌, ◌≤◌, ◌<◌, ℕ, length, slice_index, IfSome, IfNone};
 ghost use Rattle.x7_regs.specs.Command.{command_name_limit, command_name_of};
-ghost use Rattle.x7_regs.specs.Named.{IsCommandName, IsRegName, name_least, place_of};
+ghost use Rattle.x7_regs.specs.Named.{IsCommandName, IsRegName, name_least, place_of_name};
 ghost use Rattle.x7_regs.specs.Register.{reg_name};
 ghost use Rattle.x7_regs.specs.declared.command.Command.{Command};
 
@@ -9,13 +9,13 @@ use crate::command::command_of;
 use crate::name::{command_text, name_of};
 use x7_words::is_same;
 
-/// How many bytes a name has at least.
+/// How many bytes a name has at least: its place in a table is made of its first two, its last and its length.
 const NAME_LEAST: usize = 2;
 
 /// How many bytes the name of a command has at most.
 const COMMAND_NAME_LIMIT: usize = 9;
 
-/// The register numbers by the places of their names. A place of no name has 0.
+/// The register numbers, each at the place of its name. A place of no name has 0.
 #[rattlefmt::skip]
 const REGISTERS: [u8; 64] = [
     19, 25,  0,  6, 26,  0,  0, 27,  0, 17, 28,  0, 22, 29,  0,  1,
@@ -24,7 +24,7 @@ const REGISTERS: [u8; 64] = [
      0,  0, 20, 16, 15, 21,  0,  0,  0,  0, 13, 23,  0, 18,  4, 30,
 ];
 
-/// The codes of the commands by the places of their names. A place of no name has 0.
+/// The codes of the commands, each at the place of its name. A place of no name has 0.
 #[rattlefmt::skip]
 const COMMANDS: [u8; 64] = [
      8,  0,  0,  0,  0,  0,  0,  0,  0,  3,  7,  0,  0, 12,  0,  0,
@@ -37,7 +37,7 @@ const COMMANDS: [u8; 64] = [
 fn at_place(table: &[u8; 64], name: &[u8]) -> u8
     requires least { name_least ≤ length name.now }
     requires limit { length name.now ≤ command_name_limit }
-    ensures { result ≡ slice_index table.now (place_of name.now) }
+    ensures { result ≡ slice_index table.now (place_of_name name.now) }
 {
     let (first, second) = (usize::from(name[0]), usize::from(name[1]));
     let last = usize::from(name[name.len() - 1]);
@@ -48,7 +48,7 @@ fn at_place(table: &[u8; 64], name: &[u8]) -> u8
 fn register_at(name: &[u8]) -> u8
     requires least { name_least ≤ length name.now }
     requires limit { length name.now ≤ command_name_limit }
-    ensures value { result ≡ slice_index REGISTERS (place_of name.now) }
+    ensures value { result ≡ slice_index REGISTERS (place_of_name name.now) }
     ensures below { result < 32 }
 {
     at_place(&REGISTERS, name)

@@ -3,7 +3,7 @@ ghost use Rattle.std.specs.Prelude.{◌≡◌, ◌≢◌, ◌<◌, Some, IfSome,
 ghost use Rattle.x7_regs.specs.Register.{number_of, reg_with};
 ghost use Rattle.x7_regs.specs.declared.register.Reg.{Reg};
 
-/// A configuration register, in the order of their numbers.
+/// The configuration registers, in the order of their numbers.
 #[derive(Clone, Copy, Debug, PartialEq, Eq, Hash)]
 pub enum Reg {
     /// The running check; a written word is compared with it.
@@ -30,13 +30,13 @@ pub enum Reg {
     Mfwr,
     /// The initial value of an encrypted stream (cipher block chaining).
     Cbc,
-    /// The part.
+    /// The IDCODE of the part.
     Idcode,
     /// A word for the user design.
     Axss,
     /// Further configuration options.
     Cor1,
-    /// The start address of the next boot.
+    /// The start address of the boot that an IPROG begins.
     Wbstar,
     /// The watchdog.
     Timer,

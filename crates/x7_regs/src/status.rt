@@ -3,10 +3,10 @@ ghost use Rattle.std.specs.Prelude.{◌≡◌, ◌<◌, ◌*◌, ◌^◌};
 ghost use Rattle.x7_regs.specs.Status.{flag_of, startup_state_of, status_of};
 ghost use Rattle.x7_words.specs.Word.{field_of};
 
-/// What the status register shows.
+/// What the status register shows, bit by bit (UG470, status register).
 #[derive(Clone, Copy, Debug, PartialEq, Eq, Hash)]
 pub struct StatParts {
-    /// A written check differed from the running one.
+    /// A check word that was written differed from the running check.
     pub crc_error: bool,
     /// The clock managers have locked.
     pub lock: bool,
@@ -34,14 +34,14 @@ pub struct StatParts {
     pub bus_width: u8,
 }
 
-/// A word with this bit alone, or 0.
+/// A word of which the bit of this number alone is 1, where it is set; else 0.
 #[tactic(auto, unfolding(crate::specs::Status::flag_of))]
-fn flag(set: bool, bit: u32) -> u32
+fn flag(is_set: bool, bit: u32) -> u32
     requires { bit < 16 }
-    ensures value { result ≡ flag_of set * 2 ^ bit }
-    ensures fits { flag_of set < 2 }
+    ensures value { result ≡ flag_of is_set * 2 ^ bit }
+    ensures fits { flag_of is_set < 2 }
 {
-    u32::from(set) << bit
+    u32::from(is_set) << bit
 }
 
 /// The state of the startup machine in a phase.

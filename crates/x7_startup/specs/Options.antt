@@ -1,23 +1,24 @@
 -- The startup fields of COR0: the codes of phases (UG470, configuration options register 0).
 use Rattle.std.specs.Prelude.{ℕ}
+use Rattle.x7_regs.specs.StartupOptions.{done_cycle, gts_cycle, gwe_cycle, lock_cycle, match_cycle}
 use Rattle.x7_words.specs.Word.{field_of}
 
 -- the code of the phase in which DONE rises
 abbrev pub done_cycle_of : ℕ → ℕ
-done_cycle_of = field_of 12 3
+done_cycle_of = field_of done_cycle 3
 
 -- the code of the phase that waits for the DCI match
 abbrev pub match_cycle_of : ℕ → ℕ
-match_cycle_of = field_of 9 3
+match_cycle_of = field_of match_cycle 3
 
 -- the code of the phase that waits for the MMCM lock
 abbrev pub lock_cycle_of : ℕ → ℕ
-lock_cycle_of = field_of 6 3
+lock_cycle_of = field_of lock_cycle 3
 
 -- the code of the phase in which GTS rises
 abbrev pub gts_cycle_of : ℕ → ℕ
-gts_cycle_of = field_of 3 3
+gts_cycle_of = field_of gts_cycle 3
 
 -- the code of the phase in which GWE rises
 abbrev pub gwe_cycle_of : ℕ → ℕ
-gwe_cycle_of = field_of 0 3
+gwe_cycle_of = field_of gwe_cycle 3

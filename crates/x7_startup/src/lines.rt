@@ -2,6 +2,8 @@
 ghost use Rattle.std.specs.Prelude.{◌≡◌, ◌<◌, Some};
 ghost use Rattle.x7_startup.specs.Lines.{done_rise, line_rise, has_risen, done_line, gts_line, gwe_line};
 
+use x7_regs::{DONE_CYCLE, GTS_CYCLE, GWE_CYCLE};
+
 /// The three lines that startup releases.
 #[derive(Clone, Copy, Debug, PartialEq, Eq, Hash)]
 pub struct Lines {
@@ -49,9 +51,9 @@ pub(crate) fn lines_in(cor0: u32, phase: u8) -> Lines
     ensures gts { result.gts ≡ gts_line (Some cor0) phase }
     ensures gwe { result.gwe ≡ gwe_line (Some cor0) phase }
 {
-    let (done, _) = rises_of(cor0 >> 12 & 7, 6);
-    let (_, gts) = rises_of(cor0 >> 3 & 7, done);
-    let (_, gwe) = rises_of(cor0 & 7, done);
+    let (done, _) = rises_of(cor0 >> DONE_CYCLE & 7, 6);
+    let (_, gts) = rises_of(cor0 >> GTS_CYCLE & 7, done);
+    let (_, gwe) = rises_of(cor0 >> GWE_CYCLE & 7, done);
     Lines {
         done: is_up(Some(done), phase),
         gts: is_up(gts, phase),

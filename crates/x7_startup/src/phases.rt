@@ -3,6 +3,8 @@ ghost use Rattle.std.specs.Prelude.{◌≡◌, ◌≤◌};
 ghost use Rattle.x7_startup.specs.Phases.{wait_of};
 ghost use Rattle.x7_startup.specs.Ticks.{PassesTicks};
 
+use x7_regs::{LOCK_CYCLE, MATCH_CYCLE};
+
 /// The number up to which ticks are counted, the last of 16 bits: no lock or match number of a part is larger.
 const TICK_LIMIT: u64 = 65_535;
 
@@ -17,12 +19,12 @@ pub(crate) struct Reached {
 fn wait_in(cor0: u32, phase: u8, lock: u16, matched: u16) -> u16
     ensures { result ≡ wait_of lock matched cor0 phase }
 {
-    let for_lock = if cor0 >> 6 & 7 == u32::from(phase) {
+    let for_lock = if cor0 >> LOCK_CYCLE & 7 == u32::from(phase) {
         lock
     } else {
         0
     };
-    let for_match = if cor0 >> 9 & 7 == u32::from(phase) {
+    let for_match = if cor0 >> MATCH_CYCLE & 7 == u32::from(phase) {
         matched
     } else {
         0

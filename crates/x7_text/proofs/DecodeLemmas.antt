@@ -5,17 +5,17 @@ use Rattle.std.proofs.lemmas.Bool.Decides.{nat_tests}
 use Rattle.hex.specs.Hex.{decode_pairs, decode_sized, digit_or_error, hex_digit_value, pair_value, value_at, ◌>>=◌}
 use Rattle.hex.specs.declared.error.FromHexError.{FromHexError}
 use Rattle.std.specs.Result.{is_ok}
-use Rattle.x7_text.specs.EitherCase.{byte_of, digit_of, led, pairs}
+use Rattle.x7_text.specs.EitherCase.{byte_of, number_of_digit, byte_before, bytes_of_pairs}
 
 -- what was decoded, without the error
 found : {A : Type 0} → Result A FromHexError → Option A
 found (Ok x) = Some x
 found (Err e) = None
 
-digit_same : (c : ℕ) → digit_of c ≡ hex_digit_value c
+digit_same : (c : ℕ) → number_of_digit c ≡ hex_digit_value c
 digit_same c = grind (arith, nat_tests, common_steps)
 
-digit_found : (c i : ℕ) → found (value_at c i) ≡ digit_of c
+digit_found : (c i : ℕ) → found (value_at c i) ≡ number_of_digit c
 unfolding found
 digit_found c i = by (hex_digit_value c) ∙ sym (digit_same c)
   where
@@ -23,7 +23,7 @@ digit_found c i = by (hex_digit_value c) ∙ sym (digit_same c)
     by (Some v) = refl
     by None = refl
 
-pair_found : (high low i : ℕ) → found (pair_value high low i) ≡ byte_of (digit_of high) (digit_of low)
+pair_found : (high low i : ℕ) → found (pair_value high low i) ≡ byte_of (number_of_digit high) (number_of_digit low)
 unfolding found
 pair_found high low i = by (value_at high i) (value_at low (i + 1)) ∙ ap₂ byte_of (digit_found high i) (digit_found low (i + 1))
   where
@@ -32,13 +32,13 @@ pair_found high low i = by (value_at high i) (value_at low (i + 1)) ∙ ap₂ by
     by (Ok x) (Err e) = refl
     by (Ok x) (Ok y) = ap Some (let e : x * 16 + y ≡ 16 * x + y = omega arith in e)
 
-pairs_found : (i : ℕ) (ds : List ℕ) → found (decode_pairs i ds) ≡ pairs ds
+pairs_found : (i : ℕ) (ds : List ℕ) → found (decode_pairs i ds) ≡ bytes_of_pairs ds
 unfolding found decode_pairs
 pairs_found i [] = refl
 pairs_found i (a ∷ []) = refl
-pairs_found i (a ∷ b ∷ cs) = by (pair_value a b i) (decode_pairs (i + 2) cs) ∙ ap₂ led (pair_found a b i) (pairs_found (i + 2) cs)
+pairs_found i (a ∷ b ∷ cs) = by (pair_value a b i) (decode_pairs (i + 2) cs) ∙ ap₂ byte_before (pair_found a b i) (pairs_found (i + 2) cs)
   where
-    by : (p : Result ℕ FromHexError) (more : Result (List ℕ) FromHexError) → found (p >>= (λ (x : ℕ). more >>= (λ (xs : List ℕ). Ok (x ∷ xs)))) ≡ led (found p) (found more)
+    by : (p : Result ℕ FromHexError) (more : Result (List ℕ) FromHexError) → found (p >>= (λ (x : ℕ). more >>= (λ (xs : List ℕ). Ok (x ∷ xs)))) ≡ byte_before (found p) (found more)
     by (Err e) more = refl
     by (Ok x) (Err e) = refl
     by (Ok x) (Ok xs) = refl
@@ -49,19 +49,19 @@ sized ds n e = grind (arith, common_steps)
 -- the answer of decoding into room for half as many bytes
 pub decoded : (ds new : List ℕ) (n : ℕ) (b : Bool) (r : Result (Unit {0}) FromHexError) → length ds ≡ 2 * n
     → MatchResult (decode_sized ds n) (λ bytes. (r ≡ Ok tt) × (new ≡ bytes)) (λ e. r ≡ Err e) → b ≡ is_ok r
-    → MatchBool b (pairs ds ≡ Some new) (pairs ds ≡ None)
+    → MatchBool b (bytes_of_pairs ds ≡ Some new) (bytes_of_pairs ds ≡ None)
 unfolding found
 decoded ds new n b r long value is = by (decode_sized ds n) refl value
   where
     at : decode_sized ds n ≡ decode_pairs 0 ds
     at = sized ds n long
 
-    yes : b ≡ true → pairs ds ≡ Some new → MatchBool b (pairs ds ≡ Some new) (pairs ds ≡ None)
+    yes : b ≡ true → bytes_of_pairs ds ≡ Some new → MatchBool b (bytes_of_pairs ds ≡ Some new) (bytes_of_pairs ds ≡ None)
     yes e p = rw e p
 
-    no : b ≡ false → pairs ds ≡ None → MatchBool b (pairs ds ≡ Some new) (pairs ds ≡ None)
+    no : b ≡ false → bytes_of_pairs ds ≡ None → MatchBool b (bytes_of_pairs ds ≡ Some new) (bytes_of_pairs ds ≡ None)
     no e p = rw e p
 
-    by : (d : Result (List ℕ) FromHexError) → decode_sized ds n ≡ d → MatchResult d (λ bytes. (r ≡ Ok tt) × (new ≡ bytes)) (λ e. r ≡ Err e) → MatchBool b (pairs ds ≡ Some new) (pairs ds ≡ None)
+    by : (d : Result (List ℕ) FromHexError) → decode_sized ds n ≡ d → MatchResult d (λ bytes. (r ≡ Ok tt) × (new ≡ bytes)) (λ e. r ≡ Err e) → MatchBool b (bytes_of_pairs ds ≡ Some new) (bytes_of_pairs ds ≡ None)
     by (Ok bytes) e v = yes (is ∙ ap is_ok v.0) (sym (pairs_found 0 ds) ∙ ap found (sym at ∙ e) ∙ ap Some (sym v.1))
     by (Err f) e v = no (is ∙ ap is_ok v) (sym (pairs_found 0 ds) ∙ ap found (sym at ∙ e))

@@ -8,23 +8,23 @@ use Rattle.x7_text.specs.Row.{element_text, in_line_after, next_in_line, open_te
 use Rattle.x7_text.proofs.LineLemmas.{open_text_append, in_line_after_append}
 
 -- after the elements xs, which were given after `start` of an open line, to a text that was `old`
-pub record WrittenSoFar (n : ℕ) (word : List ℕ) (text : ℕ → List ℕ) (start : ℕ) (old xs items : List ℕ) (count : ℕ) : Type 0 where
-  pub text_is : items ≡ old ++ open_text n word text start xs
+pub record WrittenSoFar (n : ℕ) (keyword : List ℕ) (text : ℕ → List ℕ) (start : ℕ) (old xs items : List ℕ) (count : ℕ) : Type 0 where
+  pub text_is : items ≡ old ++ open_text n keyword text start xs
   pub count_is : count ≡ in_line_after n start xs
   pub is_open : count < n
 
-pub written_one_more : (n : ℕ) (word : List ℕ) (text : ℕ → List ℕ) (start : ℕ) (old xs items items' : List ℕ) (count count' x : ℕ) → WrittenSoFar n word text start old xs items count
-    → items' ≡ items ++ open_text n word text count (x ∷ []) → count' ≡ in_line_after n count (x ∷ []) → count' < n → WrittenSoFar n word text start old (xs ++ x ∷ []) items' count'
-written_one_more n word text start old xs items items' count count' x t e f h = record {
-  text_is = e ∙ ap (λ k. items ++ open_text n word text k (x ∷ [])) t.count_is ∙ ap (λ s. s ++ open_text n word text (in_line_after n start xs) (x ∷ [])) t.text_is
-      ∙ append_assoc old (open_text n word text start xs) (open_text n word text (in_line_after n start xs) (x ∷ [])) ∙ ap (λ s. old ++ s) (sym (open_text_append n word text start xs (x ∷ [])));
+pub written_one_more : (n : ℕ) (keyword : List ℕ) (text : ℕ → List ℕ) (start : ℕ) (old xs items items' : List ℕ) (count count' x : ℕ) → WrittenSoFar n keyword text start old xs items count
+    → items' ≡ items ++ open_text n keyword text count (x ∷ []) → count' ≡ in_line_after n count (x ∷ []) → count' < n → WrittenSoFar n keyword text start old (xs ++ x ∷ []) items' count'
+written_one_more n keyword text start old xs items items' count count' x t e f h = record {
+  text_is = e ∙ ap (λ k. items ++ open_text n keyword text k (x ∷ [])) t.count_is ∙ ap (λ s. s ++ open_text n keyword text (in_line_after n start xs) (x ∷ [])) t.text_is
+      ∙ append_assoc old (open_text n keyword text start xs) (open_text n keyword text (in_line_after n start xs) (x ∷ [])) ∙ ap (λ s. old ++ s) (sym (open_text_append n keyword text start xs (x ∷ [])));
   count_is = f ∙ ap (λ k. in_line_after n k (x ∷ [])) t.count_is ∙ sym (in_line_after_append n start xs (x ∷ []));
   is_open = h;
 }
 
-element_length : (n : ℕ) (word : List ℕ) (text : ℕ → List ℕ) (i x : ℕ) (rest : List ℕ)
-    → length (element_text n word text i x ++ rest) ≡ (if i == 0 then length word else 0) + length (text x) + (if i + 1 == n then 1 else 0) + length rest
-element_length n word text i x rest = simp length-append (grind (arith, common_steps))
+element_length : (n : ℕ) (keyword : List ℕ) (text : ℕ → List ℕ) (i x : ℕ) (rest : List ℕ)
+    → length (element_text n keyword text i x ++ rest) ≡ (if i == 0 then length keyword else 0) + length (text x) + (if i + 1 == n then 1 else 0) + length rest
+element_length n keyword text i x rest = simp length-append (grind (arith, common_steps))
 
 words_step : (i k rest : ℕ) → rest ≤ 12 * k + (if (if i + 1 == 8 then 0 else i + 1) == 0 then 1 else 0)
     → (if i == 0 then 4 else 0) + 9 + (if i + 1 == 8 then 1 else 0) + rest ≤ 12 * suc k + (if i == 0 then 1 else 0)

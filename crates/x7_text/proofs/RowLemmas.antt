@@ -13,22 +13,22 @@ is_eq a b e = grind (arith, common_steps)
 not_eq : (a b : ℕ) → (a == b) ≡ false → a ≡ b → ⊥
 not_eq a b e f = grind (arith, common_steps)
 
-full_by : (n : ℕ) (part : List ℕ) (x : ℕ) (xs : List ℕ) (b : Bool) → length part < n → (length part + 1 == n) ≡ b → AreFullButLast n (rows_from n [] xs) → (length (part ++ x ∷ []) < n → AreFullButLast n (rows_from n (part ++ x ∷ []) xs))
-    → AreFullButLast n (if b then (part ++ x ∷ []) ∷ rows_from n [] xs else rows_from n (part ++ x ∷ []) xs)
-full_by n part x xs true h e f g = cons_full n (part ++ x ∷ []) (rows_from n [] xs) (length-append part (x ∷ []) ∙ is_eq (length part + 1) n e) (omega arith) f
-full_by n part x xs false h e f g = let no : length part + 1 ≡ n → ⊥ = not_eq (length part + 1) n e in g (omega (arith, length-append part (x ∷ []), no))
+full_by : (n : ℕ) (open_row : List ℕ) (x : ℕ) (xs : List ℕ) (b : Bool) → length open_row < n → (length open_row + 1 == n) ≡ b → AreFullButLast n (rows_from n [] xs) → (length (open_row ++ x ∷ []) < n → AreFullButLast n (rows_from n (open_row ++ x ∷ []) xs))
+    → AreFullButLast n (if b then (open_row ++ x ∷ []) ∷ rows_from n [] xs else rows_from n (open_row ++ x ∷ []) xs)
+full_by n open_row x xs true h e f g = cons_full n (open_row ++ x ∷ []) (rows_from n [] xs) (length-append open_row (x ∷ []) ∙ is_eq (length open_row + 1) n e) (omega arith) f
+full_by n open_row x xs false h e f g = let no : length open_row + 1 ≡ n → ⊥ = not_eq (length open_row + 1) n e in g (omega (arith, length-append open_row (x ∷ []), no))
 
-pub rows_full : (n : ℕ) (part xs : List ℕ) → length part < n → AreFullButLast n (rows_from n part xs)
+pub rows_full : (n : ℕ) (open_row xs : List ℕ) → length open_row < n → AreFullButLast n (rows_from n open_row xs)
 rows_full n [] [] h = tt
 rows_full n (y ∷ ys) [] h = (omega arith, omega arith)
-rows_full n part (x ∷ xs) h = full_by n part x xs (length part + 1 == n) h refl (rows_full n [] xs (omega arith)) (λ k. rows_full n (part ++ x ∷ []) xs k)
+rows_full n open_row (x ∷ xs) h = full_by n open_row x xs (length open_row + 1 == n) h refl (rows_full n [] xs (omega arith)) (λ k. rows_full n (open_row ++ x ∷ []) xs k)
 
-joined_by : (n : ℕ) (part : List ℕ) (x : ℕ) (xs : List ℕ) (b : Bool) → flat_map (λ (r : List ℕ). r) (rows_from n [] xs) ≡ xs → flat_map (λ (r : List ℕ). r) (rows_from n (part ++ x ∷ []) xs) ≡ part ++ x ∷ [] ++ xs
-    → flat_map (λ (r : List ℕ). r) (if b then (part ++ x ∷ []) ∷ rows_from n [] xs else rows_from n (part ++ x ∷ []) xs) ≡ part ++ x ∷ xs
-joined_by n part x xs true f g = ap (λ t. part ++ x ∷ [] ++ t) f ∙ append_assoc part (x ∷ []) xs
-joined_by n part x xs false f g = g ∙ append_assoc part (x ∷ []) xs
+joined_by : (n : ℕ) (open_row : List ℕ) (x : ℕ) (xs : List ℕ) (b : Bool) → flat_map (λ (r : List ℕ). r) (rows_from n [] xs) ≡ xs → flat_map (λ (r : List ℕ). r) (rows_from n (open_row ++ x ∷ []) xs) ≡ open_row ++ x ∷ [] ++ xs
+    → flat_map (λ (r : List ℕ). r) (if b then (open_row ++ x ∷ []) ∷ rows_from n [] xs else rows_from n (open_row ++ x ∷ []) xs) ≡ open_row ++ x ∷ xs
+joined_by n open_row x xs true f g = ap (λ t. open_row ++ x ∷ [] ++ t) f ∙ append_assoc open_row (x ∷ []) xs
+joined_by n open_row x xs false f g = g ∙ append_assoc open_row (x ∷ []) xs
 
-pub rows_joined : (n : ℕ) (part xs : List ℕ) → flat_map (λ (r : List ℕ). r) (rows_from n part xs) ≡ part ++ xs
+pub rows_joined : (n : ℕ) (open_row xs : List ℕ) → flat_map (λ (r : List ℕ). r) (rows_from n open_row xs) ≡ open_row ++ xs
 rows_joined n [] [] = refl
 rows_joined n (y ∷ ys) [] = refl
-rows_joined n part (x ∷ xs) = joined_by n part x xs (length part + 1 == n) (rows_joined n [] xs) (rows_joined n (part ++ x ∷ []) xs)
+rows_joined n open_row (x ∷ xs) = joined_by n open_row x xs (length open_row + 1 == n) (rows_joined n [] xs) (rows_joined n (open_row ++ x ∷ []) xs)

@@ -43,16 +43,16 @@ bytes_in_rows = record { divides = λ bs h. sym (take-append-drop 32 bs); is_ful
 drop_row : (k : ℕ) (bs : List ℕ) → drop (k * 32) (drop 32 bs) ≡ drop (suc k * 32) bs
 drop_row k bs = let e : 32 + k * 32 ≡ suc k * 32 = omega arith in drop-drop (k * 32) 32 bs ∙ ap (λ (j : ℕ). drop j bs) e
 
-pub lines_text : (n : ℕ) (word : List ℕ) (text : ℕ → List ℕ) (elements : List ℕ → List ℕ) → InRows n elements → (k : ℕ) (bs : List ℕ) → k * 32 ≤ length bs
-    → open_text n word text 0 (elements bs) ≡ flat_map (λ (row : List ℕ). line word text (elements row)) (first_chunks 32 k bs) ++ open_text n word text 0 (elements (drop (k * 32) bs))
-lines_text n word text elements r zero bs h = refl
-lines_text n word text elements r (suc k) bs h =
+pub lines_text : (n : ℕ) (keyword : List ℕ) (text : ℕ → List ℕ) (elements : List ℕ → List ℕ) → InRows n elements → (k : ℕ) (bs : List ℕ) → k * 32 ≤ length bs
+    → open_text n keyword text 0 (elements bs) ≡ flat_map (λ (row : List ℕ). line keyword text (elements row)) (first_chunks 32 k bs) ++ open_text n keyword text 0 (elements (drop (k * 32) bs))
+lines_text n keyword text elements r zero bs h = refl
+lines_text n keyword text elements r (suc k) bs h =
     let long : 32 ≤ length bs = omega arith in
-    ap (open_text n word text 0) (r.divides bs long)
-    ∙ open_text_row n word text (elements (take 32 bs)) (elements (drop 32 bs)) (r.is_full bs long) r.positive
-    ∙ ap (λ t. line word text (elements (take 32 bs)) ++ t) (lines_text n word text elements r k (drop 32 bs) (omega (arith, length-drop 32 bs)))
-    ∙ ap (λ t. line word text (elements (take 32 bs)) ++ (flat_map (λ (row : List ℕ). line word text (elements row)) (first_chunks 32 k (drop 32 bs)) ++ open_text n word text 0 (elements t))) (drop_row k bs)
-    ∙ sym (append_assoc (line word text (elements (take 32 bs))) (flat_map (λ (row : List ℕ). line word text (elements row)) (first_chunks 32 k (drop 32 bs))) (open_text n word text 0 (elements (drop (suc k * 32) bs))))
+    ap (open_text n keyword text 0) (r.divides bs long)
+    ∙ open_text_row n keyword text (elements (take 32 bs)) (elements (drop 32 bs)) (r.is_full bs long) r.positive
+    ∙ ap (λ t. line keyword text (elements (take 32 bs)) ++ t) (lines_text n keyword text elements r k (drop 32 bs) (omega (arith, length-drop 32 bs)))
+    ∙ ap (λ t. line keyword text (elements (take 32 bs)) ++ (flat_map (λ (row : List ℕ). line keyword text (elements row)) (first_chunks 32 k (drop 32 bs)) ++ open_text n keyword text 0 (elements t))) (drop_row k bs)
+    ∙ sym (append_assoc (line keyword text (elements (take 32 bs))) (flat_map (λ (row : List ℕ). line keyword text (elements row)) (first_chunks 32 k (drop 32 bs))) (open_text n keyword text 0 (elements (drop (suc k * 32) bs))))
 
 pub lines_count : (n : ℕ) (elements : List ℕ → List ℕ) → InRows n elements → (k : ℕ) (bs : List ℕ) → k * 32 ≤ length bs → in_line_after n 0 (elements bs) ≡ in_line_after n 0 (elements (drop (k * 32) bs))
 lines_count n elements r zero bs h = refl
@@ -64,8 +64,8 @@ lines_count n elements r (suc k) bs h =
     ∙ ap (λ t. in_line_after n 0 (elements t)) (drop_row k bs)
 
 -- elements that fill the open line, and those after them
-pub filled_text : (n : ℕ) (word : List ℕ) (text : ℕ → List ℕ) (i : ℕ) (xs ys : List ℕ) → in_line_after n i xs ≡ 0 → open_text n word text i (xs ++ ys) ≡ open_text n word text i xs ++ open_text n word text 0 ys
-filled_text n word text i xs ys filled = open_text_append n word text i xs ys ∙ ap (λ j. open_text n word text i xs ++ open_text n word text j ys) filled
+pub filled_text : (n : ℕ) (keyword : List ℕ) (text : ℕ → List ℕ) (i : ℕ) (xs ys : List ℕ) → in_line_after n i xs ≡ 0 → open_text n keyword text i (xs ++ ys) ≡ open_text n keyword text i xs ++ open_text n keyword text 0 ys
+filled_text n keyword text i xs ys filled = open_text_append n keyword text i xs ys ∙ ap (λ j. open_text n keyword text i xs ++ open_text n keyword text j ys) filled
 
 pub filled_count : (n i : ℕ) (xs ys : List ℕ) → in_line_after n i xs ≡ 0 → in_line_after n i (xs ++ ys) ≡ in_line_after n 0 ys
 filled_count n i xs ys filled = in_line_after_append n i xs ys ∙ ap (λ j. in_line_after n j ys) filled

@@ -3,11 +3,11 @@ use Rattle.std.specs.Prelude.{◌≡◌, ℕ, ◌+◌, ◌≤◌, List, ◌++◌
 use Rattle.std.specs.Prelude.{Vec}
 use Rattle.std.specs.declared.alloc.Global.{Global}
 
--- there is spare room in a text: for this many bytes more
+-- a text has spare room for this many bytes more
 abbrev pub HasSpareRoom : Vec ℕ Global → ℕ → Type 0
 HasSpareRoom text more = vec_len text + more ≤ vec_capacity text
 
--- the bytes stand after what was there, they are no more than `most`, and no room was lost
+-- the bytes stand after what was there; the text grew by at most `most` bytes, and lost no room
 pub record Appends (old new : Vec ℕ Global) (bytes : List ℕ) (most : ℕ) : Type 0 where
   pub items : new.items ≡ old.items ++ bytes
   pub within : vec_len new ≤ vec_len old + most

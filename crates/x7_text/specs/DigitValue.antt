@@ -2,25 +2,25 @@
 use Rattle.std.specs.Prelude.{ℕ, ◌+◌, ◌*◌, ◌/◌, ◌%◌, List, [], ◌∷◌}
 use Rattle.x7_words.specs.Word.{word_of_bytes}
 
--- the number of a digit from `0` to `9` or from `A` to `F`
+-- the number that a digit from `0` to `9` or from `A` to `F` stands for
 abbrev pub digit_value : ℕ → ℕ
 digit_value c = c % 16 + 9 * (c / 64)
 
--- the byte of two digits
+-- the byte that two digits stand for
 abbrev pub byte_value : ℕ → ℕ → ℕ
 byte_value high low = (digit_value high * 16 + digit_value low) % 256
 
--- the bytes of pairs of digits
+-- the bytes that pairs of digits stand for
 abbrev pub bytes_value : List ℕ → List ℕ
 bytes_value [] = []
 bytes_value (a ∷ []) = []
 bytes_value (a ∷ b ∷ cs) = byte_value a b ∷ bytes_value cs
 
--- the word of eight digits
+-- the word that eight digits stand for
 abbrev pub word_value : List ℕ → ℕ
 word_value cs = word_of_bytes (bytes_value cs)
 
--- the bytes of pairs of halves
+-- the bytes of pairs of halves, numbers below 16, the high one first
 abbrev pub pairs_value : List ℕ → List ℕ
 pairs_value [] = []
 pairs_value (a ∷ []) = []

@@ -1,7 +1,7 @@
 -- Hexadecimal digits, in upper case, and decimal ones (this project's choice).
 use Rattle.std.specs.Prelude.{◌≡◌, ◌≢◌, ℕ, ◌+◌, ◌/◌, ◌%◌, ◌<◌, ◌^◌, nat_lt, if◌then◌else◌, List, [], ◌∷◌, decimal, Option, MatchOption}
 
--- the digit of a number below 16
+-- the byte of the digit of a number below 16: `0` to `9`, and then `A` to `F`
 abbrev pub hex_digit : ℕ → ℕ
 hex_digit n = if nat_lt n 10 then 48 + n else 55 + n
 
@@ -19,7 +19,7 @@ hex_word w =
 abbrev pub most_digits : ℕ
 most_digits = 20
 
--- what was found is the number below a limit that these are the decimal digits of, without leading zeros; nothing,
--- where they are those of no such number
+-- what was found is the number below the limit that these are the decimal digits of, without leading zeros; nothing
+-- where there is no such number
 abbrev pub IsDecimalBelow : ℕ → List ℕ → Option ℕ → Type 0
 IsDecimalBelow limit digits found = MatchOption found ((n : ℕ) → n < limit → digits ≢ decimal n) (λ n. (n < limit) × (digits ≡ decimal n))

@@ -1,5 +1,6 @@
 -- A text that comes in pieces, and is taken line by line (this project's choice).
 use Rattle.std.specs.Prelude.{◌≡◌, ◌⊎◌, ◌<◌, ◌^◌, ℕ, List, [], ◌∷◌, ◌++◌, length, Option, MatchOption, Result, MatchResult, IfErr}
+use Rattle.std.specs.Borrow.{Bor}
 use Rattle.x7_text.specs.Lines.{split}
 
 -- what a reader keeps: what takes the lines, the beginning of the line that comes, and how many lines were taken
@@ -8,7 +9,7 @@ pub record ReaderState (B : Type 0) : Type 0 where
   pub held : List ℕ
   pub count : ℕ
 
--- a text begins with these lines, each with its end, and this is left of it, which has none
+-- a text is these lines, each with its end, and a rest without a line end
 abbrev pub IsCut : List ℕ → List (List ℕ) → List ℕ → Type 0
 IsCut text lines rest = split text ≡ lines ++ rest ∷ []
 
@@ -27,14 +28,14 @@ FailsAfter fails lines text = (more : List ℕ) → fails (lines ++ split (text 
 abbrev pub FailsFrom : (List (List ℕ) → Type 0) → List ℕ → Type 0
 FailsFrom fails text = (more : List ℕ) → fails (split (text ++ more))
 
--- after some lines, those of a text that have their end were taken, n in all, and a rest is left
+-- after some lines, those of a text that have their end were taken, which makes n lines in all, and a rest is left
 pub record TakesWhole {B : Type 0} (taken : B → List (List ℕ) → Type 0) (lines : List (List ℕ)) (text : List ℕ) (b : B) (rest : List ℕ) (n : ℕ) : Type 0 where
   pub more : List (List ℕ)
   pub cut : IsCut text more rest
   pub took : taken b (lines ++ more)
   pub count : n ≡ length (lines ++ more)
 
--- a reader was given only a prefix of a piece, and holds nothing
+-- a reader was given a prefix of a piece after the text, and holds nothing
 pub record TakesPrefix {B : Type 0} (taken : B → List (List ℕ) → Type 0) (r : ReaderState B) (text piece rest : List ℕ) : Type 0 where
   pub prefix : List ℕ
   pub parts : piece ≡ prefix ++ rest
@@ -42,6 +43,17 @@ pub record TakesPrefix {B : Type 0} (taken : B → List (List ℕ) → Type 0) (
   pub stands : StandsFor taken r (text ++ prefix)
 
 module _ {B F : Type 0} (taken : B → List (List ℕ) → Type 0) (fails : F → List (List ℕ) → Type 0) where
+  -- After some lines one more was taken, which has its end. Or the fault is one of every text that goes on so.
+  abbrev pub TakesEndedLine : List (List ℕ) → List ℕ → Result (Unit {0}) F → B → Type 0
+  TakesEndedLine lines line result new =
+      MatchResult result (λ _. taken new (lines ++ line ∷ [])) (λ fault. (more : List ℕ) → fails fault (lines ++ line ∷ split more))
+
+  -- After some lines those of a text that have their end were taken, and the answer is what is left of the text and how
+  -- many lines were taken in all. Or the fault is one of every text that goes on so.
+  abbrev pub TakesEndedLines : List (List ℕ) → List ℕ → Result (Bor (List ℕ) × ℕ) F → B → Type 0
+  TakesEndedLines lines text result new =
+      MatchResult result (λ left. TakesWhole taken lines text new left.0.now left.1) (λ fault. FailsAfter (fails fault) lines text)
+
   -- Whatever text of fewer than 2^63 bytes, the piece among them, a reader stood for: after a call it stands for that
   -- text and the piece, or the fault is one of every text that begins so.
   abbrev pub TakesPiece : {A : Type 0} → ReaderState B → List ℕ → Result A F → (A → ReaderState B) → Type 0
@@ -70,7 +82,7 @@ pub record WantsAt (wants : List (List ℕ) → List ℕ → Type 0) (lines : Li
 
 -- after some lines, all lines of a text that have their end were taken, and the
 -- beginning of one that comes is to be held
-pub record HoldsPart {B : Type 0} (taken : B → List (List ℕ) → Type 0) (lines : List (List ℕ)) (text : List ℕ) : Type 0 where
+pub record HoldsBeginning {B : Type 0} (taken : B → List (List ℕ) → Type 0) (lines : List (List ℕ)) (text : List ℕ) : Type 0 where
   pub taker : B
   pub more : List (List ℕ)
   pub rest : List ℕ
@@ -78,12 +90,13 @@ pub record HoldsPart {B : Type 0} (taken : B → List (List ℕ) → Type 0) (li
   pub took : taken taker (lines ++ more)
   pub begun : rest ≡ [] → ⊥
 
--- after some lines, memory may be wanting as a piece is taken: at one of its lines, or to hold the beginning of a line
-abbrev pub WantsIn : {B : Type 0} → (B → List (List ℕ) → Type 0) → (List (List ℕ) → List ℕ → Type 0) → List (List ℕ) → List ℕ → Type 0
-WantsIn taken wants lines piece = WantsAt wants lines piece ⊎ HoldsPart taken lines piece
+module _ {B : Type 0} (taken : B → List (List ℕ) → Type 0) (wants : List (List ℕ) → List ℕ → Type 0) where
+  -- after some lines, memory may be wanting as a piece is taken: at one of its lines, or to hold a line's beginning
+  abbrev pub WantsIn : List (List ℕ) → List ℕ → Type 0
+  WantsIn lines piece = WantsAt wants lines piece ⊎ HoldsBeginning taken lines piece
 
--- where a reader held no beginning of a line, memory is wanting only in the piece that a call took
-abbrev pub WantsOnlyIn : {A B F : Type 0} → (B → List (List ℕ) → Type 0) → (List (List ℕ) → List ℕ → Type 0) → (F → Type 0) → ReaderState B → List ℕ → Result A F → Type 0
-WantsOnlyIn taken wants is_want old piece result =
-    (text : List ℕ) → length (text ++ piece) < 2 ^ 63 → old.held ≡ [] → (s : StandsFor taken old text)
-    → IfErr result (λ fault. is_want fault → WantsIn taken wants s.lines piece)
+  -- where a reader held no beginning of a line, memory is wanting only in the piece that a call took
+  abbrev pub WantsOnlyIn : {A F : Type 0} → (F → Type 0) → ReaderState B → List ℕ → Result A F → Type 0
+  WantsOnlyIn is_want old piece result =
+      (text : List ℕ) → length (text ++ piece) < 2 ^ 63 → old.held ≡ [] → (s : StandsFor taken old text)
+      → IfErr result (λ fault. is_want fault → WantsIn s.lines piece)

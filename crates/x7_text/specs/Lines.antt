@@ -6,12 +6,12 @@ abbrev pub on_first : ℕ → List (List ℕ) → List (List ℕ)
 on_first c [] = (c ∷ []) ∷ []
 on_first c (t ∷ ts) = (c ∷ t) ∷ ts
 
--- what stands between the line ends
+-- the lines of a text, without their ends: what stands between the line ends, so at least one line
 abbrev pub split : List ℕ → List (List ℕ)
 split [] = [] ∷ []
 split (c ∷ cs) = if c == 10 then [] ∷ split cs else on_first c (split cs)
 
--- the lines with a line end between each two
+-- the text of lines: they stand one after the other, with a line end between each two
 abbrev pub joined_lines : List (List ℕ) → List ℕ
 joined_lines [] = []
 joined_lines (t ∷ []) = t

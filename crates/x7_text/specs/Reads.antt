@@ -9,7 +9,7 @@ module _ {A : Type 0} (fits : A → Type 0) (text bytes : A → List ℕ) where
   Reads true t old new = (x : A) × fits x × (t ≡ text x) × (new ≡ old ++ bytes x)
   Reads false t old new = ((x : A) → fits x → t ≡ text x → ⊥) × (new ≡ old)
 
--- no more than this many bytes came, and no room was lost
+-- a text grew by at most `most` bytes, and lost no room
 pub record StaysWithin (old new : Vec ℕ Global) (most : ℕ) : Type 0 where
   pub within : vec_len new ≤ vec_len old + most
   pub room : vec_capacity old ≤ vec_capacity new

@@ -11,12 +11,12 @@ abbrev pub row_if_any : List ℕ → List (List ℕ)
 row_if_any [] = []
 row_if_any (x ∷ xs) = (x ∷ xs) ∷ []
 
--- the rows of n elements, the first of which begins with the elements of an open row
+-- the elements by rows of n, of which the first begins with the elements of an open row
 abbrev pub rows_from : ℕ → List ℕ → List ℕ → List (List ℕ)
-rows_from n part [] = row_if_any part
-rows_from n part (x ∷ xs) = if length part + 1 == n then (part ++ x ∷ []) ∷ rows_from n [] xs else rows_from n (part ++ x ∷ []) xs
+rows_from n open_row [] = row_if_any open_row
+rows_from n open_row (x ∷ xs) = if length open_row + 1 == n then (open_row ++ x ∷ []) ∷ rows_from n [] xs else rows_from n (open_row ++ x ∷ []) xs
 
--- the rows of n elements, the last of which may be shorter
+-- the elements by rows of n, of which the last may be shorter
 abbrev pub rows : ℕ → List ℕ → List (List ℕ)
 rows n xs = rows_from n [] xs
 
@@ -34,9 +34,9 @@ row_words = 8
 abbrev pub row_bytes : ℕ
 row_bytes = 32
 
--- the line of a row: the word that it begins with, the text of each element, and the line end
+-- the line of a row: its keyword, the text of each element, and the line end
 abbrev pub line : List ℕ → (ℕ → List ℕ) → List ℕ → List ℕ
-line word text row = word ++ flat_map text row ++ 10 ∷ []
+line keyword text row = keyword ++ flat_map text row ++ 10 ∷ []
 
 -- a word of a `data` line: a space and eight digits
 abbrev pub spaced : ℕ → List ℕ
@@ -50,61 +50,61 @@ bytes_text bs = flat_map (line (codes "bytes ") hex_byte) (rows row_bytes bs)
 abbrev pub data_text : List ℕ → List ℕ
 data_text ws = flat_map (line (codes "data") spaced) (rows row_words ws)
 
--- how many bytes of text a full `data` line has, with its end: its word, nine for each of eight words, and the line end
+-- how many bytes of text a full `data` line has: four of its keyword, nine of each word, and the line end
 abbrev pub data_line_size : ℕ
 data_line_size = 77
 
--- how many bytes of text a full `bytes` line has, with its end: its word, two for each of 32 bytes, and the line end
+-- how many bytes of text a full `bytes` line has: six of its keyword and a space, two of each byte, and the line end
 abbrev pub bytes_line_size : ℕ
 bytes_line_size = 71
 
--- ---- the lines of rows element by element, where i elements stand in the open line (0 where none is open)
+-- ---- the lines of rows element by element, where `in_line` elements stand in the open line (0 where none is open)
 
--- what stands before an element: the line's word before its first one
+-- what stands before an element of a line: the keyword before the first one, and else nothing
 abbrev pub line_start : List ℕ → ℕ → List ℕ
-line_start word i = if i == 0 then word else []
+line_start keyword in_line = if in_line == 0 then keyword else []
 
--- what stands after an element: the line end after the one that fills the line
+-- what stands after an element of a line: the line end after the one that fills it, and else nothing
 abbrev pub line_end : ℕ → ℕ → List ℕ
-line_end n i = if i + 1 == n then 10 ∷ [] else []
+line_end n in_line = if in_line + 1 == n then 10 ∷ [] else []
 
 -- the count of elements in the open line after one more
 abbrev pub next_in_line : ℕ → ℕ → ℕ
-next_in_line n i = if i + 1 == n then 0 else i + 1
+next_in_line n in_line = if in_line + 1 == n then 0 else in_line + 1
 
--- what one more element adds to the text
+-- the text that one more element adds
 abbrev pub element_text : ℕ → List ℕ → (ℕ → List ℕ) → ℕ → ℕ → List ℕ
-element_text n word text i x = line_start word i ++ text x ++ line_end n i
+element_text n keyword text in_line x = line_start keyword in_line ++ text x ++ line_end n in_line
 
--- what elements add to the text; the last line stays open unless it is full
+-- the text that elements add; the last line stays open unless it is full
 abbrev pub open_text : ℕ → List ℕ → (ℕ → List ℕ) → ℕ → List ℕ → List ℕ
-open_text n word text i [] = []
-open_text n word text i (x ∷ xs) = element_text n word text i x ++ open_text n word text (next_in_line n i) xs
+open_text n keyword text in_line [] = []
+open_text n keyword text in_line (x ∷ xs) = element_text n keyword text in_line x ++ open_text n keyword text (next_in_line n in_line) xs
 
 -- the count of elements in the open line after some elements
 abbrev pub in_line_after : ℕ → ℕ → List ℕ → ℕ
-in_line_after n i [] = i
-in_line_after n i (x ∷ xs) = in_line_after n (next_in_line n i) xs
+in_line_after n in_line [] = in_line
+in_line_after n in_line (x ∷ xs) = in_line_after n (next_in_line n in_line) xs
 
--- what words add to `data` lines, of which the open one has i words
+-- the text that words add to `data` lines, of which the open one has `in_line` words
 abbrev pub open_data : ℕ → List ℕ → List ℕ
-open_data i ws = open_text row_words (codes "data") spaced i ws
+open_data in_line ws = open_text row_words (codes "data") spaced in_line ws
 
--- what bytes add to `bytes` lines, of which the open one has i bytes
+-- the text that bytes add to `bytes` lines, of which the open one has `in_line` bytes
 abbrev pub open_bytes : ℕ → List ℕ → List ℕ
-open_bytes i bs = open_text row_bytes (codes "bytes ") hex_byte i bs
+open_bytes in_line bs = open_text row_bytes (codes "bytes ") hex_byte in_line bs
 
--- the most bytes of text that one word adds: the line's word, a space and eight digits, and the line end
-abbrev pub word_size : ℕ
-word_size = 14
+-- the most bytes of text that one word adds: the line's keyword, a space and eight digits, and the line end
+abbrev pub word_text_limit : ℕ
+word_text_limit = 14
 
--- the most bytes of text that one byte adds: the line's word, two digits, and the line end
-abbrev pub byte_size : ℕ
-byte_size = 9
+-- the most bytes of text that one byte adds: the line's keyword and a space, two digits, and the line end
+abbrev pub byte_text_limit : ℕ
+byte_text_limit = 9
 
--- the most bytes of text that the rows of n bytes add, whatever stands in the open line: three for each, and sixteen
-abbrev pub rows_size : ℕ → ℕ
-rows_size n = 3 * n + 16
+-- the most bytes of text that n bytes add to rows, whatever stands in the open line: three for each, and sixteen
+abbrev pub rows_text_limit : ℕ → ℕ
+rows_text_limit n = 3 * n + 16
 
 -- bytes were put to `bytes` lines, as text of at most this size: the open line had
 -- `in_line` bytes, and now has `next` of them
@@ -122,7 +122,7 @@ pub record PutsWords (in_line : ℕ) (words : List ℕ) (old new : Vec ℕ Globa
 
 -- the end of an open line, and nothing where none is open
 abbrev pub close : ℕ → List ℕ
-close i = if i == 0 then [] else 10 ∷ []
+close in_line = if in_line == 0 then [] else 10 ∷ []
 
 -- the bytes of one `bytes` line
 abbrev pub IsByteRow : List ℕ → Type 0

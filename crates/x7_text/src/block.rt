@@ -46,9 +46,9 @@ pub fn hex_of_block(bytes: &[u8; 32]) -> [u8; 64]
     hex_digits(halves_of(u8x32::from_array(*bytes))).to_array()
 }
 
-/// The two upper-case digits of each of so few bytes, and other digits after them.
+/// The two upper-case digits of each of up to 32 bytes, and other digits after them.
 #[inline(always)]
-pub(crate) fn hex_of_few(bytes: &[u8]) -> [u8; 64]
+pub(crate) fn hex_of_short_block(bytes: &[u8]) -> [u8; 64]
     requires { length bytes.now ≤ 32 }
     ensures { take (2 * length bytes.now) result ≡ flat_map hex_byte bytes.now }
 {
@@ -86,10 +86,10 @@ pub(crate) fn hex_of_four(bytes: &[u8; 4]) -> [u8; 8]
     eight_hex_digits(halves_of_four(u8x4::from_array(*bytes))).to_array()
 }
 
-/// What a `data` line has beside digits: its word, a space and the line end.
+/// What a `data` line has beside digits: its keyword, a space and the line end.
 const BESIDE: [u8; 16] = *b"data \n          ";
 
-/// Sixteen of the digits of a block, from `at` on.
+/// Sixteen of the 64 digits of a block, from digit `at` on.
 #[inline(always)]
 fn sixteen_of(digits: &[u8; 64], at: usize) -> u8x16
     requires { at + 16 ≤ 64 }
@@ -98,8 +98,8 @@ fn sixteen_of(digits: &[u8; 64], at: usize) -> u8x16
     u8x16::from_slice(&digits[at..])
 }
 
-/// The `data` line of eight words, with its line end, and three bytes after it. It is stored by sixteen bytes: digits
-/// of one vector, or of two that follow each other, and then what stands between them.
+/// The `data` line of eight words, with its line end, and three bytes after it: five vectors of sixteen bytes, each put
+/// together from one or two vectors of digits, and then from what stands beside digits.
 #[rattlefmt::skip]
 #[inline(always)]
 fn wide_line(bytes: &[u8; 32]) -> [u8; 80]

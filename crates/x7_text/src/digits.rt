@@ -16,9 +16,9 @@ pub fn hex_of_word(w: u32) -> [u8; 8]
     hex_of_four(&bytes_of(w))
 }
 
-/// The two upper-case digits of each byte.
+/// The two upper-case digits of each byte, from 00 to FF.
 #[rattlefmt::skip]
-static BYTES: [[u8; 2]; 256] = [
+static BYTE_DIGITS: [[u8; 2]; 256] = [
     *b"00", *b"01", *b"02", *b"03", *b"04", *b"05", *b"06", *b"07", *b"08", *b"09", *b"0A", *b"0B", *b"0C", *b"0D", *b"0E", *b"0F",
     *b"10", *b"11", *b"12", *b"13", *b"14", *b"15", *b"16", *b"17", *b"18", *b"19", *b"1A", *b"1B", *b"1C", *b"1D", *b"1E", *b"1F",
     *b"20", *b"21", *b"22", *b"23", *b"24", *b"25", *b"26", *b"27", *b"28", *b"29", *b"2A", *b"2B", *b"2C", *b"2D", *b"2E", *b"2F",
@@ -42,8 +42,11 @@ static BYTES: [[u8; 2]; 256] = [
 pub fn hex_of_byte(b: u8) -> [u8; 2]
     ensures { result ≡ hex_byte b }
 {
-    BYTES[usize::from(b)]
+    BYTE_DIGITS[usize::from(b)]
 }
+
+/// The most decimal digits that a number of 64 bits has.
+pub(crate) const MOST_DIGITS: usize = 20;
 
 /// Appends the decimal digits of a number, without leading zeros. It takes no memory.
 pub fn put_decimal(text: &mut Vec<u8>, n: u64)

@@ -1,7 +1,7 @@
 //! Appending to a text that grows.
 ghost use Rattle.std.specs.Prelude.{◌≡◌, ◌++◌, codes, decimal, OnErr, OnOk};
 
-use crate::digits::put_decimal;
+use crate::digits::{MOST_DIGITS, put_decimal};
 use crate::room::{make_room, put};
 use x7_words::NoMemory;
 
@@ -19,7 +19,7 @@ pub fn put_number(text: &mut Vec<u8>, number: u64) -> Result<(), NoMemory>
     ensures text { OnOk result (text.new.items ≡ text.old.items ++ decimal number ++ codes "\n") }
     ensures err { OnErr result (text.new.items ≡ text.old.items) }
 {
-    make_room(text, 21)?;
+    make_room(text, MOST_DIGITS + 1)?;
     put_decimal(text, number);
     put(text, b"\n");
     Ok(())

@@ -4,27 +4,28 @@ ghost use Rattle.std.specs.List.{flat_map, AllByRecursion};
 ghost use Rattle.x7_words.specs.Word.{AreBytes};
 ghost use Rattle.x7_text.specs.Digits.{hex_byte, hex_digit, hex_word};
 ghost use Rattle.x7_text.specs.DigitValue.{bytes_value, word_value};
-ghost use Rattle.x7_text.specs.EitherCase.{digit_of, pairs};
+ghost use Rattle.x7_text.specs.EitherCase.{bytes_of_pairs, number_of_digit};
 ghost use Rattle.x7_text.specs.Lines.{has_no_end, joined_lines, split};
 ghost use Rattle.x7_text.specs.Row.{AreFullButLast, rows, line, bytes_text, data_text, open_text, in_line_after, close, open_data, open_bytes, row_words, row_bytes};
 
-/// Words given one by one and closed are the `data` lines, and bytes the `bytes` lines.
+/// Words that are put where no line is open, with the end of the line that they leave open, make their `data` lines,
+/// and bytes their `bytes` lines.
 pub fn lines_one_by_one()
     ensures words { (ws : List ℕ) → open_data 0 ws ++ close (in_line_after row_words 0 ws) ≡ data_text ws }
     ensures bytes { (bs : List ℕ) → open_bytes 0 bs ++ close (in_line_after row_bytes 0 bs) ≡ bytes_text bs }
 {}
 
-/// Elements given in two parts are the same as at once.
+/// Elements that are put in two parts add the same text, and leave the same count in the open line, as all at once.
 pub fn lines_in_parts()
-    ensures text { (n : ℕ) (word : List ℕ) (text : ℕ → List ℕ) (i : ℕ) (xs ys : List ℕ) → let lines = open_text n word text in
+    ensures text { (n : ℕ) (keyword : List ℕ) (text : ℕ → List ℕ) (i : ℕ) (xs ys : List ℕ) → let lines = open_text n keyword text in
         lines i (xs ++ ys) ≡ lines i xs ++ lines (in_line_after n i xs) ys }
     ensures count { (n i : ℕ) (xs ys : List ℕ) → in_line_after n i (xs ++ ys) ≡ in_line_after n (in_line_after n i xs) ys }
 {}
 
-/// A whole row at once is the row's line, and what follows comes after it.
+/// A whole row where no line is open adds the row's line, and what follows adds what it adds to a new line.
 pub fn whole_rows()
-    ensures text { (n : ℕ) (word : List ℕ) (text : ℕ → List ℕ) (row rest : List ℕ) → length row ≡ n → 0 < n
-        → open_text n word text 0 (row ++ rest) ≡ line word text row ++ open_text n word text 0 rest }
+    ensures text { (n : ℕ) (keyword : List ℕ) (text : ℕ → List ℕ) (row rest : List ℕ) → length row ≡ n → 0 < n
+        → open_text n keyword text 0 (row ++ rest) ≡ line keyword text row ++ open_text n keyword text 0 rest }
     ensures count { (n : ℕ) (row rest : List ℕ) → length row ≡ n → 0 < n → in_line_after n 0 (row ++ rest) ≡ in_line_after n 0 rest }
 {}
 
@@ -44,13 +45,13 @@ pub fn digits_lead_back()
 /// A digit of either case has a number below 16, and is the upper-case digit of that number or the letter 32 above it.
 /// The upper-case digits of bytes lead back.
 pub fn either_case_leads_back()
-    ensures upper { (n : ℕ) → n < 16 → digit_of (hex_digit n) ≡ Some n }
-    ensures digit { (c n : ℕ) → digit_of c ≡ Some n → (n < 16) × ((c ≡ hex_digit n) ⊎ (c ≡ hex_digit n + 32)) }
-    ensures bytes { (bs : List ℕ) → AreBytes bs → pairs (flat_map hex_byte bs) ≡ Some bs }
+    ensures upper { (n : ℕ) → n < 16 → number_of_digit (hex_digit n) ≡ Some n }
+    ensures digit { (c n : ℕ) → number_of_digit c ≡ Some n → (n < 16) × ((c ≡ hex_digit n) ⊎ (c ≡ hex_digit n + 32)) }
+    ensures bytes { (bs : List ℕ) → AreBytes bs → bytes_of_pairs (flat_map hex_byte bs) ≡ Some bs }
 {}
 
-/// Lines joined are the text, none holds a line end, and lines that each have their
-/// end are split into them and an empty one.
+/// The lines of a text joined are the text, and none holds a line end. A text of lines that each have their end is
+/// split into these and an empty one.
 pub fn lines_lead_back()
     ensures joined { (text : List ℕ) → joined_lines (split text) ≡ text }
     ensures free { (text : List ℕ) → AllByRecursion (λ line. has_no_end line ≡ true) (split text) }

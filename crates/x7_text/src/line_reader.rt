@@ -1,6 +1,6 @@
 //! A text that comes in pieces, line by line.
 ghost use Rattle.std.specs.Prelude.{◌≡◌, ◌+◌, ◌<◌, ◌^◌, ◌++◌, ◌∷◌, [], List, ℕ, length, IfErr, MatchOption, MatchResult};
-ghost use Rattle.x7_text.specs.LineReader.{CompletesLine, FailsAfter, StandsFor, TakesPiece, TakesWhole, WantsAt, WantsOnlyIn};
+ghost use Rattle.x7_text.specs.LineReader.{CompletesLine, StandsFor, TakesEndedLine, TakesEndedLines, TakesPiece, WantsAt, WantsOnlyIn};
 ghost use Rattle.x7_text.specs.Lines.{split};
 
 use crate::lines::first_line;
@@ -16,10 +16,11 @@ pub trait TakesLines: Drop {
     /// What a text gives.
     type Out: Drop;
 
-    /// What was the first of these has become the second, which took these lines.
+    /// A taker that was the first of these two before any line has become the second, which took these lines.
     ghost took: { Self → Self → List (List ℕ) → Type 0 };
 
-    /// A text of these lines, the last of which has no end, is refused for this fault. Want of memory says nothing.
+    /// A text of these lines, the last of which has no end, is refused for this fault. Want of memory says nothing of
+    /// the text.
     ghost fails: { Self → Self.Fault → List (List ℕ) → Type 0 };
 
     /// A text of these lines, the last of which has no end, gives this.
@@ -38,7 +39,7 @@ pub trait TakesLines: Drop {
     /// Takes line `n`, which has its end. After an error nothing more may be taken.
     fn put_line(&mut self, n: u64, line: &[u8]) -> Result<(), Self::Fault>
         ensures read { (first : Self) (lines : List (List ℕ)) → n ≡ length lines + 1 → took first self.old lines
-            → MatchResult result (λ _. took first self.new (lines ++ line.now ∷ [])) (λ fault. (more : List ℕ) → fails first fault (lines ++ line.now ∷ split more)) }
+            → TakesEndedLine (took first) (fails first) lines line.now result self.new }
         ensures memory { (first : Self) (lines : List (List ℕ)) → n ≡ length lines + 1 → took first self.old lines
             → IfErr result (λ fault. is_want fault → wants first lines line.now) };
 
@@ -46,7 +47,7 @@ pub trait TakesLines: Drop {
     /// lines were taken in all. After an error nothing more may be taken.
     fn put_lines<'t>(&mut self, n: u64, text: &'t [u8]) -> Result<(&'t [u8], u64), Self::Fault>
         ensures read { (first : Self) (lines : List (List ℕ)) → n ≡ length lines → n + length text.now < 2 ^ 63 → took first self.old lines
-            → MatchResult result (λ left. TakesWhole (took first) lines text.now self.new left.0.now left.1) (λ fault. FailsAfter (fails first fault) lines text.now) }
+            → TakesEndedLines (took first) (fails first) lines text.now result self.new }
         ensures memory { (first : Self) (lines : List (List ℕ)) → n ≡ length lines → n + length text.now < 2 ^ 63 → took first self.old lines
             → IfErr result (λ fault. is_want fault → WantsAt (wants first) lines text.now) }
     {
@@ -98,7 +99,7 @@ impl<T> Model for LineReader<T> {
 }
 
 impl<T: TakesLines> LineReader<T> {
-    /// One that was given no text.
+    /// A reader that was given no text yet.
     pub fn new(alloc: Global, taker: T) -> LineReader<T>
         ensures { (first : T) → T.took first taker [] → StandsFor (T.took first) result [] }
     {
@@ -109,7 +110,8 @@ impl<T: TakesLines> LineReader<T> {
         }
     }
 
-    /// Takes the line that a piece completes, if it completes the one that is held. Answers the text after it.
+    /// Takes the line whose beginning is held, if a piece completes it, and answers the text after it. Else the piece
+    /// is held too.
     fn complete<'t>(&mut self, piece: &'t [u8]) -> Result<Option<&'t [u8]>, T::Fault>
         ensures { (first : T) → CompletesLine (T.took first) (T.fails first) (λ rest. rest.now) self.old piece.now result self.new }
     {
@@ -126,7 +128,7 @@ impl<T: TakesLines> LineReader<T> {
         Ok(Some(rest))
     }
 
-    /// Takes a piece where no line is held.
+    /// Takes the next piece of a text, where no beginning of a line is held.
     fn take_lines(&mut self, piece: &[u8]) -> Result<(), T::Fault>
         ensures read { (first : T) → self.old.held ≡ [] → TakesPiece (T.took first) (T.fails first) self.old piece.now result (λ _. self.new) }
         ensures memory { (first : T) → WantsOnlyIn (T.took first) (T.wants first) T.is_want self.old piece.now result }

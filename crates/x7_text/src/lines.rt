@@ -1,4 +1,4 @@
-//! The lines of a text, and what a line begins with.
+//! The first line of a text, lines without meaning, and what stands after a prefix.
 ghost use Rattle.std.specs.Prelude.{◌≡◌, ◌≢◌, ℕ, List, ◌<◌, [], ◌∷◌, ◌++◌, length, MatchOption};
 ghost use Rattle.x7_text.specs.Lines.{means_nothing, split};
 
@@ -18,16 +18,16 @@ pub fn first_line(text: &[u8]) -> (&[u8], Option<&[u8]>)
 /// The byte that begins a comment.
 const COMMENT: u8 = b'#';
 
-/// Whether a line is empty, or a comment.
+/// Whether a line is empty, or a comment, which `#` begins.
 pub fn means_nothing(line: &[u8]) -> bool
     ensures { result ≡ means_nothing line.now }
 {
     line.len() == 0 || line[0] == COMMENT
 }
 
-/// What stands after a word that the text begins with.
-pub fn after<'t>(text: &'t [u8], word: &[u8]) -> Option<&'t [u8]>
-    ensures { MatchOption result ((rest : List ℕ) → text.now ≢ word.now ++ rest) (λ rest. text.now ≡ word.now ++ rest.now) }
+/// What stands after a prefix of the text: `None` where the text doesn't begin with it.
+pub fn after<'t>(text: &'t [u8], prefix: &[u8]) -> Option<&'t [u8]>
+    ensures { MatchOption result ((rest : List ℕ) → text.now ≢ prefix.now ++ rest) (λ rest. text.now ≡ prefix.now ++ rest.now) }
 {
-    text.strip_prefix(word)
+    text.strip_prefix(prefix)
 }

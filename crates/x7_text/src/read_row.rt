@@ -13,7 +13,7 @@ use crate::reading::{bytes_of_digits, word_of_hex};
 use crate::room::put;
 use x7_words::{bytes_of, is_same};
 
-/// Digits with others after them.
+/// Up to 64 digits, and digits 0 after them.
 fn padded(digits: &[u8]) -> [u8; 64]
     requires { length digits.now ≤ 64 }
     ensures { take (length digits.now) result ≡ digits.now }
@@ -41,7 +41,7 @@ pub fn put_byte_row(out: &mut Vec<u8>, digits: &[u8]) -> bool
     true
 }
 
-/// Writes the eight digits after a space from `at` on.
+/// Writes the eight digits of a word's text, which a space begins, from digit `at` on.
 #[inline(always)]
 fn write_digits(digits: &mut [u8; 64], at: usize, word: &[u8; 9])
     requires { at + 8 ≤ 64 }
@@ -50,7 +50,7 @@ fn write_digits(digits: &mut [u8; 64], at: usize, word: &[u8; 9])
     digits[at..at + 8].copy_from_slice(&word[1..]);
 }
 
-/// The digits of words with a space before each, and others after them.
+/// The digits of up to eight words, of which a space stands before each in the text, and other digits after them.
 #[inline(always)]
 fn gathered(text: &[u8]) -> [u8; 64]
     requires { length text.now ≤ 72 }

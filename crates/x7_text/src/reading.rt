@@ -1,4 +1,5 @@
-//! Digits read back: what they would stand for is written out again and compared, so that only digits are taken.
+//! Digits read back: the bytes that they would stand for are written out again and compared, so that only digits are
+//! taken.
 ghost use Rattle.std.specs.Prelude.{◌≡◌, ◌≢◌, ℕ, List, ◌<◌, ◌≤◌, ◌*◌, ◌^◌, length, map, take, slice_index, MatchOption};
 ghost use Rattle.std.specs.List.{flat_map};
 ghost use Rattle.std.specs.Simd.Lanes.{Each1};
@@ -11,7 +12,7 @@ use itoa::Buffer;
 use std::simd::prelude::*;
 use x7_words::{is_same, word_of};
 
-/// The numbers of eight digits.
+/// The numbers that eight digits stand for.
 #[inline(always)]
 fn numbers_of_eight(digits: u8x8) -> u8x8
     requires lanes { length digits ≡ 8 }
@@ -21,7 +22,7 @@ fn numbers_of_eight(digits: u8x8) -> u8x8
     (digits & u8x8::splat(15)) + (digits >> 6) * u8x8::splat(9)
 }
 
-/// The bytes of four pairs of halves, the high one first.
+/// The bytes of four pairs of halves, numbers below 16, the high one first.
 #[inline(always)]
 fn bytes_of_four_pairs(halves: u8x8) -> u8x4
     requires { length halves ≡ 8 }
@@ -80,7 +81,7 @@ pub fn number_of_decimal(digits: &[u8]) -> Option<u32>
     }
 }
 
-/// The number below the limit that these are the decimal digits of, without leading zeros.
+/// The number that these are the decimal digits of, without leading zeros, if it is below the limit.
 pub fn decimal_below(digits: &[u8], limit: u32) -> Option<u32>
     ensures { IsDecimalBelow limit digits.now result }
 {
@@ -90,7 +91,7 @@ pub fn decimal_below(digits: &[u8], limit: u32) -> Option<u32>
     if number < limit { Some(number) } else { None }
 }
 
-/// The numbers of digits.
+/// The numbers that 64 digits stand for.
 #[inline(always)]
 fn numbers_of(digits: u8x64) -> u8x64
     requires lanes { length digits ≡ 64 }
@@ -100,7 +101,7 @@ fn numbers_of(digits: u8x64) -> u8x64
     (digits & u8x64::splat(15)) + (digits >> 6) * u8x64::splat(9)
 }
 
-/// The bytes of pairs of halves, the high one first.
+/// The bytes of 32 pairs of halves, numbers below 16, the high one first.
 #[inline(always)]
 fn bytes_of_halves(halves: u8x64) -> u8x32
     requires { length halves ≡ 64 }
@@ -148,7 +149,7 @@ pub fn block_of_hex(digits: &[u8; 64]) -> Option<[u8; 32]>
 
 /// How many of the first bytes of two blocks are the same.
 #[inline(always)]
-fn same_prefix(a: &[u8; 64], b: &[u8; 64]) -> usize
+fn same_prefix_size(a: &[u8; 64], b: &[u8; 64]) -> usize
     ensures within { result ≤ 64 }
     ensures same { take result a.now ≡ take result b.now }
     ensures most { (n : ℕ) → n ≤ 64 → take n a.now ≡ take n b.now → n ≤ result }
@@ -159,25 +160,27 @@ fn same_prefix(a: &[u8; 64], b: &[u8; 64]) -> usize
     differ.trailing_zeros() as usize
 }
 
-/// What the digits that a block begins with stand for, others after them, and how many digits there are.
+/// The digits that a block begins with.
 #[derive(Clone, Copy)]
 pub struct HexPrefix {
+    /// The bytes that the digits stand for, and other bytes after them.
     pub bytes: [u8; 32],
-    pub digits: usize,
+    /// How many digits the block begins with, from 0 to 64.
+    pub digit_count: usize,
 }
 
-/// The digits that a block begins with, maybe none: no pair of digits is missed.
+/// The upper-case digits that a block begins with, maybe none: no pair of digits is missed.
 #[inline(always)]
 pub fn prefix_of_hex(block: &[u8; 64]) -> HexPrefix
-    ensures within { result.digits ≤ 64 }
+    ensures within { result.digit_count ≤ 64 }
     ensures long { length result.bytes ≡ 32 }
     ensures bytes { AreBytes result.bytes }
-    ensures digits { take result.digits block.now ≡ take result.digits (flat_map hex_byte result.bytes) }
-    ensures most { (bs : List ℕ) → AreBytes bs → 2 * length bs ≤ 64 → take (2 * length bs) block.now ≡ flat_map hex_byte bs → 2 * length bs ≤ result.digits }
+    ensures digits { take result.digit_count block.now ≡ take result.digit_count (flat_map hex_byte result.bytes) }
+    ensures most { (bs : List ℕ) → AreBytes bs → 2 * length bs ≤ 64 → take (2 * length bs) block.now ≡ flat_map hex_byte bs → 2 * length bs ≤ result.digit_count }
 {
     let bytes = bytes_of_digits(block);
     HexPrefix {
         bytes,
-        digits: same_prefix(block, &hex_of_block(&bytes)),
+        digit_count: same_prefix_size(block, &hex_of_block(&bytes)),
     }
 }

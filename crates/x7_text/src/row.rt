@@ -3,25 +3,31 @@ ghost use Rattle.std.specs.Prelude.{◌≡◌, [], ◌∷◌, ◌<◌, ◌+◌, 
 ghost use Rattle.std.specs.List.{flat_map};
 ghost use Rattle.x7_text.specs.Appends.{Appends, HasSpareRoom};
 ghost use Rattle.x7_text.specs.Digits.{hex_byte};
-ghost use Rattle.x7_text.specs.Row.{line, line_start, line_end, next_in_line, in_line_after, spaced, close, PutsBytes, PutsWords, row_words, row_bytes, data_line_size, bytes_line_size, word_size, byte_size, rows_size, open_data, open_bytes};
+ghost use Rattle.x7_text.specs.Row.{line, line_start, line_end, next_in_line, in_line_after, spaced, close, PutsBytes, PutsWords, row_words, row_bytes, data_line_size, bytes_line_size, word_text_limit, byte_text_limit, rows_text_limit, open_data, open_bytes};
 ghost use Rattle.x7_words.specs.Word.{words_of_bytes};
 
-use crate::block::{bytes_line, data_line, hex_of_few};
+use crate::block::{bytes_line, data_line, hex_of_short_block};
 use crate::digits::{hex_of_byte, hex_of_word};
 use crate::room::put;
 use x7_words::word_of;
 
-/// Appends the word that a line begins with, where no line is open.
-fn put_line_start(text: &mut Vec<u8>, word: &[u8], in_line: usize)
-    requires { HasSpareRoom text.old (length word.now) }
-    ensures appends { Appends text.old text.new (line_start word.now in_line) (length word.now) }
+/// How many words a full `data` line has.
+const ROW_WORDS: usize = 8;
+
+/// How many bytes a full `bytes` line has.
+const ROW_BYTES: usize = 32;
+
+/// Appends the keyword that a line begins with, where no line is open.
+fn put_line_start(text: &mut Vec<u8>, keyword: &[u8], in_line: usize)
+    requires { HasSpareRoom text.old (length keyword.now) }
+    ensures appends { Appends text.old text.new (line_start keyword.now in_line) (length keyword.now) }
 {
     if in_line == 0 {
-        put(text, word);
+        put(text, keyword);
     }
 }
 
-/// Appends the end of a line that the last element filled. Gives the count of elements in the open line.
+/// Appends the end of a line that one more element filled. Gives the count of elements in the open line after it.
 fn put_line_end(text: &mut Vec<u8>, full: usize, in_line: usize) -> usize
     requires open { in_line < full }
     requires room { HasSpareRoom text.old 1 }
@@ -36,30 +42,29 @@ fn put_line_end(text: &mut Vec<u8>, full: usize, in_line: usize) -> usize
     in_line + 1
 }
 
-/// Appends a word to a `data` line of which `in_line` words stand (0 where no
-/// line is open). Gives that count afterwards.
+/// Appends a word to a `data` line that has `in_line` words (0 where no line is open). Gives that count afterwards.
 pub fn put_word(text: &mut Vec<u8>, in_line: usize, w: u32) -> usize
     requires open { in_line < row_words }
-    requires room { HasSpareRoom text.old word_size }
+    requires room { HasSpareRoom text.old word_text_limit }
     ensures count { result ≡ in_line_after row_words in_line (w ∷ []) }
     ensures open { result < row_words }
-    ensures appends { Appends text.old text.new (open_data in_line (w ∷ [])) word_size }
+    ensures appends { Appends text.old text.new (open_data in_line (w ∷ [])) word_text_limit }
 {
     put_line_start(text, b"data", in_line);
     put(text, b" ");
     put(text, &hex_of_word(w));
-    put_line_end(text, 8, in_line)
+    put_line_end(text, ROW_WORDS, in_line)
 }
 
-/// Appends a byte to a `bytes` line of which `in_line` bytes stand.
+/// Appends a byte to a `bytes` line that has `in_line` bytes (0 where no line is open). Gives that count afterwards.
 fn put_byte(text: &mut Vec<u8>, in_line: usize, byte: u8) -> usize
     requires open { in_line < row_bytes }
-    requires room { HasSpareRoom text.old byte_size }
-    ensures { PutsBytes in_line (byte ∷ []) text.old text.new byte_size result }
+    requires room { HasSpareRoom text.old byte_text_limit }
+    ensures { PutsBytes in_line (byte ∷ []) text.old text.new byte_text_limit result }
 {
     put_line_start(text, b"bytes ", in_line);
     put(text, &hex_of_byte(byte));
-    put_line_end(text, 32, in_line)
+    put_line_end(text, ROW_BYTES, in_line)
 }
 
 /// Appends the end of an open line, and nothing where none is open.
@@ -82,7 +87,7 @@ fn put_data_lines(text: &mut Vec<u8>, lines: &[[u8; 32]])
     }
 }
 
-/// Appends whole `bytes` lines.
+/// Appends whole `bytes` lines of 32 bytes each.
 fn put_bytes_lines(text: &mut Vec<u8>, lines: &[[u8; 32]])
     requires { HasSpareRoom text.old (bytes_line_size * length lines.now) }
     ensures appends { Appends text.old text.new (flat_map (line (codes "bytes ") hex_byte) lines.now) (bytes_line_size * length lines.now) }
@@ -92,7 +97,7 @@ fn put_bytes_lines(text: &mut Vec<u8>, lines: &[[u8; 32]])
     }
 }
 
-/// Appends the words of whole groups of four bytes, word by word.
+/// Appends the words of whole groups of four bytes to `data` lines, word by word.
 fn put_each_word(text: &mut Vec<u8>, in_line: usize, bytes: &[u8]) -> usize
     requires open { in_line < row_words }
     requires whole { length bytes.now % 4 ≡ 0 }
@@ -107,7 +112,7 @@ fn put_each_word(text: &mut Vec<u8>, in_line: usize, bytes: &[u8]) -> usize
     count
 }
 
-/// Appends bytes, byte by byte.
+/// Appends bytes to `bytes` lines, byte by byte.
 fn put_each_byte(text: &mut Vec<u8>, in_line: usize, bytes: &[u8]) -> usize
     requires open { in_line < row_bytes }
     requires room { HasSpareRoom text.old (3 * length bytes.now + 11) }
@@ -120,8 +125,8 @@ fn put_each_byte(text: &mut Vec<u8>, in_line: usize, bytes: &[u8]) -> usize
     count
 }
 
-/// Appends bytes that leave the line open.
-fn put_few_bytes(text: &mut Vec<u8>, in_line: usize, bytes: &[u8]) -> usize
+/// Appends bytes to a `bytes` line, which they leave open.
+fn put_bytes_in_line(text: &mut Vec<u8>, in_line: usize, bytes: &[u8]) -> usize
     requires open { in_line + length bytes.now < row_bytes }
     requires room { HasSpareRoom text.old (2 * length bytes.now + 6) }
     ensures { PutsBytes in_line bytes.now text.old text.new (2 * length bytes.now + 6) result }
@@ -130,7 +135,7 @@ fn put_few_bytes(text: &mut Vec<u8>, in_line: usize, bytes: &[u8]) -> usize
         return in_line;
     }
     put_line_start(text, b"bytes ", in_line);
-    put(text, &hex_of_few(bytes)[..2 * bytes.len()]);
+    put(text, &hex_of_short_block(bytes)[..2 * bytes.len()]);
     in_line + bytes.len()
 }
 
@@ -152,7 +157,7 @@ fn put_new_bytes(text: &mut Vec<u8>, bytes: &[u8]) -> usize
 {
     let (lines, rest) = bytes.as_chunks::<32>();
     put_bytes_lines(text, lines);
-    put_few_bytes(text, 0, rest)
+    put_bytes_in_line(text, 0, rest)
 }
 
 /// Appends the words of whole groups of four bytes, the first byte the highest, to `data` lines of which the open one
@@ -160,19 +165,19 @@ fn put_new_bytes(text: &mut Vec<u8>, bytes: &[u8]) -> usize
 pub fn put_words(text: &mut Vec<u8>, in_line: usize, bytes: &[u8]) -> usize
     requires open { in_line < row_words }
     requires whole { length bytes.now % 4 ≡ 0 }
-    requires room { HasSpareRoom text.old (rows_size (length bytes.now)) }
+    requires room { HasSpareRoom text.old (rows_text_limit (length bytes.now)) }
     ensures count { result ≡ in_line_after row_words in_line (words_of_bytes bytes.now) }
     ensures open { result < row_words }
-    ensures appends { Appends text.old text.new (open_data in_line (words_of_bytes bytes.now)) (rows_size (length bytes.now)) }
+    ensures appends { Appends text.old text.new (open_data in_line (words_of_bytes bytes.now)) (rows_text_limit (length bytes.now)) }
 {
     if in_line == 0 {
         return put_new_words(text, bytes);
     }
-    let open = 4 * (8 - in_line);
-    if bytes.len() < open {
+    let missing_bytes = 4 * (ROW_WORDS - in_line);
+    if bytes.len() < missing_bytes {
         return put_each_word(text, in_line, bytes);
     }
-    let (prefix, rest) = bytes.split_at(open);
+    let (prefix, rest) = bytes.split_at(missing_bytes);
     put_each_word(text, in_line, prefix);
     put_new_words(text, rest)
 }
@@ -181,19 +186,19 @@ pub fn put_words(text: &mut Vec<u8>, in_line: usize, bytes: &[u8]) -> usize
 /// afterwards. It takes no memory.
 pub fn put_bytes(text: &mut Vec<u8>, in_line: usize, bytes: &[u8]) -> usize
     requires open { in_line < row_bytes }
-    requires room { HasSpareRoom text.old (rows_size (length bytes.now)) }
+    requires room { HasSpareRoom text.old (rows_text_limit (length bytes.now)) }
     ensures count { result ≡ in_line_after row_bytes in_line bytes.now }
     ensures open { result < row_bytes }
-    ensures appends { Appends text.old text.new (open_bytes in_line bytes.now) (rows_size (length bytes.now)) }
+    ensures appends { Appends text.old text.new (open_bytes in_line bytes.now) (rows_text_limit (length bytes.now)) }
 {
     if in_line == 0 {
         return put_new_bytes(text, bytes);
     }
-    let open = 32 - in_line;
-    if bytes.len() < open {
-        return put_few_bytes(text, in_line, bytes);
+    let missing_bytes = ROW_BYTES - in_line;
+    if bytes.len() < missing_bytes {
+        return put_bytes_in_line(text, in_line, bytes);
     }
-    let (prefix, rest) = bytes.split_at(open);
+    let (prefix, rest) = bytes.split_at(missing_bytes);
     put_each_byte(text, in_line, prefix);
     put_new_bytes(text, rest)
 }

@@ -2,7 +2,7 @@
 use Rattle.std.proofs.Common.{◌≡◌, ◌∙◌, ap, arith, ℕ, ◌≤◌, Bool, true, false, IfErr, List, [], ◌∷◌, Option, None, Some, Result, Ok, Err, refl, subst, sym, inl, inr}
 use Rattle.std.specs.Prelude.{IsTrue}
 use Rattle.x7_words.specs.Count.{HasRisen}
-use Rattle.x7_words.specs.Flash.{AsksFor, FlashFails, FlashState, FlashStays, OnlyReads, Unattached, Unwritten}
+use Rattle.x7_words.specs.Flash.{AsksFor, FlashFails, FlashState, FlashStays, OnlyReads, FlashRefuses, Unwritten}
 use Rattle.x7_words.specs.Input.{InputsState}
 use Rattle.x7_update.proofs.KnownLemmas.{moments_none, only_read}
 use Rattle.x7_words.specs.declared.input.SelectFault.{SelectFault}
@@ -218,11 +218,11 @@ part_refused old new name part_name event read =
 -- ---- a flash that is read at most
 
 -- why a flash was not attached, by its fault
-pub was_missing : (old new : FlashState) (fault : SelectFault) → fault ≡ Missing → Unattached old new fault → HasRisen old.absences new.absences
-was_missing old new fault e h = subst (λ (f : SelectFault). Unattached old new f) e h
+pub was_missing : (old new : FlashState) (fault : SelectFault) → fault ≡ Missing → FlashRefuses old new fault → HasRisen old.absences new.absences
+was_missing old new fault e h = subst (λ (f : SelectFault). FlashRefuses old new f) e h
 
-pub was_failed : (old new : FlashState) (fault : SelectFault) → fault ≡ Failed → Unattached old new fault → FlashFails old new
-was_failed old new fault e h = subst (λ (f : SelectFault). Unattached old new f) e h
+pub was_failed : (old new : FlashState) (fault : SelectFault) → fault ≡ Failed → FlashRefuses old new fault → FlashFails old new
+was_failed old new fault e h = subst (λ (f : SelectFault). FlashRefuses old new f) e h
 
 pub reads_none : (name : List ℕ) (s : FlashState) → ReadsFlash name s s
 reads_none name s = record { bytes = refl; write_faults = refl; moments = refl; faults = omega arith; absences = omega arith; no_other = λ other h. inl h }

@@ -1,7 +1,7 @@
 -- Lemmas on where reading stops.
 use Rattle.std.proofs.Common.{◌≤◌, suc, ◌≡◌, ◌+◌, ℕ, map, length, List, [], ◌∷◌, Bool, true, false, Option, Some, Result, Ok, Err, IfErr, ap, inl, inr, refl, subst, sym, ◌∙◌, arith, ◌⊎◌}
 use Rattle.std.proofs.lemmas.List.{length-map}
-use Rattle.x7_words.specs.Input.{AsksFew, InputsState}
+use Rattle.x7_words.specs.Input.{AsksAtMost, InputsState}
 use Rattle.x7_words.proofs.InputLemmas.{few_more, few_on}
 use Rattle.x7_words.specs.Flash.{FlashState}
 use Rattle.x7_words.specs.Sink.{SinkState}
@@ -106,17 +106,17 @@ among_stops form old now event (inr h) = stops_by (cause_of_event event) form ol
 
 -- the first of the form's inputs
 pub first_stops : (form : AskedForm) (first : Limited) (others : List Limited) (old now : InputsState) (event : Event)
-    → inputs_of old.contents form ≡ first ∷ others → StandsAt first.name first.limit now → AsksFew old 1 now → IsAbout first.name event → StopsBy (cause_of_event event) form old now event
+    → inputs_of old.contents form ≡ first ∷ others → StandsAt first.name first.limit now → AsksAtMost old 1 now → IsAbout first.name event → StopsBy (cause_of_event event) form old now event
 first_stops form first others old now event i s n a = among_stops form old now event (about_among (inputs_of old.contents form) [] first others old now event i s n a)
 
 -- the second
 pub second_stops : (form : AskedForm) (first second : Limited) (others : List Limited) (old now : InputsState) (event : Event)
-    → inputs_of old.contents form ≡ first ∷ second ∷ others → StandsAt second.name second.limit now → AsksFew old 2 now → IsAbout second.name event → StopsBy (cause_of_event event) form old now event
+    → inputs_of old.contents form ≡ first ∷ second ∷ others → StandsAt second.name second.limit now → AsksAtMost old 2 now → IsAbout second.name event → StopsBy (cause_of_event event) form old now event
 second_stops form first second others old now event i s n a = among_stops form old now event (about_among (inputs_of old.contents form) (first ∷ []) second others old now event i s n a)
 
 -- the third
 pub third_stops : (form : AskedForm) (first second third : Limited) (others : List Limited) (old now : InputsState) (event : Event)
-    → inputs_of old.contents form ≡ first ∷ second ∷ third ∷ others → StandsAt third.name third.limit now → AsksFew old 3 now → IsAbout third.name event → StopsBy (cause_of_event event) form old now event
+    → inputs_of old.contents form ≡ first ∷ second ∷ third ∷ others → StandsAt third.name third.limit now → AsksAtMost old 3 now → IsAbout third.name event → StopsBy (cause_of_event event) form old now event
 third_stops form first second third others old now event i s n a = among_stops form old now event (about_among (inputs_of old.contents form) (first ∷ second ∷ []) third others old now event i s n a)
 
 -- a call's result, where each refusal stops so
@@ -133,7 +133,7 @@ reads_only value form old now (Ok a) h = tt
 reads_only value form old now (Err x) h = reads_stop form old now (event_of x) h
 
 -- streams that are played one after the other, after a part
-pub streams_stop : (part : List ℕ) (streams : List (List ℕ)) (old mid now : InputsState) (event : Event) → mid.contents ≡ old.contents → AsksFew old 1 mid
+pub streams_stop : (part : List ℕ) (streams : List (List ℕ)) (old mid now : InputsState) (event : Event) → mid.contents ≡ old.contents → AsksAtMost old 1 mid
     → StopsAmong (limited_together mid.contents stream_limit streams) mid now event → StopsBy (cause_of_event event) (Playing part streams) old now event
 streams_stop part streams old mid now event e n h =
     among_stops (Playing part streams) old now event (stops_after (limited part_limit part) (limited_together old.contents stream_limit streams) old mid now event n
@@ -161,7 +161,7 @@ unopened_stops name stream old now first last event (inl (inr h, d)) = flash_sto
 unopened_stops name stream old now first last event (inr h) = flash_stops (UpdatingFlash name stream) old now event name (ap (λ (x : Event). x.concerned) h.0) (inl refl)
 
 -- a fault of an update
-fault_stops : (flash stream : List ℕ) (old now : InputsState) (fault : UpdateFault) → StandsAt stream stream_limit now → AsksFew old 1 now
+fault_stops : (flash stream : List ℕ) (old now : InputsState) (fault : UpdateFault) → StandsAt stream stream_limit now → AsksAtMost old 1 now
     → StopsBy (cause_of_event (update_event (record { flash = flash; stream = stream }) fault)) (UpdatingFlash flash stream) old now (update_event (record { flash = flash; stream = stream }) fault)
 fault_stops flash stream old now (update.Failed true) s n = tt
 fault_stops flash stream old now (update.Failed false) s n = inl (inl refl)
@@ -170,7 +170,7 @@ fault_stops flash stream old now (update.NoLayout place) s n = inl (inl refl)
 fault_stops flash stream old now (update.Differs place wrote read) s n = tt
 fault_stops flash stream old now update.NoMemory s n = tt
 
-pub updated_stops : (flash stream : List ℕ) (old now : InputsState) (fault : UpdateFault) (event : Event) → event ≡ update_event (record { flash = flash; stream = stream }) fault → StandsAt stream stream_limit now → AsksFew old 1 now
+pub updated_stops : (flash stream : List ℕ) (old now : InputsState) (fault : UpdateFault) (event : Event) → event ≡ update_event (record { flash = flash; stream = stream }) fault → StandsAt stream stream_limit now → AsksAtMost old 1 now
     → StopsBy (cause_of_event event) (UpdatingFlash flash stream) old now event
 updated_stops flash stream old now fault event e s n = subst (λ (x : Event). StopsBy (cause_of_event x) (UpdatingFlash flash stream) old now x) (sym e) (fault_stops flash stream old now fault s n)
 
@@ -263,15 +263,15 @@ updated_judges flash stream old new fault event e a = λ u. absurd (fault_judges
 -- ---- how often inputs are asked for, and their ends read
 
 -- the first of a form's inputs
-pub first_asked : (name : List ℕ) (others : List (List ℕ)) (old new : InputsState) → AsksFew old 1 new → AsksFew old (length (name ∷ others)) new
+pub first_asked : (name : List ℕ) (others : List (List ℕ)) (old new : InputsState) → AsksAtMost old 1 new → AsksAtMost old (length (name ∷ others)) new
 first_asked name others old new h = let some : 1 ≤ suc (length others) = omega arith in few_more old new 1 (length (name ∷ others)) some h
 
 -- two inputs, one after the other, and three
-pub both_asked : (old mid new : InputsState) → AsksFew old 1 mid → AsksFew mid 1 new → AsksFew old 2 new
+pub both_asked : (old mid new : InputsState) → AsksAtMost old 1 mid → AsksAtMost mid 1 new → AsksAtMost old 2 new
 both_asked old mid new a b = few_on old mid new 1 1 a b
 
-pub all_asked : (old first second new : InputsState) → AsksFew old 1 first → AsksFew first 1 second → AsksFew second 1 new → AsksFew old 3 new
+pub all_asked : (old first second new : InputsState) → AsksAtMost old 1 first → AsksAtMost first 1 second → AsksAtMost second 1 new → AsksAtMost old 3 new
 all_asked old first second new a b d = few_on old second new 2 1 (both_asked old first second a b) d
 
-pub streams_asked : {X : Type 0} (f : X → List ℕ) (part : List ℕ) (streams : List X) (old mid new : InputsState) → AsksFew old 1 mid → AsksFew mid (length streams) new → AsksFew old (length (part ∷ map f streams)) new
+pub streams_asked : {X : Type 0} (f : X → List ℕ) (part : List ℕ) (streams : List X) (old mid new : InputsState) → AsksAtMost old 1 mid → AsksAtMost mid (length streams) new → AsksAtMost old (length (part ∷ map f streams)) new
 streams_asked f part streams old mid new a b = let all : 1 + length streams ≤ suc (length (map f streams)) = omega (arith, length-map streams f) in few_more old new (1 + length streams) (length (part ∷ map f streams)) all (few_on old mid new 1 (length streams) a b)

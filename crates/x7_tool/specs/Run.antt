@@ -1,7 +1,7 @@
 -- What may end a command, and what its output holds then (this project's choice).
 use Rattle.std.specs.Prelude.{◌≡◌, ◌<◌, ◌≤◌, ◌+◌, ℕ, List, [], ◌∷◌, ◌++◌, length, Option, None, Some, Result, Ok, Err, Bool, true, false, ◌⊎◌}
 use Rattle.x7_words.specs.Flash.{FlashState, IfKnown}
-use Rattle.x7_words.specs.Input.{AsksFew, InputsState, InputsStay}
+use Rattle.x7_words.specs.Input.{AsksAtMost, InputsState, InputsStay}
 use Rattle.x7_boot.specs.Image.{flash_limit}
 use Rattle.x7_update.specs.Writing.{IsFirstRead, IsReadWrong}
 use Rattle.x7_words.specs.Sink.{PutsAll, PutsPrefix, PutsSome, SinkFails, SinkState, PutsOrFails}
@@ -198,7 +198,7 @@ pub record Answered (form : AskedForm) (old new : Outside) (got : Result Bool Ev
   pub ends : EndsAs (Some form) old new got
   pub stops : Stops (Some form) old.inputs new.inputs got
   pub judges : JudgesFlash (Some form) (sources old.inputs old.flash) (sources new.inputs new.flash) got
-  pub asks : AsksFew old.inputs (length (names_of (Some form))) new.inputs
+  pub asks : AsksAtMost old.inputs (length (names_of (Some form))) new.inputs
   pub stays : InputsStay old.inputs new.inputs
 
 -- a form that writes no text came to this end, whatever the sinks hold
@@ -243,7 +243,7 @@ AnswersForm form old new got = AnswersBy (step_over (names_of (Some form)) old n
 pub record MakesReady (form : AskedForm) (old new : InputsState) (got : Result Answer Event) : Type 0 where
   pub caused : AnswersForm form old new got
   pub stops : Stops (Some form) old new got
-  pub asks : AsksFew old (length (names_of (Some form))) new
+  pub asks : AsksAtMost old (length (names_of (Some form))) new
   pub stays : InputsStay old new
 
 -- A form that reads a flash too made its text ready, or not: what is said of a form that reads inputs alone, by what
@@ -253,7 +253,7 @@ pub record MakesReadyFrom (form : AskedForm) (old new : Sources) (got : Result A
   pub stops : Stops (Some form) old.inputs new.inputs got
   pub measured : IsMeasured (Some form) new.flash got
   pub last : FailsLast (Some form) old.inputs new.flash got
-  pub asks : AsksFew old.inputs (length (names_of (Some form))) new.inputs
+  pub asks : AsksAtMost old.inputs (length (names_of (Some form))) new.inputs
   pub stays : InputsStay old.inputs new.inputs
 
 -- a flash was not attached: its name isn't there, or the flash failed

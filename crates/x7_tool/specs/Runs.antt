@@ -1,6 +1,6 @@
 -- What a run comes to: how it ended and why, its status, and what the outside holds then (this project's choice).
 use Rattle.std.specs.Prelude.{◌≡◌, ◌≤◌, ℕ, length, List, Option, None, Some, ◌⊎◌, false, Result, Ok}
-use Rattle.x7_words.specs.Input.{AsksFew, InputsStay}
+use Rattle.x7_words.specs.Input.{AsksAtMost, InputsStay}
 use Rattle.x7_words.specs.Word.{AreBytes}
 use Rattle.x7_listing.specs.StreamListing.{stream_listing}
 use Rattle.x7_mcs.specs.Text.{mcs_text}
@@ -50,7 +50,7 @@ pub record RanAs (form : Option AskedForm) (old new : Outside) (s : Status) : Ty
   pub ends : Ends form old new end
   pub stops : Stops form old.inputs new.inputs end
   pub judges : JudgesFlash form (sources old.inputs old.flash) (sources new.inputs new.flash) end
-  pub asks : AsksFew old.inputs (length (names_of form)) new.inputs
+  pub asks : AsksAtMost old.inputs (length (names_of form)) new.inputs
   pub stays : InputsStay old.inputs new.inputs
 
 -- a run of the command that the words ask for
@@ -87,7 +87,7 @@ pub record Runs (form : Option AskedForm) (old new : Outside) (s : Status) : Typ
   -- an update whose flash isn't there, wasn't attached or is too large asks for no stream
   pub judges : JudgesFlash form (sources old.inputs old.flash) (sources new.inputs new.flash) end
   -- no more inputs were asked for than the words name, so that none was read again, nor more ends of inputs read
-  pub asks : AsksFew old.inputs (length (names_of form)) new.inputs
+  pub asks : AsksAtMost old.inputs (length (names_of form)) new.inputs
   -- every input keeps its bytes, and the counts of faults and of absences don't fall
   pub stays : InputsStay old.inputs new.inputs
   -- the flash is untouched, read or written as the form says, and was asked for no name but the form's

@@ -1,7 +1,7 @@
 //! The command `debug`.
 ghost use Rattle.x7_forms.specs.ReadingStops.{StopsAmong, limited};
 ghost use Rattle.std.specs.Prelude.{◌≡◌, ◌⊎◌, [], ◌∷◌, Ok, Err, IfErr, IfOk};
-ghost use Rattle.x7_words.specs.Input.{AsksFew, InputsStay};
+ghost use Rattle.x7_words.specs.Input.{AsksAtMost, InputsStay};
 ghost use Rattle.x7_tool.specs.Debug.{debug_given};
 ghost use Rattle.x7_forms.specs.Message.{event_of};
 ghost use Rattle.x7_forms.specs.Event.{no_memory};
@@ -58,7 +58,7 @@ fn read_given<'w, I: Inputs>(
     ensures stands { IfOk result (λ given. StandsAt script.now script_limit (I.state inputs.new)) }
     ensures stops { IfErr result (λ r. StopsAmong (limited part_limit part.now ∷ limited stream_limit stream.now ∷ limited script_limit script.now ∷ [])
         (I.state inputs.old) (I.state inputs.new) (event_of r)) }
-    ensures asks { AsksFew (I.state inputs.old) 3 (I.state inputs.new) }
+    ensures asks { AsksAtMost (I.state inputs.old) 3 (I.state inputs.new) }
     ensures inputs { InputsStay (I.state inputs.old) (I.state inputs.new) }
 {
     let part = read_part(alloc, inputs, part)?;

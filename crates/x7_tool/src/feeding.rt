@@ -1,6 +1,6 @@
 //! Texts that are read line by line while they come.
 ghost use Rattle.std.specs.Prelude.{ℕ, ◌^◌, ◌<◌, List, [], ◌++◌, length, Ok, Err, IfOk, IfErr, ◌+◌};
-ghost use Rattle.x7_words.specs.Input.{AsksFew, InputsStay};
+ghost use Rattle.x7_words.specs.Input.{AsksAtMost, InputsStay};
 ghost use Rattle.x7_forms.specs.Message.{event_of};
 ghost use Rattle.x7_forms.specs.Step.{IsUnread, ReadsWhole};
 ghost use Rattle.x7_forms.specs.Turn.{StandsAt};
@@ -49,7 +49,7 @@ pub(crate) fn feed_whole<'w, I: Inputs, T: TakesLines>(
     ensures err { IfErr result (λ r. ReadsWhole (I.state inputs.old) (I.state inputs.new) text_limit name.now (Err (event_of r))) }
     ensures named { IfErr result (λ r. IsUnread name.now (event_of r)) }
     ensures stands { StandsAt name.now text_limit (I.state inputs.new) }
-    ensures asks { AsksFew (I.state inputs.old) 1 (I.state inputs.new) }
+    ensures asks { AsksAtMost (I.state inputs.old) 1 (I.state inputs.new) }
     ensures inputs { InputsStay (I.state inputs.old) (I.state inputs.new) }
 {
     open(inputs, name)?;

@@ -1,7 +1,7 @@
 //! The command `image`: the flash image of a golden and an update stream.
 ghost use Rattle.x7_forms.specs.ReadingStops.{IsAbout, StopsAmong, limited};
 ghost use Rattle.std.specs.Prelude.{◌≡◌, ◌⊎◌, ◌≤◌, [], ◌∷◌, Ok, Err, IfOk, IfErr, length};
-ghost use Rattle.x7_words.specs.Input.{AsksFew, InputsStay};
+ghost use Rattle.x7_words.specs.Input.{AsksAtMost, InputsStay};
 ghost use Rattle.x7_forms.specs.Known.{stream_limit};
 ghost use Rattle.x7_forms.specs.Message.{event_of};
 ghost use Rattle.x7_forms.specs.Turn.{StandsAt};
@@ -41,7 +41,7 @@ fn read_streams<'w, I: Inputs>(
     ensures stops { IfErr result (λ r. StopsAmong (limited stream_limit golden.now ∷ limited stream_limit update.now ∷ []) (I.state inputs.old) (I.state inputs.new) (event_of r)) }
     ensures golden { IfOk result (λ streams. streams.golden.start ≤ length streams.golden.bytes.items) }
     ensures update { IfOk result (λ streams. streams.update.start ≤ length streams.update.bytes.items) }
-    ensures asks { AsksFew (I.state inputs.old) 2 (I.state inputs.new) }
+    ensures asks { AsksAtMost (I.state inputs.old) 2 (I.state inputs.new) }
     ensures inputs { InputsStay (I.state inputs.old) (I.state inputs.new) }
 {
     let golden = read_stream(alloc, inputs, golden)?;

@@ -1,6 +1,6 @@
 //! The command `list`.
 ghost use Rattle.std.specs.Prelude.{◌≡◌, ℕ, List, [], ◌++◌, ◌⊎◌, false, Option, Ok, Err, OnErr, OnOk, IfErr, ◌+◌};
-ghost use Rattle.x7_words.specs.Sink.{SinkCountsStay, PutsPrefix, SinkFails, appended};
+ghost use Rattle.x7_words.specs.Sink.{SinkFaultsRise, PutsPrefix, SinkFails, appended};
 ghost use Rattle.x7_words.specs.Word.{AreBytes};
 ghost use Rattle.x7_listing.specs.Listing.{listing_of};
 ghost use Rattle.x7_tool.specs.Ahead.{IsLonger};
@@ -25,7 +25,7 @@ fn put_turn<'w, O: Sink>(lister: &mut Lister, out: &mut O, piece: &[u8]) -> Resu
     ensures why { IfErr result (λ r. IsUnlisted (O.state out.old) (O.state out.new) (event_of r)) }
     ensures fits { AreBytes piece.now }
     ensures longer { IsLonger (O.state out.old) (O.state out.new) }
-    ensures counts { SinkCountsStay (O.state out.old) (O.state out.new) }
+    ensures counts { SinkFaultsRise (O.state out.old) (O.state out.new) }
 {
     if lister.feed(piece).is_err() {
         return Err(Refusal::unnamed(Why::NoMemory));
@@ -75,7 +75,7 @@ fn put_beginning<'w, O: Sink>(
         → PutsPrefix (O.state out.old).written (line.now ++ listing_of (content.now ++ rest)) (O.state out.new).written) }
     ensures why { IfErr result (λ r. (event_of r ≡ no_memory) ⊎ ((event_of r ≡ writing_failed) × SinkFails (O.state out.old) (O.state out.new))) }
     ensures fits { AreBytes content.now }
-    ensures counts { SinkCountsStay (O.state out.old) (O.state out.new) }
+    ensures counts { SinkFaultsRise (O.state out.old) (O.state out.new) }
 {
     if write_all(out, line).is_err() {
         return Err(Refusal::unnamed(Why::WriteFault));

@@ -1,7 +1,7 @@
 //! The commands `plan full`, `plan partial` and `plan read`: streams for plans.
 ghost use Rattle.x7_forms.specs.ReadingStops.{IsAbout, StopsAmong, limited};
 ghost use Rattle.std.specs.Prelude.{◌≡◌, ◌⊎◌, ◌∷◌, [], ℕ, List, Ok, Err, IfOk, IfErr};
-ghost use Rattle.x7_words.specs.Input.{AsksFew, InputsStay};
+ghost use Rattle.x7_words.specs.Input.{AsksAtMost, InputsStay};
 ghost use Rattle.x7_part.specs.Part.{frame_words};
 ghost use Rattle.x7_frames.specs.FramesText.{IsPlanOf};
 ghost use Rattle.x7_forms.specs.Message.{event_of};
@@ -67,7 +67,7 @@ fn read_plan<'w, I: Inputs>(
     ensures caused { ReadsPlan (I.state inputs.old) (I.state inputs.new) part.now name.now (seen (λ plan. plan) result) }
     ensures stands { IfOk result (λ plan. StandsAt name.now text_limit (I.state inputs.new)) }
     ensures stops { IfErr result (λ r. StopsAmong (limited text_limit name.now ∷ []) (I.state inputs.old) (I.state inputs.new) (event_of r)) }
-    ensures asks { AsksFew (I.state inputs.old) 1 (I.state inputs.new) }
+    ensures asks { AsksAtMost (I.state inputs.old) 1 (I.state inputs.new) }
     ensures inputs { InputsStay (I.state inputs.old) (I.state inputs.new) }
 {
     let Ok(lines) = FrameLines::new(alloc, part) else {

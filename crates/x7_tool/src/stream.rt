@@ -1,6 +1,6 @@
 //! Streams that are read whole, each within the limit of a stream, whatever the others have.
 ghost use Rattle.std.specs.Prelude.{◌≡◌, ◌≤◌, [], ◌∷◌, IfErr, IfOk, length};
-ghost use Rattle.x7_words.specs.Input.{AsksFew, InputsStay};
+ghost use Rattle.x7_words.specs.Input.{AsksAtMost, InputsStay};
 ghost use Rattle.x7_tool.specs.Outcome.{stream_data};
 ghost use Rattle.x7_forms.specs.Known.{stream_limit};
 ghost use Rattle.x7_forms.specs.Message.{event_of};
@@ -30,7 +30,7 @@ pub(crate) fn read_stream<'w, I: Inputs>(
     ensures named { IfErr result (λ r. IsUnplayed name.now (event_of r)) }
     ensures stands { StandsAt name.now stream_limit (I.state inputs.new) }
     ensures within { IfOk result (λ stream. stream.start ≤ length stream.bytes.items) }
-    ensures asks { AsksFew (I.state inputs.old) 1 (I.state inputs.new) }
+    ensures asks { AsksAtMost (I.state inputs.old) 1 (I.state inputs.new) }
     ensures inputs { InputsStay (I.state inputs.old) (I.state inputs.new) }
 {
     let bytes = read_whole(alloc, inputs, name, STREAM_LIMIT)?;
@@ -63,7 +63,7 @@ pub(crate) fn read_data<'w, I: Inputs>(
         (λ known. stream_data known name.now) (seen (λ bytes. bytes.items) result) }
     ensures named { IfErr result (λ r. IsUnplayed name.now (event_of r)) }
     ensures stands { StandsAt name.now stream_limit (I.state inputs.new) }
-    ensures asks { AsksFew (I.state inputs.old) 1 (I.state inputs.new) }
+    ensures asks { AsksAtMost (I.state inputs.old) 1 (I.state inputs.new) }
     ensures inputs { InputsStay (I.state inputs.old) (I.state inputs.new) }
 {
     let stream = read_stream(alloc, inputs, name)?;

@@ -1,7 +1,7 @@
 //! The command `svf`.
 ghost use Rattle.x7_forms.specs.ReadingStops.{StopsAmong, limited};
 ghost use Rattle.std.specs.Prelude.{◌≡◌, ◌⊎◌, ◌≤◌, ◌||◌, [], ◌∷◌, Ok, Err, IfErr, IfOk, vec_len};
-ghost use Rattle.x7_words.specs.Input.{AsksFew, InputsStay};
+ghost use Rattle.x7_words.specs.Input.{AsksAtMost, InputsStay};
 ghost use Rattle.x7_forms.specs.Message.{event_of};
 ghost use Rattle.x7_forms.specs.Event.{no_memory};
 ghost use Rattle.x7_forms.specs.Step.{AnswersAs, seen, step_over};
@@ -56,7 +56,7 @@ fn read_given<'w, I: Inputs>(
     ensures stands { IfOk result (λ given. StandsAt text.now text_limit (I.state inputs.new)) }
     ensures stops { IfErr result (λ r. StopsAmong (limited part_limit part.now ∷ limited text_limit text.now ∷ []) (I.state inputs.old) (I.state inputs.new) (event_of r)) }
     ensures within { IfOk result (λ given. vec_len given.text ≤ text_limit) }
-    ensures asks { AsksFew (I.state inputs.old) 2 (I.state inputs.new) }
+    ensures asks { AsksAtMost (I.state inputs.old) 2 (I.state inputs.new) }
     ensures inputs { InputsStay (I.state inputs.old) (I.state inputs.new) }
 {
     let part = read_part(alloc, inputs, part)?;

@@ -1,6 +1,6 @@
 -- Lemmas on a rest that is taken piece by piece, for the crates that read inputs.
 use Rattle.std.proofs.Common.{◌≡◌, ℕ, List, [], ◌++◌, ◌+◌, ◌≤◌, Option, None, Some, true, refl, ap, sym, ◌∙◌, append_assoc, arith, length-append}
-use Rattle.x7_words.specs.Input.{AsksFew, AsksOnce, InputsState, InputsStay, TakesInput, preceded}
+use Rattle.x7_words.specs.Input.{AsksAtMost, AsksOnce, InputsState, InputsStay, TakesInput, preceded}
 
 -- before anything was taken, the rest is all
 pub preceded_nil : (rest : Option (List ℕ)) → preceded [] rest ≡ rest
@@ -40,11 +40,11 @@ takes_none s e = record { selected = e; taken = sym (preceded_nil s.rest); given
 -- ---- how often inputs are asked for, and their ends read
 
 -- where nothing happened, none was
-pub few_at : (s : InputsState) → AsksFew s 0 s
+pub few_at : (s : InputsState) → AsksAtMost s 0 s
 few_at s = record { selects = omega arith; ends = omega arith }
 
 -- an input that was asked for
-pub few_once : (old new : InputsState) → AsksOnce old new → AsksFew old 1 new
+pub few_once : (old new : InputsState) → AsksOnce old new → AsksAtMost old 1 new
 few_once old new o = record { selects = o.selects; ends = omega (arith, o.ends) }
 
 -- an input that was asked for once, and then read on, but not to its end
@@ -52,9 +52,9 @@ pub once_on : (old mid new : InputsState) → AsksOnce old mid → new.selects �
 once_on old mid new o s e = record { selects = omega (arith, o.selects, s); ends = omega (arith, o.ends, e) }
 
 -- inputs one after the other
-pub few_on : (old mid new : InputsState) (before after : ℕ) → AsksFew old before mid → AsksFew mid after new → AsksFew old (before + after) new
+pub few_on : (old mid new : InputsState) (before after : ℕ) → AsksAtMost old before mid → AsksAtMost mid after new → AsksAtMost old (before + after) new
 few_on old mid new before after a b = record { selects = omega (arith, a.selects, b.selects); ends = omega (arith, a.ends, b.ends) }
 
 -- as many as more
-pub few_more : (old new : InputsState) (few more : ℕ) → few ≤ more → AsksFew old few new → AsksFew old more new
+pub few_more : (old new : InputsState) (few more : ℕ) → few ≤ more → AsksAtMost old few new → AsksAtMost old more new
 few_more old new few more h a = record { selects = omega (arith, h, a.selects); ends = omega (arith, h, a.ends) }

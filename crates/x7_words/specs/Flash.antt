@@ -12,20 +12,19 @@ use Rattle.x7_words.specs.declared.input.SelectFault.TheVariants.{Missing, Faile
 abbrev pub sector_bytes : ℕ
 sector_bytes = 65536
 
--- how many bytes a sector has, as a number that unfolds only where a proof says so: else
--- a check would count out an erased sector
-unfoldable pub sector_size : ℕ
-sector_size = sector_bytes
+-- `sector_bytes`, as a number that unfolds only where a proof says so: else a check would count out an erased sector
+unfoldable pub folded_sector_bytes : ℕ
+folded_sector_bytes = sector_bytes
 
 -- what an erase sets each byte to
 abbrev pub erased_byte : ℕ
 erased_byte = 0xFF
 
--- the place at which the sector of a number begins, the first of number 0
+-- the place, in bytes, at which the sector of this number begins; sectors count from 0
 abbrev pub sector_place : ℕ → ℕ
 sector_place sector = sector * sector_bytes
 
--- the most bytes of a flash
+-- the most bytes of a flash: 128 MiB
 abbrev pub flash_limit : ℕ
 flash_limit = 134217728
 
@@ -37,9 +36,9 @@ pub record FlashState : Type 0 where
   pub extent : ℕ
   -- whether the flash is attached
   pub attached : Bool
-  -- the names for which the flash may have been asked; each, where it keeps none
+  -- the names that the flash may have been asked for; every name, where it keeps none
   pub names : List ℕ → Bool
-  -- whether a byte may have been read at a place since the last write; each may, where none is kept
+  -- whether a byte may have been read at a place since the last write; any byte, where reads aren't kept
   pub seen : ℕ → ℕ → Bool
   -- how often an attach or a read has failed
   pub faults : ℕ
@@ -47,7 +46,7 @@ pub record FlashState : Type 0 where
   pub absences : ℕ
   -- how often an erase or a program has failed
   pub write_faults : ℕ
-  -- the present moment, as a number that doesn't fall
+  -- how many moments have passed: the number of the present one, which doesn't fall
   pub moments : ℕ
 
 -- `P` holds of the bytes, where they are known
@@ -69,23 +68,23 @@ KnowsBytes state = IfKnown state.bytes AreBytes
 abbrev pub Sees : FlashState → ℕ → List ℕ → Type 0
 Sees state place read = (i : ℕ) → i < length read → IsTrue (state.seen (place + i) (get_or read i 0))
 
--- No time passes: what may be found after a stop since some moment is what might have
--- been found before, and nothing was written.
-pub record Unwritten (old new : FlashState) (past since : ℕ → List ℕ → Type 0) : Type 0 where
+-- No time passed and nothing was written: after a stop since any moment the same bytes may be found after a call as
+-- before it.
+pub record Unwritten (old new : FlashState) (found_before found_after : ℕ → List ℕ → Type 0) : Type 0 where
   pub write_faults : new.write_faults ≡ old.write_faults
   pub moments : new.moments ≡ old.moments
-  pub nothing_else : (moment : ℕ) (found : List ℕ) → since moment found → past moment found
-  pub keeps : (moment : ℕ) (found : List ℕ) → past moment found → since moment found
+  pub nothing_else : (moment : ℕ) (found : List ℕ) → found_after moment found → found_before moment found
+  pub keeps : (moment : ℕ) (found : List ℕ) → found_before moment found → found_after moment found
 
 -- the bytes stay, nothing was written, and no count falls
-pub record FlashStays (old new : FlashState) (past since : ℕ → List ℕ → Type 0) : Type 0 where
+pub record FlashStays (old new : FlashState) (found_before found_after : ℕ → List ℕ → Type 0) : Type 0 where
   pub bytes : new.bytes ≡ old.bytes
   pub faults : old.faults ≤ new.faults
   pub absences : old.absences ≤ new.absences
-  pub unwritten : Unwritten old new past since
+  pub unwritten : Unwritten old new found_before found_after
 
 -- nothing was written, what was seen stays so, and nothing else changed but the count of faults, which does not fall
-pub record OnlyReads (old new : FlashState) (past since : ℕ → List ℕ → Type 0) : Type 0 where
+pub record OnlyReads (old new : FlashState) (found_before found_after : ℕ → List ℕ → Type 0) : Type 0 where
   pub bytes : new.bytes ≡ old.bytes
   pub extent : new.extent ≡ old.extent
   pub attached : new.attached ≡ old.attached
@@ -93,7 +92,7 @@ pub record OnlyReads (old new : FlashState) (past since : ℕ → List ℕ → T
   pub seen : (place byte : ℕ) → IsTrue (old.seen place byte) → IsTrue (new.seen place byte)
   pub faults : old.faults ≤ new.faults
   pub absences : new.absences ≡ old.absences
-  pub unwritten : Unwritten old new past since
+  pub unwritten : Unwritten old new found_before found_after
 
 -- the flash was asked for this name, and for no other one since
 pub record AsksFor (old : FlashState) (name : List ℕ) (new : FlashState) : Type 0 where
@@ -101,50 +100,50 @@ pub record AsksFor (old : FlashState) (name : List ℕ) (new : FlashState) : Typ
   pub no_other : (other : List ℕ) → IsTrue (new.names other) → IsTrue (old.names other) ⊎ (other ≡ name)
 
 -- the counts of faults and of absences fit a u64
-abbrev pub FlashFits : FlashState → Type 0
-FlashFits state = (state.faults < 2 ^ 64) × (state.absences < 2 ^ 64)
+abbrev pub FlashCountsFit : FlashState → Type 0
+FlashCountsFit state = (state.faults < 2 ^ 64) × (state.absences < 2 ^ 64)
 
 -- the flash failed: its count of faults has risen
 abbrev pub FlashFails : FlashState → FlashState → Type 0
 FlashFails old new = HasRisen old.faults new.faults
 
--- why a flash was not attached: its name is missing, or the flash failed; the
--- count of absences, or of faults, has risen
-abbrev pub Unattached : FlashState → FlashState → SelectFault → Type 0
-Unattached old new Missing = HasRisen old.absences new.absences
-Unattached old new Failed = FlashFails old new
+-- why a flash was not attached: its name is missing, or the flash failed; the count of absences, or of faults, has
+-- risen
+abbrev pub FlashRefuses : FlashState → FlashState → SelectFault → Type 0
+FlashRefuses old new Missing = HasRisen old.absences new.absences
+FlashRefuses old new Failed = FlashFails old new
 
 -- ---- writing
 
 -- a sector with each bit 1
 abbrev pub erased_sector : List ℕ
-erased_sector = replicate sector_size erased_byte
+erased_sector = replicate folded_sector_bytes erased_byte
 
--- the bytes with this piece in the place of as many of them
+-- the bytes, of which those from the place on are replaced by as many of the piece
 abbrev pub replaced : ℕ → List ℕ → List ℕ → List ℕ
 replaced place piece bytes = splice bytes place (place + length piece) piece
 
--- the bytes with each bit of this sector 1
+-- the bytes after an erase of this sector: each of its bits is 1
 abbrev pub erased : ℕ → List ℕ → List ℕ
 erased sector bytes = replaced (sector_place sector) erased_sector bytes
 
--- the values of a function at the pairs of two lists, place by place
+-- the values of a function at the pairs of two lists, as many as the shorter one has
 abbrev pub zip_with : (ℕ → ℕ → ℕ) → List ℕ → List ℕ → List ℕ
 zip_with f [] ys = []
 zip_with f (x ∷ xs) [] = []
 zip_with f (x ∷ xs) (y ∷ ys) = f x y ∷ zip_with f xs ys
 
--- what a write brings to its range: a bit can be made 0, but not 1
+-- what a program of the given bytes brings to its range: each byte the old one AND the given one, so that a bit can be
+-- made 0, but not 1
 abbrev pub cleared : ℕ → List ℕ → List ℕ → List ℕ
 cleared place given bytes = zip_with bit_and (slice_range bytes place (place + length given)) given
 
--- the bytes after a write of the given ones at the place
+-- the bytes after a program of the given ones at the place
 abbrev pub programmed : ℕ → List ℕ → List ℕ → List ℕ
 programmed place given bytes = replaced place (cleared place given bytes) bytes
 
--- What may be found within a write of the target at the place: each bit of its range
--- is old or its target, and all else is old.
--- So bytes that are written with bytes stay bytes.
+-- What may be found within a write of the target at the place: each bit of its range is old or its target, and all else
+-- is old. So bytes stay bytes, where the target is of bytes.
 pub record IsTorn (place : ℕ) (target old found : List ℕ) : Type 0 where
   pub size : length found ≡ length old
   pub outside : (i : ℕ) → (i < place) ⊎ (place + length target ≤ i) → get_or found i 0 ≡ get_or old i 0
@@ -157,15 +156,16 @@ abbrev pub TornFrom : ℕ → (List ℕ → List ℕ) → Option (List ℕ) → 
 TornFrom place target None new = Unit {0}
 TornFrom place target (Some old) new = (now : List ℕ) × (new ≡ Some now) × IsTorn place (target old) old now
 
--- where the bytes were known before a write, this may be found within it
+-- where the bytes were known before a write, these bytes may be found within it
 abbrev pub WithinWrite : ℕ → (List ℕ → List ℕ) → Option (List ℕ) → List ℕ → Type 0
 WithinWrite place target known found = IfKnown known (λ old. IsTorn place (target old) old found)
 
--- Time goes on: what may be found after a stop since some moment is what might have been found before, or this.
-pub record Elapses (before now : ℕ) (past since : ℕ → List ℕ → Type 0) (within : List ℕ → Type 0) : Type 0 where
+-- Time went on over a write, from moment `before` to moment `now`: what may be found after a stop since a moment up to
+-- `before` is what might have been found before the write, or what may be found within it.
+pub record Elapses (before now : ℕ) (found_before found_after : ℕ → List ℕ → Type 0) (within : List ℕ → Type 0) : Type 0 where
   pub later : before ≤ now
-  pub nothing_else : (moment : ℕ) (found : List ℕ) → moment ≤ before → since moment found → past moment found ⊎ within found
-  pub keeps : (moment : ℕ) (found : List ℕ) → moment ≤ before → past moment found → since moment found
+  pub nothing_else : (moment : ℕ) (found : List ℕ) → moment ≤ before → found_after moment found → found_before moment found ⊎ within found
+  pub keeps : (moment : ℕ) (found : List ℕ) → moment ≤ before → found_before moment found → found_after moment found
 
 -- nothing changed but the bytes, what was seen of them, the moment and the count of write faults, which does not fall
 pub record OnlyWrites (old new : FlashState) : Type 0 where

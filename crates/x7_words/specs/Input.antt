@@ -1,14 +1,13 @@
--- Inputs by name, where their bytes may be known or not (this project's choice).
--- The bytes of a file are not known: no clause says what a file of the system
--- holds. Those of an input in memory are known.
-use Rattle.std.specs.Prelude.{◌≡◌, ℕ, Bool, true, List, [], ◌++◌, ◌+◌, ◌≤◌, ◌<◌, ◌^◌, ◌⊎◌, length, Option, None, Some, IfSome}
+-- Inputs by name, whose bytes may be known or not (this project's choice).
+-- The bytes of a file are not known: no clause says what a file of the system holds. Those of an input in memory are.
+use Rattle.std.specs.Prelude.{◌≡◌, ℕ, Bool, true, false, List, [], ◌++◌, ◌+◌, ◌≤◌, ◌<◌, ◌^◌, ◌⊎◌, length, Option, None, Some, IfSome}
 use Rattle.x7_words.specs.Count.{HasRisen}
 use Rattle.x7_words.specs.declared.input.SelectFault.{SelectFault}
 use Rattle.x7_words.specs.declared.input.SelectFault.TheVariants.{Missing, Failed}
 
 -- what inputs have come to
 pub record InputsState : Type 0 where
-  -- the bytes under each name, where they are known: none for a name that the map lacks
+  -- the map from names to bytes, where it is known; `None` for a name without an input
   pub contents : Option (List ℕ → Option (List ℕ))
   -- whether an input is selected
   pub selected : Bool
@@ -16,18 +15,18 @@ pub record InputsState : Type 0 where
   pub rest : Option (List ℕ)
   -- the name of the last select, where it is kept
   pub asked : Option (List ℕ)
-  -- how often an input was asked for, by a count that may stop
+  -- how often an input was asked for, by a count that may stop at the last u64
   pub selects : ℕ
-  -- how often a read gave nothing, by a count that may stop
+  -- how often a read gave nothing, by a count that may stop at the last u64
   pub ends : ℕ
-  -- how many bytes were given since the last select, by a count that may stop; a fault leaves it
+  -- how many bytes were given since the last select, by a count that may stop at the last u64; a fault leaves it
   pub given : ℕ
   -- how often a select or a read has failed
   pub faults : ℕ
   -- how often a name was missing
   pub absences : ℕ
 
--- the rest is all that the name has, where the map is known
+-- the rest is all bytes of the input of this name, where the map is known
 abbrev pub RestIsWhole : Option (List ℕ → Option (List ℕ)) → List ℕ → Option (List ℕ) → Type 0
 RestIsWhole None name rest = Unit {0}
 RestIsWhole (Some map) name rest = (bytes : List ℕ) × (map name ≡ Some bytes) × (rest ≡ Some bytes)
@@ -37,7 +36,7 @@ abbrev pub Lacks : Option (List ℕ → Option (List ℕ)) → List ℕ → Type
 Lacks None name = ⊥
 Lacks (Some map) name = map name ≡ None
 
--- the known bytes with further ones before them
+-- bytes before the known ones; where none are known the result isn't known either
 abbrev pub preceded : List ℕ → Option (List ℕ) → Option (List ℕ)
 preceded bytes None = None
 preceded bytes (Some rest) = Some (bytes ++ rest)
@@ -61,7 +60,7 @@ InputCountsFit state = (state.faults < 2 ^ 64) × (state.absences < 2 ^ 64)
 abbrev pub InputsFail : InputsState → InputsState → Type 0
 InputsFail old new = HasRisen old.faults new.faults
 
--- the name is missing: it has no bytes where they are known, or the count of absences rose
+-- the name is missing: the map is known and lacks it, or the count of absences has risen
 abbrev pub Misses : InputsState → List ℕ → InputsState → Type 0
 Misses old name new = Lacks old.contents name ⊎ HasRisen old.absences new.absences
 
@@ -75,25 +74,38 @@ pub record Asks (name : List ℕ) (new : InputsState) : Type 0 where
   pub asked : IfSome new.asked (λ kept. kept ≡ name)
   pub given : new.given ≡ 0
 
+-- no input was asked for, and at most one end of an input was read
+pub record AsksForNone (old new : InputsState) : Type 0 where
+  pub asked : new.asked ≡ old.asked
+  pub selects : new.selects ≡ old.selects
+  pub ends : new.ends ≤ old.ends + 1
+
 -- at most one input was asked for, and no end of an input was read
 pub record AsksOnce (old new : InputsState) : Type 0 where
   pub selects : new.selects ≤ old.selects + 1
   pub ends : new.ends ≤ old.ends
 
 -- at most this many inputs were asked for, and at most as many ends of inputs were read
-pub record AsksFew (old : InputsState) (count : ℕ) (new : InputsState) : Type 0 where
+pub record AsksAtMost (old : InputsState) (count : ℕ) (new : InputsState) : Type 0 where
   pub selects : new.selects ≤ old.selects + count
   pub ends : new.ends ≤ old.ends + count
 
--- the bytes were taken from the selected input and are counted as given; the input
--- stays selected and was not asked for again
+-- the bytes were taken from the selected input and are counted as given; the input stays selected and was not asked
+-- for again
 pub record TakesInput (old : InputsState) (bytes : List ℕ) (new : InputsState) : Type 0 where
   pub selected : new.selected ≡ true
   pub taken : old.rest ≡ preceded bytes new.rest
   pub given : new.given ≤ old.given + length bytes
   pub selects : new.selects ≡ old.selects
 
+-- a read failed: the count of faults has risen, no input is selected, and neither a byte nor an end was counted
+pub record ReadFails (old new : InputsState) : Type 0 where
+  pub faults : InputsFail old new
+  pub selected : new.selected ≡ false
+  pub given : new.given ≤ old.given
+  pub ends : new.ends ≤ old.ends
+
 -- why a name was not selected
-abbrev pub Refuses : InputsState → List ℕ → InputsState → SelectFault → Type 0
-Refuses old name new Missing = Misses old name new
-Refuses old name new Failed = InputsFail old new
+abbrev pub InputsRefuse : InputsState → List ℕ → InputsState → SelectFault → Type 0
+InputsRefuse old name new Missing = Misses old name new
+InputsRefuse old name new Failed = InputsFail old new

@@ -1,4 +1,4 @@
--- Bytes that are written one after the other, where they may be known or not (this project's choice).
+-- Bytes that are written one after the other, which may be known or not (this project's choice).
 use Rattle.std.specs.Prelude.{◌≡◌, ℕ, List, ◌++◌, ◌≤◌, ◌<◌, ◌^◌, Option, None, Some, ◌⊎◌}
 use Rattle.x7_words.specs.Count.{HasRisen}
 
@@ -9,7 +9,7 @@ pub record SinkState : Type 0 where
   -- how often a write has failed
   pub faults : ℕ
 
--- the known bytes with further ones at their end
+-- the known bytes with further ones at their end; where none are known the result isn't known either
 abbrev pub appended : Option (List ℕ) → List ℕ → Option (List ℕ)
 appended None bytes = None
 appended (Some old) bytes = Some (old ++ bytes)
@@ -30,8 +30,8 @@ PutsSome old text new = PutsPrefix old.written text new.written
 abbrev pub SinkFails : SinkState → SinkState → Type 0
 SinkFails old new = HasRisen old.faults new.faults
 
--- the count of faults does not fall, and stays that of a u64
-pub record SinkCountsStay (old new : SinkState) : Type 0 where
+-- the count of faults doesn't fall, and fits a u64 where it did before
+pub record SinkFaultsRise (old new : SinkState) : Type 0 where
   pub faults : old.faults ≤ new.faults
   pub fits : old.faults < 2 ^ 64 → new.faults < 2 ^ 64
 

@@ -1,6 +1,6 @@
 //! A flash that is read, erased and programmed at places.
 ghost use Rattle.std.specs.Prelude.{◌≡◌, ℕ, List, ◌+◌, ◌<◌, ◌≤◌, ◌^◌, length, Some, true, false, IfErr, OnOk, OnErr, slice_range, option_map};
-ghost use Rattle.x7_words.specs.Flash.{AsksFor, Elapses, FlashFails, FlashFits, FlashState, FlashStays, IsSized, KnowsBytes, OnlyReads, OnlyWrites, Sees, TornFrom, Unattached, IfKnown, WithinWrite, WriteFails, cleared, erased, erased_sector, programmed, sector_bytes, sector_place};
+ghost use Rattle.x7_words.specs.Flash.{AsksFor, Elapses, FlashFails, FlashCountsFit, FlashState, FlashStays, IsSized, KnowsBytes, OnlyReads, OnlyWrites, Sees, TornFrom, FlashRefuses, IfKnown, WithinWrite, WriteFails, cleared, erased, erased_sector, programmed, sector_bytes, sector_place};
 
 use crate::input::{Failed, SelectFault};
 
@@ -10,7 +10,7 @@ pub const SECTOR_BYTES: u64 = 65_536;
 /// What an erase sets each byte to.
 pub const ERASED_BYTE: u8 = 0xFF;
 
-/// The most bytes of a flash.
+/// The most bytes of a flash: 128 MiB (this project's choice).
 pub const FLASH_LIMIT: u64 = 134_217_728;
 
 /// A flash: bytes at places from 0, which are read, erased and programmed once it is attached under its name.
@@ -18,7 +18,7 @@ pub const FLASH_LIMIT: u64 = 134_217_728;
 /// A power loss may stop a flash at any moment. Outside a write the flash's bytes are found then; within one each bit
 /// of the write's range is old or its target. A write takes one moment at most.
 ///
-/// What was read is seen until the next write, of which no clause says that anything is seen after it.
+/// What was read stays seen until the next write; no clause says that anything is seen after one.
 ///
 /// The counts only rise, by at least one at each fault or absence. A count that has reached the
 /// last u64 stays there, and counts as risen.
@@ -32,13 +32,13 @@ pub trait Flash {
     /// Attaches the flash of this name. After an error none is attached.
     fn attach(&mut self, name: &str) -> Result<(), SelectFault>
         ensures ok { OnOk result ((state self.new).attached ≡ true) }
-        ensures refused { IfErr result (Unattached (state self.old) (state self.new)) }
+        ensures refused { IfErr result (FlashRefuses (state self.old) (state self.new)) }
         ensures err { OnErr result ((state self.new).attached ≡ false) }
         ensures asks { AsksFor (state self.old) name.now (state self.new) }
         ensures stays { FlashStays (state self.old) (state self.new) (found_since self.old) (found_since self.new) }
         ensures sized { IsSized (state self.new) }
         ensures bytes { KnowsBytes (state self.new) }
-        ensures fits { FlashFits (state self.new) };
+        ensures fits { FlashCountsFit (state self.new) };
 
     /// The number of the attached flash's bytes.
     fn size(&self) -> u64

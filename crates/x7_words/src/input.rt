@@ -1,10 +1,10 @@
 //! Inputs that are read by name, and what can go wrong with the outside.
-ghost use Rattle.std.specs.Prelude.{◌≡◌, ◌<◌, ◌≤◌, ◌+◌, length, take, true, false, IfErr, IfOk, OnOk, OnErr};
-ghost use Rattle.x7_words.specs.Input.{InputsState, Asks, AsksOnce, AtEnd, InputsFail, InputCountsFit, Opens, Refuses, InputsStay, TakesInput};
+ghost use Rattle.std.specs.Prelude.{◌≡◌, ◌<◌, ◌≤◌, length, take, true, false, IfErr, IfOk, OnOk, OnErr};
+ghost use Rattle.x7_words.specs.Input.{InputsState, Asks, AsksForNone, AsksOnce, AtEnd, InputCountsFit, Opens, ReadFails, InputsRefuse, InputsStay, TakesInput};
 
 use std::alloc::{AllocError, AllocFailed};
 
-/// There was no memory for what was asked. The call that answers it says what it leaves.
+/// There was no memory for what was asked. What the call leaves is what its contract says.
 #[derive(Clone, Copy, Debug, Drop, PartialEq, Eq)]
 pub struct NoMemory;
 
@@ -20,7 +20,7 @@ impl<T: Drop> From<AllocFailed<T>> for NoMemory {
     }
 }
 
-/// The outside failed: a read or a write did not happen.
+/// A call of the outside failed. What it leaves is what the call's contract says.
 #[derive(Clone, Copy, Debug, Drop, PartialEq, Eq)]
 pub struct Failed;
 
@@ -45,7 +45,7 @@ pub trait Inputs {
     /// After an error no input is selected.
     fn select(&mut self, name: &str) -> Result<(), SelectFault>
         ensures ok { OnOk result (Opens (state self.old) name.now (state self.new)) }
-        ensures refused { IfErr result (Refuses (state self.old) name.now (state self.new)) }
+        ensures refused { IfErr result (InputsRefuse (state self.old) name.now (state self.new)) }
         ensures err { OnErr result ((state self.new).selected ≡ false) }
         ensures asks { Asks name.now (state self.new) }
         ensures once { AsksOnce (state self.old) (state self.new) }
@@ -54,21 +54,16 @@ pub trait Inputs {
 
     /// Puts the next bytes of the selected input at the start of the buffer, and answers how many.
     /// 0 for a buffer that is not empty is the end. After an error no input is selected, and the
-    /// buffer may hold anything: a system's failed read promises nothing of it.
+    /// buffer may hold anything: the system promises nothing of it where a read fails.
     fn read(&mut self, buf: &mut [u8]) -> Result<usize, Failed>
         requires { (state self.old).selected ≡ true }
         ensures ok { IfOk result (λ n. TakesInput (state self.old) (take n buf.new) (state self.new)) }
         ensures within { IfOk result (λ n. n ≤ length buf.old) }
         ensures end { IfOk result (λ n. n ≡ 0 → 0 < length buf.old → AtEnd (state self.new).rest) }
+        ensures no_end { IfOk result (λ n. 0 < n → (state self.new).ends ≤ (state self.old).ends) }
         ensures length { length buf.new ≡ length buf.old }
-        ensures failed { OnErr result (InputsFail (state self.old) (state self.new)) }
-        ensures err { OnErr result ((state self.new).selected ≡ false) }
-        ensures given { OnErr result ((state self.new).given ≤ (state self.old).given) }
-        ensures asked { (state self.new).asked ≡ (state self.old).asked }
-        ensures selects { (state self.new).selects ≡ (state self.old).selects }
-        ensures more { IfOk result (λ n. 0 < n → (state self.new).ends ≤ (state self.old).ends) }
-        ensures lost { OnErr result ((state self.new).ends ≤ (state self.old).ends) }
-        ensures once { (state self.new).ends ≤ (state self.old).ends + 1 }
+        ensures failed { OnErr result (ReadFails (state self.old) (state self.new)) }
+        ensures asks { AsksForNone (state self.old) (state self.new) }
         ensures stays { InputsStay (state self.old) (state self.new) }
         ensures fits { InputCountsFit (state self.new) };
 }

@@ -10,7 +10,7 @@ mod sink;
 mod word;
 
 pub use bytes::is_same;
-pub use count::{count_end, next_count};
+pub use count::{ends_counted, raised};
 pub use flash::{ERASED_BYTE, FLASH_LIMIT, Flash, SECTOR_BYTES};
 pub use input::{Failed, Inputs, NoMemory, SelectFault};
 pub use laws::words_are_big_endian;

@@ -3,7 +3,7 @@ ghost use Rattle.std.specs.Prelude.{◌≡◌, ◌+◌, ◌<◌, ◌≤◌, ◌^
 ghost use Rattle.std.specs.Io.KnownBytes.{Consumes};
 ghost use Rattle.std.specs.Io.Seek.{MovesTo};
 ghost use Rattle.x7_words.specs.Count.{IsLaterCount, raised};
-ghost use Rattle.x7_files.specs.Files.{after_opening, file_tells, known_flash, Clears, ClearsAt, EndsAt, IsExtent, ReadsAt, RefusedFor, TriesWrite, WhileOpen, WritesAt};
+ghost use Rattle.x7_files.specs.Files.{after_attach, file_tells, known_flash, Clears, ClearsAt, EndsAt, IsExtent, ReadsAt, RefusedFor, TriesWrite, WhileOpen, WritesAt};
 ghost use Rattle.x7_words.specs.Flash.{erased_sector, sector_bytes, sector_place, zip_with};
 
 use super::count_refusal;
@@ -11,7 +11,7 @@ use std::fs::{self, OpenFile, OpenOptions};
 use std::io::{self, ErrorKind, Read, Seek, SeekFrom, Write};
 use std::marker::Model;
 use std::rt::Files;
-use x7_words::{ERASED_BYTE, Failed, Flash, SECTOR_BYTES, SelectFault, next_count};
+use x7_words::{ERASED_BYTE, Failed, Flash, SECTOR_BYTES, SelectFault, raised};
 
 /// The number of a file's bytes: where its end is. A folder is no file.
 fn extent_of<F: OpenFile + Seek>(file: &mut F) -> io::Result<u64>
@@ -193,7 +193,7 @@ impl<'r, R: Files> Flash for FileFlash<'r, R> {
     ghost only_now = { λ _ _ _. tt };
 
     fn attach(&mut self, name: &str) -> Result<(), SelectFault>
-        ensures after { self.new ≡ after_opening self.old result self.new }
+        ensures after { self.new ≡ after_attach self.old result self.new }
         ensures extent { OnOk result
             (IsExtent (file_tells R.File.stream_position R.File.stream_bytes) self.new.extent self.new.file) }
         ensures refused { IfErr result (RefusedFor self.new.refusal) }
@@ -241,7 +241,7 @@ impl<'r, R: Files> Flash for FileFlash<'r, R> {
         if read_from(file, place, buf).is_ok() {
             return Ok(());
         }
-        self.faults = next_count(self.faults);
+        self.faults = raised(self.faults);
         Err(Failed)
     }
 
@@ -257,7 +257,7 @@ impl<'r, R: Files> Flash for FileFlash<'r, R> {
         if erase_from(file, sector * SECTOR_BYTES).is_ok() {
             return Ok(());
         }
-        self.write_faults = next_count(self.write_faults);
+        self.write_faults = raised(self.write_faults);
         Err(Failed)
     }
 
@@ -273,7 +273,7 @@ impl<'r, R: Files> Flash for FileFlash<'r, R> {
         if program_from(file, place, given).is_ok() {
             return Ok(());
         }
-        self.write_faults = next_count(self.write_faults);
+        self.write_faults = raised(self.write_faults);
         Err(Failed)
     }
 }

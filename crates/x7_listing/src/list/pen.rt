@@ -7,7 +7,7 @@ ghost use Rattle.x7_regs.specs.Register.{number_of};
 ghost use Rattle.x7_regs.specs.declared.register.Reg.TheVariants.{Cmd};
 ghost use Rattle.x7_text.specs.Appends.{Appends, HasSpareRoom};
 ghost use Rattle.x7_text.specs.Reads.{StaysWithin};
-ghost use Rattle.x7_text.specs.Row.{close, in_line_after, open_bytes, row_bytes, rows_size};
+ghost use Rattle.x7_text.specs.Row.{close, in_line_after, open_bytes, row_bytes, rows_text_limit};
 ghost use Rattle.x7_listing.specs.HeadLine.{line_size};
 ghost use Rattle.x7_listing.specs.Pens.{EndsWith, GapGoesOn, gap_written, held_by, is_in_session, in_line_of, written_with};
 ghost use Rattle.x7_listing.specs.Lister.{words_place, open_words, WritesRun};
@@ -61,8 +61,8 @@ pub(crate) fn open_in(pen: Pen) -> OpenWords
 
 /// Takes a byte of a gap: where four are held, the first of them is listed.
 fn hold(text: &mut Vec<u8>, pen: GapPen, byte: u8) -> GapPen
-    requires room { HasSpareRoom text.old (rows_size 1) }
-    ensures room { StaysWithin text.old text.new (rows_size 1) }
+    requires room { HasSpareRoom text.old (rows_text_limit 1) }
+    ensures room { StaysWithin text.old text.new (rows_text_limit 1) }
     ensures listed { GapGoesOn (gap_written pen text.old.items) (gap_written result text.new.items) (byte ∷ []) }
 {
     if pen.count < 4 {

@@ -15,8 +15,8 @@ loop-at-preserved g c =
       within = grind (arith, overwrites, read.length, read.within);
       length = grind (arith, overwrites, read.length, i.length);
       took = takes_as _ _ _ _ (filled c.loop-at.buf c.read.new.buf _ at c.in-Ok.count i.within (omega (arith, read.length, read.within)) part) (takes_on _ _ _ _ _ i.took read.ok);
-      asked = c.read.ensures.asked ∙ i.asked;
-      ends = omega (arith, i.ends, read.more (omega arith));
+      asked = c.read.ensures.asks.asked ∙ i.asked;
+      ends = omega (arith, i.ends, read.no_end (omega arith));
       inputs = stays_on _ _ _ i.inputs read.stays;
     }
 
@@ -26,8 +26,8 @@ returns-in-Err-clause-failed g c =
     let v = c.loop-at.invariant in (
       refl,
       record {
-        risen = risen_from (i.state c.args.inputs.now).faults (i.state c.loop-at.inputs).faults (i.state c.read.new.self).faults v.inputs.faults c.in-Err.ensures.failed;
-        selected = c.in-Err.ensures.err;
-        given = omega (arith, v.took.given, c.in-Err.ensures.given, length-take-le c.loop-at.at c.loop-at.buf v.within, v.length, c.loop-at-test.true);
+        risen = risen_from (i.state c.args.inputs.now).faults (i.state c.loop-at.inputs).faults (i.state c.read.new.self).faults v.inputs.faults c.in-Err.ensures.failed.faults;
+        selected = c.in-Err.ensures.failed.selected;
+        given = omega (arith, v.took.given, c.in-Err.ensures.failed.given, length-take-le c.loop-at.at c.loop-at.buf v.within, v.length, c.loop-at-test.true);
       },
     )

@@ -1,5 +1,5 @@
 use Rattle.std.proofs.Common.{◌≡◌, ◌*◌, ◌∙◌, ℕ, [], length, take, ap, Some, arith}
-use Rattle.x7_text.specs.EitherCase.{pairs}
+use Rattle.x7_text.specs.EitherCase.{bytes_of_pairs}
 use Rattle.x7_frames.proofs.DigitLemmas.{block_read}
 use Rattle.x7_frames.proofs.line.read_blocks.Goals as goal
 
@@ -13,5 +13,5 @@ loop-k-preserved c = (
 pub returns-clause-value : goal.returns-clause-value
 returns-clause-value c =
     let k : c.loop-k.k ≡ length c.as_chunks.result.0.now = omega (arith, c.loop-k-test.false, c.loop-k.auto.k-end) in
-    ap (λ (n : ℕ). pairs (take n c.args.digits.now)) (let e : 2 * (32 * length c.as_chunks.result.0.now) ≡ 64 * c.loop-k.k = omega (arith, k) in e)
+    ap (λ (n : ℕ). bytes_of_pairs (take n c.args.digits.now)) (let e : 2 * (32 * length c.as_chunks.result.0.now) ≡ 64 * c.loop-k.k = omega (arith, k) in e)
     ∙ c.loop-k.invariant.1 ∙ ap (λ (n : ℕ). Some (take (32 * n) c.loop-k.bytes)) k

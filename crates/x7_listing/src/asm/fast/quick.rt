@@ -135,7 +135,7 @@ fn put_data_row(out: &mut Vec<u8>, text: &[u8; LOOK_SIZE]) -> Option<WholeLines>
     ensures { Looks text.now out.old out.new result }
 {
     let prefix = prefix_of_hex(&row_digits(text));
-    let count = prefix.digits / 8;
+    let count = prefix.digit_count / 8;
     if count == 0 || text[4 + 9 * count] != b'\n' || !is_data(text) {
         return None;
     }
@@ -177,19 +177,19 @@ fn put_bytes(out: &mut Vec<u8>, text: &[u8; LOOK_SIZE]) -> Option<WholeLines>
         return None;
     }
     let prefix = prefix_of_hex(&after_word(text));
-    if prefix.digits == 64 && text[70] == b'\n' {
+    if prefix.digit_count == 64 && text[70] == b'\n' {
         put(out, &prefix.bytes);
         return Some(WholeLines { size: 71, count: 1 });
     }
-    let count = prefix.digits / 2;
-    if count == 0 || prefix.digits != 2 * count || text[6 + prefix.digits] != b'\n' {
+    let count = prefix.digit_count / 2;
+    if count == 0 || prefix.digit_count != 2 * count || text[6 + prefix.digit_count] != b'\n' {
         return None;
     }
     let end = out.len() + count;
     put(out, &prefix.bytes);
     out.truncate(end);
     Some(WholeLines {
-        size: 7 + prefix.digits,
+        size: 7 + prefix.digit_count,
         count: 1,
     })
 }

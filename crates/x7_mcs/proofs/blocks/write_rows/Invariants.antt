@@ -1,5 +1,5 @@
 use Rattle.std.proofs.Common.{◌≡◌, ◌+◌, ◌%◌, ◌<◌, ◌≤◌, length, vec_capacity}
-use Rattle.x7_words.specs.Sink.{SinkCountsStay}
+use Rattle.x7_words.specs.Sink.{SinkFaultsRise}
 use Rattle.x7_mcs.proofs.BlockLemmas.{Goes}
 use Rattle.x7_mcs.proofs.blocks.write_rows.Given as goal
 
@@ -11,7 +11,7 @@ invariant-loop-rest g l =
       left : l.place + length l.rest ≡ length l.flash;
       begins : 0 < length l.rest → l.place % 65536 ≡ 0;
       room : 262204 ≤ vec_capacity l.block;
-      counts : SinkCountsStay (s.state l.fn.out) (s.state l.out);
+      counts : SinkFaultsRise (s.state l.fn.out) (s.state l.out);
     }
 
 abbrev pub decreases-loop-rest : goal.decreases-loop-rest

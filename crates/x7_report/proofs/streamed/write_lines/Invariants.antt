@@ -1,5 +1,5 @@
 use Rattle.std.proofs.Common.{◌≤◌, length, vec_capacity}
-use Rattle.x7_words.specs.Sink.{SinkCountsStay}
+use Rattle.x7_words.specs.Sink.{SinkFaultsRise}
 use Rattle.x7_memory.specs.Frames.{frame_at}
 use Rattle.x7_report.specs.Frames.{group_room}
 use Rattle.x7_report.proofs.LinesLemmas.{Sent}
@@ -11,7 +11,7 @@ invariant-loop-rest g l =
     record {
       sent : Sent (s.state l.fn.out).written (s.state l.out).written (frame_at l.part l.memory) l.fars l.rest;
       room : group_room ≤ vec_capacity l.block;
-      counts : SinkCountsStay (s.state l.fn.out) (s.state l.out);
+      counts : SinkFaultsRise (s.state l.fn.out) (s.state l.out);
     }
 
 abbrev pub decreases-loop-rest : goal.decreases-loop-rest

@@ -1,5 +1,5 @@
 use Rattle.std.proofs.Common.{refl, length, arith}
-use Rattle.x7_files.proofs.FilesLemmas.{opened_asks, opened_ok, opened_refused, opened_err, failed_read, read_ok, read_err, read_gives, read_lost, read_more, read_selects, unknown_read, within_buffer}
+use Rattle.x7_files.proofs.FilesLemmas.{opened_asks, opened_ok, opened_refused, opened_err, failed_read, read_ok, read_no_end, read_selects, unknown_read, within_buffer}
 use Rattle.x7_files.proofs.files.FileInputsInputs.TheImpl.Goals as goal
 
 pub select-tells : goal.select-tells
@@ -25,14 +25,9 @@ read-tells g c =
       within = c.ensures.within;
       end = unknown_read c.result (length c.args.buf.now);
       length = c.ensures.length;
+      no_end = read_no_end old new c.result c.ensures.ok;
       failed = failed_read old new c.result c.ensures.err;
-      err = read_err old new c.result c.ensures.err;
-      given = read_gives old new c.result c.ensures.err;
-      asked = refl;
-      selects = read_selects old new c.result c.ensures.ok c.ensures.err;
-      more = read_more old new c.result c.ensures.ok;
-      lost = read_lost old new c.result c.ensures.err;
-      once = c.ensures.once;
+      asks = record { asked = refl; selects = read_selects old new c.result c.ensures.ok c.ensures.err; ends = c.ensures.once };
       stays = record { map = refl; faults = c.ensures.counts.faults.rises; absences = c.ensures.counts.absences.rises };
       fits = (c.ensures.counts.faults.fits, c.ensures.counts.absences.fits);
     }

@@ -1,6 +1,6 @@
 use Rattle.std.proofs.Common.{rules, ◌*◌, length, refl, ap, sym, ◌∙◌, arith}
 use Rattle.x7_words.specs.Flash.{cleared, erased_sector}
-use Rattle.x7_in_memory.specs.Memory.{write_fails_in}
+use Rattle.x7_in_memory.specs.Memory.{flash_write_fails}
 use Rattle.x7_words.proofs.FlashLemmas.{length_cleared, length_erased_sector}
 use Rattle.x7_in_memory.proofs.MemoryFlashLemmas.{attach_asks, attach_stays, promised, read_sees, read_stays}
 use Rattle.x7_in_memory.proofs.flash.MemoryFlashFlash.TheImpl.Goals as goal
@@ -9,7 +9,7 @@ pub erase-tells : goal.erase-tells
 erase-tells c =
     let old = c.args.self.now in
     let new = c.new.self.now in
-    let p = promised old new (c.args.sector * 65536) erased_sector (omega (arith, length_erased_sector, c.requires.within)) c.result (c.ensures.answer ∙ ap (write_fails_in old) (sym length_erased_sector)) c.ensures.after in
+    let p = promised old new (c.args.sector * 65536) erased_sector (omega (arith, length_erased_sector, c.requires.within)) c.result (c.ensures.answer ∙ ap (flash_write_fails old) (sym length_erased_sector)) c.ensures.after in
     record {
       erased = p.written;
       torn = p.torn;
@@ -32,7 +32,7 @@ pub program-tells : goal.program-tells
 program-tells c =
     let old = c.args.self.now in
     let new = c.new.self.now in
-    let p = promised old new c.args.place (cleared c.args.place c.args.given.now old.bytes) (omega (arith, length_cleared c.args.place c.args.given.now old.bytes c.requires.within, c.requires.within)) c.result (c.ensures.answer ∙ ap (write_fails_in old) (sym (length_cleared c.args.place c.args.given.now old.bytes c.requires.within))) c.ensures.after in
+    let p = promised old new c.args.place (cleared c.args.place c.args.given.now old.bytes) (omega (arith, length_cleared c.args.place c.args.given.now old.bytes c.requires.within, c.requires.within)) c.result (c.ensures.answer ∙ ap (flash_write_fails old) (sym (length_cleared c.args.place c.args.given.now old.bytes c.requires.within))) c.ensures.after in
     record {
       programmed = p.written;
       torn = p.torn;

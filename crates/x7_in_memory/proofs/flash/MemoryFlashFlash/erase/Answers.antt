@@ -2,7 +2,7 @@ use Rattle.std.proofs.Common.{◌≡◌, ◌*◌, ◌+◌, false, length, slice_
 use Rattle.std.specs.Vec.{with_items}
 use Rattle.std.proofs.lemmas.List.{with_items_is}
 use Rattle.x7_words.specs.Flash.{erased_sector, replaced}
-use Rattle.x7_in_memory.specs.Memory.{FlashInMemory, after_write_of, write_refused, begun, left_by, recorded}
+use Rattle.x7_in_memory.specs.Memory.{FlashInMemory, after_flash_write, write_refused, begun, left_by, recorded}
 use Rattle.x7_in_memory.specs.Tearing.{tear_of}
 use Rattle.x7_words.proofs.FlashLemmas.{length_erased_sector}
 use Rattle.x7_in_memory.proofs.MemoryFlashLemmas.{refused_after, ended}
@@ -30,4 +30,4 @@ returns-clause-after c =
     c.write_target.ensures.writes ∙ ap (λ x. recorded f.writes place (slice_range x place (place + length t)) t) c.deref_mut.ensures.value in
     let after = ended c.args.self.now start (with_items f.bytes c.write_target.new.bytes).items c.write_target.new.writes c.end_write.new.self place t c.torn-torn.result c.end_write.result is_begun allowed c.torn-torn.ensures is_put is_kept
     c.end_write.ensures.answer c.end_write.ensures.ok c.end_write.ensures.err in
-    subst (λ x. c.end_write.new.self ≡ after_write_of c.args.self.now place x) is after
+    subst (λ x. c.end_write.new.self ≡ after_flash_write c.args.self.now place x) is after

@@ -10,7 +10,7 @@ returns-then-text-eq10 c =
     let old = c.args.out.now.items in
     let new = c.put.new.text.items in
     let bytes = c.prefix_of_hex-prefix.result.bytes in
-    let n = c.prefix_of_hex-prefix.result.digits in
+    let n = c.prefix_of_hex-prefix.result.digit_count in
     let full : n ≡ 64 = c.if-prefix-eq64.true in
     record {
       takes = subst (λ (k : ℕ). TakesFirst c.args.text.now old new (7 + k) 1) full (takes_prefix c.args.text.now bytes old new new n 32 (length old + 32) (omega (arith, c.told-text))
@@ -23,8 +23,8 @@ returns-then-text-eq10 c =
 pub returns : goal.returns
 returns c =
     record {
-      takes = takes_prefix c.args.text.now c.prefix_of_hex-prefix.result.bytes c.args.out.now.items c.put-2.new.text.items c.truncate.new.self.items c.prefix_of_hex-prefix.result.digits (c.prefix_of_hex-prefix.result.digits / 2) _ (omega (arith, c.told-text))
+      takes = takes_prefix c.args.text.now c.prefix_of_hex-prefix.result.bytes c.args.out.now.items c.put-2.new.text.items c.truncate.new.self.items c.prefix_of_hex-prefix.result.digit_count (c.prefix_of_hex-prefix.result.digit_count / 2) _ (omega (arith, c.told-text))
           (c.is_bytes.ensures c.if-not-is_bytes.false) c.prefix_of_hex-prefix.ensures.within c.prefix_of_hex-prefix.ensures.long c.prefix_of_hex-prefix.ensures.bytes
-          (ap (take c.prefix_of_hex-prefix.result.digits) (sym c.after_word.ensures) ∙ c.prefix_of_hex-prefix.ensures.digits) (omega arith) (omega arith) (omega arith) (omega arith) c.put-2.ensures.appends.items c.truncate.ensures.items;
+          (ap (take c.prefix_of_hex-prefix.result.digit_count) (sym c.after_word.ensures) ∙ c.prefix_of_hex-prefix.ensures.digits) (omega arith) (omega arith) (omega arith) (omega arith) c.put-2.ensures.appends.items c.truncate.ensures.items;
       room = stays_cut _ c.put-2.ensures.appends (omega (arith, c.prefix_of_hex-prefix.ensures.long)) c.truncate.ensures.len c.truncate.ensures.capacity;
     }

@@ -1,0 +1,27 @@
+-- The fields of configuration options register 0 by which startup goes (UG470, configuration options register 0), each
+-- by the number of its lowest bit.
+use Rattle.std.specs.Prelude.{ℕ}
+
+-- DONE_PIPE, one bit: 1 where startup looks at DONE a clock later
+abbrev pub done_pipe : ℕ
+done_pipe = 25
+
+-- DONE_CYCLE, three bits: the code of the phase in which DONE rises
+abbrev pub done_cycle : ℕ
+done_cycle = 12
+
+-- MATCH_CYCLE, three bits: the code of the phase that waits for the DCI match
+abbrev pub match_cycle : ℕ
+match_cycle = 9
+
+-- LOCK_CYCLE, three bits: the code of the phase that waits for the MMCM lock
+abbrev pub lock_cycle : ℕ
+lock_cycle = 6
+
+-- GTS_CYCLE, three bits: the code of the phase in which GTS rises
+abbrev pub gts_cycle : ℕ
+gts_cycle = 3
+
+-- GWE_CYCLE, three bits: the code of the phase in which GWE rises
+abbrev pub gwe_cycle : ℕ
+gwe_cycle = 0
