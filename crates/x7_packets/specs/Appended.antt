@@ -11,7 +11,7 @@ use Rattle.x7_packets.specs.Packet.{IsPacket, Packet, latest_of}
 abbrev pub BeginsWithDummy : List ℕ → Type 0
 BeginsWithDummy bytes = (rest : List ℕ) × (bytes ≡ 0xFF ∷ 0xFF ∷ 0xFF ∷ 0xFF ∷ rest)
 
--- the first byte of the sync word is not among these bytes
+-- none of these bytes is AA, the first byte of the sync word
 abbrev pub LacksFirst : List ℕ → Type 0
 LacksFirst bytes = AllByRecursion (λ b. (b == 0xAA) ≡ false) bytes
 
@@ -20,7 +20,7 @@ abbrev pub moved : ℕ → History → History
 moved n [] = []
 moved n (e ∷ h) = entry e.access (n + e.place) ∷ moved n h
 
--- the bytes of a gap, none of a session that goes on
+-- the bytes of an open gap at a place; none where a session goes on
 abbrev pub gap_of : Place → List ℕ
 gap_of (Searching gap) = gap
 gap_of (Synced gap packets tail) = []
@@ -49,6 +49,6 @@ after first more = after_gap first.sessions (gap_of first.place) more.sessions m
 abbrev pub history_after : List ℕ → List ℕ → History
 history_after bytes more = moved (length bytes) (history_of more) ++ history_of bytes
 
--- the packet is one that may come next
+-- the packet may come next after these packets
 abbrev pub MayComeNext : List Packet → Packet → Type 0
 MayComeNext packets packet = IsPacket (latest_of None packets) packet

@@ -17,15 +17,16 @@ use Rattle.x7_packets.specs.declared.header.Step.TheVariants.{Open}
 abbrev pub most_short_words : ℕ
 most_short_words = 16
 
--- how many bytes the longest short write has: its header's and those of its words
+-- how many bytes the longest short write has: four of its header, and four of each of its words
 abbrev pub longest_short_write : ℕ
 longest_short_write = 68
 
 -- how many bytes a short gap and the sync word after it have at most
-abbrev pub longest_short_gap : ℕ
-longest_short_gap = 32
+abbrev pub longest_gap_and_sync : ℕ
+longest_gap_and_sync = 32
 
--- how many bytes must be left of a piece for a short gap to be taken at once: those, and a word more
+-- how many bytes must be left of a piece for a short gap to be taken at once: a word more than it has at most with its
+-- sync word
 abbrev pub short_gap_room : ℕ
 short_gap_room = 36
 
@@ -52,7 +53,7 @@ pub record WritesOne (old new : CutterState) (rest : List ℕ) (register w : ℕ
 
 -- the bytes begin with a short write to a register other than CMD, of one word at least; taken,
 -- the write is its header and then its words
-pub record WritesFew (old new : CutterState) (rest : List ℕ) (register count : ℕ) : Type 0 where
+pub record WritesShort (old new : CutterState) (rest : List ℕ) (register count : ℕ) : Type 0 where
   pub between : CutterState
   pub range : register < 32
   pub other : register ≡ number_of Cmd → ⊥
@@ -68,7 +69,7 @@ pub record WritesFew (old new : CutterState) (rest : List ℕ) (register count :
 -- one run, and then the sync word is given
 pub record EndsGap (old new : CutterState) (rest : List ℕ) (count : ℕ) : Type 0 where
   pub between : CutterState
-  pub near : count + 4 ≤ longest_short_gap
+  pub near : count + 4 ≤ longest_gap_and_sync
   pub long : short_gap_room ≤ length rest
   pub found : take (count + 4) rest ≡ take count rest ++ sync_bytes
   pub gap : (run : Bor (List ℕ)) → run.now ≡ take (count + 4) rest → TakesAsOneRun old between run.now (Skip run)

@@ -58,7 +58,7 @@ run_steps (Word register w) = payload_steps register (w ∷ [])
 run_steps (Body register bytes) = payload_steps register (words_of_bytes bytes.now)
 run_steps _ = []
 
--- words more in a session, each with its step; where the last ends the session, a gap begins
+-- a session has these words more, each with its step: it goes on, or the last word ends it and a gap begins
 pub record LongerSession (gap : List ℕ) (packets : List Packet) (more : List (ℕ × Step)) (sessions new_sessions : List Session) (new : Place) : Type 0 where
   pub all : List Packet
   pub grown : flat_map stepped all ≡ flat_map stepped packets ++ more
@@ -75,7 +75,7 @@ GoesOnAt more sessions (Synced gap packets tail) new = LongerSession gap packets
 abbrev pub GoesOnBy : List (ℕ × Step) → Reading → Reading → Type 0
 GoesOnBy more old new = GoesOnAt more old.sessions old.place new
 
--- what a run adds to the reading
+-- what a run adds to the reading of the bytes before it: ended sessions and a place become new ones
 abbrev pub Adds : Cut → List Session → Place → List Session → Place → Type 0
 Adds Need sessions (Searching gap) new_sessions new = (new_sessions ≡ sessions) × (new ≡ Searching gap)
 Adds Need sessions (Synced gap packets tail) new_sessions new = (new_sessions ≡ sessions) × (more : List ℕ) × (new ≡ Synced gap packets (tail ++ more))
@@ -105,8 +105,8 @@ ChangesMode (Head w step) old new place = IsNotDue old × IsNotDue new
 ChangesMode (Word register w) old new place = IsNotDue old × IsNotDue new
 ChangesMode (Body register bytes) old new place = IsNotDue old × IsNotDue new
 
--- what a run is apart from the reading: a header's step is no payload, a register has a number below 32, and a lent
--- slice has whole words, one where the register is CMD
+-- what holds of a run by itself, whatever the reading: a header's step is no payload, a register has a number below 32,
+-- and lent payload bytes are whole words, one where the register is CMD
 abbrev pub IsRun : Cut → Type 0
 IsRun (Head w (Payload register x)) = ⊥
 IsRun (Word register w) = register < 32
@@ -126,7 +126,7 @@ abbrev pub SkipsAll : CutterState → ℕ → Cut → Type 0
 SkipsAll new left (Skip bytes) = (new.mode ≡ Mode.Due) ⊎ (length bytes.now ≡ left)
 SkipsAll new left _ = Unit {0}
 
--- bytes that complete no run, after those that are kept
+-- a piece of which this many bytes are left completes no run, with the bytes that are kept before it
 abbrev pub CompletesNone : CutterState → Mode → ℕ → Type 0
 CompletesNone c Mode.Searching left = left ≡ 0
 CompletesNone c Mode.Due left = ⊥
@@ -137,7 +137,7 @@ abbrev pub IsNeed : Cut → Type 0
 IsNeed Need = Unit {0}
 IsNeed _ = ⊥
 
--- no byte is kept but in a session
+-- a cutter that is at this keeps no byte: only in a session does it keep some
 abbrev pub KeepsNone : Mode → Type 0
 KeepsNone Mode.Searching = Unit {0}
 KeepsNone Mode.Due = Unit {0}
@@ -154,7 +154,7 @@ abbrev pub IsBody : ℕ → List ℕ → Cut → Type 0
 IsBody register body (Body r bytes) = (r ≡ register) × (bytes.now ≡ body)
 IsBody register body _ = ⊥
 
--- 1 where a sync word is still to be given
+-- how many sync words are still to be given: one just after a sync word, else none
 abbrev pub syncs_due : Mode → ℕ
 syncs_due Mode.Due = 1
 syncs_due _ = 0
@@ -180,7 +180,7 @@ pub record AfterRun (old new : CutterState) (bytes : List ℕ) (sessions : List 
   pub new_place : Place
   pub stands : CutterStandsFor new bytes new_sessions new_place
   pub adds : Adds run sessions place new_sessions new_place
-  pub turns : ChangesMode run old.mode new.mode new_place
+  pub mode_changes : ChangesMode run old.mode new.mode new_place
 
 -- the bytes `taken`, taken as one run, turn the old cutter into the new one, whatever bytes came before
 abbrev pub TakesAsOneRun : CutterState → CutterState → List ℕ → Cut → Type 0
@@ -193,7 +193,7 @@ pub record HasCut (bytes more : List ℕ) (r : Reading) (run : Cut) : Type 0 whe
   pub reads : CutterStandsFor old bytes r.sessions r.place
   pub went : AfterRun old new (bytes ++ more) r.sessions r.place run
 
--- one call of a cutter on the bytes that are left of a piece, of which it took a number
+-- one call of a cutter on the bytes that are left of a piece, of which it took `taken`
 pub record Cuts (old new : CutterState) (rest : List ℕ) (taken : ℕ) (cut : Cut) : Type 0 where
   pub nearer : ComesNearer cut (length rest - taken) (calls_left old (length rest)) (calls_left new (length rest - taken))
   pub need : IsNeed cut ↔ CompletesNone old old.mode (length rest)
@@ -203,7 +203,8 @@ pub record Cuts (old new : CutterState) (rest : List ℕ) (taken : ℕ) (cut : C
   pub skips : SkipsAll new (length rest) cut
   pub adds : TakesAsOneRun old new (take taken rest) cut
 
--- one call of a cutter on the bytes that are left of a piece, which moved a place past those that it took
+-- one call of a cutter on the bytes that are left of a piece, which moved a place from `at` to `at_now`, past those that
+-- it took
 pub record MovesPast (old new : CutterState) (rest : List ℕ) (at at_now : ℕ) (cut : Cut) : Type 0 where
   pub forward : at ≤ at_now
   pub within : at_now ≤ at + length rest

@@ -1,11 +1,11 @@
-//! Equal words in a row (UG470, packet types).
+//! Equal words in a row, as no-ops are (UG470, packet types).
 ghost use Rattle.std.specs.Prelude.{◌≡◌, ◌≤◌, ◌*◌, length, take, IsTrue};
 ghost use Rattle.x7_packets.specs.Nops.{equal_bytes};
 
 use std::simd::prelude::*;
 use x7_words::{bytes_of, word_of};
 
-/// How many words a block has.
+/// How many words a block of 32 bytes has.
 const BLOCK_WORDS: usize = 8;
 
 /// How many of the first words are `w`, one after the other, counted word by word.
@@ -35,7 +35,7 @@ fn block_of(w: u32) -> [u8; 32]
 
 /// Whether two blocks of 32 bytes are equal, compared at once.
 #[inline(always)]
-fn is_block(a: &[u8; 32], b: &[u8; 32]) -> bool
+fn are_equal(a: &[u8; 32], b: &[u8; 32]) -> bool
     ensures { IsTrue result → a.now ≡ b.now }
 {
     u8x32::from_array(*a)
@@ -53,7 +53,7 @@ fn count_blocks(bytes: &[u8], w: u32) -> usize
     let block = block_of(w);
     let (blocks, _) = bytes.as_chunks::<32>();
     for (i, next) in blocks.iter().enumerate() {
-        if !is_block(next, &block) {
+        if !are_equal(next, &block) {
             return i;
         }
     }

@@ -75,7 +75,7 @@ takes_run l n r given before bytes due next on same writes none t x =
       sessions = x.new_sessions;
       at = x.new_place;
       reading = x.after;
-      listed = writes before (bytes ++ bytes_of_run r) x.sessions x.new_sessions x.place x.new_place due next listed adds x.turns (cut_fits r on x.is) x.after;
+      listed = writes before (bytes ++ bytes_of_run r) x.sessions x.new_sessions x.place x.new_place due next listed adds x.mode_changes (cut_fits r on x.fits) x.after;
       tail = λ s. none (goes_on r on) s ∙ sym (bare_after (cut_of r) x.sessions x.place x.new_sessions x.new_place (goes_on r on) adds);
       cutter = rw same t.cutter;
     })
@@ -115,7 +115,7 @@ pub takes_tail : (l n : ListerState) (tail : Bor (List ℕ)) (given before bytes
     → TakerStandsFor l given before bytes due → IsNext bytes due (run.Tail tail) next → TakerStandsFor n given before (bytes ++ tail.now) next
 takes_tail l n tail given before bytes due next c s i h e t x =
     let listed = (listed_by l given before bytes due t x.sessions x.place x.before).0 in
-    let now = listed_tail l.synced l.line n.line l.held (given ++ l.text) before tail x.sessions x.new_sessions x.place x.new_place due next i listed x.adds x.turns.0 x.turns.1 in
+    let now = listed_tail l.synced l.line n.line l.held (given ++ l.text) before tail x.sessions x.new_sessions x.place x.new_place due next i listed x.adds x.mode_changes.0 x.mode_changes.1 in
     record {
       sessions = x.new_sessions;
       at = x.new_place;
@@ -145,7 +145,7 @@ pub takes_end : (l n : ListerState) (given before bytes : List ℕ) (due next : 
 takes_end l n given before bytes due next c s i h writes t x =
     let cutter : CutterStandsFor n.cutter [] [] (Searching []) = rw c t.cutter in
     let listing : List ℕ = reading_text t.sessions t.at in
-    let listed : given ++ n.text ≡ before ++ listing = writes given before bytes t.sessions t.at due t.listed x.turns.0 t.reading t.tail in
+    let listed : given ++ n.text ≡ before ++ listing = writes given before bytes t.sessions t.at due t.listed x.mode_changes.0 t.reading t.tail in
     record {
       listing = listing;
       listing_is = record { sessions = t.sessions; place = t.at; reading = rw (append-nil bytes) t.reading; text_is = refl };

@@ -8,7 +8,7 @@ use Rattle.std.proofs.lemmas.List.{length-take-le, take-take}
 use Rattle.std.specs.Simd.{first_chunks}
 use Rattle.std.specs.List.{flat_map}
 use Rattle.x7_words.specs.Word.{bytes_of_word, words_of_bytes}
-use Rattle.x7_packets.specs.AtOnce.{EndsGap, TakesAsOneRun, WritesFew, WritesOne}
+use Rattle.x7_packets.specs.AtOnce.{EndsGap, TakesAsOneRun, WritesShort, WritesOne}
 use Rattle.x7_packets.specs.PacketWords.{no_op, sync_word, type1_write}
 use Rattle.x7_packets.specs.SyncWord.{sync_bytes}
 use Rattle.x7_packets.specs.Cutter.{CutterState, IsRun, AfterRun}
@@ -109,7 +109,7 @@ took_run c d run synced s2 line l2 held h2 text text2 given before bytes taken s
       sessions = w.new_sessions;
       at = w.new_place;
       cut = w.stands;
-      listed = writes before (bytes ++ taken) s.sessions w.new_sessions s.at w.new_place c.mode d.mode s.listed w.adds w.turns is w.stands.reading;
+      listed = writes before (bytes ++ taken) s.sessions w.new_sessions s.at w.new_place c.mode d.mode s.listed w.adds w.mode_changes is w.stands.reading;
     }
 
 one_equal : (c : CutterState) (w : ℕ) (step : Step) (synced s2 : Bool) (line l2 from : ℕ) (held h2 text text2 given before bytes : List ℕ) → IsRun (Head w step) → TakesAsOneRun c c (bytes_of_word w) (Head w step) → (synced ≡ true → from ≡ line) → s2 ≡ true → l2 ≡ 0
@@ -159,7 +159,7 @@ write_listed c d synced s2 line l2 from register w held h2 text text2 given befo
     subst (HasListedJust (lister_of d s2 l2 h2 text2) given before) (append_assoc bytes head (bytes_of_word w) ∙ ap (λ k. bytes ++ k) (sym x.bytes)) two
 
 -- a write of a few words: `lent` is any slice
-pub short_listed : (c d : CutterState) (synced s2 : Bool) (line l2 from register count : ℕ) (held h2 text text2 given before bytes rest ws : List ℕ) (lent : Bor (List ℕ)) → WritesFew c d rest register count → ws ≡ words_of_bytes (take (4 * count) (drop 4 rest))
+pub short_listed : (c d : CutterState) (synced s2 : Bool) (line l2 from register count : ℕ) (held h2 text text2 given before bytes rest ws : List ℕ) (lent : Bor (List ℕ)) → WritesShort c d rest register count → ws ≡ words_of_bytes (take (4 * count) (drop 4 rest))
     → (synced ≡ true → from ≡ line) → s2 ≡ true → l2 ≡ words_place 0 (payload_steps register ws) → text2 ≡ text ++ (close from ++ text_of_head (Open register count) (type1_write register count) ++ open_words 0 (payload_steps register ws))
     → HasListedJust (lister_of c synced line held text) given before bytes → HasListedJust (lister_of d s2 l2 h2 text2) given before (bytes ++ take (4 + 4 * count) rest)
 short_listed c d synced s2 line l2 from register count held h2 text text2 given before bytes rest ws lent x are same e f t s =

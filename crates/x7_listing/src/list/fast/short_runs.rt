@@ -1,7 +1,7 @@
 //! Short runs, listed at once on a sheet: writes of one word and of up to sixteen, a few no-ops, and
 //! a short gap with the sync word after it.
 ghost use Rattle.std.specs.Prelude.{◌≡◌, ℕ, ◌+◌, ◌*◌, ◌<◌, ◌≤◌, List, [], ◌∷◌, ◌++◌, IfNone, IfSome, codes, decimal, length, take, vec_len, vec_capacity};
-ghost use Rattle.x7_packets.specs.AtOnce.{EndsGap, WritesFew, WritesOne, longest_short_gap, longest_short_write, short_gap_room};
+ghost use Rattle.x7_packets.specs.AtOnce.{EndsGap, WritesShort, WritesOne, longest_gap_and_sync, longest_short_write, short_gap_room};
 ghost use Rattle.x7_packets.specs.Cutter.{CutterState};
 ghost use Rattle.x7_packets.specs.Nops.{nop_bytes};
 ghost use Rattle.x7_packets.specs.PacketWords.{no_op, type1_write};
@@ -259,7 +259,7 @@ fn put_short_write(
     requires room { len + short_write_size ≤ SHEET_SIZE }
     ensures size { result.size ≡ 4 + 4 * write.count }
     ensures len { result.len ≤ len + short_write_size }
-    ensures listed { (c d : CutterState) → WritesFew c d rest.now write.register write.count
+    ensures listed { (c d : CutterState) → WritesShort c d rest.now write.register write.count
         → ListsMoreAfter (on_sheet c in_line sheet.old len) (on_sheet d result.in_line sheet.new result.len) (take (4 + 4 * write.count) rest.now) }
 {
     let start = put_head(sheet, len, in_line.count, write);
@@ -299,7 +299,7 @@ fn put_gap(
     count: usize,
     rest: &[u8],
 ) -> Next
-    requires near { count + 4 ≤ longest_short_gap }
+    requires near { count + 4 ≤ longest_gap_and_sync }
     requires long { short_gap_room ≤ length rest.now }
     requires room { len + gap_size ≤ SHEET_SIZE }
     ensures size { result.size ≡ count + 4 }

@@ -6,7 +6,7 @@ use Rattle.x7_packets.specs.Packet.{payload_steps}
 use Rattle.x7_packets.specs.Machine.{Grows, MachineStandsFor, MachineState}
 use Rattle.x7_packets.proofs.TakeLemmas.{calm_words, payload_goes_on}
 use Rattle.x7_packets.proofs.AtOnceLemmas.{other_register}
-use Rattle.x7_packets.proofs.machine.Machine.pass.Goals as goal
+use Rattle.x7_packets.proofs.machine.Machine.take_payload.Goals as goal
 
 pub returns-clause-ends : goal.returns-clause-ends
 returns-clause-ends c =

@@ -1,7 +1,7 @@
 use Rattle.std.proofs.Common.{refl, ap, ◌∙◌}
 use Rattle.x7_packets.specs.Machine.{MachineState}
 use Rattle.x7_packets.proofs.AtOnceLemmas.{words_go_on, write_opens}
-use Rattle.x7_packets.proofs.machine.Machine.pass_words.Goals as goal
+use Rattle.x7_packets.proofs.machine.Machine.take_write_to_other.Goals as goal
 
 pub returns-clause-head : goal.returns-clause-head
 returns-clause-head c = λ ps count some few s. write_opens c.args.self.now ps c.args.register count c.requires.range some few c.requires.at_header s

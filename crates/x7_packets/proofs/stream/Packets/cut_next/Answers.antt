@@ -1,7 +1,7 @@
 use Rattle.std.proofs.Common.{refl, subst, ◌+◌, ◌≤◌}
 use Rattle.x7_packets.specs.Cutter.{Cuts, between}
 use Rattle.x7_packets.proofs.StreamLemmas.{cuts_whole, left_after, taken_of, within_piece}
-use Rattle.x7_packets.proofs.stream.Packets.step.Goals as goal
+use Rattle.x7_packets.proofs.stream.Packets.cut_next.Goals as goal
 
 pub returns-in-Some : goal.returns-in-Some
 returns-in-Some c =

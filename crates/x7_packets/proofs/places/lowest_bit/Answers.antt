@@ -1,6 +1,6 @@
 use Rattle.std.proofs.Common.{arith, w64}
 use Rattle.std.proofs.lemmas.Nat.Bits.{bit_at-trailing_zeros}
-use Rattle.x7_packets.proofs.places.lowest.Goals as goal
+use Rattle.x7_packets.proofs.places.lowest_bit.Goals as goal
 
 pub returns : goal.returns
 returns c =
