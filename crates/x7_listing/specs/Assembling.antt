@@ -2,7 +2,7 @@
 use Rattle.std.specs.Prelude.{◌≡◌, ◌⊎◌, ℕ, ◌+◌, ◌-◌, ◌<◌, ◌≤◌, Bool, true, false, List, [], ◌∷◌, ◌++◌, drop, take, length, Ok, Err, Vec}
 use Rattle.std.specs.declared.alloc.Global.{Global}
 use Rattle.std.specs.List.{AllByRecursion, flat_map}
-use Rattle.x7_crc.specs.Checker.{CheckerState, Keeps}
+use Rattle.x7_crc.specs.Checker.{CheckerState, KeepsCheckOf}
 use Rattle.x7_header.specs.Header.{Contents, header_bytes, longest_header}
 use Rattle.x7_text.specs.Appends.{HasSpareRoom}
 use Rattle.x7_text.specs.Row.{row_bytes}
@@ -68,7 +68,7 @@ HasLineRoom b = length b.out + row_bytes ≤ b.room
 -- the bytes of lines begin within the bytes so far, and the checker keeps theirs
 pub record IsSoundOutput (out : List ℕ) (start : ℕ) (checker : CheckerState) : Type 0 where
   pub begun : start ≤ length out
-  pub keeps : Keeps checker (drop start out)
+  pub keeps : KeepsCheckOf checker (drop start out)
 
 -- an `AsmState` of these lines' output
 abbrev pub lines_after : Output → ℕ → AsmState
@@ -82,7 +82,7 @@ pub record TextsAreRead (all left : List (List ℕ)) (b : AsmState) : Type 0 whe
   pub read : ℕ
   pub long : b.start ≤ length b.out
   pub short : b.start ≤ longest_header
-  pub keeps : Keeps b.checker (drop b.start b.out)
+  pub keeps : KeepsCheckOf b.checker (drop b.start b.out)
   pub opens : OpensText all others (take b.start b.out) first
   pub went : LinesAreRead (asm_limit - b.start) others left (drop b.start b.out) read
   pub count_is : b.count ≡ first + read
@@ -92,7 +92,7 @@ pub record Unbegun (all left : List (List ℕ)) (b : AsmState) : Type 0 where
   pub texts : all ≡ left
   pub out_is : b.out ≡ []
   pub start_is : b.start ≡ 0
-  pub keeps : Keeps b.checker []
+  pub keeps : KeepsCheckOf b.checker []
   pub count_is : b.count ≡ 0
 
 -- the texts are read but for those that are left: from the first on, or none yet

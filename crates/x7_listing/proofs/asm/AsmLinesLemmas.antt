@@ -6,7 +6,7 @@ use Rattle.std.specs.Result.{IsErrAnd}
 use Rattle.std.proofs.Math.ListN.{drop_of_length-le}
 use Rattle.std.proofs.Math.Seq.{drop-nil}
 use Rattle.std.specs.List.{flat_map}
-use Rattle.x7_crc.specs.Checker.{CheckerState, Keeps}
+use Rattle.x7_crc.specs.Checker.{CheckerState, KeepsCheckOf}
 use Rattle.x7_crc.proofs.CheckerLemmas.{still_keeps}
 use Rattle.x7_header.specs.Header.{Contents, longest_header}
 use Rattle.x7_text.specs.Lines.{split}
@@ -22,7 +22,7 @@ use Rattle.x7_listing.proofs.AssemblingLemmas.{goes_whole, went_nothing}
 use Rattle.x7_listing.proofs.asm.fast.QuickLemmas.{goes_quick, quick_texts}
 
 -- before any line is read: a header's line, and a line that is no header's
-pub goes_header : (all left : List (List ℕ)) (held out header : List ℕ) (start len c n : ℕ) (checker fresh : CheckerState) → IsHeaderOf held header → length header ≤ longest_header → len ≡ length header → c ≡ n + 1 → Keeps fresh []
+pub goes_header : (all left : List (List ℕ)) (held out header : List ℕ) (start len c n : ℕ) (checker fresh : CheckerState) → IsHeaderOf held header → length header ≤ longest_header → len ≡ length header → c ≡ n + 1 → KeepsCheckOf fresh []
     → Unbegun all (held ∷ left) (asm_state out start checker n) → TextsAreRead all left (asm_state header len fresh c)
 goes_header all left held out header start len c n checker fresh h short size up new u =
     let none : drop len header ≡ [] = drop_of_length-le header (omega (arith, size)) in
@@ -32,7 +32,7 @@ goes_header all left held out header start len c n checker fresh h short size up
       read = 0;
       long = omega (arith, size);
       short = omega (arith, size, short);
-      keeps = subst (λ (b : List ℕ). Keeps fresh b) (sym none) new;
+      keeps = subst (λ (b : List ℕ). KeepsCheckOf fresh b) (sym none) new;
       opens = inl (record { header = h.header; held = h.held; texts = u.texts ∙ ap (λ t. t ∷ left) h.text; prefix_is = take_all len header (omega (arith, size)) ∙ h.bytes_are; count = refl });
       went = subst (λ (b : List ℕ). LinesAreRead (67108864 - len) left left b 0) (sym none) (went_nothing (67108864 - len) left);
       count_is = omega (arith, up, u.count_is);
@@ -50,7 +50,7 @@ goes_plain all left held out start n checker none u =
       read = 0;
       long = omega (arith, u.start_is);
       short = omega (arith, u.start_is);
-      keeps = subst (λ (b : List ℕ). Keeps checker b) (sym empty) u.keeps;
+      keeps = subst (λ (b : List ℕ). KeepsCheckOf checker b) (sym empty) u.keeps;
       opens = inr (record {
         no_head = λ x others hx e. none x hx (first_is held (bit_text x) left others (sym u.texts ∙ e));
         texts = u.texts;
@@ -105,7 +105,7 @@ grown check false t old new r = ([], r.1 ∙ sym (append-nil old))
 pub still_begun : (check : ℕ) (b : Bool) (t old new : List ℕ) (start : ℕ) → Reads FitsLine text_of (line_bytes check) b t old new → start ≤ length old → start ≤ length new
 still_begun check b t old new start r h = let g = grown check b t old new r in omega (arith, h, ap length g.1, length-append old g.0)
 
-pub keeps_begun : (check : ℕ) (b : Bool) (t old new : List ℕ) (start : ℕ) (checker : CheckerState) → Reads FitsLine text_of (line_bytes check) b t old new → start ≤ length old → Keeps checker (drop start old) → Keeps checker (drop start new)
+pub keeps_begun : (check : ℕ) (b : Bool) (t old new : List ℕ) (start : ℕ) (checker : CheckerState) → Reads FitsLine text_of (line_bytes check) b t old new → start ≤ length old → KeepsCheckOf checker (drop start old) → KeepsCheckOf checker (drop start new)
 keeps_begun check b t old new start checker r h k = let g = grown check b t old new r in still_keeps checker (drop start old) g.0 (drop start new) (ap (drop start) g.1 ∙ drop-append-le start old g.0 h) k
 
 pub first_read : {A : Type 0} (r : Result A AsmFault) (old new : Output) (line : List ℕ) (lines : List (List ℕ)) → length lines ≡ 0 → OnOk r (ReadsFirst old new line) → OnOk r (HasLineRoom new) → IfErr r (FailsFirst old line) → AreReadWithRoom old lines
@@ -163,10 +163,10 @@ still_sound out new start checker more e s = record {
 }
 
 -- a header's bytes and a new checker
-pub header_sound : (header : List ℕ) (len : ℕ) (fresh : CheckerState) → len ≡ length header → Keeps fresh [] → IsSoundOutput header len fresh
+pub header_sound : (header : List ℕ) (len : ℕ) (fresh : CheckerState) → len ≡ length header → KeepsCheckOf fresh [] → IsSoundOutput header len fresh
 header_sound header len fresh size new = record {
   begun = omega (arith, size);
-  keeps = subst (λ (b : List ℕ). Keeps fresh b) (sym (drop_of_length-le header (omega (arith, size)))) new;
+  keeps = subst (λ (b : List ℕ). KeepsCheckOf fresh b) (sym (drop_of_length-le header (omega (arith, size)))) new;
 }
 
 no_lines : (ls : List Line) → length ls ≡ 0 → ls ≡ []

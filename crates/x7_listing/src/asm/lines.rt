@@ -1,7 +1,7 @@
 //! The bytes of a text's lines, as the lines come.
 ghost use Rattle.std.specs.Prelude.{◌≡◌, ℕ, List, [], ◌∷◌, ◌++◌, ◌+◌, ◌≤◌, drop, length, vec_len, vec_capacity, Ok, IfErr, OnOk, MatchResult};
 ghost use Rattle.x7_text.specs.Reads.{Reads};
-ghost use Rattle.x7_crc.specs.Checker.{check_of_bytes, Keeps};
+ghost use Rattle.x7_crc.specs.Checker.{check_of_bytes, KeepsCheckOf};
 ghost use Rattle.x7_listing.specs.Assembly.{AreHeadedAsm};
 ghost use Rattle.x7_listing.specs.Assembling.{AreReadWithRoom, FailsFirst, FailsNext, HasAsmFault, HasLineRoom, HasRoomForLine, IsFirstOrGood, Output, ReadsFirst, ReadsNext, TakesLines};
 ghost use Rattle.x7_listing.specs.Line.{line_bytes, FitsLine, text_of};
@@ -23,10 +23,10 @@ use x7_words::is_same;
 fn put_checked(out: &mut Vec<u8>, start: usize, checker: &mut Checker, line: &[u8]) -> bool
     requires room { HasRoomForLine out.old }
     requires start { start ≤ length out.old.items }
-    requires keeps { Keeps checker.old (drop start out.old.items) }
+    requires keeps { KeepsCheckOf checker.old (drop start out.old.items) }
     ensures reads { Reads FitsLine text_of (line_bytes (check_of_bytes (drop start out.old.items))) result line.now out.old.items out.new.items }
     ensures start { start ≤ length out.new.items }
-    ensures keeps { Keeps checker.new (drop start out.new.items) }
+    ensures keeps { KeepsCheckOf checker.new (drop start out.new.items) }
 {
     if !is_same(line, b"crc") {
         return put_line(out, 0, line);

@@ -1,7 +1,7 @@
 use Rattle.std.proofs.Common.{arith}
 use Rattle.x7_crc.proofs.CheckerLemmas.{used_up}
 use Rattle.x7_crc.proofs.CheckerLemmas.{took, took_all}
-use Rattle.x7_crc.proofs.checker.take_all.Goals as goal
+use Rattle.x7_crc.proofs.checker.after_piece.Goals as goal
 
 pub returns-in-Need : goal.returns-in-Need
 returns-in-Need c = λ bytes s.
@@ -11,5 +11,5 @@ returns-in-Need c = λ bytes s.
 pub loop-now-preserved : goal.loop-now-preserved
 loop-now-preserved c = record {
   within = c.cut-run.ensures.within;
-  checks = λ bytes s. took _ _ _ _ _ _ _ _ _ bytes c.args.piece.now (c.loop-now.invariant.checks bytes s) c.cut-run.ensures.forward c.cut-run.ensures.adds c.after-now.ensures;
+  checks = λ bytes s. took _ _ _ _ _ _ _ _ _ bytes c.args.piece.now (c.loop-now.invariant.checks bytes s) c.cut-run.ensures.forward c.cut-run.ensures.adds c.after_run-now.ensures;
 }

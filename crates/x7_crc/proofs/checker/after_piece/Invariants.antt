@@ -1,7 +1,7 @@
 use Rattle.std.proofs.Common.{ℕ, List, ◌++◌, ◌-◌, ◌≤◌, take, length}
 use Rattle.x7_packets.specs.Cutter.{calls_left}
 use Rattle.x7_crc.specs.Checker.{Checks}
-use Rattle.x7_crc.proofs.checker.take_all.Given as goal
+use Rattle.x7_crc.proofs.checker.after_piece.Given as goal
 
 abbrev pub invariant-loop-now : goal.invariant-loop-now
 invariant-loop-now l = record {
