@@ -7,8 +7,8 @@ abbrev pub has_advances : ℕ → ℕ → List ℕ → Bool
 has_advances n k [] = true
 has_advances n k (x ∷ xs) = (x == advanced n k) && has_advances n (k + 1) xs
 
--- each table has 256 entries, those of the bytes from 0 up: the checks after `n` bits of 0 in the first table, and after
--- eight more in each further one
+-- each table has 256 entries, those of the bytes from 0 up: the checks after `n` bits of 0 in the first table, and
+-- after eight more in each further one
 abbrev pub all_have_advances : ℕ → List (List ℕ) → Bool
 all_have_advances n [] = true
 all_have_advances n (t ∷ ts) = (length t == 256) && (has_advances n 0 t && all_have_advances (n + 8) ts)

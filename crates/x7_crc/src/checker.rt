@@ -42,8 +42,8 @@ fn after_steering_word(state: CheckState, reg: Reg, word: u32) -> CheckState
     }
 }
 
-/// The check state after words written to a register to which a write may do more than lengthen the check, taken word by
-/// word: four bytes each.
+/// The check state after words written to a register to which a write may do more than lengthen the check, taken word
+/// by word: four bytes each.
 fn after_steering_words(state: CheckState, reg: Reg, bytes: &[u8]) -> CheckState
     requires whole { length bytes.now % 4 ≡ 0 }
     ensures { (h : History) (place : ℕ) → IsCheckState state.check state.held h → IsCheckState result.check result.held (entered_all place (payload_steps (number_of reg) (words_of_bytes bytes.now)) h) }
@@ -118,7 +118,8 @@ fn after_run(state: CheckState, run: Cut) -> CheckState
     }
 }
 
-/// The check of the writes of a stream that comes piece by piece; no byte of a piece is kept but those of no whole word.
+/// The check of the writes of a stream that comes piece by piece; no byte of a piece is kept but those of no whole
+/// word.
 #[derive(Drop)]
 pub struct PieceChecker {
     cutter: Cutter,

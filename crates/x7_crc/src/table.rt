@@ -80,8 +80,8 @@ fn advance_register(register: u8) -> u32
     register_entry(&REGISTER, register)
 }
 
-/// The check after `bit_count` bits of 0 and 24 more: the entries for its four bytes, added. The four tables are for the
-/// bytes from the highest down: after `bit_count` bits, and after eight more each.
+/// The check after `bit_count` bits of 0 and 24 more: the entries for its four bytes, added. The four tables are for
+/// the bytes from the highest down: after `bit_count` bits, and after eight more each.
 #[tactic(auto, using(crate::proofs::TableLemmas::four_entries))]
 fn word_entries(tables: &[[u32; 256]; 4], bit_count: u32, check: u32) -> u32
     requires { IsTrue (all_have_advances bit_count tables.now) }

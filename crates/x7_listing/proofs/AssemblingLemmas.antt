@@ -71,7 +71,7 @@ prefix_stays start a false t old new h r = (ap (take start) r.1, omega (arith, h
 pub close_ok : (all others : List (List ℕ)) (prefix out : List ℕ) (start first : ℕ) → start ≡ length prefix → OpensText all others prefix first → Assembles (67108864 - start) others (drop start out) → take start out ≡ prefix → AreHeadedAsm all (Ok out)
 close_ok all others prefix out start first n (inl h) a same = inl (record {
   header = h.header;
-  held = h.held;
+  fits = h.fits;
   others = others;
   texts = h.texts;
   follows = record {
@@ -91,7 +91,7 @@ close_bad all others prefix start first m n s (inl h) b e =
     let one : n ≡ m + 1 = omega (arith, e, h.count) in
     inl (record {
       header = h.header;
-      held = h.held;
+      fits = h.fits;
       others = others;
       texts = h.texts;
       follows = record { rest = Err (fault.Line m); lines = subst (λ (k : ℕ). IsFirstBadText (67108864 - k) others m) (s ∙ ap length h.prefix_is) b; outcome_is = ap (λ (k : ℕ). Err (fault.Line k)) one };
@@ -107,7 +107,7 @@ close_long all others prefix start first m n s (inl h) b e =
     let one : n ≡ m + 1 = omega (arith, e, h.count) in
     inl (record {
       header = h.header;
-      held = h.held;
+      fits = h.fits;
       others = others;
       texts = h.texts;
       follows = record { rest = Err (fault.TooLong m); lines = subst (λ (k : ℕ). PassesLimitAt (67108864 - k) others m) (s ∙ ap length h.prefix_is) b; outcome_is = ap (λ (k : ℕ). Err (fault.TooLong k)) one };

@@ -17,7 +17,7 @@ use Rattle.x7_text.specs.Digits.{hex_byte}
 use Rattle.x7_text.specs.Row.{bytes_text, close, in_line_after, open_text}
 use Rattle.x7_text.proofs.LineLemmas.{bytes_closed, open_text_append}
 use Rattle.x7_listing.specs.Listing.{listing_of, packet_text, packets_text, place_text, session_text}
-use Rattle.x7_listing.specs.Lister.{GapListed, ListerStandsFor, ListerState, HasListedAt, words_place, open_words, written_of}
+use Rattle.x7_listing.specs.Lister.{GapListed, ListerStandsFor, ListerState, HasListedAt, in_line_after_words, open_words, written_of}
 use Rattle.x7_listing.proofs.SessionLemmas.{session_closed, open_words_append}
 
 -- the text of bytes in `bytes` lines, the last of which stays open unless it is full
@@ -114,11 +114,11 @@ words_more : (packets : List Packet) (w : ℕ) → IsPrefixOf (W packets) (W (pa
 words_more packets w =
     let ss : List (ℕ × Step) = flat_map stepped packets in
     let m : SteppedMore (packets_with_word packets w) packets w = stepped_more None packets w in
-    (open_words (words_place 0 ss) ((w, m.0) ∷ []), ap (open_words 0) m.1 ∙ open_words_append 0 ss ((w, m.0) ∷ []))
+    (open_words (in_line_after_words 0 ss) ((w, m.0) ∷ []), ap (open_words 0) m.1 ∙ open_words_append 0 ss ((w, m.0) ∷ []))
 
 -- the lines of packets begin with their words listed
 words_over : (packets : List Packet) → EachPacket None packets → IsPrefixOf (W packets) (flat_map packet_text packets)
-words_over packets each = (close (words_place 0 (flat_map stepped packets)), sym (session_closed None 0 packets each))
+words_over packets each = (close (in_line_after_words 0 (flat_map stepped packets)), sym (session_closed None 0 packets each))
 
 -- a session's words listed are a prefix of its lines
 pub session_over : (gap : List ℕ) (packets : List Packet) → EachPacket None packets → IsPrefixOf (sure_session gap packets) (packets_text gap packets)

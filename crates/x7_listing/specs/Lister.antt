@@ -15,33 +15,33 @@ use Rattle.x7_text.specs.Row.{bytes_text, close, element_text, in_line_after, ne
 use Rattle.x7_listing.specs.HeadLine.{command_line, text_of_head}
 use Rattle.x7_listing.specs.Listing.{IsListing, session_text}
 
--- what a payload word adds where i words stand in an open `data` line (0: none is open)
+-- the text that a payload word adds where i words stand in an open `data` line (0: none is open)
 abbrev pub open_payload : Bool → ℕ → ℕ → List ℕ
 open_payload is_cmd i w = if is_cmd then close i ++ command_line w else element_text row_words (codes "data") spaced i w
 
 -- how many words stand in an open `data` line after one payload word more
-abbrev pub payload_next : Bool → ℕ → ℕ
-payload_next is_cmd i = if is_cmd then 0 else next_in_line row_words i
+abbrev pub in_line_after_payload : Bool → ℕ → ℕ
+in_line_after_payload is_cmd i = if is_cmd then 0 else next_in_line row_words i
 
--- what a word of a session adds, by its step
+-- the text that a word of a session adds where i words stand in an open `data` line, by the word's step
 abbrev pub open_session_word : ℕ → ℕ → Step → List ℕ
 open_session_word i w (Payload register x) = open_payload (register == number_of Cmd) i w
 open_session_word i w step = close i ++ text_of_head step w
 
 -- how many words stand in an open `data` line after one word more of a session
-abbrev pub word_next : ℕ → Step → ℕ
-word_next i (Payload register x) = payload_next (register == number_of Cmd) i
-word_next i step = 0
+abbrev pub in_line_after_word : ℕ → Step → ℕ
+in_line_after_word i (Payload register x) = in_line_after_payload (register == number_of Cmd) i
+in_line_after_word i step = 0
 
--- what words add, the last line being open
+-- the text that words of a session add where i words stand in an open `data` line; the last line may stay open
 abbrev pub open_words : ℕ → List (ℕ × Step) → List ℕ
 open_words i [] = []
-open_words i (s ∷ ss) = open_session_word i s.0 s.1 ++ open_words (word_next i s.1) ss
+open_words i (s ∷ ss) = open_session_word i s.0 s.1 ++ open_words (in_line_after_word i s.1) ss
 
 -- how many words stand in an open `data` line after these words of a session
-abbrev pub words_place : ℕ → List (ℕ × Step) → ℕ
-words_place i [] = i
-words_place i (s ∷ ss) = words_place (word_next i s.1) ss
+abbrev pub in_line_after_words : ℕ → List (ℕ × Step) → ℕ
+in_line_after_words i [] = i
+in_line_after_words i (s ∷ ss) = in_line_after_words (in_line_after_word i s.1) ss
 
 -- the bytes of a gap are listed but for those that are held, which may yet be a sync word
 pub record GapListed (all start : List ℕ) (line : ℕ) (held gap : List ℕ) : Type 0 where
@@ -55,9 +55,9 @@ pub record GapListed (all start : List ℕ) (line : ℕ) (held gap : List ℕ) :
 -- the words of a session are listed, and the last line is open
 pub record SessionListed (all start : List ℕ) (line : ℕ) (gap : List ℕ) (packets : List Packet) : Type 0 where
   pub listed : all ≡ start ++ bytes_text gap ++ codes "sync\n" ++ open_words 0 (flat_map stepped packets)
-  pub count : line ≡ words_place 0 (flat_map stepped packets)
+  pub count : line ≡ in_line_after_words 0 (flat_map stepped packets)
 
--- what is written of a listing
+-- what is written of a listing: its text so far, and what stands in its open line or is held
 pub record WrittenSoFar : Type 0 where
   -- whether the last bytes listed are a session's
   pub synced : Bool
@@ -71,18 +71,19 @@ pub record WrittenSoFar : Type 0 where
 abbrev pub written_of : Bool → ℕ → List ℕ → List ℕ → WrittenSoFar
 written_of synced line held text = record { synced = synced; line = line; held = held; text = text }
 
--- what was listed at a place, where the sessions before it are listed, in a gap and in a session
+-- what is written after `start`, the text of what comes before the place: by whether the last bytes listed are a
+-- session's, the gap but for what is held, or the words of the session
 abbrev pub HasListedBy : Bool → WrittenSoFar → List ℕ → Place → Mode → Type 0
 HasListedBy false w start (Searching gap) m = GapListed w.text start w.line w.held gap
 HasListedBy false w start (Synced gap packets tail) m = (m ≡ Mode.Due) × (packets ≡ []) × (tail ≡ []) × GapListed w.text start w.line w.held (gap ++ sync_bytes)
 HasListedBy true w start (Searching gap) m = (gap ≡ []) × (w.line ≡ 0) × (w.text ≡ start)
 HasListedBy true w start (Synced gap packets tail) m = (m ≡ Mode.Due → ⊥) × SessionListed w.text start w.line gap packets
 
--- what was listed at a place by what is written, in a gap or in a session
+-- what is written after `start`, the text of what comes before the place, is what is listed at the place
 abbrev pub HasListedAt : WrittenSoFar → List ℕ → Place → Mode → Type 0
 HasListedAt w start place m = HasListedBy w.synced w start place m
 
--- what was listed, after the listings before
+-- what is written is what was listed, after the listings before: ended sessions, and then the place
 abbrev pub HasListed : WrittenSoFar → List ℕ → List Session → Place → Mode → Type 0
 HasListed w before sessions place m = HasListedAt w (before ++ flat_map session_text sessions) place m
 
@@ -94,14 +95,14 @@ pub record HasListedAll (w : WrittenSoFar) (before : List ℕ) (sessions : List 
   pub listed : HasListed w before sessions place mode
   pub not_due : mode ≡ Mode.Due → ⊥
 
--- A run writes what it adds to a reading: what is listed before it is listed after it.
+-- a run was listed: what is written before it becomes what is written after it, for each reading to which it is added
 abbrev pub WritesRun : Cut → WrittenSoFar → WrittenSoFar → Type 0
 WritesRun run w w2 =
     (before bytes : List ℕ) (sessions new_sessions : List Session) (place new_place : Place) (old new : Mode)
     → HasListed w before sessions place old → Adds run sessions place new_sessions new_place → ChangesMode run old new new_place → IsRun run
     → IsReading bytes new_sessions new_place → HasListed w2 before new_sessions new_place new
 
--- a lister
+-- a lister: its cutter, what stands in its open line or is held, and its text
 pub record ListerState : Type 0 where
   pub cutter : CutterState
   -- whether the last bytes listed are a session's

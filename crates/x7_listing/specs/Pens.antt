@@ -38,11 +38,12 @@ lister_with cutter p text = lister_of cutter (is_in_session p) (in_line_of p) (h
 abbrev pub TakesHead : CutterState → ℕ → Step → Type 0
 TakesHead c w step = TakesAsOneRun c c (bytes_of_word w) (Head w step)
 
--- the lister has listed these bytes too
+-- whatever the old lister has listed, the new one has listed, and these bytes after it
 abbrev pub ListsMore : ListerState → ListerState → List ℕ → Type 0
 ListsMore old new more = (given before bytes : List ℕ) → HasListedJust old given before bytes → HasListedJust new given before (bytes ++ more)
 
--- the lister has listed these bytes too, and no sync word is still to be listed
+-- whatever the old lister has listed, the new one has listed, and these bytes after it; no sync word is still to be
+-- listed
 abbrev pub ListsMoreAndRests : ListerState → ListerState → List ℕ → Type 0
 ListsMoreAndRests old new more = (given before bytes : List ℕ) → HasListedJust old given before bytes → ListerStandsFor new given before (bytes ++ more)
 
@@ -58,14 +59,14 @@ gap_written gap text = written_of false gap.line (take gap.count gap.held) text
 abbrev pub GapGoesOn : WrittenSoFar → WrittenSoFar → List ℕ → Type 0
 GapGoesOn old new more = (given start gap : List ℕ) → GapListed (given ++ old.text) start old.line old.held gap → GapListed (given ++ new.text) start new.line new.held (gap ++ more)
 
--- with this text what is left at an end is listed, whatever texts were given: what
--- is written, and the bytes of no whole word
+-- the text is the whole listing: what is written, what is held, and these bytes of no whole word at the end; so after
+-- whatever texts were given
 abbrev pub EndsWith : WrittenSoFar → List ℕ → List ℕ → Type 0
 EndsWith w kept text = (given before : List ℕ) (sessions : List Session) (place : Place)
     → HasListedAll (written_of w.synced w.line w.held (given ++ w.text)) before sessions place → kept ≡ tail_of place → given ++ text ≡ before ++ reading_text sessions place
 
--- with this text what is left at an end is listed, whatever texts were given, by a pen
--- that holds the bytes of no whole word itself
+-- the text is the whole listing: what is written, and what is held, which in a session are the bytes of no whole word
+-- at the end; so after whatever texts were given
 abbrev pub EndsHeld : WrittenSoFar → List ℕ → Type 0
 EndsHeld w text = (given before : List ℕ) (sessions : List Session) (place : Place)
     → HasListedAll (written_of w.synced w.line w.held (given ++ w.text)) before sessions place → (w.synced ≡ true → w.held ≡ tail_of place)

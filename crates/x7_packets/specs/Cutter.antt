@@ -203,8 +203,8 @@ pub record Cuts (old new : CutterState) (rest : List ℕ) (taken : ℕ) (cut : C
   pub skips : SkipsAll new (length rest) cut
   pub adds : TakesAsOneRun old new (take taken rest) cut
 
--- one call of a cutter on the bytes that are left of a piece, which moved a place from `at` to `at_now`, past those that
--- it took
+-- one call of a cutter on the bytes that are left of a piece, which moved a place from `at` to `at_now`, past those
+-- that it took
 pub record MovesPast (old new : CutterState) (rest : List ℕ) (at at_now : ℕ) (cut : Cut) : Type 0 where
   pub forward : at ≤ at_now
   pub within : at_now ≤ at + length rest

@@ -82,8 +82,8 @@ const MOST_SHORT_WORDS: u32 = 16;
 /// header included.
 const LONGEST_SHORT_WRITE: usize = 68;
 
-/// How many bytes must be left of a piece for a short gap to be taken at once: those that a look for the sync word sees,
-/// and one more.
+/// How many bytes must be left of a piece for a short gap to be taken at once: those that a look for the sync word
+/// sees, and one more.
 const SHORT_GAP_ROOM: usize = 36;
 
 /// The register and the word of the write of one word that begins these bytes, its header's reserved bits 0.

@@ -34,8 +34,8 @@ pub fn reading_is_found()
         → (ss ≡ (reading_of bytes).sessions) × (p ≡ (reading_of bytes).place) }
 {}
 
-/// Where a session has further words, the history has their accesses too, each at its place; so has it those of a run of
-/// a cutter.
+/// Where a session has further words, the history has their accesses too, each at its place; so has it those of a run
+/// of a cutter.
 pub fn words_enter()
     ensures words { (old new : Reading) (more : List (ℕ × Step)) → GoesOnBy more old new → history_in new ≡ entered_all (next_in old) more (history_in old) }
     ensures next { (old new : Reading) (more : List (ℕ × Step)) → GoesOnBy more old new → next_in new ≡ next_in old + 4 * length more }

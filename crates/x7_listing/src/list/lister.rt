@@ -46,7 +46,7 @@ fn take_all(text: &mut Vec<u8>, cutter: &mut Cutter, pen: Pen, piece: &[u8]) -> 
     }
 }
 
-/// Lists what it is fed.
+/// Lists the stream that it is fed, piece by piece; its text may be taken and cleared in between.
 #[derive(Drop)]
 pub struct Lister {
     cutter: Cutter,

@@ -10,7 +10,7 @@ ghost use Rattle.x7_text.specs.Reads.{StaysWithin};
 ghost use Rattle.x7_text.specs.Row.{close, in_line_after, open_bytes, row_bytes, rows_size};
 ghost use Rattle.x7_listing.specs.HeadLine.{line_size};
 ghost use Rattle.x7_listing.specs.Pens.{EndsWith, GapGoesOn, gap_written, held_by, is_in_session, in_line_of, written_with};
-ghost use Rattle.x7_listing.specs.Lister.{words_place, open_words, WritesRun};
+ghost use Rattle.x7_listing.specs.Lister.{in_line_after_words, open_words, WritesRun};
 
 mod state;
 
@@ -48,7 +48,7 @@ fn in_gap(pen: Pen) -> GapPen
     }
 }
 
-/// The words of a session's open line: none in a gap.
+/// How many words stand in a session's open line: none in a gap.
 pub(crate) fn open_in(pen: Pen) -> OpenWords
     ensures { is_in_session pen ≡ true → result.count ≡ in_line_of pen }
 {
@@ -120,10 +120,10 @@ fn hold_all(text: &mut Vec<u8>, pen: GapPen, bytes: &[u8]) -> GapPen
     }
 }
 
-/// Appends a payload word after an open line. Gives the line afterwards.
+/// Appends a payload word after an open line. Gives how many words stand in the open line then.
 fn put_payload(text: &mut Vec<u8>, in_line: OpenWords, register: u8, w: u32) -> OpenWords
     requires room { HasSpareRoom text.old (1 + line_size) }
-    ensures count { result.count ≡ words_place in_line.count (payload_steps register (w ∷ [])) }
+    ensures count { result.count ≡ in_line_after_words in_line.count (payload_steps register (w ∷ [])) }
     ensures appends { Appends text.old text.new (open_words in_line.count (payload_steps register (w ∷ []))) (1 + line_size) }
 {
     if register == Reg::Cmd.number() {
@@ -135,12 +135,13 @@ fn put_payload(text: &mut Vec<u8>, in_line: OpenWords, register: u8, w: u32) -> 
     }
 }
 
-/// Appends payload words of one packet, one of CMD, after an open line. Gives the line afterwards.
+/// Appends payload words of one packet, one where the register is CMD, after an open line. Gives how many words stand
+/// in the open line then.
 fn put_body(text: &mut Vec<u8>, in_line: OpenWords, register: u8, body: &[u8]) -> OpenWords
     requires whole { length body.now ≡ 4 * (length body.now / 4) }
     requires one { register ≡ number_of Cmd → length body.now ≡ 4 }
     requires room { HasSpareRoom text.old (CALL_ROOM + 3 * length body.now) }
-    ensures count { result.count ≡ words_place in_line.count (payload_steps register (words_of_bytes body.now)) }
+    ensures count { result.count ≡ in_line_after_words in_line.count (payload_steps register (words_of_bytes body.now)) }
     ensures appends { Appends text.old text.new (open_words in_line.count (payload_steps register (words_of_bytes body.now))) (CALL_ROOM + 3 * length body.now) }
 {
     if register == Reg::Cmd.number() {
@@ -156,7 +157,7 @@ fn put_body(text: &mut Vec<u8>, in_line: OpenWords, register: u8, body: &[u8]) -
     }
 }
 
-/// Appends what a run adds.
+/// Appends what a run adds to the listing, and gives the pen after it.
 pub(crate) fn put_run(text: &mut Vec<u8>, pen: Pen, run: Cut) -> Pen
     requires run { IsRun run }
     requires room { HasSpareRoom text.old (CALL_ROOM + 3 * length (run_bytes run)) }

@@ -3,6 +3,7 @@
 ghost use Rattle.std.specs.Prelude.{◌≡◌, ◌≤◌, ◌+◌, ◌++◌, length, take};
 ghost use Rattle.x7_listing.specs.Fast.AtOnce.{row_text};
 
+use crate::line::TEXT_SIZE_AT;
 use std::simd::prelude::*;
 
 /// How many bytes a sheet has.
@@ -43,5 +44,5 @@ pub(crate) fn put_row(sheet: &mut [u8; SHEET_SIZE], len: usize, row: &[u8; 32]) 
     ensures text { take result sheet.new ≡ take len sheet.old ++ row_text row.now }
 {
     u8x32::from_array(*row).copy_to_slice(&mut sheet[len..]);
-    len + (row[31] as usize).min(32)
+    len + (row[TEXT_SIZE_AT] as usize).min(32)
 }

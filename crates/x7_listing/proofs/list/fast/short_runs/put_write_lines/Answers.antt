@@ -3,7 +3,7 @@ use Rattle.x7_listing.specs.Fast.AtOnce.{write_start}
 use Rattle.x7_text.specs.Row.{close}
 use Rattle.x7_listing.proofs.list.fast.AtOnceLemmas.{command_row_is, data_row_is}
 use Rattle.x7_listing.proofs.list.fast.OnSheetLemmas.{row_after}
-use Rattle.x7_listing.proofs.list.fast.short_runs.put_one_word.Goals as goal
+use Rattle.x7_listing.proofs.list.fast.short_runs.put_write_lines.Goals as goal
 
 pub returns-then-register-number-clause-text : goal.returns-then-register-number-clause-text
 returns-then-register-number-clause-text c = c.put_command.ensures.text ∙ ap (λ (t : List ℕ). take c.args.len c.args.sheet.now ++ t) (command_row_is c.args.in_line c.args.register c.args.w (c.if-register-number.true ∙ c.number.ensures.value))
