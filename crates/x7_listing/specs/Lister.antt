@@ -44,40 +44,40 @@ in_line_after_words i [] = i
 in_line_after_words i (s ∷ ss) = in_line_after_words (in_line_after_word i s.1) ss
 
 -- the bytes of a gap are listed but for those that are held, which may yet be a sync word
-pub record GapListed (all start : List ℕ) (line : ℕ) (held gap : List ℕ) : Type 0 where
+pub record GapListed (all start : List ℕ) (in_line : ℕ) (held gap : List ℕ) : Type 0 where
   pub prefix : List ℕ
   pub split : gap ≡ prefix ++ held
   pub listed : all ≡ start ++ open_bytes 0 prefix
-  pub count : line ≡ in_line_after row_bytes 0 prefix
+  pub count : in_line ≡ in_line_after row_bytes 0 prefix
   pub full : (length held ≡ 4) ⊎ (prefix ≡ [])
   pub few : length held ≤ 4
 
 -- the words of a session are listed, and the last line is open
-pub record SessionListed (all start : List ℕ) (line : ℕ) (gap : List ℕ) (packets : List Packet) : Type 0 where
+pub record SessionListed (all start : List ℕ) (in_line : ℕ) (gap : List ℕ) (packets : List Packet) : Type 0 where
   pub listed : all ≡ start ++ bytes_text gap ++ codes "sync\n" ++ open_words 0 (flat_map stepped packets)
-  pub count : line ≡ in_line_after_words 0 (flat_map stepped packets)
+  pub count : in_line ≡ in_line_after_words 0 (flat_map stepped packets)
 
 -- what is written of a listing: its text so far, and what stands in its open line or is held
 pub record WrittenSoFar : Type 0 where
   -- whether the last bytes listed are a session's
   pub synced : Bool
   -- how many elements stand in the open line
-  pub line : ℕ
+  pub in_line : ℕ
   -- the bytes that are held: of a gap, or of no whole word where runs are taken
   pub held : List ℕ
   pub text : List ℕ
 
 -- what is written of a listing, by its parts
 abbrev pub written_of : Bool → ℕ → List ℕ → List ℕ → WrittenSoFar
-written_of synced line held text = record { synced = synced; line = line; held = held; text = text }
+written_of synced in_line held text = record { synced = synced; in_line = in_line; held = held; text = text }
 
 -- what is written after `start`, the text of what comes before the place: by whether the last bytes listed are a
 -- session's, the gap but for what is held, or the words of the session
 abbrev pub HasListedBy : Bool → WrittenSoFar → List ℕ → Place → Mode → Type 0
-HasListedBy false w start (Searching gap) m = GapListed w.text start w.line w.held gap
-HasListedBy false w start (Synced gap packets tail) m = (m ≡ Mode.Due) × (packets ≡ []) × (tail ≡ []) × GapListed w.text start w.line w.held (gap ++ sync_bytes)
-HasListedBy true w start (Searching gap) m = (gap ≡ []) × (w.line ≡ 0) × (w.text ≡ start)
-HasListedBy true w start (Synced gap packets tail) m = (m ≡ Mode.Due → ⊥) × SessionListed w.text start w.line gap packets
+HasListedBy false w start (Searching gap) m = GapListed w.text start w.in_line w.held gap
+HasListedBy false w start (Synced gap packets tail) m = (m ≡ Mode.Due) × (packets ≡ []) × (tail ≡ []) × GapListed w.text start w.in_line w.held (gap ++ sync_bytes)
+HasListedBy true w start (Searching gap) m = (gap ≡ []) × (w.in_line ≡ 0) × (w.text ≡ start)
+HasListedBy true w start (Synced gap packets tail) m = (m ≡ Mode.Due → ⊥) × SessionListed w.text start w.in_line gap packets
 
 -- what is written after `start`, the text of what comes before the place, is what is listed at the place
 abbrev pub HasListedAt : WrittenSoFar → List ℕ → Place → Mode → Type 0
@@ -108,7 +108,7 @@ pub record ListerState : Type 0 where
   -- whether the last bytes listed are a session's
   pub synced : Bool
   -- how many elements stand in the open line
-  pub line : ℕ
+  pub in_line : ℕ
   -- the bytes that are held: of a gap, or of no whole word where runs are taken
   pub held : List ℕ
   -- the text since it was last cleared
@@ -116,11 +116,11 @@ pub record ListerState : Type 0 where
 
 -- a lister by its parts
 abbrev pub lister_of : CutterState → Bool → ℕ → List ℕ → List ℕ → ListerState
-lister_of cutter synced line held text = record { cutter = cutter; synced = synced; line = line; held = held; text = text }
+lister_of cutter synced in_line held text = record { cutter = cutter; synced = synced; in_line = in_line; held = held; text = text }
 
 -- what a lister has written, the texts given and then its own
 abbrev pub listing_written : ListerState → List ℕ → WrittenSoFar
-listing_written l given = written_of l.synced l.line l.held (given ++ l.text)
+listing_written l given = written_of l.synced l.in_line l.held (given ++ l.text)
 
 -- The texts given and the lister's are those of listings before, and then what is listed of these bytes.
 pub record HasListedJust (l : ListerState) (given before bytes : List ℕ) : Type 0 where

@@ -20,7 +20,7 @@ is_in_session (pen.Tail in_line tail) = true
 
 -- how many elements stand in a pen's open line
 abbrev pub in_line_of : Pen → ℕ
-in_line_of (pen.Gap gap) = gap.line
+in_line_of (pen.Gap gap) = gap.in_line
 in_line_of (pen.Session in_line) = in_line.count
 in_line_of (pen.Tail in_line tail) = in_line.count
 
@@ -53,21 +53,21 @@ written_with p text = written_of (is_in_session p) (in_line_of p) (held_by p) te
 
 -- what is written with this pen in a gap
 abbrev pub gap_written : GapPen → List ℕ → WrittenSoFar
-gap_written gap text = written_of false gap.line (take gap.count gap.held) text
+gap_written gap text = written_of false gap.in_line (take gap.count gap.held) text
 
 -- more bytes of a gap are listed but for those that are held, whatever texts were given
 abbrev pub GapGoesOn : WrittenSoFar → WrittenSoFar → List ℕ → Type 0
-GapGoesOn old new more = (given start gap : List ℕ) → GapListed (given ++ old.text) start old.line old.held gap → GapListed (given ++ new.text) start new.line new.held (gap ++ more)
+GapGoesOn old new more = (given start gap : List ℕ) → GapListed (given ++ old.text) start old.in_line old.held gap → GapListed (given ++ new.text) start new.in_line new.held (gap ++ more)
 
 -- the text is the whole listing: what is written, what is held, and these bytes of no whole word at the end; so after
 -- whatever texts were given
 abbrev pub EndsWith : WrittenSoFar → List ℕ → List ℕ → Type 0
 EndsWith w kept text = (given before : List ℕ) (sessions : List Session) (place : Place)
-    → HasListedAll (written_of w.synced w.line w.held (given ++ w.text)) before sessions place → kept ≡ tail_of place → given ++ text ≡ before ++ reading_text sessions place
+    → HasListedAll (written_of w.synced w.in_line w.held (given ++ w.text)) before sessions place → kept ≡ tail_of place → given ++ text ≡ before ++ reading_text sessions place
 
 -- the text is the whole listing: what is written, and what is held, which in a session are the bytes of no whole word
 -- at the end; so after whatever texts were given
 abbrev pub EndsHeld : WrittenSoFar → List ℕ → Type 0
 EndsHeld w text = (given before : List ℕ) (sessions : List Session) (place : Place)
-    → HasListedAll (written_of w.synced w.line w.held (given ++ w.text)) before sessions place → (w.synced ≡ true → w.held ≡ tail_of place)
+    → HasListedAll (written_of w.synced w.in_line w.held (given ++ w.text)) before sessions place → (w.synced ≡ true → w.held ≡ tail_of place)
     → given ++ text ≡ before ++ reading_text sessions place

@@ -26,11 +26,11 @@ pub(crate) const CALL_ROOM: usize = 64;
 
 /// A pen at the start of a listing.
 pub(crate) fn new_pen() -> GapPen
-    ensures line { result.line ≡ 0 }
+    ensures in_line { result.in_line ≡ 0 }
     ensures held { take result.count result.held ≡ [] }
 {
     GapPen {
-        line: 0,
+        in_line: 0,
         held: [0; 4],
         count: 0,
     }
@@ -38,7 +38,7 @@ pub(crate) fn new_pen() -> GapPen
 
 /// A pen in a gap: the one given, or a new one after a session.
 fn in_gap(pen: Pen) -> GapPen
-    ensures line { result.line ≡ (if is_in_session pen then 0 else in_line_of pen) }
+    ensures in_line { result.in_line ≡ (if is_in_session pen then 0 else in_line_of pen) }
     ensures held { take result.count result.held ≡ (if is_in_session pen then [] else held_by pen) }
 {
     match pen {
@@ -69,14 +69,14 @@ fn hold(text: &mut Vec<u8>, pen: GapPen, byte: u8) -> GapPen
         let mut held = pen.held;
         held[pen.count] = byte;
         return GapPen {
-            line: pen.line,
+            in_line: pen.in_line,
             held,
             count: pen.count + 1,
         };
     }
-    let line = put_bytes(text, pen.line, &pen.held[..1]);
+    let in_line = put_bytes(text, pen.in_line, &pen.held[..1]);
     GapPen {
-        line,
+        in_line,
         held: [pen.held[1], pen.held[2], pen.held[3], byte],
         count: 4,
     }
@@ -106,10 +106,10 @@ fn hold_all(text: &mut Vec<u8>, pen: GapPen, bytes: &[u8]) -> GapPen
         return hold_each(text, pen, bytes);
     }
     let first = bytes.len() - 4;
-    let after = put_bytes(text, pen.line, &pen.held[..pen.count]);
-    let line = put_bytes(text, after, &bytes[..first]);
+    let after = put_bytes(text, pen.in_line, &pen.held[..pen.count]);
+    let in_line = put_bytes(text, after, &bytes[..first]);
     GapPen {
-        line,
+        in_line,
         held: [
             bytes[first],
             bytes[first + 1],
@@ -169,7 +169,7 @@ pub(crate) fn put_run(text: &mut Vec<u8>, pen: Pen, run: Cut) -> Pen
         Cut::Need => pen,
         Cut::Skip(bytes) => Pen::Gap(hold_all(text, in_gap(pen), bytes)),
         Cut::Sync => {
-            put_sync(text, in_gap(pen).line);
+            put_sync(text, in_gap(pen).in_line);
             Pen::Session(OpenWords { count: 0 })
         }
         Cut::Head(w, step) => {
@@ -184,19 +184,19 @@ pub(crate) fn put_run(text: &mut Vec<u8>, pen: Pen, run: Cut) -> Pen
 /// Appends what is left of a gap.
 fn end_gap(text: &mut Vec<u8>, pen: GapPen)
     requires room { HasSpareRoom text.old CALL_ROOM }
-    ensures items { text.new.items ≡ text.old.items ++ open_bytes pen.line (take pen.count pen.held) ++ close (in_line_after row_bytes pen.line (take pen.count pen.held)) }
+    ensures items { text.new.items ≡ text.old.items ++ open_bytes pen.in_line (take pen.count pen.held) ++ close (in_line_after row_bytes pen.in_line (take pen.count pen.held)) }
 {
-    let line = put_bytes(text, pen.line, &pen.held[..pen.count]);
-    put_close(text, line);
+    let in_line = put_bytes(text, pen.in_line, &pen.held[..pen.count]);
+    put_close(text, in_line);
 }
 
 /// Appends what is left of a session: the end of an open line, and the bytes of no whole word.
-fn end_session(text: &mut Vec<u8>, line: usize, kept: &[u8])
+fn end_session(text: &mut Vec<u8>, in_line: usize, kept: &[u8])
     requires short { length kept.now ≤ 3 }
     requires room { HasSpareRoom text.old CALL_ROOM }
-    ensures items { text.new.items ≡ text.old.items ++ close line ++ open_bytes 0 kept.now ++ close (in_line_after row_bytes 0 kept.now) }
+    ensures items { text.new.items ≡ text.old.items ++ close in_line ++ open_bytes 0 kept.now ++ close (in_line_after row_bytes 0 kept.now) }
 {
-    put_close(text, line);
+    put_close(text, in_line);
     let count = put_bytes(text, 0, kept);
     put_close(text, count);
 }

@@ -42,7 +42,7 @@ fn byte_count(run: Run) -> usize
 fn with_tail(pen: Pen, tail: &[u8]) -> Pen
     requires { length tail.now < 4 }
     ensures synced { is_in_session result ≡ true }
-    ensures line { is_in_session pen ≡ true → in_line_of result ≡ in_line_of pen }
+    ensures in_line { is_in_session pen ≡ true → in_line_of result ≡ in_line_of pen }
     ensures held { held_by result ≡ tail.now }
 {
     let mut bytes = [0; 3];

@@ -6,10 +6,10 @@ ghost use Rattle.x7_text.specs.Row.{row_bytes, row_words};
 /// the first `count` of `held`.
 #[derive(Clone, Copy)]
 pub(crate) struct GapPen {
-    pub(crate) line: usize,
+    pub(crate) in_line: usize,
     pub(crate) held: [u8; 4],
     pub(crate) count: usize,
-    ghost short: { line < row_bytes },
+    ghost short: { in_line < row_bytes },
     ghost few: { count ≤ 4 },
 }
 
