@@ -116,7 +116,7 @@ pub record AppendsLines (text rest old new : List ℕ) (count : ℕ) : Type 0 wh
 pub record AppendsFirstLines (text old new : List ℕ) (size count : ℕ) : Type 0 where
   pub some : 0 < size
   pub within : size ≤ length text
-  pub few : count ≤ size
+  pub counted : count ≤ size
   pub takes : AppendsLines text (drop size text) old new count
 
 -- whether a line was read

@@ -71,19 +71,19 @@ pub record WrittenSoFar : Type 0 where
 abbrev pub written_of : Bool → ℕ → List ℕ → List ℕ → WrittenSoFar
 written_of synced in_line held text = record { synced = synced; in_line = in_line; held = held; text = text }
 
--- what is written after `start`, the text of what comes before the place: by whether the last bytes listed are a
--- session's, the gap but for what is held, or the words of the session
+-- the text of what comes before the place is `start`; after it stand, by whether the last bytes listed are a session's,
+-- the lines of the session, or those of the gap but for what is held
 abbrev pub HasListedBy : Bool → WrittenSoFar → List ℕ → Place → Mode → Type 0
 HasListedBy false w start (Searching gap) m = GapListed w.text start w.in_line w.held gap
 HasListedBy false w start (Synced gap packets tail) m = (m ≡ Mode.Due) × (packets ≡ []) × (tail ≡ []) × GapListed w.text start w.in_line w.held (gap ++ sync_bytes)
 HasListedBy true w start (Searching gap) m = (gap ≡ []) × (w.in_line ≡ 0) × (w.text ≡ start)
 HasListedBy true w start (Synced gap packets tail) m = (m ≡ Mode.Due → ⊥) × SessionListed w.text start w.in_line gap packets
 
--- what is written after `start`, the text of what comes before the place, is what is listed at the place
+-- the text of what comes before the place is `start`, and after it stands what is listed at the place
 abbrev pub HasListedAt : WrittenSoFar → List ℕ → Place → Mode → Type 0
 HasListedAt w start place m = HasListedBy w.synced w start place m
 
--- what is written is what was listed, after the listings before: ended sessions, and then the place
+-- what is written are the listings before, and then what is listed of these ended sessions and this place
 abbrev pub HasListed : WrittenSoFar → List ℕ → List Session → Place → Mode → Type 0
 HasListed w before sessions place m = HasListedAt w (before ++ flat_map session_text sessions) place m
 
@@ -95,7 +95,7 @@ pub record HasListedAll (w : WrittenSoFar) (before : List ℕ) (sessions : List 
   pub listed : HasListed w before sessions place mode
   pub not_due : mode ≡ Mode.Due → ⊥
 
--- a run was listed: what is written before it becomes what is written after it, for each reading to which it is added
+-- the run was listed: where a reading was listed before it, the reading with what the run adds is listed after it
 abbrev pub WritesRun : Cut → WrittenSoFar → WrittenSoFar → Type 0
 WritesRun run w w2 =
     (before bytes : List ℕ) (sessions new_sessions : List Session) (place new_place : Place) (old new : Mode)

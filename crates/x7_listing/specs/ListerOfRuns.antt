@@ -7,7 +7,7 @@ use Rattle.x7_packets.specs.declared.stream.Run.TheVariants as run
 use Rattle.x7_listing.specs.Lister.{Finished, ListerState, TakerStandsFor}
 
 -- what a lister of runs has listed: the texts given before its own, the listings before, the bytes of the runs, and
--- what a cutter is at after them
+-- where a cutter stands after them
 pub record RunsListed : Type 0 where
   pub given : List ℕ
   pub before : List ℕ

@@ -59,14 +59,14 @@ gap_written gap text = written_of false gap.in_line (take gap.count gap.held) te
 abbrev pub GapGoesOn : WrittenSoFar → WrittenSoFar → List ℕ → Type 0
 GapGoesOn old new more = (given start gap : List ℕ) → GapListed (given ++ old.text) start old.in_line old.held gap → GapListed (given ++ new.text) start new.in_line new.held (gap ++ more)
 
--- the text is the whole listing: what is written, what is held, and these bytes of no whole word at the end; so after
--- whatever texts were given
+-- with this text a listing is whole, whatever texts were given before: it is what is written, then what is held, and
+-- these bytes of no whole word at the end
 abbrev pub EndsWith : WrittenSoFar → List ℕ → List ℕ → Type 0
 EndsWith w kept text = (given before : List ℕ) (sessions : List Session) (place : Place)
     → HasListedAll (written_of w.synced w.in_line w.held (given ++ w.text)) before sessions place → kept ≡ tail_of place → given ++ text ≡ before ++ reading_text sessions place
 
--- the text is the whole listing: what is written, and what is held, which in a session are the bytes of no whole word
--- at the end; so after whatever texts were given
+-- with this text a listing is whole, whatever texts were given before: it is what is written, and then what is held,
+-- which in a session are the bytes of no whole word at the end
 abbrev pub EndsHeld : WrittenSoFar → List ℕ → Type 0
 EndsHeld w text = (given before : List ℕ) (sessions : List Session) (place : Place)
     → HasListedAll (written_of w.synced w.in_line w.held (given ++ w.text)) before sessions place → (w.synced ≡ true → w.held ≡ tail_of place)

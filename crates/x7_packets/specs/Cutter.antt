@@ -17,7 +17,7 @@ use Rattle.x7_packets.specs.Mode.{Mode}
 use Rattle.x7_packets.specs.declared.cutter.Cut.{Cut}
 use Rattle.x7_packets.specs.declared.cutter.Cut.TheVariants.{Need, Skip, Sync, Head, Word, Body}
 
--- a cutter: what it is at, its matcher and machine, and the bytes of no whole word that it keeps
+-- a cutter: where it stands in a stream, its matcher and machine, and the bytes of no whole word that it keeps
 pub record CutterState : Type 0 where
   pub mode : Mode
   pub matcher : LastThree
@@ -94,8 +94,8 @@ Adds (Body register bytes) sessions (Synced gap packets tail) new_sessions new =
 abbrev pub IsNotDue : Mode → Type 0
 IsNotDue mode = mode ≡ Mode.Due → ⊥
 
--- how a run and what the cutter is at before and after it go together: the sync word is
--- due just after it came, and given at once
+-- how a run goes with where the cutter stands before and after it: the sync word is due just after its last byte came,
+-- and is given at once
 abbrev pub ChangesMode : Cut → Mode → Mode → Place → Type 0
 ChangesMode Need old new place = IsNotDue old × IsNotDue new
 ChangesMode (Skip bytes) old new (Searching gap) = Unit {0}
@@ -137,7 +137,7 @@ abbrev pub IsNeed : Cut → Type 0
 IsNeed Need = Unit {0}
 IsNeed _ = ⊥
 
--- a cutter that is at this keeps no byte: only in a session does it keep some
+-- a cutter that stands here keeps no byte: only in a session does it keep some
 abbrev pub KeepsNone : Mode → Type 0
 KeepsNone Mode.Searching = Unit {0}
 KeepsNone Mode.Due = Unit {0}

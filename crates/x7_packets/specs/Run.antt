@@ -41,7 +41,7 @@ abbrev pub FitsRun : Run → Type 0
 FitsRun (run.Tail bytes) = (0 < length bytes.now) × (length bytes.now < 4)
 FitsRun r = IsRun (cut_of r)
 
--- the run is what comes next after these bytes; `old` and `new` say what the cutter is at before and after it
+-- the run is what comes next after these bytes; `old` and `new` say where the cutter stands before and after it
 pub record IsNext (bytes : List ℕ) (old : Mode) (r : Run) (new : Mode) : Type 0 where
   pub sessions : List Session
   pub place : Place

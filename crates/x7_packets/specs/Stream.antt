@@ -134,8 +134,8 @@ pub record MayCall (p : PacketsState) (input : InputsState) : Type 0 where
   pub end : p.done ≡ true → AtEnd input.rest
   pub count : p.taken ≤ 2 ^ 63
 
--- what a call makes of the input, and of an earlier failure: the input stays one and is selected after a run; the call
--- fails where a read failed in it or an earlier call failed, and then always
+-- what holds of the inputs and of a call's result: an input is still selected after a run, and the call fails only
+-- where a read failed in it or an earlier call failed; after an earlier failure it always fails
 pub record CallsOn {T : Type 0} (p : PacketsState) (old new : InputsState) (result : Result T Failed) : Type 0 where
   pub failed : OnErr result ((p.failed ≡ true) ⊎ InputsFail old new)
   pub selected : OnOk result (new.selected ≡ true)
@@ -153,6 +153,6 @@ abbrev pub EndsCall : PacketsState → PacketsState → Option (List ℕ) → Op
 EndsCall old new rest rest_now (Ok r) = GivesRun old new rest rest_now r
 EndsCall old new rest rest_now (Err e) = GivesUp old new
 
--- what the reader is when the run that it lends is given back
+-- the reader becomes, when the run that it lends is given back, one after a call with this result
 abbrev pub EndsNextCall : MutBor PacketsState → Option (List ℕ) → Option (List ℕ) → Result Run Failed → Fml
 EndsNextCall p rest rest_now result = Rests the_row p (λ new. EndsCall p.now new rest rest_now result)

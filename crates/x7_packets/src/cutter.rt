@@ -21,7 +21,7 @@ use crate::sync::{Matcher, near_sync};
 use std::marker::Model;
 use x7_words::word_of;
 
-/// What a cutter is at.
+/// Where a cutter stands in a stream.
 #[derive(Clone, Copy)]
 pub(crate) enum Stage {
     /// In a gap.
@@ -105,7 +105,7 @@ fn first_write(bytes: &[u8]) -> Option<(u8, u32)>
     Some((register, word_of(*word)))
 }
 
-/// What a cutter is at after a word of a session, which ended it or not.
+/// Where a cutter stands after a word of a session, which ended it or not.
 fn stage_after_word(ended: bool) -> Stage
     ensures { mode_of result ≡ (if ended then Mode.Searching else Mode.Synced) }
 {

@@ -1,5 +1,5 @@
-//! Laws of the definitions: what is read has one reading, which is found by hand, and
-//! its history grows with each run and byte.
+//! Laws of readings and histories: bytes have one reading, which is found by hand, and their history grows with each
+//! run and byte.
 ghost use Rattle.std.specs.Prelude.{◌≡◌, ℕ, ◌+◌, ◌*◌, ◌≤◌, ◌⊎◌, List, [], ◌∷◌, ◌++◌, false, length};
 ghost use Rattle.x7_words.specs.Word.{AreBytes, AreWords};
 ghost use Rattle.x7_packets.specs.ByHand.{AreOfOneSession, Reading, packets_of, reading_of};

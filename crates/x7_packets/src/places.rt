@@ -8,7 +8,7 @@ ghost use Rattle.x7_packets.specs.SyncWord.{sync_bytes};
 
 use std::simd::prelude::*;
 
-/// How many bytes 32 places of the sync word reach over.
+/// How many bytes the sync words at 32 places, one after the other, reach over: 32 and three more.
 pub(crate) const PLACES_REACH: usize = 35;
 
 /// The 32 bytes from `at` on.

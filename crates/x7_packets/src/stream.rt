@@ -1,4 +1,4 @@
-//! Packets over an input: its runs, one after another, lent out of one buffer.
+//! Packets over an input: its runs, one after another, lent out of one buffer (this project's choice).
 ghost use Rattle.std.specs.Prelude.{◌≡◌, ◌≢◌, ◌≤◌, ◌<◌, ◌+◌, ◌^◌, ◌⊎◌, ℕ, List, [], length, take, vec_len, true, false, IfNone, IfOk, IfSome, OnErr, OnOk};
 ghost use Rattle.x7_words.specs.Input.{AtEnd, InputsFail, InputsStay};
 ghost use Rattle.x7_packets.specs.Cutter.{IsNeed};

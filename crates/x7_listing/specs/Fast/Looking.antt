@@ -18,6 +18,6 @@ pub record Looks (text : List ℕ) (old new : Vec ℕ Global) (found : Option Wh
 pub record ReadsAtOnce (text : List ℕ) (old new : Vec ℕ Global) (taken : WholeLines) : Type 0 where
   pub takes : AppendsLines text (drop taken.size text) old.items new.items taken.count
   pub within : taken.size ≤ length text
-  pub few : taken.count ≤ taken.size
+  pub counted : taken.count ≤ taken.size
   pub limit : vec_len old ≤ asm_limit → vec_len new ≤ asm_limit
   pub room : HasRoomForLine old → HasRoomForLine new

@@ -21,7 +21,7 @@ use x7_regs::Reg;
 use x7_text::{put_bytes, put_close, put_word, put_words};
 use x7_words::word_of;
 
-/// How much room a call that lists a run asks for, besides three bytes for each byte of the run.
+/// How many bytes of room a call that lists a run asks for, besides three for each byte of the run.
 pub(crate) const CALL_ROOM: usize = 64;
 
 /// A pen at the start of a listing.

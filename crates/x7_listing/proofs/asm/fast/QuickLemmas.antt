@@ -44,7 +44,7 @@ takes_row l word row text old new a b f i e w r end h n =
     record {
       some = omega arith;
       within = omega (arith, h);
-      few = omega arith;
+      counted = omega arith;
       takes = record { lines = l ∷ []; fit = (f, tt); listed = (i, tt); text_is = is ∙ ap (λ t. t ++ drop (a + b + 1) text) (sym (append-nil (ended_text l))); appended = n ∙ ap (λ t. old ++ t) (sym (append-nil (line_bytes 0 l))); count_is = refl };
     }
 
@@ -119,7 +119,7 @@ takes_seen text first old new n size count e t =
     record {
       some = s.some;
       within = omega (arith, s.within, length-take n text);
-      few = s.few;
+      counted = s.counted;
       takes = record {
         lines = s.takes.lines;
         fit = s.takes.fit;

@@ -56,7 +56,7 @@ takes_two a b text old new size within f g e n =
     record {
       some = omega (arith, long);
       within = within;
-      few = long;
+      counted = long;
       takes = record {
         lines = a ∷ b ∷ [];
         fit = (f.0, (g.0, tt));

@@ -16,7 +16,7 @@ use x7_text::{prefix_of_hex, put};
 use x7_words::is_same;
 
 /// The lines of eight no-ops.
-const NOPS: &[u8; 32] = b"nop\nnop\nnop\nnop\nnop\nnop\nnop\nnop\n";
+const NOP_LINES: &[u8; 32] = b"nop\nnop\nnop\nnop\nnop\nnop\nnop\nnop\n";
 
 /// The bytes of eight no-ops.
 const NOP_BYTES: &[u8; 32] =
@@ -38,7 +38,7 @@ fn put_nops(out: &mut Vec<u8>, text: &[u8; LOOK_SIZE]) -> Option<WholeLines>
     requires room { HasRoomForLine out.old }
     ensures { Looks text.now out.old out.new result }
 {
-    if (differences(text, NOPS).trailing_zeros() as usize) < 32 {
+    if (differences(text, NOP_LINES).trailing_zeros() as usize) < 32 {
         return None;
     }
     put(out, NOP_BYTES);

@@ -31,7 +31,7 @@ const FREE_SIZE: usize = 256;
 const MOST_NOPS: usize = 32;
 
 /// The lines of as many no-ops as are put on a sheet at once.
-static NOPS: [[u8; 4]; MOST_NOPS] = [*b"nop\n"; MOST_NOPS];
+static NOP_LINES: [[u8; 4]; MOST_NOPS] = [*b"nop\n"; MOST_NOPS];
 
 /// Where the text on a sheet ends, and how many words stand in the open line then.
 #[derive(Clone, Copy)]
@@ -290,7 +290,7 @@ fn put_few_nops(
     let start = put_close(sheet, len, in_line.count);
     PutRun {
         in_line: OpenWords { count: 0 },
-        len: put_prefix(sheet, start, NOPS.as_flattened(), 4 * count),
+        len: put_prefix(sheet, start, NOP_LINES.as_flattened(), 4 * count),
         size: 4 * count,
     }
 }

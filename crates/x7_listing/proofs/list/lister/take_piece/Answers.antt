@@ -6,7 +6,7 @@ use Rattle.x7_listing.specs.Lister.{HasListedJust}
 use Rattle.x7_listing.specs.declared.list.pen.state.Pen.TheVariants.{Session}
 use Rattle.x7_listing.proofs.list.fast.AtOnceLemmas.{rest_length, seam}
 use Rattle.x7_listing.proofs.list.ListerLemmas.{goes_less, goes_out, one_due, run_length, listed_as, took, took_all}
-use Rattle.x7_listing.proofs.list.lister.take_all.Goals as goal
+use Rattle.x7_listing.proofs.list.lister.take_piece.Goals as goal
 
 pub loop-taken-init : goal.loop-taken-init
 loop-taken-init c = record {

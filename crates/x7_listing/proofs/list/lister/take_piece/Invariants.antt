@@ -1,7 +1,7 @@
 use Rattle.std.proofs.Common.{◌+◌, ◌-◌, ◌*◌, ◌≤◌, take, length, vec_len, vec_capacity}
 use Rattle.x7_packets.specs.Cutter.{calls_left}
 use Rattle.x7_listing.specs.Pens.{ListsMore, lister_with}
-use Rattle.x7_listing.proofs.list.lister.take_all.Given as goal
+use Rattle.x7_listing.proofs.list.lister.take_piece.Given as goal
 
 abbrev pub invariant-loop-taken : goal.invariant-loop-taken
 invariant-loop-taken l = record {
