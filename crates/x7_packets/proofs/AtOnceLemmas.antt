@@ -116,7 +116,7 @@ pub writes_one : (old new : CutterState) (bs : List ℕ) (register w : ℕ) → 
 writes_one old new bs register w is to matcher none none2 begins opens ends =
     let middle : CutterState = record { mode = Mode.Synced; matcher = old.matcher; machine = in_write register 1; kept = [] } in
     record {
-      between = middle;
+      middle = middle;
       range = begins.range;
       whole = begins.whole;
       bytes = begins.are;
@@ -157,7 +157,7 @@ writes_short old new bs head register count is to none none2 long fits e g range
     let after : AreBytes (drop 4 bs) = all_back (λ b. b < 256) (take 4 bs) (drop 4 bs) (subst AreBytes (sym (take-append-drop 4 bs)) fits) in
     let size : length (take (4 * count) (drop 4 bs)) ≡ 4 * count = length-take-le (4 * count) (drop 4 bs) (omega (arith, length-drop 4 bs, long, few)) in
     record {
-      between = middle;
+      middle = middle;
       range = range;
       other = other;
       some = some;
@@ -180,7 +180,7 @@ pub ends_gap : (old new : CutterState) (bs : List ℕ) (count : ℕ) → old.mod
 ends_gap old new bs count is to same none2 clear long fits near i =
     let middle : CutterState = record { mode = Mode.Due; matcher = old.matcher; machine = old.machine; kept = [] } in
     record {
-      between = middle;
+      middle = middle;
       near = near;
       long = long;
       found = up_to_sync bs count i.here;

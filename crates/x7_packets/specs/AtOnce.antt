@@ -37,41 +37,41 @@ pub record BeginsWrite (bytes : List ℕ) (register w : ℕ) : Type 0 where
   pub whole : 8 ≤ length bytes
   pub are : take 8 bytes ≡ bytes_of_word (type1_write register 1) ++ bytes_of_word w
 
--- a machine between the header of a type 1 write and its words
+-- a machine middle the header of a type 1 write and its words
 abbrev pub in_write : ℕ → ℕ → MachineState
 in_write register count = record { due = count; register = register; latest = Some register }
 
 -- the bytes begin with a write of one word; taken, the write is its header and then its word
 pub record WritesOne (old new : CutterState) (rest : List ℕ) (register w : ℕ) : Type 0 where
-  pub between : CutterState
+  pub middle : CutterState
   pub range : register < 32
   pub whole : 8 ≤ length rest
   pub bytes : take 8 rest ≡ bytes_of_word (type1_write register 1) ++ bytes_of_word w
-  pub head : TakesAsOneRun old between (bytes_of_word (type1_write register 1)) (Head (type1_write register 1) (Open register 1))
-  pub word : TakesAsOneRun between new (bytes_of_word w) (Word register w)
+  pub head : TakesAsOneRun old middle (bytes_of_word (type1_write register 1)) (Head (type1_write register 1) (Open register 1))
+  pub word : TakesAsOneRun middle new (bytes_of_word w) (Word register w)
   pub none_kept : new.kept ≡ []
 
 -- the bytes begin with a short write to a register other than CMD, of one word at least; taken,
 -- the write is its header and then its words
 pub record WritesShort (old new : CutterState) (rest : List ℕ) (register count : ℕ) : Type 0 where
-  pub between : CutterState
+  pub middle : CutterState
   pub range : register < 32
   pub other : register ≡ number_of Cmd → ⊥
   pub some : 0 < count
   pub few : count ≤ most_short_words
   pub long : longest_short_write ≤ length rest
   pub bytes : take 4 rest ≡ bytes_of_word (type1_write register count)
-  pub head : TakesAsOneRun old between (bytes_of_word (type1_write register count)) (Head (type1_write register count) (Open register count))
-  pub words : (run : Bor (List ℕ)) → run.now ≡ take (4 * count) (drop 4 rest) → TakesAsOneRun between new run.now (Body register run)
+  pub head : TakesAsOneRun old middle (bytes_of_word (type1_write register count)) (Head (type1_write register count) (Open register count))
+  pub words : (run : Bor (List ℕ)) → run.now ≡ take (4 * count) (drop 4 rest) → TakesAsOneRun middle new run.now (Body register run)
   pub none_kept : new.kept ≡ []
 
 -- the bytes begin with a gap and the sync word after it; the bytes of both are taken as
 -- one run, and then the sync word is given
 pub record EndsGap (old new : CutterState) (rest : List ℕ) (count : ℕ) : Type 0 where
-  pub between : CutterState
+  pub middle : CutterState
   pub near : count + 4 ≤ longest_gap_and_sync
   pub long : short_gap_room ≤ length rest
   pub found : take (count + 4) rest ≡ take count rest ++ sync_bytes
-  pub gap : (run : Bor (List ℕ)) → run.now ≡ take (count + 4) rest → TakesAsOneRun old between run.now (Skip run)
-  pub sync : TakesAsOneRun between new [] Sync
+  pub gap : (run : Bor (List ℕ)) → run.now ≡ take (count + 4) rest → TakesAsOneRun old middle run.now (Skip run)
+  pub sync : TakesAsOneRun middle new [] Sync
   pub none_kept : new.kept ≡ []

@@ -117,20 +117,20 @@ IsRun _ = Unit {0}
 -- where no byte is kept, a payload's whole words that lie in the piece are lent at once, all of one packet (one word of
 -- CMD); a word whose bytes lie in two pieces or more comes by itself
 abbrev pub IsLent : CutterState → ℕ → Cut → Type 0
-IsLent c left (Word register w) = 0 < length c.kept
-IsLent c left (Body register bytes) = (c.kept ≡ []) × (length bytes.now ≡ 4 * min (min c.machine.due (left / 4)) (if register == number_of Cmd then 1 else left / 4))
-IsLent c left _ = Unit {0}
+IsLent c bytes_left (Word register w) = 0 < length c.kept
+IsLent c bytes_left (Body register bytes) = (c.kept ≡ []) × (length bytes.now ≡ 4 * min (min c.machine.due (bytes_left / 4)) (if register == number_of Cmd then 1 else bytes_left / 4))
+IsLent c bytes_left _ = Unit {0}
 
 -- a gap's bytes are lent all, or up to the end of the sync word, which is then due to be given
 abbrev pub SkipsAll : CutterState → ℕ → Cut → Type 0
-SkipsAll new left (Skip bytes) = (new.mode ≡ Mode.Due) ⊎ (length bytes.now ≡ left)
-SkipsAll new left _ = Unit {0}
+SkipsAll new bytes_left (Skip bytes) = (new.mode ≡ Mode.Due) ⊎ (length bytes.now ≡ bytes_left)
+SkipsAll new bytes_left _ = Unit {0}
 
 -- a piece of which this many bytes are left completes no run, with the bytes that are kept before it
 abbrev pub CompletesNone : CutterState → Mode → ℕ → Type 0
-CompletesNone c Mode.Searching left = left ≡ 0
-CompletesNone c Mode.Due left = ⊥
-CompletesNone c Mode.Synced left = length c.kept + left < 4
+CompletesNone c Mode.Searching bytes_left = bytes_left ≡ 0
+CompletesNone c Mode.Due bytes_left = ⊥
+CompletesNone c Mode.Synced bytes_left = length c.kept + bytes_left < 4
 
 -- the call gave no run, and needs more bytes
 abbrev pub IsNeed : Cut → Type 0
@@ -167,12 +167,12 @@ pub record EndsWithWord (new : CutterState) (cut : Cut) : Type 0 where
 
 -- how many calls there are at most until a piece is used up, of which this many bytes are left
 abbrev pub calls_left : CutterState → ℕ → ℕ
-calls_left c left = 2 * left + syncs_due c.mode
+calls_left c bytes_left = 2 * bytes_left + syncs_due c.mode
 
 -- a call that needs more bytes has used the piece up; any other comes nearer to that
 abbrev pub ComesNearer : Cut → ℕ → ℕ → ℕ → Type 0
-ComesNearer Need left calls_before calls = left ≡ 0
-ComesNearer _ left calls_before calls = calls < calls_before
+ComesNearer Need bytes_left calls_before calls = bytes_left ≡ 0
+ComesNearer _ bytes_left calls_before calls = calls < calls_before
 
 -- the cutter after a call that gave this run: it stands for `bytes`, and the run added to the reading before
 pub record AfterRun (old new : CutterState) (bytes : List ℕ) (sessions : List Session) (place : Place) (run : Cut) : Type 0 where

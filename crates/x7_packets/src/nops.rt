@@ -5,8 +5,11 @@ ghost use Rattle.x7_packets.specs.Nops.{equal_bytes};
 use std::simd::prelude::*;
 use x7_words::{bytes_of, word_of};
 
-/// How many words a block of 32 bytes has.
+/// How many words a block has.
 const BLOCK_WORDS: usize = 8;
+
+/// How many bytes a block has.
+const BLOCK_BYTES: usize = 32;
 
 /// How many of the first words are `w`, one after the other, counted word by word.
 #[inline(always)]
@@ -66,10 +69,10 @@ pub(crate) fn count_equal(bytes: &[u8], w: u32) -> usize
     ensures within { 4 * result ≤ length bytes.now }
     ensures equal { take (4 * result) bytes.now ≡ equal_bytes w result }
 {
-    let near = count_words(&bytes[..bytes.len().min(32)], w);
+    let near = count_words(&bytes[..bytes.len().min(BLOCK_BYTES)], w);
     if near < BLOCK_WORDS {
         return near;
     }
     let blocks = count_blocks(bytes, w);
-    BLOCK_WORDS * blocks + count_words(&bytes[32 * blocks..], w)
+    BLOCK_WORDS * blocks + count_words(&bytes[BLOCK_BYTES * blocks..], w)
 }

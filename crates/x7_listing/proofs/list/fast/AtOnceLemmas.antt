@@ -150,11 +150,11 @@ write_listed c d synced s2 line l2 from register w held h2 text text2 given befo
     let D : List ℕ = open_words 0 (payload_steps register (w ∷ [])) in
     let head : List ℕ = bytes_of_word (type1_write register 1) in
     let next : List ℕ = text ++ (close from ++ H) in
-    let one : HasListedJust (lister_of x.between true 0 [] next) given before (bytes ++ head) =
-    took_run c x.between (Head (type1_write register 1) (Open register 1)) synced true line 0 held [] text next given before bytes head s x.head tt
+    let one : HasListedJust (lister_of x.middle true 0 [] next) given before (bytes ++ head) =
+    took_run c x.middle (Head (type1_write register 1) (Open register 1)) synced true line 0 held [] text next given before bytes head s x.head tt
     (by_head (Head (type1_write register 1) (Open register 1)) synced true line 0 from held [] given text next (type1_write register 1) (Open register 1) refl same refl refl refl) in
     let two : HasListedJust (lister_of d s2 l2 h2 text2) given before ((bytes ++ head) ++ bytes_of_word w) =
-    took_run x.between d (Word register w) true s2 0 l2 [] h2 next text2 given before (bytes ++ head) (bytes_of_word w) one x.word x.range
+    took_run x.middle d (Word register w) true s2 0 l2 [] h2 next text2 given before (bytes ++ head) (bytes_of_word w) one x.word x.range
     (by_word (Word register w) true s2 0 l2 0 [] h2 given next text2 register w refl (λ k. refl) e f (t ∙ sym (append_assoc text (close from ++ H) D))) in
     subst (HasListedJust (lister_of d s2 l2 h2 text2) given before) (append_assoc bytes head (bytes_of_word w) ∙ ap (λ k. bytes ++ k) (sym x.bytes)) two
 
@@ -170,11 +170,11 @@ short_listed c d synced s2 line l2 from register count held h2 text text2 given 
     let head : List ℕ = bytes_of_word (type1_write register count) in
     let next : List ℕ = text ++ (close from ++ text_of_head (Open register count) (type1_write register count)) in
     let D : List ℕ = open_words 0 (payload_steps register (words_of_bytes (take (4 * count) (drop 4 rest)))) in
-    let one : HasListedJust (lister_of x.between true 0 [] next) given before (bytes ++ bytes_of_word (type1_write register count)) =
-    took_run c x.between (Head (type1_write register count) (Open register count)) synced true line 0 held [] text next given before bytes (bytes_of_word (type1_write register count)) s x.head tt
+    let one : HasListedJust (lister_of x.middle true 0 [] next) given before (bytes ++ bytes_of_word (type1_write register count)) =
+    took_run c x.middle (Head (type1_write register count) (Open register count)) synced true line 0 held [] text next given before bytes (bytes_of_word (type1_write register count)) s x.head tt
     (by_head (Head (type1_write register count) (Open register count)) synced true line 0 from held [] given text next (type1_write register count) (Open register count) refl same refl refl refl) in
     let two : HasListedJust (lister_of d s2 l2 h2 text2) given before ((bytes ++ bytes_of_word (type1_write register count)) ++ take (4 * count) (drop 4 rest)) =
-    took_run x.between d (Body register run) true s2 0 l2 [] h2 next text2 given before (bytes ++ bytes_of_word (type1_write register count)) (take (4 * count) (drop 4 rest)) one (x.words run refl)
+    took_run x.middle d (Body register run) true s2 0 l2 [] h2 next text2 given before (bytes ++ bytes_of_word (type1_write register count)) (take (4 * count) (drop 4 rest)) one (x.words run refl)
     (x.range, omega (arith, size, x.some), omega (arith, size), λ k. absurd (x.other k))
     (by_body (Body register run) true s2 0 l2 0 [] h2 given next text2 register run refl (λ k. refl) e (f ∙ ap (λ (w : List ℕ). in_line_after_words 0 (payload_steps register w)) are)
     (t ∙ ap (λ (w : List ℕ). text ++ (close from ++ text_of_head (Open register count) (type1_write register count) ++ open_words 0 (payload_steps register w))) are ∙ sym (append_assoc text (close from ++ H) D))) in
@@ -195,11 +195,11 @@ gap_listed c d true s2 line l2 count held h2 text text2 given before bytes rest 
     let run : Bor (List ℕ) = record lent { now = take (count + 4) rest } in
     let size : length (take (count + 4) rest) ≡ count + 4 = length-take-le (count + 4) rest (omega (arith, x.long, x.near)) in
     let text1 : List ℕ = text ++ open_text 32 (codes "bytes ") hex_byte 0 (take count rest) in
-    let one : HasListedJust (lister_of x.between false (in_line_after 32 0 (take count rest)) sync_bytes text1) given before (bytes ++ take (count + 4) rest) =
-    took_run c x.between (Skip run) true false line (in_line_after 32 0 (take count rest)) held sync_bytes text text1 given before bytes (take (count + 4) rest) s (x.gap run refl) (omega (arith, size))
+    let one : HasListedJust (lister_of x.middle false (in_line_after 32 0 (take count rest)) sync_bytes text1) given before (bytes ++ take (count + 4) rest) =
+    took_run c x.middle (Skip run) true false line (in_line_after 32 0 (take count rest)) held sync_bytes text text1 given before bytes (take (count + 4) rest) s (x.gap run refl) (omega (arith, size))
     (by_skip (Skip run) run true false line 0 (in_line_after 32 0 (take count rest)) held [] sync_bytes given text text1 refl refl refl refl (λ given start gap g. gap_begun given text text1 start gap (take (count + 4) rest) (take count rest) x.found refl g)) in
     let two : HasListedJust (lister_of d s2 l2 h2 text2) given before ((bytes ++ take (count + 4) rest) ++ []) =
-    took_run x.between d Sync false s2 (in_line_after 32 0 (take count rest)) l2 sync_bytes h2 text1 text2 given before (bytes ++ take (count + 4) rest) [] one x.sync tt
+    took_run x.middle d Sync false s2 (in_line_after 32 0 (take count rest)) l2 sync_bytes h2 text1 text2 given before (bytes ++ take (count + 4) rest) [] one x.sync tt
     (by_sync Sync false s2 (in_line_after 32 0 (take count rest)) l2 (in_line_after 32 0 (take count rest)) sync_bytes h2 given text1 text2 refl (λ k. refl) e f
     (t ∙ ap (λ (k : List ℕ). text ++ (k ++ codes "sync\n")) (sym (bytes_closed (take count rest))) ∙ ap (λ (k : List ℕ). text ++ k) (append_assoc (open_text 32 (codes "bytes ") hex_byte 0 (take count rest)) (close (in_line_after 32 0 (take count rest))) (codes "sync\n"))
     ∙ sym (append_assoc text (open_text 32 (codes "bytes ") hex_byte 0 (take count rest)) (close (in_line_after 32 0 (take count rest)) ++ codes "sync\n")))) in
