@@ -37,7 +37,7 @@ pub record BeginsWrite (bytes : List ℕ) (register w : ℕ) : Type 0 where
   pub whole : 8 ≤ length bytes
   pub are : take 8 bytes ≡ bytes_of_word (type1_write register 1) ++ bytes_of_word w
 
--- a machine middle the header of a type 1 write and its words
+-- a machine between the header of a type 1 write and its words
 abbrev pub in_write : ℕ → ℕ → MachineState
 in_write register count = record { due = count; register = register; latest = Some register }
 
