@@ -25,8 +25,8 @@ abbrev pub gap_of : Place → List ℕ
 gap_of (Searching gap) = gap
 gap_of (Synced gap packets tail) = []
 
--- more bytes may follow those that end at this place: these end searching, and no sync word begins in them and ends in
--- more, since no gap is open or more begin with a dummy word
+-- the bytes `more` may follow bytes that end at this place: these end searching, and no sync word begins in them and
+-- ends in `more`, since no gap is open or `more` begins with a dummy word
 pub record MayFollow (place : Place) (more : List ℕ) : Type 0 where
   pub searching : is_synced place ≡ false
   pub apart : (gap_of place ≡ []) ⊎ BeginsWithDummy more
@@ -41,7 +41,7 @@ abbrev pub after_gap : List Session → List ℕ → List Session → Place → 
 after_gap before prefix [] place = record { sessions = before; place = gap_with prefix place }
 after_gap before prefix (s ∷ sessions) place = record { sessions = before ++ record { gap = prefix ++ s.gap; packets = s.packets } ∷ sessions; place = place }
 
--- a reading after one that ends searching
+-- the reading of bytes that end searching and of more bytes after them, by the reading of each
 abbrev pub after : Reading → Reading → Reading
 after first more = after_gap first.sessions (gap_of first.place) more.sessions more.place
 

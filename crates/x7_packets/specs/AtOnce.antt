@@ -41,7 +41,7 @@ pub record BeginsWrite (bytes : List ℕ) (register w : ℕ) : Type 0 where
 abbrev pub in_write : ℕ → ℕ → MachineState
 in_write register count = record { due = count; register = register; latest = Some register }
 
--- the bytes begin with a write of one word; taken, the write is its header and then its word
+-- the bytes begin with a write of one word, and the new cutter is the old one after the header and then the word
 pub record WritesOne (old new : CutterState) (rest : List ℕ) (register w : ℕ) : Type 0 where
   pub middle : CutterState
   pub range : register < 32
@@ -51,8 +51,8 @@ pub record WritesOne (old new : CutterState) (rest : List ℕ) (register w : ℕ
   pub word : TakesAsOneRun middle new (bytes_of_word w) (Word register w)
   pub none_kept : new.kept ≡ []
 
--- the bytes begin with a short write to a register other than CMD, of one word at least; taken,
--- the write is its header and then its words
+-- the bytes begin with a short write to a register other than CMD, of one word at least, and the new cutter is the old
+-- one after the header and then the words
 pub record WritesShort (old new : CutterState) (rest : List ℕ) (register count : ℕ) : Type 0 where
   pub middle : CutterState
   pub range : register < 32
@@ -65,8 +65,8 @@ pub record WritesShort (old new : CutterState) (rest : List ℕ) (register count
   pub words : (run : Bor (List ℕ)) → run.now ≡ take (4 * count) (drop 4 rest) → TakesAsOneRun middle new run.now (Body register run)
   pub none_kept : new.kept ≡ []
 
--- the bytes begin with a gap and the sync word after it; the bytes of both are taken as
--- one run, and then the sync word is given
+-- the bytes begin with a gap and the sync word after it, and the new cutter is the old one after the bytes of both as
+-- one run, and then the sync word
 pub record EndsGap (old new : CutterState) (rest : List ℕ) (count : ℕ) : Type 0 where
   pub middle : CutterState
   pub near : count + 4 ≤ longest_gap_and_sync
