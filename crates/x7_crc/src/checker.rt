@@ -118,8 +118,7 @@ fn after_run(state: CheckState, run: Cut) -> CheckState
     }
 }
 
-/// The check of the writes of a stream that comes piece by piece; no byte of a piece is kept but those of no whole
-/// word.
+/// Keeps the check of the writes of a stream that comes piece by piece, and at most three of its bytes.
 #[derive(Drop)]
 pub struct PieceChecker {
     cutter: Cutter,
@@ -161,7 +160,7 @@ impl PieceChecker {
     }
 }
 
-/// The check of the writes of a stream that is held whole and grows at its end: each byte is taken once.
+/// Keeps the check of the writes of a stream that its caller holds, and that grows at its end: each byte is taken once.
 #[derive(Drop)]
 pub struct Checker {
     pieces: PieceChecker,
