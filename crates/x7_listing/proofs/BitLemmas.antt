@@ -196,7 +196,7 @@ header_limit x k =
     omega (arith, counted 0x61 x.a after_a k.a, counted 0x62 x.b after_b k.b, counted 0x63 x.c after_c k.c, counted 0x64 x.d after_d k.d)
 
 pub header_short : (line bytes : List ℕ) → IsHeaderOf line bytes → length bytes ≤ longest_header
-header_short line bytes h = subst (λ b. length b ≤ longest_header) (sym h.bytes_are) (header_limit h.header h.held.have)
+header_short line bytes h = subst (λ b. length b ≤ longest_header) (sym h.bytes_are) (header_limit h.header h.fits.have)
 
 pub is_field : (bs : List ℕ) → AreBytes bs → length bs < 2 ^ 16 → IsField bs
 is_field bs a h = record { bytes = a; short = h }
