@@ -13,7 +13,7 @@ use Rattle.x7_packets.proofs.HistoryLemmas.{cut_enters, next_word_is}
 use Rattle.x7_crc.specs.RunningCheck.{in_order, running_check}
 use Rattle.x7_crc.specs.Check.{check_after, writes_to}
 use Rattle.x7_crc.proofs.CheckLemmas.{check_after_append, check_after_none, check_after_fits, check_of_more}
-use Rattle.x7_crc.specs.Checker.{steers_check, Checks, HasTaken, IsCheckState, CheckerState, Keeps}
+use Rattle.x7_crc.specs.Checker.{steers_check, Checks, HasTaken, IsCheckState, CheckerState, KeepsCheckOf}
 
 pub check_none : running_check [] ≡ 0
 check_none = check_after_none 0 (lit< tt)
@@ -67,9 +67,9 @@ took_all c d run check held at to bytes piece s h full is went =
     subst (λ t. Checks d check held (bytes ++ t)) (take_all to piece full) (took c d Need check held check held at to bytes piece s h went2 (λ g n t. t))
 
 -- the bytes after those taken are taken, and so all are
-pub caught_up : (c d : CheckerState) (bytes : List ℕ) → d.taken ≡ length bytes → Keeps c bytes
+pub caught_up : (c d : CheckerState) (bytes : List ℕ) → d.taken ≡ length bytes → KeepsCheckOf c bytes
     → ((bs : List ℕ) → HasTaken c.pieces bs → HasTaken d.pieces (bs ++ take (length bytes - c.taken) (drop c.taken bytes)))
-    → HasTaken d.pieces bytes × Keeps d bytes
+    → HasTaken d.pieces bytes × KeepsCheckOf d bytes
 caught_up c d bytes f k took =
     let rest : take (length bytes - c.taken) (drop c.taken bytes) ≡ drop c.taken bytes = take_all (length bytes - c.taken) (drop c.taken bytes) (omega (arith, length-drop c.taken bytes)) in
     let whole : take c.taken bytes ++ take (length bytes - c.taken) (drop c.taken bytes) ≡ bytes = ap (λ t. take c.taken bytes ++ t) rest ∙ take-append-drop c.taken bytes in
@@ -77,9 +77,9 @@ caught_up c d bytes f k took =
     (all, record { within = omega (arith, f); checks = subst (λ t. HasTaken d.pieces t) (sym (take_all d.taken bytes (omega (arith, f)))) all })
 
 -- a checker of some bytes is one of longer bytes that begin with them
-pub still_keeps : (c : CheckerState) (bytes more new : List ℕ) → new ≡ bytes ++ more → Keeps c bytes → Keeps c new
+pub still_keeps : (c : CheckerState) (bytes more new : List ℕ) → new ≡ bytes ++ more → KeepsCheckOf c bytes → KeepsCheckOf c new
 still_keeps c bytes more new e k =
-    subst (λ t. Keeps c t) (sym e) (record { within = omega (arith, k.within, length-append bytes more); checks = subst (λ t. HasTaken c.pieces t) (sym (take-append-le c.taken bytes more k.within)) k.checks })
+    subst (λ t. KeepsCheckOf c t) (sym e) (record { within = omega (arith, k.within, length-append bytes more); checks = subst (λ t. HasTaken c.pieces t) (sym (take-append-le c.taken bytes more k.within)) k.checks })
 
 -- a call that needs more bytes has used the piece up
 pub used_up : (run : Cut) (left before after : ℕ) → run ≡ Need → ComesNearer run left before after → left ≡ 0

@@ -4,7 +4,7 @@ use Rattle.std.proofs.Math.Nat.{pow-suc, mul-one, zero-mul, one-mul}
 use Rattle.std.specs.Int.Bits.{xor_assoc, xor_self, xor_zero_l, xor_zero_r}
 use Rattle.std.proofs.lemmas.Nat.{pow-add, pow_pos, mul-le, mul-add-lt, xor_comm, xor_shr, xor_mod, xor_block, xor_lt}
 use Rattle.std.proofs.lemmas.Bool.{cases_lt, cond_above, cond_below}
-use Rattle.x7_crc.specs.Polynomial.{digit, from_highest, product, IsRemainder, mirrored, remainder}
+use Rattle.x7_crc.specs.Polynomial.{coefficient, from_highest, product, IsRemainder, mirrored, remainder}
 
 -- ---- sums of polynomials
 
@@ -44,7 +44,7 @@ xor_above k a r h =
 
 -- ---- a mirrored number
 
--- a digit above a number of n bits
+-- a coefficient above a number of n bits
 digit_above : (n d r : ℕ) → d < 2 → r < 2 ^ n → d * 2 ^ n + r < 2 ^ suc n
 digit_above n d r hd hr =
     let two : 2 ^ suc n ≡ 2 ^ n * 2 = pow-suc 2 n in
@@ -81,13 +81,13 @@ pub mirrored_double : (n v : ℕ) → v < 2 ^ n → 2 * mirrored n v ≡ v % 2 *
 unfolding mirrored
 mirrored_double n v h = sym (mirrored_half n v h)
 
-pub digit_lt : (b : Bool) → digit b < 2
+pub digit_lt : (b : Bool) → coefficient b < 2
 digit_lt true = lit< tt
 digit_lt false = lit< tt
 
 pub from_highest_lt : (bits : List Bool) → from_highest bits < 2 ^ length bits
 from_highest_lt [] = lit< tt
-from_highest_lt (b ∷ bs) = digit_above (length bs) (digit b) (from_highest bs) (digit_lt b) (from_highest_lt bs)
+from_highest_lt (b ∷ bs) = digit_above (length bs) (coefficient b) (from_highest bs) (digit_lt b) (from_highest_lt bs)
 
 mirrored_parts : (n v : ℕ) → mirrored (suc n) v ≡ v % 2 * 2 ^ n + mirrored n (v / 2)
 unfolding mirrored
@@ -136,17 +136,17 @@ xor_same a b e =
     sym (xor_zero_r a) ∙ ap (λ x. bit_xor a x) (sym (xor_self b)) ∙ sym (xor_assoc a b b)
     ∙ ap (λ x. bit_xor x b) e ∙ xor_zero_l b
 
-scaled_pair : (p : ℕ) (b c : Bool) → (bit_xor (digit b * p) (digit c * p) ≡ 0) ⊎ (bit_xor (digit b * p) (digit c * p) ≡ p)
+scaled_pair : (p : ℕ) (b c : Bool) → (bit_xor (coefficient b * p) (coefficient c * p) ≡ 0) ⊎ (bit_xor (coefficient b * p) (coefficient c * p) ≡ p)
 scaled_pair p true true = inl (xor_self (1 * p))
 scaled_pair p true false = inr (ap (λ x. bit_xor (1 * p) x) (zero-mul p) ∙ xor_zero_r (1 * p) ∙ one-mul p)
 scaled_pair p false true = inr (ap (λ x. bit_xor x (1 * p)) (zero-mul p) ∙ xor_zero_l (1 * p) ∙ one-mul p)
 scaled_pair p false false = inl (xor_self (0 * p))
 
-scaled : (p : ℕ) (b : Bool) → (digit b * p ≡ 0) ⊎ (digit b * p ≡ p)
+scaled : (p : ℕ) (b : Bool) → (coefficient b * p ≡ 0) ⊎ (coefficient b * p ≡ p)
 scaled p true = inr (one-mul p)
 scaled p false = inl (zero-mul p)
 
--- what is high stays high below a higher digit
+-- what is high stays high below a higher coefficient
 stays_high : (d y : ℕ) → d < 2 ^ 33 → 2 ^ 32 ≤ y → 2 ^ 32 ≤ bit_xor d (2 * y)
 stays_high d y h k =
     let e : bit_xor d (2 * y) / 2 ^ 33 ≡ bit_xor (d / 2 ^ 33) (2 * y / 2 ^ 33) = xor_shr d (2 * y) 33 in
@@ -166,20 +166,20 @@ pub product_high : (p : ℕ) → 2 ^ 32 ≤ p → p < 2 ^ 33 → (q r : List Boo
     (bit_xor (product q p) (product r p) ≡ 0) ⊎ (2 ^ 32 ≤ bit_xor (product q p) (product r p))
 product_high p h k [] [] = inl refl
 product_high p h k [] (c ∷ r) =
-    let d = digit c * p in
+    let d = coefficient c * p in
     let a = product r p in
     let ih = product_high p h k [] r in
     let ih' : (a ≡ 0) ⊎ (2 ^ 32 ≤ a) = rw xor_zero_l at ih in
     rw (xor_zero_l (bit_xor d (2 * a))) (high_step p d a h k (scaled p c) ih')
 product_high p h k (b ∷ q) [] =
-    let d = digit b * p in
+    let d = coefficient b * p in
     let a = product q p in
     let ih = product_high p h k q [] in
     let ih' : (a ≡ 0) ⊎ (2 ^ 32 ≤ a) = rw xor_zero_r at ih in
     rw (xor_zero_r (bit_xor d (2 * a))) (high_step p d a h k (scaled p b) ih')
 product_high p h k (b ∷ q) (c ∷ r) =
-    rw (xor_swap (digit b * p) (2 * product q p) (digit c * p) (2 * product r p), xor_double (product q p) (product r p))
-    (high_step p (bit_xor (digit b * p) (digit c * p)) (bit_xor (product q p) (product r p)) h k (scaled_pair p b c)
+    rw (xor_swap (coefficient b * p) (2 * product q p) (coefficient c * p) (2 * product r p), xor_double (product q p) (product r p))
+    (high_step p (bit_xor (coefficient b * p) (coefficient c * p)) (bit_xor (product q p) (product r p)) h k (scaled_pair p b c)
     (product_high p h k q r))
 
 pub one_remainder : (w p r s : ℕ) → 2 ^ 32 ≤ p → p < 2 ^ 33 → IsRemainder w p 32 r → IsRemainder w p 32 s → r ≡ s
@@ -242,7 +242,7 @@ more_of (suc n) p [] =
     (false ∷ r.0, ap (λ x. bit_xor x (2 * product r.0 p)) (zero-mul p) ∙ xor_zero_l (2 * product r.0 p) ∙ raised n p 0 (product r.0 p) r.1)
 more_of (suc n) p (b ∷ q) =
     let r = more_of n p q in
-    (b ∷ r.0, ap (λ x. bit_xor (digit b * p) x) (raised n p (product q p) (product r.0 p) r.1) ∙ xor_prefix (digit b * p) (p * 2 ^ suc n) (2 * product q p))
+    (b ∷ r.0, ap (λ x. bit_xor (coefficient b * p) x) (raised n p (product q p) (product r.0 p) r.1) ∙ xor_prefix (coefficient b * p) (p * 2 ^ suc n) (2 * product q p))
 
 -- of two with the same highest coefficient the sum has none there
 top_goes : (m a b : ℕ) → 2 ^ m ≤ a → a < 2 ^ suc m → 2 ^ m ≤ b → b < 2 ^ suc m → bit_xor a b < 2 ^ m

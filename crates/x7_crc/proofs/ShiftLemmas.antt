@@ -3,16 +3,16 @@ use Rattle.std.proofs.Common.{◌≡◌, ◌==◌, ℕ, zero, suc, ◌+◌, ◌*
 use Rattle.std.proofs.Math.Nat.{pow-suc, add-zero, zero-add, mul-one, zero-mul, mul_comm, mul_assoc}
 use Rattle.std.specs.Int.Bits.{xor_assoc, xor_self, xor_zero_l, xor_zero_r}
 use Rattle.std.proofs.lemmas.Nat.{pow-add, pow_pos, mul-add-lt, xor_comm, xor_shr, xor_mod, xor_block, xor_lt}
-use Rattle.x7_crc.specs.Polynomial.{digit, from_highest, product, IsRemainder, mirrored, remainder}
+use Rattle.x7_crc.specs.Polynomial.{coefficient, from_highest, product, IsRemainder, mirrored, remainder}
 use Rattle.x7_crc.specs.Check.{generator, low_bits, dividend}
 use Rattle.x7_crc.specs.ShiftRegister.{shifted_one, shifted_all, advanced}
 use Rattle.x7_crc.proofs.PolynomialLemmas.{digit_cases, digit_lt, from_highest_lt, mirrored_twice, mirrored_double, mirrored_lt, mirrored_xor, one_remainder, remainder_is, xor_above, xor_double, xor_shl, xor_swap}
 
--- whether a digit is 1
+-- whether a coefficient is 1
 abbrev pub is_one : ℕ → Bool
 is_one d = d == 1
 
-pub digit_is_one : (d : ℕ) → d < 2 → digit (is_one d) ≡ d
+pub digit_is_one : (d : ℕ) → d < 2 → coefficient (is_one d) ≡ d
 digit_is_one d h =
     let cases : (d ≡ 0) ⊎ (d ≡ 1) = digit_cases d h in
     elim cases [ inl e ↦ rw e refl | inr e ↦ rw e refl ]
@@ -29,18 +29,18 @@ generator_parts d m h hm =
 
 -- twice the check's polynomial, and the new bit, is a multiple of the generator and the next check
 pub step_divides : (v : ℕ) (b : Bool) → v < 2 ^ 32 →
-    bit_xor (2 * mirrored 32 v) (digit b * 2 ^ 32)
-    ≡ bit_xor (digit (is_one (bit_xor (v % 2) (digit b))) * generator) (mirrored 32 (shifted_one v b))
+    bit_xor (2 * mirrored 32 v) (coefficient b * 2 ^ 32)
+    ≡ bit_xor (coefficient (is_one (bit_xor (v % 2) (coefficient b))) * generator) (mirrored 32 (shifted_one v b))
 step_divides v b h =
-    let d = bit_xor (v % 2) (digit b) in
-    let small : d < 2 = xor_lt 1 (v % 2) (digit b) (omega arith) (digit_lt b) in
+    let d = bit_xor (v % 2) (coefficient b) in
+    let small : d < 2 = xor_lt 1 (v % 2) (coefficient b) (omega arith) (digit_lt b) in
     let m = mirrored 32 (v / 2) in
     let hm : m < 2 ^ 32 = mirrored_lt 32 (v / 2) in
-    let first : bit_xor (v % 2 * 2 ^ 32 + m) (digit b * 2 ^ 32 + 0) ≡ d * 2 ^ 32 + bit_xor m 0 =
-    xor_block 32 (v % 2) (digit b) m 0 hm (lit< tt) in
-    let left : bit_xor (2 * mirrored 32 v) (digit b * 2 ^ 32) ≡ d * 2 ^ 32 + m =
-    ap (λ x. bit_xor x (digit b * 2 ^ 32)) (mirrored_double 32 v h)
-    ∙ ap (λ x. bit_xor (v % 2 * 2 ^ 32 + m) x) (sym (add-zero (digit b * 2 ^ 32)))
+    let first : bit_xor (v % 2 * 2 ^ 32 + m) (coefficient b * 2 ^ 32 + 0) ≡ d * 2 ^ 32 + bit_xor m 0 =
+    xor_block 32 (v % 2) (coefficient b) m 0 hm (lit< tt) in
+    let left : bit_xor (2 * mirrored 32 v) (coefficient b * 2 ^ 32) ≡ d * 2 ^ 32 + m =
+    ap (λ x. bit_xor x (coefficient b * 2 ^ 32)) (mirrored_double 32 v h)
+    ∙ ap (λ x. bit_xor (v % 2 * 2 ^ 32 + m) x) (sym (add-zero (coefficient b * 2 ^ 32)))
     ∙ first ∙ ap (λ x. d * 2 ^ 32 + x) (xor_zero_r m) in
     let next : mirrored 32 (shifted_one v b) ≡ bit_xor m (mirrored 32 (d * 0x82F63B78)) =
     mirrored_xor 32 (v / 2) (d * 0x82F63B78) in
@@ -60,25 +60,25 @@ times_twice l p = omega arith
 times_swap : (a p q : ℕ) → a * p * q ≡ a * q * p
 times_swap a p q = mul_assoc a p q ∙ ap (λ x. a * x) (mul_comm p q) ∙ sym (mul_assoc a q p)
 
-pub joined_more : (l : ℕ) (b : Bool) (bs : List Bool) → joined l (b ∷ bs) ≡ joined (bit_xor (2 * l) (digit b * 2 ^ 32)) bs
+pub joined_more : (l : ℕ) (b : Bool) (bs : List Bool) → joined l (b ∷ bs) ≡ joined (bit_xor (2 * l) (coefficient b * 2 ^ 32)) bs
 joined_more l b bs =
     let n = length bs in
     let f = from_highest bs in
     let two : 2 ^ suc n ≡ 2 ^ n * 2 = pow-suc 2 n in
     let high : l * 2 ^ suc n ≡ 2 * l * 2 ^ n = ap (λ x. l * x) two ∙ times_twice l (2 ^ n) in
-    let low : (digit b * 2 ^ n + f) * 2 ^ 32 ≡ bit_xor (digit b * 2 ^ 32 * 2 ^ n) (f * 2 ^ 32) =
-    ap (λ x. x * 2 ^ 32) (sym (xor_above n (digit b) f (from_highest_lt bs)))
-    ∙ sym (xor_shl 32 (digit b * 2 ^ n) f)
-    ∙ ap (λ x. bit_xor x (f * 2 ^ 32)) (times_swap (digit b) (2 ^ n) (2 ^ 32)) in
-    ap (λ x. bit_xor x ((digit b * 2 ^ n + f) * 2 ^ 32)) high
+    let low : (coefficient b * 2 ^ n + f) * 2 ^ 32 ≡ bit_xor (coefficient b * 2 ^ 32 * 2 ^ n) (f * 2 ^ 32) =
+    ap (λ x. x * 2 ^ 32) (sym (xor_above n (coefficient b) f (from_highest_lt bs)))
+    ∙ sym (xor_shl 32 (coefficient b * 2 ^ n) f)
+    ∙ ap (λ x. bit_xor x (f * 2 ^ 32)) (times_swap (coefficient b) (2 ^ n) (2 ^ 32)) in
+    ap (λ x. bit_xor x ((coefficient b * 2 ^ n + f) * 2 ^ 32)) high
     ∙ ap (λ x. bit_xor (2 * l * 2 ^ n) x) low
-    ∙ sym (xor_assoc (2 * l * 2 ^ n) (digit b * 2 ^ 32 * 2 ^ n) (f * 2 ^ 32))
-    ∙ ap (λ x. bit_xor x (f * 2 ^ 32)) (xor_shl n (2 * l) (digit b * 2 ^ 32))
+    ∙ sym (xor_assoc (2 * l * 2 ^ n) (coefficient b * 2 ^ 32 * 2 ^ n) (f * 2 ^ 32))
+    ∙ ap (λ x. bit_xor x (f * 2 ^ 32)) (xor_shl n (2 * l) (coefficient b * 2 ^ 32))
 
 pub shifted_lt : (v : ℕ) (b : Bool) → v < 2 ^ 32 → shifted_one v b < 2 ^ 32
 shifted_lt v b h =
-    let d = bit_xor (v % 2) (digit b) in
-    let small : d < 2 = xor_lt 1 (v % 2) (digit b) (omega arith) (digit_lt b) in
+    let d = bit_xor (v % 2) (coefficient b) in
+    let small : d < 2 = xor_lt 1 (v % 2) (coefficient b) (omega arith) (digit_lt b) in
     xor_lt 32 (v / 2) (d * 0x82F63B78) (omega arith) (omega arith)
 
 one_more : (l p m b c n : ℕ) → l ≡ bit_xor p m → bit_xor (2 * m) b ≡ bit_xor c n →
@@ -95,9 +95,9 @@ pub divides : (bits : List Bool) (v l : ℕ) (q : List Bool) → v < 2 ^ 32 → 
     IsRemainder (joined l bits) generator 32 (mirrored 32 (shifted_all v bits))
 divides [] v l q h e = record { quotient = q; exact = ap (λ x. bit_xor x 0) (mul-one l) ∙ xor_zero_r l ∙ e; below = mirrored_lt 32 v }
 divides (b ∷ bs) v l q h e =
-    let c = is_one (bit_xor (v % 2) (digit b)) in
-    rw (joined_more l b bs) (divides bs (shifted_one v b) (bit_xor (2 * l) (digit b * 2 ^ 32)) (c ∷ q) (shifted_lt v b h)
-    (one_more l (product q generator) (mirrored 32 v) (digit b * 2 ^ 32) (digit c * generator) (mirrored 32 (shifted_one v b)) e (step_divides v b h)))
+    let c = is_one (bit_xor (v % 2) (coefficient b)) in
+    rw (joined_more l b bs) (divides bs (shifted_one v b) (bit_xor (2 * l) (coefficient b * 2 ^ 32)) (c ∷ q) (shifted_lt v b h)
+    (one_more l (product q generator) (mirrored 32 v) (coefficient b * 2 ^ 32) (coefficient c * generator) (mirrored 32 (shifted_one v b)) e (step_divides v b h)))
 
 pub shifted_all_lt : (v : ℕ) (bits : List Bool) → v < 2 ^ 32 → shifted_all v bits < 2 ^ 32
 shifted_all_lt v [] h = h
@@ -161,9 +161,9 @@ shifted_all_low zero v w h = let z : w ≡ 0 = omega arith in rw z (sym (xor_zer
 shifted_all_low (suc n) v w h =
     let two : 2 ^ suc n ≡ 2 ^ n * 2 = pow-suc 2 n in
     let b = is_one (w % 2) in
-    let d = bit_xor (v % 2) (digit b) * 0x82F63B78 in
+    let d = bit_xor (v % 2) (coefficient b) * 0x82F63B78 in
     let half : bit_xor v w / 2 ≡ bit_xor (v / 2) (w / 2) = xor_shr v w 1 in
-    let low : bit_xor v w % 2 ≡ bit_xor (v % 2) (digit b) = xor_mod v w 1 ∙ ap (λ x. bit_xor (v % 2) x) (sym (digit_is_one (w % 2) (omega arith))) in
+    let low : bit_xor v w % 2 ≡ bit_xor (v % 2) (coefficient b) = xor_mod v w 1 ∙ ap (λ x. bit_xor (v % 2) x) (sym (digit_is_one (w % 2) (omega arith))) in
     let e : one_step (bit_xor v w) ≡ bit_xor (shifted_one v b) (w / 2) =
     rw (half, low) (xor_assoc (v / 2) (w / 2) d ∙ ap (λ x. bit_xor (v / 2) x) (xor_comm (w / 2) d) ∙ sym (xor_assoc (v / 2) d (w / 2))) in
     shifted_all_low n (shifted_one v b) (w / 2) (omega arith) ∙ ap (advanced n) (sym e)

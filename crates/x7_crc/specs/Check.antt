@@ -17,8 +17,8 @@ unfoldable pub bits_of_write : ℕ → ℕ → List Bool
 bits_of_write register word = low_bits 32 word ++ low_bits 5 register
 
 -- how many bits a write has: the word's 32, and the register number's five
-abbrev pub bits_a_write : ℕ
-bits_a_write = 37
+abbrev pub bits_per_write : ℕ
+bits_per_write = 37
 
 -- the bits of writes, each the register's number and the word, in order
 abbrev pub bits_of_writes : List (ℕ × ℕ) → List Bool
@@ -35,15 +35,15 @@ unfoldable pub check_after : ℕ → List (ℕ × ℕ) → ℕ
 check_after before writes =
     mirrored 32 (remainder generator 32 (length (bits_of_writes writes)) (dividend before (bits_of_writes writes)))
 
--- a check is that of writes that begin with the check `before`, as the remainder of their bits
+-- `check` is the check of writes that begin with the check `before`: the remainder of their bits
 abbrev pub IsCheckAfter : ℕ → List (ℕ × ℕ) → ℕ → Type 0
 IsCheckAfter before writes check = IsRemainder (dividend before (bits_of_writes writes)) generator 32 (mirrored 32 check)
 
--- the check after one write more than `check` is of
+-- the check after one write more than those that `check` is the check of
 abbrev pub check_after_one : ℕ → ℕ → ℕ → ℕ
 check_after_one check register word = check_after check ((register, word) ∷ [])
 
--- the check of writes
+-- the check of writes, each the register's number and the word, in order: a check begins as 0
 abbrev pub check_of : List (ℕ × ℕ) → ℕ
 check_of writes = check_after 0 writes
 

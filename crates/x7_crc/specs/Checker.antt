@@ -12,12 +12,14 @@ use Rattle.x7_crc.specs.RunningCheck.{running_check}
 abbrev pub check_of_bytes : List ℕ → ℕ
 check_of_bytes bytes = running_check (history_of bytes)
 
--- what the check of further writes goes on from: the check of a history, and the command that CMD holds
+-- what the check of further writes goes on from: `check` is the running check of a history, and `held` the command that
+-- CMD holds after it
 pub record IsCheckState (check held : ℕ) (h : History) : Type 0 where
   pub check_is : check ≡ running_check h
   pub held_is : held ≡ command_held h
 
--- `check` and `held` are the check and the command held of the history of `bytes`, which the cutter took
+-- the cutter took these bytes, `check` is the running check of all their writes, and `held` the command that CMD holds
+-- after them
 pub record Checks (cutter : CutterState) (check held : ℕ) (bytes : List ℕ) : Type 0 where
   pub sessions : List Session
   pub place : Place
@@ -30,7 +32,7 @@ pub record PieceCheckerState : Type 0 where
   pub check : ℕ
   pub held : ℕ
 
--- a checker of pieces that has taken these bytes
+-- the checker of pieces has taken these bytes, and keeps their check
 abbrev pub HasTaken : PieceCheckerState → List ℕ → Type 0
 HasTaken c bytes = Checks c.cutter c.check c.held bytes
 
@@ -40,8 +42,8 @@ pub record CheckerState : Type 0 where
   -- how many bytes were taken
   pub taken : ℕ
 
--- a checker of these bytes, which has taken the first of them
-pub record Keeps (c : CheckerState) (bytes : List ℕ) : Type 0 where
+-- the checker keeps the check of the first of these bytes, which it has taken; the others are still to be taken
+pub record KeepsCheckOf (c : CheckerState) (bytes : List ℕ) : Type 0 where
   pub within : c.taken ≤ length bytes
   pub checks : HasTaken c.pieces (take c.taken bytes)
 

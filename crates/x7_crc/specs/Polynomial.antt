@@ -3,20 +3,20 @@
 use Rattle.std.specs.Prelude.{◌≡◌, ℕ, zero, suc, ◌+◌, ◌*◌, ◌/◌, ◌%◌, ◌^◌, ◌<◌, Bool, List, [], ◌∷◌, length, bit_xor, nat_lt, if◌then◌else◌}
 
 -- the coefficient that a bit stands for
-abbrev pub digit : Bool → ℕ
-digit b = if b then 1 else 0
+abbrev pub coefficient : Bool → ℕ
+coefficient b = if b then 1 else 0
 
 -- the polynomial of a list of coefficients, the highest first
 abbrev pub from_highest : List Bool → ℕ
 from_highest [] = 0
-from_highest (b ∷ bs) = digit b * 2 ^ length bs + from_highest bs
+from_highest (b ∷ bs) = coefficient b * 2 ^ length bs + from_highest bs
 
--- the product of a polynomial, by its coefficients from the lowest, and another
+-- the product of two polynomials, the first given by its coefficients from the lowest
 abbrev pub product : List Bool → ℕ → ℕ
 product [] p = 0
-product (b ∷ bs) p = bit_xor (digit b * p) (2 * product bs p)
+product (b ∷ bs) p = bit_xor (coefficient b * p) (2 * product bs p)
 
--- `rest` is the remainder of `whole` by a divisor of this degree
+-- `rest` is the remainder of the polynomial `whole` by a divisor of this degree: its own degree is below that
 pub record IsRemainder (whole divisor degree rest : ℕ) : Type 0 where
   pub quotient : List Bool
   pub exact : whole ≡ bit_xor (product quotient divisor) rest

@@ -8,20 +8,21 @@ use Rattle.x7_packets.specs.History.{command_held, executed_by, History, Write}
 use Rattle.x7_packets.specs.CheckedWrites.{RegisterWrite, clears, open_writes}
 use Rattle.x7_crc.specs.Check.{check_of}
 
--- writes that stand with the newest first, in the order in which they came
+-- writes that stand with the newest first, in the order in which they came, each as the check takes it: the register's
+-- number and the word
 abbrev pub in_order : List RegisterWrite → List (ℕ × ℕ)
 in_order [] = []
 in_order (write ∷ before) = in_order before ++ (write.register, write.word) ∷ []
 
--- the write goes on with the check: it does not clear it, and is none of LOUT
+-- a write after this history is one that the check is over: it does not clear the check, and is none of LOUT
 pub record Folds (h : History) (register word : ℕ) : Type 0 where
   pub goes_on : clears h (Write register word) ≡ false
   pub other : register ≢ number_of Lout
 
--- the running check of a history
+-- the running check of a history: that of its writes since the last access that cleared it
 abbrev pub running_check : History → ℕ
 running_check h = check_of (in_order (open_writes h))
 
--- the command that a word written after a history executes
+-- the command that a word, written to a register after this history, executes
 abbrev pub executed_after : History → Reg → ℕ → Option ℕ
 executed_after h register word = executed_by (command_held h) (Write (number_of register) word)

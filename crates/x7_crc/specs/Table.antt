@@ -2,12 +2,13 @@
 use Rattle.std.specs.Prelude.{ℕ, ◌==◌, ◌+◌, Bool, true, ◌&&◌, List, [], ◌∷◌, length}
 use Rattle.x7_crc.specs.ShiftRegister.{advanced}
 
--- a table's entries, from the `k`th on, are the checks after `n` bits of 0
-abbrev pub advances : ℕ → ℕ → List ℕ → Bool
-advances n k [] = true
-advances n k (x ∷ xs) = (x == advanced n k) && advances n (k + 1) xs
+-- the entries, the first of which is for the number `k`, are these numbers as checks after `n` bits of 0
+abbrev pub has_advances : ℕ → ℕ → List ℕ → Bool
+has_advances n k [] = true
+has_advances n k (x ∷ xs) = (x == advanced n k) && has_advances n (k + 1) xs
 
--- each table has 256 entries, the checks after `n` bits of 0, and after eight more in each table
-abbrev pub advance_all : ℕ → List (List ℕ) → Bool
-advance_all n [] = true
-advance_all n (t ∷ ts) = (length t == 256) && (advances n 0 t && advance_all (n + 8) ts)
+-- each table has 256 entries, those of the bytes from 0 up: the checks after `n` bits of 0 in the first table, and
+-- after eight more in each further one
+abbrev pub all_have_advances : ℕ → List (List ℕ) → Bool
+all_have_advances n [] = true
+all_have_advances n (t ∷ ts) = (length t == 256) && (has_advances n 0 t && all_have_advances (n + 8) ts)

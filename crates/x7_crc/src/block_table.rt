@@ -1,6 +1,6 @@
-//! The entries for four words at once: how far each byte of them moves the check, a table for each
-//! place of a byte. A write moves the check by 37 bits, so a byte of an earlier word is moved by 37
-//! bits more. Each entry is a computed fact.
+//! The tables for four words at once (this project's choice): the check of a byte after bits of 0, a table for each
+//! place of a byte. A write moves the check by 37 bits, so the lowest byte of the last word is moved by 37 bits, that
+//! of the word before by 74, and each higher byte of a word by eight bits fewer. Each entry is a computed fact.
 
 /// For each byte of the first of four words, the highest first, the check after 124 bits of 0, 132, 140 and 148.
 #[rattlefmt::skip]

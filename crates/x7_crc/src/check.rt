@@ -9,33 +9,33 @@ use x7_words::word_of;
 
 /// The check after one more write, of a word to the register with this number, for any check before it. A check begins
 /// as 0.
-pub fn fold(prev: u32, reg: u8, word: u32) -> u32
-    requires { reg < 32 }
-    ensures value { result ≡ check_after prev ((reg, word) ∷ []) }
-    ensures last { (writes : List (ℕ × ℕ)) → prev ≡ check_of writes → result ≡ check_of (writes ++ (reg, word) ∷ []) }
-    ensures linear { result ≡ check_after 0 ((reg, bit_xor word prev) ∷ []) }
+pub fn fold(before: u32, register: u8, word: u32) -> u32
+    requires { register < 32 }
+    ensures value { result ≡ check_after before ((register, word) ∷ []) }
+    ensures last { (writes : List (ℕ × ℕ)) → before ≡ check_of writes → result ≡ check_of (writes ++ (register, word) ∷ []) }
+    ensures linear { result ≡ check_after 0 ((register, bit_xor word before) ∷ []) }
 {
-    fold_by_tables(prev, reg, word)
+    fold_by_tables(before, register, word)
 }
 
 /// The check after writes of whole words to one register, in order, for any check before them.
-pub fn fold_slice(prev: u32, reg: u8, bytes: &[u8]) -> u32
-    requires register { reg < 32 }
+pub fn fold_slice(before: u32, register: u8, bytes: &[u8]) -> u32
+    requires register { register < 32 }
     requires whole { length bytes.now % 4 ≡ 0 }
-    ensures value { result ≡ check_after prev (writes_to reg (words_of_bytes bytes.now)) }
-    ensures last { (writes : List (ℕ × ℕ)) → prev ≡ check_of writes → result ≡ check_of (writes ++ writes_to reg (words_of_bytes bytes.now)) }
+    ensures value { result ≡ check_after before (writes_to register (words_of_bytes bytes.now)) }
+    ensures last { (writes : List (ℕ × ℕ)) → before ≡ check_of writes → result ≡ check_of (writes ++ writes_to register (words_of_bytes bytes.now)) }
 {
     let (blocks, rest) = bytes.as_chunks::<16>();
-    fold_words(fold_blocks(prev, reg, blocks), reg, rest)
+    fold_words(fold_blocks(before, register, blocks), register, rest)
 }
 
-/// The check after writes of blocks to one register, in order: a block is 16 bytes, four words.
-fn fold_blocks(prev: u32, reg: u8, blocks: &[[u8; 16]]) -> u32
-    requires register { reg < 32 }
-    ensures { result ≡ check_after prev (writes_to reg (flat_map words_of_bytes blocks.now)) }
+/// The check after writes of the words of blocks to one register, in order: a block is 16 bytes, four words.
+fn fold_blocks(before: u32, register: u8, blocks: &[[u8; 16]]) -> u32
+    requires register { register < 32 }
+    ensures { result ≡ check_after before (writes_to register (flat_map words_of_bytes blocks.now)) }
 {
-    let zeros = check_of_zeros(reg);
-    let mut folded = prev;
+    let zeros = check_of_zeros(register);
+    let mut folded = before;
     for block in blocks {
         let [first, second, third, last] = words_of(block);
         folded = fold_four(folded, zeros, first, second, third, last);
@@ -45,14 +45,14 @@ fn fold_blocks(prev: u32, reg: u8, blocks: &[[u8; 16]]) -> u32
 
 /// The check after writes of whole words to one register, four bytes each, taken word by word.
 #[tactic(auto, using(x7_words::proofs::WordLemmas::words_by_chunks))]
-fn fold_words(prev: u32, reg: u8, bytes: &[u8]) -> u32
-    requires { reg < 32 }
-    ensures { result ≡ check_after prev (writes_to reg (words_of_bytes bytes.now)) }
+fn fold_words(before: u32, register: u8, bytes: &[u8]) -> u32
+    requires { register < 32 }
+    ensures { result ≡ check_after before (writes_to register (words_of_bytes bytes.now)) }
 {
     let (words, _) = bytes.as_chunks::<4>();
-    let mut check = prev;
+    let mut check = before;
     for word in words {
-        check = fold_by_tables(check, reg, word_of(*word));
+        check = fold_by_tables(check, register, word_of(*word));
     }
     check
 }

@@ -5,7 +5,7 @@ ghost use Rattle.x7_regs.specs.Register.{number_of};
 ghost use Rattle.x7_packets.specs.Cutter.{IsRun, run_steps};
 ghost use Rattle.x7_packets.specs.History.{command_held, entered_all, entry, History, Write};
 ghost use Rattle.x7_packets.specs.Packet.{payload_steps};
-ghost use Rattle.x7_crc.specs.Checker.{check_of_bytes, IsCheckState, Checks, HasTaken, Keeps, steers_check};
+ghost use Rattle.x7_crc.specs.Checker.{check_of_bytes, IsCheckState, Checks, HasTaken, KeepsCheckOf, steers_check};
 
 use crate::check::{fold, fold_slice};
 use crate::written::{check_after_write, executed};
@@ -31,8 +31,8 @@ fn held_after(held: u8, reg: Reg, word: u32) -> u8
     }
 }
 
-/// The check state after a word written to a register that may steer the check.
-fn written(state: CheckState, reg: Reg, word: u32) -> CheckState
+/// The check state after a word written to a register to which a write may do more than lengthen the check.
+fn after_steering_word(state: CheckState, reg: Reg, word: u32) -> CheckState
     ensures { (h : History) (place : ℕ) → IsCheckState state.check state.held h → IsCheckState result.check result.held (entry (Write (number_of reg) word) place ∷ h) }
 {
     let executed = executed(state.held, reg, word);
@@ -42,15 +42,16 @@ fn written(state: CheckState, reg: Reg, word: u32) -> CheckState
     }
 }
 
-/// The check state after words written to a register that may steer the check, word by word.
-fn written_each(state: CheckState, reg: Reg, bytes: &[u8]) -> CheckState
+/// The check state after words written to a register to which a write may do more than lengthen the check, taken word
+/// by word: four bytes each.
+fn after_steering_words(state: CheckState, reg: Reg, bytes: &[u8]) -> CheckState
     requires whole { length bytes.now % 4 ≡ 0 }
-    ensures { (h : History) (n : ℕ) → IsCheckState state.check state.held h → IsCheckState result.check result.held (entered_all n (payload_steps (number_of reg) (words_of_bytes bytes.now)) h) }
+    ensures { (h : History) (place : ℕ) → IsCheckState state.check state.held h → IsCheckState result.check result.held (entered_all place (payload_steps (number_of reg) (words_of_bytes bytes.now)) h) }
 {
     let (words, _) = bytes.as_chunks::<4>();
     let mut now = state;
     for word in words {
-        now = written(now, reg, word_of(*word));
+        now = after_steering_word(now, reg, word_of(*word));
     }
     now
 }
@@ -66,7 +67,7 @@ fn steers_check(reg: Reg) -> bool
 }
 
 /// The register with this number, where a write to it may do more than lengthen the check.
-fn steering(register: u8) -> Option<Reg>
+fn steering_register(register: u8) -> Option<Reg>
     ensures some { IfSome result (λ reg. number_of reg ≡ register) }
     ensures none { IfNone result (steers_check register ≡ false) }
 {
@@ -76,48 +77,48 @@ fn steering(register: u8) -> Option<Reg>
     }
 }
 
-/// The check state after a word written to a register.
-fn written_one(state: CheckState, register: u8, word: u32) -> CheckState
+/// The check state after a word written to the register with this number.
+fn after_word(state: CheckState, register: u8, word: u32) -> CheckState
     requires { register < 32 }
     ensures { (h : History) (place : ℕ) → IsCheckState state.check state.held h → IsCheckState result.check result.held (entry (Write register word) place ∷ h) }
 {
-    let Some(reg) = steering(register) else {
+    let Some(reg) = steering_register(register) else {
         return CheckState {
             check: fold(state.check, register, word),
             held: state.held,
         };
     };
-    written(state, reg, word)
+    after_steering_word(state, reg, word)
 }
 
-/// The check state after words written to a register.
-fn written_all(state: CheckState, register: u8, bytes: &[u8]) -> CheckState
+/// The check state after words written to the register with this number, four bytes each.
+fn after_words(state: CheckState, register: u8, bytes: &[u8]) -> CheckState
     requires register { register < 32 }
     requires whole { length bytes.now % 4 ≡ 0 }
-    ensures { (h : History) (n : ℕ) → IsCheckState state.check state.held h → IsCheckState result.check result.held (entered_all n (payload_steps register (words_of_bytes bytes.now)) h) }
+    ensures { (h : History) (place : ℕ) → IsCheckState state.check state.held h → IsCheckState result.check result.held (entered_all place (payload_steps register (words_of_bytes bytes.now)) h) }
 {
-    let Some(reg) = steering(register) else {
+    let Some(reg) = steering_register(register) else {
         return CheckState {
             check: fold_slice(state.check, register, bytes),
             held: state.held,
         };
     };
-    written_each(state, reg, bytes)
+    after_steering_words(state, reg, bytes)
 }
 
-/// The check state after a run.
-fn after(state: CheckState, run: Cut) -> CheckState
+/// The check state after the words of a run.
+fn after_run(state: CheckState, run: Cut) -> CheckState
     requires { IsRun run }
-    ensures { (h : History) (n : ℕ) → IsCheckState state.check state.held h → IsCheckState result.check result.held (entered_all n (run_steps run.entry) h) }
+    ensures { (h : History) (place : ℕ) → IsCheckState state.check state.held h → IsCheckState result.check result.held (entered_all place (run_steps run.entry) h) }
 {
     match run {
-        Cut::Word(register, word) => written_one(state, register, word),
-        Cut::Body(register, bytes) => written_all(state, register, bytes),
+        Cut::Word(register, word) => after_word(state, register, word),
+        Cut::Body(register, bytes) => after_words(state, register, bytes),
         Cut::Need | Cut::Skip(_) | Cut::Sync | Cut::Head(..) => state,
     }
 }
 
-/// Keeps the check of bytes that come piece by piece, and holds none of the bytes.
+/// Keeps the check of the writes of a stream that comes piece by piece, and at most three of its bytes.
 #[derive(Drop)]
 pub struct PieceChecker {
     cutter: Cutter,
@@ -147,10 +148,10 @@ impl PieceChecker {
     pub fn take(&mut self, piece: &[u8])
         ensures { (bytes : List ℕ) → HasTaken self.old bytes → HasTaken self.new (bytes ++ piece.now) }
     {
-        self.state = take_all(&mut self.cutter, self.state, piece);
+        self.state = after_piece(&mut self.cutter, self.state, piece);
     }
 
-    /// The check of the bytes taken.
+    /// The running check of all writes of the bytes taken.
     pub fn check(&self) -> u32
         ensures kept { result ≡ self.now.check }
         ensures value { (bytes : List ℕ) → HasTaken self.now bytes → result ≡ check_of_bytes bytes }
@@ -159,7 +160,7 @@ impl PieceChecker {
     }
 }
 
-/// Keeps the check of bytes that grow at their end: each byte is taken once.
+/// Keeps the check of the writes of a stream that its caller holds, and that grows at its end: each byte is taken once.
 #[derive(Drop)]
 pub struct Checker {
     pieces: PieceChecker,
@@ -177,7 +178,7 @@ impl Model for Checker {
 impl Checker {
     /// A checker of no bytes.
     pub fn new() -> Checker
-        ensures { Keeps result [] }
+        ensures { KeepsCheckOf result [] }
     {
         Checker {
             pieces: PieceChecker::new(),
@@ -185,11 +186,11 @@ impl Checker {
         }
     }
 
-    /// The check of the bytes, which begin with those of the call before.
+    /// The running check of all writes of the bytes, which begin with those of the call before.
     pub fn check_of(&mut self, bytes: &[u8]) -> u32
-        requires { Keeps self.old bytes.now }
+        requires { KeepsCheckOf self.old bytes.now }
         ensures check { result ≡ check_of_bytes bytes.now }
-        ensures keeps { Keeps self.new bytes.now }
+        ensures keeps { KeepsCheckOf self.new bytes.now }
     {
         self.pieces.take(&bytes[self.taken..]);
         self.taken = bytes.len();
@@ -197,8 +198,8 @@ impl Checker {
     }
 }
 
-/// The check state after a whole piece.
-fn take_all(cutter: &mut Cutter, state: CheckState, piece: &[u8]) -> CheckState
+/// The check state after all runs of a piece, which the cutter takes.
+fn after_piece(cutter: &mut Cutter, state: CheckState, piece: &[u8]) -> CheckState
     ensures { (bytes : List ℕ) → Checks cutter.old state.check state.held bytes → Checks cutter.new result.check result.held (bytes ++ piece.now) }
 {
     let mut now = state;
@@ -208,6 +209,6 @@ fn take_all(cutter: &mut Cutter, state: CheckState, piece: &[u8]) -> CheckState
         if let Cut::Need = run {
             return now;
         }
-        now = after(now, run);
+        now = after_run(now, run);
     }
 }

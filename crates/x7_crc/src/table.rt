@@ -1,112 +1,114 @@
-//! The running check by tables: a word at once, and four words at once.
+//! The running check by tables (this project's choice): a word at once, and four words at once.
 ghost use Rattle.std.specs.Prelude.{◌≡◌, ◌<◌, ◌+◌, ◌*◌, IsTrue, [], ◌∷◌, ℕ};
-ghost use Rattle.x7_crc.specs.Table.{advance_all, advances};
-ghost use Rattle.x7_crc.specs.Check.{bits_a_write, check_after, writes_to};
+ghost use Rattle.x7_crc.specs.Table.{all_have_advances, has_advances};
+ghost use Rattle.x7_crc.specs.Check.{bits_per_write, check_after, writes_to};
 ghost use Rattle.x7_crc.specs.ShiftRegister.{advanced};
 
 use crate::block_table::{FIRST, LAST, SECOND, THIRD};
 
-/// The check of one write, as `fold`, by tables.
-pub(crate) fn fold_by_tables(prev: u32, reg: u8, word: u32) -> u32
-    requires { reg < 32 }
-    ensures { result ≡ check_after prev ((reg, word) ∷ []) }
+/// The check after one more write, of a word to the register with this number, by tables.
+pub(crate) fn fold_by_tables(before: u32, register: u8, word: u32) -> u32
+    requires { register < 32 }
+    ensures { result ≡ check_after before ((register, word) ∷ []) }
 {
-    advance_last(prev ^ word) ^ advance_register(reg)
+    advance_last(before ^ word) ^ advance_register(register)
 }
 
-/// The check of four writes of 0 to one register.
-pub(crate) fn check_of_zeros(reg: u8) -> u32
-    requires { reg < 32 }
-    ensures { result ≡ check_after 0 (writes_to reg (0 ∷ 0 ∷ 0 ∷ 0 ∷ [])) }
+/// The check, from 0 on, of four writes of 0 to the register with this number.
+pub(crate) fn check_of_zeros(register: u8) -> u32
+    requires { register < 32 }
+    ensures { result ≡ check_after 0 (writes_to register (0 ∷ 0 ∷ 0 ∷ 0 ∷ [])) }
 {
-    let two = fold_by_tables(fold_by_tables(0, reg, 0), reg, 0);
-    fold_by_tables(fold_by_tables(two, reg, 0), reg, 0)
+    let two = fold_by_tables(fold_by_tables(0, register, 0), register, 0);
+    fold_by_tables(fold_by_tables(two, register, 0), register, 0)
 }
 
-/// The check of four writes to the register that `zeros` is of.
+/// The check after four more writes to one register, where `zeros` is the check of four writes of 0 to it.
 pub(crate) fn fold_four(
-    prev: u32,
+    before: u32,
     zeros: u32,
     first: u32,
     second: u32,
     third: u32,
     last: u32,
 ) -> u32
-    ensures { (reg : ℕ) → reg < 32 → zeros ≡ check_after 0 (writes_to reg (0 ∷ 0 ∷ 0 ∷ 0 ∷ [])) → result ≡ check_after prev (writes_to reg (first ∷ second ∷ third ∷ last ∷ [])) }
+    ensures { (register : ℕ) → register < 32 → zeros ≡ check_after 0 (writes_to register (0 ∷ 0 ∷ 0 ∷ 0 ∷ [])) → result ≡ check_after before (writes_to register (first ∷ second ∷ third ∷ last ∷ [])) }
 {
-    // what doesn't wait for the check before comes first
+    // What doesn't wait for the check before comes first.
     let late = advance_second(second) ^ advance_third(third) ^ advance_last(last) ^ zeros;
-    advance_first(prev ^ first) ^ late
+    advance_first(before ^ first) ^ late
 }
 
-/// The check after the bits of four writes, all 0.
+/// A check after as many bits of 0 as four writes have.
 #[tactic(auto, unfolding(crate::specs::ShiftRegister::advanced))]
 fn advance_first(check: u32) -> u32
-    ensures { result ≡ advanced (4 * bits_a_write) check }
+    ensures { result ≡ advanced (4 * bits_per_write) check }
 {
     word_entries(&FIRST, 124, check)
 }
 
-/// The check after the bits of three writes, all 0.
+/// A check after as many bits of 0 as three writes have.
 #[tactic(auto, unfolding(crate::specs::ShiftRegister::advanced))]
 fn advance_second(check: u32) -> u32
-    ensures { result ≡ advanced (3 * bits_a_write) check }
+    ensures { result ≡ advanced (3 * bits_per_write) check }
 {
     word_entries(&SECOND, 87, check)
 }
 
-/// The check after the bits of two writes, all 0.
+/// A check after as many bits of 0 as two writes have.
 #[tactic(auto, unfolding(crate::specs::ShiftRegister::advanced))]
 fn advance_third(check: u32) -> u32
-    ensures { result ≡ advanced (2 * bits_a_write) check }
+    ensures { result ≡ advanced (2 * bits_per_write) check }
 {
     word_entries(&THIRD, 50, check)
 }
 
-/// The check after the bits of a write, all 0.
+/// A check after as many bits of 0 as one write has.
 #[tactic(auto, unfolding(crate::specs::ShiftRegister::advanced))]
 fn advance_last(check: u32) -> u32
-    ensures { result ≡ advanced bits_a_write check }
+    ensures { result ≡ advanced bits_per_write check }
 {
     word_entries(&LAST, 13, check)
 }
 
 /// The check after the five bits of a register's number, from 0 on.
 #[tactic(auto, unfolding(crate::specs::ShiftRegister::advanced))]
-fn advance_register(reg: u8) -> u32
-    requires { reg < 32 }
-    ensures { result ≡ advanced 5 reg }
+fn advance_register(register: u8) -> u32
+    requires { register < 32 }
+    ensures { result ≡ advanced 5 register }
 {
-    register_entry(&REGISTER, reg)
+    register_entry(&REGISTER, register)
 }
 
-/// The entries for the four bytes of a check, added. The tables are those after `bits` bits, and after eight more each.
+/// The check after `bit_count` bits of 0 and 24 more: the entries for its four bytes, added. The four tables are for
+/// the bytes from the highest down: after `bit_count` bits, and after eight more each.
 #[tactic(auto, using(crate::proofs::TableLemmas::four_entries))]
-fn word_entries(tables: &[[u32; 256]; 4], bits: u32, check: u32) -> u32
-    requires { IsTrue (advance_all bits tables.now) }
-    ensures { result ≡ advanced (bits + 24) check }
+fn word_entries(tables: &[[u32; 256]; 4], bit_count: u32, check: u32) -> u32
+    requires { IsTrue (all_have_advances bit_count tables.now) }
+    ensures { result ≡ advanced (bit_count + 24) check }
 {
-    let lowest = word_entry(tables, bits, 3, check & 0xFF);
-    let low = word_entry(tables, bits, 2, (check >> 8) & 0xFF);
-    let high = word_entry(tables, bits, 1, (check >> 16) & 0xFF);
-    lowest ^ (low ^ (high ^ word_entry(tables, bits, 0, check >> 24)))
+    let lowest = word_entry(tables, bit_count, 3, check & 0xFF);
+    let low = word_entry(tables, bit_count, 2, (check >> 8) & 0xFF);
+    let high = word_entry(tables, bit_count, 1, (check >> 16) & 0xFF);
+    lowest ^ (low ^ (high ^ word_entry(tables, bit_count, 0, check >> 24)))
 }
 
-/// The check after the bits of 0 of one table.
+/// The check of one byte, `index`, after the bits of 0 that one of four tables is for, by its number from 0: after
+/// `_bit_count` bits, and eight more for each table before it.
 #[tactic(auto, using(crate::proofs::TableLemmas::entry_in_all))]
-fn word_entry(tables: &[[u32; 256]; 4], _bits: u32, which: usize, index: u32) -> u32
-    requires tables { IsTrue (advance_all _bits tables.now) }
-    requires which { which < 4 }
+fn word_entry(tables: &[[u32; 256]; 4], _bit_count: u32, number: usize, index: u32) -> u32
+    requires tables { IsTrue (all_have_advances _bit_count tables.now) }
+    requires number { number < 4 }
     requires index { index < 256 }
-    ensures { result ≡ advanced (_bits + 8 * which) index }
+    ensures { result ≡ advanced (_bit_count + 8 * number) index }
 {
-    tables[which][index as usize]
+    tables[number][index as usize]
 }
 
-/// The check after five bits of 0, of five bits.
+/// The check of a number of five bits, `index`, after five bits of 0.
 #[tactic(auto, using(crate::proofs::TableLemmas::entry_at))]
 fn register_entry(table: &[u32; 32], index: u8) -> u32
-    requires table { IsTrue (advances 5 0 table.now) }
+    requires table { IsTrue (has_advances 5 0 table.now) }
     requires index { index < 32 }
     ensures { result ≡ advanced 5 index }
 {

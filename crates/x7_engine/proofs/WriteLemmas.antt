@@ -40,15 +40,15 @@ written_one : (c n : CutterState) (bytes rest : List ℕ) (register w : ℕ) →
 written_one c n bytes rest register w cutter one =
     let head : List ℕ = bytes_of_word (type1_write register 1) in
     let word : List ℕ = bytes_of_word w in
-    let first : AfterRun c one.between (bytes ++ head) cutter.sessions cutter.place (run.Head (type1_write register 1) (step.Open register 1)) = one.head bytes cutter.sessions cutter.place cutter.stands in
-    let next : AfterRun one.between n ((bytes ++ head) ++ word) first.new_sessions first.new_place (run.Word register w) = one.word (bytes ++ head) first.new_sessions first.new_place first.stands in
+    let first : AfterRun c one.middle (bytes ++ head) cutter.sessions cutter.place (run.Head (type1_write register 1) (step.Open register 1)) = one.head bytes cutter.sessions cutter.place cutter.stands in
+    let next : AfterRun one.middle n ((bytes ++ head) ++ word) first.new_sessions first.new_place (run.Word register w) = one.word (bytes ++ head) first.new_sessions first.new_place first.stands in
     let joined : (bytes ++ head) ++ word ≡ bytes ++ take 8 rest = append_assoc bytes head word ∙ ap (λ (t : List ℕ). bytes ++ t) (sym one.bytes) in
     let quiet : history_of (bytes ++ head) ≡ history_of bytes =
-    cut_enters c one.between bytes head cutter.sessions cutter.place (run.Head (type1_write register 1) (step.Open register 1)) (next_word cutter.sessions cutter.place) cutter.stands first (next_word_is bytes cutter.sessions cutter.place cutter.stands.reading) in
+    cut_enters c one.middle bytes head cutter.sessions cutter.place (run.Head (type1_write register 1) (step.Open register 1)) (next_word cutter.sessions cutter.place) cutter.stands first (next_word_is bytes cutter.sessions cutter.place cutter.stands.reading) in
     let from : ℕ = next_word first.new_sessions first.new_place in
-    let place : from + 4 ≡ length bytes + 8 = omega (arith, word_ends one.between n (bytes ++ head) word first.new_sessions first.new_place register w first.stands next, length-append bytes head) in
+    let place : from + 4 ≡ length bytes + 8 = omega (arith, word_ends one.middle n (bytes ++ head) word first.new_sessions first.new_place register w first.stands next, length-append bytes head) in
     let longer : history_of ((bytes ++ head) ++ word) ≡ entry (Write register w) (from + 4) ∷ history_of (bytes ++ head) =
-    cut_enters one.between n (bytes ++ head) word first.new_sessions first.new_place (run.Word register w) from first.stands next (next_word_is (bytes ++ head) first.new_sessions first.new_place first.stands.reading) in
+    cut_enters one.middle n (bytes ++ head) word first.new_sessions first.new_place (run.Word register w) from first.stands next (next_word_is (bytes ++ head) first.new_sessions first.new_place first.stands.reading) in
     record {
       cutter = record { sessions = next.new_sessions; place = next.new_place; stands = subst (λ (b : List ℕ). CutterStandsFor n b next.new_sessions next.new_place) joined next.stands };
       fits = subst AreBytes joined next.stands.reading.fits;

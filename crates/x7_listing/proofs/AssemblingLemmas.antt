@@ -7,7 +7,7 @@ use Rattle.x7_listing.specs.Assembly.{AreHeadedAsm, Assembles, assembled, Begins
 use Rattle.x7_listing.specs.Assembling.{asm_state, TextsAreRead, OpensText, LinesAreRead}
 use Rattle.x7_listing.specs.declared.assembler.AsmFault.TheVariants as fault
 use Rattle.x7_crc.specs.Checker.{check_of_bytes}
-use Rattle.x7_crc.specs.Checker.{CheckerState, Keeps}
+use Rattle.x7_crc.specs.Checker.{CheckerState, KeepsCheckOf}
 use Rattle.x7_listing.specs.Line.{Line, line_bytes, FitsLine, text_of}
 use Rattle.x7_text.specs.Reads.{Reads}
 
@@ -71,7 +71,7 @@ prefix_stays start a false t old new h r = (ap (take start) r.1, omega (arith, h
 pub close_ok : (all others : List (List ℕ)) (prefix out : List ℕ) (start first : ℕ) → start ≡ length prefix → OpensText all others prefix first → Assembles (67108864 - start) others (drop start out) → take start out ≡ prefix → AreHeadedAsm all (Ok out)
 close_ok all others prefix out start first n (inl h) a same = inl (record {
   header = h.header;
-  held = h.held;
+  fits = h.fits;
   others = others;
   texts = h.texts;
   follows = record {
@@ -91,7 +91,7 @@ close_bad all others prefix start first m n s (inl h) b e =
     let one : n ≡ m + 1 = omega (arith, e, h.count) in
     inl (record {
       header = h.header;
-      held = h.held;
+      fits = h.fits;
       others = others;
       texts = h.texts;
       follows = record { rest = Err (fault.Line m); lines = subst (λ (k : ℕ). IsFirstBadText (67108864 - k) others m) (s ∙ ap length h.prefix_is) b; outcome_is = ap (λ (k : ℕ). Err (fault.Line k)) one };
@@ -107,7 +107,7 @@ close_long all others prefix start first m n s (inl h) b e =
     let one : n ≡ m + 1 = omega (arith, e, h.count) in
     inl (record {
       header = h.header;
-      held = h.held;
+      fits = h.fits;
       others = others;
       texts = h.texts;
       follows = record { rest = Err (fault.TooLong m); lines = subst (λ (k : ℕ). PassesLimitAt (67108864 - k) others m) (s ∙ ap length h.prefix_is) b; outcome_is = ap (λ (k : ℕ). Err (fault.TooLong k)) one };
@@ -124,7 +124,7 @@ goes_whole all out start checker n g = close_ok all g.others (take start out) ou
 
 -- one line more is read: it is bad, passes the limit, or is taken
 module _ (line out mid new : List ℕ) (start n c : ℕ) (old-checker new-checker : CheckerState) (r : Bool) (same : mid ≡ out) (n-is : c ≡ n + 1)
-    (reads : Reads FitsLine text_of (line_bytes (check_of_bytes (drop start mid))) r line mid new) (keeps : Keeps new-checker (drop start new)) where
+    (reads : Reads FitsLine text_of (line_bytes (check_of_bytes (drop start mid))) r line mid new) (keeps : KeepsCheckOf new-checker (drop start new)) where
   module _ (all left : List (List ℕ)) (g : TextsAreRead all (line ∷ left) (asm_state out start old-checker n)) where
     got : Reads FitsLine text_of (line_bytes (check_of_bytes (drop start out))) r line out new
     got = subst (λ (m : List ℕ). Reads FitsLine text_of (line_bytes (check_of_bytes (drop start m))) r line m new) same reads

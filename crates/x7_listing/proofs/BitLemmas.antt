@@ -7,7 +7,7 @@ use Rattle.std.specs.Str.{bytes_eq}
 use Rattle.x7_words.specs.Word.{AreBytes, bytes_of_word}
 use Rattle.x7_header.specs.Header.{Contents, field_bytes, HaveHeader, header_bytes, Kind, longest_header}
 use Rattle.x7_text.specs.Digits.{hex_byte, hex_digit}
-use Rattle.x7_listing.specs.BitLine.{bit_text, field_text, has_no_space, IsCutAtSpace, IsField, IsHeaderOf, IsHeld}
+use Rattle.x7_listing.specs.BitLine.{bit_text, field_text, has_no_space, IsCutAtSpace, IsField, IsHeaderOf, FitsHeader}
 use Rattle.x7_listing.specs.Line.{Empty, IsLine, Line, text_of}
 use Rattle.x7_text.specs.DigitValue.{bytes_value}
 use Rattle.x7_listing.proofs.GuessLemmas.{after_space, digits_after_space, before_space, name_before_space, decimal_after, decimal_back, line_is}
@@ -64,7 +64,7 @@ contents a b c d n = record { a = a; b = b; c = c; d = d; data_length = n }
 same_contents : (x y : Contents) → x.a ≡ y.a → x.b ≡ y.b → x.c ≡ y.c → x.d ≡ y.d → x.data_length ≡ y.data_length → x ≡ y
 same_contents x y a b c d n = ap₂ (λ s t. contents s t x.c x.d x.data_length) a b ∙ ap₂ (λ s t. contents y.a y.b s t x.data_length) c d ∙ ap (λ k. contents y.a y.b y.c y.d k) n
 
-pub one_header : (x y : Contents) → IsHeld x → IsHeld y → bit_text x ≡ bit_text y → x ≡ y
+pub one_header : (x y : Contents) → FitsHeader x → FitsHeader y → bit_text x ≡ bit_text y → x ≡ y
 one_header x y h k e =
     let rest : field_texts x.a x.b x.c x.d x.data_length ≡ field_texts y.a y.b y.c y.d y.data_length = cc in
     let a = same_field x.a y.a (field_text x.b ++ 32 ∷ (field_text x.c ++ 32 ∷ with_count x.d x.data_length)) (field_text y.b ++ 32 ∷ (field_text y.c ++ 32 ∷ with_count y.d y.data_length)) h.a k.a rest in
@@ -85,7 +85,7 @@ header_by t =
     let d = after_space c in
     contents (field_guess (before_space t)) (field_guess (before_space b)) (field_guess (before_space c)) (field_guess (before_space d)) (decimal_after 0 (after_space d))
 
-header_back : (x : Contents) → IsHeld x → header_by (field_texts x.a x.b x.c x.d x.data_length) ≡ x
+header_back : (x : Contents) → FitsHeader x → header_by (field_texts x.a x.b x.c x.d x.data_length) ≡ x
 unfolding header_by
 header_back x h =
     let count = with_count x.d x.data_length in
@@ -100,7 +100,7 @@ header_back x h =
     (ap field d ∙ first_field x.d (decimal x.data_length) h.d) (ap (decimal_after 0) n ∙ decimal_back x.data_length (omega (arith, h.have.data_length)))
 
 -- the one header whose line a text may be
-pub header_is : (t : List ℕ) (x : Contents) → IsHeld x → t ≡ bit_text x → x ≡ header_by (drop 4 t)
+pub header_is : (t : List ℕ) (x : Contents) → FitsHeader x → t ≡ bit_text x → x ≡ header_by (drop 4 t)
 header_is t x h e = sym (ap (λ s. header_by (drop 4 s)) e ∙ header_back x h)
 
 -- a text that begins with the same field and space goes on alike
@@ -177,7 +177,7 @@ pub header_made : (line fields r1 r2 r3 digits : List ℕ) (x : Contents) (bytes
     → IsField x.c × (r2 ≡ field_text x.c ++ 32 ∷ r3) → IsField x.d × (r3 ≡ field_text x.d ++ 32 ∷ digits) → (x.data_length < 2 ^ 32) × (digits ≡ decimal x.data_length) → bytes ≡ header_bytes x → IsHeaderOf line bytes
 header_made line fields r1 r2 r3 digits x bytes e a b c d n is = record {
   header = x;
-  held = record { have = record { a = a.0.short; b = b.0.short; c = c.0.short; d = d.0.short; data_length = n.0 }; a = a.0.bytes; b = b.0.bytes; c = c.0.bytes; d = d.0.bytes };
+  fits = record { have = record { a = a.0.short; b = b.0.short; c = c.0.short; d = d.0.short; data_length = n.0 }; a = a.0.bytes; b = b.0.bytes; c = c.0.bytes; d = d.0.bytes };
   text = e ∙ ap (λ t. codes "bit " ++ t) (a.1 ∙ ap (λ t. field_text x.a ++ 32 ∷ t) (b.1 ∙ ap (λ t. field_text x.b ++ 32 ∷ t) (c.1 ∙ ap (λ t. field_text x.c ++ 32 ∷ t) (d.1 ∙ ap (λ t. field_text x.d ++ 32 ∷ t) n.1))));
   bytes_are = is;
 }
@@ -196,7 +196,7 @@ header_limit x k =
     omega (arith, counted 0x61 x.a after_a k.a, counted 0x62 x.b after_b k.b, counted 0x63 x.c after_c k.c, counted 0x64 x.d after_d k.d)
 
 pub header_short : (line bytes : List ℕ) → IsHeaderOf line bytes → length bytes ≤ longest_header
-header_short line bytes h = subst (λ b. length b ≤ longest_header) (sym h.bytes_are) (header_limit h.header h.held.have)
+header_short line bytes h = subst (λ b. length b ≤ longest_header) (sym h.bytes_are) (header_limit h.header h.fits.have)
 
 pub is_field : (bs : List ℕ) → AreBytes bs → length bs < 2 ^ 16 → IsField bs
 is_field bs a h = record { bytes = a; short = h }

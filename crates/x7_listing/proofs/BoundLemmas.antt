@@ -17,7 +17,7 @@ use Rattle.x7_packets.proofs.ByHandLemmas.{reading_is_found}
 use Rattle.x7_text.proofs.LineLemmas.{bytes_closed, open_text_append}
 use Rattle.x7_listing.specs.HeadLine.{command_line, line_of_head, text_of_head, line_text}
 use Rattle.x7_listing.specs.Listing.{listing_of, packet_text, place_text, session_text}
-use Rattle.x7_listing.specs.Lister.{GapListed, ListerStandsFor, ListerState, HasListedAt, TakerStandsFor, open_payload, word_next, open_session_word, open_words, words_place, written_of}
+use Rattle.x7_listing.specs.Lister.{GapListed, ListerStandsFor, ListerState, HasListedAt, TakerStandsFor, open_payload, in_line_after_word, open_session_word, open_words, in_line_after_words, written_of}
 use Rattle.x7_packets.specs.Mode.{Mode}
 use Rattle.x7_listing.specs.declared.line.head_line.HeadLine.{HeadLine}
 use Rattle.x7_listing.specs.declared.line.head_line.HeadLine.TheVariants as line
@@ -68,7 +68,7 @@ word_long i w (Bad x) = omega (arith, line_long (line_of_head (Bad x) w), length
 
 words_long : (i : ℕ) (ss : List (ℕ × Step)) → 4 * length ss ≤ length (open_words i ss)
 words_long i [] = omega arith
-words_long i (s ∷ ss) = omega (arith, words_long (word_next i s.1) ss, word_long i s.0 s.1, length-append (open_session_word i s.0 s.1) (open_words (word_next i s.1) ss))
+words_long i (s ∷ ss) = omega (arith, words_long (in_line_after_word i s.1) ss, word_long i s.0 s.1, length-append (open_session_word i s.0 s.1) (open_words (in_line_after_word i s.1) ss))
 
 four_each : (ws : List ℕ) → length (flat_map bytes_of_word ws) ≡ 4 * length ws
 four_each [] = refl
@@ -136,7 +136,7 @@ listed_long true line held all start place m t p = omega (arith, ap length (sure
 pub few_taken : (l : ListerState) (given before bytes : List ℕ) (due : Mode) → TakerStandsFor l given before bytes due → length before + length bytes ≤ length (given ++ l.text) + 4
 few_taken l given before bytes due t =
     let r = t.reading in
-    omega (arith, listed_long l.synced l.line l.held (given ++ l.text) (before ++ flat_map session_text t.sessions) t.at due t.listed r.ends, length-append before (flat_map session_text t.sessions), ap length r.joined, length-append (flat_map session_bytes t.sessions) (place_bytes t.at), sessions_long t.sessions r.each)
+    omega (arith, listed_long l.synced l.in_line l.held (given ++ l.text) (before ++ flat_map session_text t.sessions) t.at due t.listed r.ends, length-append before (flat_map session_text t.sessions), ap length r.joined, length-append (flat_map session_bytes t.sessions) (place_bytes t.at), sessions_long t.sessions r.each)
 
 -- ---- how little is held back
 
@@ -185,7 +185,7 @@ place_short (Synced gap packets tail) is =
     let over = session_closed None 0 packets is.1 in
     let sure : List ℕ = bytes_text gap ++ codes "sync\n" in
     let known : List ℕ = open_words 0 (flat_map stepped packets) in
-    let shut : List ℕ = close (words_place 0 (flat_map stepped packets)) in
+    let shut : List ℕ = close (in_line_after_words 0 (flat_map stepped packets)) in
     let text : length (place_text (Synced gap packets tail)) ≡ length ((sure ++ flat_map packet_text packets) ++ bytes_text tail) = refl in
     let all : length (sure_place (Synced gap packets tail)) ≡ length (sure ++ known) = refl in
     omega (
@@ -197,7 +197,7 @@ place_short (Synced gap packets tail) is =
       length-append sure known,
       ap length over,
       length-append known shut,
-      close_short (words_place 0 (flat_map stepped packets)),
+      close_short (in_line_after_words 0 (flat_map stepped packets)),
       ap length (bytes_closed tail),
       length-append (open_text 32 (codes "bytes ") hex_byte 0 tail) (close (in_line_after 32 0 tail)),
       close_short (in_line_after 32 0 tail),

@@ -8,7 +8,7 @@ use Rattle.std.specs.Str.{bytes_eq}
 use Rattle.x7_words.specs.Word.{AreBytes}
 use Rattle.x7_text.specs.Lines.{split}
 use Rattle.x7_header.specs.Header.{Contents, header_bytes}
-use Rattle.x7_listing.specs.BitLine.{bit_text, IsHeld}
+use Rattle.x7_listing.specs.BitLine.{bit_text, FitsHeader}
 use Rattle.x7_listing.specs.Line.{Line, Empty, Comment, Bytes, Sync, Nop, Write, Read, Write2, Read2, Word, Data, Cmd, Check, FitsLine, IsLine, text_of}
 use Rattle.x7_listing.specs.Assembly.{after_one_line, AreAsm, AreHeadedAsm, asm_limit, assembled, BeginsWithLines, HasNoHeaderLine, HasOutcome}
 use Rattle.x7_listing.specs.declared.assembler.AsmFault.{AsmFault}
@@ -84,10 +84,10 @@ FieldOr field = Decided ((length field < 2 ^ 16) × AreBytes field)
 field_or : (field : List ℕ) → FieldOr field
 field_or field = both_or (below_or (length field) (2 ^ 16)) (all_below_or 256 field)
 
-held_or : (x : Contents) → Decided (IsHeld x)
+held_or : (x : Contents) → Decided (FitsHeader x)
 held_or x = by (field_or x.a) (field_or x.b) (field_or x.c) (field_or x.d) (below_or x.data_length (2 ^ 32))
   where
-    by : FieldOr x.a → FieldOr x.b → FieldOr x.c → FieldOr x.d → Decided (x.data_length < 2 ^ 32) → Decided (IsHeld x)
+    by : FieldOr x.a → FieldOr x.b → FieldOr x.c → FieldOr x.d → Decided (x.data_length < 2 ^ 32) → Decided (FitsHeader x)
     by (inl a) (inl b) (inl c) (inl d) (inl n) = inl (record { have = record { a = a.0; b = b.0; c = c.0; d = d.0; data_length = n }; a = a.1; b = b.1; c = c.1; d = d.1 })
     by (inr a) b c d n = inr (λ h. a (h.have.a, h.a))
     by a (inr b) c d n = inr (λ h. b (h.have.b, h.b))
@@ -110,15 +110,15 @@ line_or t = line_by t (guess t) (line_is t)
 
 -- a text is that of a header, or of none
 HeaderOr : List ℕ → Type 0
-HeaderOr t = ((x : Contents) × IsHeld x × (t ≡ bit_text x)) ⊎ ((x : Contents) → IsHeld x → t ≡ bit_text x → ⊥)
+HeaderOr t = ((x : Contents) × FitsHeader x × (t ≡ bit_text x)) ⊎ ((x : Contents) → FitsHeader x → t ≡ bit_text x → ⊥)
 
-header_by_guess : (t : List ℕ) (g : Contents) → ((x : Contents) → IsHeld x → t ≡ bit_text x → x ≡ g) → HeaderOr t
+header_by_guess : (t : List ℕ) (g : Contents) → ((x : Contents) → FitsHeader x → t ≡ bit_text x → x ≡ g) → HeaderOr t
 unfolding HeaderOr
 header_by_guess t g only = by (held_or g) (texts_or t (bit_text g))
   where
-    by : Decided (IsHeld g) → Decided (t ≡ bit_text g) → HeaderOr t
+    by : Decided (FitsHeader g) → Decided (t ≡ bit_text g) → HeaderOr t
     by (inl h) (inl e) = inl (g, h, e)
-    by (inr n) e = inr (λ x h is. n (subst IsHeld (only x h is) h))
+    by (inr n) e = inr (λ x h is. n (subst FitsHeader (only x h is) h))
     by (inl f) (inr n) = inr (λ x h is. n (is ∙ ap bit_text (only x h is)))
 
 header_or : (t : List ℕ) → HeaderOr t
@@ -168,13 +168,13 @@ unfolding HeaderOr HasAsm
 headed [] = let o = has_asm asm_limit [] in (o.0, inr ((λ x others h e. cc), o.1))
 headed (t ∷ others) = by (header_or t)
   where
-    plain : ((x : Contents) → IsHeld x → t ≡ bit_text x → ⊥) → HasNoHeaderLine (t ∷ others)
+    plain : ((x : Contents) → FitsHeader x → t ≡ bit_text x → ⊥) → HasNoHeaderLine (t ∷ others)
     plain none x more h e = let first : t ≡ bit_text x = cc in none x h first
 
     by : HeaderOr t → (outcome : Result (List ℕ) AsmFault) × AreHeadedAsm (t ∷ others) outcome
     by (inl (x, h, e)) =
         let o = has_asm (asm_limit - length (header_bytes x)) others in
-        (after_one_line (header_bytes x) o.0, inl (record { header = x; held = h; others = others; texts = ap (λ s. s ∷ others) e; follows = record { rest = o.0; lines = o.1; outcome_is = refl } }))
+        (after_one_line (header_bytes x) o.0, inl (record { header = x; fits = h; others = others; texts = ap (λ s. s ∷ others) e; follows = record { rest = o.0; lines = o.1; outcome_is = refl } }))
     by (inr none) = let o = has_asm asm_limit (t ∷ others) in (o.0, inr (plain none, o.1))
 
 -- a text assembles to something

@@ -10,7 +10,7 @@ use Rattle.x7_regs.specs.declared.command.Command.{Command}
 use Rattle.x7_text.specs.Digits.{hex_byte, hex_word}
 use Rattle.x7_text.specs.Row.{spaced}
 use Rattle.x7_packets.specs.PacketWords.{type1_read, type1_write, type2_read, type2_write}
-use Rattle.x7_listing.specs.Line.{Line, Empty, Comment, Bytes, Sync, Nop, Write, Read, Write2, Read2, Word, Data, Cmd, Check, access_text, line_bytes, FitsLine, IsAccess, IsLine, IsPlain, text_of}
+use Rattle.x7_listing.specs.Line.{Line, Empty, Comment, Bytes, Sync, Nop, Write, Read, Write2, Read2, Word, Data, Cmd, Check, type1_text, line_bytes, FitsLine, IsType1, IsLine, IsPlain, text_of}
 use Rattle.x7_listing.specs.OneWord.{IsWordOf, PutsWord}
 use Rattle.x7_text.specs.Row.{IsByteRow, IsWordRow}
 use Rattle.x7_text.specs.Reads.{Reads}
@@ -51,11 +51,11 @@ module _ (check : ℕ) (b : Bool) (t rest old new : List ℕ) where
     pub cmd_line : t ≡ codes "cmd " ++ rest → IsWordOf (λ (c : Command). Unit {0}) command_name_of code_of rest found → Reads FitsLine text_of (line_bytes check) b t old new
     cmd_line e i = lift (λ (c : Command). Unit {0}) command_name_of (λ c. bytes_of_word (code_of c)) check (codes "cmd ") Cmd b t rest old new e (λ x h. h) (λ x h. h) (λ x. refl) (λ x. refl) (λ l i. (command_with (place_in command_names rest), line_is _ l i)) (found_read (λ (c : Command). Unit {0}) command_name_of code_of found b rest old new i put)
 
-    pub write_line : t ≡ codes "write " ++ rest → IsWordOf IsAccess access_text (λ (a : ℕ × ℕ). type1_write a.0 a.1) rest found → Reads FitsLine text_of (line_bytes check) b t old new
-    write_line e i = lift IsAccess access_text (λ (a : ℕ × ℕ). bytes_of_word (type1_write a.0 a.1)) check (codes "write ") (λ (a : ℕ × ℕ). Write a.0 a.1) b t rest old new e (λ x h. h) (λ x h. h) (λ x. refl) (λ x. refl) (λ l i. ((register_in rest, count_in rest), line_is _ l i)) (found_read IsAccess access_text (λ (a : ℕ × ℕ). type1_write a.0 a.1) found b rest old new i put)
+    pub write_line : t ≡ codes "write " ++ rest → IsWordOf IsType1 type1_text (λ (a : ℕ × ℕ). type1_write a.0 a.1) rest found → Reads FitsLine text_of (line_bytes check) b t old new
+    write_line e i = lift IsType1 type1_text (λ (a : ℕ × ℕ). bytes_of_word (type1_write a.0 a.1)) check (codes "write ") (λ (a : ℕ × ℕ). Write a.0 a.1) b t rest old new e (λ x h. h) (λ x h. h) (λ x. refl) (λ x. refl) (λ l i. ((register_in rest, count_in rest), line_is _ l i)) (found_read IsType1 type1_text (λ (a : ℕ × ℕ). type1_write a.0 a.1) found b rest old new i put)
 
-    pub read_line : t ≡ codes "read " ++ rest → IsWordOf IsAccess access_text (λ (a : ℕ × ℕ). type1_read a.0 a.1) rest found → Reads FitsLine text_of (line_bytes check) b t old new
-    read_line e i = lift IsAccess access_text (λ (a : ℕ × ℕ). bytes_of_word (type1_read a.0 a.1)) check (codes "read ") (λ (a : ℕ × ℕ). Read a.0 a.1) b t rest old new e (λ x h. h) (λ x h. h) (λ x. refl) (λ x. refl) (λ l i. ((register_in rest, count_in rest), line_is _ l i)) (found_read IsAccess access_text (λ (a : ℕ × ℕ). type1_read a.0 a.1) found b rest old new i put)
+    pub read_line : t ≡ codes "read " ++ rest → IsWordOf IsType1 type1_text (λ (a : ℕ × ℕ). type1_read a.0 a.1) rest found → Reads FitsLine text_of (line_bytes check) b t old new
+    read_line e i = lift IsType1 type1_text (λ (a : ℕ × ℕ). bytes_of_word (type1_read a.0 a.1)) check (codes "read ") (λ (a : ℕ × ℕ). Read a.0 a.1) b t rest old new e (λ x h. h) (λ x h. h) (λ x. refl) (λ x. refl) (λ l i. ((register_in rest, count_in rest), line_is _ l i)) (found_read IsType1 type1_text (λ (a : ℕ × ℕ). type1_read a.0 a.1) found b rest old new i put)
 
     pub write2_line : t ≡ codes "write2 " ++ rest → IsWordOf (λ n. n < 2 ^ 27) decimal type2_write rest found → Reads FitsLine text_of (line_bytes check) b t old new
     write2_line e i = lift (λ n. n < 2 ^ 27) decimal (λ n. bytes_of_word (type2_write n)) check (codes "write2 ") Write2 b t rest old new e (λ x h. h) (λ x h. h) (λ x. refl) (λ x. refl) (λ l i. (decimal_after 0 rest, line_is _ l i)) (found_read (λ n. n < 2 ^ 27) decimal type2_write found b rest old new i put)
@@ -75,8 +75,8 @@ only_plain t d b w c wr re w2 r2 co np (Comment text) h e = absurd (co text e)
 only_plain t d b w c wr re w2 r2 co np (Bytes bs) h e = absurd (b (flat_map hex_byte bs) e)
 only_plain t d b w c wr re w2 r2 co np Sync h e = tt
 only_plain t d b w c wr re w2 r2 co np Nop h e = absurd (np e)
-only_plain t d b w c wr re w2 r2 co np (Write n k) h e = absurd (wr (access_text (n, k)) e)
-only_plain t d b w c wr re w2 r2 co np (Read n k) h e = absurd (re (access_text (n, k)) e)
+only_plain t d b w c wr re w2 r2 co np (Write n k) h e = absurd (wr (type1_text (n, k)) e)
+only_plain t d b w c wr re w2 r2 co np (Read n k) h e = absurd (re (type1_text (n, k)) e)
 only_plain t d b w c wr re w2 r2 co np (Write2 k) h e = absurd (w2 (decimal k) e)
 only_plain t d b w c wr re w2 r2 co np (Read2 k) h e = absurd (r2 (decimal k) e)
 only_plain t d b w c wr re w2 r2 co np (Word x) h e = absurd (w (hex_word x) e)
@@ -103,8 +103,8 @@ pub plain_line : (check : ℕ) (b : Bool) (t old new : List ℕ) → ((l : Line)
 plain_line check true t old new only r = (r.0, plain_fits r.0 r.1, r.2, r.3)
 plain_line check false t old new only r = (λ l h e. r.0 l (only l h e) e, r.1)
 
-pub no_access : (t ds : List ℕ) (r : ℕ) → r < 32 → t ≡ reg_name r ++ 32 ∷ ds → ((n : ℕ) → n < 2048 → ds ≢ decimal n) → (a : ℕ × ℕ) → IsAccess a → t ≡ access_text a → ⊥
-no_access t ds r h e none a i k =
+pub no_type1 : (t ds : List ℕ) (r : ℕ) → r < 32 → t ≡ reg_name r ++ 32 ∷ ds → ((n : ℕ) → n < 2048 → ds ≢ decimal n) → (a : ℕ × ℕ) → IsType1 a → t ≡ type1_text a → ⊥
+no_type1 t ds r h e none a i k =
     none a.1 i.1 (sym (digits_after_space (reg_name r) ds (name_free r h)) ∙ ap after_space (sym e ∙ k) ∙ digits_after_space (reg_name a.0) (decimal a.1) (name_free a.0 i.0))
 
 pub two_words : (old first new a b word : List ℕ) → first ≡ old ++ a → new ≡ first ++ word → word ≡ b → new ≡ old ++ (a ++ b)

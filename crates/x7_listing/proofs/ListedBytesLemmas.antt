@@ -15,11 +15,11 @@ use Rattle.x7_packets.proofs.ByHandLemmas.{reading_is_found}
 use Rattle.x7_packets.proofs.UniqueLemmas.{each_fits}
 use Rattle.x7_text.specs.Row.{AreFullButLast, rows}
 use Rattle.x7_text.proofs.RowLemmas.{rows_full, rows_joined}
-use Rattle.x7_listing.specs.HeadLine.{best_line, line_of_head, line_word}
+use Rattle.x7_listing.specs.HeadLine.{best_line, line_of_head, line_word, line_as}
 use Rattle.x7_listing.specs.declared.line.head_line.HeadLine.{HeadLine}
 use Rattle.x7_listing.specs.declared.line.head_line.HeadLine.TheVariants as head
 use Rattle.x7_listing.specs.Line.{Line, Bytes, Sync, Data, line_bytes, cmd_line}
-use Rattle.x7_listing.specs.Listed.{gap_lines, line_as, listing_lines, packet_lines, packets_lines, payload_lines, place_lines, session_lines}
+use Rattle.x7_listing.specs.Listed.{gap_lines, listing_lines, packet_lines, packets_lines, payload_lines, place_lines, session_lines}
 use Rattle.x7_listing.proofs.line.LineTextLemmas.{Listed, IsLineOf, cmd_stands, is_eq}
 
 -- each is a line of a listing, and these are their bytes

@@ -7,12 +7,12 @@ use Rattle.x7_packets.specs.Packet.{Packet, named_by}
 use Rattle.x7_packets.specs.Reading.{Place, Searching, Synced, Session}
 use Rattle.x7_packets.specs.ByHand.{reading_of}
 use Rattle.x7_text.specs.Row.{bytes_text, data_text, rows}
-use Rattle.x7_listing.specs.HeadLine.{command_line, line_of_head, line_text}
+use Rattle.x7_listing.specs.HeadLine.{command_line, line_of_head, line_text, line_as}
 use Rattle.x7_listing.specs.Listing.{listing_of, packet_text, packets_text, place_text, session_text}
 use Rattle.x7_listing.specs.declared.line.head_line.HeadLine.{HeadLine}
 use Rattle.x7_listing.specs.declared.line.head_line.HeadLine.TheVariants as head
 use Rattle.x7_listing.specs.Line.{Line, Bytes, Data, Sync, cmd_line, ended_text, ended_texts}
-use Rattle.x7_listing.specs.Listed.{gap_lines, line_as, listing_lines, packet_lines, packets_lines, place_lines, session_lines}
+use Rattle.x7_listing.specs.Listed.{gap_lines, listing_lines, packet_lines, packets_lines, place_lines, session_lines}
 use Rattle.x7_listing.proofs.line.LineTextLemmas.{cmd_text}
 
 head_text : (h : HeadLine) → ended_text (line_as h) ≡ line_text h

@@ -26,11 +26,11 @@ use Rattle.x7_text.proofs.ReadRowLemmas.{length_spaced}
 use Rattle.x7_text.proofs.RowLemmas.{rows_full}
 use Rattle.x7_text.proofs.WholeLineLemmas.{length_hex_bytes}
 use Rattle.x7_listing.specs.BitLine.{bit_text, field_text}
-use Rattle.x7_listing.specs.HeadLine.{line_of_head}
+use Rattle.x7_listing.specs.HeadLine.{line_of_head, line_as}
 use Rattle.x7_listing.specs.declared.line.head_line.HeadLine.{HeadLine}
 use Rattle.x7_listing.specs.declared.line.head_line.HeadLine.TheVariants as head
 use Rattle.x7_listing.specs.Line.{Line, Bytes, Cmd, Comment, Check, Data, Empty, Nop, Read, Read2, Sync, Word, Write, Write2, line_bytes, FitsLine, cmd_line, ended_text, ended_texts}
-use Rattle.x7_listing.specs.Listed.{gap_lines, line_as, packet_lines, packets_lines, place_lines, session_lines}
+use Rattle.x7_listing.specs.Listed.{gap_lines, packet_lines, packets_lines, place_lines, session_lines}
 use Rattle.x7_listing.specs.Listing.{listing_of}
 use Rattle.x7_listing.specs.StreamListing.{listing_by, stream_listing}
 use Rattle.x7_listing.proofs.GuessLemmas.{each_holds, each_name}

@@ -143,11 +143,11 @@ same_headed texts a b h k =
     let parts : bit_text h.header ∷ h.others ≡ bit_text k.header ∷ k.others = sym h.texts ∙ k.texts in
     let text : bit_text h.header ≡ bit_text k.header = cc in
     let others : h.others ≡ k.others = cc in
-    let header : h.header ≡ k.header = one_header h.header k.header h.held k.held text in
+    let header : h.header ≡ k.header = one_header h.header k.header h.fits k.fits text in
     same_follows (header_bytes k.header) k.others a b (subst (λ (o : List (List ℕ)). Follows (header_bytes k.header) o a) others (subst (λ x. Follows (header_bytes x) h.others a) header h.follows)) k.follows
 
 not_headed : (texts : List (List ℕ)) (a : Result (List ℕ) AsmFault) → IsHeaded texts a → HasNoHeaderLine texts → ⊥
-not_headed texts a h k = k h.header h.others h.held h.texts
+not_headed texts a h k = k h.header h.others h.fits h.texts
 
 -- a text has one outcome
 pub one_outcome : (text : List ℕ) (a b : Result (List ℕ) AsmFault) → IsAsm text a → IsAsm text b → a ≡ b

@@ -17,7 +17,7 @@ use Rattle.x7_text.specs.Digits.{hex_byte}
 use Rattle.x7_text.specs.Row.{bytes_text, close, in_line_after, open_text}
 use Rattle.x7_text.proofs.LineLemmas.{bytes_closed, open_text_append}
 use Rattle.x7_listing.specs.Listing.{listing_of, packet_text, packets_text, place_text, session_text}
-use Rattle.x7_listing.specs.Lister.{GapListed, ListerStandsFor, ListerState, HasListedAt, words_place, open_words, written_of}
+use Rattle.x7_listing.specs.Lister.{GapListed, ListerStandsFor, ListerState, HasListedAt, in_line_after_words, open_words, written_of}
 use Rattle.x7_listing.proofs.SessionLemmas.{session_closed, open_words_append}
 
 -- the text of bytes in `bytes` lines, the last of which stays open unless it is full
@@ -114,11 +114,11 @@ words_more : (packets : List Packet) (w : ℕ) → IsPrefixOf (W packets) (W (pa
 words_more packets w =
     let ss : List (ℕ × Step) = flat_map stepped packets in
     let m : SteppedMore (packets_with_word packets w) packets w = stepped_more None packets w in
-    (open_words (words_place 0 ss) ((w, m.0) ∷ []), ap (open_words 0) m.1 ∙ open_words_append 0 ss ((w, m.0) ∷ []))
+    (open_words (in_line_after_words 0 ss) ((w, m.0) ∷ []), ap (open_words 0) m.1 ∙ open_words_append 0 ss ((w, m.0) ∷ []))
 
 -- the lines of packets begin with their words listed
 words_over : (packets : List Packet) → EachPacket None packets → IsPrefixOf (W packets) (flat_map packet_text packets)
-words_over packets each = (close (words_place 0 (flat_map stepped packets)), sym (session_closed None 0 packets each))
+words_over packets each = (close (in_line_after_words 0 (flat_map stepped packets)), sym (session_closed None 0 packets each))
 
 -- a session's words listed are a prefix of its lines
 pub session_over : (gap : List ℕ) (packets : List Packet) → EachPacket None packets → IsPrefixOf (sure_session gap packets) (packets_text gap packets)
@@ -240,7 +240,7 @@ pub listed_sure : (l : ListerState) (given bytes : List ℕ) → ListerStandsFor
 listed_sure l given bytes s =
     let t = s.has_listed in
     let e : (t.sessions ≡ (reading_of bytes).sessions) × (t.at ≡ (reading_of bytes).place) = reading_is bytes t.sessions t.at t.cut.reading in
-    place_sure l.synced l.line l.held (given ++ l.text) (flat_map session_text t.sessions) t.at l.cutter.mode s.ready t.listed
+    place_sure l.synced l.in_line l.held (given ++ l.text) (flat_map session_text t.sessions) t.at l.cutter.mode s.ready t.listed
     ∙ ap (λ x. flat_map session_text x ++ sure_place t.at) e.0 ∙ ap (λ x. flat_map session_text (reading_of bytes).sessions ++ sure_place x) e.1
 
 -- what a lister has listed of bytes is a prefix of the listing of those bytes with any further ones
@@ -252,7 +252,7 @@ listed_prefix l given bytes rest s f =
 
 -- what a lister has listed after other listings is the sure text of its bytes
 pub listed_after : (l : ListerState) (given before bytes : List ℕ) (s : ListerStandsFor l given before bytes) → given ++ l.text ≡ (before ++ flat_map session_text s.has_listed.sessions) ++ sure_place s.has_listed.at
-listed_after l given before bytes s = place_sure l.synced l.line l.held (given ++ l.text) (before ++ flat_map session_text s.has_listed.sessions) s.has_listed.at l.cutter.mode s.ready s.has_listed.listed
+listed_after l given before bytes s = place_sure l.synced l.in_line l.held (given ++ l.text) (before ++ flat_map session_text s.has_listed.sessions) s.has_listed.at l.cutter.mode s.ready s.has_listed.listed
 
 pub sure_after : (l : ListerState) (given before bytes : List ℕ) → ListerStandsFor l given before bytes → given ++ l.text ≡ before ++ sure_text bytes
 sure_after l given before bytes s =

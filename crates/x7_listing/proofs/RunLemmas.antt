@@ -11,7 +11,7 @@ use Rattle.x7_packets.specs.declared.cutter.Cut.{Cut}
 use Rattle.x7_packets.specs.declared.cutter.Cut.TheVariants.{Need, Skip, Sync, Head, Word, Body}
 use Rattle.x7_text.specs.Row.{close}
 use Rattle.x7_listing.specs.HeadLine.{text_of_head}
-use Rattle.x7_listing.specs.Lister.{GapListed, HasListed, words_place, open_words, WritesRun, WrittenSoFar, written_of}
+use Rattle.x7_listing.specs.Lister.{GapListed, HasListed, in_line_after_words, open_words, WritesRun, WrittenSoFar, written_of}
 use Rattle.x7_listing.proofs.TellingLemmas.{skip_listed, sync_listed, words_listed_at}
 use Rattle.x7_listing.proofs.SessionLemmas.{head_next, head_listed}
 
@@ -30,7 +30,7 @@ pub by_sync : (run : Cut) (synced s2 : Bool) (line l2 from : ℕ) (held h2 given
 by_sync run synced s2 line l2 from held h2 given old new is same e f t =
     let all2 : given ++ new ≡ given ++ old ++ close from ++ codes "sync\n" = ap (λ x. given ++ x) (t ∙ sym (append_assoc old (close from) (codes "sync\n"))) ∙ sym (append_assoc given (old ++ close from) (codes "sync\n")) ∙ ap (λ x. x ++ codes "sync\n") (sym (append_assoc given old (close from))) in
     as_run run Sync synced s2 line l2 held h2 (given ++ old) (given ++ new) is (synced_pen Sync synced s2 line l2 0 held h2 (given ++ old) (given ++ new) e f
-    (λ before bytes sessions new_sessions spot np o n listed adds turns is_run reading. sync_listed synced line held h2 (given ++ old) (given ++ new) before sessions new_sessions spot np o n listed adds turns
+    (λ before bytes sessions new_sessions spot np o n listed adds mode_changes is_run reading. sync_listed synced line held h2 (given ++ old) (given ++ new) before sessions new_sessions spot np o n listed adds mode_changes
     (λ s. all2 ∙ ap (λ (k : ℕ). given ++ old ++ close k ++ codes "sync\n") (same s))))
 
 not_payload : (w : ℕ) (s : Step) → IsRun (Head w s) → (r x : ℕ) → s ≡ Payload r x → ⊥
@@ -43,21 +43,21 @@ not_payload w (Bad a) h r x e = absurd (cc)
 
 head_adds : (synced : Bool) (line l2 : ℕ) (held h2 all all2 before bytes : List ℕ) (sessions new_sessions : List Session) (spot np : Place) (o n : Mode) (w : ℕ) (step : Step)
     → HasListed (written_of synced line held all) before sessions spot o → Adds (Head w step) sessions spot new_sessions np → (o ≡ Mode.Due → ⊥) → (n ≡ Mode.Due → ⊥) → IsReading bytes new_sessions np
-    → (synced ≡ true → (all2 ≡ all ++ open_words line ((w, step) ∷ [])) × (l2 ≡ words_place line ((w, step) ∷ []))) → HasListed (written_of true l2 h2 all2) before new_sessions np n
+    → (synced ≡ true → (all2 ≡ all ++ open_words line ((w, step) ∷ [])) × (l2 ≡ in_line_after_words line ((w, step) ∷ []))) → HasListed (written_of true l2 h2 all2) before new_sessions np n
 head_adds synced line l2 held h2 all all2 before bytes sessions new_sessions (Searching gap) np o n w step t a p q r h = absurd a
 head_adds synced line l2 held h2 all all2 before bytes sessions new_sessions (Synced gap packets tail) np o n w step t a p q r h =
     words_listed_at synced line l2 held h2 all all2 before bytes sessions new_sessions gap tail packets np o n ((w, step) ∷ []) t p q a r h
 
 word_adds : (synced : Bool) (line l2 : ℕ) (held h2 all all2 before bytes : List ℕ) (sessions new_sessions : List Session) (spot np : Place) (o n : Mode) (register w : ℕ)
     → HasListed (written_of synced line held all) before sessions spot o → Adds (Word register w) sessions spot new_sessions np → (o ≡ Mode.Due → ⊥) → (n ≡ Mode.Due → ⊥) → IsReading bytes new_sessions np
-    → (synced ≡ true → (all2 ≡ all ++ open_words line (payload_steps register (w ∷ []))) × (l2 ≡ words_place line (payload_steps register (w ∷ [])))) → HasListed (written_of true l2 h2 all2) before new_sessions np n
+    → (synced ≡ true → (all2 ≡ all ++ open_words line (payload_steps register (w ∷ []))) × (l2 ≡ in_line_after_words line (payload_steps register (w ∷ [])))) → HasListed (written_of true l2 h2 all2) before new_sessions np n
 word_adds synced line l2 held h2 all all2 before bytes sessions new_sessions (Searching gap) np o n register w t a p q r h = absurd a
 word_adds synced line l2 held h2 all all2 before bytes sessions new_sessions (Synced gap packets tail) np o n register w t a p q r h =
     words_listed_at synced line l2 held h2 all all2 before bytes sessions new_sessions gap tail packets np o n (payload_steps register (w ∷ [])) t p q a r h
 
 body_adds : (synced : Bool) (line l2 : ℕ) (held h2 all all2 before bytes : List ℕ) (sessions new_sessions : List Session) (spot np : Place) (o n : Mode) (register : ℕ) (body : Bor (List ℕ))
     → HasListed (written_of synced line held all) before sessions spot o → Adds (Body register body) sessions spot new_sessions np → (o ≡ Mode.Due → ⊥) → (n ≡ Mode.Due → ⊥) → IsReading bytes new_sessions np
-    → (synced ≡ true → (all2 ≡ all ++ open_words line (payload_steps register (words_of_bytes body.now))) × (l2 ≡ words_place line (payload_steps register (words_of_bytes body.now)))) → HasListed (written_of true l2 h2 all2) before new_sessions np n
+    → (synced ≡ true → (all2 ≡ all ++ open_words line (payload_steps register (words_of_bytes body.now))) × (l2 ≡ in_line_after_words line (payload_steps register (words_of_bytes body.now)))) → HasListed (written_of true l2 h2 all2) before new_sessions np n
 body_adds synced line l2 held h2 all all2 before bytes sessions new_sessions (Searching gap) np o n register body t a p q r h = absurd a
 body_adds synced line l2 held h2 all all2 before bytes sessions new_sessions (Synced gap packets tail) np o n register body t a p q r h =
     words_listed_at synced line l2 held h2 all all2 before bytes sessions new_sessions gap tail packets np o n (payload_steps register (words_of_bytes body.now)) t p q a r h
@@ -66,33 +66,33 @@ pub by_head : (run : Cut) (synced s2 : Bool) (line l2 from : ℕ) (held h2 given
     → new ≡ old ++ (close from ++ text_of_head step w) → WritesRun run (written_of synced line held (given ++ old)) (written_of s2 l2 h2 (given ++ new))
 by_head run synced s2 line l2 from held h2 given old new w step is same e f t =
     as_run run (Head w step) synced s2 line l2 held h2 (given ++ old) (given ++ new) is (synced_pen (Head w step) synced s2 line l2 0 held h2 (given ++ old) (given ++ new) e f
-    (λ before bytes sessions new_sessions spot np o n listed adds turns is_run reading. head_adds synced line 0 held h2 (given ++ old) (given ++ new) before bytes sessions new_sessions spot np o n w step listed adds turns.0 turns.1 reading
+    (λ before bytes sessions new_sessions spot np o n listed adds mode_changes is_run reading. head_adds synced line 0 held h2 (given ++ old) (given ++ new) before bytes sessions new_sessions spot np o n w step listed adds mode_changes.0 mode_changes.1 reading
     (λ s. (
       longer given old new (close from ++ text_of_head step w) t ∙ ap (λ k. given ++ old ++ (close k ++ text_of_head step w)) (same s) ∙ ap (λ x. given ++ old ++ x) (sym (head_listed line w step (not_payload w step is_run)) ∙ sym (append-nil _)),
       sym (head_next line step (not_payload w step is_run)),
     ))))
 
-pub by_word : (run : Cut) (synced s2 : Bool) (line l2 from : ℕ) (held h2 given old new : List ℕ) (register w : ℕ) → run ≡ Word register w → (synced ≡ true → from ≡ line) → s2 ≡ true → l2 ≡ words_place from (payload_steps register (w ∷ []))
+pub by_word : (run : Cut) (synced s2 : Bool) (line l2 from : ℕ) (held h2 given old new : List ℕ) (register w : ℕ) → run ≡ Word register w → (synced ≡ true → from ≡ line) → s2 ≡ true → l2 ≡ in_line_after_words from (payload_steps register (w ∷ []))
     → new ≡ old ++ open_words from (payload_steps register (w ∷ [])) → WritesRun run (written_of synced line held (given ++ old)) (written_of s2 l2 h2 (given ++ new))
 by_word run synced s2 line l2 from held h2 given old new register w is same e f t =
     let more : List (ℕ × Step) = payload_steps register (w ∷ []) in
-    as_run run (Word register w) synced s2 line l2 held h2 (given ++ old) (given ++ new) is (synced_pen (Word register w) synced s2 line l2 (words_place from more) held h2 (given ++ old) (given ++ new) e f
-    (λ before bytes sessions new_sessions spot np o n listed adds turns is_run reading. word_adds synced line (words_place from more) held h2 (given ++ old) (given ++ new) before bytes sessions new_sessions spot np o n register w listed adds turns.0 turns.1 reading
-    (λ s. (longer given old new (open_words from more) t ∙ ap (λ k. given ++ old ++ open_words k more) (same s), ap (λ k. words_place k more) (same s)))))
+    as_run run (Word register w) synced s2 line l2 held h2 (given ++ old) (given ++ new) is (synced_pen (Word register w) synced s2 line l2 (in_line_after_words from more) held h2 (given ++ old) (given ++ new) e f
+    (λ before bytes sessions new_sessions spot np o n listed adds mode_changes is_run reading. word_adds synced line (in_line_after_words from more) held h2 (given ++ old) (given ++ new) before bytes sessions new_sessions spot np o n register w listed adds mode_changes.0 mode_changes.1 reading
+    (λ s. (longer given old new (open_words from more) t ∙ ap (λ k. given ++ old ++ open_words k more) (same s), ap (λ k. in_line_after_words k more) (same s)))))
 
-pub by_body : (run : Cut) (synced s2 : Bool) (line l2 from : ℕ) (held h2 given old new : List ℕ) (register : ℕ) (body : Bor (List ℕ)) → run ≡ Body register body → (synced ≡ true → from ≡ line) → s2 ≡ true → l2 ≡ words_place from (payload_steps register (words_of_bytes body.now))
+pub by_body : (run : Cut) (synced s2 : Bool) (line l2 from : ℕ) (held h2 given old new : List ℕ) (register : ℕ) (body : Bor (List ℕ)) → run ≡ Body register body → (synced ≡ true → from ≡ line) → s2 ≡ true → l2 ≡ in_line_after_words from (payload_steps register (words_of_bytes body.now))
     → new ≡ old ++ open_words from (payload_steps register (words_of_bytes body.now)) → WritesRun run (written_of synced line held (given ++ old)) (written_of s2 l2 h2 (given ++ new))
 by_body run synced s2 line l2 from held h2 given old new register body is same e f t =
     let more : List (ℕ × Step) = payload_steps register (words_of_bytes body.now) in
-    as_run run (Body register body) synced s2 line l2 held h2 (given ++ old) (given ++ new) is (synced_pen (Body register body) synced s2 line l2 (words_place from more) held h2 (given ++ old) (given ++ new) e f
-    (λ before bytes sessions new_sessions spot np o n listed adds turns is_run reading. body_adds synced line (words_place from more) held h2 (given ++ old) (given ++ new) before bytes sessions new_sessions spot np o n register body listed adds turns.0 turns.1 reading
-    (λ s. (longer given old new (open_words from more) t ∙ ap (λ k. given ++ old ++ open_words k more) (same s), ap (λ k. words_place k more) (same s)))))
+    as_run run (Body register body) synced s2 line l2 held h2 (given ++ old) (given ++ new) is (synced_pen (Body register body) synced s2 line l2 (in_line_after_words from more) held h2 (given ++ old) (given ++ new) e f
+    (λ before bytes sessions new_sessions spot np o n listed adds mode_changes is_run reading. body_adds synced line (in_line_after_words from more) held h2 (given ++ old) (given ++ new) before bytes sessions new_sessions spot np o n register body listed adds mode_changes.0 mode_changes.1 reading
+    (λ s. (longer given old new (open_words from more) t ∙ ap (λ k. given ++ old ++ open_words k more) (same s), ap (λ k. in_line_after_words k more) (same s)))))
 
 pub by_skip : (run : Cut) (part : Bor (List ℕ)) (synced s2 : Bool) (line l1 l2 : ℕ) (held h1 h2 given old new : List ℕ) → run ≡ Skip part → s2 ≡ false → l1 ≡ (if synced then 0 else line) → h1 ≡ (if synced then [] else held)
     → ((given start gap : List ℕ) → GapListed (given ++ old) start l1 h1 gap → GapListed (given ++ new) start l2 h2 (gap ++ part.now)) → WritesRun run (written_of synced line held (given ++ old)) (written_of s2 l2 h2 (given ++ new))
 by_skip run part synced s2 line l1 l2 held h1 h2 given old new is e f k g =
     as_run run (Skip part) synced s2 line l2 held h2 (given ++ old) (given ++ new) is (subst (λ s. WritesRun (Skip part) (written_of synced line held (given ++ old)) (written_of s l2 h2 (given ++ new))) (sym e)
-    (λ before bytes sessions new_sessions spot np o n listed adds turns is_run reading. skip_listed synced line l2 held h2 (given ++ old) (given ++ new) before sessions new_sessions spot np o n part listed adds turns
+    (λ before bytes sessions new_sessions spot np o n listed adds mode_changes is_run reading. skip_listed synced line l2 held h2 (given ++ old) (given ++ new) before sessions new_sessions spot np o n part listed adds mode_changes
     (λ start gap t. g given start gap (subst (λ l. GapListed (given ++ old) start l h1 gap) (sym f) (subst (λ h. GapListed (given ++ old) start (if synced then 0 else line) h gap) (sym k) t)))))
 
 -- what was listed at a place after sessions was listed at an equal place after equal sessions

@@ -10,38 +10,38 @@ use Rattle.x7_text.specs.Row.{close, element_text, in_line_after, next_in_line, 
 use Rattle.x7_text.proofs.LineLemmas.{data_closed}
 use Rattle.x7_listing.specs.HeadLine.{command_line, text_of_head}
 use Rattle.x7_listing.specs.Listing.{packet_text, payload_text}
-use Rattle.x7_listing.specs.Lister.{payload_next, word_next, open_session_word, words_place, open_words}
+use Rattle.x7_listing.specs.Lister.{in_line_after_payload, in_line_after_word, open_session_word, in_line_after_words, open_words}
 
-pub open_words_append : (i : ℕ) (xs ys : List (ℕ × Step)) → open_words i (xs ++ ys) ≡ open_words i xs ++ open_words (words_place i xs) ys
+pub open_words_append : (i : ℕ) (xs ys : List (ℕ × Step)) → open_words i (xs ++ ys) ≡ open_words i xs ++ open_words (in_line_after_words i xs) ys
 open_words_append i [] ys = refl
-open_words_append i (x ∷ xs) ys = ap (λ t. open_session_word i x.0 x.1 ++ t) (open_words_append (word_next i x.1) xs ys) ∙ sym (append_assoc (open_session_word i x.0 x.1) (open_words (word_next i x.1) xs) (open_words (words_place (word_next i x.1) xs) ys))
+open_words_append i (x ∷ xs) ys = ap (λ t. open_session_word i x.0 x.1 ++ t) (open_words_append (in_line_after_word i x.1) xs ys) ∙ sym (append_assoc (open_session_word i x.0 x.1) (open_words (in_line_after_word i x.1) xs) (open_words (in_line_after_words (in_line_after_word i x.1) xs) ys))
 
-pub words_place_append : (i : ℕ) (xs ys : List (ℕ × Step)) → words_place i (xs ++ ys) ≡ words_place (words_place i xs) ys
+pub words_place_append : (i : ℕ) (xs ys : List (ℕ × Step)) → in_line_after_words i (xs ++ ys) ≡ in_line_after_words (in_line_after_words i xs) ys
 words_place_append i [] ys = refl
-words_place_append i (x ∷ xs) ys = words_place_append (word_next i x.1) xs ys
+words_place_append i (x ∷ xs) ys = words_place_append (in_line_after_word i x.1) xs ys
 
 -- payload words of a register other than CMD are listed in `data` lines
 pub data_listed : (register i : ℕ) (ws : List ℕ) → (register == 4) ≡ false → open_words i (payload_steps register ws) ≡ open_text 8 (codes "data") spaced i ws
 data_listed register i [] e = refl
 data_listed register i (w ∷ ws) e = rw e (ap (λ t. element_text 8 (codes "data") spaced i w ++ t) (data_listed register (next_in_line 8 i) ws e))
 
-pub data_place : (register i : ℕ) (ws : List ℕ) → (register == 4) ≡ false → words_place i (payload_steps register ws) ≡ in_line_after 8 i ws
+pub data_place : (register i : ℕ) (ws : List ℕ) → (register == 4) ≡ false → in_line_after_words i (payload_steps register ws) ≡ in_line_after 8 i ws
 data_place register i [] e = refl
-data_place register i (w ∷ ws) e = ap (λ b. words_place (payload_next b i) (payload_steps register ws)) e ∙ data_place register (next_in_line 8 i) ws e
+data_place register i (w ∷ ws) e = ap (λ b. in_line_after_words (in_line_after_payload b i) (payload_steps register ws)) e ∙ data_place register (next_in_line 8 i) ws e
 
 commands_listed : (register : ℕ) (ws : List ℕ) → (register == 4) ≡ true → open_words 0 (payload_steps register ws) ≡ flat_map command_line ws
 commands_listed register [] e = refl
 commands_listed register (w ∷ ws) e = rw e (ap (λ t. command_line w ++ t) (commands_listed register ws e))
 
-commands_place : (register : ℕ) (ws : List ℕ) → (register == 4) ≡ true → words_place 0 (payload_steps register ws) ≡ 0
+commands_place : (register : ℕ) (ws : List ℕ) → (register == 4) ≡ true → in_line_after_words 0 (payload_steps register ws) ≡ 0
 commands_place register [] e = refl
-commands_place register (w ∷ ws) e = ap (λ b. words_place (payload_next b 0) (payload_steps register ws)) e ∙ commands_place register ws e
+commands_place register (w ∷ ws) e = ap (λ b. in_line_after_words (in_line_after_payload b 0) (payload_steps register ws)) e ∙ commands_place register ws e
 
-payload_by : (register : ℕ) (ws : List ℕ) (b : Bool) → (register == 4) ≡ b → open_words 0 (payload_steps register ws) ++ close (words_place 0 (payload_steps register ws)) ≡ payload_text register ws
-payload_by register ws true e = ap (λ t. t ++ close (words_place 0 (payload_steps register ws))) (commands_listed register ws e) ∙ ap (λ k. flat_map command_line ws ++ close k) (commands_place register ws e) ∙ append-nil (flat_map command_line ws) ∙ rw e refl
-payload_by register ws false e = ap (λ t. t ++ close (words_place 0 (payload_steps register ws))) (data_listed register 0 ws e) ∙ ap (λ k. open_text 8 (codes "data") spaced 0 ws ++ close k) (data_place register 0 ws e) ∙ data_closed ws ∙ rw e refl
+payload_by : (register : ℕ) (ws : List ℕ) (b : Bool) → (register == 4) ≡ b → open_words 0 (payload_steps register ws) ++ close (in_line_after_words 0 (payload_steps register ws)) ≡ payload_text register ws
+payload_by register ws true e = ap (λ t. t ++ close (in_line_after_words 0 (payload_steps register ws))) (commands_listed register ws e) ∙ ap (λ k. flat_map command_line ws ++ close k) (commands_place register ws e) ∙ append-nil (flat_map command_line ws) ∙ rw e refl
+payload_by register ws false e = ap (λ t. t ++ close (in_line_after_words 0 (payload_steps register ws))) (data_listed register 0 ws e) ∙ ap (λ k. open_text 8 (codes "data") spaced 0 ws ++ close k) (data_place register 0 ws e) ∙ data_closed ws ∙ rw e refl
 
-payload_closed : (register : ℕ) (ws : List ℕ) → open_words 0 (payload_steps register ws) ++ close (words_place 0 (payload_steps register ws)) ≡ payload_text register ws
+payload_closed : (register : ℕ) (ws : List ℕ) → open_words 0 (payload_steps register ws) ++ close (in_line_after_words 0 (payload_steps register ws)) ≡ payload_text register ws
 payload_closed register ws = payload_by register ws (register == 4) refl
 
 pub head_listed : (i w : ℕ) (s : Step) → ((r x : ℕ) → s ≡ Payload r x → ⊥) → open_session_word i w s ≡ close i ++ text_of_head s w
@@ -52,7 +52,7 @@ head_listed i w (Open r n) h = refl
 head_listed i w (Read r n) h = refl
 head_listed i w (Bad x) h = refl
 
-pub head_next : (i : ℕ) (s : Step) → ((r x : ℕ) → s ≡ Payload r x → ⊥) → word_next i s ≡ 0
+pub head_next : (i : ℕ) (s : Step) → ((r x : ℕ) → s ≡ Payload r x → ⊥) → in_line_after_word i s ≡ 0
 head_next i (Payload r x) h = absurd (h r x refl)
 head_next i Filler h = refl
 head_next i Nop h = refl
@@ -63,12 +63,12 @@ head_next i (Bad x) h = refl
 packet_glue : (W c h C O R : List ℕ) → W ≡ c ++ h → O ++ C ≡ R → W ++ O ++ C ≡ c ++ (h ++ R)
 packet_glue W c h C O R e f = rw (e, ← f) (simp append_assoc)
 
-packet_closed : (l : Option ℕ) (i : ℕ) (p : Packet) → IsPacket l p → open_words i (stepped p) ++ close (words_place i (stepped p)) ≡ close i ++ packet_text p
+packet_closed : (l : Option ℕ) (i : ℕ) (p : Packet) → IsPacket l p → open_words i (stepped p) ++ close (in_line_after_words i (stepped p)) ≡ close i ++ packet_text p
 packet_closed l i p is =
     let none : (r x : ℕ) → p.step ≡ Payload r x → ⊥ = λ r x e. no_payload l p.head r x (sym is.means ∙ e) in
     let ss : List (ℕ × Step) = payload_steps (named_by p.step) p.payload in
-    ap (λ k. open_session_word i p.head p.step ++ open_words k ss ++ close (words_place k ss)) (head_next i p.step none)
-    ∙ packet_glue (open_session_word i p.head p.step) (close i) (text_of_head p.step p.head) (close (words_place 0 ss)) (open_words 0 ss) (payload_text (named_by p.step) p.payload) (head_listed i p.head p.step none) (payload_closed (named_by p.step) p.payload)
+    ap (λ k. open_session_word i p.head p.step ++ open_words k ss ++ close (in_line_after_words k ss)) (head_next i p.step none)
+    ∙ packet_glue (open_session_word i p.head p.step) (close i) (text_of_head p.step p.head) (close (in_line_after_words 0 ss)) (open_words 0 ss) (payload_text (named_by p.step) p.payload) (head_listed i p.head p.step none) (payload_closed (named_by p.step) p.payload)
 
 split_each : (l : Option ℕ) (p : Packet) (ps : List Packet) → EachPacket l (p ∷ ps) → IsPacket l p × EachPacket (latest_after l p.step) ps
 split_each l p [] e = (e, tt)
@@ -78,15 +78,15 @@ session_glue : (A B C K F I P : List ℕ) → B ++ C ≡ K ++ F → A ++ K ≡ I
 session_glue A B C K F I P e f = append_assoc A B C ∙ ap (λ t. A ++ t) e ∙ sym (append_assoc A K F) ∙ ap (λ t. t ++ F) f ∙ append_assoc I P F
 
 -- the words of packets listed one by one are the packets' lines
-pub session_closed : (l : Option ℕ) (i : ℕ) (ps : List Packet) → EachPacket l ps → open_words i (flat_map stepped ps) ++ close (words_place i (flat_map stepped ps)) ≡ close i ++ flat_map packet_text ps
+pub session_closed : (l : Option ℕ) (i : ℕ) (ps : List Packet) → EachPacket l ps → open_words i (flat_map stepped ps) ++ close (in_line_after_words i (flat_map stepped ps)) ≡ close i ++ flat_map packet_text ps
 session_closed l i [] e = sym (append-nil (close i))
 session_closed l i (p ∷ ps) e =
     let s : IsPacket l p × EachPacket (latest_after l p.step) ps = split_each l p ps e in
     let rest : List (ℕ × Step) = flat_map stepped ps in
-    ap (λ t. t ++ close (words_place i (stepped p ++ rest))) (open_words_append i (stepped p) rest)
-    ∙ ap (λ k. open_words i (stepped p) ++ open_words (words_place i (stepped p)) rest ++ close k) (words_place_append i (stepped p) rest)
-    ∙ session_glue (open_words i (stepped p)) (open_words (words_place i (stepped p)) rest) (close (words_place (words_place i (stepped p)) rest)) (close (words_place i (stepped p))) (flat_map packet_text ps) (close i) (packet_text p)
-    (session_closed (latest_after l p.step) (words_place i (stepped p)) ps s.1) (packet_closed l i p s.0)
+    ap (λ t. t ++ close (in_line_after_words i (stepped p ++ rest))) (open_words_append i (stepped p) rest)
+    ∙ ap (λ k. open_words i (stepped p) ++ open_words (in_line_after_words i (stepped p)) rest ++ close k) (words_place_append i (stepped p) rest)
+    ∙ session_glue (open_words i (stepped p)) (open_words (in_line_after_words i (stepped p)) rest) (close (in_line_after_words (in_line_after_words i (stepped p)) rest)) (close (in_line_after_words i (stepped p))) (flat_map packet_text ps) (close i) (packet_text p)
+    (session_closed (latest_after l p.step) (in_line_after_words i (stepped p)) ps s.1) (packet_closed l i p s.0)
 
 -- a register other than CMD
 pub is_data : (register : ℕ) → (register ≡ 4 → ⊥) → (register == 4) ≡ false

@@ -13,7 +13,7 @@ use Rattle.x7_text.specs.Lines.{has_no_end, split}
 use Rattle.x7_text.proofs.PieceLemmas.{free_both, hex_free}
 use Rattle.x7_text.proofs.SplitLemmas.{split_line}
 use Rattle.x7_listing.specs.Assembly.{asm_limit, Assembles, HasNoHeaderLine, IsAsm, IsHeaded}
-use Rattle.x7_listing.specs.BitLine.{bit_text, field_text, IsHeld}
+use Rattle.x7_listing.specs.BitLine.{bit_text, field_text, FitsHeader}
 use Rattle.x7_listing.specs.Line.{Line, FitsLine, text_of}
 use Rattle.x7_listing.specs.Listing.{listing_of}
 use Rattle.x7_listing.specs.StreamListing.{listing_by, stream_listing}
@@ -40,8 +40,8 @@ first_bytes letter x rest a =
     let b = all_prefix (λ c. c < 256) (field_bytes (record { letter = letter; kind = Kind.Counted }) x) rest a in
     (all_back (λ c. c < 256) (letter ∷ length x / 256 ∷ length x % 256 ∷ []) x b, all_back (λ c. c < 256) (field_bytes (record { letter = letter; kind = Kind.Counted }) x) rest a)
 
-pub held_of : (x : Contents) → HaveHeader x → AreBytes (header_bytes x) → IsHeld x
-held_of x h all =
+pub fitting_header : (x : Contents) → HaveHeader x → AreBytes (header_bytes x) → FitsHeader x
+fitting_header x h all =
     let e = field_bytes (record { letter = 0x65; kind = Kind.Four }) (bytes_of_word x.data_length) ++ [] in
     let d = field_bytes (record { letter = 0x64; kind = Kind.Counted }) x.d ++ e in
     let c = field_bytes (record { letter = 0x63; kind = Kind.Counted }) x.c ++ d in
@@ -70,7 +70,7 @@ headed b head p a h =
     let fits : AreBytes (drop head.1 b) = all_back (λ c. c < 256) (header_bytes head.0) (drop head.1 b) whole in
     record {
       header = head.0;
-      held = held_of head.0 p.have_header (all_prefix (λ c. c < 256) (header_bytes head.0) (drop head.1 b) whole);
+      fits = fitting_header head.0 p.have_header (all_prefix (λ c. c < 256) (header_bytes head.0) (drop head.1 b) whole);
       others = split (listing_of (drop head.1 b));
       texts = split_line (bit_text head.0) (listing_of (drop head.1 b)) (bit_free head.0 p.have_header);
       follows = record { rest = Ok (drop head.1 b); lines = round_trip (asm_limit - length (header_bytes head.0)) (drop head.1 b) fits (omega (arith, h, ap length p.prefix, length-append (header_bytes head.0) (drop head.1 b))); outcome_is = ap Ok p.prefix };

@@ -16,7 +16,7 @@ use Rattle.x7_text.specs.Digits.{hex_byte}
 use Rattle.x7_text.specs.Row.{bytes_text, close, in_line_after, open_text}
 use Rattle.x7_text.proofs.LineLemmas.{bytes_closed, in_line_after_append, open_text_append}
 use Rattle.x7_listing.specs.Listing.{packets_text, reading_text, session_text}
-use Rattle.x7_listing.specs.Lister.{GapListed, SessionListed, HasListed, HasListedAt, word_next, words_place, open_words, written_of}
+use Rattle.x7_listing.specs.Lister.{GapListed, SessionListed, HasListed, HasListedAt, in_line_after_word, in_line_after_words, open_words, written_of}
 use Rattle.x7_listing.proofs.GapLemmas.{fresh_gap}
 use Rattle.x7_listing.proofs.SessionLemmas.{session_closed, words_place_append, open_words_append}
 
@@ -74,21 +74,21 @@ sync_listed false line held held2 all all2 before sessions new_sessions (Synced 
 
 -- words more of a session, at once
 session_words : (all all2 start : List ℕ) (line line2 : ℕ) (gap : List ℕ) (packets all_packets : List Packet) (more : List (ℕ × Step)) → SessionListed all start line gap packets
-    → flat_map stepped all_packets ≡ flat_map stepped packets ++ more → all2 ≡ all ++ open_words line more → line2 ≡ words_place line more → SessionListed all2 start line2 gap all_packets
+    → flat_map stepped all_packets ≡ flat_map stepped packets ++ more → all2 ≡ all ++ open_words line more → line2 ≡ in_line_after_words line more → SessionListed all2 start line2 gap all_packets
 session_words all all2 start line line2 gap packets all_packets more s grown t n =
     let ss : List (ℕ × Step) = flat_map stepped packets in
     let X : List ℕ = start ++ bytes_text gap ++ codes "sync\n" in
     record {
       listed = t ∙ ap (λ t. t ++ open_words line more) s.listed ∙ append_assoc X (open_words 0 ss) (open_words line more) ∙ ap (λ k. X ++ (open_words 0 ss ++ open_words k more)) s.count
           ∙ ap (λ t. X ++ t) (sym (open_words_append 0 ss more)) ∙ ap (λ t. X ++ open_words 0 t) (sym grown);
-      count = n ∙ ap (λ k. words_place k more) s.count ∙ sym (words_place_append 0 ss more) ∙ ap (words_place 0) (sym grown);
+      count = n ∙ ap (λ k. in_line_after_words k more) s.count ∙ sym (words_place_append 0 ss more) ∙ ap (in_line_after_words 0) (sym grown);
     }
 
 both_true : (a b : Bool) → (a && b) ≡ true → a ≡ true
 both_true true b e = refl
 both_true false b e = absurd (cc)
 
-end_next : (i : ℕ) (step : Step) → is_end step ≡ true → word_next i step ≡ 0
+end_next : (i : ℕ) (step : Step) → is_end step ≡ true → in_line_after_word i step ≡ 0
 end_next i (Payload register x) e = let h : (register == 4) ≡ true = both_true (register == 4) _ e in rw h refl
 end_next i Filler e = absurd (cc)
 end_next i Nop e = absurd (cc)
@@ -97,10 +97,10 @@ end_next i (Read r n) e = absurd (cc)
 end_next i (Bad x) e = absurd (cc)
 
 -- after words that end a session no line is open
-ends_next : (i : ℕ) (more : List (ℕ × Step)) → ends_by more ≡ true → words_place i more ≡ 0
+ends_next : (i : ℕ) (more : List (ℕ × Step)) → ends_by more ≡ true → in_line_after_words i more ≡ 0
 ends_next i [] e = absurd (cc)
 ends_next i (s ∷ []) e = end_next i s.1 e
-ends_next i (s ∷ t ∷ more) e = ends_next (word_next i s.1) (t ∷ more) e
+ends_next i (s ∷ t ∷ more) e = ends_next (in_line_after_word i s.1) (t ∷ more) e
 
 -- the open session, where its line is ended
 session_ended : (all start : List ℕ) (line : ℕ) (gap : List ℕ) (packets : List Packet) → SessionListed all start line gap packets → EachPacket None packets → all ++ close line ≡ start ++ packets_text gap packets
@@ -132,7 +132,7 @@ words_by line line2 held2 all all2 before bytes sessions new_sessions gap packet
 -- words more of a session are listed: a header's word, or payload words
 pub words_listed_at : (synced : Bool) (line line2 : ℕ) (held held2 all all2 before bytes : List ℕ) (sessions new_sessions : List Session) (gap tail : List ℕ) (packets : List Packet) (np : Place) (old new : Mode) (more : List (ℕ × Step))
     → HasListed (written_of synced line held all) before sessions (Synced gap packets tail) old → (old ≡ Mode.Due → ⊥) → (new ≡ Mode.Due → ⊥) → LongerSession gap packets more sessions new_sessions np → IsReading bytes new_sessions np
-    → (synced ≡ true → (all2 ≡ all ++ open_words line more) × (line2 ≡ words_place line more)) → HasListed (written_of true line2 held2 all2) before new_sessions np new
+    → (synced ≡ true → (all2 ≡ all ++ open_words line more) × (line2 ≡ in_line_after_words line more)) → HasListed (written_of true line2 held2 all2) before new_sessions np new
 words_listed_at false line line2 held held2 all all2 before bytes sessions new_sessions gap tail packets np old new more t o n l r h = absurd (o t.0)
 words_listed_at true line line2 held held2 all all2 before bytes sessions new_sessions gap tail packets np old new more t o n l r h =
     let e = h refl in

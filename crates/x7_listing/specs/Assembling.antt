@@ -2,43 +2,44 @@
 use Rattle.std.specs.Prelude.{◌≡◌, ◌⊎◌, ℕ, ◌+◌, ◌-◌, ◌<◌, ◌≤◌, Bool, true, false, List, [], ◌∷◌, ◌++◌, drop, take, length, Ok, Err, Vec}
 use Rattle.std.specs.declared.alloc.Global.{Global}
 use Rattle.std.specs.List.{AllByRecursion, flat_map}
-use Rattle.x7_crc.specs.Checker.{CheckerState, Keeps}
+use Rattle.x7_crc.specs.Checker.{CheckerState, KeepsCheckOf}
 use Rattle.x7_header.specs.Header.{Contents, header_bytes, longest_header}
 use Rattle.x7_text.specs.Appends.{HasSpareRoom}
 use Rattle.x7_text.specs.Row.{row_bytes}
-use Rattle.x7_listing.specs.BitLine.{bit_text, IsHeld}
+use Rattle.x7_listing.specs.BitLine.{bit_text, FitsHeader}
 use Rattle.x7_listing.specs.Line.{Line, line_bytes, FitsLine, IsListed, ended_texts}
 use Rattle.x7_listing.specs.Assembly.{AreHeadedAsm, asm_limit, assembled, BeginsWithLines, HasNoHeaderLine}
 use Rattle.x7_listing.specs.declared.assembler.AsmFault.{AsmFault}
 use Rattle.x7_listing.specs.declared.assembler.AsmFault.TheVariants as fault
 
--- the first texts are those of lines, whose bytes these are, and the others are left
+-- the first `n` texts are those of lines, whose bytes these are, and the others are left
 pub record LinesAreRead (limit : ℕ) (all left : List (List ℕ)) (bytes : List ℕ) (n : ℕ) : Type 0 where
   pub lines : List Line
   pub begins : BeginsWithLines limit all lines left
   pub bytes_are : bytes ≡ assembled lines
   pub count : n ≡ length lines
 
--- a header's line stands first, which stands for the header's bytes, and the others follow it
+-- the first text is the line of a header, whose bytes are `prefix`, and the others follow it: one text is read
 pub record OpensHeaded (all others : List (List ℕ)) (prefix : List ℕ) (n : ℕ) : Type 0 where
   pub header : Contents
-  pub held : IsHeld header
+  pub fits : FitsHeader header
   pub texts : all ≡ bit_text header ∷ others
   pub prefix_is : prefix ≡ header_bytes header
   pub count : n ≡ 1
 
--- the first of the texts is no header's line
+-- the first text is no header's line: none is read, and no byte stands before those of lines
 pub record OpensPlain (all others : List (List ℕ)) (prefix : List ℕ) (n : ℕ) : Type 0 where
   pub no_head : HasNoHeaderLine all
   pub texts : all ≡ others
   pub prefix_is : prefix ≡ []
   pub count : n ≡ 0
 
--- the texts after n texts of a header
+-- of all texts, `n` stand for a header, one or none, whose bytes are `prefix`; the others follow
 abbrev pub OpensText : List (List ℕ) → List (List ℕ) → List ℕ → ℕ → Type 0
 OpensText all others prefix n = OpensHeaded all others prefix n ⊎ OpensPlain all others prefix n
 
--- what is read so far: the bytes, where those of lines begin, their check, and how many lines were
+-- what is read so far: the bytes, the place where those of lines begin (after a header's), their checker, and how many
+-- texts were read, a header's line included
 pub record AsmState : Type 0 where
   pub out : List ℕ
   pub start : ℕ
@@ -49,30 +50,30 @@ pub record AsmState : Type 0 where
 abbrev pub asm_state : List ℕ → ℕ → CheckerState → ℕ → AsmState
 asm_state out start checker count = record { out = out; start = start; checker = checker; count = count }
 
--- what lines gave: the bytes so far, where those of lines begin, and their check;
--- and for how many bytes there is room in all
+-- what lines gave: the bytes so far, the place where those of lines begin (after a header's), their checker, and for
+-- how many bytes there is room in all
 pub record Output : Type 0 where
   pub out : List ℕ
   pub start : ℕ
   pub checker : CheckerState
   pub room : ℕ
 
--- there is room in a vector for the bytes of a line: a row at most
+-- there is room in a vector for the bytes of one line more: 32 at most, a row
 abbrev pub HasRoomForLine : Vec ℕ Global → Type 0
 HasRoomForLine out = HasSpareRoom out row_bytes
 
--- there is room for the bytes of one line more: a row at most
+-- there is room in an output for the bytes of one line more: 32 at most, a row
 abbrev pub HasLineRoom : Output → Type 0
 HasLineRoom b = length b.out + row_bytes ≤ b.room
 
--- the bytes of lines begin within the bytes so far, and the checker keeps theirs
+-- the bytes of lines begin within the bytes so far, and the checker keeps their check
 pub record IsSoundOutput (out : List ℕ) (start : ℕ) (checker : CheckerState) : Type 0 where
   pub begun : start ≤ length out
-  pub keeps : Keeps checker (drop start out)
+  pub keeps : KeepsCheckOf checker (drop start out)
 
--- an `AsmState` of these lines' output
-abbrev pub lines_after : Output → ℕ → AsmState
-lines_after b n = asm_state b.out b.start b.checker n
+-- this output as what is read so far, after `n` texts
+abbrev pub state_of_output : Output → ℕ → AsmState
+state_of_output b n = asm_state b.out b.start b.checker n
 
 -- The texts are read but for those that are left: their bytes are these, those of
 -- lines from `start` on, whose check is kept.
@@ -82,7 +83,7 @@ pub record TextsAreRead (all left : List (List ℕ)) (b : AsmState) : Type 0 whe
   pub read : ℕ
   pub long : b.start ≤ length b.out
   pub short : b.start ≤ longest_header
-  pub keeps : Keeps b.checker (drop b.start b.out)
+  pub keeps : KeepsCheckOf b.checker (drop b.start b.out)
   pub opens : OpensText all others (take b.start b.out) first
   pub went : LinesAreRead (asm_limit - b.start) others left (drop b.start b.out) read
   pub count_is : b.count ≡ first + read
@@ -92,17 +93,17 @@ pub record Unbegun (all left : List (List ℕ)) (b : AsmState) : Type 0 where
   pub texts : all ≡ left
   pub out_is : b.out ≡ []
   pub start_is : b.start ≡ 0
-  pub keeps : Keeps b.checker []
+  pub keeps : KeepsCheckOf b.checker []
   pub count_is : b.count ≡ 0
 
--- the texts are read but for those that are left: from the first on, or none yet
-abbrev pub Waits : Bool → List (List ℕ) → List (List ℕ) → AsmState → Type 0
-Waits true = TextsAreRead
-Waits false = Unbegun
+-- the texts are read but for those that are left; or, where the first one is still to be read, none is read yet
+abbrev pub AreReadOrUnbegun : Bool → List (List ℕ) → List (List ℕ) → AsmState → Type 0
+AreReadOrUnbegun true = TextsAreRead
+AreReadOrUnbegun false = Unbegun
 
--- The text begins with whole lines, none of which is a comment or the check; their
--- bytes were appended, and the rest is left.
-pub record TakesLines (text rest old new : List ℕ) (count : ℕ) : Type 0 where
+-- the text begins with `count` whole lines, none of which is a comment or the check; their bytes were appended, and the
+-- rest is left
+pub record AppendsLines (text rest old new : List ℕ) (count : ℕ) : Type 0 where
   pub lines : List Line
   pub fit : AllByRecursion FitsLine lines
   pub listed : AllByRecursion IsListed lines
@@ -110,23 +111,24 @@ pub record TakesLines (text rest old new : List ℕ) (count : ℕ) : Type 0 wher
   pub appended : new ≡ old ++ flat_map (line_bytes 0) lines
   pub count_is : count ≡ length lines
 
--- the first bytes of the text, `size` of them, are whole lines, one at least, none of which is a comment or the check
-pub record TakesFirst (text old new : List ℕ) (size count : ℕ) : Type 0 where
+-- the first `size` bytes of the text are `count` whole lines, one at least, none of which is a comment or the check;
+-- their bytes were appended
+pub record AppendsFirstLines (text old new : List ℕ) (size count : ℕ) : Type 0 where
   pub some : 0 < size
   pub within : size ≤ length text
-  pub few : count ≤ size
-  pub takes : TakesLines text (drop size text) old new count
+  pub counted : count ≤ size
+  pub takes : AppendsLines text (drop size text) old new count
 
 -- whether a line was read
 abbrev pub has_any : List (List ℕ) → Bool
 has_any [] = false
 has_any (t ∷ ts) = true
 
--- lines gave this output, whatever lines follow
+-- these first lines of a text gave this output, whatever lines follow
 abbrev pub IsOutputOf : Output → List (List ℕ) → Type 0
-IsOutputOf b lines = (left : List (List ℕ)) → Waits (has_any lines) (lines ++ left) left (lines_after b (length lines))
+IsOutputOf b lines = (left : List (List ℕ)) → AreReadOrUnbegun (has_any lines) (lines ++ left) left (state_of_output b (length lines))
 
--- lines gave this output, and once one was read there is room for the next
+-- these first lines of a text gave this output, and once one was read there is room for the next
 pub record AreReadWithRoom (b : Output) (lines : List (List ℕ)) : Type 0 where
   pub read : IsOutputOf b lines
   pub room : has_any lines ≡ true → HasLineRoom b
@@ -139,18 +141,19 @@ IsFirstOrGood lines line = (lines ≡ []) ⊎ ((bytes : List ℕ) × AreHeadedAs
 abbrev pub HasAsmFault : AsmFault → List (List ℕ) → Type 0
 HasAsmFault f lines = (f ≡ fault.NoMemory) ⊎ AreHeadedAsm lines (Err f)
 
--- a first line is read
+-- a text's first line is read: from no output to that of one line, whatever lines follow
 abbrev pub ReadsFirst : Output → Output → List ℕ → Type 0
-ReadsFirst old new line = (all left : List (List ℕ)) → Unbegun all (line ∷ left) (lines_after old 0) → TextsAreRead all left (lines_after new 1)
+ReadsFirst old new line = (all left : List (List ℕ)) → Unbegun all (line ∷ left) (state_of_output old 0) → TextsAreRead all left (state_of_output new 1)
 
--- a first line is refused for this fault; want of memory says nothing
+-- a text's first line is refused: each text that begins with it has this fault; want of memory says nothing
 abbrev pub FailsFirst : Output → List ℕ → AsmFault → Type 0
-FailsFirst old line f = (f ≡ fault.NoMemory) ⊎ ((all left : List (List ℕ)) → Unbegun all (line ∷ left) (lines_after old 0) → AreHeadedAsm all (Err f))
+FailsFirst old line f = (f ≡ fault.NoMemory) ⊎ ((all left : List (List ℕ)) → Unbegun all (line ∷ left) (state_of_output old 0) → AreHeadedAsm all (Err f))
 
--- line n is read, after others
+-- line n, counted from 1, is read after others, whatever lines follow
 abbrev pub ReadsNext : Output → Output → ℕ → List ℕ → Type 0
-ReadsNext old new n line = (all left : List (List ℕ)) (k : ℕ) → n ≡ k + 1 → TextsAreRead all (line ∷ left) (lines_after old k) → TextsAreRead all left (lines_after new n)
+ReadsNext old new n line = (all left : List (List ℕ)) (k : ℕ) → n ≡ k + 1 → TextsAreRead all (line ∷ left) (state_of_output old k) → TextsAreRead all left (state_of_output new n)
 
--- line n, after others, is refused for this fault; want of memory says nothing
+-- line n, counted from 1, is refused after others: each text that they begin has this fault; want of memory says
+-- nothing
 abbrev pub FailsNext : Output → ℕ → List ℕ → AsmFault → Type 0
-FailsNext old n line f = (f ≡ fault.NoMemory) ⊎ ((all left : List (List ℕ)) (k : ℕ) → n ≡ k + 1 → TextsAreRead all (line ∷ left) (lines_after old k) → AreHeadedAsm all (Err f))
+FailsNext old n line f = (f ≡ fault.NoMemory) ⊎ ((all left : List (List ℕ)) (k : ℕ) → n ≡ k + 1 → TextsAreRead all (line ∷ left) (state_of_output old k) → AreHeadedAsm all (Err f))

@@ -1,5 +1,5 @@
--- What a text assembles to: the bytes of its lines, or its first bad line, or the first at which
--- they pass a limit (this project's choice).
+-- What a text assembles to: the bytes of its lines, or its first text of no line, or the first line at which the bytes
+-- pass a limit (this project's choice). Lines count from 1.
 use Rattle.std.specs.Prelude.{◌≡◌, ◌≢◌, ◌⊎◌, ℕ, ◌+◌, ◌-◌, ◌<◌, ◌≤◌, List, [], ◌∷◌, ◌++◌, length, map, fold, Result, Ok, Err}
 use Rattle.std.specs.List.{AllByRecursion}
 use Rattle.x7_text.specs.Lines.{split}
@@ -7,7 +7,7 @@ use Rattle.x7_crc.specs.Checker.{check_of_bytes}
 use Rattle.x7_listing.specs.declared.assembler.AsmFault.{AsmFault}
 use Rattle.x7_listing.specs.declared.assembler.AsmFault.TheVariants as fault
 use Rattle.x7_header.specs.Header.{Contents, header_bytes}
-use Rattle.x7_listing.specs.BitLine.{bit_text, IsHeld}
+use Rattle.x7_listing.specs.BitLine.{bit_text, FitsHeader}
 use Rattle.x7_listing.specs.Line.{Line, line_bytes, FitsLine, IsLine, text_of}
 
 -- bytes with those of one line more
@@ -56,11 +56,11 @@ AreAsm limit all (Err (fault.Line n)) = IsFirstBadText limit all n
 AreAsm limit all (Err (fault.TooLong n)) = PassesLimitAt limit all n
 AreAsm limit all (Err fault.NoMemory) = ⊥
 
--- how many bytes a text may stand for
+-- how many bytes a text may stand for at most: 64 MiB
 abbrev pub asm_limit : ℕ
 asm_limit = 67108864
 
--- an outcome with one line more before it, which stands for these bytes
+-- the outcome of a text with one line more before it, which stands for these bytes
 abbrev pub after_one_line : List ℕ → Result (List ℕ) AsmFault → Result (List ℕ) AsmFault
 after_one_line prefix (Ok bytes) = Ok (prefix ++ bytes)
 after_one_line prefix (Err (fault.Line n)) = Err (fault.Line (n + 1))
@@ -73,17 +73,17 @@ pub record Follows (prefix : List ℕ) (others : List (List ℕ)) (outcome : Res
   pub lines : AreAsm (asm_limit - length prefix) others rest
   pub outcome_is : outcome ≡ after_one_line prefix rest
 
--- the first text is a header's line, and the others follow it; the check leaves the header out
+-- the first text is a header's line, and the outcome is that of the others after it; the check leaves the header out
 pub record IsHeaded (all : List (List ℕ)) (outcome : Result (List ℕ) AsmFault) : Type 0 where
   pub header : Contents
-  pub held : IsHeld header
+  pub fits : FitsHeader header
   pub others : List (List ℕ)
   pub texts : all ≡ bit_text header ∷ others
   pub follows : Follows (header_bytes header) others outcome
 
 -- the first text is no header's line
 abbrev pub HasNoHeaderLine : List (List ℕ) → Type 0
-HasNoHeaderLine all = (x : Contents) (others : List (List ℕ)) → IsHeld x → all ≢ bit_text x ∷ others
+HasNoHeaderLine all = (x : Contents) (others : List (List ℕ)) → FitsHeader x → all ≢ bit_text x ∷ others
 
 -- what texts of lines, which may begin with a header's, assemble to
 abbrev pub AreHeadedAsm : List (List ℕ) → Result (List ℕ) AsmFault → Type 0
@@ -93,6 +93,6 @@ AreHeadedAsm all outcome = IsHeaded all outcome ⊎ (HasNoHeaderLine all × AreA
 abbrev pub IsAsm : List ℕ → Result (List ℕ) AsmFault → Type 0
 IsAsm text outcome = AreHeadedAsm (split text) outcome
 
--- a text assembles to something
+-- the text has an outcome: its bytes or a fault
 abbrev pub HasOutcome : List ℕ → Type 0
 HasOutcome text = (outcome : Result (List ℕ) AsmFault) × IsAsm text outcome

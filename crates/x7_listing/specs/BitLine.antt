@@ -1,28 +1,28 @@
--- The line of a header (this project's choice).
+-- The line of a `.bit` header (this project's choice).
 use Rattle.std.specs.Prelude.{◌≡◌, ◌≢◌, ℕ, ◌<◌, ◌^◌, ◌==◌, Bool, true, false, if◌then◌else◌, List, [], ◌∷◌, ◌++◌, length, slice_index, codes, decimal}
 use Rattle.std.specs.List.{flat_map}
 use Rattle.x7_words.specs.Word.{AreBytes}
 use Rattle.x7_header.specs.Header.{Contents, HaveHeader, header_bytes}
 use Rattle.x7_text.specs.Digits.{hex_byte}
 
--- the digits of a field, and `-` where it holds nothing
+-- the text of a header's field: two digits for each byte, or `-` where it holds nothing
 abbrev pub field_text : List ℕ → List ℕ
 field_text [] = codes "-"
 field_text (x ∷ xs) = flat_map hex_byte (x ∷ xs)
 
--- the line, without its end
+-- the text of a header's line, without its end: the four fields and the length of the data in bytes
 abbrev pub bit_text : Contents → List ℕ
 bit_text x = codes "bit " ++ (field_text x.a ++ 32 ∷ (field_text x.b ++ 32 ∷ (field_text x.c ++ 32 ∷ (field_text x.d ++ 32 ∷ decimal x.data_length))))
 
--- contents that a header can hold, byte by byte
-pub record IsHeld (x : Contents) : Type 0 where
+-- a header can hold these contents: each field fits its length, and is of bytes
+pub record FitsHeader (x : Contents) : Type 0 where
   pub have : HaveHeader x
   pub a : AreBytes x.a
   pub b : AreBytes x.b
   pub c : AreBytes x.c
   pub d : AreBytes x.d
 
--- a field of text in a header
+-- a field of a header can hold these bytes: fewer than 65,536
 pub record IsField (field : List ℕ) : Type 0 where
   pub bytes : AreBytes field
   pub short : length field < 2 ^ 16
@@ -34,11 +34,11 @@ HasFieldFirst text field rest = IsField field × (text ≡ field_text field ++ 3
 -- `bytes` are those of a header whose line is `line`
 pub record IsHeaderOf (line bytes : List ℕ) : Type 0 where
   pub header : Contents
-  pub held : IsHeld header
+  pub fits : FitsHeader header
   pub text : line ≡ bit_text header
   pub bytes_are : bytes ≡ header_bytes header
 
--- the text has no space
+-- no byte of the text is a space
 abbrev pub has_no_space : List ℕ → Bool
 has_no_space [] = true
 has_no_space (c ∷ cs) = if c == 32 then false else has_no_space cs

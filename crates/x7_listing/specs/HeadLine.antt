@@ -1,14 +1,15 @@
 -- The lines of single words: header words, and payload words of CMD (this project's choice).
-use Rattle.std.specs.Prelude.{ℕ, ◌%◌, ◌^◌, ◌<◌, ◌==◌, if◌then◌else◌, List, [], ◌∷◌, ◌++◌, codes, decimal}
-use Rattle.x7_regs.specs.Register.{reg_name}
+use Rattle.std.specs.Prelude.{ℕ, ◌<◌, ◌==◌, if◌then◌else◌, List, [], ◌∷◌, ◌++◌, codes}
 use Rattle.x7_regs.specs.Command.{code_of, command_by, command_name_of}
 use Rattle.x7_text.specs.Digits.{hex_word}
-use Rattle.x7_packets.specs.Packet.{register_of, type_and_opcode_of}
+use Rattle.x7_packets.specs.Packet.{register_of, type1_count_of, type2_count_of, type_and_opcode_of}
 use Rattle.x7_packets.specs.PacketWords.{no_op, sync_word, type1_read, type1_write, type2_read, type2_read_kind, type2_write, type2_write_kind}
 use Rattle.x7_packets.specs.declared.header.Step.{Step}
 use Rattle.x7_packets.specs.declared.header.Step.TheVariants.{Bad}
 use Rattle.x7_listing.specs.declared.line.head_line.HeadLine.{HeadLine}
 use Rattle.x7_listing.specs.declared.line.head_line.HeadLine.TheVariants.{Nop, Sync, Write, Read, Write2, Read2, Word}
+use Rattle.x7_listing.specs.Line.{Line, ended_text}
+use Rattle.x7_listing.specs.Line as line
 
 -- the word that a line stands for
 abbrev pub line_word : HeadLine → ℕ
@@ -25,10 +26,10 @@ abbrev pub best_line : ℕ → HeadLine
 best_line w =
     if w == no_op then Nop else
     if w == sync_word then Sync else
-    if w == type1_write (register_of w) (w % 2 ^ 11) then Write (register_of w) (w % 2 ^ 11) else
-    if w == type1_read (register_of w) (w % 2 ^ 11) then Read (register_of w) (w % 2 ^ 11) else
-    if type_and_opcode_of w == type2_write_kind then Write2 (w % 2 ^ 27) else
-    if type_and_opcode_of w == type2_read_kind then Read2 (w % 2 ^ 27) else Word w
+    if w == type1_write (register_of w) (type1_count_of w) then Write (register_of w) (type1_count_of w) else
+    if w == type1_read (register_of w) (type1_count_of w) then Read (register_of w) (type1_count_of w) else
+    if type_and_opcode_of w == type2_write_kind then Write2 (type2_count_of w) else
+    if type_and_opcode_of w == type2_read_kind then Read2 (type2_count_of w) else Word w
 
 -- the line of a word in a header's place, by its step
 abbrev pub line_of_head : Step → ℕ → HeadLine
@@ -45,21 +46,25 @@ HasRegister _ = Unit {0}
 abbrev pub line_size : ℕ
 line_size = 47
 
--- the text of a line, with its end
-abbrev pub line_text : HeadLine → List ℕ
-line_text Nop = codes "nop\n"
-line_text Sync = codes "sync\n"
-line_text (Write register count) = codes "write " ++ reg_name register ++ 32 ∷ decimal count ++ 10 ∷ []
-line_text (Read register count) = codes "read " ++ reg_name register ++ 32 ∷ decimal count ++ 10 ∷ []
-line_text (Write2 count) = codes "write2 " ++ decimal count ++ 10 ∷ []
-line_text (Read2 count) = codes "read2 " ++ decimal count ++ 10 ∷ []
-line_text (Word w) = codes "word " ++ hex_word w ++ 10 ∷ []
+-- the line of a word in a header's place, as one of the lines of a text
+abbrev pub line_as : HeadLine → Line
+line_as Nop = line.Nop
+line_as Sync = line.Sync
+line_as (Write register count) = line.Write register count
+line_as (Read register count) = line.Read register count
+line_as (Write2 count) = line.Write2 count
+line_as (Read2 count) = line.Read2 count
+line_as (Word w) = line.Word w
 
--- the text of a word in a header's place
+-- the text of the line of a word in a header's place, with its end
+abbrev pub line_text : HeadLine → List ℕ
+line_text l = ended_text (line_as l)
+
+-- the text of the line of a word in a header's place, by its step, with the line's end
 abbrev pub text_of_head : Step → ℕ → List ℕ
 text_of_head step w = line_text (line_of_head step w)
 
--- the line of a payload word of CMD: the command whose code the whole word is, else the word
+-- the text of the line of a payload word of CMD, with its end: the command whose code the whole word is, else the word
 abbrev pub command_line : ℕ → List ℕ
 command_line w =
     if code_of (command_by w) == w then codes "cmd " ++ command_name_of (command_by w) ++ 10 ∷ [] else

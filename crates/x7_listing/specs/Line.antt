@@ -27,6 +27,14 @@ pub data Line : Type 0 where
   Cmd : (command : Command) → Line
   Check : Line
 
+-- the fields of a type 1 header, a register's number and a word count, are each within their bits
+abbrev pub IsType1 : ℕ × ℕ → Type 0
+IsType1 a = (a.0 < 32) × (a.1 < 2 ^ 11)
+
+-- the fields of a type 1 header as text: the register's name, a space and the word count
+abbrev pub type1_text : ℕ × ℕ → List ℕ
+type1_text a = reg_name a.0 ++ 32 ∷ decimal a.1
+
 -- the text of a line, without its end
 abbrev pub text_of : Line → List ℕ
 text_of Empty = []
@@ -34,22 +42,14 @@ text_of (Comment text) = 35 ∷ text
 text_of (Bytes bytes) = codes "bytes " ++ flat_map hex_byte bytes
 text_of Sync = codes "sync"
 text_of Nop = codes "nop"
-text_of (Write register count) = codes "write " ++ reg_name register ++ 32 ∷ decimal count
-text_of (Read register count) = codes "read " ++ reg_name register ++ 32 ∷ decimal count
+text_of (Write register count) = codes "write " ++ type1_text (register, count)
+text_of (Read register count) = codes "read " ++ type1_text (register, count)
 text_of (Write2 count) = codes "write2 " ++ decimal count
 text_of (Read2 count) = codes "read2 " ++ decimal count
 text_of (Word word) = codes "word " ++ hex_word word
 text_of (Data words) = codes "data" ++ flat_map spaced words
 text_of (Cmd command) = codes "cmd " ++ command_name_of command
 text_of Check = codes "crc"
-
--- a register's number and a word count
-abbrev pub IsAccess : ℕ × ℕ → Type 0
-IsAccess a = (a.0 < 32) × (a.1 < 2 ^ 11)
-
--- the text of a register's name and a word count
-abbrev pub access_text : ℕ × ℕ → List ℕ
-access_text a = reg_name a.0 ++ 32 ∷ decimal a.1
 
 -- a line that is empty, `sync` or `crc`
 abbrev pub IsPlain : Line → Type 0
@@ -58,11 +58,12 @@ IsPlain Sync = Unit {0}
 IsPlain Check = Unit {0}
 IsPlain _ = ⊥
 
--- the numbers of a line have the width of their fields, and rows are rows
+-- the numbers of a line are within the bits of their fields, and its rows have one byte or word at least and a full
+-- row's at most
 abbrev pub FitsLine : Line → Type 0
 FitsLine (Bytes bytes) = IsByteRow bytes
-FitsLine (Write register count) = (register < 32) × (count < 2 ^ 11)
-FitsLine (Read register count) = (register < 32) × (count < 2 ^ 11)
+FitsLine (Write register count) = IsType1 (register, count)
+FitsLine (Read register count) = IsType1 (register, count)
 FitsLine (Write2 count) = count < 2 ^ 27
 FitsLine (Read2 count) = count < 2 ^ 27
 FitsLine (Word word) = word < 2 ^ 32
@@ -96,7 +97,7 @@ IsListed (Comment text) = ⊥
 IsListed Check = ⊥
 IsListed _ = Unit {0}
 
--- the line of a payload word of CMD
+-- the line of a payload word of CMD: the command whose code the whole word is, else the word
 abbrev pub cmd_line : ℕ → Line
 cmd_line w = if code_of (command_by w) == w then Cmd (command_by w) else Data (w ∷ [])
 

@@ -7,20 +7,8 @@ use Rattle.x7_packets.specs.ByHand.{reading_of}
 use Rattle.x7_regs.specs.Register.{number_of}
 use Rattle.x7_regs.specs.declared.register.Reg.TheVariants.{Cmd}
 use Rattle.x7_text.specs.Row.{row_bytes, row_words, rows}
-use Rattle.x7_listing.specs.HeadLine.{line_of_head}
-use Rattle.x7_listing.specs.declared.line.head_line.HeadLine.{HeadLine}
-use Rattle.x7_listing.specs.declared.line.head_line.HeadLine.TheVariants as head
-use Rattle.x7_listing.specs.Line.{Line, Bytes, Sync, Nop, Write, Read, Write2, Read2, Word, Data, cmd_line}
-
--- a word's line in a header's place
-abbrev pub line_as : HeadLine → Line
-line_as head.Nop = Nop
-line_as head.Sync = Sync
-line_as (head.Write register count) = Write register count
-line_as (head.Read register count) = Read register count
-line_as (head.Write2 count) = Write2 count
-line_as (head.Read2 count) = Read2 count
-line_as (head.Word w) = Word w
+use Rattle.x7_listing.specs.HeadLine.{line_as, line_of_head}
+use Rattle.x7_listing.specs.Line.{Line, Bytes, Sync, Data, cmd_line}
 
 -- the lines of a payload: one a word where the register is CMD, else one for each row of words
 abbrev pub payload_lines : ℕ → List ℕ → List Line
@@ -30,7 +18,7 @@ payload_lines register ws = if register == number_of Cmd then map cmd_line ws el
 abbrev pub packet_lines : Packet → List Line
 packet_lines p = line_as (line_of_head p.step p.head) ∷ payload_lines (named_by p.step) p.payload
 
--- the lines of bytes of a gap, and of no whole word
+-- the lines of the bytes of a gap, or of no whole word: 32 bytes a line
 abbrev pub gap_lines : List ℕ → List Line
 gap_lines bs = map Bytes (rows row_bytes bs)
 
@@ -42,7 +30,7 @@ packets_lines gap packets = gap_lines gap ++ Sync ∷ flat_map packet_lines pack
 abbrev pub session_lines : Session → List Line
 session_lines s = packets_lines s.gap s.packets
 
--- the lines of where the bytes end
+-- the lines of the place where the bytes end: a gap, or a session with its bytes of no whole word
 abbrev pub place_lines : Place → List Line
 place_lines (Searching gap) = gap_lines gap
 place_lines (Synced gap packets tail) = packets_lines gap packets ++ gap_lines tail

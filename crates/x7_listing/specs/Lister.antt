@@ -15,74 +15,75 @@ use Rattle.x7_text.specs.Row.{bytes_text, close, element_text, in_line_after, ne
 use Rattle.x7_listing.specs.HeadLine.{command_line, text_of_head}
 use Rattle.x7_listing.specs.Listing.{IsListing, session_text}
 
--- what a payload word adds where i words stand in an open `data` line (0: none is open)
+-- the text that a payload word adds where i words stand in an open `data` line (0: none is open)
 abbrev pub open_payload : Bool → ℕ → ℕ → List ℕ
 open_payload is_cmd i w = if is_cmd then close i ++ command_line w else element_text row_words (codes "data") spaced i w
 
 -- how many words stand in an open `data` line after one payload word more
-abbrev pub payload_next : Bool → ℕ → ℕ
-payload_next is_cmd i = if is_cmd then 0 else next_in_line row_words i
+abbrev pub in_line_after_payload : Bool → ℕ → ℕ
+in_line_after_payload is_cmd i = if is_cmd then 0 else next_in_line row_words i
 
--- what a word of a session adds, by its step
+-- the text that a word of a session adds where i words stand in an open `data` line, by the word's step
 abbrev pub open_session_word : ℕ → ℕ → Step → List ℕ
 open_session_word i w (Payload register x) = open_payload (register == number_of Cmd) i w
 open_session_word i w step = close i ++ text_of_head step w
 
 -- how many words stand in an open `data` line after one word more of a session
-abbrev pub word_next : ℕ → Step → ℕ
-word_next i (Payload register x) = payload_next (register == number_of Cmd) i
-word_next i step = 0
+abbrev pub in_line_after_word : ℕ → Step → ℕ
+in_line_after_word i (Payload register x) = in_line_after_payload (register == number_of Cmd) i
+in_line_after_word i step = 0
 
--- what words add, the last line being open
+-- the text that words of a session add where i words stand in an open `data` line; the last line may stay open
 abbrev pub open_words : ℕ → List (ℕ × Step) → List ℕ
 open_words i [] = []
-open_words i (s ∷ ss) = open_session_word i s.0 s.1 ++ open_words (word_next i s.1) ss
+open_words i (s ∷ ss) = open_session_word i s.0 s.1 ++ open_words (in_line_after_word i s.1) ss
 
 -- how many words stand in an open `data` line after these words of a session
-abbrev pub words_place : ℕ → List (ℕ × Step) → ℕ
-words_place i [] = i
-words_place i (s ∷ ss) = words_place (word_next i s.1) ss
+abbrev pub in_line_after_words : ℕ → List (ℕ × Step) → ℕ
+in_line_after_words i [] = i
+in_line_after_words i (s ∷ ss) = in_line_after_words (in_line_after_word i s.1) ss
 
 -- the bytes of a gap are listed but for those that are held, which may yet be a sync word
-pub record GapListed (all start : List ℕ) (line : ℕ) (held gap : List ℕ) : Type 0 where
+pub record GapListed (all start : List ℕ) (in_line : ℕ) (held gap : List ℕ) : Type 0 where
   pub prefix : List ℕ
   pub split : gap ≡ prefix ++ held
   pub listed : all ≡ start ++ open_bytes 0 prefix
-  pub count : line ≡ in_line_after row_bytes 0 prefix
+  pub count : in_line ≡ in_line_after row_bytes 0 prefix
   pub full : (length held ≡ 4) ⊎ (prefix ≡ [])
   pub few : length held ≤ 4
 
 -- the words of a session are listed, and the last line is open
-pub record SessionListed (all start : List ℕ) (line : ℕ) (gap : List ℕ) (packets : List Packet) : Type 0 where
+pub record SessionListed (all start : List ℕ) (in_line : ℕ) (gap : List ℕ) (packets : List Packet) : Type 0 where
   pub listed : all ≡ start ++ bytes_text gap ++ codes "sync\n" ++ open_words 0 (flat_map stepped packets)
-  pub count : line ≡ words_place 0 (flat_map stepped packets)
+  pub count : in_line ≡ in_line_after_words 0 (flat_map stepped packets)
 
--- what is written of a listing
+-- what is written of a listing: its text so far, and what stands in its open line or is held
 pub record WrittenSoFar : Type 0 where
   -- whether the last bytes listed are a session's
   pub synced : Bool
   -- how many elements stand in the open line
-  pub line : ℕ
+  pub in_line : ℕ
   -- the bytes that are held: of a gap, or of no whole word where runs are taken
   pub held : List ℕ
   pub text : List ℕ
 
 -- what is written of a listing, by its parts
 abbrev pub written_of : Bool → ℕ → List ℕ → List ℕ → WrittenSoFar
-written_of synced line held text = record { synced = synced; line = line; held = held; text = text }
+written_of synced in_line held text = record { synced = synced; in_line = in_line; held = held; text = text }
 
--- what was listed at a place, where the sessions before it are listed, in a gap and in a session
+-- the text of what comes before the place is `start`; after it stand, by whether the last bytes listed are a session's,
+-- the lines of the session, or those of the gap but for what is held
 abbrev pub HasListedBy : Bool → WrittenSoFar → List ℕ → Place → Mode → Type 0
-HasListedBy false w start (Searching gap) m = GapListed w.text start w.line w.held gap
-HasListedBy false w start (Synced gap packets tail) m = (m ≡ Mode.Due) × (packets ≡ []) × (tail ≡ []) × GapListed w.text start w.line w.held (gap ++ sync_bytes)
-HasListedBy true w start (Searching gap) m = (gap ≡ []) × (w.line ≡ 0) × (w.text ≡ start)
-HasListedBy true w start (Synced gap packets tail) m = (m ≡ Mode.Due → ⊥) × SessionListed w.text start w.line gap packets
+HasListedBy false w start (Searching gap) m = GapListed w.text start w.in_line w.held gap
+HasListedBy false w start (Synced gap packets tail) m = (m ≡ Mode.Due) × (packets ≡ []) × (tail ≡ []) × GapListed w.text start w.in_line w.held (gap ++ sync_bytes)
+HasListedBy true w start (Searching gap) m = (gap ≡ []) × (w.in_line ≡ 0) × (w.text ≡ start)
+HasListedBy true w start (Synced gap packets tail) m = (m ≡ Mode.Due → ⊥) × SessionListed w.text start w.in_line gap packets
 
--- what was listed at a place by what is written, in a gap or in a session
+-- the text of what comes before the place is `start`, and after it stands what is listed at the place
 abbrev pub HasListedAt : WrittenSoFar → List ℕ → Place → Mode → Type 0
 HasListedAt w start place m = HasListedBy w.synced w start place m
 
--- what was listed, after the listings before
+-- what is written are the listings before, and then what is listed of these ended sessions and this place
 abbrev pub HasListed : WrittenSoFar → List ℕ → List Session → Place → Mode → Type 0
 HasListed w before sessions place m = HasListedAt w (before ++ flat_map session_text sessions) place m
 
@@ -94,20 +95,20 @@ pub record HasListedAll (w : WrittenSoFar) (before : List ℕ) (sessions : List 
   pub listed : HasListed w before sessions place mode
   pub not_due : mode ≡ Mode.Due → ⊥
 
--- A run writes what it adds to a reading: what is listed before it is listed after it.
+-- the run was listed: where a reading was listed before it, the reading with what the run adds is listed after it
 abbrev pub WritesRun : Cut → WrittenSoFar → WrittenSoFar → Type 0
 WritesRun run w w2 =
     (before bytes : List ℕ) (sessions new_sessions : List Session) (place new_place : Place) (old new : Mode)
     → HasListed w before sessions place old → Adds run sessions place new_sessions new_place → ChangesMode run old new new_place → IsRun run
     → IsReading bytes new_sessions new_place → HasListed w2 before new_sessions new_place new
 
--- a lister
+-- a lister: its cutter, what stands in its open line or is held, and its text
 pub record ListerState : Type 0 where
   pub cutter : CutterState
   -- whether the last bytes listed are a session's
   pub synced : Bool
   -- how many elements stand in the open line
-  pub line : ℕ
+  pub in_line : ℕ
   -- the bytes that are held: of a gap, or of no whole word where runs are taken
   pub held : List ℕ
   -- the text since it was last cleared
@@ -115,11 +116,11 @@ pub record ListerState : Type 0 where
 
 -- a lister by its parts
 abbrev pub lister_of : CutterState → Bool → ℕ → List ℕ → List ℕ → ListerState
-lister_of cutter synced line held text = record { cutter = cutter; synced = synced; line = line; held = held; text = text }
+lister_of cutter synced in_line held text = record { cutter = cutter; synced = synced; in_line = in_line; held = held; text = text }
 
 -- what a lister has written, the texts given and then its own
 abbrev pub listing_written : ListerState → List ℕ → WrittenSoFar
-listing_written l given = written_of l.synced l.line l.held (given ++ l.text)
+listing_written l given = written_of l.synced l.in_line l.held (given ++ l.text)
 
 -- The texts given and the lister's are those of listings before, and then what is listed of these bytes.
 pub record HasListedJust (l : ListerState) (given before bytes : List ℕ) : Type 0 where

@@ -6,8 +6,8 @@ use Rattle.x7_packets.specs.declared.stream.Run.{Run}
 use Rattle.x7_packets.specs.declared.stream.Run.TheVariants as run
 use Rattle.x7_listing.specs.Lister.{Finished, ListerState, TakerStandsFor}
 
--- what a lister of runs has listed: the texts given before its own, the listings before, the
--- bytes of the runs, and what is due after them
+-- what a lister of runs has listed: the texts given before its own, the listings before, the bytes of the runs, and
+-- where a cutter stands after them
 pub record RunsListed : Type 0 where
   pub given : List ℕ
   pub before : List ℕ

@@ -25,7 +25,7 @@ packets_text gap packets = bytes_text gap ++ codes "sync\n" ++ flat_map packet_t
 abbrev pub session_text : Session → List ℕ
 session_text s = packets_text s.gap s.packets
 
--- the lines of where the bytes end
+-- the lines of the place where the bytes end: a gap, or a session with its bytes of no whole word
 abbrev pub place_text : Place → List ℕ
 place_text (Searching gap) = bytes_text gap
 place_text (Synced gap packets tail) = packets_text gap packets ++ bytes_text tail

@@ -2,7 +2,7 @@
 use Rattle.std.specs.Prelude.{◌≡◌, ◌≢◌, ℕ, Bool, true, false, List, ◌++◌, Option, None, Some}
 use Rattle.x7_words.specs.Word.{bytes_of_word}
 
--- what is read: values that fit, the text of each, and the word that it stands for
+-- what texts are read: those of values that fit, each of which stands for a word
 module _ {A : Type 0} (fits : A → Type 0) (text : A → List ℕ) (word : A → ℕ) where
   -- the text is that of some x that fits, and this is its word; or that of none, and there is no word
   abbrev pub IsWordOf : List ℕ → Option ℕ → Type 0

@@ -20,7 +20,7 @@ is_in_session (pen.Tail in_line tail) = true
 
 -- how many elements stand in a pen's open line
 abbrev pub in_line_of : Pen → ℕ
-in_line_of (pen.Gap gap) = gap.line
+in_line_of (pen.Gap gap) = gap.in_line
 in_line_of (pen.Session in_line) = in_line.count
 in_line_of (pen.Tail in_line tail) = in_line.count
 
@@ -38,11 +38,12 @@ lister_with cutter p text = lister_of cutter (is_in_session p) (in_line_of p) (h
 abbrev pub TakesHead : CutterState → ℕ → Step → Type 0
 TakesHead c w step = TakesAsOneRun c c (bytes_of_word w) (Head w step)
 
--- the lister has listed these bytes too
+-- whatever the old lister has listed, the new one has listed, and these bytes after it
 abbrev pub ListsMore : ListerState → ListerState → List ℕ → Type 0
 ListsMore old new more = (given before bytes : List ℕ) → HasListedJust old given before bytes → HasListedJust new given before (bytes ++ more)
 
--- the lister has listed these bytes too, and no sync word is still to be listed
+-- whatever the old lister has listed, the new one has listed, and these bytes after it; no sync word is still to be
+-- listed
 abbrev pub ListsMoreAndRests : ListerState → ListerState → List ℕ → Type 0
 ListsMoreAndRests old new more = (given before bytes : List ℕ) → HasListedJust old given before bytes → ListerStandsFor new given before (bytes ++ more)
 
@@ -52,21 +53,21 @@ written_with p text = written_of (is_in_session p) (in_line_of p) (held_by p) te
 
 -- what is written with this pen in a gap
 abbrev pub gap_written : GapPen → List ℕ → WrittenSoFar
-gap_written gap text = written_of false gap.line (take gap.count gap.held) text
+gap_written gap text = written_of false gap.in_line (take gap.count gap.held) text
 
 -- more bytes of a gap are listed but for those that are held, whatever texts were given
 abbrev pub GapGoesOn : WrittenSoFar → WrittenSoFar → List ℕ → Type 0
-GapGoesOn old new more = (given start gap : List ℕ) → GapListed (given ++ old.text) start old.line old.held gap → GapListed (given ++ new.text) start new.line new.held (gap ++ more)
+GapGoesOn old new more = (given start gap : List ℕ) → GapListed (given ++ old.text) start old.in_line old.held gap → GapListed (given ++ new.text) start new.in_line new.held (gap ++ more)
 
--- with this text what is left at an end is listed, whatever texts were given: what
--- is written, and the bytes of no whole word
+-- with this text a listing is whole, whatever texts were given before: it is what is written, then what is held, and
+-- these bytes of no whole word at the end
 abbrev pub EndsWith : WrittenSoFar → List ℕ → List ℕ → Type 0
 EndsWith w kept text = (given before : List ℕ) (sessions : List Session) (place : Place)
-    → HasListedAll (written_of w.synced w.line w.held (given ++ w.text)) before sessions place → kept ≡ tail_of place → given ++ text ≡ before ++ reading_text sessions place
+    → HasListedAll (written_of w.synced w.in_line w.held (given ++ w.text)) before sessions place → kept ≡ tail_of place → given ++ text ≡ before ++ reading_text sessions place
 
--- with this text what is left at an end is listed, whatever texts were given, by a pen
--- that holds the bytes of no whole word itself
+-- with this text a listing is whole, whatever texts were given before: it is what is written, and then what is held,
+-- which in a session are the bytes of no whole word at the end
 abbrev pub EndsHeld : WrittenSoFar → List ℕ → Type 0
 EndsHeld w text = (given before : List ℕ) (sessions : List Session) (place : Place)
-    → HasListedAll (written_of w.synced w.line w.held (given ++ w.text)) before sessions place → (w.synced ≡ true → w.held ≡ tail_of place)
+    → HasListedAll (written_of w.synced w.in_line w.held (given ++ w.text)) before sessions place → (w.synced ≡ true → w.held ≡ tail_of place)
     → given ++ text ≡ before ++ reading_text sessions place

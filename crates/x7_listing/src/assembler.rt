@@ -1,4 +1,4 @@
-//! Assembling a whole text.
+//! Assembling a whole text at once.
 ghost use Rattle.std.specs.Prelude.{◌≡◌, ℕ, List, [], ◌≤◌, ◌⊎◌, length, Ok, Err, IfOk, IfErr, MatchResult};
 ghost use Rattle.x7_words.specs.Word.{AreBytes};
 ghost use Rattle.x7_text.specs.LineReader.{WantsAt};

@@ -1,4 +1,4 @@
-//! Laws of the definitions.
+//! Laws of listings and of texts that are assembled.
 ghost use Rattle.std.specs.Prelude.{◌≡◌, ◌+◌, ◌*◌, ◌≤◌, ℕ, List, ◌++◌, length, true, Result, Ok};
 ghost use Rattle.x7_words.specs.Word.{AreBytes};
 ghost use Rattle.x7_text.specs.Lines.{has_no_end};
@@ -6,7 +6,7 @@ ghost use Rattle.x7_listing.specs.Assembly.{asm_limit, HasOutcome, IsAsm};
 ghost use Rattle.x7_listing.specs.declared.assembler.AsmFault.{AsmFault};
 ghost use Rattle.x7_listing.specs.Line.{FitsLine, IsLine, IsListed, Line, text_of, ended_texts};
 ghost use Rattle.x7_listing.specs.Listed.{listing_lines};
-ghost use Rattle.x7_listing.specs.BitLine.{bit_text, IsHeld};
+ghost use Rattle.x7_listing.specs.BitLine.{bit_text, FitsHeader};
 ghost use Rattle.x7_listing.specs.Listing.{IsListing, IsTextPrefix, listing_of};
 ghost use Rattle.x7_listing.specs.StreamListing.{stream_listing};
 ghost use Rattle.x7_header.specs.Header.{Contents};
@@ -70,7 +70,7 @@ pub fn listing_is_short()
 
 /// A header's line is that of no other header, and no other line.
 pub fn header_line_is_its_own()
-    ensures one { (x y : Contents) → IsHeld x → IsHeld y → bit_text x ≡ bit_text y → x ≡ y }
+    ensures one { (x y : Contents) → FitsHeader x → FitsHeader y → bit_text x ≡ bit_text y → x ≡ y }
     ensures no_line { (x : Contents) (line : Line) → IsLine (bit_text x) line → ⊥ }
 {}
 

@@ -12,7 +12,7 @@ use Rattle.x7_packets.specs.declared.header.Step.{Step}
 use Rattle.x7_packets.specs.declared.header.Step.TheVariants.{Nop, Open, Payload}
 use Rattle.x7_packets.specs.declared.cutter.Cut.TheVariants.{Body, Head, Skip}
 use Rattle.x7_packets.specs.Mode.{Mode}
-use Rattle.x7_packets.specs.AtOnce.{BeginsWrite, EndsGap, in_write, longest_short_gap, longest_short_write, most_short_words, short_gap_room, WritesFew, WritesOne}
+use Rattle.x7_packets.specs.AtOnce.{BeginsWrite, EndsGap, in_write, longest_gap_and_sync, longest_short_write, most_short_words, short_gap_room, WritesShort, WritesOne}
 use Rattle.x7_packets.specs.Cutter.{AtPlace, CutterState, CutterStandsFor, LongerSession, AfterRun, TakesAsOneRun}
 use Rattle.x7_packets.specs.PacketWords.{dummy_word, no_op, sync_word, type1_write, type1_write_kind}
 use Rattle.x7_packets.specs.Packet.{Packet, ends_session, meaning, payload_steps, register_of}
@@ -95,7 +95,7 @@ pub takes_head : (c n : CutterState) (w : ℕ) (step : Step) → c.mode ≡ Mode
 takes_head c n w step is to none none2 calm grows bytes sessions (Searching gap) s = absurd (let h : AtPlace c Mode.Synced (Searching gap) = rw is at s.at in h)
 takes_head c n w step is to none none2 calm grows bytes sessions (Synced gap packets tail) s =
     let g : GoesOn n (bytes ++ bytes_of_word w) sessions gap packets ((w, step) ∷ []) = goes_on c n w step bytes sessions gap tail packets is to none none2 calm grows s in
-    record { new_sessions = sessions; new_place = g.new; stands = g.stands; adds = g.longer; turns = (λ e. absurd (let f : Mode.Synced ≡ Mode.Due = sym is ∙ e in cc), λ e. absurd (let f : Mode.Synced ≡ Mode.Due = sym to ∙ e in cc)) }
+    record { new_sessions = sessions; new_place = g.new; stands = g.stands; adds = g.longer; mode_changes = (λ e. absurd (let f : Mode.Synced ≡ Mode.Due = sym is ∙ e in cc), λ e. absurd (let f : Mode.Synced ≡ Mode.Due = sym to ∙ e in cc)) }
 
 pub takes_nop : (c : CutterState) → c.mode ≡ Mode.Synced → c.kept ≡ [] → c.machine.due ≡ 0 → TakesAsOneRun c c (bytes_of_word no_op) (Head no_op Nop)
 takes_nop c is none due = takes_head c c no_op Nop is is none none refl (λ ps s. nop_grows c.machine ps due s)
@@ -116,7 +116,7 @@ pub writes_one : (old new : CutterState) (bs : List ℕ) (register w : ℕ) → 
 writes_one old new bs register w is to matcher none none2 begins opens ends =
     let middle : CutterState = record { mode = Mode.Synced; matcher = old.matcher; machine = in_write register 1; kept = [] } in
     record {
-      between = middle;
+      middle = middle;
       range = begins.range;
       whole = begins.whole;
       bytes = begins.are;
@@ -147,17 +147,17 @@ takes_words c n register count run is to none none2 fits long some other machine
     let calm : ends_by (payload_steps register (words_of_bytes run.now)) ≡ false = calm_words register (words_of_bytes run.now) other in
     body_more c n bytes run.now sessions place register run s is all fits word none2 (to ∙ ap (λ (b : Bool). if b then Mode.Searching else Mode.Synced) (sym calm)) (λ e. absurd (let f : true ≡ false = sym e ∙ calm in cc))
 
-pub writes_few : (old new : CutterState) (bs : List ℕ) (head register count : ℕ) → old.mode ≡ Mode.Synced → new.mode ≡ Mode.Synced → old.kept ≡ [] → new.kept ≡ [] → longest_short_write ≤ length bs → AreBytes bs
+pub writes_short : (old new : CutterState) (bs : List ℕ) (head register count : ℕ) → old.mode ≡ Mode.Synced → new.mode ≡ Mode.Synced → old.kept ≡ [] → new.kept ≡ [] → longest_short_write ≤ length bs → AreBytes bs
     → bytes_of_word head ≡ get_or bs 0 0 ∷ get_or bs 1 0 ∷ get_or bs 2 0 ∷ get_or bs 3 0 ∷ [] → head ≡ type1_write register count → register < 32 → (register ≡ 4 → ⊥) → 0 < count → count ≤ most_short_words
     → ((ps : List Packet) (n : ℕ) → 0 < n → n < 2 ^ 11 → MachineStandsFor old.machine ps → Grows ps ((type1_write register n, Open register n) ∷ []) (in_write register n))
     → ((ps : List Packet) (ws : List ℕ) → AreWords ws → 0 < length ws → MachineStandsFor (in_write register (length ws)) ps → Grows ps (payload_steps register ws) new.machine)
-    → WritesFew old new bs register count
-writes_few old new bs head register count is to none none2 long fits e g range other some few opens goes =
+    → WritesShort old new bs register count
+writes_short old new bs head register count is to none none2 long fits e g range other some few opens goes =
     let middle : CutterState = record { mode = Mode.Synced; matcher = old.matcher; machine = in_write register count; kept = [] } in
     let after : AreBytes (drop 4 bs) = all_back (λ b. b < 256) (take 4 bs) (drop 4 bs) (subst AreBytes (sym (take-append-drop 4 bs)) fits) in
     let size : length (take (4 * count) (drop 4 bs)) ≡ 4 * count = length-take-le (4 * count) (drop 4 bs) (omega (arith, length-drop 4 bs, long, few)) in
     record {
-      between = middle;
+      middle = middle;
       range = range;
       other = other;
       some = some;
@@ -176,11 +176,11 @@ other_register register b e f g = absurd (let h : true ≡ false = ap (λ r. r =
 -- ---- a gap
 
 pub ends_gap : (old new : CutterState) (bs : List ℕ) (count : ℕ) → old.mode ≡ Mode.Searching → new.mode ≡ Mode.Synced → new.machine ≡ old.machine → new.kept ≡ [] → IsClear old.matcher
-    → short_gap_room ≤ length bs → AreBytes bs → count + 4 ≤ longest_short_gap → IsFirstSync bs count → EndsGap old new bs count
+    → short_gap_room ≤ length bs → AreBytes bs → count + 4 ≤ longest_gap_and_sync → IsFirstSync bs count → EndsGap old new bs count
 ends_gap old new bs count is to same none2 clear long fits near i =
     let middle : CutterState = record { mode = Mode.Due; matcher = old.matcher; machine = old.machine; kept = [] } in
     record {
-      between = middle;
+      middle = middle;
       near = near;
       long = long;
       found = up_to_sync bs count i.here;

@@ -44,7 +44,7 @@ kept_more c n bytes more sessions (Synced gap packets tail) s is to same kept sh
         at = rw (to, same) (h.0, ap (λ t. t ++ more) h.1 ∙ sym kept);
       };
       adds = (refl, more, refl);
-      turns = (λ e. absurd (let f : Mode.Synced ≡ Mode.Due = sym is ∙ e in cc), λ e. absurd (let f : Mode.Synced ≡ Mode.Due = sym to ∙ e in cc));
+      mode_changes = (λ e. absurd (let f : Mode.Synced ≡ Mode.Due = sym is ∙ e in cc), λ e. absurd (let f : Mode.Synced ≡ Mode.Due = sym to ∙ e in cc));
     }
 
 -- the sync word is given
@@ -62,7 +62,7 @@ sync_given c n bytes sessions (Synced gap packets tail) s is to same none =
         at = rw (to, same, h.0) (h.2, h.1 ∙ sym none);
       };
       adds = (h.0, h.1, refl, rw (h.0, h.1) refl);
-      turns = (is, λ e. absurd (let f : Mode.Synced ≡ Mode.Due = sym to ∙ e in cc));
+      mode_changes = (is, λ e. absurd (let f : Mode.Synced ≡ Mode.Due = sym to ∙ e in cc));
     }
 
 -- bytes taken while searching, up to and with a sync word
@@ -86,7 +86,7 @@ skip_found c n bytes rest run count sessions (Searching gap) s is to same after 
         at = rw (to, same) (refl, refl, h.1);
       };
       adds = (refl, inr (a.0, ap (λ t. gap ++ t) e ∙ a.1, refl));
-      turns = to;
+      mode_changes = to;
     }
 
 -- bytes taken while searching, without a sync word
@@ -106,7 +106,7 @@ skip_all c n bytes rest run sessions (Searching gap) s is to same after e fits =
         at = rw (to, same) (a.1, h.1);
       };
       adds = (refl, inl (ap (λ t. Searching (gap ++ t)) (sym e)));
-      turns = tt;
+      mode_changes = tt;
     }
 
 -- the bytes of packets with words more
@@ -182,7 +182,7 @@ pub head_more : (c n : CutterState) (bytes new : List ℕ) (sessions : List Sess
 head_more c n bytes new sessions (Searching gap) w step s is grows fits word none to matcher = absurd (let h : AtPlace c Mode.Synced (Searching gap) = rw is at s.at in h)
 head_more c n bytes new sessions (Synced gap packets tail) w step s is grows fits word none to matcher =
     let m = words_more c n bytes new sessions gap tail packets ((w, step) ∷ []) s is grows fits (append-nil (bytes_of_word w) ∙ word) none to matcher in
-    record { new_sessions = m.0; new_place = m.1; stands = m.2; adds = m.3; turns = (λ e. absurd (let f : Mode.Synced ≡ Mode.Due = sym is ∙ e in cc), λ e. absurd (not_due (ends_by ((w, step) ∷ [])) to e)) }
+    record { new_sessions = m.0; new_place = m.1; stands = m.2; adds = m.3; mode_changes = (λ e. absurd (let f : Mode.Synced ≡ Mode.Due = sym is ∙ e in cc), λ e. absurd (not_due (ends_by ((w, step) ∷ [])) to e)) }
 
 pub word_more : (c n : CutterState) (bytes new : List ℕ) (sessions : List Session) (place : Place) (register w : ℕ)
     → CutterStandsFor c bytes sessions place → c.mode ≡ Mode.Synced
@@ -192,7 +192,7 @@ pub word_more : (c n : CutterState) (bytes new : List ℕ) (sessions : List Sess
 word_more c n bytes new sessions (Searching gap) register w s is grows fits word none to matcher = absurd (let h : AtPlace c Mode.Synced (Searching gap) = rw is at s.at in h)
 word_more c n bytes new sessions (Synced gap packets tail) register w s is grows fits word none to matcher =
     let m = words_more c n bytes new sessions gap tail packets ((w, Payload register w) ∷ []) s is grows fits (append-nil (bytes_of_word w) ∙ word) none to matcher in
-    record { new_sessions = m.0; new_place = m.1; stands = m.2; adds = m.3; turns = (λ e. absurd (let f : Mode.Synced ≡ Mode.Due = sym is ∙ e in cc), λ e. absurd (not_due (ends_by ((w, Payload register w) ∷ [])) to e)) }
+    record { new_sessions = m.0; new_place = m.1; stands = m.2; adds = m.3; mode_changes = (λ e. absurd (let f : Mode.Synced ≡ Mode.Due = sym is ∙ e in cc), λ e. absurd (not_due (ends_by ((w, Payload register w) ∷ [])) to e)) }
 
 pub body_more : (c n : CutterState) (bytes new : List ℕ) (sessions : List Session) (place : Place) (register : ℕ) (run : Bor (List ℕ))
     → CutterStandsFor c bytes sessions place → c.mode ≡ Mode.Synced
@@ -202,7 +202,7 @@ pub body_more : (c n : CutterState) (bytes new : List ℕ) (sessions : List Sess
 body_more c n bytes new sessions (Searching gap) register run s is grows fits word none to matcher = absurd (let h : AtPlace c Mode.Synced (Searching gap) = rw is at s.at in h)
 body_more c n bytes new sessions (Synced gap packets tail) register run s is grows fits word none to matcher =
     let m = words_more c n bytes new sessions gap tail packets (run_steps (Body register run)) s is grows fits word none to matcher in
-    record { new_sessions = m.0; new_place = m.1; stands = m.2; adds = m.3; turns = (λ e. absurd (let f : Mode.Synced ≡ Mode.Due = sym is ∙ e in cc), λ e. absurd (not_due (ends_by (run_steps (Body register run))) to e)) }
+    record { new_sessions = m.0; new_place = m.1; stands = m.2; adds = m.3; mode_changes = (λ e. absurd (let f : Mode.Synced ≡ Mode.Due = sym is ∙ e in cc), λ e. absurd (not_due (ends_by (run_steps (Body register run))) to e)) }
 
 -- a call that skipped bytes, up to and with a sync word
 pub cuts_found : (c n : CutterState) (rest : List ℕ) (run : Bor (List ℕ)) (count taken : ℕ)

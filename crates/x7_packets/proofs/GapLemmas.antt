@@ -34,15 +34,15 @@ module _ (gap more : List ℕ) (f : AreBytes (gap ++ more)) (n : NoneBegins gap 
 
 alike_after : (one other more : List ℕ) → AreGaps one other more → AreAlike (one ++ more) (other ++ more)
 alike_after one other more g = record {
-  history = history_passed one more g.fits.0 g.none.0 ∙ ap (λ (n : ℕ). moved n (history_of more)) g.long ∙ sym (history_passed other more g.fits.1 g.none.1);
-  count = length-append one more ∙ ap (λ (n : ℕ). n + length more) g.long ∙ sym (length-append other more);
+  history = history_passed one more g.fits.0 g.none.0 ∙ ap (λ (n : ℕ). moved n (history_of more)) g.count ∙ sym (history_passed other more g.fits.1 g.none.1);
+  count = length-append one more ∙ ap (λ (n : ℕ). n + length more) g.count ∙ sym (length-append other more);
   synced = synced_passed one more g.fits.0 g.none.0 ∙ sym (synced_passed other more g.fits.1 g.none.1);
 }
 
 -- of fewer bytes than the gaps have
 alike_within : (one other more : List ℕ) (k : ℕ) → AreGaps one other more → k ≤ length one → AreAlike (take k one) (take k other)
 alike_within one other more k g l =
-    let m : k ≤ length other = omega (arith, l, g.long) in
+    let m : k ≤ length other = omega (arith, l, g.count) in
     let of_one : (reading_of (take k one) ≡ record { sessions = []; place = Searching (take k one) }) × (history_of (take k one) ≡ []) = prefix_asks_nothing one more k l (all_prefix (λ x. x < 256) one more g.fits.0) g.none.0 in
     let of_other : (reading_of (take k other) ≡ record { sessions = []; place = Searching (take k other) }) × (history_of (take k other) ≡ []) = prefix_asks_nothing other more k m (all_prefix (λ x. x < 256) other more g.fits.1) g.none.1 in
     record {
@@ -52,7 +52,7 @@ alike_within one other more k g l =
     }
 
 fewer : (one other more : List ℕ) (n : ℕ) → AreGaps one other more → AreGaps one other (take n more)
-fewer one other more n g = record { long = g.long; fits = (bytes one g.fits.0, bytes other g.fits.1); none = (before one g.none.0, before other g.none.1) }
+fewer one other more n g = record { count = g.count; fits = (bytes one g.fits.0, bytes other g.fits.1); none = (before one g.none.0, before other g.none.1) }
   where
     bytes : (gap : List ℕ) → AreBytes (gap ++ more) → AreBytes (gap ++ take n more)
     bytes gap f = all_append (λ x. x < 256) gap (take n more) (all_prefix (λ x. x < 256) gap more f) (all_take (λ x. x < 256) n more (all_back (λ x. x < 256) gap more f))
@@ -66,10 +66,10 @@ alike_prefixes one other more k g = elim (cases_lt k (length one)) [
   | inl few ↦
       let l : k ≤ length one = omega (arith, few) in
       subst (λ (b : List ℕ). AreAlike b (take k (other ++ more))) (sym (take-append-le k one more l))
-      (subst (AreAlike (take k one)) (sym (take-append-le k other more (omega (arith, l, g.long)))) (alike_within one other more k g l))
+      (subst (AreAlike (take k one)) (sym (take-append-le k other more (omega (arith, l, g.count)))) (alike_within one other more k g l))
   | inr past ↦
       let n : ℕ = k - length one in
       let at : (gap : List ℕ) → length one ≡ length gap → gap ++ take n more ≡ take k (gap ++ more) =
       λ gap e. (let sum : length gap + n ≡ k = omega (arith, past, e) in sym (take-append-add gap more n) ∙ ap (λ (x : ℕ). take x (gap ++ more)) sum) in
-      subst (λ (b : List ℕ). AreAlike b (take k (other ++ more))) (at one refl) (subst (AreAlike (one ++ take n more)) (at other g.long) (alike_after one other (take n more) (fewer one other more n g)))
+      subst (λ (b : List ℕ). AreAlike b (take k (other ++ more))) (at one refl) (subst (AreAlike (one ++ take n more)) (at other g.count) (alike_after one other (take n more) (fewer one other more n g)))
 ]

@@ -17,10 +17,10 @@ abbrev history_in : Reading → History
 history_in r = history r.sessions r.place
 
 -- a byte more either enters nothing and is kept, or it ends a word, of which three bytes were kept
-abbrev Steps : Reading → Reading → Type 0
-Steps old new = ((history_in new ≡ history_in old) × (left_of new ≤ left_of old + 1)) ⊎ ((left_of old ≡ 3) × (left_of new ≡ 0))
+abbrev CutsNext : Reading → Reading → Type 0
+CutsNext old new = ((history_in new ≡ history_in old) × (left_of new ≤ left_of old + 1)) ⊎ ((left_of old ≡ 3) × (left_of new ≡ 0))
 
-gap_steps : (sessions : List Session) (gap prefix more : List ℕ) (b : Bool) → Steps (record { sessions = sessions; place = Searching gap }) (record { sessions = sessions; place = if b then Synced prefix [] [] else Searching more })
+gap_steps : (sessions : List Session) (gap prefix more : List ℕ) (b : Bool) → CutsNext (record { sessions = sessions; place = Searching gap }) (record { sessions = sessions; place = if b then Synced prefix [] [] else Searching more })
 gap_steps sessions gap prefix more true = inl (refl, omega arith)
 gap_steps sessions gap prefix more false = inl (refl, omega arith)
 
@@ -29,7 +29,7 @@ word_steps : (sessions : List Session) (gap : List ℕ) (all : List Packet) (b :
 word_steps sessions gap all true = refl
 word_steps sessions gap all false = refl
 
-place_steps : (sessions : List Session) (place : Place) (x : ℕ) → Steps (record { sessions = sessions; place = place }) (with_byte_at sessions place x)
+place_steps : (sessions : List Session) (place : Place) (x : ℕ) → CutsNext (record { sessions = sessions; place = place }) (with_byte_at sessions place x)
 place_steps sessions (Searching gap) x = gap_steps sessions gap (before_last_four (gap ++ x ∷ [])) (gap ++ x ∷ []) (is_sync (last_four (gap ++ x ∷ [])))
 place_steps sessions (Synced gap packets []) x = inl (refl, omega arith)
 place_steps sessions (Synced gap packets (a ∷ [])) x = inl (refl, omega arith)
@@ -39,10 +39,10 @@ place_steps sessions (Synced gap packets (a ∷ b ∷ c ∷ [])) x =
     inr (refl, word_steps sessions gap all (ended all))
 place_steps sessions (Synced gap packets (a ∷ b ∷ c ∷ d ∷ tail)) x = inl (refl, omega (arith, length-append (a ∷ b ∷ c ∷ d ∷ tail) (x ∷ [])))
 
-byte_steps : (bytes : List ℕ) (x : ℕ) → Steps (reading_of bytes) (reading_of (bytes ++ x ∷ []))
+byte_steps : (bytes : List ℕ) (x : ℕ) → CutsNext (reading_of bytes) (reading_of (bytes ++ x ∷ []))
 byte_steps bytes x =
     let more : reading_of (bytes ++ x ∷ []) ≡ with_byte (reading_of bytes) x = fold-append with_byte (record { sessions = []; place = Searching [] }) bytes (x ∷ []) in
-    subst (Steps (reading_of bytes)) (sym more) (place_steps (reading_of bytes).sessions (reading_of bytes).place x)
+    subst (CutsNext (reading_of bytes)) (sym more) (place_steps (reading_of bytes).sessions (reading_of bytes).place x)
 
 -- this many bytes entered nothing yet, or one access, after which fewer bytes are kept
 abbrev Once : History → List ℕ → ℕ → Type 0

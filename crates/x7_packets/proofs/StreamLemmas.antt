@@ -18,7 +18,7 @@ use Rattle.x7_packets.specs.declared.stream.Run.{Run}
 use Rattle.x7_packets.specs.declared.stream.Run.TheVariants as run
 use Rattle.x7_packets.specs.PacketsState.{PacketsState, piece_size}
 use Rattle.x7_packets.specs.Run.{FitsRun, IsNext, RunAdds, cut_of, is_last, bytes_of_run}
-use Rattle.x7_packets.specs.Stream.{GivesRun, GivesUp, IsFoundRun, IsLastFound, IsRunOf, PacketsStandFor, TookBytes, SameDue, Steps, ReadsAndGives, filled, not_given, with_tail}
+use Rattle.x7_packets.specs.Stream.{GivesRun, GivesUp, IsFoundRun, IsLastFound, IsRunOf, PacketsStandFor, TookBytes, SameDue, CutsNext, ReadsAndGives, filled, not_given, with_tail}
 
 -- how many reads there are at most until a word is whole
 abbrev pub turns_left : List ℕ → List ℕ → ℕ
@@ -76,7 +76,7 @@ adds_bare (cut.Body register bytes) t sessions (Synced gap packets tail) ns n ne
 record Same (c : Cut) (r : Run) : Type 0 where
   bytes : bytes_of_run r ≡ run_bytes c
   adds : (sessions new_sessions : List Session) (place new : Place) → Adds c sessions place new_sessions new → RunAdds r sessions place new_sessions new
-  turns : (old new : Mode) (place : Place) → ChangesMode c old new place → ChangesMode (cut_of r) old new place
+  mode_changes : (old new : Mode) (place : Place) → ChangesMode c old new place → ChangesMode (cut_of r) old new place
   is : IsRun c → FitsRun r
   goes_on : is_last r ≡ false
 
@@ -96,7 +96,7 @@ same_skip : (a b : Bor (List ℕ)) → b.now ≡ a.now → Same (cut.Skip a) (ru
 same_skip a b e = record {
   bytes = e;
   adds = λ sessions ns place new h. skip_alike a b sessions ns place new e h;
-  turns = λ old new place h. skip_turns a b old new place h;
+  mode_changes = λ old new place h. skip_turns a b old new place h;
   is = λ h. rw e h;
   goes_on = refl;
 }
@@ -105,7 +105,7 @@ same_body : (register : ℕ) (a b : Bor (List ℕ)) → b.now ≡ a.now → Same
 same_body register a b e = record {
   bytes = e;
   adds = λ sessions ns place new h. body_alike register a b sessions ns place new e h;
-  turns = λ old new place h. h;
+  mode_changes = λ old new place h. h;
   is = λ h. rw e h;
   goes_on = refl;
 }
@@ -120,9 +120,9 @@ same_run : (f : FoundRun) (c : Cut) (r : Run) (bytes kept : List ℕ) → IsFoun
 same_run FoundRun.Skip c r bytes kept i l h =
     let there : Lends (cut.Skip i.0) bytes = subst (λ x. Lends x bytes) i.1 h in
     rw (i.1, l.1) (same_skip i.0 l.0 (l.2 ∙ sym there))
-same_run FoundRun.Sync c r bytes kept i l h = rw (i, l) (record { bytes = refl; adds = λ s ns p n x. x; turns = λ o n p x. x; is = λ x. x; goes_on = refl })
-same_run (FoundRun.Head w step) c r bytes kept i l h = rw (i, l) (record { bytes = refl; adds = λ s ns p n x. x; turns = λ o n p x. x; is = λ x. x; goes_on = refl })
-same_run (FoundRun.Word register w) c r bytes kept i l h = rw (i, l) (record { bytes = refl; adds = λ s ns p n x. x; turns = λ o n p x. x; is = λ x. x; goes_on = refl })
+same_run FoundRun.Sync c r bytes kept i l h = rw (i, l) (record { bytes = refl; adds = λ s ns p n x. x; mode_changes = λ o n p x. x; is = λ x. x; goes_on = refl })
+same_run (FoundRun.Head w step) c r bytes kept i l h = rw (i, l) (record { bytes = refl; adds = λ s ns p n x. x; mode_changes = λ o n p x. x; is = λ x. x; goes_on = refl })
+same_run (FoundRun.Word register w) c r bytes kept i l h = rw (i, l) (record { bytes = refl; adds = λ s ns p n x. x; mode_changes = λ o n p x. x; is = λ x. x; goes_on = refl })
 same_run (FoundRun.Body register) c r bytes kept i l h =
     let there : Lends (cut.Body register i.0) bytes = subst (λ x. Lends x bytes) i.1 h in
     rw (i.1, l.1) (same_body register i.0 l.0 (l.2 ∙ sym there))
@@ -246,7 +246,7 @@ parted : (given kept left : List ℕ) (n : ℕ) → given ++ (kept ++ left) ≡ 
 parted given kept left n = ap (λ t. given ++ (kept ++ t)) (sym (take-append-drop n left)) ∙ simp append_assoc
 
 -- after a call that needs more bytes the reader stands for the same bytes
-pub needs : (old new : PacketsState) (bytes given : List ℕ) (s : Steps old new false) → old.done ≡ false → PacketsStandFor old bytes given
+pub needs : (old new : PacketsState) (bytes given : List ℕ) (s : CutsNext old new false) → old.done ≡ false → PacketsStandFor old bytes given
     → PacketsStandFor new bytes given × (old.cutter.mode ≡ Mode.Due → ⊥) × (new.cutter.mode ≡ Mode.Due → ⊥)
 needs old new bytes given s on p =
     let none : not_given old ≡ old.cutter.kept = unknown_on old on in
@@ -254,7 +254,7 @@ needs old new bytes given s on p =
     let w : AfterRun old.cutter new.cutter ((given ++ not_given old) ++ take s.count old.left) p.sessions (with_tail old.cutter.kept p.place) s.run = s.cuts.adds _ p.sessions _ p.cutter in
     let k : new.cutter.kept ≡ tail_of w.new_place = s.kept _ w.new_sessions w.new_place w.stands in
     let at : (w.new_sessions ≡ p.sessions) × (w.new_place ≡ with_tail new.cutter.kept p.place) = need_place s.run p.sessions w.new_sessions p.place w.new_place old.cutter.kept new.cutter.kept s.is w.adds k in
-    let t : (old.cutter.mode ≡ Mode.Due → ⊥) × (new.cutter.mode ≡ Mode.Due → ⊥) = need_turns s.run old.cutter.mode new.cutter.mode w.new_place s.is w.turns in
+    let t : (old.cutter.mode ≡ Mode.Due → ⊥) × (new.cutter.mode ≡ Mode.Due → ⊥) = need_turns s.run old.cutter.mode new.cutter.mode w.new_place s.is w.mode_changes in
     let joined : old.cutter.kept ++ take s.count old.left ≡ new.cutter.kept = s.cuts.joined ∙ ap (λ x. x ++ new.cutter.kept) (need_tells_none s.run s.is) in
     let taken : (given ++ not_given old) ++ take s.count old.left ≡ given ++ not_given new = ap (λ x. (given ++ x) ++ take s.count old.left) none ∙ append_assoc given old.cutter.kept (take s.count old.left) ∙ ap (λ x. given ++ x) (joined ∙ sym (unknown_on new still)) in
     let stands : CutterStandsFor new.cutter (given ++ not_given new) p.sessions (with_tail new.cutter.kept p.place) = rw (← taken, ← at.0, ← at.1) w.stands in (
@@ -274,7 +274,7 @@ needs old new bytes given s on p =
     )
 
 -- after a call that gave a run the reader stands for the same bytes, of which the run's are given
-pub runs : (old new : PacketsState) (bytes given : List ℕ) (r : Run) (s : Steps old new true) → old.done ≡ false → IsLastFound new r → PacketsStandFor old bytes given
+pub runs : (old new : PacketsState) (bytes given : List ℕ) (r : Run) (s : CutsNext old new true) → old.done ≡ false → IsLastFound new r → PacketsStandFor old bytes given
     → PacketsStandFor new bytes (given ++ bytes_of_run r) × IsNext given old.cutter.mode r new.cutter.mode × (old.cutter.kept ++ old.left ≡ bytes_of_run r ++ new.left)
     × (IsLent old.cutter (length old.left) (cut_of r) × SkipsAll new.cutter (length old.left) (cut_of r))
 runs old new bytes given r s on last p =
@@ -314,8 +314,8 @@ runs old new bytes given r s on last p =
         before = p.reading;
         after = after;
         adds = same.adds p.sessions w.new_sessions p.place w.new_place (adds_bare s.run old.cutter.kept p.sessions p.place w.new_sessions w.new_place never (tail_on p.place old.done old.cutter.kept on p.tail) w.adds);
-        turns = same.turns old.cutter.mode new.cutter.mode w.new_place w.turns;
-        is = same.is s.cuts.run;
+        mode_changes = same.mode_changes old.cutter.mode new.cutter.mode w.new_place w.mode_changes;
+        fits = same.is s.cuts.run;
       },
       ap (λ t. old.cutter.kept ++ t) (sym (take-append-drop s.count old.left)) ∙ sym (append_assoc old.cutter.kept (take s.count old.left) (drop s.count old.left)) ∙ ap (λ t. t ++ drop s.count old.left) joined ∙ ap (λ t. bytes_of_run r ++ t) (sym s.left),
       same_lent new.found s.run r new.bytes new.cutter.kept old.cutter new.cutter (length old.left) s.is last (subst (λ t. Lends s.run t) (sym s.bytes) l) s.cuts.lent s.cuts.skips,
@@ -335,7 +335,7 @@ need_goes (cut.Body register bytes) a b d n g = absurd n
 all_dropped : (n : ℕ) (xs : List ℕ) → length xs - n ≡ 0 → drop n xs ≡ []
 all_dropped n xs h = drop_all n xs (omega (arith, h))
 
-pub needs_all : (old new : PacketsState) (s : Steps old new false) → new.left ≡ []
+pub needs_all : (old new : PacketsState) (s : CutsNext old new false) → new.left ≡ []
 needs_all old new s = s.left ∙ all_dropped s.count old.left (need_goes s.run _ _ _ s.is s.cuts.nearer)
 
 -- the reader stands for the bytes of a piece more
@@ -367,7 +367,7 @@ few_left c Mode.Searching left h s = absurd (omega (arith, h))
 few_left c Mode.Due left h s = absurd h
 few_left c Mode.Synced left h s = h
 
-pub turns_go : (old new : PacketsState) (s : Steps old new false) (piece : List ℕ) → 0 < length piece → turns_left new.cutter.kept piece < turns_left old.cutter.kept old.left
+pub turns_go : (old new : PacketsState) (s : CutsNext old new false) (piece : List ℕ) → 0 < length piece → turns_left new.cutter.kept piece < turns_left old.cutter.kept old.left
 turns_go old new s piece some =
     let none : length old.left - s.count ≡ 0 = need_goes s.run _ _ _ s.is s.cuts.nearer in
     let whole : take s.count old.left ≡ old.left = take_all s.count old.left (omega (arith, none)) in
@@ -378,7 +378,7 @@ same_due : (old now new : Mode) → SameDue old now → (now ≡ Mode.Due → �
 same_due old now new s n m = (λ e. absurd (n (s.0 e)), λ e. absurd (m e))
 
 -- after a call that needs more bytes, and a read
-pub reads_on : (first old new : PacketsState) (more piece : List ℕ) (s : Steps old new false) → old.done ≡ false → TookBytes first old more → TookBytes first (filled new piece) (more ++ piece)
+pub reads_on : (first old new : PacketsState) (more piece : List ℕ) (s : CutsNext old new false) → old.done ≡ false → TookBytes first old more → TookBytes first (filled new piece) (more ++ piece)
 reads_on first old new more piece s on r = record {
   count = ap (λ t. t + length piece) (s.taken ∙ r.count) ∙ omega (arith, length-append more piece);
   stands = λ bytes given p.
@@ -406,8 +406,8 @@ next_same given old now new r s n = record {
   before = n.before;
   after = n.after;
   adds = n.adds;
-  turns = same_due_turns (cut_of r) old now new n.new_place s n.turns;
-  is = n.is;
+  mode_changes = same_due_turns (cut_of r) old now new n.new_place s n.mode_changes;
+  fits = n.fits;
 }
 
 not_last : (r : Run) → is_last r ≡ false → is_last r ≡ true → ⊥
@@ -423,7 +423,7 @@ kind_goes_on (FoundRun.Body register) c r bytes kept i l = ap is_last l.1
 kind_goes_on FoundRun.Tail c r bytes kept i l = absurd i
 kind_goes_on FoundRun.End c r bytes kept i l = absurd i
 
-pub tells_run : (first old new : PacketsState) (more : List ℕ) (r : Run) (s : Steps old new true) → old.done ≡ false → old.failed ≡ false → IsLastFound new r → TookBytes first old more → ReadsAndGives first new more r
+pub tells_run : (first old new : PacketsState) (more : List ℕ) (r : Run) (s : CutsNext old new true) → old.done ≡ false → old.failed ≡ false → IsLastFound new r → TookBytes first old more → ReadsAndGives first new more r
 tells_run first old new more r s on good last reads =
     let goes : is_last r ≡ false = kind_goes_on new.found s.run r new.bytes new.cutter.kept s.is last in
     record {
@@ -438,7 +438,7 @@ tells_run first old new more r s on good last reads =
       good = s.failed ∙ good;
     }
 
-pub run_is_not_last : (old new : PacketsState) (r : Run) (s : Steps old new true) → IsLastFound new r → is_last r ≡ true → ⊥
+pub run_is_not_last : (old new : PacketsState) (r : Run) (s : CutsNext old new true) → IsLastFound new r → is_last r ≡ true → ⊥
 run_is_not_last old new r s last = not_last r (kind_goes_on new.found s.run r new.bytes new.cutter.kept s.is last)
 
 -- ---- the end
@@ -481,8 +481,8 @@ ends_tail p bytes given lent on none some e due s =
         before = s.reading;
         after = after;
         adds = tail_adds lent p.cutter.kept s.sessions s.place e some s.kept bare;
-        turns = (due, due);
-        is = (omega (arith, some, ap length e), omega (arith, short_tail p.cutter.kept s.place s.cutter.reading.ends s.kept, ap length e));
+        mode_changes = (due, due);
+        fits = (omega (arith, some, ap length e), omega (arith, short_tail p.cutter.kept s.place s.cutter.reading.ends s.kept, ap length e));
       },
       sym all,
     )
@@ -513,8 +513,8 @@ ends_none p bytes given none nothing due s own =
         before = s.reading;
         after = after;
         adds = (refl, refl);
-        turns = (due, due);
-        is = tt;
+        mode_changes = (due, due);
+        fits = tt;
       },
       sym all,
     )
@@ -547,7 +547,7 @@ finishes p new r (x ∷ xs) k on none tail end last =
     rw (is, at.1) (tail_ends p at.0 on none (omega (arith, ap length k)) at.2)
 
 -- after a call that needs more bytes, and a read that gave none
-pub tells_end : (first old now new : PacketsState) (more : List ℕ) (r : Run) (s : Steps old now false) → old.done ≡ false → old.failed ≡ false → TookBytes first old more
+pub tells_end : (first old now new : PacketsState) (more : List ℕ) (r : Run) (s : CutsNext old now false) → old.done ≡ false → old.failed ≡ false → TookBytes first old more
     → (now.cutter.kept ≢ [] → new ≡ record (filled now []) { found = FoundRun.Tail; done = true }) → (now.cutter.kept ≡ [] → new ≡ record (filled now []) { found = FoundRun.End; done = true })
     → IsLastFound new r → ReadsAndGives first new more r × (is_last r ≡ true)
 tells_end first old now new more r s on good reads tail end last =
@@ -603,7 +603,7 @@ gives_again p rest r off good end at =
     rw (same, at) (record { more = []; taken = sym (preceded_nil rest); tells = again p off good; end = λ _. end })
 
 -- a read that gave none, and then the end
-pub gives_end : (first old now mid new : PacketsState) (more piece : List ℕ) (rest rest_mid rest_now : Option (List ℕ)) (r : Run) (s : Steps old now false) → old.done ≡ false → old.failed ≡ false → TookBytes first old more
+pub gives_end : (first old now mid new : PacketsState) (more piece : List ℕ) (rest rest_mid rest_now : Option (List ℕ)) (r : Run) (s : CutsNext old now false) → old.done ≡ false → old.failed ≡ false → TookBytes first old more
     → rest ≡ preceded more rest_mid → rest_mid ≡ preceded piece rest_now → mid ≡ filled now piece → piece ≡ [] → AtEnd rest_now
     → (mid.cutter.kept ≢ [] → new ≡ record mid { found = FoundRun.Tail; done = true }) → (mid.cutter.kept ≡ [] → new ≡ record mid { found = FoundRun.End; done = true })
     → IsLastFound new r → GivesRun first new rest rest_now r
@@ -619,7 +619,7 @@ gives_end first old now mid new more piece rest rest_mid rest_now r s on good re
     }
 
 -- a read that failed
-pub gives_up : (first old now new : PacketsState) (more : List ℕ) (s : Steps old now false) → old.done ≡ false → TookBytes first old more → new ≡ record now { bytes = []; failed = true } → GivesUp first new
+pub gives_up : (first old now new : PacketsState) (more : List ℕ) (s : CutsNext old now false) → old.done ≡ false → TookBytes first old more → new ≡ record now { bytes = []; failed = true } → GivesUp first new
 gives_up first old now new more s on reads e = rw e (record {
   more = more;
   reads = record {
@@ -636,7 +636,7 @@ gives_up first old now new more s on reads e = rw e (record {
 })
 
 -- how many reads are left after one more
-pub room_on : (old now new : PacketsState) (s : Steps old now false) (piece : List ℕ) (limit : ℕ) → new ≡ filled now piece → 0 < length piece → length piece ≤ piece_size
+pub room_on : (old now new : PacketsState) (s : CutsNext old now false) (piece : List ℕ) (limit : ℕ) → new ≡ filled now piece → 0 < length piece → length piece ≤ piece_size
     → old.taken + 65536 * turns_left old.cutter.kept old.left ≤ limit → new.taken + 65536 * turns_left new.cutter.kept new.left ≤ limit
 room_on old now new s piece limit e some most room = rw e (omega (arith, s.taken, most, room, turns_go old now s piece some))
 

@@ -37,7 +37,7 @@ header_opens m n ps w register count f a e z l d r =
       each = each_more None ps p a.whole i;
       grown = flat_map_last stepped ps p;
       end = ended_more ps p;
-      stands = inr (record { prefix = ps; last = p; split = refl; whole = a.whole; fits = (f, tt); means = means; count = count; is = ap (λ x. Open x count) (sym r); latest = l ∙ ap (λ x. Some x) (sym r); due = omega arith; more = omega arith; none_ends = tt });
+      stands = inr (record { prefix = ps; last = p; split = refl; whole = a.whole; fits = (f, tt); means = means; count = count; opens = ap (λ x. Open x count) (sym r); latest = l ∙ ap (λ x. Some x) (sym r); due = omega arith; more = omega arith; none_ends = tt });
     }
 
 -- a packet with one payload word more
@@ -55,7 +55,7 @@ stepped_more prefix p w =
 -- the stepped words of an open payload with one word more
 open_more : (m : MachineState) (ps : List Packet) (w : ℕ) (a : InPayload m ps) → flat_map stepped (a.prefix ++ extended a.last w ∷ []) ≡ flat_map stepped ps ++ (w, Payload m.register w) ∷ []
 open_more m ps w a =
-    let same_register : named_by a.last.step ≡ m.register = ap named_by a.is in
+    let same_register : named_by a.last.step ≡ m.register = ap named_by a.opens in
     stepped_more a.prefix a.last w ∙ ap (λ x. flat_map stepped (a.prefix ++ a.last ∷ []) ++ (w, Payload x w) ∷ []) same_register ∙ ap (λ x. flat_map stepped x ++ (w, Payload m.register w) ∷ []) (sym a.split)
 
 fits_more : (p : Packet) (w : ℕ) → AreWords (words p) → w < 2 ^ 32 → AreWords (words (extended p w))
@@ -65,8 +65,8 @@ fits_more p w a f = all_append (λ x. x < 2 ^ 32) (words p) (w ∷ []) a (f, tt)
 pub payload_goes : (m n : MachineState) (ps : List Packet) (w : ℕ) → w < 2 ^ 32 → InPayload m ps → ends_session m.register w ≡ false → n.register ≡ m.register → n.latest ≡ m.latest → n.due + 1 ≡ m.due → Grows ps ((w, Payload m.register w) ∷ []) n
 payload_goes m n ps w f a e r l d =
     let p : Packet = extended a.last w in
-    let same_register : named_by a.last.step ≡ m.register = ap named_by a.is in
-    let same_count : count_of a.last.step ≡ a.count = ap count_of a.is in
+    let same_register : named_by a.last.step ≡ m.register = ap named_by a.opens in
+    let same_count : count_of a.last.step ≡ a.count = ap count_of a.opens in
     let none : NoneEnds m.register p.payload = none_more m.register a.last.payload w a.none_ends e in
     let more : length p.payload ≡ length a.last.payload + 1 = length-append a.last.payload (w ∷ []) in
     let fits : AreWords (words p) = fits_more a.last w a.fits f in
@@ -77,8 +77,8 @@ payload_goes m n ps w f a e r l d =
       grown = open_more m ps w a;
       end = ended_more a.prefix p ∙ ap (λ x. last_ends x p.payload) same_register ∙ last_ends_more m.register a.last.payload w;
       stands = rw e (elim (cases_eq n.due 0) [
-        | inl z ↦ inl (record { whole = whole_more None a.prefix p a.whole i (record { all = omega (arith, a.due); none_ends = rw same_register none }); latest = l ∙ a.latest ∙ sym (latest_more None a.prefix p ∙ ap (latest_after (latest_of None a.prefix)) a.is); due = z })
-        | inr z ↦ inr (record { prefix = a.prefix; last = p; split = refl; whole = a.whole; fits = fits; means = a.means; count = a.count; is = a.is ∙ ap (λ x. Open x a.count) (sym r); latest = l ∙ a.latest ∙ ap (λ x. Some x) (sym r); due = omega (arith, a.due); more = omega arith; none_ends = rw r none })
+        | inl z ↦ inl (record { whole = whole_more None a.prefix p a.whole i (record { all = omega (arith, a.due); none_ends = rw same_register none }); latest = l ∙ a.latest ∙ sym (latest_more None a.prefix p ∙ ap (latest_after (latest_of None a.prefix)) a.opens); due = z })
+        | inr z ↦ inr (record { prefix = a.prefix; last = p; split = refl; whole = a.whole; fits = fits; means = a.means; count = a.count; opens = a.opens ∙ ap (λ x. Open x a.count) (sym r); latest = l ∙ a.latest ∙ ap (λ x. Some x) (sym r); due = omega (arith, a.due); more = omega arith; none_ends = rw r none })
       ]);
     }
 
@@ -86,8 +86,8 @@ payload_goes m n ps w f a e r l d =
 pub payload_ends : (m n : MachineState) (ps : List Packet) (w : ℕ) → w < 2 ^ 32 → InPayload m ps → ends_session m.register w ≡ true → MachineStandsFor n [] → Grows ps ((w, Payload m.register w) ∷ []) n
 payload_ends m n ps w f a e s =
     let p : Packet = extended a.last w in
-    let same_register : named_by a.last.step ≡ m.register = ap named_by a.is in
-    let same_count : count_of a.last.step ≡ a.count = ap count_of a.is in
+    let same_register : named_by a.last.step ≡ m.register = ap named_by a.opens in
+    let same_count : count_of a.last.step ≡ a.count = ap count_of a.opens in
     let more : length p.payload ≡ length a.last.payload + 1 = length-append a.last.payload (w ∷ []) in
     let i : IsPacket (latest_of None a.prefix) p = record { fits = fits_more a.last w a.fits f; means = a.means; most = omega (arith, a.more, a.due); goes_on = rw same_register (only_more m.register a.last.payload w a.none_ends) } in
     record {

@@ -11,7 +11,7 @@ use Rattle.x7_packets.specs.Packet.{IsPacket, Packet, latest_of}
 abbrev pub BeginsWithDummy : List ℕ → Type 0
 BeginsWithDummy bytes = (rest : List ℕ) × (bytes ≡ 0xFF ∷ 0xFF ∷ 0xFF ∷ 0xFF ∷ rest)
 
--- the first byte of the sync word is not among these bytes
+-- none of these bytes is AA, the first byte of the sync word
 abbrev pub LacksFirst : List ℕ → Type 0
 LacksFirst bytes = AllByRecursion (λ b. (b == 0xAA) ≡ false) bytes
 
@@ -20,13 +20,13 @@ abbrev pub moved : ℕ → History → History
 moved n [] = []
 moved n (e ∷ h) = entry e.access (n + e.place) ∷ moved n h
 
--- the bytes of a gap, none of a session that goes on
+-- the bytes of an open gap at a place; none where a session goes on
 abbrev pub gap_of : Place → List ℕ
 gap_of (Searching gap) = gap
 gap_of (Synced gap packets tail) = []
 
--- more bytes may follow those that end at this place: these end searching, and no sync word begins in them and ends in
--- more, since no gap is open or more begin with a dummy word
+-- the bytes `more` may follow bytes that end at this place: these end searching, and no sync word begins in them and
+-- ends in `more`, since no gap is open or `more` begins with a dummy word
 pub record MayFollow (place : Place) (more : List ℕ) : Type 0 where
   pub searching : is_synced place ≡ false
   pub apart : (gap_of place ≡ []) ⊎ BeginsWithDummy more
@@ -41,7 +41,7 @@ abbrev pub after_gap : List Session → List ℕ → List Session → Place → 
 after_gap before prefix [] place = record { sessions = before; place = gap_with prefix place }
 after_gap before prefix (s ∷ sessions) place = record { sessions = before ++ record { gap = prefix ++ s.gap; packets = s.packets } ∷ sessions; place = place }
 
--- a reading after one that ends searching
+-- the reading of bytes that end searching and of more bytes after them, by the reading of each
 abbrev pub after : Reading → Reading → Reading
 after first more = after_gap first.sessions (gap_of first.place) more.sessions more.place
 
@@ -49,6 +49,6 @@ after first more = after_gap first.sessions (gap_of first.place) more.sessions m
 abbrev pub history_after : List ℕ → List ℕ → History
 history_after bytes more = moved (length bytes) (history_of more) ++ history_of bytes
 
--- the packet is one that may come next
+-- the packet may come next after these packets
 abbrev pub MayComeNext : List Packet → Packet → Type 0
 MayComeNext packets packet = IsPacket (latest_of None packets) packet

@@ -17,15 +17,16 @@ use Rattle.x7_packets.specs.declared.header.Step.TheVariants.{Open}
 abbrev pub most_short_words : ℕ
 most_short_words = 16
 
--- how many bytes the longest short write has: its header's and those of its words
+-- how many bytes the longest short write has: four of its header, and four of each of its words
 abbrev pub longest_short_write : ℕ
 longest_short_write = 68
 
 -- how many bytes a short gap and the sync word after it have at most
-abbrev pub longest_short_gap : ℕ
-longest_short_gap = 32
+abbrev pub longest_gap_and_sync : ℕ
+longest_gap_and_sync = 32
 
--- how many bytes must be left of a piece for a short gap to be taken at once: those, and a word more
+-- how many bytes must be left of a piece for a short gap to be taken at once: a word more than it has at most with its
+-- sync word
 abbrev pub short_gap_room : ℕ
 short_gap_room = 36
 
@@ -40,37 +41,37 @@ pub record BeginsWrite (bytes : List ℕ) (register w : ℕ) : Type 0 where
 abbrev pub in_write : ℕ → ℕ → MachineState
 in_write register count = record { due = count; register = register; latest = Some register }
 
--- the bytes begin with a write of one word; taken, the write is its header and then its word
+-- the bytes begin with a write of one word, and the new cutter is the old one after the header and then the word
 pub record WritesOne (old new : CutterState) (rest : List ℕ) (register w : ℕ) : Type 0 where
-  pub between : CutterState
+  pub middle : CutterState
   pub range : register < 32
   pub whole : 8 ≤ length rest
   pub bytes : take 8 rest ≡ bytes_of_word (type1_write register 1) ++ bytes_of_word w
-  pub head : TakesAsOneRun old between (bytes_of_word (type1_write register 1)) (Head (type1_write register 1) (Open register 1))
-  pub word : TakesAsOneRun between new (bytes_of_word w) (Word register w)
+  pub head : TakesAsOneRun old middle (bytes_of_word (type1_write register 1)) (Head (type1_write register 1) (Open register 1))
+  pub word : TakesAsOneRun middle new (bytes_of_word w) (Word register w)
   pub none_kept : new.kept ≡ []
 
--- the bytes begin with a short write to a register other than CMD, of one word at least; taken,
--- the write is its header and then its words
-pub record WritesFew (old new : CutterState) (rest : List ℕ) (register count : ℕ) : Type 0 where
-  pub between : CutterState
+-- the bytes begin with a short write to a register other than CMD, of one word at least, and the new cutter is the old
+-- one after the header and then the words
+pub record WritesShort (old new : CutterState) (rest : List ℕ) (register count : ℕ) : Type 0 where
+  pub middle : CutterState
   pub range : register < 32
   pub other : register ≡ number_of Cmd → ⊥
   pub some : 0 < count
   pub few : count ≤ most_short_words
   pub long : longest_short_write ≤ length rest
   pub bytes : take 4 rest ≡ bytes_of_word (type1_write register count)
-  pub head : TakesAsOneRun old between (bytes_of_word (type1_write register count)) (Head (type1_write register count) (Open register count))
-  pub words : (run : Bor (List ℕ)) → run.now ≡ take (4 * count) (drop 4 rest) → TakesAsOneRun between new run.now (Body register run)
+  pub head : TakesAsOneRun old middle (bytes_of_word (type1_write register count)) (Head (type1_write register count) (Open register count))
+  pub words : (run : Bor (List ℕ)) → run.now ≡ take (4 * count) (drop 4 rest) → TakesAsOneRun middle new run.now (Body register run)
   pub none_kept : new.kept ≡ []
 
--- the bytes begin with a gap and the sync word after it; the bytes of both are taken as
--- one run, and then the sync word is given
+-- the bytes begin with a gap and the sync word after it, and the new cutter is the old one after the bytes of both as
+-- one run, and then the sync word
 pub record EndsGap (old new : CutterState) (rest : List ℕ) (count : ℕ) : Type 0 where
-  pub between : CutterState
-  pub near : count + 4 ≤ longest_short_gap
+  pub middle : CutterState
+  pub near : count + 4 ≤ longest_gap_and_sync
   pub long : short_gap_room ≤ length rest
   pub found : take (count + 4) rest ≡ take count rest ++ sync_bytes
-  pub gap : (run : Bor (List ℕ)) → run.now ≡ take (count + 4) rest → TakesAsOneRun old between run.now (Skip run)
-  pub sync : TakesAsOneRun between new [] Sync
+  pub gap : (run : Bor (List ℕ)) → run.now ≡ take (count + 4) rest → TakesAsOneRun old middle run.now (Skip run)
+  pub sync : TakesAsOneRun middle new [] Sync
   pub none_kept : new.kept ≡ []

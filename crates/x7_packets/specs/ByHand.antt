@@ -32,7 +32,7 @@ packets_of = fold packets_with_word []
 
 -- the words are of one session at most: no word follows the one that ends it
 abbrev pub AreOfOneSession : List ℕ → Type 0
-AreOfOneSession ws = (prefix back : List ℕ) (w : ℕ) → ws ≡ prefix ++ w ∷ back → ended (packets_of prefix) ≡ false
+AreOfOneSession ws = (prefix suffix : List ℕ) (w : ℕ) → ws ≡ prefix ++ w ∷ suffix → ended (packets_of prefix) ≡ false
 
 -- a list of four bytes is the sync word
 abbrev pub is_sync : List ℕ → Bool

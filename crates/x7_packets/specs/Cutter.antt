@@ -17,14 +17,14 @@ use Rattle.x7_packets.specs.Mode.{Mode}
 use Rattle.x7_packets.specs.declared.cutter.Cut.{Cut}
 use Rattle.x7_packets.specs.declared.cutter.Cut.TheVariants.{Need, Skip, Sync, Head, Word, Body}
 
--- a cutter: what it is at, its matcher and machine, and the bytes of no whole word that it keeps
+-- a cutter: where it stands in a stream, its matcher and machine, and the bytes of no whole word that it keeps
 pub record CutterState : Type 0 where
   pub mode : Mode
   pub matcher : LastThree
   pub machine : MachineState
   pub kept : List ℕ
 
--- the cutter's parts are those of the place
+-- the cutter stands at this place, and its matcher, its machine and the bytes that it keeps stand for what the place has
 abbrev pub AtPlace : CutterState → Mode → Place → Type 0
 AtPlace c Mode.Searching (Searching gap) = MatcherStandsFor c.matcher gap × MachineStandsFor c.machine []
 AtPlace c Mode.Due (Synced gap packets tail) = (packets ≡ []) × (tail ≡ []) × MachineStandsFor c.machine []
@@ -58,7 +58,7 @@ run_steps (Word register w) = payload_steps register (w ∷ [])
 run_steps (Body register bytes) = payload_steps register (words_of_bytes bytes.now)
 run_steps _ = []
 
--- words more in a session, each with its step; where the last ends the session, a gap begins
+-- a session has these words more, each with its step: it goes on, or the last word ends it and a gap begins
 pub record LongerSession (gap : List ℕ) (packets : List Packet) (more : List (ℕ × Step)) (sessions new_sessions : List Session) (new : Place) : Type 0 where
   pub all : List Packet
   pub grown : flat_map stepped all ≡ flat_map stepped packets ++ more
@@ -75,7 +75,7 @@ GoesOnAt more sessions (Synced gap packets tail) new = LongerSession gap packets
 abbrev pub GoesOnBy : List (ℕ × Step) → Reading → Reading → Type 0
 GoesOnBy more old new = GoesOnAt more old.sessions old.place new
 
--- what a run adds to the reading
+-- what a run adds to the reading of the bytes before it: ended sessions and a place become new ones
 abbrev pub Adds : Cut → List Session → Place → List Session → Place → Type 0
 Adds Need sessions (Searching gap) new_sessions new = (new_sessions ≡ sessions) × (new ≡ Searching gap)
 Adds Need sessions (Synced gap packets tail) new_sessions new = (new_sessions ≡ sessions) × (more : List ℕ) × (new ≡ Synced gap packets (tail ++ more))
@@ -94,8 +94,8 @@ Adds (Body register bytes) sessions (Synced gap packets tail) new_sessions new =
 abbrev pub IsNotDue : Mode → Type 0
 IsNotDue mode = mode ≡ Mode.Due → ⊥
 
--- how a run and what the cutter is at before and after it go together: the sync word is
--- due just after it came, and given at once
+-- how a run goes with where the cutter stands before and after it: the sync word is due just after its last byte came,
+-- and is given at once
 abbrev pub ChangesMode : Cut → Mode → Mode → Place → Type 0
 ChangesMode Need old new place = IsNotDue old × IsNotDue new
 ChangesMode (Skip bytes) old new (Searching gap) = Unit {0}
@@ -105,8 +105,8 @@ ChangesMode (Head w step) old new place = IsNotDue old × IsNotDue new
 ChangesMode (Word register w) old new place = IsNotDue old × IsNotDue new
 ChangesMode (Body register bytes) old new place = IsNotDue old × IsNotDue new
 
--- what a run is apart from the reading: a header's step is no payload, a register has a number below 32, and a lent
--- slice has whole words, one where the register is CMD
+-- what holds of a run by itself, whatever the reading: a header's step is no payload, a register has a number below 32,
+-- and lent payload bytes are whole words, one where the register is CMD
 abbrev pub IsRun : Cut → Type 0
 IsRun (Head w (Payload register x)) = ⊥
 IsRun (Word register w) = register < 32
@@ -117,27 +117,27 @@ IsRun _ = Unit {0}
 -- where no byte is kept, a payload's whole words that lie in the piece are lent at once, all of one packet (one word of
 -- CMD); a word whose bytes lie in two pieces or more comes by itself
 abbrev pub IsLent : CutterState → ℕ → Cut → Type 0
-IsLent c left (Word register w) = 0 < length c.kept
-IsLent c left (Body register bytes) = (c.kept ≡ []) × (length bytes.now ≡ 4 * min (min c.machine.due (left / 4)) (if register == number_of Cmd then 1 else left / 4))
-IsLent c left _ = Unit {0}
+IsLent c bytes_left (Word register w) = 0 < length c.kept
+IsLent c bytes_left (Body register bytes) = (c.kept ≡ []) × (length bytes.now ≡ 4 * min (min c.machine.due (bytes_left / 4)) (if register == number_of Cmd then 1 else bytes_left / 4))
+IsLent c bytes_left _ = Unit {0}
 
 -- a gap's bytes are lent all, or up to the end of the sync word, which is then due to be given
 abbrev pub SkipsAll : CutterState → ℕ → Cut → Type 0
-SkipsAll new left (Skip bytes) = (new.mode ≡ Mode.Due) ⊎ (length bytes.now ≡ left)
-SkipsAll new left _ = Unit {0}
+SkipsAll new bytes_left (Skip bytes) = (new.mode ≡ Mode.Due) ⊎ (length bytes.now ≡ bytes_left)
+SkipsAll new bytes_left _ = Unit {0}
 
--- bytes that complete no run, after those that are kept
+-- a piece of which this many bytes are left completes no run, with the bytes that are kept before it
 abbrev pub CompletesNone : CutterState → Mode → ℕ → Type 0
-CompletesNone c Mode.Searching left = left ≡ 0
-CompletesNone c Mode.Due left = ⊥
-CompletesNone c Mode.Synced left = length c.kept + left < 4
+CompletesNone c Mode.Searching bytes_left = bytes_left ≡ 0
+CompletesNone c Mode.Due bytes_left = ⊥
+CompletesNone c Mode.Synced bytes_left = length c.kept + bytes_left < 4
 
 -- the call gave no run, and needs more bytes
 abbrev pub IsNeed : Cut → Type 0
 IsNeed Need = Unit {0}
 IsNeed _ = ⊥
 
--- no byte is kept but in a session
+-- a cutter that stands here keeps no byte: only in a session does it keep some
 abbrev pub KeepsNone : Mode → Type 0
 KeepsNone Mode.Searching = Unit {0}
 KeepsNone Mode.Due = Unit {0}
@@ -154,7 +154,7 @@ abbrev pub IsBody : ℕ → List ℕ → Cut → Type 0
 IsBody register body (Body r bytes) = (r ≡ register) × (bytes.now ≡ body)
 IsBody register body _ = ⊥
 
--- 1 where a sync word is still to be given
+-- how many sync words are still to be given: one just after a sync word, else none
 abbrev pub syncs_due : Mode → ℕ
 syncs_due Mode.Due = 1
 syncs_due _ = 0
@@ -167,12 +167,12 @@ pub record EndsWithWord (new : CutterState) (cut : Cut) : Type 0 where
 
 -- how many calls there are at most until a piece is used up, of which this many bytes are left
 abbrev pub calls_left : CutterState → ℕ → ℕ
-calls_left c left = 2 * left + syncs_due c.mode
+calls_left c bytes_left = 2 * bytes_left + syncs_due c.mode
 
 -- a call that needs more bytes has used the piece up; any other comes nearer to that
 abbrev pub ComesNearer : Cut → ℕ → ℕ → ℕ → Type 0
-ComesNearer Need left calls_before calls = left ≡ 0
-ComesNearer _ left calls_before calls = calls < calls_before
+ComesNearer Need bytes_left calls_before calls = bytes_left ≡ 0
+ComesNearer _ bytes_left calls_before calls = calls < calls_before
 
 -- the cutter after a call that gave this run: it stands for `bytes`, and the run added to the reading before
 pub record AfterRun (old new : CutterState) (bytes : List ℕ) (sessions : List Session) (place : Place) (run : Cut) : Type 0 where
@@ -180,7 +180,7 @@ pub record AfterRun (old new : CutterState) (bytes : List ℕ) (sessions : List 
   pub new_place : Place
   pub stands : CutterStandsFor new bytes new_sessions new_place
   pub adds : Adds run sessions place new_sessions new_place
-  pub turns : ChangesMode run old.mode new.mode new_place
+  pub mode_changes : ChangesMode run old.mode new.mode new_place
 
 -- the bytes `taken`, taken as one run, turn the old cutter into the new one, whatever bytes came before
 abbrev pub TakesAsOneRun : CutterState → CutterState → List ℕ → Cut → Type 0
@@ -193,7 +193,7 @@ pub record HasCut (bytes more : List ℕ) (r : Reading) (run : Cut) : Type 0 whe
   pub reads : CutterStandsFor old bytes r.sessions r.place
   pub went : AfterRun old new (bytes ++ more) r.sessions r.place run
 
--- one call of a cutter on the bytes that are left of a piece, of which it took a number
+-- one call of a cutter on the bytes that are left of a piece, of which it took `taken`
 pub record Cuts (old new : CutterState) (rest : List ℕ) (taken : ℕ) (cut : Cut) : Type 0 where
   pub nearer : ComesNearer cut (length rest - taken) (calls_left old (length rest)) (calls_left new (length rest - taken))
   pub need : IsNeed cut ↔ CompletesNone old old.mode (length rest)
@@ -203,7 +203,8 @@ pub record Cuts (old new : CutterState) (rest : List ℕ) (taken : ℕ) (cut : C
   pub skips : SkipsAll new (length rest) cut
   pub adds : TakesAsOneRun old new (take taken rest) cut
 
--- one call of a cutter on the bytes that are left of a piece, which moved a place past those that it took
+-- one call of a cutter on the bytes that are left of a piece, which moved a place from `at` to `at_now`, past those
+-- that it took
 pub record MovesPast (old new : CutterState) (rest : List ℕ) (at at_now : ℕ) (cut : Cut) : Type 0 where
   pub forward : at ≤ at_now
   pub within : at_now ≤ at + length rest

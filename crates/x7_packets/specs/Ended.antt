@@ -14,6 +14,6 @@ abbrev pub newest_ends : History → Bool
 newest_ends [] = false
 newest_ends (e ∷ h) = writes_desync e.access
 
--- there is no access, or DESYNC is the newest
+-- there is no access, or the newest is DESYNC written to CMD
 abbrev pub HasEnded : History → Type 0
 HasEnded h = (h ≡ []) ⊎ (newest_ends h ≡ true)

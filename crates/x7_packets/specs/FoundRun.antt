@@ -1,8 +1,8 @@
--- What the last run of a reader is; the bytes that it lends stand elsewhere (this project's choice).
+-- The last run of a reader of packets, without the bytes that it lends (this project's choice).
 use Rattle.std.specs.Prelude.{ℕ}
 use Rattle.x7_packets.specs.declared.header.Step.{Step}
-use Rattle.x7_packets.specs.declared.stream.Last.{Last}
-use Rattle.x7_packets.specs.declared.stream.Last.TheVariants as last
+use Rattle.x7_packets.specs.declared.stream.LastRun.{LastRun}
+use Rattle.x7_packets.specs.declared.stream.LastRun.TheVariants as last
 
 -- the last run of a reader, without the bytes that it lends
 pub data FoundRun : Type 0 where
@@ -14,8 +14,8 @@ pub data FoundRun : Type 0 where
   Tail : FoundRun
   End : FoundRun
 
--- what the last run of a reader is, by the reader's field
-abbrev pub found_of : Last → FoundRun
+-- the last run of a reader, by the reader's field
+abbrev pub found_of : LastRun → FoundRun
 found_of last.Skip = FoundRun.Skip
 found_of last.Sync = FoundRun.Sync
 found_of (last.Head w step) = FoundRun.Head w step

@@ -9,16 +9,16 @@ use Rattle.x7_packets.specs.SyncWord.{sync_bytes}
 
 -- no sync word of a gap and of more bytes after it begins in the gap
 abbrev pub NoneBegins : List ℕ → List ℕ → Type 0
-NoneBegins gap more = (prefix back : List ℕ) → gap ++ more ≡ prefix ++ (sync_bytes ++ back) → length gap ≤ length prefix
+NoneBegins gap more = (prefix suffix : List ℕ) → gap ++ more ≡ prefix ++ (sync_bytes ++ suffix) → length gap ≤ length prefix
 
--- two lists of bytes of one length, which ask the same at the same places, and end in a session both or neither
+-- two lists of bytes of one length ask the same at the same places, and both end in a session or neither does
 pub record AreAlike (one other : List ℕ) : Type 0 where
   pub history : history_of one ≡ history_of other
   pub count : length one ≡ length other
   pub synced : is_synced (reading_of one).place ≡ is_synced (reading_of other).place
 
--- bytes stand after two gaps of a length, and no sync word begins in either
+-- two gaps of one length, after each of which `more` stands, and no sync word begins in either
 pub record AreGaps (one other more : List ℕ) : Type 0 where
-  pub long : length one ≡ length other
+  pub count : length one ≡ length other
   pub fits : AreBytes (one ++ more) × AreBytes (other ++ more)
   pub none : NoneBegins one more × NoneBegins other more

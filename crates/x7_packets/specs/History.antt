@@ -20,7 +20,7 @@ pub data Access : Type 0 where
   Read : (register count : ℕ) → Access
   Bad : (word : ℕ) → Access
 
--- an access, and the number of bytes up to and with its last byte
+-- an access, and its place: the number of bytes of the stream up to and with its last byte
 pub record Entry : Type 0 where
   pub access : Access
   pub place : ℕ
@@ -58,7 +58,7 @@ abbrev pub entered_place : ℕ → Place → History → History
 entered_place place (Searching gap) h = h
 entered_place place (Synced gap packets tail) h = entered_all (place + length gap + 4) (flat_map stepped packets) h
 
--- the history of a reading
+-- the history of ended sessions and of the place after them
 abbrev pub history : List Session → Place → History
 history sessions place = entered_place (length (flat_map session_bytes sessions)) place (entered_sessions 0 sessions [])
 

@@ -6,8 +6,8 @@ use Rattle.x7_packets.specs.declared.header.Step.{Step}
 use Rattle.x7_packets.specs.declared.header.Step.TheVariants.{Open, Payload}
 use Rattle.x7_packets.specs.Packet.{Packet, EachPacket, IsPacket, IsWhole, latest_after, latest_of, words, stepped, meaning, NoneEnds, ends_session, ended}
 
--- a machine: how many payload words are due and for which register, and the
--- register of the nearest type 1 read or write
+-- a machine: how many payload words are due, of which register (its number, which says nothing where none is due), and
+-- the register that the nearest type 1 read or write named
 pub record MachineState : Type 0 where
   pub due : ℕ
   pub register : ℕ
@@ -24,7 +24,7 @@ pub record AtHeader (m : MachineState) (ps : List Packet) : Type 0 where
   pub latest : m.latest ≡ latest_of None ps
   pub due : m.due ≡ 0
 
--- the last packet lacks payload words
+-- the last packet is a write that lacks payload words, and all before it are whole
 pub record InPayload (m : MachineState) (ps : List Packet) : Type 0 where
   pub prefix : List Packet
   pub last : Packet
@@ -33,7 +33,7 @@ pub record InPayload (m : MachineState) (ps : List Packet) : Type 0 where
   pub fits : AreWords (words last)
   pub means : last.step ≡ meaning (latest_of None prefix) last.head
   pub count : ℕ
-  pub is : last.step ≡ Open m.register count
+  pub opens : last.step ≡ Open m.register count
   pub latest : m.latest ≡ Some m.register
   pub due : length last.payload + m.due ≡ count
   pub more : 0 < m.due
@@ -54,7 +54,7 @@ ends_by [] = false
 ends_by (s ∷ []) = is_end s.1
 ends_by (s ∷ t ∷ more) = ends_by (t ∷ more)
 
--- after more words, each with its step: the packets are those before with just these words and steps more
+-- what the machine `m` has after more words, each with its step: its packets are those before and just these words
 pub record Grows (ps : List Packet) (more : List (ℕ × Step)) (m : MachineState) : Type 0 where
   pub packets : List Packet
   pub each : EachPacket None packets

@@ -1,8 +1,9 @@
--- What a cutter is at (this project's choice: a sync word is given by itself, after the bytes that it ends).
+-- Where a cutter stands in a stream (this project's choice: a sync word is given by itself, after the bytes that it
+-- ends).
 use Rattle.x7_packets.specs.declared.cutter.Stage.{Stage}
 use Rattle.x7_packets.specs.declared.cutter.Stage.TheVariants as stage
 
--- what a cutter is at
+-- where a cutter stands in a stream
 pub data Mode : Type 0 where
   -- in a gap
   Searching : Mode
@@ -11,7 +12,7 @@ pub data Mode : Type 0 where
   -- in a session
   Synced : Mode
 
--- what a cutter is at, by its field
+-- where a cutter stands in a stream, by the cutter's field
 abbrev pub mode_of : Stage → Mode
 mode_of stage.Searching = Mode.Searching
 mode_of stage.Due = Mode.Due

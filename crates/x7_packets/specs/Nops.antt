@@ -15,7 +15,7 @@ equal_bytes w count = flat_map bytes_of_word (replicate count w)
 abbrev pub nop_bytes : ℕ → List ℕ
 nop_bytes count = equal_bytes no_op count
 
--- a cutter as it is stands for these bytes too, which have no access more
+-- a cutter that stays as it is stands for these bytes too, whose history is that of the reading before
 pub record Idles (c : CutterState) (bytes : List ℕ) (sessions : List Session) (place : Place) : Type 0 where
   pub new_place : Place
   pub stands : CutterStandsFor c bytes sessions new_place

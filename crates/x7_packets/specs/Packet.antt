@@ -50,12 +50,12 @@ pub record Packet : Type 0 where
   pub step : Step
   pub payload : List ℕ
 
--- how many payload words a header asks for
+-- how many payload words follow a header, by its step: those of a write
 abbrev pub count_of : Step → ℕ
 count_of (Open register count) = count
 count_of _ = 0
 
--- the register that a header names
+-- the register that a header names, by its step; 0 where it names none
 abbrev pub named_by : Step → ℕ
 named_by (Open register count) = register
 named_by (Read register count) = register
@@ -84,7 +84,7 @@ abbrev pub latest_of : Option ℕ → List Packet → Option ℕ
 latest_of latest [] = latest
 latest_of latest (p ∷ ps) = latest_of (latest_after latest p.step) ps
 
--- DESYNC written to CMD, by its low five bits
+-- the word, written to the register, ends the session: DESYNC written to CMD, by its low five bits
 abbrev pub ends_session : ℕ → ℕ → Bool
 ends_session register w = register == number_of Cmd && w % 2 ^ 5 == code_of Desync
 

@@ -1,4 +1,4 @@
--- What is kept of packets over an input (this project's choice).
+-- What a reader of packets keeps between two runs of an input (this project's choice).
 use Rattle.std.specs.Prelude.{ℕ, List, Bool}
 use Rattle.x7_packets.specs.Cutter.{CutterState}
 use Rattle.x7_packets.specs.FoundRun.{FoundRun}
@@ -7,14 +7,14 @@ use Rattle.x7_packets.specs.FoundRun.{FoundRun}
 abbrev pub piece_size : ℕ
 piece_size = 65536
 
--- what a reader of packets keeps
+-- a reader of packets
 pub record PacketsState : Type 0 where
   pub cutter : CutterState
   -- the bytes that were read and that the cutter has not taken
   pub left : List ℕ
-  -- what the last run is
+  -- the last run, without its bytes
   pub found : FoundRun
-  -- the bytes of the last run
+  -- the bytes of the last run that stand in the buffer
   pub bytes : List ℕ
   -- whether the last run was the tail or the end
   pub done : Bool

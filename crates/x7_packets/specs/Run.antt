@@ -8,7 +8,7 @@ use Rattle.x7_packets.specs.Mode.{Mode}
 use Rattle.x7_packets.specs.declared.stream.Run.{Run}
 use Rattle.x7_packets.specs.declared.stream.Run.TheVariants as run
 
--- a run as a cutter's; the tail and the end complete none
+-- a run as a cutter gives it; `Need` for the tail and the end, which no cutter gives
 abbrev pub cut_of : Run → Cut
 cut_of (run.Skip bytes) = cut.Skip bytes
 cut_of run.Sync = cut.Sync
@@ -29,20 +29,19 @@ is_last (run.Tail bytes) = true
 is_last run.End = true
 is_last r = false
 
--- what a run adds to the reading of the bytes given before it: the tail are bytes
--- of no whole word, and the end adds nothing
+-- what a run adds to the reading of the bytes given before it: the tail adds bytes of no whole word, the end nothing
 abbrev pub RunAdds : Run → List Session → Place → List Session → Place → Type 0
 RunAdds (run.Tail bytes) sessions (Searching gap) new_sessions new = ⊥
 RunAdds (run.Tail bytes) sessions (Synced gap packets tail) new_sessions new = (new_sessions ≡ sessions) × (tail ≡ []) × (new ≡ Synced gap packets bytes.now)
 RunAdds run.End sessions place new_sessions new = (new_sessions ≡ sessions) × (new ≡ place)
 RunAdds r sessions place new_sessions new = Adds (cut_of r) sessions place new_sessions new
 
--- what a run is apart from the reading: the tail has one to three bytes
+-- what holds of a run by itself, whatever the reading: the tail has one to three bytes
 abbrev pub FitsRun : Run → Type 0
 FitsRun (run.Tail bytes) = (0 < length bytes.now) × (length bytes.now < 4)
 FitsRun r = IsRun (cut_of r)
 
--- the run is what comes next after these bytes; `old` and `new` say what the cutter is at before and after it
+-- the run is what comes next after these bytes; `old` and `new` say where the cutter stands before and after it
 pub record IsNext (bytes : List ℕ) (old : Mode) (r : Run) (new : Mode) : Type 0 where
   pub sessions : List Session
   pub place : Place
@@ -51,5 +50,5 @@ pub record IsNext (bytes : List ℕ) (old : Mode) (r : Run) (new : Mode) : Type 
   pub before : IsReading bytes sessions place
   pub after : IsReading (bytes ++ bytes_of_run r) new_sessions new_place
   pub adds : RunAdds r sessions place new_sessions new_place
-  pub turns : ChangesMode (cut_of r) old new new_place
-  pub is : FitsRun r
+  pub mode_changes : ChangesMode (cut_of r) old new new_place
+  pub fits : FitsRun r

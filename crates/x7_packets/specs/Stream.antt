@@ -17,7 +17,7 @@ use Rattle.x7_packets.specs.contracts.stream.Packets.{the_row}
 use Rattle.x7_packets.specs.PacketsState.{PacketsState, piece_size}
 use Rattle.x7_packets.specs.Run.{IsNext, cut_of, is_last, bytes_of_run}
 
--- the place with these bytes of no whole word where it is in a session; a gap stays
+-- a place whose bytes of no whole word are these instead, where it is in a session; a gap stays as it is
 abbrev pub with_tail : List ℕ → Place → Place
 with_tail tail (Searching gap) = Searching gap
 with_tail tail (Synced gap packets old) = Synced gap packets tail
@@ -39,7 +39,7 @@ pub record PacketsStandFor (p : PacketsState) (bytes given : List ℕ) : Type 0 
   pub all : p.done ≡ true → (p.left ≡ []) × (p.cutter.mode ≡ Mode.Due → ⊥)
   pub count : p.taken ≡ length bytes
 
--- what a run is that was cut
+-- the run that was found is the one that the cutter gave, whatever bytes that lends
 abbrev pub IsFoundRun : FoundRun → Cut → Type 0
 IsFoundRun FoundRun.Skip c = (bytes : Bor (List ℕ)) × (c ≡ cut.Skip bytes)
 IsFoundRun FoundRun.Sync c = c ≡ cut.Sync
@@ -48,7 +48,7 @@ IsFoundRun (FoundRun.Word register w) c = c ≡ cut.Word register w
 IsFoundRun (FoundRun.Body register) c = (bytes : Bor (List ℕ)) × (c ≡ cut.Body register bytes)
 IsFoundRun f c = ⊥
 
--- the run that was found, where these are its bytes in the buffer, and these the ones that the cutter keeps
+-- the run is the one that was found, with its bytes in the buffer, or for the tail with those that the cutter keeps
 abbrev pub IsRunOf : FoundRun → List ℕ → List ℕ → Run → Type 0
 IsRunOf FoundRun.Skip bytes kept r = (lent : Bor (List ℕ)) × (r ≡ run.Skip lent) × (lent.now ≡ bytes)
 IsRunOf FoundRun.Sync bytes kept r = r ≡ run.Sync
@@ -63,19 +63,19 @@ abbrev pub IsLastFound : PacketsState → Run → Type 0
 IsLastFound p r = IsRunOf p.found p.bytes p.cutter.kept r
 
 -- a run was cut of the bytes that are left, and is what was found; or the cutter needs more bytes
-abbrev pub IsCutOff : Bool → FoundRun → Cut → Type 0
-IsCutOff true f c = IsFoundRun f c
-IsCutOff false f c = IsNeed c
+abbrev pub IsRunOrNeed : Bool → FoundRun → Cut → Type 0
+IsRunOrNeed true f c = IsFoundRun f c
+IsRunOrNeed false f c = IsNeed c
 
--- a reader before and after one call of the cutter on the bytes that are left
-pub record Steps (old new : PacketsState) (any : Bool) : Type 0 where
+-- a reader before and after one call of the cutter on the bytes that are left, which found a run or needs more bytes
+pub record CutsNext (old new : PacketsState) (found_run : Bool) : Type 0 where
   pub run : Cut
   pub count : ℕ
   pub cuts : Cuts old.cutter new.cutter old.left count run
   pub kept : (bytes : List ℕ) (sessions : List Session) (place : Place) → CutterStandsFor new.cutter bytes sessions place → new.cutter.kept ≡ tail_of place
   pub left : new.left ≡ drop count old.left
   pub bytes : new.bytes ≡ take count old.left
-  pub is : IsCutOff any new.found run
+  pub is : IsRunOrNeed found_run new.found run
   pub done : new.done ≡ old.done
   pub failed : new.failed ≡ old.failed
   pub taken : new.taken ≡ old.taken
@@ -85,13 +85,13 @@ abbrev pub filled : PacketsState → List ℕ → PacketsState
 filled p piece = record p { left = piece; bytes = []; taken = p.taken + length piece }
 
 -- one read: a piece of some bytes, or the end of the input
-pub record Fills (old new : PacketsState) (rest rest_now : Option (List ℕ)) (any : Bool) : Type 0 where
+pub record Fills (old new : PacketsState) (rest rest_now : Option (List ℕ)) (gave_bytes : Bool) : Type 0 where
   pub piece : List ℕ
   pub taken : rest ≡ preceded piece rest_now
   pub is : new ≡ filled old piece
   pub most : length piece ≤ piece_size
-  pub some : any ≡ true → 0 < length piece
-  pub end : any ≡ false → (piece ≡ []) × AtEnd rest_now
+  pub some : gave_bytes ≡ true → 0 < length piece
+  pub end : gave_bytes ≡ false → (piece ≡ []) × AtEnd rest_now
 
 -- a sync word is due to be given in both, or in neither
 abbrev pub SameDue : Mode → Mode → Type 0
@@ -134,8 +134,8 @@ pub record MayCall (p : PacketsState) (input : InputsState) : Type 0 where
   pub end : p.done ≡ true → AtEnd input.rest
   pub count : p.taken ≤ 2 ^ 63
 
--- what a call makes of the input, and of an earlier failure: the input stays one and is selected after a run; the call
--- fails where a read failed in it or an earlier call failed, and then always
+-- what holds of the inputs and of a call's result: an input is still selected after a run, and the call fails only
+-- where a read failed in it or an earlier call failed; after an earlier failure it always fails
 pub record CallsOn {T : Type 0} (p : PacketsState) (old new : InputsState) (result : Result T Failed) : Type 0 where
   pub failed : OnErr result ((p.failed ≡ true) ⊎ InputsFail old new)
   pub selected : OnOk result (new.selected ≡ true)
@@ -153,6 +153,6 @@ abbrev pub EndsCall : PacketsState → PacketsState → Option (List ℕ) → Op
 EndsCall old new rest rest_now (Ok r) = GivesRun old new rest rest_now r
 EndsCall old new rest rest_now (Err e) = GivesUp old new
 
--- what the reader is when the run that it lends is given back
+-- the reader becomes, when the run that it lends is given back, one after a call with this result
 abbrev pub EndsNextCall : MutBor PacketsState → Option (List ℕ) → Option (List ℕ) → Result Run Failed → Fml
 EndsNextCall p rest rest_now result = Rests the_row p (λ new. EndsCall p.now new rest rest_now result)

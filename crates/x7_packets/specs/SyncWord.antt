@@ -11,8 +11,8 @@ EndsWithSync bytes = (prefix : List ℕ) × (bytes ≡ prefix ++ sync_bytes)
 
 -- the sync word stands nowhere in the bytes
 pub record HasNoSync (bytes : List ℕ) : Type 0 where
-  pub none : (prefix back : List ℕ) → bytes ≡ prefix ++ sync_bytes ++ back → ⊥
+  pub none : (prefix suffix : List ℕ) → bytes ≡ prefix ++ sync_bytes ++ suffix → ⊥
 
 -- in these bytes and the sync word after them, the sync word stands only at the end
 pub record IsBeforeSync (gap : List ℕ) : Type 0 where
-  pub first : (prefix back : List ℕ) → gap ++ sync_bytes ≡ prefix ++ sync_bytes ++ back → back ≡ []
+  pub first : (prefix suffix : List ℕ) → gap ++ sync_bytes ≡ prefix ++ sync_bytes ++ suffix → suffix ≡ []

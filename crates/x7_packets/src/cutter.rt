@@ -1,9 +1,9 @@
-//! A stream cut into its parts, in whatever pieces it comes.
+//! A stream cut into runs (gaps, sync words, header words and payloads), in whatever pieces it comes.
 ghost use Rattle.std.specs.Prelude.{◌≡◌, ℕ, List, [], ◌++◌, ◌≤◌, ◌<◌, ◌+◌, ◌-◌, ◌*◌, ◌/◌, ◌^◌, ◌↔◌, IfNone, IfSome, IsTrue, take, length, if◌then◌else◌};
 ghost use Rattle.x7_words.specs.Word.{bytes_of_word};
 ghost use Rattle.x7_regs.specs.Register.{number_of};
 ghost use Rattle.x7_regs.specs.declared.register.Reg.TheVariants.{Cmd};
-ghost use Rattle.x7_packets.specs.AtOnce.{BeginsWrite, EndsGap, WritesFew, WritesOne};
+ghost use Rattle.x7_packets.specs.AtOnce.{BeginsWrite, EndsGap, WritesShort, WritesOne};
 ghost use Rattle.x7_packets.specs.Cutter.{between, calls_left, CompletesNone, CutterStandsFor, ComesNearer, EndsWithWord, IsBody, IsLent, IsNeed, IsOneWord, IsRun, MovesPast, run_bytes, SkipsAll, TakesAsOneRun};
 ghost use Rattle.x7_packets.specs.Matching.{IsClear};
 ghost use Rattle.x7_packets.specs.Nops.{Idles, nop_bytes};
@@ -21,7 +21,7 @@ use crate::sync::{Matcher, near_sync};
 use std::marker::Model;
 use x7_words::word_of;
 
-/// What a cutter is at.
+/// Where a cutter stands in a stream.
 #[derive(Clone, Copy)]
 pub(crate) enum Stage {
     /// In a gap.
@@ -60,8 +60,8 @@ fn keep(kept: &mut [u8; 3], count: usize, bytes: &[u8]) -> usize
     count + bytes.len()
 }
 
-/// The word of the `count` bytes that are kept and of those that the word lacks, four together.
-fn whole(kept: &[u8; 3], count: usize, missing: &[u8]) -> u32
+/// The word of the `count` bytes that are kept and of those that are missing, four together.
+fn completed_word(kept: &[u8; 3], count: usize, missing: &[u8]) -> u32
     requires whole { count + length missing.now ≡ 4 }
     requires within { count ≤ 3 }
     ensures { bytes_of_word result ≡ take count kept.now ++ missing.now }
@@ -78,11 +78,12 @@ fn whole(kept: &[u8; 3], count: usize, missing: &[u8]) -> u32
 /// How many words a short write has at most.
 const MOST_SHORT_WORDS: u32 = 16;
 
-/// How many bytes must be left of a piece for a short write to be taken at once:
-/// those of the longest one and its header.
+/// How many bytes must be left of a piece for a short write to be taken at once: as many as the longest one has, its
+/// header included.
 const LONGEST_SHORT_WRITE: usize = 68;
 
-/// How many bytes must be left of a piece for a short gap to be taken at once.
+/// How many bytes must be left of a piece for a short gap to be taken at once: those that a look for the sync word
+/// sees, and one more.
 const SHORT_GAP_ROOM: usize = 36;
 
 /// The register and the word of the write of one word that begins these bytes, its header's reserved bits 0.
@@ -104,8 +105,8 @@ fn first_write(bytes: &[u8]) -> Option<(u8, u32)>
     Some((register, word_of(*word)))
 }
 
-/// What a cutter is at after a word of a session.
-fn after_word(ended: bool) -> Stage
+/// Where a cutter stands after a word of a session, which ended it or not.
+fn stage_after_word(ended: bool) -> Stage
     ensures { mode_of result ≡ (if ended then Mode.Searching else Mode.Synced) }
 {
     if ended {
@@ -121,6 +122,7 @@ pub struct Cutter {
     stage: Stage,
     matcher: Matcher,
     machine: Machine,
+    // The first `count` of these bytes are kept: they are of no whole word yet.
     kept: [u8; 3],
     count: usize,
 }
@@ -209,10 +211,10 @@ impl Cutter {
             return None;
         };
         if !is_cmd(register) {
-            self.machine.pass_words(register);
+            self.machine.take_write_to_other(register);
             return Some((register, w));
         }
-        self.stage = after_word(self.machine.pass_write(register, w));
+        self.stage = stage_after_word(self.machine.take_write_of_one(register, w));
         self.matcher = Matcher::new();
         Some((register, w))
     }
@@ -222,7 +224,7 @@ impl Cutter {
     /// Gives its register and how many words it has.
     #[inline(always)]
     pub fn take_short_write(&mut self, rest: &[u8]) -> Option<(u8, usize)>
-        ensures some { IfSome result (λ write. WritesFew self.old self.new rest.now write.0 write.1) }
+        ensures some { IfSome result (λ write. WritesShort self.old self.new rest.now write.0 write.1) }
         ensures none { IfNone result (self.new ≡ self.old) }
     {
         if !self.is_at_header() {
@@ -243,7 +245,7 @@ impl Cutter {
         if count == 0 || count > MOST_SHORT_WORDS {
             return None;
         }
-        self.machine.pass_words(register);
+        self.machine.take_write_to_other(register);
         Some((register, count as usize))
     }
 
@@ -362,7 +364,7 @@ impl Cutter {
             return Cut::Need;
         }
         *at += missing;
-        self.word(&rest[..missing])
+        self.take_word(&rest[..missing])
     }
 
     /// Keeps bytes that complete no word.
@@ -376,9 +378,9 @@ impl Cutter {
         self.count = keep(&mut self.kept, self.count, rest);
     }
 
-    /// Takes one word, of the bytes that are kept and those that the word lacks.
+    /// Takes one word, of the bytes that are kept and of those that are missing.
     #[inline(always)]
-    fn word<'p>(&mut self, missing: &[u8]) -> Cut<'p>
+    fn take_word<'p>(&mut self, missing: &[u8]) -> Cut<'p>
         requires synced { self.old.mode ≡ Mode.Synced }
         requires whole { length self.old.kept + length missing.now ≡ 4 }
         ensures word { IsOneWord self.old.machine.due result }
@@ -386,10 +388,10 @@ impl Cutter {
         ensures joined { self.old.kept ++ missing.now ≡ run_bytes result }
         ensures adds { TakesAsOneRun self.old self.new missing.now result }
     {
-        let w = whole(&self.kept, self.count, missing);
+        let w = completed_word(&self.kept, self.count, missing);
         let step = self.machine.take(w);
         self.count = 0;
-        self.stage = after_word(step.is_end());
+        self.stage = stage_after_word(step.is_end());
         self.matcher = Matcher::new();
         match step {
             Step::Payload(register, _) => Cut::Word(register, w),
@@ -411,8 +413,8 @@ impl Cutter {
         ensures adds { TakesAsOneRun self.old self.new body.now result }
     {
         let register = self.machine.register();
-        let ended = self.machine.pass(body);
-        self.stage = after_word(ended);
+        let ended = self.machine.take_payload(body);
+        self.stage = stage_after_word(ended);
         self.matcher = Matcher::new();
         Cut::Body(register, body)
     }

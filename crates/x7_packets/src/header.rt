@@ -28,8 +28,9 @@ pub enum Step {
     Bad(u32),
 }
 
-/// What a word in a header's place means, where the nearest type 1 read or write named the register `latest`.
-pub(crate) fn header(latest: Option<u8>, w: u32) -> Step
+/// What a word in a header's place means, where the nearest type 1 read or write named the register `latest`. The sync
+/// word, the dummy word and words of packet type 0 have no effect (this project's choice).
+pub(crate) fn meaning(latest: Option<u8>, w: u32) -> Step
     ensures { result ≡ meaning latest w }
 {
     if w == SYNC_WORD || w == DUMMY_WORD || w >> 29 == 0 {
@@ -50,7 +51,7 @@ pub(crate) fn header(latest: Option<u8>, w: u32) -> Step
     }
 }
 
-/// Whether the number is that of CMD.
+/// Whether the register with this number is CMD.
 #[inline(always)]
 pub fn is_cmd(register: u8) -> bool
     ensures { result ≡ (register == number_of Cmd) }
@@ -59,7 +60,7 @@ pub fn is_cmd(register: u8) -> bool
 }
 
 /// Whether a word written to the register ends the session: DESYNC written to CMD.
-pub(crate) fn is_desync(register: u8, w: u32) -> bool
+pub(crate) fn ends_session(register: u8, w: u32) -> bool
     ensures { result ≡ ends_session register w }
 {
     is_cmd(register) && w & 31 == Command::Desync.code()
@@ -73,7 +74,7 @@ impl Step {
         ensures { result ≡ is_end self }
     {
         match self {
-            Step::Payload(register, w) => is_desync(register, w),
+            Step::Payload(register, w) => ends_session(register, w),
             _ => false,
         }
     }

@@ -1,5 +1,5 @@
-//! Laws of the definitions: what is read has one reading, which is found by hand, and
-//! its history grows with each run and byte.
+//! Laws of readings and histories: bytes have one reading, which is found by hand, and their history grows with each
+//! run and byte.
 ghost use Rattle.std.specs.Prelude.{◌≡◌, ℕ, ◌+◌, ◌*◌, ◌≤◌, ◌⊎◌, List, [], ◌∷◌, ◌++◌, false, length};
 ghost use Rattle.x7_words.specs.Word.{AreBytes, AreWords};
 ghost use Rattle.x7_packets.specs.ByHand.{AreOfOneSession, Reading, packets_of, reading_of};
@@ -34,7 +34,8 @@ pub fn reading_is_found()
         → (ss ≡ (reading_of bytes).sessions) × (p ≡ (reading_of bytes).place) }
 {}
 
-/// Words more in a session enter their accesses, and so does a run of a cutter.
+/// Where a session has further words, the history has their accesses too, each at its place; so has it those of a run
+/// of a cutter.
 pub fn words_enter()
     ensures words { (old new : Reading) (more : List (ℕ × Step)) → GoesOnBy more old new → history_in new ≡ entered_all (next_in old) more (history_in old) }
     ensures next { (old new : Reading) (more : List (ℕ × Step)) → GoesOnBy more old new → next_in new ≡ next_in old + 4 * length more }
@@ -48,7 +49,8 @@ pub fn words_enter()
     ensures history { (bytes : List ℕ) (sessions : List Session) (place : Place) → IsReading bytes sessions place → history sessions place ≡ history_of bytes }
 {}
 
-/// The history of words after others.
+/// Words enter the same accesses in one go and in two parts: those of the second part stand before those of the first,
+/// since they are newer.
 pub fn words_after()
     ensures { (place : ℕ) (first more : List (ℕ × Step)) (h : History)
         → entered_all place (first ++ more) h ≡ entered_all (place + 4 * length first) more [] ++ (entered_all place first [] ++ h) }
@@ -77,7 +79,7 @@ pub fn histories_grow()
     ensures placed { (bytes : List ℕ) → AreBytes bytes → Placed (length bytes) (history_of bytes) }
 {}
 
-/// Up to four bytes enter one access at most.
+/// Up to four bytes more enter one access at most.
 pub fn four_bytes_enter_one()
     ensures { (bytes more : List ℕ) → AreBytes (bytes ++ more) → length more ≤ 4
         → EntersNone bytes more ⊎ ((e : Entry) × EntersOne bytes more e) }

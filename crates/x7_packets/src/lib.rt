@@ -1,5 +1,4 @@
-//! Packets of a configuration stream: the search for the sync word, the words of a
-//! session, and a stream cut into its parts.
+//! Packets of a configuration stream: the search for the sync word, the words of a session, and a stream cut into runs.
 #![tactic(auto)]
 
 mod appended;

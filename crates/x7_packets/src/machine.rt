@@ -8,7 +8,7 @@ ghost use Rattle.x7_packets.specs.PacketWords.{type1_write};
 ghost use Rattle.x7_packets.specs.Packet.{Packet, ends_session, payload_steps};
 ghost use Rattle.x7_packets.specs.Machine.{ends_by, Grows, MachineStandsFor};
 
-use crate::header::{Step, header, is_cmd, is_desync};
+use crate::header::{Step, ends_session, is_cmd, meaning};
 use std::marker::Model;
 use x7_words::word_of;
 
@@ -55,14 +55,14 @@ impl Machine {
     {
         if self.due > 0 {
             let register = self.register;
-            if is_desync(register, w) {
+            if ends_session(register, w) {
                 *self = Machine::new();
             } else {
                 self.due -= 1;
             }
             return Step::Payload(register, w);
         }
-        let step = header(self.latest, w);
+        let step = meaning(self.latest, w);
         match step {
             Step::Open(register, count) => {
                 self.due = count;
@@ -94,7 +94,7 @@ impl Machine {
 
     /// Takes payload words of the open packet at once, and says whether the last one ends the session.
     #[inline(always)]
-    pub(crate) fn pass(&mut self, body: &[u8]) -> bool
+    pub(crate) fn take_payload(&mut self, body: &[u8]) -> bool
         requires whole { length body.now ≡ 4 * (length body.now / 4) }
         requires some { 0 < length body.now }
         requires within_due { length body.now / 4 ≤ self.old.due }
@@ -112,16 +112,16 @@ impl Machine {
         false
     }
 
-    /// Takes a whole write of one word at once, and says whether it ends the session.
+    /// Takes the header and the word of a write of one word at once, and says whether the word ends the session.
     #[inline(always)]
-    pub(crate) fn pass_write(&mut self, register: u8, w: u32) -> bool
+    pub(crate) fn take_write_of_one(&mut self, register: u8, w: u32) -> bool
         requires at_header { self.old.due ≡ 0 }
         requires range { register < 32 }
         ensures ends { result ≡ ends_session register w }
         ensures head { (ps : List Packet) → MachineStandsFor self.old ps → Grows ps ((type1_write register 1, Step.Open register 1) ∷ []) (in_write register 1) }
         ensures word { (ps : List Packet) → MachineStandsFor (in_write register 1) ps → Grows ps ((w, Step.Payload register w) ∷ []) self.new }
     {
-        if is_desync(register, w) {
+        if ends_session(register, w) {
             *self = Machine::new();
             return true;
         }
@@ -130,9 +130,9 @@ impl Machine {
         false
     }
 
-    /// Takes a whole write to a register other than CMD at once, of however many words.
+    /// Takes the header and all words of a type 1 write to a register other than CMD at once, however many they are.
     #[inline(always)]
-    pub(crate) fn pass_words(&mut self, register: u8)
+    pub(crate) fn take_write_to_other(&mut self, register: u8)
         requires at_header { self.old.due ≡ 0 }
         requires range { register < 32 }
         requires other { register ≡ number_of Cmd → ⊥ }

@@ -1,4 +1,4 @@
-//! Equal words in a row (UG470, packet types).
+//! Equal words in a row, as no-ops are (UG470, packet types).
 ghost use Rattle.std.specs.Prelude.{◌≡◌, ◌≤◌, ◌*◌, length, take, IsTrue};
 ghost use Rattle.x7_packets.specs.Nops.{equal_bytes};
 
@@ -7,6 +7,9 @@ use x7_words::{bytes_of, word_of};
 
 /// How many words a block has.
 const BLOCK_WORDS: usize = 8;
+
+/// How many bytes a block has.
+const BLOCK_BYTES: usize = 32;
 
 /// How many of the first words are `w`, one after the other, counted word by word.
 #[inline(always)]
@@ -35,7 +38,7 @@ fn block_of(w: u32) -> [u8; 32]
 
 /// Whether two blocks of 32 bytes are equal, compared at once.
 #[inline(always)]
-fn is_block(a: &[u8; 32], b: &[u8; 32]) -> bool
+fn are_equal(a: &[u8; 32], b: &[u8; 32]) -> bool
     ensures { IsTrue result → a.now ≡ b.now }
 {
     u8x32::from_array(*a)
@@ -53,7 +56,7 @@ fn count_blocks(bytes: &[u8], w: u32) -> usize
     let block = block_of(w);
     let (blocks, _) = bytes.as_chunks::<32>();
     for (i, next) in blocks.iter().enumerate() {
-        if !is_block(next, &block) {
+        if !are_equal(next, &block) {
             return i;
         }
     }
@@ -66,10 +69,10 @@ pub(crate) fn count_equal(bytes: &[u8], w: u32) -> usize
     ensures within { 4 * result ≤ length bytes.now }
     ensures equal { take (4 * result) bytes.now ≡ equal_bytes w result }
 {
-    let near = count_words(&bytes[..bytes.len().min(32)], w);
+    let near = count_words(&bytes[..bytes.len().min(BLOCK_BYTES)], w);
     if near < BLOCK_WORDS {
         return near;
     }
     let blocks = count_blocks(bytes, w);
-    BLOCK_WORDS * blocks + count_words(&bytes[32 * blocks..], w)
+    BLOCK_WORDS * blocks + count_words(&bytes[BLOCK_BYTES * blocks..], w)
 }

@@ -8,7 +8,7 @@ ghost use Rattle.x7_packets.specs.SyncWord.{sync_bytes};
 
 use std::simd::prelude::*;
 
-/// How many bytes 32 places of the sync word reach over.
+/// How many bytes the sync words at 32 places, one after the other, reach over: 32 and three more.
 pub(crate) const PLACES_REACH: usize = 35;
 
 /// The 32 bytes from `at` on.
@@ -46,9 +46,9 @@ fn top_bits(bytes: u8x32) -> u64
     bytes.simd_ge(u8x32::splat(128)).to_bitmask()
 }
 
-/// The lowest bit that is set.
+/// The number of the lowest bit that is set, from 0.
 #[inline(always)]
-fn lowest(bits: u64) -> usize
+fn lowest_bit(bits: u64) -> usize
     requires { bits ≢ 0 }
     ensures bound { result < 64 }
     ensures set { bit_at bits result ≡ 1 }
@@ -64,15 +64,15 @@ fn sync_bits(bytes: &[u8], at: usize) -> u64
     ensures some { (k : ℕ) → bit_at result k ≡ 1 → (k < 32) × OccursAt bytes.now sync_bytes (at + k) }
     ensures all { (k : ℕ) → k < 32 → OccursAt bytes.now sync_bytes (at + k) → bit_at result k ≡ 1 }
 {
-    let prefix = both(
+    let first_two = both(
         equal_to(load(bytes, at), 0xAA),
         equal_to(load(bytes, at + 1), 0x99),
     );
-    let back = both(
+    let last_two = both(
         equal_to(load(bytes, at + 2), 0x55),
         equal_to(load(bytes, at + 3), 0x66),
     );
-    top_bits(both(prefix, back))
+    top_bits(both(first_two, last_two))
 }
 
 /// A bit for each of the 32 places from `at` on where the sync word's first and last byte stand, the first place's the
@@ -101,7 +101,7 @@ pub(crate) fn first_of_places(bytes: &[u8], at: usize) -> Option<usize>
     if bits == 0 {
         return None;
     }
-    Some(at + lowest(bits))
+    Some(at + lowest_bit(bits))
 }
 
 /// The first place where the sync word stands, none where it stands nowhere. The

@@ -1,11 +1,11 @@
-//! Packets over an input: its runs, one after another, lent out of one buffer.
+//! Packets over an input: its runs, one after another, lent out of one buffer (this project's choice).
 ghost use Rattle.std.specs.Prelude.{◌≡◌, ◌≢◌, ◌≤◌, ◌<◌, ◌+◌, ◌^◌, ◌⊎◌, ℕ, List, [], length, take, vec_len, true, false, IfNone, IfOk, IfSome, OnErr, OnOk};
 ghost use Rattle.x7_words.specs.Input.{AtEnd, InputsFail, InputsStay};
 ghost use Rattle.x7_packets.specs.Cutter.{IsNeed};
 ghost use Rattle.x7_packets.specs.Mode.{Mode};
 ghost use Rattle.x7_packets.specs.FoundRun.{FoundRun, found_of};
 ghost use Rattle.x7_packets.specs.PacketsState.{PacketsState, piece_size};
-ghost use Rattle.x7_packets.specs.Stream.{CallsOn, Fills, GivesRun, GivesUp, IsFoundRun, IsLastFound, MayCall, PacketsStandFor, Steps};
+ghost use Rattle.x7_packets.specs.Stream.{CallsOn, CutsNext, Fills, GivesRun, GivesUp, IsFoundRun, IsLastFound, MayCall, PacketsStandFor};
 
 use crate::cutter::{Cut, Cutter};
 use crate::header::Step;
@@ -13,7 +13,7 @@ use std::alloc::Global;
 use std::marker::Model;
 use x7_words::{Failed, Inputs, NoMemory};
 
-/// How many bytes are read at once.
+/// How many bytes are read at once at most, as many as the buffer has.
 const PIECE_SIZE: usize = 65_536;
 
 /// A run of a stream.
@@ -35,10 +35,10 @@ pub enum Run<'b> {
     End,
 }
 
-/// What the last run is. The bytes that the run lends stand in the buffer; those of the
-/// tail are the ones that the cutter keeps.
+/// The last run of a reader, without the bytes that it lends: these stand in the buffer, and those of the tail are the
+/// ones that the cutter keeps.
 #[derive(Clone, Copy)]
-pub(crate) enum Last {
+pub(crate) enum LastRun {
     Skip,
     Sync,
     Head(u32, Step),
@@ -48,22 +48,22 @@ pub(crate) enum Last {
     End,
 }
 
-/// The kind of the run that the cutter gave, without its bytes; `None` where the cutter needs more of them.
-fn last_of(cut: Cut) -> Option<Last>
-    ensures some { IfSome result (λ last. IsFoundRun (found_of last) cut.entry) }
+/// The run that the cutter gave, without its bytes; `None` where the cutter needs more bytes.
+fn last_run_of(cut: Cut) -> Option<LastRun>
+    ensures some { IfSome result (λ run. IsFoundRun (found_of run) cut.entry) }
     ensures none { IfNone result (IsNeed cut.entry) }
 {
     match cut {
         Cut::Need => None,
-        Cut::Skip(_) => Some(Last::Skip),
-        Cut::Sync => Some(Last::Sync),
-        Cut::Head(w, step) => Some(Last::Head(w, step)),
-        Cut::Word(register, w) => Some(Last::Word(register, w)),
-        Cut::Body(register, _) => Some(Last::Body(register)),
+        Cut::Skip(_) => Some(LastRun::Skip),
+        Cut::Sync => Some(LastRun::Sync),
+        Cut::Head(w, step) => Some(LastRun::Head(w, step)),
+        Cut::Word(register, w) => Some(LastRun::Word(register, w)),
+        Cut::Body(register, _) => Some(LastRun::Body(register)),
     }
 }
 
-/// A buffer that begins with these bytes.
+/// A buffer of 65,536 bytes that begins with these; `NoMemory` where there is no memory for it.
 fn buffer_of(alloc: Global, first: &[u8]) -> Result<Vec<u8>, NoMemory>
     requires { length first.now ≤ piece_size }
     ensures items { IfOk result (λ buffer. take (length first.now) buffer.items ≡ first.now) }
@@ -84,7 +84,7 @@ pub struct Packets {
     start: usize,
     at: usize,
     end: usize,
-    found: Last,
+    found: LastRun,
     done: bool,
     failed: bool,
     taken: u64,
@@ -122,7 +122,7 @@ impl Packets {
             start: 0,
             at: 0,
             end: first.len(),
-            found: Last::End,
+            found: LastRun::End,
             done: false,
             failed: false,
             taken: first.len() as u64,
@@ -154,7 +154,7 @@ impl Packets {
         Ok(self.run())
     }
 
-    /// Finds the next run.
+    /// Finds the next run: reads and cuts until one was cut, or the tail or the end is next.
     fn advance<I: Inputs>(&mut self, inputs: &mut I) -> Result<(), Failed>
         requires { MayCall self.old (I.state inputs.old) }
         ensures ok { OnOk result ((r : Run) → IsLastFound self.new r → GivesRun self.old self.new (I.state inputs.old).rest (I.state inputs.new).rest r) }
@@ -166,11 +166,11 @@ impl Packets {
             return Err(Failed);
         }
         if self.done {
-            self.found = Last::End;
+            self.found = LastRun::End;
             return Ok(());
         }
         loop {
-            if self.step() {
+            if self.cut_next() {
                 return Ok(());
             }
             let more = match self.fill(inputs) {
@@ -190,22 +190,22 @@ impl Packets {
     {
         let bytes = &self.buffer[self.start..self.at];
         match self.found {
-            Last::Skip => Run::Skip(bytes),
-            Last::Sync => Run::Sync,
-            Last::Head(w, step) => Run::Head(w, step),
-            Last::Word(register, w) => Run::Word(register, w),
-            Last::Body(register) => Run::Body(register, bytes),
-            Last::Tail => Run::Tail(self.cutter.kept()),
-            Last::End => Run::End,
+            LastRun::Skip => Run::Skip(bytes),
+            LastRun::Sync => Run::Sync,
+            LastRun::Head(w, step) => Run::Head(w, step),
+            LastRun::Word(register, w) => Run::Word(register, w),
+            LastRun::Body(register) => Run::Body(register, bytes),
+            LastRun::Tail => Run::Tail(self.cutter.kept()),
+            LastRun::End => Run::End,
         }
     }
 
     /// Cuts the bytes that are left, and says whether a run was found.
-    fn step(&mut self) -> bool
-        ensures { Steps self.old self.new result }
+    fn cut_next(&mut self) -> bool
+        ensures { CutsNext self.old self.new result }
     {
         let mut count = 0;
-        let found = last_of(self.cutter.cut(&self.buffer[self.at..self.end], &mut count));
+        let found = last_run_of(self.cutter.cut(&self.buffer[self.at..self.end], &mut count));
         self.cutter.keeps_the_tail();
         self.start = self.at;
         self.at += count;
@@ -223,7 +223,7 @@ impl Packets {
         requires selected { (I.state inputs.old).selected ≡ true }
         requires none { self.old.left ≡ [] }
         requires count { self.old.taken + piece_size < 2 ^ 64 }
-        ensures ok { IfOk result (λ any. Fills self.old self.new (I.state inputs.old).rest (I.state inputs.new).rest any) }
+        ensures ok { IfOk result (λ gave_bytes. Fills self.old self.new (I.state inputs.old).rest (I.state inputs.new).rest gave_bytes) }
         ensures err { OnErr result (self.new ≡ record self.old { bytes = []; failed = true }) }
         ensures failed { OnErr result (InputsFail (I.state inputs.old) (I.state inputs.new)) }
         ensures selected { OnOk result ((I.state inputs.new).selected ≡ true) }
@@ -245,16 +245,16 @@ impl Packets {
         }
     }
 
-    /// Ends the runs: with the bytes of no whole word that the cutter keeps, or with none.
+    /// Ends the runs: with the tail where the cutter keeps bytes of no whole word, else with the end.
     fn finish(&mut self)
         ensures kept { self.old.cutter.kept ≢ [] → self.new ≡ record self.old { found = FoundRun.Tail; done = true } }
         ensures none { self.old.cutter.kept ≡ [] → self.new ≡ record self.old { found = FoundRun.End; done = true } }
     {
         self.done = true;
         self.found = if self.cutter.kept().is_empty() {
-            Last::End
+            LastRun::End
         } else {
-            Last::Tail
+            LastRun::Tail
         };
     }
 }

@@ -1,6 +1,6 @@
 //! The search for the sync word at any byte place (UG470, sync word).
 ghost use Rattle.std.specs.Prelude.{◌≡◌, ℕ, List, [], ◌∷◌, ◌++◌, ◌<◌, ◌≤◌, ◌+◌, ◌↔◌, length, IsTrue, IfSome, if◌then◌else◌};
-ghost use Rattle.x7_packets.specs.AtOnce.{longest_short_gap};
+ghost use Rattle.x7_packets.specs.AtOnce.{longest_gap_and_sync};
 ghost use Rattle.x7_packets.specs.SyncWord.{EndsWithSync, HasNoSync, sync_bytes};
 ghost use Rattle.x7_packets.specs.Matching.{IsClear, IsFirstSync, MatcherStandsFor, Searched, places_reach};
 
@@ -11,7 +11,7 @@ use std::marker::Model;
 const SYNC_REST: usize = 3;
 
 /// How many bytes a short gap and the sync word after it have at most.
-const LONGEST_SHORT_GAP: usize = 32;
+const LONGEST_GAP_AND_SYNC: usize = 32;
 
 /// Whether four bytes are the sync word.
 #[inline(always)]
@@ -21,16 +21,16 @@ fn is_sync(bytes: [u8; 4]) -> bool
     bytes[0] == 0xAA && bytes[1] == 0x99 && bytes[2] == 0x55 && bytes[3] == 0x66
 }
 
-/// Where the sync word first stands whole among the first 32 bytes, if it is seen there. `None` says nothing: it may
-/// stand there still.
+/// Where the sync word first stands, whole among the first 32 bytes, if it is seen there. `None` says nothing: a sync
+/// word may stand there still.
 #[inline(always)]
 pub(crate) fn near_sync(bytes: &[u8]) -> Option<usize>
     requires { places_reach ≤ length bytes.now }
     ensures first { IfSome result (λ at. IsFirstSync bytes.now at) }
-    ensures near { IfSome result (λ at. at + 4 ≤ longest_short_gap) }
+    ensures near { IfSome result (λ at. at + 4 ≤ longest_gap_and_sync) }
 {
     match first_of_places(bytes, 0) {
-        Some(at) if at + 4 <= LONGEST_SHORT_GAP => Some(at),
+        Some(at) if at + 4 <= LONGEST_GAP_AND_SYNC => Some(at),
         _ => None,
     }
 }
@@ -133,7 +133,7 @@ impl Matcher {
         None
     }
 
-    /// A matcher that took these bytes last, three at least.
+    /// A matcher that took these bytes last, which are three at least.
     fn after(bytes: &[u8]) -> Matcher
         requires { 3 ≤ length bytes.now }
         ensures { (gap : List ℕ) → MatcherStandsFor result (gap ++ bytes.now) }

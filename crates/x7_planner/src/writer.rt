@@ -27,13 +27,13 @@ pub(crate) struct Writer {
 
 impl Model for Writer {
     ghost use Rattle.std.specs.Prelude.{ℕ, List};
-    ghost use Rattle.x7_crc.specs.Checker.{Keeps};
+    ghost use Rattle.x7_crc.specs.Checker.{KeepsCheckOf};
 
     ghost Value = { List ℕ };
 
     ghost view = { λ w. w.out.items };
 
-    ghost invariant = { λ w. Keeps w.checker w.out.items };
+    ghost invariant = { λ w. KeepsCheckOf w.checker w.out.items };
 }
 
 impl Writer {

@@ -73,7 +73,7 @@ starts_after part g h s f r t gaps starts within =
     let one : List ℕ = (g ++ s) ++ f in
     let other : List ℕ = (h ++ s) ++ r in
     let x : EndsFirst part one t = ended part one t starts in
-    let as_long : length (h ++ s) ≡ length (g ++ s) = length-append h s ∙ ap (λ (n : ℕ). n + length s) (sym gaps.long) ∙ sym (length-append g s) in
+    let as_long : length (h ++ s) ≡ length (g ++ s) = length-append h s ∙ ap (λ (n : ℕ). n + length s) (sym gaps.count) ∙ sym (length-append g s) in
     let alike : (k : ℕ) → k ≤ length t.bytes → AreAlike (take k one) (take k other) =
     λ k l. subst (λ (b : List ℕ). AreAlike b (take k other)) (sym (take-append-le k (g ++ s) f (omega (arith, l, within))))
     (subst (AreAlike (take k (g ++ s))) (sym (take-append-le k (h ++ s) r (omega (arith, l, within, as_long)))) (alike_prefixes g h s k gaps)) in
@@ -157,7 +157,7 @@ module _ (part : PartData) (one other : List ℕ) (t : AttemptCourse) (nowhere :
   both : StartsAtPower part ((h ++ s) ++ r) there × AreAlike t.bytes there.bytes
   both =
       starts_after part g h s f r t (record {
-        long = g_long ∙ sym h_long;
+        count = g_long ∙ sym h_long;
         fits = (all_append (λ x. x < 256) g s fits (all_back (λ x. x < 256) h s other_sum), other_sum);
         none = (none_before one g s f nowhere one_is (omega (arith, g_long)), none_before other h s r other_nowhere other_is (omega (arith, h_long)));
       }) (subst (λ (x : List ℕ). StartsAtPower part x t) one_is starts) within

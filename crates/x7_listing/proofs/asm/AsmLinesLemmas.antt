@@ -6,14 +6,14 @@ use Rattle.std.specs.Result.{IsErrAnd}
 use Rattle.std.proofs.Math.ListN.{drop_of_length-le}
 use Rattle.std.proofs.Math.Seq.{drop-nil}
 use Rattle.std.specs.List.{flat_map}
-use Rattle.x7_crc.specs.Checker.{CheckerState, Keeps}
+use Rattle.x7_crc.specs.Checker.{CheckerState, KeepsCheckOf}
 use Rattle.x7_crc.proofs.CheckerLemmas.{still_keeps}
 use Rattle.x7_header.specs.Header.{Contents, longest_header}
 use Rattle.x7_text.specs.Lines.{split}
 use Rattle.x7_text.proofs.LineReaderLemmas.{HasTaken, each_fault}
 use Rattle.x7_listing.specs.Assembly.{AreHeadedAsm}
-use Rattle.x7_listing.specs.Assembling.{AreReadWithRoom, AsmState, FailsFirst, FailsNext, TextsAreRead, HasAsmFault, HasLineRoom, IsOutputOf, IsFirstOrGood, IsSoundOutput, Output, ReadsFirst, ReadsNext, TakesLines, Unbegun, Waits, LinesAreRead, lines_after, asm_state, has_any}
-use Rattle.x7_listing.specs.BitLine.{bit_text, IsHeaderOf, IsHeld}
+use Rattle.x7_listing.specs.Assembling.{AreReadWithRoom, AsmState, FailsFirst, FailsNext, TextsAreRead, HasAsmFault, HasLineRoom, IsOutputOf, IsFirstOrGood, IsSoundOutput, Output, ReadsFirst, ReadsNext, AppendsLines, Unbegun, AreReadOrUnbegun, LinesAreRead, state_of_output, asm_state, has_any}
+use Rattle.x7_listing.specs.BitLine.{bit_text, IsHeaderOf, FitsHeader}
 use Rattle.x7_text.specs.Reads.{Reads}
 use Rattle.x7_listing.specs.Line.{Line, Empty, Comment, Bytes, Sync, Nop, Write, Read, Write2, Read2, Word, Data, Cmd, Check, line_bytes, FitsLine, text_of}
 use Rattle.x7_listing.specs.declared.assembler.AsmFault.{AsmFault}
@@ -22,7 +22,7 @@ use Rattle.x7_listing.proofs.AssemblingLemmas.{goes_whole, went_nothing}
 use Rattle.x7_listing.proofs.asm.fast.QuickLemmas.{goes_quick, quick_texts}
 
 -- before any line is read: a header's line, and a line that is no header's
-pub goes_header : (all left : List (List ℕ)) (held out header : List ℕ) (start len c n : ℕ) (checker fresh : CheckerState) → IsHeaderOf held header → length header ≤ longest_header → len ≡ length header → c ≡ n + 1 → Keeps fresh []
+pub goes_header : (all left : List (List ℕ)) (held out header : List ℕ) (start len c n : ℕ) (checker fresh : CheckerState) → IsHeaderOf held header → length header ≤ longest_header → len ≡ length header → c ≡ n + 1 → KeepsCheckOf fresh []
     → Unbegun all (held ∷ left) (asm_state out start checker n) → TextsAreRead all left (asm_state header len fresh c)
 goes_header all left held out header start len c n checker fresh h short size up new u =
     let none : drop len header ≡ [] = drop_of_length-le header (omega (arith, size)) in
@@ -32,8 +32,8 @@ goes_header all left held out header start len c n checker fresh h short size up
       read = 0;
       long = omega (arith, size);
       short = omega (arith, size, short);
-      keeps = subst (λ (b : List ℕ). Keeps fresh b) (sym none) new;
-      opens = inl (record { header = h.header; held = h.held; texts = u.texts ∙ ap (λ t. t ∷ left) h.text; prefix_is = take_all len header (omega (arith, size)) ∙ h.bytes_are; count = refl });
+      keeps = subst (λ (b : List ℕ). KeepsCheckOf fresh b) (sym none) new;
+      opens = inl (record { header = h.header; fits = h.fits; texts = u.texts ∙ ap (λ t. t ∷ left) h.text; prefix_is = take_all len header (omega (arith, size)) ∙ h.bytes_are; count = refl });
       went = subst (λ (b : List ℕ). LinesAreRead (67108864 - len) left left b 0) (sym none) (went_nothing (67108864 - len) left);
       count_is = omega (arith, up, u.count_is);
     }
@@ -41,7 +41,7 @@ goes_header all left held out header start len c n checker fresh h short size up
 first_is : (s t : List ℕ) (ss ts : List (List ℕ)) → s ∷ ss ≡ t ∷ ts → s ≡ t
 first_is s t ss ts e = cc
 
-pub goes_plain : (all left : List (List ℕ)) (held out : List ℕ) (start n : ℕ) (checker : CheckerState) → ((x : Contents) → IsHeld x → held ≡ bit_text x → ⊥) → Unbegun all (held ∷ left) (asm_state out start checker n) → TextsAreRead all (held ∷ left) (asm_state out start checker n)
+pub goes_plain : (all left : List (List ℕ)) (held out : List ℕ) (start n : ℕ) (checker : CheckerState) → ((x : Contents) → FitsHeader x → held ≡ bit_text x → ⊥) → Unbegun all (held ∷ left) (asm_state out start checker n) → TextsAreRead all (held ∷ left) (asm_state out start checker n)
 goes_plain all left held out start n checker none u =
     let empty : drop start out ≡ [] = ap (drop start) u.out_is ∙ drop-nil start in
     record {
@@ -50,7 +50,7 @@ goes_plain all left held out start n checker none u =
       read = 0;
       long = omega (arith, u.start_is);
       short = omega (arith, u.start_is);
-      keeps = subst (λ (b : List ℕ). Keeps checker b) (sym empty) u.keeps;
+      keeps = subst (λ (b : List ℕ). KeepsCheckOf checker b) (sym empty) u.keeps;
       opens = inr (record {
         no_head = λ x others hx e. none x hx (first_is held (bit_text x) left others (sym u.texts ∙ e));
         texts = u.texts;
@@ -105,7 +105,7 @@ grown check false t old new r = ([], r.1 ∙ sym (append-nil old))
 pub still_begun : (check : ℕ) (b : Bool) (t old new : List ℕ) (start : ℕ) → Reads FitsLine text_of (line_bytes check) b t old new → start ≤ length old → start ≤ length new
 still_begun check b t old new start r h = let g = grown check b t old new r in omega (arith, h, ap length g.1, length-append old g.0)
 
-pub keeps_begun : (check : ℕ) (b : Bool) (t old new : List ℕ) (start : ℕ) (checker : CheckerState) → Reads FitsLine text_of (line_bytes check) b t old new → start ≤ length old → Keeps checker (drop start old) → Keeps checker (drop start new)
+pub keeps_begun : (check : ℕ) (b : Bool) (t old new : List ℕ) (start : ℕ) (checker : CheckerState) → Reads FitsLine text_of (line_bytes check) b t old new → start ≤ length old → KeepsCheckOf checker (drop start old) → KeepsCheckOf checker (drop start new)
 keeps_begun check b t old new start checker r h k = let g = grown check b t old new r in still_keeps checker (drop start old) g.0 (drop start new) (ap (drop start) g.1 ∙ drop-append-le start old g.0 h) k
 
 pub first_read : {A : Type 0} (r : Result A AsmFault) (old new : Output) (line : List ℕ) (lines : List (List ℕ)) → length lines ≡ 0 → OnOk r (ReadsFirst old new line) → OnOk r (HasLineRoom new) → IfErr r (FailsFirst old line) → AreReadWithRoom old lines
@@ -121,8 +121,8 @@ next_read r old new n line [] m more reads room fails h = absurd (more m)
 next_read (Ok _) old new n line (t ∷ ts) m more reads room fails h =
     let read : IsOutputOf new ((t ∷ ts) ++ line ∷ []) = λ left.
     let k : n ≡ length ((t ∷ ts) ++ line ∷ []) = m ∙ sym (length-append (t ∷ ts) (line ∷ [])) in
-    subst (λ all. TextsAreRead all left (lines_after new (length ((t ∷ ts) ++ line ∷ [])))) (sym (append_assoc (t ∷ ts) (line ∷ []) left))
-    (subst (λ (j : ℕ). TextsAreRead ((t ∷ ts) ++ line ∷ left) left (lines_after new j)) k (reads ((t ∷ ts) ++ line ∷ left) left (length (t ∷ ts)) m (h.read (line ∷ left)))) in
+    subst (λ all. TextsAreRead all left (state_of_output new (length ((t ∷ ts) ++ line ∷ [])))) (sym (append_assoc (t ∷ ts) (line ∷ []) left))
+    (subst (λ (j : ℕ). TextsAreRead ((t ∷ ts) ++ line ∷ left) left (state_of_output new j)) k (reads ((t ∷ ts) ++ line ∷ left) left (length (t ∷ ts)) m (h.read (line ∷ left)))) in
     record { read = read; room = λ _. room }
 next_read (Err f) old new n line (t ∷ ts) m more reads room (inl want) h = λ left. inl want
 next_read (Err f) old new n line (t ∷ ts) m more reads room (inr bad) h = λ left. inr (bad ((t ∷ ts) ++ line ∷ left) left (length (t ∷ ts)) m (h.read (line ∷ left)))
@@ -147,7 +147,7 @@ next_wants (Ok _) old new n line lines m more reads h = tt
 next_wants (Err f) old new n line [] m more reads h = absurd (more m)
 next_wants (Err f) old new n line (t ∷ ts) m more reads h = λ want.
     let all : List (List ℕ) = (t ∷ ts) ++ line ∷ [] in
-    let g : TextsAreRead all [] (lines_after new n) = reads want (h.room refl) all [] (length (t ∷ ts)) m (h.read (line ∷ [])) in
+    let g : TextsAreRead all [] (state_of_output new n) = reads want (h.room refl) all [] (length (t ∷ ts)) m (h.read (line ∷ [])) in
     inr (new.out, goes_whole all new.out new.start new.checker n g)
 
 -- ---- lines that are read at once
@@ -163,17 +163,17 @@ still_sound out new start checker more e s = record {
 }
 
 -- a header's bytes and a new checker
-pub header_sound : (header : List ℕ) (len : ℕ) (fresh : CheckerState) → len ≡ length header → Keeps fresh [] → IsSoundOutput header len fresh
+pub header_sound : (header : List ℕ) (len : ℕ) (fresh : CheckerState) → len ≡ length header → KeepsCheckOf fresh [] → IsSoundOutput header len fresh
 header_sound header len fresh size new = record {
   begun = omega (arith, size);
-  keeps = subst (λ (b : List ℕ). Keeps fresh b) (sym (drop_of_length-le header (omega (arith, size)))) new;
+  keeps = subst (λ (b : List ℕ). KeepsCheckOf fresh b) (sym (drop_of_length-le header (omega (arith, size)))) new;
 }
 
 no_lines : (ls : List Line) → length ls ≡ 0 → ls ≡ []
 no_lines [] e = refl
 no_lines (l ∷ ls) e = absurd (omega (arith, e))
 
-pub quick_read : (out new text rest : List ℕ) (start k : ℕ) (checker : CheckerState) (lines : List (List ℕ)) (t : TakesLines text rest out new k) → (length lines ≡ 0 → k ≡ 0) → (length out ≤ 67108864 → length new ≤ 67108864)
+pub quick_read : (out new text rest : List ℕ) (start k : ℕ) (checker : CheckerState) (lines : List (List ℕ)) (t : AppendsLines text rest out new k) → (length lines ≡ 0 → k ≡ 0) → (length out ≤ 67108864 → length new ≤ 67108864)
     → IsOutputOf (output_by out start checker) lines → IsOutputOf (output_by new start checker) (lines ++ map text_of t.lines)
 quick_read out new text rest start k checker [] t none limit h =
     let empty : t.lines ≡ [] = no_lines t.lines (sym t.count_is ∙ none refl) in
@@ -191,7 +191,7 @@ any_before [] [] none e = e
 any_before [] (l ∷ more) none e = absurd (omega (arith, none refl))
 any_before (t ∷ ts) more none e = refl
 
-all_read : (old new : Output) (text rest : List ℕ) (k : ℕ) (lines : List (List ℕ)) (t : TakesLines text rest old.out new.out k) → new.start ≡ old.start → new.checker ≡ old.checker → (length lines ≡ 0 → k ≡ 0)
+all_read : (old new : Output) (text rest : List ℕ) (k : ℕ) (lines : List (List ℕ)) (t : AppendsLines text rest old.out new.out k) → new.start ≡ old.start → new.checker ≡ old.checker → (length lines ≡ 0 → k ≡ 0)
     → (length old.out ≤ 67108864 → length new.out ≤ 67108864) → (HasLineRoom old → HasLineRoom new) → AreReadWithRoom old lines → AreReadWithRoom new (lines ++ map text_of t.lines)
 all_read old new text rest k lines t start checker none limit room h = record {
   read = subst (λ (s : ℕ). IsOutputOf (output_by new.out s new.checker) (lines ++ map text_of t.lines)) (sym start)
@@ -200,7 +200,7 @@ all_read old new text rest k lines t start checker none limit room h = record {
 }
 
 -- the lines that AsmLines takes at once
-pub at_once_taken : (old new : Output) (text rest left : List ℕ) (k n c size : ℕ) (lines : List (List ℕ)) → left ≡ drop size rest → TakesLines rest (drop size rest) old.out new.out k → new.start ≡ old.start → new.checker ≡ old.checker
+pub at_once_taken : (old new : Output) (text rest left : List ℕ) (k n c size : ℕ) (lines : List (List ℕ)) → left ≡ drop size rest → AppendsLines rest (drop size rest) old.out new.out k → new.start ≡ old.start → new.checker ≡ old.checker
     → (n ≡ 0 → k ≡ 0) → (length old.out ≤ 67108864 → length new.out ≤ 67108864) → (HasLineRoom old → HasLineRoom new) → c ≡ n + k → HasTaken AreReadWithRoom lines text rest old n → HasTaken AreReadWithRoom lines text left new c
 at_once_taken old new text rest left k n c size lines is t start checker none limit room up h = record {
   more = h.more ++ map text_of t.lines;
@@ -212,7 +212,7 @@ at_once_taken old new text rest left k n c size lines is t start checker none li
 
 -- ---- the last line
 
-goes_any : (lines : List (List ℕ)) (line : List ℕ) (all left : List (List ℕ)) (b : AsmState) → Waits (has_any (lines ++ line ∷ [])) all left b → TextsAreRead all left b
+goes_any : (lines : List (List ℕ)) (line : List ℕ) (all left : List (List ℕ)) (b : AsmState) → AreReadOrUnbegun (has_any (lines ++ line ∷ [])) all left b → TextsAreRead all left b
 goes_any [] line all left b w = w
 goes_any (t ∷ ts) line all left b w = w
 
@@ -220,4 +220,4 @@ pub last_read : (b : Output) (lines : List (List ℕ)) (line : List ℕ) → IsO
 last_read b lines line h =
     let all : List (List ℕ) = lines ++ line ∷ [] in
     subst (λ ls. AreHeadedAsm ls (Ok b.out)) (append-nil all)
-    (goes_whole (all ++ []) b.out b.start b.checker (length all) (goes_any lines line (all ++ []) [] (lines_after b (length all)) (h [])))
+    (goes_whole (all ++ []) b.out b.start b.checker (length all) (goes_any lines line (all ++ []) [] (state_of_output b (length all)) (h [])))

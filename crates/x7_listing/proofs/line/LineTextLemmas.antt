@@ -66,8 +66,8 @@ command_free command.Ltimer = refl
 command_free command.BspiRead = refl
 command_free command.FallEdge = refl
 
-access_free : (n c : ℕ) → n < 32 → c < 2 ^ 11 → has_no_end (reg_name n ++ 32 ∷ decimal c) ≡ true
-access_free n c h k = free_both (reg_name n) (32 ∷ decimal c) (name_free n h) (decimal_free c (omega arith))
+type1_free : (n c : ℕ) → n < 32 → c < 2 ^ 11 → has_no_end (reg_name n ++ 32 ∷ decimal c) ≡ true
+type1_free n c h k = free_both (reg_name n) (32 ∷ decimal c) (name_free n h) (decimal_free c (omega arith))
 
 pub line_free : (l : Line) → FitsLine l → IsListed l → has_no_end (text_of l) ≡ true
 line_free Empty h k = refl
@@ -75,8 +75,8 @@ line_free (Comment text) h k = absurd k
 line_free (Bytes bs) h k = hex_free bs
 line_free Sync h k = refl
 line_free Nop h k = refl
-line_free (Write n c) h k = access_free n c h.0 h.1
-line_free (Read n c) h k = access_free n c h.0 h.1
+line_free (Write n c) h k = type1_free n c h.0 h.1
+line_free (Read n c) h k = type1_free n c h.0 h.1
 line_free (Write2 c) h k = decimal_free c (omega (arith, h))
 line_free (Read2 c) h k = decimal_free c (omega (arith, h))
 line_free (Word w) h k = word_free w

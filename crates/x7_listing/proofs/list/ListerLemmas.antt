@@ -35,7 +35,7 @@ took c d run synced s2 line l2 at to held h2 text text2 given before bytes piece
       sessions = w.new_sessions;
       at = w.new_place;
       cut = w.stands;
-      listed = writes before (bytes ++ take at piece ++ between piece at to) s.sessions w.new_sessions s.at w.new_place c.mode d.mode s.listed w.adds w.turns is w.stands.reading;
+      listed = writes before (bytes ++ take at piece ++ between piece at to) s.sessions w.new_sessions s.at w.new_place c.mode d.mode s.listed w.adds w.mode_changes is w.stands.reading;
     } in
     subst (λ t. HasListedJust (lister_of d s2 l2 h2 text2) given before t) e all
 
@@ -57,9 +57,9 @@ took_all c d run synced line at to held text given before bytes piece s h full i
       sessions = w.new_sessions;
       at = w.new_place;
       cut = w.stands;
-      listed = need_adds synced line held (given ++ text) before s.sessions w.new_sessions s.at w.new_place c.mode d.mode s.listed w.adds w.turns;
+      listed = need_adds synced line held (given ++ text) before s.sessions w.new_sessions s.at w.new_place c.mode d.mode s.listed w.adds w.mode_changes;
     } in
-    record { has_listed = subst (λ t. HasListedJust (lister_of d synced line held text) given before t) e all; ready = w.turns.1 }
+    record { has_listed = subst (λ t. HasListedJust (lister_of d synced line held text) given before t) e all; ready = w.mode_changes.1 }
 
 -- a pen that is in no gap is in a session
 pub not_gap : (p : Pen) → ((gap : GapPen) → p ≡ pen.Gap gap → ⊥) → is_in_session p ≡ true

@@ -4,7 +4,8 @@ use Rattle.std.specs.Prelude.{◌≡◌, ◌==◌, Bool, not, ℕ, zero, suc, �
 use Rattle.x7_packets.specs.PacketWords.{no_op}
 use Rattle.x7_packets.specs.declared.header.Step.{Step}
 use Rattle.x7_packets.specs.declared.header.Step.TheVariants.{Nop}
-use Rattle.x7_regs.specs.Register.{reg_name}
+use Rattle.x7_regs.specs.Register.{number_of, reg_name}
+use Rattle.x7_regs.specs.declared.register.Reg.TheVariants.{Cmd}
 use Rattle.x7_listing.specs.HeadLine.{command_line, text_of_head}
 
 -- the lines of a word in a header's place, this many times
@@ -30,13 +31,17 @@ write_start register = write_line register ++ codes "data "
 
 -- the lines of a write of a word to CMD
 abbrev pub command_lines : ℕ → List ℕ
-command_lines w = write_line 4 ++ command_line w
+command_lines w = write_line (number_of Cmd) ++ command_line w
 
--- a row of 32 bytes, of which the last says how many of the first are a text
+-- where in a row of a table it stands how many of its bytes are text: the last of its 32 bytes
+abbrev pub text_size_at : ℕ
+text_size_at = 31
+
+-- the text that a row of a table holds: as many of its first bytes as its last byte says
 abbrev pub row_text : List ℕ → List ℕ
-row_text row = take (get_or row 31 0) row
+row_text row = take (get_or row text_size_at 0) row
 
--- the rows are those of the numbers from n up
+-- the rows hold the texts of the numbers from n up
 abbrev pub AreRowsFrom : (ℕ → List ℕ) → ℕ → List (List ℕ) → Type 0
 AreRowsFrom text n [] = Unit {0}
 AreRowsFrom text n (row ∷ rows) = (row_text row ≡ text n) × AreRowsFrom text (suc n) rows
@@ -45,8 +50,8 @@ AreRowsFrom text n (row ∷ rows) = (row_text row ≡ text n) × AreRowsFrom tex
 abbrev pub bytes_differ : ℕ → ℕ → Bool
 bytes_differ a b = not (a == b)
 
--- what stands where a line has words: eight bytes for each, the first after one
--- at place p, the others nine further each
+-- what stands where a `data` line has the digits of its words: eight bytes for each of them, the first word's just
+-- after place p, each further one's nine bytes on
 abbrev pub words_in_row : List ℕ → ℕ → ℕ → List (List ℕ)
 words_in_row text p zero = []
 words_in_row text p (suc n) = take 8 (drop (p + 1) text) ∷ words_in_row text (p + 9) n

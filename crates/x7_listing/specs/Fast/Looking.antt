@@ -3,21 +3,21 @@ use Rattle.std.specs.Prelude.{◌≡◌, ℕ, ◌≤◌, List, Option, MatchOpti
 use Rattle.std.specs.declared.alloc.Global.{Global}
 use Rattle.x7_text.specs.Reads.{StaysWithin}
 use Rattle.x7_text.specs.Row.{row_bytes}
-use Rattle.x7_listing.specs.Assembling.{HasRoomForLine, TakesFirst, TakesLines}
+use Rattle.x7_listing.specs.Assembling.{HasRoomForLine, AppendsFirstLines, AppendsLines}
 use Rattle.x7_listing.specs.Assembly.{asm_limit}
 use Rattle.x7_listing.specs.declared.asm.fast.quick.WholeLines.{WholeLines}
 
 -- a look at the first bytes of a text found whole lines and appended their bytes, a row at
 -- most; or it found none and appended nothing
 pub record Looks (text : List ℕ) (old new : Vec ℕ Global) (found : Option WholeLines) : Type 0 where
-  pub takes : MatchOption found (new.items ≡ old.items) (λ taken. TakesFirst text old.items new.items taken.size taken.count)
+  pub takes : MatchOption found (new.items ≡ old.items) (λ taken. AppendsFirstLines text old.items new.items taken.size taken.count)
   pub room : StaysWithin old new row_bytes
 
 -- the first lines of a text were read at once and their bytes appended: these pass the limit only where those before
 -- do, and where there was room for a line's bytes there is room for the next line's
 pub record ReadsAtOnce (text : List ℕ) (old new : Vec ℕ Global) (taken : WholeLines) : Type 0 where
-  pub takes : TakesLines text (drop taken.size text) old.items new.items taken.count
+  pub takes : AppendsLines text (drop taken.size text) old.items new.items taken.count
   pub within : taken.size ≤ length text
-  pub few : taken.count ≤ taken.size
+  pub counted : taken.count ≤ taken.size
   pub limit : vec_len old ≤ asm_limit → vec_len new ≤ asm_limit
   pub room : HasRoomForLine old → HasRoomForLine new

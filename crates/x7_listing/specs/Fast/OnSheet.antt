@@ -42,6 +42,6 @@ pub record ShowsWords (payload shown all : List ℕ) (in_line : OpenWords) : Typ
 abbrev pub on_sheet : CutterState → OpenWords → List ℕ → ℕ → List ℕ → ListerState
 on_sheet cutter in_line sheet len text = lister_with cutter (Session in_line) (text ++ take len sheet)
 
--- the lister has listed these bytes too, whatever text stands before
+-- whatever text stands before: what the old lister has listed, the new one has listed, and these bytes after it
 abbrev pub ListsMoreAfter : (List ℕ → ListerState) → (List ℕ → ListerState) → List ℕ → Type 0
 ListsMoreAfter old new more = (text : List ℕ) → ListsMore (old text) (new text) more

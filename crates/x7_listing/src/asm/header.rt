@@ -4,7 +4,7 @@ ghost use Rattle.std.specs.List.{flat_map};
 ghost use Rattle.x7_words.specs.Word.{AreBytes};
 ghost use Rattle.x7_header.specs.Header.{Contents, longest_header};
 ghost use Rattle.x7_text.specs.Digits.{hex_byte};
-ghost use Rattle.x7_listing.specs.BitLine.{bit_text, field_text, HasFieldFirst, IsCutAtSpace, IsField, IsHeaderOf, IsHeld};
+ghost use Rattle.x7_listing.specs.BitLine.{bit_text, field_text, HasFieldFirst, IsCutAtSpace, IsField, IsHeaderOf, FitsHeader};
 
 use memchr::memchr;
 use std::alloc::Global;
@@ -12,7 +12,7 @@ use x7_header::{Head, LONGEST_TEXT, write_header};
 use x7_text::{after, make_room, number_of_decimal, put_byte_row};
 use x7_words::{NoMemory, is_same};
 
-/// The bytes of pairs of digits, exactly where the text is of such.
+/// The bytes of a text of pairs of hexadecimal digits; `None` for any other text.
 fn bytes_of_pairs(alloc: Global, digits: &[u8]) -> Result<Option<Vec<u8>>, NoMemory>
     ensures { IfOk result (λ found. MatchOption found ((bs : List ℕ) → AreBytes bs → digits.now ≢ flat_map hex_byte bs)
         (λ bytes. AreBytes bytes.items × (digits.now ≡ flat_map hex_byte bytes.items))) }
@@ -30,7 +30,7 @@ fn bytes_of_pairs(alloc: Global, digits: &[u8]) -> Result<Option<Vec<u8>>, NoMem
     Ok(Some(bytes))
 }
 
-/// What a field holds, exactly where the text is that of a field.
+/// The bytes that a header's field holds, by its text: digits, or `-` for none; `None` for any other text.
 fn field_of(alloc: Global, text: &[u8]) -> Result<Option<Vec<u8>>, NoMemory>
     ensures { IfOk result (λ found. MatchOption found ((field : List ℕ) → IsField field → text.now ≢ field_text field)
         (λ field. IsField field.items × (text.now ≡ field_text field.items))) }
@@ -44,7 +44,7 @@ fn field_of(alloc: Global, text: &[u8]) -> Result<Option<Vec<u8>>, NoMemory>
     bytes_of_pairs(alloc, text)
 }
 
-/// What stands before the first space, and what stands after it.
+/// The text before the first space, and the text after it; `None` where no space stands.
 fn at_space(text: &[u8]) -> Option<(&[u8], &[u8])>
     ensures { MatchOption result ((word rest : List ℕ) → text.now ≢ word ++ 32 ∷ rest) (λ parts. IsCutAtSpace text.now parts.0.now parts.1.now) }
 {
@@ -54,7 +54,7 @@ fn at_space(text: &[u8]) -> Option<(&[u8], &[u8])>
     Some((&text[..at], &text[at + 1..]))
 }
 
-/// What the first field holds, and the text after the space that follows it.
+/// The bytes that the text's first field holds, and the text after the space that follows it.
 fn first_field(alloc: Global, text: &[u8]) -> Result<Option<(Vec<u8>, &[u8])>, NoMemory>
     ensures { IfOk result (λ found. MatchOption found ((field rest : List ℕ) → IsField field → text.now ≢ field_text field ++ 32 ∷ rest)
         (λ parts. HasFieldFirst text.now parts.0.items parts.1.now)) }
@@ -70,7 +70,7 @@ fn first_field(alloc: Global, text: &[u8]) -> Result<Option<(Vec<u8>, &[u8])>, N
 
 /// The header whose line this is, as bytes; `None` where the text is no header's line.
 pub(crate) fn header_of_line(alloc: Global, line: &[u8]) -> Result<Option<Vec<u8>>, NoMemory>
-    ensures found { IfOk result (λ found. MatchOption found ((x : Contents) → IsHeld x → line.now ≢ bit_text x) (λ bytes. IsHeaderOf line.now bytes.items)) }
+    ensures found { IfOk result (λ found. MatchOption found ((x : Contents) → FitsHeader x → line.now ≢ bit_text x) (λ bytes. IsHeaderOf line.now bytes.items)) }
     ensures short { IfOk result (λ found. IfSome found (λ bytes. vec_len bytes ≤ longest_header)) }
 {
     let Some(fields) = after(line, b"bit ") else {

@@ -1,9 +1,9 @@
 //! The bytes of a text's lines, as the lines come.
 ghost use Rattle.std.specs.Prelude.{◌≡◌, ℕ, List, [], ◌∷◌, ◌++◌, ◌+◌, ◌≤◌, drop, length, vec_len, vec_capacity, Ok, IfErr, OnOk, MatchResult};
 ghost use Rattle.x7_text.specs.Reads.{Reads};
-ghost use Rattle.x7_crc.specs.Checker.{check_of_bytes, Keeps};
+ghost use Rattle.x7_crc.specs.Checker.{check_of_bytes, KeepsCheckOf};
 ghost use Rattle.x7_listing.specs.Assembly.{AreHeadedAsm};
-ghost use Rattle.x7_listing.specs.Assembling.{AreReadWithRoom, FailsFirst, FailsNext, HasAsmFault, HasLineRoom, HasRoomForLine, IsFirstOrGood, Output, ReadsFirst, ReadsNext, TakesLines};
+ghost use Rattle.x7_listing.specs.Assembling.{AreReadWithRoom, FailsFirst, FailsNext, HasAsmFault, HasLineRoom, HasRoomForLine, IsFirstOrGood, Output, ReadsFirst, ReadsNext, AppendsLines};
 ghost use Rattle.x7_listing.specs.Line.{line_bytes, FitsLine, text_of};
 ghost use Rattle.x7_listing.specs.declared.assembler.AsmFault.{AsmFault};
 
@@ -17,16 +17,15 @@ use x7_crc::Checker;
 use x7_text::TakesLines;
 use x7_words::is_same;
 
-/// Appends the bytes of a line to those of the lines before, which stand from
-/// `start` on and whose check the checker keeps.
-/// `false`: the text is that of no line.
+/// Appends the bytes of a line to those of the lines before, which stand from `start` on and whose check the checker
+/// keeps. `false`: the text is that of no line.
 fn put_checked(out: &mut Vec<u8>, start: usize, checker: &mut Checker, line: &[u8]) -> bool
     requires room { HasRoomForLine out.old }
     requires start { start ≤ length out.old.items }
-    requires keeps { Keeps checker.old (drop start out.old.items) }
+    requires keeps { KeepsCheckOf checker.old (drop start out.old.items) }
     ensures reads { Reads FitsLine text_of (line_bytes (check_of_bytes (drop start out.old.items))) result line.now out.old.items out.new.items }
     ensures start { start ≤ length out.new.items }
-    ensures keeps { Keeps checker.new (drop start out.new.items) }
+    ensures keeps { KeepsCheckOf checker.new (drop start out.new.items) }
 {
     if !is_same(line, b"crc") {
         return put_line(out, 0, line);
@@ -35,7 +34,7 @@ fn put_checked(out: &mut Vec<u8>, start: usize, checker: &mut Checker, line: &[u
     put_line(out, check, line)
 }
 
-/// The bytes that the lines of a text gave so far, where those after a header's begin, and their check.
+/// The bytes that the lines of a text gave so far, the place where those after a header begin, and their check.
 #[derive(Drop)]
 pub struct AsmLines {
     alloc: Global,
@@ -56,7 +55,7 @@ impl Model for AsmLines {
 }
 
 impl AsmLines {
-    /// What no line gives.
+    /// An assembler that has taken no line.
     pub fn new(alloc: Global) -> AsmLines
         ensures { AreReadWithRoom result [] }
     {
@@ -68,8 +67,8 @@ impl AsmLines {
         }
     }
 
-    /// Appends the bytes of line `n`, which is no header's, and makes room for those of the next. Where there was room
-    /// for this one, memory is wanting only once it is read.
+    /// Appends the bytes of line `n`, counted from 1, which is no header's, and makes room for those of the next. Where
+    /// there was room for this one, memory is wanting only once it is read.
     fn put_one(&mut self, n: u64, line: &[u8]) -> Result<(), AsmFault>
         ensures ok { OnOk result (ReadsNext self.old self.new n line.now) }
         ensures room { OnOk result (HasLineRoom self.new) }
@@ -103,7 +102,8 @@ impl AsmLines {
         self.put_one(1, line)
     }
 
-    /// Appends the bytes of line `n`. Memory is wanting only at the first line, and for a good one.
+    /// Appends the bytes of line `n`, counted from 1. Memory is wanting only at the first line, or where all lines up
+    /// to this one are good.
     fn put_next(&mut self, n: u64, line: &[u8]) -> Result<(), AsmFault>
         ensures read { (lines : List (List ℕ)) → n ≡ length lines + 1 → AreReadWithRoom self.old lines
             → MatchResult result (λ _. AreReadWithRoom self.new (lines ++ line.now ∷ [])) (λ f. (left : List (List ℕ)) → HasAsmFault f (lines ++ line.now ∷ left)) }
@@ -118,7 +118,7 @@ impl AsmLines {
 
     /// Appends the bytes of the text's first lines after `n` lines, as far as they are read at once.
     fn put_at_once(&mut self, n: u64, text: &[u8]) -> WholeLines
-        ensures takes { TakesLines text.now (drop result.size text.now) self.old.out self.new.out result.count }
+        ensures takes { AppendsLines text.now (drop result.size text.now) self.old.out self.new.out result.count }
         ensures start { self.new.start ≡ self.old.start }
         ensures room { HasLineRoom self.old → HasLineRoom self.new }
         ensures checker { self.new.checker ≡ self.old.checker }

@@ -8,7 +8,7 @@ ghost use Rattle.x7_packets.specs.PacketWords.{type1_read, type1_write, type2_re
 ghost use Rattle.x7_text.specs.Appends.{Appends};
 ghost use Rattle.x7_text.specs.Digits.{hex_word};
 ghost use Rattle.x7_listing.specs.Assembling.{HasRoomForLine};
-ghost use Rattle.x7_listing.specs.Line.{access_text, line_bytes, FitsLine, IsAccess, IsPlain, text_of};
+ghost use Rattle.x7_listing.specs.Line.{type1_text, line_bytes, FitsLine, IsType1, IsPlain, text_of};
 ghost use Rattle.x7_listing.specs.BitLine.{IsFirstSpace};
 ghost use Rattle.x7_listing.specs.OneWord.{IsWordOf, PutsWord};
 ghost use Rattle.x7_text.specs.Reads.{Reads, StaysWithin};
@@ -19,13 +19,13 @@ use x7_regs::{Reg, command_named, reg_named};
 use x7_text::{after, decimal_below, put, put_byte_row, put_word_row, word_of_hex};
 use x7_words::{bytes_of, is_same};
 
-/// The count of a type 1 packet is below this (UG470, packets).
+/// How many word counts a type 1 header can say: each is below this (UG470, packet types).
 const TYPE1_COUNTS: u32 = 1 << 11;
 
-/// The count of a type 2 packet is below this (UG470, packets).
+/// How many word counts a type 2 header can say: each is below this (UG470, packet types).
 const TYPE2_COUNTS: u32 = 1 << 27;
 
-/// The place of the first space, if one stands among the first ten bytes. No register's name is longer.
+/// The place of the first space, if one stands among the first ten bytes, which the name of a register never fills.
 #[inline(always)]
 fn space_in(text: &[u8]) -> Option<usize>
     ensures { MatchOption result ((j : ℕ) → j < 10 → j < length text.now → slice_index text.now j ≢ 32)
@@ -54,9 +54,10 @@ fn register_before(text: &[u8]) -> Option<(u8, &[u8])>
     Some((number, &text[at + 1..]))
 }
 
-/// A register's number and a word count, where a space stands after the name at this place.
-pub(crate) fn access_at(text: &[u8], space: usize) -> Option<(u8, u32)>
-    ensures { IfSome result (λ a. IsAccess (a.0, a.1) × (text.now ≡ access_text (a.0, a.1))) }
+/// The register's number and the word count of `NAME N`, where a space stands after the name at this place. `None`
+/// where the text isn't seen to be of that form.
+pub(crate) fn type1_at(text: &[u8], space: usize) -> Option<(u8, u32)>
+    ensures { IfSome result (λ a. IsType1 (a.0, a.1) × (text.now ≡ type1_text (a.0, a.1))) }
 {
     if space >= text.len() || text[space] != b' ' {
         return None;
@@ -93,7 +94,7 @@ fn put_found(out: &mut Vec<u8>, word: Option<u32>) -> bool
     }
 }
 
-/// The word of eight digits.
+/// The word of eight hexadecimal digits; `None` for any other text.
 fn word_in(digits: &[u8]) -> Option<u32>
     ensures { IsWordOf (λ w. w < 2 ^ 32) hex_word (λ w. w) digits.now result }
 {
@@ -103,7 +104,7 @@ fn word_in(digits: &[u8]) -> Option<u32>
     Some(w)
 }
 
-/// The code of the command with this name.
+/// The code of the command with this name, as a word; `None` for any other text.
 fn command_word(name: &[u8]) -> Option<u32>
     ensures { IsWordOf (λ (c : Command). Unit {0}) command_name_of code_of name.now result }
 {
@@ -113,7 +114,7 @@ fn command_word(name: &[u8]) -> Option<u32>
     Some(u32::from(code))
 }
 
-/// The header of a type 2 write of as many words as these are the digits of.
+/// The header of a type 2 write, by the digits of its word count; `None` for any other text.
 fn write2_of(digits: &[u8]) -> Option<u32>
     ensures { IsWordOf (λ n. n < 2 ^ 27) decimal type2_write digits.now result }
 {
@@ -123,7 +124,7 @@ fn write2_of(digits: &[u8]) -> Option<u32>
     Some(type2_write(count))
 }
 
-/// The header of a type 2 read of as many words as these are the digits of.
+/// The header of a type 2 read, by the digits of its word count; `None` for any other text.
 fn read2_of(digits: &[u8]) -> Option<u32>
     ensures { IsWordOf (λ n. n < 2 ^ 27) decimal type2_read digits.now result }
 {
@@ -133,9 +134,9 @@ fn read2_of(digits: &[u8]) -> Option<u32>
     Some(type2_read(count))
 }
 
-/// The register and the word count of `NAME N`; none for any other text.
-fn access_of(text: &[u8]) -> Option<(u8, u32)>
-    ensures { MatchOption result ((a : ℕ × ℕ) → IsAccess a → text.now ≢ access_text a) (λ a. IsAccess (a.0, a.1) × (text.now ≡ access_text (a.0, a.1))) }
+/// The register's number and the word count of `NAME N`; `None` for any other text.
+fn type1_of(text: &[u8]) -> Option<(u8, u32)>
+    ensures { MatchOption result ((a : ℕ × ℕ) → IsType1 a → text.now ≢ type1_text a) (λ a. IsType1 (a.0, a.1) × (text.now ≡ type1_text (a.0, a.1))) }
 {
     let Some((register, digits)) = register_before(text) else {
         return None;
@@ -146,28 +147,28 @@ fn access_of(text: &[u8]) -> Option<(u8, u32)>
     Some((register, count))
 }
 
-/// The header of a type 1 write of a register, by its name and a word count.
+/// The header of a type 1 write, by its register's name and its word count; `None` for any other text.
 fn write_of(text: &[u8]) -> Option<u32>
-    ensures { IsWordOf IsAccess access_text (λ (a : ℕ × ℕ). type1_write a.0 a.1) text.now result }
+    ensures { IsWordOf IsType1 type1_text (λ (a : ℕ × ℕ). type1_write a.0 a.1) text.now result }
 {
-    let Some((register, count)) = access_of(text) else {
+    let Some((register, count)) = type1_of(text) else {
         return None;
     };
     Some(type1_write(register, count))
 }
 
-/// The header of a type 1 read of a register, by its name and a word count.
+/// The header of a type 1 read, by its register's name and its word count; `None` for any other text.
 fn read_of(text: &[u8]) -> Option<u32>
-    ensures { IsWordOf IsAccess access_text (λ (a : ℕ × ℕ). type1_read a.0 a.1) text.now result }
+    ensures { IsWordOf IsType1 type1_text (λ (a : ℕ × ℕ). type1_read a.0 a.1) text.now result }
 {
-    let Some((register, count)) = access_of(text) else {
+    let Some((register, count)) = type1_of(text) else {
         return None;
     };
     Some(type1_read(register, count))
 }
 
-/// Appends the bytes of a line that is empty, `sync` or `crc`, with this check of the
-/// lines before; `false`: it is none of these.
+/// Appends the bytes of a line that is empty, `sync` or `crc`, where the bytes of the lines before have this check.
+/// `false`: the line is none of these.
 fn put_plain(out: &mut Vec<u8>, check: u32, line: &[u8]) -> bool
     requires { HasRoomForLine out.old }
     ensures reads { Reads IsPlain text_of (line_bytes check) result line.now out.old.items out.new.items }
@@ -188,8 +189,8 @@ fn put_plain(out: &mut Vec<u8>, check: u32, line: &[u8]) -> bool
     false
 }
 
-/// Appends the bytes of a line, where the bytes of the lines before have this
-/// check. `false`: the text is that of no line.
+/// Appends the bytes of a line, where the bytes of the lines before have this check. `false`: the text is that of no
+/// line.
 pub(crate) fn put_line(out: &mut Vec<u8>, check: u32, line: &[u8]) -> bool
     requires { HasRoomForLine out.old }
     ensures reads { Reads FitsLine text_of (line_bytes check) result line.now out.old.items out.new.items }
@@ -202,8 +203,8 @@ pub(crate) fn put_line(out: &mut Vec<u8>, check: u32, line: &[u8]) -> bool
     if let Some(words) = after(line, b"data") {
         return put_word_row(out, words);
     }
-    if let Some(access) = after(line, b"write ") {
-        return put_found(out, write_of(access));
+    if let Some(fields) = after(line, b"write ") {
+        return put_found(out, write_of(fields));
     }
     if let Some(name) = after(line, b"cmd ") {
         return put_found(out, command_word(name));
@@ -214,8 +215,8 @@ pub(crate) fn put_line(out: &mut Vec<u8>, check: u32, line: &[u8]) -> bool
     if let Some(digits) = after(line, b"word ") {
         return put_found(out, word_in(digits));
     }
-    if let Some(access) = after(line, b"read ") {
-        return put_found(out, read_of(access));
+    if let Some(fields) = after(line, b"read ") {
+        return put_found(out, read_of(fields));
     }
     if let Some(digits) = after(line, b"write2 ") {
         return put_found(out, write2_of(digits));

@@ -1,4 +1,4 @@
-//! The line of a header.
+//! The line of a `.bit` header, written.
 ghost use Rattle.std.specs.Prelude.{◌≡◌, ◌∷◌, [], ◌++◌, IfOk, OnOk};
 ghost use Rattle.std.specs.List.{flat_map};
 ghost use Rattle.x7_header.specs.Header.{contents_of};
@@ -10,7 +10,7 @@ use x7_header::Head;
 use x7_text::{hex_of_byte, make_room, put_decimal, put_text};
 use x7_words::NoMemory;
 
-/// Appends two digits for each byte.
+/// Appends two hexadecimal digits for each byte.
 fn append_digits(text: &mut Vec<u8>, bytes: &[u8]) -> Result<(), NoMemory>
     ensures { OnOk result (text.new.items ≡ text.old.items ++ flat_map hex_byte bytes.now) }
 {
@@ -31,7 +31,7 @@ fn append_field(text: &mut Vec<u8>, field: &[u8]) -> Result<(), NoMemory>
     put_text(text, b" ")
 }
 
-/// The line of a header, with its end. The size is not looked at.
+/// The line of a `.bit` header, with its end. The header's size in bytes (`head.size`) is not in it.
 pub fn header_line(alloc: Global, head: &Head<'_>) -> Result<Vec<u8>, NoMemory>
     ensures { IfOk result (λ text. text.items ≡ bit_text (contents_of head.now) ++ 10 ∷ []) }
 {

@@ -1,4 +1,4 @@
-//! The lines of single words.
+//! The lines of single words, written: of a word in a header's place, a command and a sync word.
 ghost use Rattle.std.specs.Prelude.{◌≡◌, [], ◌∷◌, ◌++◌, ◌<◌, ◌≤◌, ◌+◌, length, codes, decimal};
 ghost use Rattle.x7_regs.specs.Register.{reg_name};
 ghost use Rattle.x7_text.specs.Appends.{Appends, HasSpareRoom};
@@ -7,7 +7,8 @@ ghost use Rattle.x7_text.specs.Row.{close};
 ghost use Rattle.x7_listing.specs.HeadLine.{command_line, line_of_head, text_of_head, line_size};
 
 use x7_packets::{
-    NO_OP, SYNC_WORD, Step, TYPE2_READ_KIND, TYPE2_WRITE_KIND, type1_read, type1_write,
+    NO_OP, SYNC_WORD, Step, TYPE2_READ_KIND, TYPE2_WRITE_KIND, kind_in, register_in,
+    type1_count_in, type1_read, type1_write, type2_count_in,
 };
 use x7_regs::{command_of, command_text, name_of};
 use x7_text::{hex_of_word, put, put_close, put_decimal};
@@ -34,7 +35,7 @@ pub enum HeadLine {
 impl HeadLine {
     ghost use Rattle.x7_listing.specs.HeadLine.{line_of_head, HasRegister, line_text, line_word};
 
-    /// The line that stands for just this word, where the word isn't bad and there is one.
+    /// The line of a word in a header's place with this step. It stands for just this word.
     pub(crate) fn new(step: Step, w: u32) -> HeadLine
         ensures line { result ≡ line_of_head step w }
         ensures back { line_word result ≡ w }
@@ -43,8 +44,8 @@ impl HeadLine {
         if let Step::Bad(_) = step {
             return HeadLine::Word(w);
         }
-        let register = (w >> 13 & 31) as u8;
-        let count = w & 0x7FF;
+        let register = register_in(w);
+        let count = type1_count_in(w);
         if w == NO_OP {
             HeadLine::Nop
         } else if w == SYNC_WORD {
@@ -53,16 +54,16 @@ impl HeadLine {
             HeadLine::Write(register, count)
         } else if w == type1_read(register, count) {
             HeadLine::Read(register, count)
-        } else if w >> 27 == TYPE2_WRITE_KIND {
-            HeadLine::Write2(w & 0x7FF_FFFF)
-        } else if w >> 27 == TYPE2_READ_KIND {
-            HeadLine::Read2(w & 0x7FF_FFFF)
+        } else if kind_in(w) == TYPE2_WRITE_KIND {
+            HeadLine::Write2(type2_count_in(w))
+        } else if kind_in(w) == TYPE2_READ_KIND {
+            HeadLine::Read2(type2_count_in(w))
         } else {
             HeadLine::Word(w)
         }
     }
 
-    /// Appends the line.
+    /// Appends the line, with its end.
     fn put(self, text: &mut Vec<u8>)
         requires room { HasSpareRoom text.old line_size }
         requires register { HasRegister self }
@@ -71,8 +72,8 @@ impl HeadLine {
         match self {
             HeadLine::Nop => put(text, b"nop\n"),
             HeadLine::Sync => put(text, b"sync\n"),
-            HeadLine::Write(register, count) => put_access(text, b"write ", register, count),
-            HeadLine::Read(register, count) => put_access(text, b"read ", register, count),
+            HeadLine::Write(register, count) => put_type1(text, b"write ", register, count),
+            HeadLine::Read(register, count) => put_type1(text, b"read ", register, count),
             HeadLine::Write2(count) => put_count(text, b"write2 ", count),
             HeadLine::Read2(count) => put_count(text, b"read2 ", count),
             HeadLine::Word(w) => put_whole_word(text, b"word ", w),
@@ -80,8 +81,8 @@ impl HeadLine {
     }
 }
 
-/// Appends a line of a register's name and a word count.
-fn put_access(text: &mut Vec<u8>, word: &[u8], register: u8, count: u32)
+/// Appends a line of a type 1 header: a keyword, the register's name and the word count.
+fn put_type1(text: &mut Vec<u8>, word: &[u8], register: u8, count: u32)
     requires room { HasSpareRoom text.old line_size }
     requires short { length word.now ≤ 6 }
     requires register { register < 32 }
@@ -94,7 +95,7 @@ fn put_access(text: &mut Vec<u8>, word: &[u8], register: u8, count: u32)
     put(text, b"\n");
 }
 
-/// Appends a line of a word count.
+/// Appends a line of a type 2 header: a keyword and the word count.
 fn put_count(text: &mut Vec<u8>, word: &[u8], count: u32)
     requires room { HasSpareRoom text.old line_size }
     requires short { length word.now ≤ 7 }
@@ -105,7 +106,7 @@ fn put_count(text: &mut Vec<u8>, word: &[u8], count: u32)
     put(text, b"\n");
 }
 
-/// Appends a line of one word, after four letters and a space.
+/// Appends a line of one word: a keyword of four letters, a space and eight digits.
 fn put_whole_word(text: &mut Vec<u8>, word: &[u8; 5], w: u32)
     requires { HasSpareRoom text.old line_size }
     ensures appends { Appends text.old text.new (word.now ++ hex_word w ++ 10 ∷ []) line_size }

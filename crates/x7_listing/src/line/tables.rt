@@ -2,7 +2,10 @@
 ghost use Rattle.std.specs.Prelude.{◌≡◌, ℕ, List, ◌<◌};
 ghost use Rattle.x7_listing.specs.Fast.AtOnce.{AreRowsFrom, command_lines, row_text, write_name, write_start};
 
-/// A row of a table.
+/// Where in a row it stands how many of its bytes are text: the last of its 32 bytes.
+pub(crate) const TEXT_SIZE_AT: usize = 31;
+
+/// The row of this number in a table, from 0.
 #[inline(always)]
 fn row_in(rows: &[[u8; 32]; 32], n: usize) -> &[u8; 32]
     requires { n < 32 }
@@ -20,7 +23,7 @@ pub(crate) fn write_row(register: u8) -> &'static [u8; 32]
     row_in(&WRITES, register as usize)
 }
 
-/// The row of the lines of a write of a small word to CMD.
+/// The row of the lines of a write of a word below 32 to CMD.
 #[inline(always)]
 pub(crate) fn command_row(w: u32) -> &'static [u8; 32]
     requires { w < 32 }
@@ -29,7 +32,7 @@ pub(crate) fn command_row(w: u32) -> &'static [u8; 32]
     row_in(&COMMANDS, w as usize)
 }
 
-/// The row of a write line up to its count.
+/// The row of the line of a write to a register, up to its word count.
 #[inline(always)]
 pub(crate) fn name_row(register: u8) -> &'static [u8; 32]
     requires { register < 32 }
@@ -38,7 +41,7 @@ pub(crate) fn name_row(register: u8) -> &'static [u8; 32]
     row_in(&NAMES, register as usize)
 }
 
-/// For each register the lines of a write of one word.
+/// For each register, by its number, the lines of a write of one word up to the word's digits.
 #[rattlefmt::skip]
 static WRITES: [[u8; 32]; 32] = [
     *b"write CRC 1\ndata               \x11",
@@ -75,7 +78,7 @@ static WRITES: [[u8; 32]; 32] = [
     *b"write BSPI 1\ndata              \x12",
 ];
 
-/// For each word of five bits the lines of its write to CMD.
+/// For each word below 32 the lines of its write to CMD.
 #[rattlefmt::skip]
 static COMMANDS: [[u8; 32]; 32] = [
     *b"write CMD 1\ncmd NULL\n          \x15",
@@ -112,7 +115,7 @@ static COMMANDS: [[u8; 32]; 32] = [
     *b"write CMD 1\ndata 0000001F\n     \x1A",
 ];
 
-/// For each register its write line up to the count.
+/// For each register, by its number, the line of a write up to the word count.
 #[rattlefmt::skip]
 static NAMES: [[u8; 32]; 32] = [
     *b"write CRC                      \x0A",

@@ -14,15 +14,16 @@ use std::marker::Model;
 use x7_packets::{Cut, Cutter};
 use x7_words::NoMemory;
 
-/// How much room a byte of a piece asks for: that of a call that takes it, 3 bytes of its own, and that of a call for
-/// the sync word that it may end.
+/// How many bytes of room a byte of a piece asks for: those of a call of the pen that takes it, 3 of its own text, and
+/// those of a call for the sync word that it may end.
 pub(crate) const BYTE_ROOM: usize = 2 * CALL_ROOM + 3;
 
-/// How much room is asked for besides: that of a call for a sync word that is due, and one call's that is left over.
+/// How many bytes of room are asked for besides: those of a call for a sync word that is due, and those of one call
+/// that are left over.
 const SPARE_ROOM: usize = 2 * CALL_ROOM;
 
-/// Takes a whole piece, and writes the lines of its runs.
-fn take_all(text: &mut Vec<u8>, cutter: &mut Cutter, pen: Pen, piece: &[u8]) -> Pen
+/// Takes a whole piece, appends the lines of its runs, and gives the pen after it.
+fn take_piece(text: &mut Vec<u8>, cutter: &mut Cutter, pen: Pen, piece: &[u8]) -> Pen
     requires { HasSpareRoom text.old (BYTE_ROOM * length piece.now + (3 * length cutter.old.kept + SPARE_ROOM)) }
     ensures rests { ListsMoreAndRests (lister_with cutter.old pen text.old.items) (lister_with cutter.new result text.new.items) piece.now }
 {
@@ -46,7 +47,7 @@ fn take_all(text: &mut Vec<u8>, cutter: &mut Cutter, pen: Pen, piece: &[u8]) -> 
     }
 }
 
-/// Lists what it is fed.
+/// Lists the stream that it is fed, piece by piece; its text may be taken and cleared in between.
 #[derive(Drop)]
 pub struct Lister {
     cutter: Cutter,
@@ -105,7 +106,7 @@ impl Lister {
             return Err(NoMemory);
         };
         self.text.reserve(room)?;
-        self.pen = take_all(&mut self.text, &mut self.cutter, self.pen, piece);
+        self.pen = take_piece(&mut self.text, &mut self.cutter, self.pen, piece);
         Ok(())
     }
 

@@ -10,7 +10,7 @@ ghost use Rattle.x7_text.specs.Reads.{StaysWithin};
 ghost use Rattle.x7_text.specs.Row.{close, in_line_after, open_bytes, row_bytes, rows_text_limit};
 ghost use Rattle.x7_listing.specs.HeadLine.{line_size};
 ghost use Rattle.x7_listing.specs.Pens.{EndsWith, GapGoesOn, gap_written, held_by, is_in_session, in_line_of, written_with};
-ghost use Rattle.x7_listing.specs.Lister.{words_place, open_words, WritesRun};
+ghost use Rattle.x7_listing.specs.Lister.{in_line_after_words, open_words, WritesRun};
 
 mod state;
 
@@ -21,16 +21,16 @@ use x7_regs::Reg;
 use x7_text::{put_bytes, put_close, put_word, put_words};
 use x7_words::word_of;
 
-/// How much room a call that lists a run asks for, besides three bytes for each byte of the run.
+/// How many bytes of room a call that lists a run asks for, besides three for each byte of the run.
 pub(crate) const CALL_ROOM: usize = 64;
 
 /// A pen at the start of a listing.
 pub(crate) fn new_pen() -> GapPen
-    ensures line { result.line ≡ 0 }
+    ensures in_line { result.in_line ≡ 0 }
     ensures held { take result.count result.held ≡ [] }
 {
     GapPen {
-        line: 0,
+        in_line: 0,
         held: [0; 4],
         count: 0,
     }
@@ -38,7 +38,7 @@ pub(crate) fn new_pen() -> GapPen
 
 /// A pen in a gap: the one given, or a new one after a session.
 fn in_gap(pen: Pen) -> GapPen
-    ensures line { result.line ≡ (if is_in_session pen then 0 else in_line_of pen) }
+    ensures in_line { result.in_line ≡ (if is_in_session pen then 0 else in_line_of pen) }
     ensures held { take result.count result.held ≡ (if is_in_session pen then [] else held_by pen) }
 {
     match pen {
@@ -48,7 +48,7 @@ fn in_gap(pen: Pen) -> GapPen
     }
 }
 
-/// The words of a session's open line: none in a gap.
+/// How many words stand in a session's open line: none in a gap.
 pub(crate) fn open_in(pen: Pen) -> OpenWords
     ensures { is_in_session pen ≡ true → result.count ≡ in_line_of pen }
 {
@@ -69,14 +69,14 @@ fn hold(text: &mut Vec<u8>, pen: GapPen, byte: u8) -> GapPen
         let mut held = pen.held;
         held[pen.count] = byte;
         return GapPen {
-            line: pen.line,
+            in_line: pen.in_line,
             held,
             count: pen.count + 1,
         };
     }
-    let line = put_bytes(text, pen.line, &pen.held[..1]);
+    let in_line = put_bytes(text, pen.in_line, &pen.held[..1]);
     GapPen {
-        line,
+        in_line,
         held: [pen.held[1], pen.held[2], pen.held[3], byte],
         count: 4,
     }
@@ -106,10 +106,10 @@ fn hold_all(text: &mut Vec<u8>, pen: GapPen, bytes: &[u8]) -> GapPen
         return hold_each(text, pen, bytes);
     }
     let first = bytes.len() - 4;
-    let after = put_bytes(text, pen.line, &pen.held[..pen.count]);
-    let line = put_bytes(text, after, &bytes[..first]);
+    let after = put_bytes(text, pen.in_line, &pen.held[..pen.count]);
+    let in_line = put_bytes(text, after, &bytes[..first]);
     GapPen {
-        line,
+        in_line,
         held: [
             bytes[first],
             bytes[first + 1],
@@ -120,10 +120,10 @@ fn hold_all(text: &mut Vec<u8>, pen: GapPen, bytes: &[u8]) -> GapPen
     }
 }
 
-/// Appends a payload word after an open line. Gives the line afterwards.
+/// Appends a payload word after an open line. Gives how many words stand in the open line then.
 fn put_payload(text: &mut Vec<u8>, in_line: OpenWords, register: u8, w: u32) -> OpenWords
     requires room { HasSpareRoom text.old (1 + line_size) }
-    ensures count { result.count ≡ words_place in_line.count (payload_steps register (w ∷ [])) }
+    ensures count { result.count ≡ in_line_after_words in_line.count (payload_steps register (w ∷ [])) }
     ensures appends { Appends text.old text.new (open_words in_line.count (payload_steps register (w ∷ []))) (1 + line_size) }
 {
     if register == Reg::Cmd.number() {
@@ -135,12 +135,13 @@ fn put_payload(text: &mut Vec<u8>, in_line: OpenWords, register: u8, w: u32) -> 
     }
 }
 
-/// Appends payload words of one packet, one of CMD, after an open line. Gives the line afterwards.
+/// Appends payload words of one packet, one where the register is CMD, after an open line. Gives how many words stand
+/// in the open line then.
 fn put_body(text: &mut Vec<u8>, in_line: OpenWords, register: u8, body: &[u8]) -> OpenWords
     requires whole { length body.now ≡ 4 * (length body.now / 4) }
     requires one { register ≡ number_of Cmd → length body.now ≡ 4 }
     requires room { HasSpareRoom text.old (CALL_ROOM + 3 * length body.now) }
-    ensures count { result.count ≡ words_place in_line.count (payload_steps register (words_of_bytes body.now)) }
+    ensures count { result.count ≡ in_line_after_words in_line.count (payload_steps register (words_of_bytes body.now)) }
     ensures appends { Appends text.old text.new (open_words in_line.count (payload_steps register (words_of_bytes body.now))) (CALL_ROOM + 3 * length body.now) }
 {
     if register == Reg::Cmd.number() {
@@ -156,7 +157,7 @@ fn put_body(text: &mut Vec<u8>, in_line: OpenWords, register: u8, body: &[u8]) -
     }
 }
 
-/// Appends what a run adds.
+/// Appends what a run adds to the listing, and gives the pen after it.
 pub(crate) fn put_run(text: &mut Vec<u8>, pen: Pen, run: Cut) -> Pen
     requires run { IsRun run }
     requires room { HasSpareRoom text.old (CALL_ROOM + 3 * length (run_bytes run)) }
@@ -168,7 +169,7 @@ pub(crate) fn put_run(text: &mut Vec<u8>, pen: Pen, run: Cut) -> Pen
         Cut::Need => pen,
         Cut::Skip(bytes) => Pen::Gap(hold_all(text, in_gap(pen), bytes)),
         Cut::Sync => {
-            put_sync(text, in_gap(pen).line);
+            put_sync(text, in_gap(pen).in_line);
             Pen::Session(OpenWords { count: 0 })
         }
         Cut::Head(w, step) => {
@@ -183,19 +184,19 @@ pub(crate) fn put_run(text: &mut Vec<u8>, pen: Pen, run: Cut) -> Pen
 /// Appends what is left of a gap.
 fn end_gap(text: &mut Vec<u8>, pen: GapPen)
     requires room { HasSpareRoom text.old CALL_ROOM }
-    ensures items { text.new.items ≡ text.old.items ++ open_bytes pen.line (take pen.count pen.held) ++ close (in_line_after row_bytes pen.line (take pen.count pen.held)) }
+    ensures items { text.new.items ≡ text.old.items ++ open_bytes pen.in_line (take pen.count pen.held) ++ close (in_line_after row_bytes pen.in_line (take pen.count pen.held)) }
 {
-    let line = put_bytes(text, pen.line, &pen.held[..pen.count]);
-    put_close(text, line);
+    let in_line = put_bytes(text, pen.in_line, &pen.held[..pen.count]);
+    put_close(text, in_line);
 }
 
 /// Appends what is left of a session: the end of an open line, and the bytes of no whole word.
-fn end_session(text: &mut Vec<u8>, line: usize, kept: &[u8])
+fn end_session(text: &mut Vec<u8>, in_line: usize, kept: &[u8])
     requires short { length kept.now ≤ 3 }
     requires room { HasSpareRoom text.old CALL_ROOM }
-    ensures items { text.new.items ≡ text.old.items ++ close line ++ open_bytes 0 kept.now ++ close (in_line_after row_bytes 0 kept.now) }
+    ensures items { text.new.items ≡ text.old.items ++ close in_line ++ open_bytes 0 kept.now ++ close (in_line_after row_bytes 0 kept.now) }
 {
-    put_close(text, line);
+    put_close(text, in_line);
     let count = put_bytes(text, 0, kept);
     put_close(text, count);
 }

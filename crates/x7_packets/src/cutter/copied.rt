@@ -4,7 +4,7 @@ ghost use Rattle.std.specs.Prelude.{◌≡◌};
 use super::Cutter;
 
 impl Cutter {
-    /// Gives an equal cutter.
+    /// A cutter that is equal to this one and goes on by itself.
     pub fn copy(&self) -> Cutter
         ensures { result ≡ self.now }
     {

@@ -6,7 +6,7 @@ pub returns-clause-value : goal.returns-clause-value
 returns-clause-value c = c.fold_by_tables.ensures
 
 pub returns-clause-last : goal.returns-clause-last
-returns-clause-last c writes e = c.fold_by_tables.ensures ∙ check_of_more c.args.prev writes ((c.args.reg, c.args.word) ∷ []) e
+returns-clause-last c writes e = c.fold_by_tables.ensures ∙ check_of_more c.args.before writes ((c.args.register, c.args.word) ∷ []) e
 
 pub returns-clause-linear : goal.returns-clause-linear
-returns-clause-linear c = c.fold_by_tables.ensures ∙ check_after_linear c.args.prev c.args.reg c.args.word c.ranges.prev.fits c.requires c.ranges.word.fits
+returns-clause-linear c = c.fold_by_tables.ensures ∙ check_after_linear c.args.before c.args.register c.args.word c.ranges.before.fits c.requires c.ranges.word.fits

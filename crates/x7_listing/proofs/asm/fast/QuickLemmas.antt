@@ -1,4 +1,4 @@
--- Lemmas on `TakesLines` of specs/Assembling: lines that are read at once, and the texts after them.
+-- Lemmas on `AppendsLines` of specs/Assembling: lines that are read at once, and the texts after them.
 use Rattle.std.proofs.Math.Seq.{drop-nil}
 use Rattle.std.proofs.Common.{◌≡◌, ℕ, zero, suc, ◌+◌, ◌-◌, ◌<◌, ◌≤◌, List, [], ◌∷◌, ◌++◌, length, map, fold, take, drop, get_or, refl, ap, sym, subst, ◌∙◌, arith, append_assoc, append-nil, length-append, length-drop, length-take, take_all, Vec, vec_len, vec_capacity}
 use Rattle.std.proofs.lemmas.Grind.{flat_map-append}
@@ -14,7 +14,7 @@ use Rattle.x7_text.specs.Lines.{split}
 use Rattle.x7_text.specs.Reads.{StaysWithin}
 use Rattle.x7_text.proofs.SplitLemmas.{split_line}
 use Rattle.x7_listing.specs.Assembly.{assembled, with_line}
-use Rattle.x7_listing.specs.Assembling.{asm_state, TextsAreRead, OpensText, TakesFirst, TakesLines}
+use Rattle.x7_listing.specs.Assembling.{asm_state, TextsAreRead, OpensText, AppendsFirstLines, AppendsLines}
 use Rattle.x7_listing.specs.Line.{Line, line_bytes, FitsLine, IsListed, text_of, ended_text, ended_texts}
 use Rattle.x7_listing.proofs.line.LineTextLemmas.{line_free, same_bytes}
 
@@ -35,7 +35,7 @@ dropped_twice (suc a) b (c ∷ cs) = let e : suc (a + b) ≡ suc a + b = omega a
 
 -- a text begins with one line, of a word and a row
 pub takes_row : (l : Line) (word row text old new : List ℕ) (a b : ℕ) → FitsLine l → IsListed l → text_of l ≡ word ++ row → take a text ≡ word → take b (drop a text) ≡ row → get_or text (a + b) 0 ≡ 10 → a + b < length text → new ≡ old ++ line_bytes 0 l
-    → TakesFirst text old new (a + b + 1) 1
+    → AppendsFirstLines text old new (a + b + 1) 1
 takes_row l word row text old new a b f i e w r end h n =
     let both : drop b (drop a text) ≡ drop (a + b) text = dropped_twice a b text in
     let is : text ≡ ended_text l ++ drop (a + b + 1) text =
@@ -44,11 +44,11 @@ takes_row l word row text old new a b f i e w r end h n =
     record {
       some = omega arith;
       within = omega (arith, h);
-      few = omega arith;
+      counted = omega arith;
       takes = record { lines = l ∷ []; fit = (f, tt); listed = (i, tt); text_is = is ∙ ap (λ t. t ++ drop (a + b + 1) text) (sym (append-nil (ended_text l))); appended = n ∙ ap (λ t. old ++ t) (sym (append-nil (line_bytes 0 l))); count_is = refl };
     }
 
-pub takes_both : (text mid rest old out new : List ℕ) (j k : ℕ) → TakesLines text mid old out j → TakesLines mid rest out new k → TakesLines text rest old new (j + k)
+pub takes_both : (text mid rest old out new : List ℕ) (j k : ℕ) → AppendsLines text mid old out j → AppendsLines mid rest out new k → AppendsLines text rest old new (j + k)
 takes_both text mid rest old out new j k s t = record {
   lines = s.lines ++ t.lines;
   fit = all_append FitsLine s.lines t.lines s.fit t.fit;
@@ -63,18 +63,18 @@ pub left_from : (n : ℕ) (t : List ℕ) → n ≤ length t → take (length t -
 left_from n t h = take_all (length t - n) (drop n t) (omega (arith, length-drop n t))
 
 -- lines that are read at once, and further ones after them
-pub takes_more : (text old out new : List ℕ) (a n j k : ℕ) → a ≤ length text → TakesLines text (drop a text) old out j → TakesFirst (take (length text - a) (drop a text)) out new n k
-    → (a + n ≤ length text) × TakesLines text (drop (a + n) text) old new (j + k)
+pub takes_more : (text old out new : List ℕ) (a n j k : ℕ) → a ≤ length text → AppendsLines text (drop a text) old out j → AppendsFirstLines (take (length text - a) (drop a text)) out new n k
+    → (a + n ≤ length text) × AppendsLines text (drop (a + n) text) old new (j + k)
 takes_more text old out new a n j k h s t =
-    let f : TakesFirst (drop a text) out new n k = subst (λ r. TakesFirst r out new n k) (left_from a text h) t in
-    (omega (arith, f.within, length-drop a text, h), subst (λ r. TakesLines text r old new (j + k)) (dropped_twice a n text) (takes_both text (drop a text) (drop n (drop a text)) old out new j k s f.takes))
+    let f : AppendsFirstLines (drop a text) out new n k = subst (λ r. AppendsFirstLines r out new n k) (left_from a text h) t in
+    (omega (arith, f.within, length-drop a text, h), subst (λ r. AppendsLines text r old new (j + k)) (dropped_twice a n text) (takes_both text (drop a text) (drop n (drop a text)) old out new j k s f.takes))
 
 -- the texts of lines that are read at once stand first among those of the text
-pub quick_texts : (text rest old new : List ℕ) (k : ℕ) (t : TakesLines text rest old new k) → split text ≡ map text_of t.lines ++ split rest
+pub quick_texts : (text rest old new : List ℕ) (k : ℕ) (t : AppendsLines text rest old new k) → split text ≡ map text_of t.lines ++ split rest
 quick_texts text rest old new k t = ap split t.text_is ∙ texts_ahead t.lines rest t.fit t.listed
 
 -- a text of which lines are read at once is read so much further
-pub goes_quick : (all left : List (List ℕ)) (text rest out new : List ℕ) (start k n c : ℕ) (checker : CheckerState) (t : TakesLines text rest out new k) → (length out ≤ 67108864 → length new ≤ 67108864) → c ≡ n + k
+pub goes_quick : (all left : List (List ℕ)) (text rest out new : List ℕ) (start k n c : ℕ) (checker : CheckerState) (t : AppendsLines text rest out new k) → (length out ≤ 67108864 → length new ≤ 67108864) → c ≡ n + k
     → TextsAreRead all (map text_of t.lines ++ left) (asm_state out start checker n) → TextsAreRead all left (asm_state new start checker c)
 goes_quick all left text rest out new start k n c checker t limit e g =
     let added : List ℕ = flat_map (line_bytes 0) t.lines in
@@ -108,18 +108,18 @@ goes_quick all left text rest out new start k n c checker t limit e g =
 
 -- a text begins with one line, of a word and a row, whose end stands at a given place
 pub takes_line : (l : Line) (word row text old new : List ℕ) (a b end size : ℕ) → FitsLine l → IsListed l → text_of l ≡ word ++ row → take a text ≡ word → take b (drop a text) ≡ row → end ≡ a + b → size ≡ a + b + 1 → get_or text end 0 ≡ 10 → a + b < length text → new ≡ old ++ line_bytes 0 l
-    → TakesFirst text old new size 1
+    → AppendsFirstLines text old new size 1
 takes_line l word row text old new a b end size f i e w r at whole is h n =
-    subst (λ (k : ℕ). TakesFirst text old new k 1) (sym whole) (takes_row l word row text old new a b f i e w r (ap (λ (k : ℕ). get_or text k 0) (sym at) ∙ is) h n)
+    subst (λ (k : ℕ). AppendsFirstLines text old new k 1) (sym whole) (takes_row l word row text old new a b f i e w r (ap (λ (k : ℕ). get_or text k 0) (sym at) ∙ is) h n)
 
 -- the first bytes of a text are looked at
-pub takes_seen : (text first old new : List ℕ) (n size count : ℕ) → first ≡ take n text → TakesFirst first old new size count → TakesFirst text old new size count
+pub takes_seen : (text first old new : List ℕ) (n size count : ℕ) → first ≡ take n text → AppendsFirstLines first old new size count → AppendsFirstLines text old new size count
 takes_seen text first old new n size count e t =
-    let s : TakesFirst (take n text) old new size count = subst (λ (f : List ℕ). TakesFirst f old new size count) e t in
+    let s : AppendsFirstLines (take n text) old new size count = subst (λ (f : List ℕ). AppendsFirstLines f old new size count) e t in
     record {
       some = s.some;
       within = omega (arith, s.within, length-take n text);
-      few = s.few;
+      counted = s.counted;
       takes = record {
         lines = s.takes.lines;
         fit = s.takes.fit;

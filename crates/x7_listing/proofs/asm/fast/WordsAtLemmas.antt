@@ -18,7 +18,7 @@ use Rattle.x7_text.specs.Digits.{hex_byte, hex_word}
 use Rattle.x7_text.specs.Row.{spaced}
 use Rattle.x7_text.proofs.FewLemmas.{hex_prefix}
 use Rattle.x7_text.proofs.WordLemmas.{hex_words}
-use Rattle.x7_listing.specs.Assembling.{TakesFirst}
+use Rattle.x7_listing.specs.Assembling.{AppendsFirstLines}
 use Rattle.x7_listing.specs.Fast.AtOnce.{words_in_row}
 use Rattle.x7_listing.specs.Line.{Bytes, Data}
 use Rattle.x7_listing.proofs.asm.fast.QuickLemmas.{takes_line}
@@ -106,7 +106,7 @@ first_digits (suc n) k p text h =
 
 -- a line of words, as many as there are eight digits
 pub takes_words : (text bs old all new digits : List ℕ) (n count end : ℕ) → 77 ≤ length text → take 4 text ≡ codes "data" → ((k : ℕ) → k < count → get_or text (4 + 9 * k) 0 ≡ 32) → get_or text (4 + 9 * count) 0 ≡ 10 → length bs ≡ 32 → AreBytes bs
-    → 0 < count → count ≤ 8 → 8 * count ≤ n → digits ≡ flat_map (λ (w : List ℕ). w) (words_in_row text 4 8) → take n digits ≡ take n (flat_map hex_byte bs) → end ≡ length old + 4 * count → all ≡ old ++ bs → new ≡ take end all → TakesFirst text old new (5 + 9 * count) 1
+    → 0 < count → count ≤ 8 → 8 * count ≤ n → digits ≡ flat_map (λ (w : List ℕ). w) (words_in_row text 4 8) → take n digits ≡ take n (flat_map hex_byte bs) → end ≡ length old + 4 * count → all ≡ old ++ bs → new ≡ take end all → AppendsFirstLines text old new (5 + 9 * count) 1
 takes_words text bs old all new digits n count end long word spaces last full fit some few most are same at put cut =
     let row : List ℕ = take (4 * count) bs in
     let ws : List ℕ = words_of_bytes (take (4 * count) bs) in
@@ -136,7 +136,7 @@ takes_words text bs old all new digits n count end long word spaces last full fi
 
 -- a line of bytes, as many as its digits
 pub takes_prefix : (text bs old all new : List ℕ) (n count end : ℕ) → 77 ≤ length text → take 6 text ≡ codes "bytes " → n ≤ 64 → length bs ≡ 32 → AreBytes bs → take n (take 64 (drop 6 text)) ≡ take n (flat_map hex_byte bs)
-    → 0 < count → n ≡ 2 * count → get_or text (6 + n) 0 ≡ 10 → end ≡ length old + count → all ≡ old ++ bs → new ≡ take end all → TakesFirst text old new (7 + n) 1
+    → 0 < count → n ≡ 2 * count → get_or text (6 + n) 0 ≡ 10 → end ≡ length old + count → all ≡ old ++ bs → new ≡ take end all → AppendsFirstLines text old new (7 + n) 1
 takes_prefix text bs old all new n count end long word most full fit same some even is at put cut =
     let row : List ℕ = take count bs in
     let size : length (take count bs) ≡ count = length-take-le count bs (omega (arith, full, most, even)) in

@@ -12,7 +12,7 @@ use Rattle.x7_words.specs.Word.{bytes_of_word}
 use Rattle.x7_regs.specs.Register.{reg_name}
 use Rattle.x7_text.specs.Digits.{hex_word}
 use Rattle.x7_packets.specs.PacketWords.{type1_write}
-use Rattle.x7_listing.specs.Assembling.{TakesFirst}
+use Rattle.x7_listing.specs.Assembling.{AppendsFirstLines}
 use Rattle.x7_listing.specs.Fast.AtOnce.{command_lines, bytes_differ, write_line, write_start}
 use Rattle.x7_listing.specs.HeadLine.{command_line}
 use Rattle.x7_listing.specs.Line.{Line, Data, Write, line_bytes, text_of, cmd_line, ended_text}
@@ -50,13 +50,13 @@ mask_of xs ys e f = ap (λ ms. mask_l ms % 2 ^ 64) (tops_compared w8 bytes_diffe
 
 -- ---- two lines at the beginning
 
-takes_two : (a b : Line) (text old new : List ℕ) (size : ℕ) → size ≤ length text → Listed a → Listed b → take size text ≡ ended_text a ++ ended_text b → new ≡ old ++ (line_bytes 0 a ++ line_bytes 0 b) → TakesFirst text old new size 2
+takes_two : (a b : Line) (text old new : List ℕ) (size : ℕ) → size ≤ length text → Listed a → Listed b → take size text ≡ ended_text a ++ ended_text b → new ≡ old ++ (line_bytes 0 a ++ line_bytes 0 b) → AppendsFirstLines text old new size 2
 takes_two a b text old new size within f g e n =
     let long : 2 ≤ size = omega (arith, ap length e, length-take-le size text within, length-append (ended_text a) (ended_text b), length-append (text_of a) (10 ∷ []), length-append (text_of b) (10 ∷ [])) in
     record {
       some = omega (arith, long);
       within = within;
-      few = long;
+      counted = long;
       takes = record {
         lines = a ∷ b ∷ [];
         fit = (f.0, (g.0, tt));
@@ -72,7 +72,7 @@ write_text register =
     ap (λ t. (codes "write " ++ reg_name register ++ 32 ∷ t) ++ 10 ∷ []) (decimal_digit 1 (omega arith)) ∙ append_assoc (codes "write " ++ reg_name register) (32 ∷ 49 ∷ []) (10 ∷ [])
 
 -- a write of a word to CMD
-pub takes_command : (w size : ℕ) (text old new : List ℕ) → w < 32 → size ≤ length text → take size text ≡ command_lines w → new ≡ old ++ (bytes_of_word (type1_write 4 1) ++ bytes_of_word w) → TakesFirst text old new size 2
+pub takes_command : (w size : ℕ) (text old new : List ℕ) → w < 32 → size ≤ length text → take size text ≡ command_lines w → new ≡ old ++ (bytes_of_word (type1_write 4 1) ++ bytes_of_word w) → AppendsFirstLines text old new size 2
 takes_command w size text old new h within e n =
     let p : IsLineOf w (cmd_line w) = cmd_stands w (omega (arith, h)) in
     let is : take size text ≡ ended_text (Write 4 1) ++ ended_text (cmd_line w) = e ∙ ap (λ t. t ++ command_line w) (sym (write_text 4)) ∙ ap (λ t. ended_text (Write 4 1) ++ t) (sym (cmd_text w)) in
@@ -80,7 +80,7 @@ takes_command w size text old new h within e n =
 
 -- a write of a word to another register
 pub takes_word : (register w size eight : ℕ) (text old new : List ℕ) → register < 32 → w < 2 ^ 32 → size + 9 ≤ length text → take size text ≡ write_start register → eight ≡ 8 → take eight (drop size text) ≡ hex_word w → get_or text (size + 8) 0 ≡ 10
-    → new ≡ old ++ (bytes_of_word (type1_write register 1) ++ bytes_of_word w) → TakesFirst text old new (size + 9) 2
+    → new ≡ old ++ (bytes_of_word (type1_write register 1) ++ bytes_of_word w) → AppendsFirstLines text old new (size + 9) 2
 takes_word register w size eight text old new h k within e is_eight digits end n =
     let last : take 1 (drop 8 (drop size text)) ≡ 10 ∷ [] =
     ap (take 1) (dropped_twice size 8 text ∙ drop_more text (size + 8) 0 (omega (arith, within))) ∙ ap (λ (c : ℕ). c ∷ []) end in

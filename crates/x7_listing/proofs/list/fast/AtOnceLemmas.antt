@@ -8,7 +8,7 @@ use Rattle.std.proofs.lemmas.List.{length-take-le, take-take}
 use Rattle.std.specs.Simd.{first_chunks}
 use Rattle.std.specs.List.{flat_map}
 use Rattle.x7_words.specs.Word.{bytes_of_word, words_of_bytes}
-use Rattle.x7_packets.specs.AtOnce.{EndsGap, TakesAsOneRun, WritesFew, WritesOne}
+use Rattle.x7_packets.specs.AtOnce.{EndsGap, TakesAsOneRun, WritesShort, WritesOne}
 use Rattle.x7_packets.specs.PacketWords.{no_op, sync_word, type1_write}
 use Rattle.x7_packets.specs.SyncWord.{sync_bytes}
 use Rattle.x7_packets.specs.Cutter.{CutterState, IsRun, AfterRun}
@@ -25,7 +25,7 @@ use Rattle.x7_regs.specs.Register.{reg_name}
 use Rattle.x7_listing.specs.declared.line.head_line.HeadLine.TheVariants.{Write}
 use Rattle.x7_listing.specs.Fast.AtOnce.{command_lines, equal_lines, write_line, write_name, write_start}
 use Rattle.x7_listing.specs.HeadLine.{best_line, command_line, text_of_head, line_text}
-use Rattle.x7_listing.specs.Lister.{GapListed, HasListedJust, words_place, open_words, WritesRun, lister_of, written_of}
+use Rattle.x7_listing.specs.Lister.{GapListed, HasListedJust, in_line_after_words, open_words, WritesRun, lister_of, written_of}
 use Rattle.x7_listing.proofs.GapLemmas.{listed_more}
 use Rattle.x7_listing.proofs.RunLemmas.{by_body, by_head, by_skip, by_sync, by_word}
 use Rattle.x7_listing.proofs.SessionLemmas.{data_listed, is_data}
@@ -109,7 +109,7 @@ took_run c d run synced s2 line l2 held h2 text text2 given before bytes taken s
       sessions = w.new_sessions;
       at = w.new_place;
       cut = w.stands;
-      listed = writes before (bytes ++ taken) s.sessions w.new_sessions s.at w.new_place c.mode d.mode s.listed w.adds w.turns is w.stands.reading;
+      listed = writes before (bytes ++ taken) s.sessions w.new_sessions s.at w.new_place c.mode d.mode s.listed w.adds w.mode_changes is w.stands.reading;
     }
 
 one_equal : (c : CutterState) (w : ℕ) (step : Step) (synced s2 : Bool) (line l2 from : ℕ) (held h2 text text2 given before bytes : List ℕ) → IsRun (Head w step) → TakesAsOneRun c c (bytes_of_word w) (Head w step) → (synced ≡ true → from ≡ line) → s2 ≡ true → l2 ≡ 0
@@ -143,24 +143,24 @@ equal_listed (suc n) c w step synced s2 line l2 from held h2 text text1 text2 gi
     subst (λ (x : Bool). HasListedJust (lister_of c x l2 h2 text2) given before (bytes ++ equal_bytes w (suc n))) (sym e) (subst (HasListedJust (lister_of c true l2 h2 text2) given before) (append_assoc bytes (bytes_of_word w) (equal_bytes w n)) all)
 
 pub write_listed : (c d : CutterState) (synced s2 : Bool) (line l2 from register w : ℕ) (held h2 text text2 given before bytes rest : List ℕ) → WritesOne c d rest register w → (synced ≡ true → from ≡ line) → s2 ≡ true
-    → l2 ≡ words_place 0 (payload_steps register (w ∷ [])) → text2 ≡ text ++ (close from ++ text_of_head (Open register 1) (type1_write register 1) ++ open_words 0 (payload_steps register (w ∷ [])))
+    → l2 ≡ in_line_after_words 0 (payload_steps register (w ∷ [])) → text2 ≡ text ++ (close from ++ text_of_head (Open register 1) (type1_write register 1) ++ open_words 0 (payload_steps register (w ∷ [])))
     → HasListedJust (lister_of c synced line held text) given before bytes → HasListedJust (lister_of d s2 l2 h2 text2) given before (bytes ++ take 8 rest)
 write_listed c d synced s2 line l2 from register w held h2 text text2 given before bytes rest x same e f t s =
     let H : List ℕ = text_of_head (Open register 1) (type1_write register 1) in
     let D : List ℕ = open_words 0 (payload_steps register (w ∷ [])) in
     let head : List ℕ = bytes_of_word (type1_write register 1) in
     let next : List ℕ = text ++ (close from ++ H) in
-    let one : HasListedJust (lister_of x.between true 0 [] next) given before (bytes ++ head) =
-    took_run c x.between (Head (type1_write register 1) (Open register 1)) synced true line 0 held [] text next given before bytes head s x.head tt
+    let one : HasListedJust (lister_of x.middle true 0 [] next) given before (bytes ++ head) =
+    took_run c x.middle (Head (type1_write register 1) (Open register 1)) synced true line 0 held [] text next given before bytes head s x.head tt
     (by_head (Head (type1_write register 1) (Open register 1)) synced true line 0 from held [] given text next (type1_write register 1) (Open register 1) refl same refl refl refl) in
     let two : HasListedJust (lister_of d s2 l2 h2 text2) given before ((bytes ++ head) ++ bytes_of_word w) =
-    took_run x.between d (Word register w) true s2 0 l2 [] h2 next text2 given before (bytes ++ head) (bytes_of_word w) one x.word x.range
+    took_run x.middle d (Word register w) true s2 0 l2 [] h2 next text2 given before (bytes ++ head) (bytes_of_word w) one x.word x.range
     (by_word (Word register w) true s2 0 l2 0 [] h2 given next text2 register w refl (λ k. refl) e f (t ∙ sym (append_assoc text (close from ++ H) D))) in
     subst (HasListedJust (lister_of d s2 l2 h2 text2) given before) (append_assoc bytes head (bytes_of_word w) ∙ ap (λ k. bytes ++ k) (sym x.bytes)) two
 
 -- a write of a few words: `lent` is any slice
-pub short_listed : (c d : CutterState) (synced s2 : Bool) (line l2 from register count : ℕ) (held h2 text text2 given before bytes rest ws : List ℕ) (lent : Bor (List ℕ)) → WritesFew c d rest register count → ws ≡ words_of_bytes (take (4 * count) (drop 4 rest))
-    → (synced ≡ true → from ≡ line) → s2 ≡ true → l2 ≡ words_place 0 (payload_steps register ws) → text2 ≡ text ++ (close from ++ text_of_head (Open register count) (type1_write register count) ++ open_words 0 (payload_steps register ws))
+pub short_listed : (c d : CutterState) (synced s2 : Bool) (line l2 from register count : ℕ) (held h2 text text2 given before bytes rest ws : List ℕ) (lent : Bor (List ℕ)) → WritesShort c d rest register count → ws ≡ words_of_bytes (take (4 * count) (drop 4 rest))
+    → (synced ≡ true → from ≡ line) → s2 ≡ true → l2 ≡ in_line_after_words 0 (payload_steps register ws) → text2 ≡ text ++ (close from ++ text_of_head (Open register count) (type1_write register count) ++ open_words 0 (payload_steps register ws))
     → HasListedJust (lister_of c synced line held text) given before bytes → HasListedJust (lister_of d s2 l2 h2 text2) given before (bytes ++ take (4 + 4 * count) rest)
 short_listed c d synced s2 line l2 from register count held h2 text text2 given before bytes rest ws lent x are same e f t s =
     let H : List ℕ = text_of_head (Open register count) (type1_write register count) in
@@ -170,13 +170,13 @@ short_listed c d synced s2 line l2 from register count held h2 text text2 given 
     let head : List ℕ = bytes_of_word (type1_write register count) in
     let next : List ℕ = text ++ (close from ++ text_of_head (Open register count) (type1_write register count)) in
     let D : List ℕ = open_words 0 (payload_steps register (words_of_bytes (take (4 * count) (drop 4 rest)))) in
-    let one : HasListedJust (lister_of x.between true 0 [] next) given before (bytes ++ bytes_of_word (type1_write register count)) =
-    took_run c x.between (Head (type1_write register count) (Open register count)) synced true line 0 held [] text next given before bytes (bytes_of_word (type1_write register count)) s x.head tt
+    let one : HasListedJust (lister_of x.middle true 0 [] next) given before (bytes ++ bytes_of_word (type1_write register count)) =
+    took_run c x.middle (Head (type1_write register count) (Open register count)) synced true line 0 held [] text next given before bytes (bytes_of_word (type1_write register count)) s x.head tt
     (by_head (Head (type1_write register count) (Open register count)) synced true line 0 from held [] given text next (type1_write register count) (Open register count) refl same refl refl refl) in
     let two : HasListedJust (lister_of d s2 l2 h2 text2) given before ((bytes ++ bytes_of_word (type1_write register count)) ++ take (4 * count) (drop 4 rest)) =
-    took_run x.between d (Body register run) true s2 0 l2 [] h2 next text2 given before (bytes ++ bytes_of_word (type1_write register count)) (take (4 * count) (drop 4 rest)) one (x.words run refl)
+    took_run x.middle d (Body register run) true s2 0 l2 [] h2 next text2 given before (bytes ++ bytes_of_word (type1_write register count)) (take (4 * count) (drop 4 rest)) one (x.words run refl)
     (x.range, omega (arith, size, x.some), omega (arith, size), λ k. absurd (x.other k))
-    (by_body (Body register run) true s2 0 l2 0 [] h2 given next text2 register run refl (λ k. refl) e (f ∙ ap (λ (w : List ℕ). words_place 0 (payload_steps register w)) are)
+    (by_body (Body register run) true s2 0 l2 0 [] h2 given next text2 register run refl (λ k. refl) e (f ∙ ap (λ (w : List ℕ). in_line_after_words 0 (payload_steps register w)) are)
     (t ∙ ap (λ (w : List ℕ). text ++ (close from ++ text_of_head (Open register count) (type1_write register count) ++ open_words 0 (payload_steps register w))) are ∙ sym (append_assoc text (close from ++ H) D))) in
     subst (HasListedJust (lister_of d s2 l2 h2 text2) given before) (append_assoc bytes (bytes_of_word (type1_write register count)) (take (4 * count) (drop 4 rest)) ∙ ap (λ k. bytes ++ (k ++ take (4 * count) (drop 4 rest))) (sym x.bytes) ∙ ap (λ k. bytes ++ k) (sym (take-add 4 (4 * count) rest))) two
 
@@ -195,11 +195,11 @@ gap_listed c d true s2 line l2 count held h2 text text2 given before bytes rest 
     let run : Bor (List ℕ) = record lent { now = take (count + 4) rest } in
     let size : length (take (count + 4) rest) ≡ count + 4 = length-take-le (count + 4) rest (omega (arith, x.long, x.near)) in
     let text1 : List ℕ = text ++ open_text 32 (codes "bytes ") hex_byte 0 (take count rest) in
-    let one : HasListedJust (lister_of x.between false (in_line_after 32 0 (take count rest)) sync_bytes text1) given before (bytes ++ take (count + 4) rest) =
-    took_run c x.between (Skip run) true false line (in_line_after 32 0 (take count rest)) held sync_bytes text text1 given before bytes (take (count + 4) rest) s (x.gap run refl) (omega (arith, size))
+    let one : HasListedJust (lister_of x.middle false (in_line_after 32 0 (take count rest)) sync_bytes text1) given before (bytes ++ take (count + 4) rest) =
+    took_run c x.middle (Skip run) true false line (in_line_after 32 0 (take count rest)) held sync_bytes text text1 given before bytes (take (count + 4) rest) s (x.gap run refl) (omega (arith, size))
     (by_skip (Skip run) run true false line 0 (in_line_after 32 0 (take count rest)) held [] sync_bytes given text text1 refl refl refl refl (λ given start gap g. gap_begun given text text1 start gap (take (count + 4) rest) (take count rest) x.found refl g)) in
     let two : HasListedJust (lister_of d s2 l2 h2 text2) given before ((bytes ++ take (count + 4) rest) ++ []) =
-    took_run x.between d Sync false s2 (in_line_after 32 0 (take count rest)) l2 sync_bytes h2 text1 text2 given before (bytes ++ take (count + 4) rest) [] one x.sync tt
+    took_run x.middle d Sync false s2 (in_line_after 32 0 (take count rest)) l2 sync_bytes h2 text1 text2 given before (bytes ++ take (count + 4) rest) [] one x.sync tt
     (by_sync Sync false s2 (in_line_after 32 0 (take count rest)) l2 (in_line_after 32 0 (take count rest)) sync_bytes h2 given text1 text2 refl (λ k. refl) e f
     (t ∙ ap (λ (k : List ℕ). text ++ (k ++ codes "sync\n")) (sym (bytes_closed (take count rest))) ∙ ap (λ (k : List ℕ). text ++ k) (append_assoc (open_text 32 (codes "bytes ") hex_byte 0 (take count rest)) (close (in_line_after 32 0 (take count rest))) (codes "sync\n"))
     ∙ sym (append_assoc text (open_text 32 (codes "bytes ") hex_byte 0 (take count rest)) (close (in_line_after 32 0 (take count rest)) ++ codes "sync\n")))) in

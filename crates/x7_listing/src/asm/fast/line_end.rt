@@ -1,4 +1,4 @@
-//! The lines of an assembly text, which are short as a rule.
+//! The next line of an assembly text: its end is sought among 32 bytes first, since lines are short as a rule.
 ghost use Rattle.std.specs.Prelude.{◌≡◌, ◌<◌, ◌==◌, [], ◌∷◌, length, map, MatchOption};
 ghost use Rattle.std.specs.Simd.Lanes.{mask_l};
 ghost use Rattle.x7_text.specs.Lines.{split};

@@ -8,7 +8,7 @@ ghost use Rattle.x7_listing.specs.Assembling.{HasRoomForLine};
 ghost use Rattle.x7_listing.specs.Fast.Looking.{Looks, ReadsAtOnce};
 
 use super::write_pairs::{differences, put_pair};
-use crate::asm::reading::{access_at, put_word};
+use crate::asm::reading::{put_word, type1_at};
 use crate::assembler::ASM_LIMIT;
 use std::simd::prelude::*;
 use x7_packets::type1_write;
@@ -16,7 +16,7 @@ use x7_text::{prefix_of_hex, put};
 use x7_words::is_same;
 
 /// The lines of eight no-ops.
-const NOPS: &[u8; 32] = b"nop\nnop\nnop\nnop\nnop\nnop\nnop\nnop\n";
+const NOP_LINES: &[u8; 32] = b"nop\nnop\nnop\nnop\nnop\nnop\nnop\nnop\n";
 
 /// The bytes of eight no-ops.
 const NOP_BYTES: &[u8; 32] =
@@ -38,14 +38,14 @@ fn put_nops(out: &mut Vec<u8>, text: &[u8; LOOK_SIZE]) -> Option<WholeLines>
     requires room { HasRoomForLine out.old }
     ensures { Looks text.now out.old out.new result }
 {
-    if (differences(text, NOPS).trailing_zeros() as usize) < 32 {
+    if (differences(text, NOP_LINES).trailing_zeros() as usize) < 32 {
         return None;
     }
     put(out, NOP_BYTES);
     Some(WholeLines { size: 32, count: 8 })
 }
 
-/// Twice eight bytes of the text, from two places on.
+/// Eight bytes of the text from each of two places on.
 #[inline(always)]
 fn two_eights(text: &[u8], one: usize, other: usize) -> u8x16
     requires one { one + 8 ≤ length text.now }
@@ -59,9 +59,9 @@ fn two_eights(text: &[u8], one: usize, other: usize) -> u8x16
     a.shuffle(b, [0, 1, 2, 3, 4, 5, 6, 7, 8, 9, 10, 11, 12, 13, 14, 15])
 }
 
-/// Sixteen bytes and sixteen more.
+/// Sixteen bytes, and sixteen more after them.
 #[inline(always)]
-fn both(a: u8x16, b: u8x16) -> u8x32
+fn joined(a: u8x16, b: u8x16) -> u8x32
     requires a { length a ≡ 16 }
     requires b { length b ≡ 16 }
     ensures { result ≡ a ++ b }
@@ -75,13 +75,13 @@ fn both(a: u8x16, b: u8x16) -> u8x32
     )
 }
 
-/// What stands where a full `data` line has its digits.
+/// The 64 bytes that stand where a full `data` line has its digits.
 #[inline(always)]
 fn row_digits(text: &[u8; LOOK_SIZE]) -> [u8; 64]
     ensures { result ≡ flat_map (λ (word : List ℕ). word) (words_in_row text.now 4 8) }
 {
-    let low = both(two_eights(text, 5, 14), two_eights(text, 23, 32));
-    let high = both(two_eights(text, 41, 50), two_eights(text, 59, 68));
+    let low = joined(two_eights(text, 5, 14), two_eights(text, 23, 32));
+    let high = joined(two_eights(text, 41, 50), two_eights(text, 59, 68));
     let all: u8x64 = low.shuffle(
         high,
         [
@@ -159,9 +159,9 @@ fn is_bytes(text: &[u8; LOOK_SIZE]) -> bool
     [text[0], text[1], text[2], text[3], text[4], text[5]] == *b"bytes "
 }
 
-/// The 64 bytes after the first six.
+/// The 64 bytes that stand where a full `bytes` line has its digits.
 #[inline(always)]
-fn after_word(text: &[u8; LOOK_SIZE]) -> [u8; 64]
+fn bytes_digits(text: &[u8; LOOK_SIZE]) -> [u8; 64]
     ensures { result ≡ take 64 (drop 6 text.now) }
 {
     u8x64::from_slice(&text[6..]).to_array()
@@ -176,7 +176,7 @@ fn put_bytes(out: &mut Vec<u8>, text: &[u8; LOOK_SIZE]) -> Option<WholeLines>
     if !is_bytes(text) {
         return None;
     }
-    let prefix = prefix_of_hex(&after_word(text));
+    let prefix = prefix_of_hex(&bytes_digits(text));
     if prefix.digit_count == 64 && text[70] == b'\n' {
         put(out, &prefix.bytes);
         return Some(WholeLines { size: 71, count: 1 });
@@ -194,7 +194,7 @@ fn put_bytes(out: &mut Vec<u8>, text: &[u8; LOOK_SIZE]) -> Option<WholeLines>
     })
 }
 
-/// The place of the first of these bytes among 16, or one after them.
+/// The place of the first byte among 16 that is `byte`, or a place after all of them.
 #[inline(always)]
 fn place_of(byte: u8, bytes: u8x16) -> usize {
     bytes
@@ -205,7 +205,7 @@ fn place_of(byte: u8, bytes: u8x16) -> usize {
 
 /// Appends the bytes of a `write` line with a count of one digit, if one begins the text.
 #[inline(always)]
-fn put_write(out: &mut Vec<u8>, text: &[u8; LOOK_SIZE]) -> Option<WholeLines>
+fn put_write_line(out: &mut Vec<u8>, text: &[u8; LOOK_SIZE]) -> Option<WholeLines>
     requires room { HasRoomForLine out.old }
     ensures { Looks text.now out.old out.new result }
 {
@@ -213,7 +213,7 @@ fn put_write(out: &mut Vec<u8>, text: &[u8; LOOK_SIZE]) -> Option<WholeLines>
     if space > 16 || !is_same(&text[..6], b"write ") || text[8 + space] != b'\n' {
         return None;
     }
-    let Some((register, count)) = access_at(&text[6..8 + space], space) else {
+    let Some((register, count)) = type1_at(&text[6..8 + space], space) else {
         return None;
     };
     put_word(out, type1_write(register, count));
@@ -223,19 +223,19 @@ fn put_write(out: &mut Vec<u8>, text: &[u8; LOOK_SIZE]) -> Option<WholeLines>
     })
 }
 
-/// Appends the bytes of the two lines of a write of one word, or of a `write` line, if they begin the text.
+/// Appends the bytes of the two lines of a write of one word, or of a `write` line alone, if they begin the text.
 #[inline(always)]
-fn put_writes(out: &mut Vec<u8>, text: &[u8; LOOK_SIZE]) -> Option<WholeLines>
+fn put_pair_or_line(out: &mut Vec<u8>, text: &[u8; LOOK_SIZE]) -> Option<WholeLines>
     requires room { HasRoomForLine out.old }
     ensures { Looks text.now out.old out.new result }
 {
     match put_pair(out, text) {
         Some(taken) => Some(taken),
-        None => put_write(out, text),
+        None => put_write_line(out, text),
     }
 }
 
-/// Appends the bytes of some first lines of the text, if they are of those that are read at once.
+/// Appends the bytes of one or more lines that begin the text, if they are of those that are read at once.
 #[inline(always)]
 fn put_some(out: &mut Vec<u8>, text: &[u8; LOOK_SIZE]) -> Option<WholeLines>
     requires room { HasRoomForLine out.old }
@@ -243,7 +243,7 @@ fn put_some(out: &mut Vec<u8>, text: &[u8; LOOK_SIZE]) -> Option<WholeLines>
 {
     match text[0] {
         b'd' => put_data_row(out, text),
-        b'w' => put_writes(out, text),
+        b'w' => put_pair_or_line(out, text),
         b'b' => put_bytes(out, text),
         b'n' => put_nops(out, text),
         _ => None,

@@ -9,7 +9,7 @@ ghost use Rattle.x7_listing.specs.Assembling.{HasRoomForLine};
 ghost use Rattle.x7_listing.specs.Fast.Looking.{Looks};
 
 use super::quick::{LOOK_SIZE, WholeLines};
-use crate::line::{command_row, write_row};
+use crate::line::{TEXT_SIZE_AT, command_row, write_row};
 use std::simd::prelude::*;
 use x7_packets::type1_write;
 use x7_regs::Reg;
@@ -19,6 +19,12 @@ use x7_words::bytes_of;
 /// The factor by which the first four bytes of a name give its place in a table of 64, the highest six bits of the
 /// product: no two registers have one place, nor two commands. `bench/name_tables.py` makes the tables.
 const SPREAD_FACTOR: u32 = 0x3F20_35EB;
+
+/// Where the register's name stands in a line `write NAME 1`.
+const REGISTER_NAME_AT: usize = 6;
+
+/// Where the command's name stands in the lines `write CMD 1` and `cmd NAME`.
+const COMMAND_NAME_AT: usize = 16;
 
 /// The register numbers by the places of their names, of which a space ends the short ones. A place of no name has 0.
 #[rattlefmt::skip]
@@ -39,7 +45,7 @@ static COMMANDS: [u8; 64] = [
      0,  6,  0,  1,  0,  0, 15,  0,  0,  9,  0,  0,  0,  0,  0,  5,
 ];
 
-/// The number below 32 that a table has for the name from `at` on. Of what is no name it gives any.
+/// The number below 32 that a table has for the name from `at` on; where no name stands there, any number.
 #[inline(always)]
 fn number_at(table: &[u8; 64], text: &[u8; LOOK_SIZE], at: usize) -> u8
     requires { at + 4 ≤ LOOK_SIZE }
@@ -59,12 +65,12 @@ pub(crate) fn differences(text: &[u8; LOOK_SIZE], row: &[u8; 32]) -> u64
         .to_bitmask()
 }
 
-/// How long the text of a row is, if the text begins with it.
+/// How many bytes the text of a table's row has, if the text begins with it.
 #[inline(always)]
-fn begun(text: &[u8; LOOK_SIZE], row: &[u8; 32]) -> Option<usize>
+fn matched_size(text: &[u8; LOOK_SIZE], row: &[u8; 32]) -> Option<usize>
     ensures { IfSome result (λ size. (size ≤ 32) × (take size text.now ≡ row_text row.now)) }
 {
-    let size = row[31] as usize;
+    let size = row[TEXT_SIZE_AT] as usize;
     if size > 32 || (differences(text, row).trailing_zeros() as usize) < size {
         return None;
     }
@@ -88,7 +94,7 @@ fn put_word_pair(out: &mut Vec<u8>, text: &[u8; LOOK_SIZE], register: u8) -> Opt
     requires room { HasRoomForLine out.old }
     ensures { Looks text.now out.old out.new result }
 {
-    let Some(size) = begun(text, write_row(register)) else {
+    let Some(size) = matched_size(text, write_row(register)) else {
         return None;
     };
     if text[size + 8] != b'\n' {
@@ -111,7 +117,7 @@ fn put_command_pair(out: &mut Vec<u8>, text: &[u8; LOOK_SIZE], code: u32) -> Opt
     requires room { HasRoomForLine out.old }
     ensures { Looks text.now out.old out.new result }
 {
-    let Some(size) = begun(text, command_row(code)) else {
+    let Some(size) = matched_size(text, command_row(code)) else {
         return None;
     };
     put_two(out, type1_write(Reg::Cmd.number(), 1), code);
@@ -124,9 +130,13 @@ pub(crate) fn put_pair(out: &mut Vec<u8>, text: &[u8; LOOK_SIZE]) -> Option<Whol
     requires room { HasRoomForLine out.old }
     ensures { Looks text.now out.old out.new result }
 {
-    let register = number_at(&REGISTERS, text, 6);
+    let register = number_at(&REGISTERS, text, REGISTER_NAME_AT);
     if register == Reg::Cmd.number() {
-        put_command_pair(out, text, u32::from(number_at(&COMMANDS, text, 16)))
+        put_command_pair(
+            out,
+            text,
+            u32::from(number_at(&COMMANDS, text, COMMAND_NAME_AT)),
+        )
     } else {
         put_word_pair(out, text, register)
     }

@@ -1,7 +1,7 @@
 //! Short runs, listed at once on a sheet: writes of one word and of up to sixteen, a few no-ops, and
 //! a short gap with the sync word after it.
 ghost use Rattle.std.specs.Prelude.{◌≡◌, ℕ, ◌+◌, ◌*◌, ◌<◌, ◌≤◌, List, [], ◌∷◌, ◌++◌, IfNone, IfSome, codes, decimal, length, take, vec_len, vec_capacity};
-ghost use Rattle.x7_packets.specs.AtOnce.{EndsGap, WritesFew, WritesOne, longest_short_gap, longest_short_write, short_gap_room};
+ghost use Rattle.x7_packets.specs.AtOnce.{EndsGap, WritesOne, WritesShort, longest_gap_and_sync, longest_short_write, most_short_words, short_gap_room};
 ghost use Rattle.x7_packets.specs.Cutter.{CutterState};
 ghost use Rattle.x7_packets.specs.Nops.{nop_bytes};
 ghost use Rattle.x7_packets.specs.PacketWords.{no_op, type1_write};
@@ -14,7 +14,7 @@ ghost use Rattle.x7_listing.specs.Fast.TakingAtOnce.{TakesAtOnce, TakesOnSheet};
 ghost use Rattle.x7_listing.specs.HeadLine.{text_of_head};
 ghost use Rattle.x7_listing.specs.Pens.{TakesHead, ListsMore, lister_with};
 ghost use Rattle.x7_listing.specs.declared.list.pen.state.Pen.{Pen};
-ghost use Rattle.x7_listing.specs.Lister.{words_place, open_words};
+ghost use Rattle.x7_listing.specs.Lister.{in_line_after_words, open_words};
 
 use super::sheet::{SHEET_SIZE, put_prefix, put_row, put_whole};
 use crate::line::{command_row, name_row, write_row};
@@ -31,11 +31,11 @@ const FREE_SIZE: usize = 256;
 const MOST_NOPS: usize = 32;
 
 /// The lines of as many no-ops as are put on a sheet at once.
-static NOPS: [[u8; 4]; MOST_NOPS] = [*b"nop\n"; MOST_NOPS];
+static NOP_LINES: [[u8; 4]; MOST_NOPS] = [*b"nop\n"; MOST_NOPS];
 
-/// Where the text of a sheet ends, and the words of the open line then.
+/// Where the text on a sheet ends, and how many words stand in the open line then.
 #[derive(Clone, Copy)]
-struct End {
+struct TextEnd {
     len: usize,
     in_line: OpenWords,
 }
@@ -71,28 +71,28 @@ fn put_command(sheet: &mut [u8; SHEET_SIZE], len: usize, in_line: usize, w: u32)
 
 /// Puts the lines of a write of one word, after an open line of `in_line` words.
 #[inline(always)]
-fn put_one_word(
+fn put_write_lines(
     sheet: &mut [u8; SHEET_SIZE],
     len: usize,
     in_line: usize,
     register: u8,
     w: u32,
-) -> End
+) -> TextEnd
     requires range { register < 32 }
     requires room { len + one_write_size ≤ SHEET_SIZE }
-    ensures count { result.in_line.count ≡ words_place 0 (payload_steps register (w ∷ [])) }
+    ensures count { result.in_line.count ≡ in_line_after_words 0 (payload_steps register (w ∷ [])) }
     ensures len { result.len ≤ len + one_write_size }
     ensures text { take result.len sheet.new ≡ take len sheet.old ++ (close in_line ++ text_of_head (Step.Open register 1) (type1_write register 1) ++ open_words 0 (payload_steps register (w ∷ []))) }
 {
     if register == Reg::Cmd.number() {
-        return End {
+        return TextEnd {
             len: put_command(sheet, len, in_line, w),
             in_line: OpenWords { count: 0 },
         };
     }
     let begin = put_close(sheet, len, in_line);
     let start = put_row(sheet, begin, write_row(register));
-    End {
+    TextEnd {
         len: put_whole(sheet, start, &hex_of_word(w)),
         in_line: OpenWords { count: 1 },
     }
@@ -119,7 +119,7 @@ struct ShortWrite {
     count: usize,
     ghost range: { register < 32 },
     ghost some: { 0 < count },
-    ghost short: { count ≤ 16 },
+    ghost short: { count ≤ most_short_words },
 }
 
 /// Puts the line of the header of a short write, after an open line of `in_line` words.
@@ -136,7 +136,7 @@ fn put_head(sheet: &mut [u8; SHEET_SIZE], len: usize, in_line: usize, write: Sho
 
 /// Puts the first of eight words, one or more, in a new `data` line.
 #[inline(always)]
-fn put_in_row(sheet: &mut [u8; SHEET_SIZE], len: usize, bytes: &[u8; 32], count: usize) -> End
+fn put_in_row(sheet: &mut [u8; SHEET_SIZE], len: usize, bytes: &[u8; 32], count: usize) -> TextEnd
     requires some { 0 < count }
     requires in_row { count ≤ row_words }
     requires room { len + data_line_size ≤ SHEET_SIZE }
@@ -145,12 +145,12 @@ fn put_in_row(sheet: &mut [u8; SHEET_SIZE], len: usize, bytes: &[u8; 32], count:
 {
     let line = data_line(bytes);
     if count == 8 {
-        return End {
+        return TextEnd {
             len: put_whole(sheet, len, &line),
             in_line: OpenWords { count: 0 },
         };
     }
-    End {
+    TextEnd {
         len: put_prefix(sheet, len, &line, 4 + 9 * count),
         in_line: OpenWords { count },
     }
@@ -158,7 +158,7 @@ fn put_in_row(sheet: &mut [u8; SHEET_SIZE], len: usize, bytes: &[u8; 32], count:
 
 /// Puts the first of sixteen words, one or more, in new `data` lines.
 #[inline(always)]
-fn put_words(sheet: &mut [u8; SHEET_SIZE], len: usize, bytes: &[u8; 64], count: usize) -> End
+fn put_words(sheet: &mut [u8; SHEET_SIZE], len: usize, bytes: &[u8; 64], count: usize) -> TextEnd
     requires some { 0 < count }
     requires in_two_rows { count ≤ 2 * row_words }
     requires room { len + 2 * data_line_size ≤ SHEET_SIZE }
@@ -193,24 +193,24 @@ fn put_bytes_and_sync(
     put_whole(sheet, end, b"\nsync\n")
 }
 
-/// What was put on a sheet: the words of the open line after it, how long the sheet's text is
-/// then, and how many bytes of the piece it was.
+/// A short run that was put on a sheet: the words of the open line after it, how many bytes the sheet's text has then,
+/// and how many bytes of the piece the run took.
 #[derive(Clone, Copy)]
-struct Next {
+struct PutRun {
     in_line: OpenWords,
     len: usize,
     size: usize,
 }
 
-/// Puts what a write of one word adds.
+/// Puts the lines of a write of one word, which was taken of the cutter.
 #[inline(always)]
-fn put_write(
+fn put_one_write(
     sheet: &mut [u8; SHEET_SIZE],
     len: usize,
     in_line: OpenWords,
     register: u8,
     w: u32,
-) -> Next
+) -> PutRun
     requires range { register < 32 }
     requires room { len + one_write_size ≤ SHEET_SIZE }
     ensures size { result.size ≡ 8 }
@@ -218,8 +218,8 @@ fn put_write(
     ensures listed { (c d : CutterState) (rest : List ℕ) → WritesOne c d rest register w
         → ListsMoreAfter (on_sheet c in_line sheet.old len) (on_sheet d result.in_line sheet.new result.len) (take 8 rest) }
 {
-    let end = put_one_word(sheet, len, in_line.count, register, w);
-    Next {
+    let end = put_write_lines(sheet, len, in_line.count, register, w);
+    PutRun {
         in_line: end.in_line,
         len: end.len,
         size: 8,
@@ -246,7 +246,7 @@ fn first_64(bytes: &[u8]) -> &[u8; 64]
     &blocks[0]
 }
 
-/// Puts what a short write adds, whose packet begins these bytes.
+/// Puts the lines of a short write, whose packet begins these bytes.
 #[inline(always)]
 fn put_short_write(
     sheet: &mut [u8; SHEET_SIZE],
@@ -254,26 +254,31 @@ fn put_short_write(
     in_line: OpenWords,
     write: ShortWrite,
     rest: &[u8],
-) -> Next
+) -> PutRun
     requires long { longest_short_write ≤ length rest.now }
     requires room { len + short_write_size ≤ SHEET_SIZE }
     ensures size { result.size ≡ 4 + 4 * write.count }
     ensures len { result.len ≤ len + short_write_size }
-    ensures listed { (c d : CutterState) → WritesFew c d rest.now write.register write.count
+    ensures listed { (c d : CutterState) → WritesShort c d rest.now write.register write.count
         → ListsMoreAfter (on_sheet c in_line sheet.old len) (on_sheet d result.in_line sheet.new result.len) (take (4 + 4 * write.count) rest.now) }
 {
     let start = put_head(sheet, len, in_line.count, write);
     let end = put_words(sheet, start, first_64(&rest[4..]), write.count);
-    Next {
+    PutRun {
         in_line: end.in_line,
         len: end.len,
         size: 4 + 4 * write.count,
     }
 }
 
-/// Puts what a few no-ops in a row add, one or more.
+/// Puts the lines of one to 32 no-ops in a row.
 #[inline(always)]
-fn put_few_nops(sheet: &mut [u8; SHEET_SIZE], len: usize, in_line: OpenWords, count: usize) -> Next
+fn put_few_nops(
+    sheet: &mut [u8; SHEET_SIZE],
+    len: usize,
+    in_line: OpenWords,
+    count: usize,
+) -> PutRun
     requires some { 0 < count }
     requires in_table { count ≤ MOST_NOPS }
     requires room { len + nops_size ≤ SHEET_SIZE }
@@ -283,14 +288,14 @@ fn put_few_nops(sheet: &mut [u8; SHEET_SIZE], len: usize, in_line: OpenWords, co
         → ListsMoreAfter (on_sheet c in_line sheet.old len) (on_sheet c result.in_line sheet.new result.len) (nop_bytes count) }
 {
     let start = put_close(sheet, len, in_line.count);
-    Next {
+    PutRun {
         in_line: OpenWords { count: 0 },
-        len: put_prefix(sheet, start, NOPS.as_flattened(), 4 * count),
+        len: put_prefix(sheet, start, NOP_LINES.as_flattened(), 4 * count),
         size: 4 * count,
     }
 }
 
-/// Puts what a gap after a session adds, and the sync word after it, which begin these bytes.
+/// Puts the lines of a gap after a session and of the sync word after it, which begin these bytes.
 #[inline(always)]
 fn put_gap(
     sheet: &mut [u8; SHEET_SIZE],
@@ -298,8 +303,8 @@ fn put_gap(
     in_line: OpenWords,
     count: usize,
     rest: &[u8],
-) -> Next
-    requires near { count + 4 ≤ longest_short_gap }
+) -> PutRun
+    requires near { count + 4 ≤ longest_gap_and_sync }
     requires long { short_gap_room ≤ length rest.now }
     requires room { len + gap_size ≤ SHEET_SIZE }
     ensures size { result.size ≡ count + 4 }
@@ -307,14 +312,14 @@ fn put_gap(
     ensures listed { (c d : CutterState) → EndsGap c d rest.now count
         → ListsMoreAfter (on_sheet c in_line sheet.old len) (on_sheet d result.in_line sheet.new result.len) (take (count + 4) rest.now) }
 {
-    Next {
+    PutRun {
         in_line: OpenWords { count: 0 },
         len: put_bytes_and_sync(sheet, len, first_32(rest), count),
         size: count + 4,
     }
 }
 
-/// Takes what comes next, where it is short, and puts what that adds.
+/// Takes the short run that comes next, if one does, and puts its lines.
 #[inline(always)]
 fn take_next(
     sheet: &mut [u8; SHEET_SIZE],
@@ -322,14 +327,14 @@ fn take_next(
     cutter: &mut Cutter,
     in_line: OpenWords,
     rest: &[u8],
-) -> Option<Next>
+) -> Option<PutRun>
     requires room { len + FREE_SIZE ≤ SHEET_SIZE }
     ensures some { IfSome result (λ n. TakesOnSheet cutter.old cutter.new rest.now n.size len n.len) }
     ensures listed { IfSome result (λ n. ListsMoreAfter (on_sheet cutter.old in_line sheet.old len) (on_sheet cutter.new n.in_line sheet.new n.len) (take n.size rest.now)) }
     ensures none { IfNone result ((cutter.new ≡ cutter.old) × (sheet.new ≡ sheet.old)) }
 {
     if let Some((register, w)) = cutter.take_write(rest) {
-        return Some(put_write(sheet, len, in_line, register, w));
+        return Some(put_one_write(sheet, len, in_line, register, w));
     }
     if let Some((register, count)) = cutter.take_short_write(rest) {
         let write = ShortWrite { register, count };
@@ -351,7 +356,7 @@ const WRITE_BYTE: u8 = 0x30;
 /// The first byte of the no-op.
 const NO_OP_BYTE: u8 = 0x20;
 
-/// Whether the next word may be a write or a no-op.
+/// Whether the next word may be a write's header or a no-op, by its first byte.
 #[inline(always)]
 fn may_come(rest: &[u8]) -> bool {
     let [first, ..] = rest else {
@@ -360,15 +365,16 @@ fn may_come(rest: &[u8]) -> bool {
     *first == WRITE_BYTE || *first == NO_OP_BYTE
 }
 
-/// What was taken at once: the words of the open line after it, and how many bytes it has.
+/// Short runs that were taken at once: the words of the open line after them, and how many bytes of the piece they
+/// took.
 #[derive(Clone, Copy)]
 pub(crate) struct Taken {
     pub(crate) in_line: OpenWords,
     pub(crate) size: usize,
 }
 
-/// Takes the short runs of a session that come next, one after another, and appends what
-/// they add, which is put on the sheet first.
+/// Takes the short runs of a session that come next, one after another, and appends their lines, which are put on the
+/// sheet first. `None` where no short run comes next.
 #[inline(always)]
 pub(crate) fn take_short(
     text: &mut Vec<u8>,

@@ -25,8 +25,8 @@ fn cut_of<'b>(run: Run<'b>) -> Cut<'b>
     }
 }
 
-/// How many bytes of a stream a run is.
-fn run_len(run: Run) -> usize
+/// How many bytes of its stream a run gives.
+fn byte_count(run: Run) -> usize
     ensures { result ≡ length (bytes_of_run run.entry) }
 {
     match run {
@@ -42,7 +42,7 @@ fn run_len(run: Run) -> usize
 fn with_tail(pen: Pen, tail: &[u8]) -> Pen
     requires { length tail.now < 4 }
     ensures synced { is_in_session result ≡ true }
-    ensures line { is_in_session pen ≡ true → in_line_of result ≡ in_line_of pen }
+    ensures in_line { is_in_session pen ≡ true → in_line_of result ≡ in_line_of pen }
     ensures held { held_by result ≡ tail.now }
 {
     let mut bytes = [0; 3];
@@ -74,7 +74,7 @@ fn put_last(text: &mut Vec<u8>, pen: Pen)
     put_end(text, pen, tail_of(&pen));
 }
 
-/// Appends what the next run of a stream adds.
+/// Appends what the next run of a stream adds to the listing, and gives the pen after it.
 fn put_next(text: &mut Vec<u8>, pen: Pen, run: Run) -> Pen
     requires run { FitsRun run }
     requires room { HasSpareRoom text.old (CALL_ROOM + 3 * length (bytes_of_run run)) }
@@ -97,7 +97,7 @@ impl Lister {
         ensures ok { OnOk result (TakesNext run.now self.old self.new) }
         ensures err { OnErr result (self.new ≡ self.old) }
     {
-        let Some(room) = run_len(*run).checked_mul(3) else {
+        let Some(room) = byte_count(*run).checked_mul(3) else {
             return Err(NoMemory);
         };
         let Some(room) = room.checked_add(CALL_ROOM) else {

@@ -1,14 +1,15 @@
-//! What a pen keeps.
+//! What a pen keeps between two runs of a stream.
 ghost use Rattle.std.specs.Prelude.{◌<◌, ◌≤◌};
 ghost use Rattle.x7_text.specs.Row.{row_bytes, row_words};
 
-/// A pen in a gap: how many bytes stand in the open line, and the bytes that are held, the last four at most.
+/// A pen in a gap: how many bytes stand in the open line, and the bytes that are held, the last four at most, which are
+/// the first `count` of `held`.
 #[derive(Clone, Copy)]
 pub(crate) struct GapPen {
-    pub(crate) line: usize,
+    pub(crate) in_line: usize,
     pub(crate) held: [u8; 4],
     pub(crate) count: usize,
-    ghost short: { line < row_bytes },
+    ghost short: { in_line < row_bytes },
     ghost few: { count ≤ 4 },
 }
 
@@ -19,7 +20,7 @@ pub(crate) struct OpenWords {
     ghost short: { count < row_words },
 }
 
-/// The bytes of no whole word at the end of a stream.
+/// The bytes of no whole word at the end of a stream: the first `count` of `bytes`.
 #[derive(Clone, Copy)]
 pub(crate) struct TailBytes {
     pub(crate) bytes: [u8; 3],

@@ -3,10 +3,10 @@ use Rattle.x7_packets.proofs.places.sync_bits.Goals as goal
 
 pub returns-clause-some : goal.returns-clause-some
 returns-clause-some c k h = sync_there c.args.bytes.now _ c.args.at k c.requires
-    (sync_lanes c.args.bytes.now c.args.at _ _ _ _ _ _ _ _ _ _ _ c.load.ensures c.load-2.ensures c.load-3.ensures c.load-4.ensures c.equal_to.ensures c.equal_to-2.ensures c.equal_to-3.ensures c.equal_to-4.ensures c.both-prefix.ensures c.both-back.ensures c.both.ensures)
+    (sync_lanes c.args.bytes.now c.args.at _ _ _ _ _ _ _ _ _ _ _ c.load.ensures c.load-2.ensures c.load-3.ensures c.load-4.ensures c.equal_to.ensures c.equal_to-2.ensures c.equal_to-3.ensures c.equal_to-4.ensures c.both-first_two.ensures c.both-last_two.ensures c.both.ensures)
     ((c.top_bits.ensures k).0 h)
 
 pub returns-clause-all : goal.returns-clause-all
 returns-clause-all c k l o = (c.top_bits.ensures k).1 (sync_seen c.args.bytes.now _ c.args.at k
-    (sync_lanes c.args.bytes.now c.args.at _ _ _ _ _ _ _ _ _ _ _ c.load.ensures c.load-2.ensures c.load-3.ensures c.load-4.ensures c.equal_to.ensures c.equal_to-2.ensures c.equal_to-3.ensures c.equal_to-4.ensures c.both-prefix.ensures c.both-back.ensures c.both.ensures)
+    (sync_lanes c.args.bytes.now c.args.at _ _ _ _ _ _ _ _ _ _ _ c.load.ensures c.load-2.ensures c.load-3.ensures c.load-4.ensures c.equal_to.ensures c.equal_to-2.ensures c.equal_to-3.ensures c.equal_to-4.ensures c.both-first_two.ensures c.both-last_two.ensures c.both.ensures)
     l o)

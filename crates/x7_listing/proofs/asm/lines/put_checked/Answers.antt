@@ -1,5 +1,5 @@
 use Rattle.std.proofs.Common.{◌≡◌, ◌-◌, IsTrue, List, ℕ, ap, drop, length, subst, take, ◌∙◌}
-use Rattle.x7_crc.specs.Checker.{check_of_bytes, Keeps}
+use Rattle.x7_crc.specs.Checker.{check_of_bytes, KeepsCheckOf}
 use Rattle.x7_text.specs.Reads.{Reads}
 use Rattle.x7_listing.specs.Line.{line_bytes, FitsLine, text_of}
 use Rattle.x7_listing.proofs.asm.AsmLinesLemmas.{keeps_begun, reads_any, still_begun}
@@ -30,5 +30,5 @@ returns c =
     record {
       reads = subst (λ (k : ℕ). Reads FitsLine text_of (line_bytes k) c.put_line-2.result line old new) is r;
       start = still_begun check c.put_line-2.result line old new c.args.start r c.requires.start;
-      keeps = keeps_begun check c.put_line-2.result line old new c.args.start c.check_of-check.new.self r c.requires.start (subst (λ (bs : List ℕ). Keeps c.check_of-check.new.self bs) left c.check_of-check.ensures.keeps);
+      keeps = keeps_begun check c.put_line-2.result line old new c.args.start c.check_of-check.new.self r c.requires.start (subst (λ (bs : List ℕ). KeepsCheckOf c.check_of-check.new.self bs) left c.check_of-check.ensures.keeps);
     }

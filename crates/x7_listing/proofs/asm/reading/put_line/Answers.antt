@@ -16,10 +16,10 @@ pub returns-in-Some-after-2-clause-reads : goal.returns-in-Some-after-2-clause-r
 returns-in-Some-after-2-clause-reads c = cmd_line c.args.check c.put_found-in-Some-after-2.result c.args.line.now c.in-Some-after-2.name.now c.args.out.now.items c.put_found-in-Some-after-2.new.out.items c.command_word.result c.put_found-in-Some-after-2.ensures.puts c.in-Some-after-2.ensures c.command_word.ensures
 
 pub returns-in-Some-after-clause-reads : goal.returns-in-Some-after-clause-reads
-returns-in-Some-after-clause-reads c = write_line c.args.check c.put_found.result c.args.line.now c.in-Some-after.access.now c.args.out.now.items c.put_found.new.out.items c.write_of.result c.put_found.ensures.puts c.in-Some-after.ensures c.write_of.ensures
+returns-in-Some-after-clause-reads c = write_line c.args.check c.put_found.result c.args.line.now c.in-Some-after.fields.now c.args.out.now.items c.put_found.new.out.items c.write_of.result c.put_found.ensures.puts c.in-Some-after.ensures c.write_of.ensures
 
 pub returns-in-Some-after-5-clause-reads : goal.returns-in-Some-after-5-clause-reads
-returns-in-Some-after-5-clause-reads c = read_line c.args.check c.put_found-in-Some-after-5.result c.args.line.now c.in-Some-after-5.access.now c.args.out.now.items c.put_found-in-Some-after-5.new.out.items c.read_of.result c.put_found-in-Some-after-5.ensures.puts c.in-Some-after-5.ensures c.read_of.ensures
+returns-in-Some-after-5-clause-reads c = read_line c.args.check c.put_found-in-Some-after-5.result c.args.line.now c.in-Some-after-5.fields.now c.args.out.now.items c.put_found-in-Some-after-5.new.out.items c.read_of.result c.put_found-in-Some-after-5.ensures.puts c.in-Some-after-5.ensures c.read_of.ensures
 
 pub returns-in-Some-after-6-clause-reads : goal.returns-in-Some-after-6-clause-reads
 returns-in-Some-after-6-clause-reads c = write2_line c.args.check c.put_found-in-Some-after-6.result c.args.line.now c.in-Some-after-6.digits.now c.args.out.now.items c.put_found-in-Some-after-6.new.out.items c.write2_of.result c.put_found-in-Some-after-6.ensures.puts c.in-Some-after-6.ensures c.write2_of.ensures

@@ -4,10 +4,10 @@ use Rattle.x7_listing.proofs.RunLemmas.{by_body, by_head, by_skip, by_sync, by_w
 use Rattle.x7_listing.proofs.list.pen.put_run.Goals as goal
 
 pub returns-in-Skip-clause-listed : goal.returns-in-Skip-clause-listed
-returns-in-Skip-clause-listed c = λ given. by_skip c.args.run c.in-Skip.bytes (is_in_session c.args.pen) false (in_line_of c.args.pen) _ _ (held_by c.args.pen) _ _ given _ _ c.in-Skip.is refl c.in_gap.ensures.line c.in_gap.ensures.held (λ more. c.hold_all.ensures.listed more)
+returns-in-Skip-clause-listed c = λ given. by_skip c.args.run c.in-Skip.bytes (is_in_session c.args.pen) false (in_line_of c.args.pen) _ _ (held_by c.args.pen) _ _ given _ _ c.in-Skip.is refl c.in_gap.ensures.in_line c.in_gap.ensures.held (λ more. c.hold_all.ensures.listed more)
 
 pub returns-in-Sync-clause-listed : goal.returns-in-Sync-clause-listed
-returns-in-Sync-clause-listed c = λ given. by_sync c.args.run (is_in_session c.args.pen) true (in_line_of c.args.pen) 0 _ (held_by c.args.pen) [] given _ _ c.in-Sync.is (λ e. rw e at c.in_gap-in-Sync.ensures.line) refl refl c.put_sync.ensures.appends.items
+returns-in-Sync-clause-listed c = λ given. by_sync c.args.run (is_in_session c.args.pen) true (in_line_of c.args.pen) 0 _ (held_by c.args.pen) [] given _ _ c.in-Sync.is (λ e. rw e at c.in_gap-in-Sync.ensures.in_line) refl refl c.put_sync.ensures.appends.items
 
 pub returns-in-Head-clause-listed : goal.returns-in-Head-clause-listed
 returns-in-Head-clause-listed c = λ given. by_head c.args.run (is_in_session c.args.pen) true (in_line_of c.args.pen) 0 _ (held_by c.args.pen) [] given _ _ _ _ c.in-Head.is c.open_in.ensures refl refl c.put_head.ensures.appends.items

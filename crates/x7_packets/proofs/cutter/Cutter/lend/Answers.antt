@@ -19,7 +19,7 @@ invariant_of-self c =
 pub returns-clause-adds : goal.returns-clause-adds
 returns-clause-adds c = λ bytes sessions place s.
     let old : CutterState = record { mode = mode_of c.self.inside.stage; matcher = c.self.inside.matcher; machine = c.self.inside.machine; kept = take c.self.inside.count c.self.inside.kept } in
-    let new : CutterState = record { mode = mode_of c.after_word-self-inside.result; matcher = c.new-self-inside.result; machine = c.pass-ended.new.self; kept = take c.self.inside.count c.self.inside.kept } in
+    let new : CutterState = record { mode = mode_of c.stage_after_word-self-inside.result; matcher = c.new-self-inside.result; machine = c.take_payload-ended.new.self; kept = take c.self.inside.count c.self.inside.kept } in
     let body = c.args.body.now in
     let register = c.self.inside.machine.register in
     let none : take c.self.inside.count c.self.inside.kept ≡ [] = ap (λ (o : CutterState). o.kept) c.self.view_is ∙ c.requires.none_kept in
@@ -27,8 +27,8 @@ returns-clause-adds c = λ bytes sessions place s.
     let fits = all_from_places (λ b. b < 256) c.args.body.now (λ k h. omega (arith, c.type_inv.body k)) in
     let word : flat_map bytes_of_word (map (λ (x : ℕ × Step). x.0) (payload_steps c.self.inside.machine.register (words_of_bytes c.args.body.now))) ≡ take c.self.inside.count c.self.inside.kept ++ c.args.body.now =
     ap (flat_map bytes_of_word) (words_of_payload c.self.inside.machine.register (words_of_bytes c.args.body.now)) ∙ bytes_words c.args.body.now (length c.args.body.now / 4) fits c.requires.whole ∙ ap (λ t. t ++ c.args.body.now) (sym none) in
-    let turned = c.after_word-self-inside.ensures ∙ ap (λ (b : Bool). if b then Mode.Searching else Mode.Synced) c.pass-ended.ensures.ends in
+    let turned = c.stage_after_word-self-inside.ensures ∙ ap (λ (b : Bool). if b then Mode.Searching else Mode.Synced) c.take_payload-ended.ensures.ends in
     let went : AfterRun old new (bytes ++ c.args.body.now) sessions place (Body c.self.inside.machine.register c.args.body) =
-    body_more old new bytes c.args.body.now sessions place c.self.inside.machine.register c.args.body (subst (λ (o : CutterState). CutterStandsFor o bytes sessions place) (sym c.self.view_is) s) synced c.pass-ended.ensures.grows fits word none turned (λ _. c.new-self-inside.ensures) in
+    body_more old new bytes c.args.body.now sessions place c.self.inside.machine.register c.args.body (subst (λ (o : CutterState). CutterStandsFor o bytes sessions place) (sym c.self.view_is) s) synced c.take_payload-ended.ensures.grows fits word none turned (λ _. c.new-self-inside.ensures) in
     subst (λ (o : CutterState). AfterRun o new (bytes ++ c.args.body.now) sessions place (Body c.register-register.result c.args.body)) c.self.view_is
     (subst (λ (r : ℕ). AfterRun old new (bytes ++ c.args.body.now) sessions place (Body r c.args.body)) (sym c.register-register.ensures.value) went)

@@ -16,8 +16,8 @@ returns-then-not-is_cmd-clause-some c =
     let w = c.in-Some.w in
     let calm = calm_word c.in-Some.register w (other_register c.in-Some.register _ c.if-not-is_cmd.ensures refl) in
     writes_one c.args.self.now _ c.args.rest.now _ w synced (same_mode ∙ sym (ap (λ (b : Bool). if b then Mode.Searching else Mode.Synced) calm)) (λ e. absurd (let f : true ≡ false = sym e ∙ calm in cc)) none same_kept c.in-Some.ensures
-    (λ ps s. c.pass_words.ensures.head ps 1 (omega arith) (omega arith) (subst (λ (m : MachineState). MachineStandsFor m ps) (sym (ap (λ (o : CutterState). o.machine) c.self.view_is)) s))
-    (λ ps s. c.pass_words.ensures.words ps (w ∷ []) (c.in-Some.ensures.fits, tt) (omega arith) s)
+    (λ ps s. c.take_write_to_other.ensures.head ps 1 (omega arith) (omega arith) (subst (λ (m : MachineState). MachineStandsFor m ps) (sym (ap (λ (o : CutterState). o.machine) c.self.view_is)) s))
+    (λ ps s. c.take_write_to_other.ensures.words ps (w ∷ []) (c.in-Some.ensures.fits, tt) (omega arith) s)
 
 pub returns-clause-some : goal.returns-clause-some
 returns-clause-some c =
@@ -25,5 +25,5 @@ returns-clause-some c =
     let synced : c.args.self.now.mode ≡ Mode.Synced = here.mode refl in
     let none : c.args.self.now.kept ≡ [] = here.kept refl in
     let same_kept : take c.self.inside.count c.self.inside.kept ≡ [] = ap (λ (o : CutterState). o.kept) c.self.view_is ∙ none in
-    writes_one c.args.self.now _ c.args.rest.now _ _ synced (c.after_word-self-inside.ensures ∙ ap (λ (b : Bool). if b then Mode.Searching else Mode.Synced) c.pass_write.ensures.ends) (λ _. c.new-self-inside.ensures) none same_kept c.in-Some.ensures
-    (λ ps s. c.pass_write.ensures.head ps (subst (λ (m : MachineState). MachineStandsFor m ps) (sym (ap (λ (o : CutterState). o.machine) c.self.view_is)) s)) c.pass_write.ensures.word
+    writes_one c.args.self.now _ c.args.rest.now _ _ synced (c.stage_after_word-self-inside.ensures ∙ ap (λ (b : Bool). if b then Mode.Searching else Mode.Synced) c.take_write_of_one.ensures.ends) (λ _. c.new-self-inside.ensures) none same_kept c.in-Some.ensures
+    (λ ps s. c.take_write_of_one.ensures.head ps (subst (λ (m : MachineState). MachineStandsFor m ps) (sym (ap (λ (o : CutterState). o.machine) c.self.view_is)) s)) c.take_write_of_one.ensures.word

@@ -5,16 +5,16 @@ use Rattle.x7_packets.proofs.PacketLemmas.{no_payload}
 use Rattle.x7_packets.proofs.TakeLemmas.{payload_goes, payload_ends, header_whole, header_opens, no_count, same_latest}
 use Rattle.x7_packets.proofs.machine.Machine.take.Goals as goal
 
-pub returns-then-is_desync-clause-grows : goal.returns-then-is_desync-clause-grows
-returns-then-is_desync-clause-grows c = λ ps s. elim (subst (λ m. MachineStandsFor m ps) (sym c.self.view_is) s) [
+pub returns-then-ends_session-clause-grows : goal.returns-then-ends_session-clause-grows
+returns-then-ends_session-clause-grows c = λ ps s. elim (subst (λ m. MachineStandsFor m ps) (sym c.self.view_is) s) [
   | inl a ↦ absurd (omega (arith, a.due))
-  | inr a ↦ payload_ends _ _ ps c.args.w (omega (arith, c.ranges.w)) a (sym c.is_desync.ensures ∙ c.if-is_desync.true) (subst (λ m. MachineStandsFor m []) (sym c.self-then-is_desync.view_is) c.new.ensures)
+  | inr a ↦ payload_ends _ _ ps c.args.w (omega (arith, c.ranges.w)) a (sym c.ends_session.ensures ∙ c.if-ends_session.true) (subst (λ m. MachineStandsFor m []) (sym c.self-then-ends_session.view_is) c.new.ensures)
 ]
 
-pub returns-else-is_desync-clause-grows : goal.returns-else-is_desync-clause-grows
-returns-else-is_desync-clause-grows c = λ ps s. elim (subst (λ m. MachineStandsFor m ps) (sym c.self.view_is) s) [
+pub returns-else-ends_session-clause-grows : goal.returns-else-ends_session-clause-grows
+returns-else-ends_session-clause-grows c = λ ps s. elim (subst (λ m. MachineStandsFor m ps) (sym c.self.view_is) s) [
   | inl a ↦ absurd (omega (arith, a.due))
-  | inr a ↦ payload_goes _ _ ps c.args.w (omega (arith, c.ranges.w)) a (sym c.is_desync.ensures ∙ c.if-is_desync.false) refl refl (omega arith)
+  | inr a ↦ payload_goes _ _ ps c.args.w (omega (arith, c.ranges.w)) a (sym c.ends_session.ensures ∙ c.if-ends_session.false) refl refl (omega arith)
 ]
 
 pub returns-in-Open-clause-grows : goal.returns-in-Open-clause-grows
@@ -33,11 +33,11 @@ returns-in-Read-clause-grows c = λ ps s. elim (subst (λ m. MachineStandsFor m 
 ]
 
 pub returns-in_default-clause-register : goal.returns-in_default-clause-register
-returns-in_default-clause-register c = λ register x e. absurd (no_payload c.self.inside.latest c.args.w register x (sym c.header-step.ensures ∙ e))
+returns-in_default-clause-register c = λ register x e. absurd (no_payload c.self.inside.latest c.args.w register x (sym c.meaning-step.ensures ∙ e))
 
 pub returns-in_default-clause-grows : goal.returns-in_default-clause-grows
 returns-in_default-clause-grows c = λ ps s. elim (subst (λ m. MachineStandsFor m ps) (sym c.self.view_is) s) [
   | inl a ↦ let h = c.in_default in let v : MachineState = record { due = c.self.inside.due; register = c.self.inside.register; latest = c.self.inside.latest } in
-      subst (λ m. Grows ps ((c.args.w, c.header-step.result) ∷ []) m) c.self.view_is (header_whole v v ps c.args.w _ (omega (arith, c.ranges.w)) a c.header-step.ensures (no_count _ h.not-Open) (same_latest _ _ h.not-Open h.not-Read) a.due)
+      subst (λ m. Grows ps ((c.args.w, c.meaning-step.result) ∷ []) m) c.self.view_is (header_whole v v ps c.args.w _ (omega (arith, c.ranges.w)) a c.meaning-step.ensures (no_count _ h.not-Open) (same_latest _ _ h.not-Open h.not-Read) a.due)
   | inr a ↦ absurd (omega (arith, a.more))
 ]

@@ -2,7 +2,7 @@ use Rattle.std.proofs.Common.{◌≡◌, Bool, true, false, [], ◌++◌, length
 use Rattle.x7_words.specs.Input.{preceded}
 use Rattle.x7_words.proofs.InputLemmas.{preceded_nil, preceded_preceded, stays_at, stays_on}
 use Rattle.x7_packets.specs.PacketsState.{PacketsState}
-use Rattle.x7_packets.specs.Stream.{TookBytes, Steps}
+use Rattle.x7_packets.specs.Stream.{TookBytes, CutsNext}
 use Rattle.x7_packets.proofs.StreamLemmas.{gives_again, gives_end, gives_up, reads_none, reads_on, room_on, run_is_not_last, tells_run, turns_most}
 use Rattle.x7_packets.proofs.stream.Packets.advance.Goals as goal
 
@@ -26,35 +26,35 @@ loop-self-init g c =
       room = omega (arith, turns_most c.args.self.now.cutter.kept c.args.self.now.left);
     }
 
-pub returns-then-step-clause-ok : goal.returns-then-step-clause-ok
-returns-then-step-clause-ok g c = λ r last.
+pub returns-then-cut_next-clause-ok : goal.returns-then-cut_next-clause-ok
+returns-then-cut_next-clause-ok g c = λ r last.
     let i = c.loop-self.invariant in
-    let s : Steps c.loop-self.self c.step.new.self true = subst (λ (b : Bool). Steps c.loop-self.self c.step.new.self b) c.if-step.true c.step.ensures in
+    let s : CutsNext c.loop-self.self c.cut_next.new.self true = subst (λ (b : Bool). CutsNext c.loop-self.self c.cut_next.new.self b) c.if-cut_next.true c.cut_next.ensures in
     record {
       more = i.reads.0;
       taken = i.reads.1;
-      tells = tells_run c.args.self.now c.loop-self.self c.step.new.self i.reads.0 r s i.on i.good last i.reads.2;
-      end = λ e. absurd (run_is_not_last c.loop-self.self c.step.new.self r s last e);
+      tells = tells_run c.args.self.now c.loop-self.self c.cut_next.new.self i.reads.0 r s i.on i.good last i.reads.2;
+      end = λ e. absurd (run_is_not_last c.loop-self.self c.cut_next.new.self r s last e);
     }
 
 pub returns-in-Err-clause-err : goal.returns-in-Err-clause-err
 returns-in-Err-clause-err g c =
     let i = c.loop-self.invariant in
-    let s : Steps c.loop-self.self c.step.new.self false = subst (λ (b : Bool). Steps c.loop-self.self c.step.new.self b) c.if-step.false c.step.ensures in
-    gives_up c.args.self.now c.loop-self.self c.step.new.self c.fill.new.self i.reads.0 s i.on i.reads.2 c.in-Err.ensures.err
+    let s : CutsNext c.loop-self.self c.cut_next.new.self false = subst (λ (b : Bool). CutsNext c.loop-self.self c.cut_next.new.self b) c.if-cut_next.false c.cut_next.ensures in
+    gives_up c.args.self.now c.loop-self.self c.cut_next.new.self c.fill.new.self i.reads.0 s i.on i.reads.2 c.in-Err.ensures.err
 
 pub returns-then-not-more-clause-ok : goal.returns-then-not-more-clause-ok
 returns-then-not-more-clause-ok g c = λ r last.
     let i = c.loop-self.invariant in
-    let s : Steps c.loop-self.self c.step.new.self false = subst (λ (b : Bool). Steps c.loop-self.self c.step.new.self b) c.if-step.false c.step.ensures in
+    let s : CutsNext c.loop-self.self c.cut_next.new.self false = subst (λ (b : Bool). CutsNext c.loop-self.self c.cut_next.new.self b) c.if-cut_next.false c.cut_next.ensures in
     let f = c.in-Ok.ensures.ok in
     let end = f.end c.if-not-more.true in
-    gives_end c.args.self.now c.loop-self.self c.step.new.self c.fill.new.self c.finish.new.self i.reads.0 f.piece _ _ _ r s i.on i.good i.reads.2 i.reads.1 f.taken f.is end.0 end.1 c.finish.ensures.kept c.finish.ensures.none last
+    gives_end c.args.self.now c.loop-self.self c.cut_next.new.self c.fill.new.self c.finish.new.self i.reads.0 f.piece _ _ _ r s i.on i.good i.reads.2 i.reads.1 f.taken f.is end.0 end.1 c.finish.ensures.kept c.finish.ensures.none last
 
 pub loop-self-preserved : goal.loop-self-preserved
 loop-self-preserved g c =
     let i = c.loop-self.invariant in
-    let s : Steps c.loop-self.self c.step.new.self false = subst (λ (b : Bool). Steps c.loop-self.self c.step.new.self b) c.if-step.false c.step.ensures in
+    let s : CutsNext c.loop-self.self c.cut_next.new.self false = subst (λ (b : Bool). CutsNext c.loop-self.self c.cut_next.new.self b) c.if-cut_next.false c.cut_next.ensures in
     let f = c.in-Ok.ensures.ok in
     let o = c.in-Ok.ensures in
     let some : 0 < length f.piece = f.some c.if-not-more.false in
@@ -66,7 +66,7 @@ loop-self-preserved g c =
       reads = (
         i.reads.0 ++ f.piece,
         i.reads.1 ∙ ap (preceded i.reads.0) f.taken ∙ preceded_preceded i.reads.0 f.piece (g.I.Inputs.state c.fill.new.inputs).rest,
-        subst (λ (p : PacketsState). TookBytes c.args.self.now p (i.reads.0 ++ f.piece)) (sym f.is) (reads_on c.args.self.now c.loop-self.self c.step.new.self i.reads.0 f.piece s i.on i.reads.2),
+        subst (λ (p : PacketsState). TookBytes c.args.self.now p (i.reads.0 ++ f.piece)) (sym f.is) (reads_on c.args.self.now c.loop-self.self c.cut_next.new.self i.reads.0 f.piece s i.on i.reads.2),
       );
-      room = room_on c.loop-self.self c.step.new.self c.fill.new.self s f.piece (c.args.self.now.taken + 589824) f.is some f.most i.room;
+      room = room_on c.loop-self.self c.cut_next.new.self c.fill.new.self s f.piece (c.args.self.now.taken + 589824) f.is some f.most i.room;
     }

@@ -14,7 +14,7 @@ overflow_add-all-in-loop-all c =
     let text = c.args.text.now in
     let at = c.loop-all.all.size in
     let t = takes_seen _ _ _ _ 77 c.in-Some-put_some.taken.size c.in-Some-put_some.taken.count c.in-Some.ensures.cases.0 c.in-Some-put_some.ensures.takes in
-    omega (arith, t.within, t.few, ap length (left_from at text c.loop-all.invariant.within), length-drop at text, c.loop-all.invariant.within, c.loop-all.invariant.few)
+    omega (arith, t.within, t.counted, ap length (left_from at text c.loop-all.invariant.within), length-drop at text, c.loop-all.invariant.within, c.loop-all.invariant.counted)
 
 pub loop-all-preserved : goal.loop-all-preserved
 loop-all-preserved c =
@@ -22,7 +22,7 @@ loop-all-preserved c =
     let p = takes_more c.args.text.now c.args.out.now.items c.reserve.new.self.items c.put_some.new.out.items c.loop-all.all.size c.in-Some-put_some.taken.size c.loop-all.all.count c.in-Some-put_some.taken.count c.loop-all.invariant.within (rw c.reserve.ensures.items c.loop-all.invariant.takes) t in
     record {
       within = p.0;
-      few = omega (arith, t.few, c.loop-all.invariant.few);
+      counted = omega (arith, t.counted, c.loop-all.invariant.counted);
       takes = p.1;
       limit = λ h. omega (arith, c.put_some.ensures.room.within);
       room = λ h. omega (arith, c.in-Ok.ensures.ok, c.put_some.ensures.room.within, c.put_some.ensures.room.room);

@@ -8,4 +8,4 @@ returns-clause-ok c = λ given before bytes s.
     let i = c.self.inside in
     let r : ListerStandsFor (lister_with i.cutter i.pen i.text.items) given before bytes = subst (λ (l : ListerState). ListerStandsFor l given before bytes) (sym c.self.view_is) s in
     let P : List ℕ → Type 0 = λ x. HasListedJust (lister_with i.cutter i.pen x) given before bytes in
-    c.take_all-self-inside.ensures.rests given before bytes (subst P (sym c.reserve.ensures.items) r.has_listed)
+    c.take_piece-self-inside.ensures.rests given before bytes (subst P (sym c.reserve.ensures.items) r.has_listed)

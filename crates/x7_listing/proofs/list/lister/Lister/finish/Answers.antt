@@ -18,6 +18,6 @@ returns-clause-ok c = λ given before bytes s.
       listing = listing;
       listing_is = record { sessions = t.sessions; place = t.at; reading = t.cut.reading; text_is = refl };
       listed = listed;
-      stands = begins _ _ _ _ _ given (before ++ listing) c.new-self-inside.ensures refl c.new_pen.ensures.line c.new_pen.ensures.held listed (not_due _ c.new-self-inside.ensures);
-      takes = starts _ given (before ++ listing) c.new-self-inside.ensures refl c.new_pen.ensures.line c.new_pen.ensures.held listed;
+      stands = begins _ _ _ _ _ given (before ++ listing) c.new-self-inside.ensures refl c.new_pen.ensures.in_line c.new_pen.ensures.held listed (not_due _ c.new-self-inside.ensures);
+      takes = starts _ given (before ++ listing) c.new-self-inside.ensures refl c.new_pen.ensures.in_line c.new_pen.ensures.held listed;
     }

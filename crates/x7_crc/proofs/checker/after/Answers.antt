@@ -1,5 +1,0 @@
-use Rattle.std.proofs.Common.{◌+◌}
-use Rattle.x7_crc.proofs.checker.after.Goals as goal
-
-pub returns-in-Word : goal.returns-in-Word
-returns-in-Word c = λ h n s. rw c.in-Word.is (c.written_one.ensures h (n + 4) s)
