@@ -6,7 +6,7 @@ use Rattle.x7_memory.proofs.memory.Memory.new.Goals as goal
 pub invariant_of-result : goal.invariant_of-result
 invariant_of-result c =
     let least = c.words-width.ensures.least in
-    none_room _ c.words-width.result c.frames-count.result (omega arith) c.words-width.ensures.most c.frames-count.ensures.limit refl refl c.in_ok-words.ensures.items c.in_ok-numbers.ensures.items
+    none_room _ c.words-width.result c.frames-count.result (omega arith) c.words-width.ensures.most c.frames-count.ensures.most refl refl c.in_ok-words.ensures.items c.in_ok-numbers.ensures.items
     c.in_ok-words.ensures.room
 
 pub returns-clause-zeros : goal.returns-clause-zeros
