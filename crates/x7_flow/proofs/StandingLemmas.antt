@@ -23,7 +23,7 @@ use Rattle.x7_pipeline.specs.FarAsRead.{has_frame_at, loaded_base}
 use Rattle.x7_pipeline.specs.Copies.{copied, is_mfw}
 use Rattle.x7_pipeline.specs.Fault.{address_fault, copy_fault, drop_fault, readback_fault}
 use Rattle.x7_pipeline.specs.Flow.{FlowGoesOn, HoldsFlow, LandsAt, OfFlow, after_reads, after_words, begun_at, begun_by, copied_by, fault_of_copy}
-use Rattle.x7_pipeline.specs.Pipeline.{AreOf, PipelineData}
+use Rattle.x7_pipeline.specs.Pipeline.{AreOfPart, PipelineData}
 use Rattle.x7_pipeline.specs.Readback.{readback_at, read_slot, word_at, word_in_frame}
 use Rattle.x7_flow.specs.Asking.{Asked, Load, Commands, Word, Copies, Reads, Other}
 use Rattle.x7_flow.specs.Flow.{Flow, asked_under, asks, base_of, fault_by, first_flow, flow_by, flow_of, frame_fault, count_given}
@@ -349,7 +349,7 @@ begins_so part p frames stands none = record {
 
 -- ---- two that stand for the same
 
-pub one_standing : (part : PartData) (p q : PipelineData) (old new : List (List ℕ)) (h : History) (due : ℕ) → AreOf part p old → AreOf part q new →
+pub one_standing : (part : PartData) (p q : PipelineData) (old new : List (List ℕ)) (h : History) (due : ℕ) → AreOfPart part p old → AreOfPart part q new →
     AreFramesAfter part p old h due → AreFramesAfter part q new h due → (p ≡ q) × (old ≡ new)
 one_standing part p q old new h due first second are also_are =
     let f : Flow = less due (flow_of part h) in

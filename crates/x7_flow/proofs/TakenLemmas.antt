@@ -15,7 +15,7 @@ use Rattle.x7_pipeline.specs.Runs.{written_frames, onto, put_over, Lands}
 use Rattle.x7_pipeline.specs.Fault.{write_fault}
 use Rattle.x7_pipeline.specs.Flow.{HoldsFlow, OfFlow, after_words, with_run, flow_written}
 use Rattle.x7_pipeline.specs.Pipeline.{PipelineData}
-use Rattle.x7_pipeline.specs.Words.{RunWritten, one_written, run_written}
+use Rattle.x7_pipeline.specs.Words.{RunWritten, with_later_words, run_written}
 use Rattle.x7_flow.specs.Asking.{Asked, Copies, Other, Word}
 use Rattle.x7_flow.specs.Settings.{settings_of, takes_copies, takes_frames}
 use Rattle.x7_flow.specs.Flow.{Flow, asks, base_of, fault_by, flow_of, frame_fault, run_of}
@@ -59,7 +59,7 @@ parted part n (w ∷ words) h t =
     later : RunWritten
     later = run_written part (base_of part h) (w ∷ run_of part h) words
 
-    by : (o : Option RunFault) → write_fault part (base_of part h) (run_of part h) ≡ o → Parted part (n + 4) now words later → Parted part n h (w ∷ words) (one_written o (run_of part h) later)
+    by : (o : Option RunFault) → write_fault part (base_of part h) (run_of part h) ≡ o → Parted part (n + 4) now words later → Parted part n h (w ∷ words) (with_later_words o (run_of part h) later)
     by (Some fault) e more = record {
       prefix = [];
       rest = w ∷ words;

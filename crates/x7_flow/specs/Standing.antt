@@ -10,7 +10,7 @@ use Rattle.x7_memory.specs.FrameMap.{FrameMap, AreSame}
 use Rattle.x7_memory.specs.Frames.{frame_at}
 use Rattle.x7_pipeline.specs.FarAsRead.{has_frame_at}
 use Rattle.x7_pipeline.specs.Flow.{HoldsFlow}
-use Rattle.x7_pipeline.specs.Pipeline.{AreOf, PipelineData}
+use Rattle.x7_pipeline.specs.Pipeline.{AreOfPart, PipelineData}
 use Rattle.x7_pipeline.specs.Readback.{readback_at}
 use Rattle.x7_pipeline.specs.Runs.{put_over}
 use Rattle.x7_flow.specs.Asking.{Asked, Reads}
@@ -68,7 +68,7 @@ words_due part h due = words_from part (base_of part h) (memory_of part h) (coun
 
 -- the frames are a part's
 abbrev pub FramesFit : PartData → FramesState → Type 0
-FramesFit part f = AreOf part f.pipeline f.memory
+FramesFit part f = AreOfPart part f.pipeline f.memory
 
 -- the frames stand for a history, of whose last read `due` words of frame data are still due
 abbrev pub FramesStandFor : PartData → FramesState → History → ℕ → Type 0

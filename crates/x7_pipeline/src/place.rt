@@ -39,7 +39,7 @@ pub(crate) fn slot_at(part: &Part, far: u32, n: u64) -> Slot
 }
 
 /// The slot of frame `frame` of a readback, from 0 on: a pad, and then the slots from the address on.
-pub(crate) fn slot_read(part: &Part, far: u32, frame: u64) -> Slot
+pub(crate) fn readback_slot(part: &Part, far: u32, frame: u64) -> Slot
     ensures { result ≡ slice_index_or (Slot.Pad ∷ slots_from part.now far) frame Slot.End }
 {
     if frame == 0 {
