@@ -6,7 +6,7 @@ ghost use Rattle.x7_flow.specs.Words.{OfTaking, WordsTaken, words_to};
 ghost use Rattle.x7_packets.specs.History.{History};
 ghost use Rattle.x7_pipeline.specs.Pipeline.{AreOfPart};
 ghost use Rattle.x7_flow.specs.Flow.{Flow, asks, fault_by};
-ghost use Rattle.x7_flow.specs.Standing.{Did, HasFlow, frames_state, word_to};
+ghost use Rattle.x7_flow.specs.Standing.{HaveDone, HasFlow, frames_state, word_to};
 
 use crate::asking::{takes_copies, takes_frames};
 use crate::settings::FrameSettings;
@@ -25,8 +25,8 @@ pub(crate) fn take(
     memory: &mut Memory,
 ) -> Option<RunFault>
     requires part { AreOfPart part.now pipeline.old memory.old }
-    ensures did { (h : History) → AreSettingsAfter part.now.idcode settings h →
-        IfNone result (Did part.now (asks part.now.idcode h (word_to reg word)) (frames_state pipeline.old memory.old) (frames_state pipeline.new memory.new)) }
+    ensures done { (h : History) → AreSettingsAfter part.now.idcode settings h →
+        IfNone result (HaveDone part.now (asks part.now.idcode h (word_to reg word)) (frames_state pipeline.old memory.old) (frames_state pipeline.new memory.new)) }
     ensures fault { (h : History) (f : Flow) → AreSettingsAfter part.now.idcode settings h → HasFlow part.now pipeline.old f →
         result ≡ fault_by part.now (asks part.now.idcode h (word_to reg word)) f }
 
@@ -68,9 +68,8 @@ pub(crate) fn take(
     }
 }
 
-/// Takes words written to MFWR at once, four bytes each: the first puts the source, and
-/// each later one would put it there again.
-/// The answer is the number of words looked at, a refused one included, and the fault.
+/// Takes words written to MFWR at once, four bytes each: the first puts the source, and each later one would put it
+/// there again. The answer is the number of words looked at, a refused one included, and the fault.
 pub(crate) fn take_copies(
     bytes: &[u8],
     part: &Part,
