@@ -28,7 +28,7 @@ address_width widths = widths.minor + widths.column + widths.row + widths.half +
 abbrev pub far_width : PartData → ℕ
 far_width part = address_width part.far
 
--- fields in which each part has its place, in an address of 25 to 32 bits
+-- widths that the fields of an address may have, 32 bits together at most
 pub record AreWidths (widths : FieldWidths) : Type 0 where
   pub minor : (7 ≤ widths.minor) × (widths.minor ≤ 12)
   pub column : (10 ≤ widths.column) × (widths.column ≤ 12)

@@ -19,7 +19,7 @@ ghost use Rattle.x7_pipeline.specs.Flow.{copied_by, fault_of_copy, FlowGoesOn, H
 mod saved;
 
 use crate::fault::RunFault;
-use crate::place::{far_at, is_base, readback_slot, slot_count};
+use crate::place::{far_at, has_frame_at, readback_slot, slot_count};
 pub use saved::Saved;
 use std::alloc::Global;
 use std::marker::Model;
@@ -307,7 +307,7 @@ impl Pipeline {
     fn writes_nowhere(&self, part: &Part) -> bool
         ensures { result ≡ ((self.now.frame_count == 0) && (length self.now.rest == 0) && not (has_frame_at part.now self.now.base)) }
     {
-        self.frame_count == 0 && self.rest.is_empty() && !is_base(part, self.base)
+        self.frame_count == 0 && self.rest.is_empty() && !has_frame_at(part, self.base)
     }
 
     /// Puts the newest whole frame, where there is one and its slot is an address. `first` slots stand before those
@@ -345,7 +345,7 @@ impl Pipeline {
         if !self.may_copy() {
             return Err(RunFault::Multi);
         }
-        if !is_base(part, self.base) {
+        if !has_frame_at(part, self.base) {
             return Err(RunFault::Address(self.base));
         }
         memory.put(part, self.base, &self.source);
@@ -397,7 +397,7 @@ impl Pipeline {
     fn reads_nowhere(&self, part: &Part) -> bool
         ensures { result ≡ ((self.now.given == 0) && not (has_frame_at part.now self.now.base)) }
     {
-        self.given == 0 && !is_base(part, self.base)
+        self.given == 0 && !has_frame_at(part, self.base)
     }
 
     /// The next word of the readback, which is one of the frame at its slot, and 0 at a pad and past the last slot.

@@ -7,7 +7,7 @@ ghost use Rattle.x7_pipeline.specs.FarAsRead.{far_at as address_at, last_address
 use x7_part::{Part, Slot};
 
 /// Whether the part has a frame at the address.
-pub(crate) fn is_base(part: &Part, far: u32) -> bool
+pub(crate) fn has_frame_at(part: &Part, far: u32) -> bool
     ensures { result ≡ has_frame_at part.now far }
 {
     part.is_address(far)

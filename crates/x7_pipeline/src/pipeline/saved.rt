@@ -10,7 +10,7 @@ ghost use Rattle.x7_pipeline.specs.Runs.{put_over};
 ghost use Rattle.x7_pipeline.specs.Saved.{IsPairOf, IsSavedOf, address_at_slot, next_put, pair_at, put_by_copy, put_by_word};
 
 use super::Pipeline;
-use crate::place::{is_base, slot_at};
+use crate::place::{has_frame_at, slot_at};
 use std::alloc::Global;
 use std::marker::Model;
 use x7_memory::Memory;
@@ -166,7 +166,7 @@ impl Pipeline {
         ensures value { result ≡ put_by_copy part.now self.now }
         ensures address { IfSome result (Contains (addresses_in part.now)) }
     {
-        if is_base(part, self.base) {
+        if has_frame_at(part, self.base) {
             Some(self.base)
         } else {
             None
