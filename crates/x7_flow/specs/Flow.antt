@@ -35,10 +35,10 @@ abbrev pub asks : ℕ → History → Access → Asked
 asks idcode h access = asked_under (settings_of idcode h) access
 
 -- what is asked begins a stretch, which is what follows a write to CMD or FAR
-abbrev pub begins : Asked → Bool
-begins (Load w) = true
-begins (Commands c) = true
-begins _ = false
+abbrev pub begins_stretch : Asked → Bool
+begins_stretch (Load w) = true
+begins_stretch (Commands c) = true
+begins_stretch _ = false
 
 -- a word of frame data is written
 abbrev pub is_word : Asked → Bool

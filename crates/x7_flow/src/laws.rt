@@ -11,7 +11,7 @@ ghost use Rattle.x7_pipeline.specs.Runs.{written_frames, onto};
 ghost use Rattle.x7_pipeline.specs.Saved.{SavedState};
 ghost use Rattle.x7_pipeline.specs.declared.fault.RunFault.{RunFault};
 ghost use Rattle.x7_flow.specs.Alike.{AreSameButForMask, MasksFirst};
-ghost use Rattle.x7_flow.specs.Flow.{Flow, HasAddress, asks, base_of, begins, far_read, flow_of, frame_fault, count_given, is_copy, is_read, is_word, run_of, source_of};
+ghost use Rattle.x7_flow.specs.Flow.{Flow, HasAddress, asks, base_of, begins_stretch, far_read, flow_of, frame_fault, count_given, is_copy, is_read, is_word, run_of, source_of};
 ghost use Rattle.x7_flow.specs.FrameAccess.{copies_frame, reads_frame_data, writes_frame_data};
 ghost use Rattle.x7_flow.specs.FrameMemory.{written_frames_more, memory_of};
 ghost use Rattle.x7_flow.specs.FrameWrites.{FrameCopies, FrameWrite, MfwAfter, TakesCopies, TakesWrite, pair_copied, placed, with_frame_copies, with_frames};
@@ -51,7 +51,7 @@ pub fn stretches_override_in_order()
 
 /// What an access asks is what it does: frame data written, a copy, frame data read.
 pub fn accesses_do_what_they_ask()
-    ensures begins { (idcode : ℕ) (h : History) (access : Access) → is_boundary access ≡ begins (asks idcode h access) }
+    ensures begins { (idcode : ℕ) (h : History) (access : Access) → is_boundary access ≡ begins_stretch (asks idcode h access) }
     ensures word { (idcode : ℕ) (h : History) (access : Access) → writes_frame_data idcode h access ≡ is_word (asks idcode h access) }
     ensures copy { (idcode : ℕ) (h : History) (access : Access) → copies_frame idcode h access ≡ is_copy (asks idcode h access) }
     ensures read { (idcode : ℕ) (h : History) (access : Access) → reads_frame_data h access ≡ is_read (asks idcode h access) }
