@@ -13,7 +13,7 @@ use Rattle.x7_part.specs.declared.fault.PartFault.{PartFault}
 use Rattle.x7_part.specs.declared.fault.PartFault.TheVariants.{Toml, Range, TooMany, NoMemory}
 use Rattle.x7_part.specs.declared.fault.PartKey.TheVariants as key
 use Rattle.x7_part.specs.Keys.{top}
-use Rattle.x7_part.specs.Limits.{least_frame_words, most_frame_words, most_rows, most_frames, most_wait_ticks, most_words}
+use Rattle.x7_part.specs.Limits.{greatest_bus_width, greatest_mode, most_name_bytes, least_frame_words, most_frame_words, most_rows, most_frames, most_wait_ticks, most_words}
 use Rattle.x7_part.specs.Part.{RowData, PartData}
 use Rattle.x7_part.specs.Ranges.{IsPart}
 use Rattle.x7_part.specs.Address.{IsRow}
@@ -46,8 +46,8 @@ made t types others ranges apart frames =
     let all = nones (unless (is_name v.name) (Range (top key.Name)) ∷ number_range_fault v ∷ unless (is_length_in 1 most_rows (length v.rows)) (Range (top key.Row)) ∷ []) each.0 in
     let h = nones (
     unless (is_odd v.idcode) (Range (top key.Idcode))
-    ∷ unless (is_in 0 7 v.mode) (Range (top key.Mode))
-    ∷ unless (is_in 0 3 v.bus_width) (Range (top key.BusWidth))
+    ∷ unless (is_in 0 greatest_mode v.mode) (Range (top key.Mode))
+    ∷ unless (is_in 0 greatest_bus_width v.bus_width) (Range (top key.BusWidth))
     ∷ unless (is_in 0 most_wait_ticks v.lock) (Range (top key.Lock))
     ∷ unless (is_in 0 most_wait_ticks v.matched) (Range (top key.Match))
     ∷ unless (is_in least_frame_words most_frame_words v.frame_words) (Range (top key.FrameWords))
@@ -55,7 +55,7 @@ made t types others ranges apart frames =
     ∷ unless (is_start_unit v.start_unit) (Range (top key.StartUnit))
     ∷ []) all.1.0 in
     let name = name_in v.name (unless_none (is_name v.name) (Range (top key.Name)) all.0) in
-    let long = long_in 1 64 (length v.name) name.0 in
+    let long = long_in 1 most_name_bytes (length v.name) name.0 in
     let idcode = odd_in v.idcode (unless_none (is_odd v.idcode) (Range (top key.Idcode)) h.0) in
     let lock = (in_range 0 most_wait_ticks v.lock (unless_none (is_in 0 most_wait_ticks v.lock) (Range (top key.Lock)) h.1.1.1.0)).1 in
     let matched = (in_range 0 most_wait_ticks v.matched (unless_none (is_in 0 most_wait_ticks v.matched) (Range (top key.Match)) h.1.1.1.1.0)).1 in
@@ -73,8 +73,8 @@ made t types others ranges apart frames =
       printed = printed v.name name.1;
       idcode = (let i = idcode.0 in omega arith);
       odd = idcode.1;
-      mode = (in_range 0 7 v.mode (unless_none (is_in 0 7 v.mode) (Range (top key.Mode)) h.1.0)).1;
-      bus_width = (in_range 0 3 v.bus_width (unless_none (is_in 0 3 v.bus_width) (Range (top key.BusWidth)) h.1.1.0)).1;
+      mode = (in_range 0 greatest_mode v.mode (unless_none (is_in 0 greatest_mode v.mode) (Range (top key.Mode)) h.1.0)).1;
+      bus_width = (in_range 0 greatest_bus_width v.bus_width (unless_none (is_in 0 greatest_bus_width v.bus_width) (Range (top key.BusWidth)) h.1.1.0)).1;
       lock = omega (arith, lock);
       matched = omega (arith, matched);
       words = in_range least_frame_words most_frame_words v.frame_words (unless_none (is_in least_frame_words most_frame_words v.frame_words) (Range (top key.FrameWords)) h.1.1.1.1.1.0);
@@ -266,8 +266,8 @@ or_memory fault one due f (inl e) = inl e
 or_memory fault one due f (inr e) = inr (f e)
 
 -- the start unit is the first number out of range
-pub unit_reported : (v : TopValues) (fault : PartFault) → None ≡ unless (is_odd v.idcode) (Range (top key.Idcode)) → None ≡ unless (is_in 0 7 v.mode) (Range (top key.Mode)) →
-    None ≡ unless (is_in 0 3 v.bus_width) (Range (top key.BusWidth)) → None ≡ unless (is_in 0 most_wait_ticks v.lock) (Range (top key.Lock)) →
+pub unit_reported : (v : TopValues) (fault : PartFault) → None ≡ unless (is_odd v.idcode) (Range (top key.Idcode)) → None ≡ unless (is_in 0 greatest_mode v.mode) (Range (top key.Mode)) →
+    None ≡ unless (is_in 0 greatest_bus_width v.bus_width) (Range (top key.BusWidth)) → None ≡ unless (is_in 0 most_wait_ticks v.lock) (Range (top key.Lock)) →
     None ≡ unless (is_in 0 most_wait_ticks v.matched) (Range (top key.Match)) → None ≡ unless (is_in least_frame_words most_frame_words v.frame_words) (Range (top key.FrameWords)) →
     None ≡ unless (are_widths_or_none v.far) (Range (top key.Far)) → Some fault ≡ unless (is_start_unit v.start_unit) (Range (top key.StartUnit)) → Some fault ≡ number_range_fault v
 unfolding number_range_fault
