@@ -80,7 +80,7 @@ fn wholes(alloc: Global, items: &[Value]) -> Result<Option<Vec<i64>>, AllocError
 
 /// The whole numbers of the list under a key, none where the key is left out; the fault `Key` where its value is no
 /// list of whole numbers.
-pub(crate) fn numbers(
+pub(crate) fn numbers_under(
     alloc: Global,
     table: &Table,
     at: Which,

@@ -11,7 +11,7 @@ use crate::fault::{PartFault, PartKey, Which, in_row, top};
 use crate::keys::{ROW_KEYS, TOP_KEYS, has_only};
 use crate::limits::USUAL_FRAME_WORDS;
 use crate::ranges::require;
-use crate::types::{number, number_or, numbers, row_tables, text};
+use crate::types::{number, number_or, numbers_under, row_tables, text};
 use std::alloc::Global;
 use std::marker::Model;
 use toml::Table;
@@ -65,7 +65,7 @@ fn row_values(alloc: Global, number_of_row: u32, row: &Table) -> Result<RowValue
         block: number(row, in_row!(number_of_row, Block))?,
         half: number(row, in_row!(number_of_row, Half))?,
         row: number(row, in_row!(number_of_row, Row))?,
-        minors: match numbers(alloc, row, minors)? {
+        minors: match numbers_under(alloc, row, minors)? {
             Some(numbers) => numbers,
             None => return Err(PartFault::Key(minors)),
         },
@@ -102,7 +102,7 @@ pub(crate) fn values_of(alloc: Global, table: &Table) -> Result<Values, PartFaul
         lock: number_or(0, table, top!(Lock))?,
         matched: number_or(0, table, top!(Match))?,
         frame_words: number_or(USUAL_FRAME_WORDS, table, top!(FrameWords))?,
-        far: numbers(alloc, table, top!(Far))?,
+        far: numbers_under(alloc, table, top!(Far))?,
         start_unit: number_or(1, table, top!(StartUnit))?,
         rows: rows_values(alloc, &row_tables(alloc, table)?)?,
         has_only_known_keys: has_only(&TOP_KEYS, table),
