@@ -262,7 +262,7 @@ impl Pipeline {
         let frame_limit = slot_count(part, self.base);
         let first = part.place_of(self.base);
         let mut near = 0;
-        self.write_frame(&bytes[..size], first, &mut near, part, memory);
+        self.write_frame(&bytes[..frame_size], first, &mut near, part, memory);
         let mut at = frame_size;
         'frames: while self.has_next(frame_size, bytes.len() - at, frame_limit) {
             self.write_frame(&bytes[at..at + frame_size], first, &mut near, part, memory);
