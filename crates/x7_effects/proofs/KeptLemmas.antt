@@ -8,7 +8,7 @@ use Rattle.x7_packets.specs.History.{History, entry, history_of, last_word}
 use Rattle.x7_packets.specs.Reading.{is_synced}
 use Rattle.x7_part.specs.Part.{PartData}
 use Rattle.x7_memory.specs.Plan.{PlanRow}
-use Rattle.x7_flow.specs.Controls.{masked}
+use Rattle.x7_flow.specs.Controls.{masked_register}
 use Rattle.x7_engine.specs.declared.kept.Kept.{Kept}
 use Rattle.x7_engine.specs.Kept.{kept_word}
 use Rattle.x7_engine.specs.State.{history_by, history_taken, state_of, stop_in}
@@ -33,7 +33,7 @@ record Reads (r : ℕ) (f : History → ℕ) : Type 0 where
 reads_last : (r kept : ℕ) → Reads r (last_word r kept)
 reads_last r kept = record { write = λ q w place h e. ap (λ (b : Bool). if b then w else last_word r kept h) e; read = λ q n place h. refl }
 
-reads_masked : (r : ℕ) → Reads r (masked r)
+reads_masked : (r : ℕ) → Reads r (masked_register r)
 reads_masked r = record { write = λ q w place h e. rw e refl; read = λ q n place h. refl }
 
 -- the piece doesn't write it
@@ -138,7 +138,7 @@ module _ (part : PartData) (kept : Kept) (bytes : List ℕ) (pieces : List Piece
       let ctl1 : IsUnwritten 24 = unwritten_is 24 (other_is 24 refl refl refl refl refl refl) refl refl refl in
       record {
         cor1 = other 14 (unwritten_is 14 (other_is 14 refl refl refl refl refl refl) refl refl refl);
-        ctl1 = stays 24 (masked 24) (reads_masked 24) ctl1.other (apart 24 ctl1);
+        ctl1 = stays 24 (masked_register 24) (reads_masked 24) ctl1.other (apart 24 ctl1);
         axss = other 13 (unwritten_is 13 (other_is 13 refl refl refl refl refl refl) refl refl refl);
         wbstar = other 16 (unwritten_is 16 (other_is 16 refl refl refl refl refl refl) refl refl refl);
         timer = other 17 (unwritten_is 17 (other_is 17 refl refl refl refl refl refl) refl refl refl);
@@ -151,7 +151,7 @@ module _ (part : PartData) (kept : Kept) (bytes : List ℕ) (pieces : List Piece
       let mask : IsOther 6 = other_is 6 refl refl refl refl refl refl in
       let cor0 : IsOther 9 = other_is 9 refl refl refl refl refl refl in
       record {
-        ctl0 = stays 5 (masked 5) (reads_masked 5) ctl0 (apart 5 ctl0);
+        ctl0 = stays 5 (masked_register 5) (reads_masked 5) ctl0 (apart 5 ctl0);
         mask = stays 6 (last_word 6 0) (reads_last 6 0) mask (apart 6 mask);
         cor0 = word_stays 9 cor0 (apart 9 cor0);
         unwritten = unwritten_stay (λ r u. apart r u.other) wrapped;

@@ -8,7 +8,7 @@ use Rattle.x7_memory.specs.FrameMap.{FrameMap}
 use Rattle.x7_pipeline.specs.Readback.{readback_at, word_at, word_in_frame}
 use Rattle.x7_pipeline.specs.Runs.{slots_from}
 use Rattle.x7_pipeline.proofs.LawLemmas.{read_frames, read_pad_frame}
-use Rattle.x7_flow.specs.Standing.{words_from}
+use Rattle.x7_flow.specs.Standing.{readback_words}
 use Rattle.x7_effects.specs.Played.{slot_words, words_along}
 use Rattle.x7_flow.specs.Inside.{HasFrames}
 
@@ -17,7 +17,7 @@ abbrev listed : (ℕ → ℕ) → ℕ → ℕ → List ℕ
 listed f i zero = []
 listed f i (suc c) = f i ∷ listed f (i + 1) c
 
-words_are : (part : PartData) (base : ℕ) (m : FrameMap) (place count : ℕ) → words_from part base m place count ≡ listed (readback_at part base m) place count
+words_are : (part : PartData) (base : ℕ) (m : FrameMap) (place count : ℕ) → readback_words part base m place count ≡ listed (readback_at part base m) place count
 words_are part base m place zero = refl
 words_are part base m place (suc count) = ap (λ t. readback_at part base m place ∷ t) (words_are part base m (place + 1) count)
 
@@ -79,7 +79,7 @@ slots_listed part m f (s ∷ places) j (suc n) is l e =
     ∙ ap (λ t. slot_words part m s ++ t) rest
 
 -- all words of a readback of n slots
-pub words_read : (part : PartData) (base : ℕ) (m : FrameMap) (n : ℕ) → HasFrames part m → n ≤ length (slots_from part base) → words_from part base m 0 (frame_words part * (n + 1)) ≡ words_along part m base n
+pub words_read : (part : PartData) (base : ℕ) (m : FrameMap) (n : ℕ) → HasFrames part m → n ≤ length (slots_from part base) → readback_words part base m 0 (frame_words part * (n + 1)) ≡ words_along part m base n
 words_read part base m n is l =
     let w : ℕ = frame_words part in
     let f : ℕ → ℕ = readback_at part base m in

@@ -26,7 +26,7 @@ use Rattle.x7_flow.specs.Controls.{ctl0_held}
 use Rattle.x7_flow.specs.Flow.{Flow, base_of, fault_by, flow_of, frame_fault, count_given}
 use Rattle.x7_flow.specs.FrameAccess.{reads_frame_data}
 use Rattle.x7_flow.specs.FrameMemory.{memory_of}
-use Rattle.x7_flow.specs.Standing.{frames_read, words_from}
+use Rattle.x7_flow.specs.Standing.{frames_read, readback_words}
 use Rattle.x7_flow.proofs.FlowLemmas.{flow_more}
 use Rattle.x7_engine.specs.Course.{course_at}
 use Rattle.x7_engine.specs.declared.kept.Kept.{Kept}
@@ -136,8 +136,8 @@ read_plays part kept bytes far n f r is has l =
     played part kept startup bytes pieces 4 (memory_of part h) f r.searching fits (read_clears part far n)
     (going_closed part kept startup d (place + 4 * pieces_length pieces) 4 (subst (λ (k : ℕ). IsGoing part kept startup d k) last read)) r.sbits memory in
     let words : frames_read part c count ≡ words_along part (memory_of part h) far n =
-    ap (λ (x : ℕ). words_from part x (memory_of part c) (count_given part c) count) base
-    ∙ ap (λ (x : ℕ). words_from part far (memory_of part c) x count) given
+    ap (λ (x : ℕ). readback_words part x (memory_of part c) (count_given part c) count) base
+    ∙ ap (λ (x : ℕ). readback_words part far (memory_of part c) x count) given
     ∙ reading.words_read part far (memory_of part c) n (memory_has part c (omega (arith, is.words))) l
     ∙ along_same part (memory_of part c) (memory_of part h) far n same in
     let out : read_out part kept d ≡ read_out part kept h ++ words_along part (memory_of part h) far n =

@@ -145,6 +145,6 @@ loaded_words part kept startup far h n m ws l a few =
         allows = ap (λ (s : Settings). forbids_reading s.ctl0) settings ∙ l.ready.allows;
         memory = same_then (memory_of part g) _ (put_over (written_frames part far (onto ws [])) m) memory (put_same (written_frames part (base_of part h) (onto ws [])) (written_frames part far (onto ws [])) (memory_of part h) m pairs l.ready.memory);
       };
-      held_is = ap (λ (s : Settings). s.held) settings ∙ l.held_is;
+      held_is = ap (λ (s : Settings). s.command_code) settings ∙ l.held_is;
       run_is = ap (run_of part) (sym same) ∙ ap (λ (f : Flow). f.run) (words_run part (n + 8) ws h t l.run_is);
     }

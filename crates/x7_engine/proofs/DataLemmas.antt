@@ -12,7 +12,7 @@ use Rattle.x7_pipeline.specs.declared.fault.RunFault.{RunFault}
 use Rattle.x7_flow.specs.Controls.{is_matched}
 use Rattle.x7_flow.specs.Flow.{frame_fault}
 use Rattle.x7_flow.specs.Standing.{FramesStandFor, FramesState}
-use Rattle.x7_flow.specs.Words.{NoneRefused, TakesWords, WordsTaken, WordsTo, with_words_to, words_before, words_seen}
+use Rattle.x7_flow.specs.Words.{NoneRefused, TakesWords, WordsTaken, WordsTo, with_words_to, count_taken, count_seen}
 use Rattle.x7_regs.specs.declared.register.Reg.{Reg}
 use Rattle.x7_regs.specs.declared.register.Reg.TheVariants as reg
 use Rattle.x7_regs.specs.Register.{number_of}
@@ -51,15 +51,15 @@ take_prefix (x ∷ prefix) rest = ap (λ t. x ∷ t) (take_prefix prefix rest)
 
 -- the words before the refused one
 pub given : (part : PartData) (f : FramesState) (h : History) (x : WordsTo) (seen : ℕ × Option RunFault) → WordsTaken part f h x seen
-    → (NoneRefused part x.register x.place (take (words_before seen.0 seen.1) x.words) h) × FramesStandFor part f (with_words_to x.register x.place (take (words_before seen.0 seen.1) x.words) h) 0
+    → (NoneRefused part x.register x.place (take (count_taken seen.0 seen.1) x.words) h) × FramesStandFor part f (with_words_to x.register x.place (take (count_taken seen.0 seen.1) x.words) h) 0
 given part f h x seen t =
-    let size : words_before seen.0 seen.1 ≡ length t.taken = by seen.1 t.counted in
-    let prefix : take (words_before seen.0 seen.1) x.words ≡ t.taken = ap (λ (k : ℕ). take k x.words) size ∙ ap (take (length t.taken)) t.words_are ∙ take_prefix t.taken t.rest in (
+    let size : count_taken seen.0 seen.1 ≡ length t.taken = by seen.1 t.counted in
+    let prefix : take (count_taken seen.0 seen.1) x.words ≡ t.taken = ap (λ (k : ℕ). take k x.words) size ∙ ap (take (length t.taken)) t.words_are ∙ take_prefix t.taken t.rest in (
       subst (λ (ws : List ℕ). NoneRefused part x.register x.place ws h) (sym prefix) t.none_refused,
       subst (λ (ws : List ℕ). FramesStandFor part f (with_words_to x.register x.place ws h) 0) (sym prefix) t.stands,
     )
   where
-    by : (f : Option RunFault) → seen.0 ≡ words_seen (length t.taken) f → words_before seen.0 f ≡ length t.taken
+    by : (f : Option RunFault) → seen.0 ≡ count_seen (length t.taken) f → count_taken seen.0 f ≡ length t.taken
     by None e = e
     by (Some refusal) e = omega (arith, e)
 

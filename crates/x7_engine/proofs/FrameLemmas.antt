@@ -20,7 +20,7 @@ use Rattle.x7_flow.specs.FrameAccess.{reads_frame_data}
 use Rattle.x7_flow.specs.Settings.{settings_of, takes_copies, takes_frames}
 use Rattle.x7_flow.specs.Flow.{far_in, fault_by, flow_of, frame_fault}
 use Rattle.x7_flow.specs.FrameMemory.{memory_of}
-use Rattle.x7_flow.specs.Standing.{AfterAccess, FramesStandFor, FramesState, less, words_due, words_from}
+use Rattle.x7_flow.specs.Standing.{AfterAccess, FramesStandFor, FramesState, without_due, words_due, readback_words}
 use Rattle.x7_flow.proofs.FaultLemmas.{refused_far_read, refused_memory}
 use Rattle.x7_flow.proofs.StandingLemmas.{no_less}
 use Rattle.x7_flow.proofs.TakenLemmas.{other_access}
@@ -47,7 +47,7 @@ frames_at part f why h due e s =
     record {
       stands = subst (λ (x : History). FramesStandFor part f x due) (sym same) s;
       memory_same = λ far. ap (λ (x : History). memory_of part x far) same;
-      far_same = ap (λ (x : History). far_in part (less due (flow_of part x))) same;
+      far_same = ap (λ (x : History). far_in part (without_due due (flow_of part x))) same;
     }
 
 pub frames_of : (part : PartData) (f : FramesState) (why : Option Stop) (h : History) (due : ℕ) → is_refusal why ≡ false → FramesAre part f why h due → FramesStandFor part f h due
@@ -92,7 +92,7 @@ none_left part h (due.Frames count) e = ap (λ (n : ℕ). words_due part h n) e
 pub no_word_due : (reads : List ℕ) (part : PartData) (h : History) (d : Due) → due_count d ≡ 0 → reads ≡ reads ++ words_left part h d
 no_word_due reads part h d e = sym (ap (λ (ws : List ℕ). reads ++ ws) (none_left part h d e) ∙ append-nil reads)
 
-length_from : (part : PartData) (base : ℕ) (memory : ℕ → Option (List ℕ)) (place count : ℕ) → length (words_from part base memory place count) ≡ count
+length_from : (part : PartData) (base : ℕ) (memory : ℕ → Option (List ℕ)) (place count : ℕ) → length (readback_words part base memory place count) ≡ count
 length_from part base memory place zero = refl
 length_from part base memory place (suc count) = ap suc (length_from part base memory (place + 1) count)
 
@@ -176,7 +176,7 @@ no_refusal part kept h (Write r w) =
 pub refused : (part : PartData) (f : FramesState) (h : History) (e : Entry) (refusal : RunFault) → frame_fault part h e.access ≡ Some refusal → FramesStandFor part f h 0 → FramesAre part f (Some (stop_by refusal)) (e ∷ h) 0
 refused part f h e refusal r s = by refusal r
   where
-    far : (fault : RunFault) → frame_fault part h e.access ≡ Some fault → far_in part (less 0 (flow_of part h)) ≡ far_in part (less 0 (flow_of part (e ∷ h)))
+    far : (fault : RunFault) → frame_fault part h e.access ≡ Some fault → far_in part (without_due 0 (flow_of part h)) ≡ far_in part (without_due 0 (flow_of part (e ∷ h)))
     far fault r = sym (ap (far_in part) (no_less (flow_of part h))) ∙ sym (refused_far_read part e h fault r) ∙ ap (far_in part) (no_less (flow_of part (e ∷ h)))
 
     by : (fault : RunFault) → frame_fault part h e.access ≡ Some fault → FramesAre part f (Some (stop_by fault)) (e ∷ h) 0

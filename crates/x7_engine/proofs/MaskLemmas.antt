@@ -6,7 +6,7 @@ use Rattle.std.proofs.lemmas.Nat.{or_lt}
 use Rattle.std.specs.Int.Bits.{and_lt}
 use Rattle.std.specs.Int.{bit_at}
 use Rattle.x7_packets.specs.History.{Access, AllFit, Bad, FitsAccess, History, Read, Write, last_word, written}
-use Rattle.x7_flow.specs.Controls.{mask_held, masked, masked_word}
+use Rattle.x7_flow.specs.Controls.{mask_held, masked_register, masked_word}
 use Rattle.x7_engine.specs.Registers.{HasMaskedBits, bit_written}
 
 true_or_false : (b : Bool) → (b ≡ true) ⊎ (b ≡ false)
@@ -50,12 +50,12 @@ masked_step register m i old b (Write r w) f h e =
 masked_step register m i old b (Read r n) f h e = e
 masked_step register m i old b (Bad w) f h e = e
 
-pub masked_bits : (register : ℕ) (h : History) → AllFit h → HasMaskedBits register (masked register h) h
+pub masked_bits : (register : ℕ) (h : History) → AllFit h → HasMaskedBits register (masked_register register h) h
 masked_bits register [] f = record { fits = omega arith; bits = λ i l. bit_at-zero i }
 masked_bits register (e ∷ h) f =
-    let r : HasMaskedBits register (masked register h) h = masked_bits register h f.1 in
+    let r : HasMaskedBits register (masked_register register h) h = masked_bits register h f.1 in
     let m : mask_held h < 2 ^ 32 = last_fits 6 h f.1 in
     record {
-      fits = masked_fits register (mask_held h) e.access (masked register h) f.0 m r.fits;
-      bits = λ i l. masked_step register (mask_held h) i (masked register h) _ e.access m l (r.bits i l);
+      fits = masked_fits register (mask_held h) e.access (masked_register register h) f.0 m r.fits;
+      bits = λ i l. masked_step register (mask_held h) i (masked_register register h) _ e.access m l (r.bits i l);
     }

@@ -77,10 +77,10 @@ module _ (part : PartData) (low : ℕ) (g h : History) (s : IsSame part low g h)
 
   settings : settings_of part.idcode g ≡ settings_of part.idcode h
   settings =
-      ap (λ (x : Bool). record { matched = x; mask = mask_held g; ctl0 = ctl0_held g; held = command_held g }) s.matched
-      ∙ ap (λ (x : ℕ). record { matched = is_matched part.idcode h; mask = x; ctl0 = ctl0_held g; held = command_held g }) mask
-      ∙ ap (λ (x : ℕ). record { matched = is_matched part.idcode h; mask = mask_held h; ctl0 = x; held = command_held g }) s.ctl0
-      ∙ ap (λ (x : ℕ). record { matched = is_matched part.idcode h; mask = mask_held h; ctl0 = ctl0_held h; held = x }) held
+      ap (λ (x : Bool). record { is_matched = x; mask = mask_held g; ctl0 = ctl0_held g; command_code = command_held g }) s.matched
+      ∙ ap (λ (x : ℕ). record { is_matched = is_matched part.idcode h; mask = x; ctl0 = ctl0_held g; command_code = command_held g }) mask
+      ∙ ap (λ (x : ℕ). record { is_matched = is_matched part.idcode h; mask = mask_held h; ctl0 = x; command_code = command_held g }) s.ctl0
+      ∙ ap (λ (x : ℕ). record { is_matched = is_matched part.idcode h; mask = mask_held h; ctl0 = ctl0_held h; command_code = x }) held
 
   cleared : (a : Access) → clears_check g a ≡ clears_check h a
   cleared a = ap (λ (c : ℕ). clears_by (executed_by c a) (running_check g) a) held ∙ ap (λ (k : ℕ). clears_by (executed_by (command_held h) a) k a) check

@@ -20,7 +20,7 @@ use Rattle.x7_engine.specs.declared.controls.Controls.{Controls}
 use Rattle.x7_memory.specs.FrameMap.{AreSame}
 use Rattle.x7_flow.specs.Flow.{far_in, flow_of}
 use Rattle.x7_flow.specs.FrameMemory.{memory_of}
-use Rattle.x7_flow.specs.Standing.{FramesStandFor, FramesState, less, words_due}
+use Rattle.x7_flow.specs.Standing.{FramesStandFor, FramesState, without_due, words_due}
 use Rattle.x7_engine.specs.declared.due.Due.{Due}
 use Rattle.x7_engine.specs.declared.due.Due.TheVariants as due
 use Rattle.x7_engine.specs.declared.fault.Fault.TheVariants as fault
@@ -32,7 +32,7 @@ use Rattle.x7_engine.specs.declared.registers.Registers.{Registers}
 use Rattle.x7_engine.specs.declared.stop.Stop.{Stop}
 use Rattle.x7_engine.specs.declared.stop.Stop.TheVariants as stop
 use Rattle.x7_engine.specs.Clock.{ClockState, IsClock, clock_in}
-use Rattle.x7_flow.specs.Controls.{is_matched, masked}
+use Rattle.x7_flow.specs.Controls.{is_matched, masked_register}
 use Rattle.x7_flow.specs.FrameAccess.{reads_frame_data}
 use Rattle.x7_engine.specs.Registers.{has_ghigh, is_pending, word_held, wrote_iprog}
 use Rattle.x7_engine.specs.State.{reads_of, history_taken, last_counted, stop_in}
@@ -113,7 +113,7 @@ frames_history why h = if is_refusal why then older h else h
 pub record FramesAre (part : PartData) (f : FramesState) (why : Option Stop) (h : History) (due : ℕ) : Type 0 where
   pub stands : FramesStandFor part f (frames_history why h) due
   pub memory_same : AreSame (memory_of part (frames_history why h)) (memory_of part h)
-  pub far_same : far_in part (less due (flow_of part (frames_history why h))) ≡ far_in part (less due (flow_of part h))
+  pub far_same : far_in part (without_due due (flow_of part (frames_history why h))) ≡ far_in part (without_due due (flow_of part h))
 
 -- ---- registers
 
@@ -145,8 +145,8 @@ pub record AreLastWords (kept : Kept) (last : List ℕ) (h : History) : Type 0 w
 
 -- the stored registers under MASK are those of the history
 pub record AreControls (d : ControlsState) (h : History) : Type 0 where
-  pub ctl0 : d.ctl0 ≡ masked (number_of Ctl0) h
-  pub ctl1 : d.ctl1 ≡ masked (number_of Ctl1) h
+  pub ctl0 : d.ctl0 ≡ masked_register (number_of Ctl0) h
+  pub ctl1 : d.ctl1 ≡ masked_register (number_of Ctl1) h
 
 -- the stored check and flags are those of the history
 pub record IsProgress (idcode : ℕ) (d : ProgressState) (h : History) : Type 0 where

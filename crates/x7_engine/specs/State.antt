@@ -11,7 +11,7 @@ use Rattle.x7_regs.specs.declared.register.Reg.TheVariants.{Crc, Far, Cmd, Ctl0,
 use Rattle.x7_memory.specs.FrameMap.{FrameMap}
 use Rattle.x7_flow.specs.Flow.{far_in, flow_of}
 use Rattle.x7_flow.specs.FrameMemory.{memory_of}
-use Rattle.x7_flow.specs.Standing.{less}
+use Rattle.x7_flow.specs.Standing.{without_due}
 use Rattle.x7_engine.specs.Course.{Course, course_at}
 use Rattle.x7_engine.specs.declared.fault.Fault.TheVariants as fault
 use Rattle.x7_engine.specs.declared.kept.Kept.{Kept}
@@ -125,4 +125,4 @@ memory_in part kept bytes = memory_of part (history_taken part kept bytes)
 -- the state while `due` words of frame data of the last read are still to be
 -- given: FAR is that of the words given so far
 abbrev pub state_owing : PartData → Kept → Bool → List ℕ → ℕ → Regs
-state_owing part kept wrapped bytes due = record (state_of part kept wrapped bytes) { far = far_in part (less due (flow_of part (history_taken part kept bytes))) }
+state_owing part kept wrapped bytes due = record (state_of part kept wrapped bytes) { far = far_in part (without_due due (flow_of part (history_taken part kept bytes))) }

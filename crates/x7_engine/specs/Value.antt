@@ -17,13 +17,13 @@ use Rattle.x7_startup.specs.Lines.{done_line, gts_line, gwe_line}
 use Rattle.x7_startup.specs.declared.lines.Lines.{Lines}
 use Rattle.x7_flow.specs.FrameAccess.{reads_frame_data}
 use Rattle.x7_flow.specs.Flow.{far_in, far_read, flow_of}
-use Rattle.x7_flow.specs.Standing.{frames_read, less}
+use Rattle.x7_flow.specs.Standing.{frames_read, without_due}
 use Rattle.x7_engine.specs.Course.{Course, course_at}
 use Rattle.x7_engine.specs.declared.fault.Fault.{Fault}
 use Rattle.x7_engine.specs.declared.fault.Fault.TheVariants as fault
 use Rattle.x7_engine.specs.declared.kept.Kept.{Kept}
 use Rattle.x7_engine.specs.Kept.{is_fallback}
-use Rattle.x7_flow.specs.Controls.{ctl0_held, mask_held, masked}
+use Rattle.x7_flow.specs.Controls.{ctl0_held, mask_held, masked_register}
 use Rattle.x7_engine.specs.Registers.{has_ghigh, word_held, wrote_iprog}
 use Rattle.x7_engine.specs.Startup.{phase_by, startup_progress}
 use Rattle.x7_engine.specs.Stop.{why_at}
@@ -104,7 +104,7 @@ register_value c wrapped fault Cor1 = word_held c.kept (number_of Cor1) c.histor
 register_value c wrapped fault Wbstar = word_held c.kept (number_of Wbstar) c.history
 register_value c wrapped fault Timer = word_held c.kept (number_of Timer) c.history
 register_value c wrapped fault Bootsts = boot_status_of (attempt_of c.kept wrapped fault c.history) c.kept.before
-register_value c wrapped fault Ctl1 = masked (number_of Ctl1) c.history
+register_value c wrapped fault Ctl1 = masked_register (number_of Ctl1) c.history
 register_value c wrapped fault Bspi = word_held c.kept (number_of Bspi) c.history
 
 -- the value of a register by its number, and 0 for a number without a register
@@ -119,7 +119,7 @@ read_value c register = value_or_zero c (reg_with register)
 -- the value of a register while `due` words of frame data of the last read are still to be
 -- given: FAR is that of the words given so far
 abbrev pub value_owing : Course → Option Fault → ℕ → Reg → ℕ
-value_owing c fault due Far = far_in c.part (less due (flow_of c.part c.history))
+value_owing c fault due Far = far_in c.part (without_due due (flow_of c.part c.history))
 value_owing c fault due reg = register_value c false fault reg
 
 -- the words of a read that isn't refused: words of frame data, or the register's value as

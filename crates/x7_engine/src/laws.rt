@@ -11,7 +11,7 @@ ghost use Rattle.x7_crc.specs.RunningCheck.{running_check};
 ghost use Rattle.x7_engine.specs.Checked.{HasStarted};
 ghost use Rattle.x7_engine.specs.Kept.{AreFallbacks, is_fallback, on_the_bench, without_kept};
 ghost use Rattle.x7_engine.specs.FirstStop.{IsFirstStop, why_at_byte};
-ghost use Rattle.x7_flow.specs.Controls.{masked, same_idcode};
+ghost use Rattle.x7_flow.specs.Controls.{masked_register, same_idcode};
 ghost use Rattle.x7_flow.specs.Standing.{word_to};
 ghost use Rattle.x7_engine.specs.Registers.{HasMaskedBits, cor0_held, has_ghigh, clears_check, is_pending, takes_shutdown};
 ghost use Rattle.x7_engine.specs.Past.{HasStoppedBefore, IsAttempt, OfPast, Past, StandsBefore, cause_in, due_at, history_at, later, memory_at, reads_at, state_at, stop_at, taken_at, reads_given_at};
@@ -38,7 +38,7 @@ pub fn stops_are_final()
 
 /// Each bit of a register under MASK is that of the last word written to it while MASK had that bit.
 pub fn controls_take_masked_bits()
-    ensures { (register : ℕ) (h : History) → AllFit h → HasMaskedBits register (masked register h) h }
+    ensures { (register : ℕ) (h : History) → AllFit h → HasMaskedBits register (masked_register register h) h }
 {}
 
 /// The phase of startup is the greatest, up to 7, that has begun by the ticks so far.

@@ -7,7 +7,7 @@ ghost use Rattle.x7_part.specs.Part.{PartData};
 ghost use Rattle.x7_regs.specs.Register.{number_of};
 ghost use Rattle.x7_flow.specs.Settings.{AreSettingsAfter};
 ghost use Rattle.x7_flow.specs.Standing.{FramesFit, FramesStandFor, word_to};
-ghost use Rattle.x7_flow.specs.Words.{TakesWords, words_before};
+ghost use Rattle.x7_flow.specs.Words.{TakesWords, count_taken};
 ghost use Rattle.x7_crc.specs.RunningCheck.{executed_after};
 ghost use Rattle.x7_engine.specs.Ready.{AreReady, LeavesBytes, LeavesDue, RestsAtStop};
 ghost use Rattle.x7_engine.specs.Standing.{counted_in, due_count};
@@ -48,7 +48,7 @@ fn counted(stop: Option<Stop>, taken: usize) -> usize
 
 /// How many of the words looked at were taken: not the last one, where it is refused.
 fn taken_of(count: usize, refused: Option<RunFault>) -> usize
-    ensures value { result ≡ words_before count refused }
+    ensures value { result ≡ count_taken count refused }
     ensures within { result ≤ count }
 {
     match refused {
@@ -154,12 +154,12 @@ impl Registers {
     /// What decides whether an access concerns frames.
     pub(crate) fn settings(&self) -> FrameSettings
         ensures after { (part : PartData) (kept : KeptData) (h : History) (n : ℕ) → RegistersStandFor part kept (registers_in self.now) h n → AreSettingsAfter part.idcode result h }
-        ensures held { (part : PartData) (kept : KeptData) (h : History) (n : ℕ) → RegistersStandFor part kept (registers_in self.now) h n → result.held ≡ command_held h }
+        ensures held { (part : PartData) (kept : KeptData) (h : History) (n : ℕ) → RegistersStandFor part kept (registers_in self.now) h n → result.command_code ≡ command_held h }
     {
         FrameSettings {
-            matched: self.progress.matched,
+            is_matched: self.progress.matched,
             ctl0: self.controls.ctl0,
-            held: self.command(),
+            command_code: self.command(),
         }
     }
 
@@ -203,7 +203,7 @@ impl Registers {
     {
         let idcode = part.idcode();
         let settings = self.settings();
-        let executed = executed(settings.held, reg, word);
+        let executed = executed(settings.command_code, reg, word);
         let why = self.why_of_write(part, reg, word, executed);
         let mask = self.words.held(Reg::Mask);
         let cor0 = self.words.held(Reg::Cor0);

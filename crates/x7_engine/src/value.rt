@@ -4,7 +4,7 @@ ghost use Rattle.x7_packets.specs.History.{History};
 ghost use Rattle.x7_part.specs.Part.{PartData};
 ghost use Rattle.x7_regs.specs.Status.{status_of};
 ghost use Rattle.x7_flow.specs.Flow.{far_in, flow_of};
-ghost use Rattle.x7_flow.specs.Standing.{less};
+ghost use Rattle.x7_flow.specs.Standing.{without_due};
 ghost use Rattle.x7_engine.specs.Course.{course_at};
 ghost use Rattle.x7_engine.specs.Kept.{is_fallback};
 ghost use Rattle.x7_engine.specs.Registers.{has_ghigh};
@@ -112,7 +112,7 @@ impl Registers {
 
     /// FAR as it is read.
     fn far(&self, part: &Part) -> u32
-        ensures { OfHistory part.now (registers_in self.now) (λ kept h n. result ≡ far_in part.now (less (frames_due self.now.due) (flow_of part.now h))) }
+        ensures { OfHistory part.now (registers_in self.now) (λ kept h n. result ≡ far_in part.now (without_due (frames_due self.now.due) (flow_of part.now h))) }
     {
         self.frames.far(part)
     }

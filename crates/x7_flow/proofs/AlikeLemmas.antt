@@ -7,7 +7,7 @@ use Rattle.x7_flow.specs.Controls.{masked_word, names_part}
 use Rattle.x7_pipeline.specs.FarAsRead.{loaded_base}
 use Rattle.x7_regs.specs.Command.{command_with}
 use Rattle.x7_flow.specs.Asking.{Asked}
-use Rattle.x7_flow.specs.Settings.{Settings, held_after, settings_from}
+use Rattle.x7_flow.specs.Settings.{Settings, command_code_after, settings_from}
 use Rattle.x7_flow.specs.Flow.{Flow, asked_under, flow_by, write_asked}
 use Rattle.x7_flow.specs.FrameMemory.{puts}
 use Rattle.x7_flow.specs.Later.{flow_from, flow_loaded, pairs_from, pairs_loaded}
@@ -43,9 +43,9 @@ settings_alike idcode s t (e ∷ later) a m =
     let x : Settings = settings_from idcode s later in
     let y : Settings = settings_from idcode t later in (
       record {
-        matched_same = ap (λ (b : Bool). names_part idcode e.access || b) alike.matched_same;
+        is_matched_same = ap (λ (b : Bool). names_part idcode e.access || b) alike.is_matched_same;
         ctl0_same = ctl0_same e.access x.mask y.mask x.ctl0 y.ctl0 (λ w. before.1 (m.0 w)) alike.ctl0_same;
-        held_same = ap (held_after e.access) alike.held_same;
+        command_code_same = ap (command_code_after e.access) alike.command_code_same;
       },
       mask_same e.access (sets_mask later) x.mask y.mask before.1,
     )
@@ -54,11 +54,11 @@ settings_alike idcode s t (e ∷ later) a m =
 
 asked_alike : (s t : Settings) (access : Access) → AreSameButForMask s t → asked_under s access ≡ asked_under t access
 asked_alike s t (Write r w) a =
-    let by : Bool → ℕ → ℕ → Asked = λ b c d. write_asked (record { matched = b; mask = 0; ctl0 = c; held = d }) r w in
-    ap (λ (b : Bool). by b s.ctl0 s.held) a.matched_same ∙ ap (λ (c : ℕ). by t.matched c s.held) a.ctl0_same ∙ ap (λ (d : ℕ). by t.matched t.ctl0 d) a.held_same
+    let by : Bool → ℕ → ℕ → Asked = λ b c d. write_asked (record { is_matched = b; mask = 0; ctl0 = c; command_code = d }) r w in
+    ap (λ (b : Bool). by b s.ctl0 s.command_code) a.is_matched_same ∙ ap (λ (c : ℕ). by t.is_matched c s.command_code) a.ctl0_same ∙ ap (λ (d : ℕ). by t.is_matched t.ctl0 d) a.command_code_same
 asked_alike s t (Read r count) a =
-    let by : ℕ → ℕ → Asked = λ c d. asked_under (record { matched = false; mask = 0; ctl0 = c; held = d }) (Read r count) in
-    ap (λ (c : ℕ). by c s.held) a.ctl0_same ∙ ap (λ (d : ℕ). by t.ctl0 d) a.held_same
+    let by : ℕ → ℕ → Asked = λ c d. asked_under (record { is_matched = false; mask = 0; ctl0 = c; command_code = d }) (Read r count) in
+    ap (λ (c : ℕ). by c s.command_code) a.ctl0_same ∙ ap (λ (d : ℕ). by t.ctl0 d) a.command_code_same
 asked_alike s t (Bad w) a = refl
 
 pub flow_alike : (part : PartData) (s t : Settings) (f : Flow) (later : History) → AreSameButForMask s t → MasksFirst later → flow_from part s f later ≡ flow_from part t f later
@@ -82,5 +82,5 @@ pairs_alike part s t f (e ∷ later) a m =
 
 pub loaded_alike : (part : PartData) (s t : Settings) (source : Option (List ℕ)) (w : ℕ) (later : History) → AreSameButForMask s t → MasksFirst later → pairs_loaded part s source w later ≡ pairs_loaded part t source w later
 loaded_alike part s t source w later a m =
-    ap (λ (held : ℕ). pairs_from part s (record { command = command_with held; base = loaded_base part w; run = []; source = source; given = 0 }) later) a.held_same
+    ap (λ (held : ℕ). pairs_from part s (record { command = command_with held; base = loaded_base part w; run = []; source = source; given = 0 }) later) a.command_code_same
     ∙ pairs_alike part s t (flow_loaded part t source w) later a m

@@ -47,7 +47,7 @@ pub given_nowhere : (b : Bool) (given count : ℕ) → (b ≡ false → given �
 given_nowhere true given count p e = absurd cc
 given_nowhere false given count p e = p e
 
-sound_by : (part : PartData) (s t : Settings) (a : Asked) (f : Flow) → Means s a t.held → IsSound part s f → IsSound part t (flow_by part a f)
+sound_by : (part : PartData) (s t : Settings) (a : Asked) (f : Flow) → Means s a t.command_code → IsSound part s f → IsSound part t (flow_by part a f)
 sound_by part s t (Load w) f m i = record { command_is = i.command_is ∙ ap command_with (sym m); idle = λ e. refl; sourceless = i.sourceless; nowhere = λ e. refl }
 sound_by part s t (Commands c) f m i = record { command_is = m; idle = λ e. refl; sourceless = no_source part f.command c f.run; nowhere = λ e. refl }
 sound_by part s t (Word w) f m i =

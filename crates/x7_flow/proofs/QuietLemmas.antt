@@ -12,7 +12,7 @@ use Rattle.x7_flow.specs.Flow.{Flow, asked_under, asks, flow_by, flow_of}
 use Rattle.x7_flow.specs.FrameMemory.{memory_of, puts}
 use Rattle.x7_flow.specs.Later.{flow_from, pairs_from}
 use Rattle.x7_flow.specs.Quiet.{AreQuiet}
-use Rattle.x7_flow.specs.Standing.{less}
+use Rattle.x7_flow.specs.Standing.{without_due}
 use Rattle.x7_flow.proofs.FlowLemmas.{flow_more, flow_sound, memory_joined, put_none}
 
 quiet_puts : (part : PartData) (s : Settings) (access : Access) (f : Flow) → (writes 2 access || writes 10 access) ≡ false → puts part (asked_under s access) f ≡ []
@@ -44,16 +44,16 @@ quiet_memory part later earlier q far =
 
 -- a read of which words are due has the flow of a read without them
 pub less_is : (part : PartData) (h : History) (r count due place : ℕ) → asks part.idcode h (Read r count) ≡ Reads count → due < count → asks part.idcode h (Read r (count - due)) ≡ Reads (count - due) →
-    less due (flow_of part (entry (Read r count) place ∷ h)) ≡ flow_of part (entry (Read r (count - due)) place ∷ h)
+    without_due due (flow_of part (entry (Read r count) place ∷ h)) ≡ flow_of part (entry (Read r (count - due)) place ∷ h)
 less_is part h r count due place a l b =
-    ap (less due) (flow_more part (entry (Read r count) place) h ∙ ap (λ (x : Asked). flow_by part x (flow_of part h)) a)
+    ap (without_due due) (flow_more part (entry (Read r count) place) h ∙ ap (λ (x : Asked). flow_by part x (flow_of part h)) a)
     ∙ by (has_frame_at part f.base) refl
     ∙ sym (flow_more part (entry (Read r (count - due)) place) h ∙ ap (λ (x : Asked). flow_by part x (flow_of part h)) b)
   where
     f : Flow
     f = flow_of part h
 
-    by : (x : Bool) → has_frame_at part f.base ≡ x → less due (flow_by part (Reads count) f) ≡ flow_by part (Reads (count - due)) f
+    by : (x : Bool) → has_frame_at part f.base ≡ x → without_due due (flow_by part (Reads count) f) ≡ flow_by part (Reads (count - due)) f
     by true t = rw t (ap (λ (n : ℕ). record f { given = n }) (omega arith))
     by false t = let none = (flow_sound part h).nowhere t in rw t (ap (λ (n : ℕ). record f { given = n }) (omega arith))
 
@@ -65,20 +65,20 @@ read_test g r count t due l =
     rw some given
 
 pub due_is : (part : PartData) (h : History) (r count due place : ℕ) → (r == 3 && (not (count == 0) && gives_frames (settings_of part.idcode h))) ≡ true → due < count →
-    less due (flow_of part (entry (Read r count) place ∷ h)) ≡ flow_of part (entry (Read r (count - due)) place ∷ h)
+    without_due due (flow_of part (entry (Read r count) place ∷ h)) ≡ flow_of part (entry (Read r (count - due)) place ∷ h)
 due_is part h r count due place t l =
     less_is part h r count due place (ap (λ (b : Bool). if b then Reads count else Other) t) l
     (ap (λ (b : Bool). if b then Reads (count - due) else Other) (read_test (gives_frames (settings_of part.idcode h)) r count t due l))
 
 -- a read of which all words are due has the flow of the history before it
 pub all_due_is : (part : PartData) (h : History) (r count place : ℕ) → (r == 3 && (not (count == 0) && gives_frames (settings_of part.idcode h))) ≡ true →
-    less count (flow_of part (entry (Read r count) place ∷ h)) ≡ flow_of part h
+    without_due count (flow_of part (entry (Read r count) place ∷ h)) ≡ flow_of part h
 all_due_is part h r count place t =
-    ap (less count) (flow_more part (entry (Read r count) place) h ∙ ap (λ (b : Bool). flow_by part (if b then Reads count else Other) f) t) ∙ by (has_frame_at part f.base) refl
+    ap (without_due count) (flow_more part (entry (Read r count) place) h ∙ ap (λ (b : Bool). flow_by part (if b then Reads count else Other) f) t) ∙ by (has_frame_at part f.base) refl
   where
     f : Flow
     f = flow_of part h
 
-    by : (x : Bool) → has_frame_at part f.base ≡ x → less count (flow_by part (Reads count) f) ≡ f
+    by : (x : Bool) → has_frame_at part f.base ≡ x → without_due count (flow_by part (Reads count) f) ≡ f
     by true t = rw t (ap (λ (n : ℕ). record f { given = n }) (omega arith))
     by false t = let none = (flow_sound part h).nowhere t in rw t (ap (λ (n : ℕ). record f { given = n }) (omega arith))

@@ -68,7 +68,7 @@ back_one part s old new h e k o n stands same =
     let pairs : List PlanRow = puts part (asks part.idcode h e.access) f in
     let put : AreSame (frame_at part new.memory) (put_over pairs (frame_at part old.memory)) =
     λ far. same far ∙ memory_more part e h far ∙ sym (override_same (frame_at part old.memory) (memory_of part h) (planned pairs) (planned pairs) stands.memory (λ a. refl) far) in
-    back_over part s old new k o n (access_changes part (settings_of part.idcode h) (asks part.idcode h e.access) (settings_after part.idcode e.access (settings_of part.idcode h)).held old.pipeline f (frame_at part old.memory) (frame_at part new.memory)
+    back_over part s old new k o n (access_changes part (settings_of part.idcode h) (asks part.idcode h e.access) (settings_after part.idcode e.access (settings_of part.idcode h)).command_code old.pipeline f (frame_at part old.memory) (frame_at part new.memory)
     (asked_means (settings_of part.idcode h) e.access) (flow_sound part h) flow put)
 
 -- the frames to which the kept ones lead back are just these

@@ -5,10 +5,10 @@ use Rattle.x7_packets.specs.History.{Access, Write, Read, Bad, Entry, History, l
 use Rattle.x7_flow.specs.Controls.{ctl0_held, is_matched, mask_held}
 use Rattle.x7_regs.specs.Command.{command_by, command_with}
 use Rattle.x7_flow.specs.Asking.{Asked, Load, Commands, Word, Copies, Reads, Other}
-use Rattle.x7_flow.specs.Settings.{Settings, settings_of, settings_after, settings_from, held_after, takes_frames, takes_copies, gives_frames}
+use Rattle.x7_flow.specs.Settings.{Settings, settings_of, settings_after, settings_from, command_code_after, takes_frames, takes_copies, gives_frames}
 use Rattle.x7_flow.specs.Flow.{asked_under}
 
-held_more : (access : Access) (old : ℕ) → written 4 access old % 2 ^ 5 ≡ held_after access (old % 2 ^ 5)
+held_more : (access : Access) (old : ℕ) → written 4 access old % 2 ^ 5 ≡ command_code_after access (old % 2 ^ 5)
 held_more (Write register w) old = by (register == 4)
   where
     by : (b : Bool) → (if b then w else old) % 2 ^ 5 ≡ (if b then w % 2 ^ 5 else old % 2 ^ 5)
@@ -19,7 +19,7 @@ held_more (Bad w) old = refl
 
 pub settings_more : (idcode : ℕ) (e : Entry) (h : History) → settings_of idcode (e ∷ h) ≡ settings_after idcode e.access (settings_of idcode h)
 settings_more idcode e h =
-    let with_held : ℕ → Settings = λ c. record { matched = is_matched idcode (e ∷ h); mask = mask_held (e ∷ h); ctl0 = ctl0_held (e ∷ h); held = c } in
+    let with_held : ℕ → Settings = λ c. record { is_matched = is_matched idcode (e ∷ h); mask = mask_held (e ∷ h); ctl0 = ctl0_held (e ∷ h); command_code = c } in
     ap with_held (held_more e.access (last_word 4 0 h))
 
 pub settings_joined : (idcode : ℕ) (later earlier : History) → settings_of idcode (later ++ earlier) ≡ settings_from idcode (settings_of idcode earlier) later
@@ -31,12 +31,12 @@ settings_joined idcode (e ∷ later) earlier = settings_more idcode e (later ++ 
 
 -- the command is the one held before, but for an order; frame data comes under WCFG alone
 abbrev pub Means : Settings → Asked → ℕ → Type 0
-Means s (Load w) held = held ≡ s.held
+Means s (Load w) held = held ≡ s.command_code
 Means s (Commands c) held = c ≡ command_with held
-Means s (Word w) held = (held ≡ s.held) × (s.held ≡ 1)
-Means s Copies held = held ≡ s.held
-Means s (Reads count) held = held ≡ s.held
-Means s Other held = held ≡ s.held
+Means s (Word w) held = (held ≡ s.command_code) × (s.command_code ≡ 1)
+Means s Copies held = held ≡ s.command_code
+Means s (Reads count) held = held ≡ s.command_code
+Means s Other held = held ≡ s.command_code
 
 far_no_cmd : (r : ℕ) → (r == 1) ≡ true → (r == 4) ≡ false
 far_no_cmd r t = grind (arith, nat_tests)
@@ -44,11 +44,11 @@ far_no_cmd r t = grind (arith, nat_tests)
 held_wcfg : (r held : ℕ) (m f : Bool) → (r == 2 && (m && (held == 1 && f))) ≡ true → held ≡ 1
 held_wcfg r held m f t = grind (arith, nat_tests)
 
-pub asked_means : (s : Settings) (access : Access) → Means s (asked_under s access) (held_after access s.held)
-asked_means s (Write r w) = by (r == 1) (r == 4) (r == 2 && takes_frames s) (r == 10 && takes_copies s) (far_no_cmd r) (held_wcfg r s.held s.matched _)
+pub asked_means : (s : Settings) (access : Access) → Means s (asked_under s access) (command_code_after access s.command_code)
+asked_means s (Write r w) = by (r == 1) (r == 4) (r == 2 && takes_frames s) (r == 10 && takes_copies s) (far_no_cmd r) (held_wcfg r s.command_code s.is_matched _)
   where
-    by : (far cmd fdri mfwr : Bool) → (far ≡ true → cmd ≡ false) → (fdri ≡ true → s.held ≡ 1) →
-        Means s (if far then Load w else if cmd then Commands (command_by w) else if fdri then Word w else if mfwr then Copies else Other) (if cmd then w % 2 ^ 5 else s.held)
+    by : (far cmd fdri mfwr : Bool) → (far ≡ true → cmd ≡ false) → (fdri ≡ true → s.command_code ≡ 1) →
+        Means s (if far then Load w else if cmd then Commands (command_by w) else if fdri then Word w else if mfwr then Copies else Other) (if cmd then w % 2 ^ 5 else s.command_code)
     by true true fdri mfwr p q = let e = p refl in absurd cc
     by true false fdri mfwr p q = refl
     by false true fdri mfwr p q = refl
@@ -57,7 +57,7 @@ asked_means s (Write r w) = by (r == 1) (r == 4) (r == 2 && takes_frames s) (r =
     by false false false false p q = refl
 asked_means s (Read r count) = by (r == 3 && (not (count == 0) && gives_frames s))
   where
-    by : (b : Bool) → Means s (if b then Reads count else Other) s.held
+    by : (b : Bool) → Means s (if b then Reads count else Other) s.command_code
     by true = refl
     by false = refl
 asked_means s (Bad w) = refl

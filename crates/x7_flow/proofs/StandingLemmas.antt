@@ -23,13 +23,13 @@ use Rattle.x7_pipeline.specs.FarAsRead.{has_frame_at, loaded_base}
 use Rattle.x7_pipeline.specs.Copies.{copied, is_mfw}
 use Rattle.x7_pipeline.specs.Fault.{address_fault, copy_fault, drop_fault, readback_fault}
 use Rattle.x7_pipeline.specs.Flow.{FlowGoesOn, HoldsFlow, LandsAt, OfFlow, after_reads, after_words, begun_at, begun_by, copied_by, fault_of_copy}
-use Rattle.x7_pipeline.specs.Pipeline.{AreOf, PipelineData}
+use Rattle.x7_pipeline.specs.Pipeline.{AreOfPart, PipelineData}
 use Rattle.x7_pipeline.specs.Readback.{readback_at, read_slot, word_at, word_in_frame}
 use Rattle.x7_flow.specs.Asking.{Asked, Load, Commands, Word, Copies, Reads, Other}
 use Rattle.x7_flow.specs.Flow.{Flow, asked_under, asks, base_of, fault_by, first_flow, flow_by, flow_of, frame_fault, count_given}
 use Rattle.x7_flow.specs.FrameMemory.{copy_pairs, written_frames_more, memory_of, puts}
 use Rattle.x7_flow.specs.FrameAccess.{reads_frame_data}
-use Rattle.x7_flow.specs.Standing.{AfterAccess, AfterRead, AreFramesAfter, FramesFit, FramesStandFor, FramesState, Did, FramesDid, HasFlow, frames_state, less, word_to, words_from, words_due, frames_read}
+use Rattle.x7_flow.specs.Standing.{AfterAccess, AfterRead, AreFramesAfter, FramesFit, FramesStandFor, FramesState, HaveDone, FramesHaveDone, HasFlow, frames_state, without_due, word_to, readback_words, words_due, frames_read}
 use Rattle.x7_flow.proofs.FlowLemmas.{flow_more, flow_sound, landed_grows, memory_more, put_none}
 
 -- ---- each call of a pipeline does what is asked
@@ -39,7 +39,7 @@ given_so f n = record f { given = n }
 
 pub did_load : (part : PartData) (p q : PipelineData) (frames : List (List ℕ)) (w : ℕ) →
     ((part : PartData) → FlowGoesOn part p q (begun_at (loaded_base part w))) →
-    Did part (Load w) (frames_state p frames) (frames_state q frames)
+    HaveDone part (Load w) (frames_state p frames) (frames_state q frames)
 did_load part p q frames w stands = record {
   flow = λ f h. record { stands = stands part f h.stands; nowhere = λ e. refl };
   memory = λ f h far. sym (put_none [] (frame_at part frames) refl far);
@@ -47,7 +47,7 @@ did_load part p q frames w stands = record {
 
 pub did_order : (part : PartData) (p q : PipelineData) (frames : List (List ℕ)) (c : Command) →
     FlowGoesOn part p q (begun_by part c) →
-    Did part (Commands c) (frames_state p frames) (frames_state q frames)
+    HaveDone part (Commands c) (frames_state p frames) (frames_state q frames)
 did_order part p q frames c stands = record {
   flow = λ f h. record { stands = stands f h.stands; nowhere = λ e. refl };
   memory = λ f h far. sym (put_none [] (frame_at part frames) refl far);
@@ -61,7 +61,7 @@ word_memory part base w run old new l =
 pub did_word : (part : PartData) (p q : PipelineData) (old new : List (List ℕ)) (w : ℕ) →
     FlowGoesOn part p q (after_words (w ∷ [])) →
     OfFlow part p (λ f. LandsAt part f (w ∷ []) (frame_at part old) (frame_at part new)) →
-    Did part (Word w) (frames_state p old) (frames_state q new)
+    HaveDone part (Word w) (frames_state p old) (frames_state q new)
 did_word part p q old new w stands lands = record {
   flow = λ f h. record { stands = stands f h.stands; nowhere = h.nowhere };
   memory = λ f h. word_memory part f.base w f.run (frame_at part old) (frame_at part new) (lands f h.stands);
@@ -80,7 +80,7 @@ copy_allowed part f e = by (is_mfw f.command) (is_some f.source) (has_frame_at p
 pub did_copy : (part : PartData) (p q : PipelineData) (old new : List (List ℕ)) → q ≡ p →
     OfFlow part p (λ f. AreSame (frame_at part new) (put_over (copied_by f) (frame_at part old))) →
     OfFlow part p (λ f. None ≡ fault_of_copy part f) →
-    Did part Copies (frames_state p old) (frames_state q new)
+    HaveDone part Copies (frames_state p old) (frames_state q new)
 did_copy part p q old new same put allowed = record {
   flow = λ f h. rw same h;
   memory = λ f h. rw (← copy_allowed part f (allowed f h.stands)) (put f h.stands);
@@ -96,7 +96,7 @@ read_is part base given nowhere = by (given == 0) (has_frame_at part base) (λ e
     by false true p = refl
     by false false p = let e = p refl in absurd cc
 
-pub did_other : (part : PartData) (f : FramesState) → Did part Other f f
+pub did_other : (part : PartData) (f : FramesState) → HaveDone part Other f f
 did_other part f = record { flow = λ g h. h; memory = λ g h far. sym (put_none [] (frame_at part f.memory) refl far) }
 
 -- ---- one access more
@@ -104,16 +104,16 @@ did_other part f = record { flow = λ g h. h; memory = λ g h far. sym (put_none
 pub same_flow : (part : PartData) (p : PipelineData) (f g : Flow) → f ≡ g → HasFlow part p f → HasFlow part p g
 same_flow part p f g e h = rw (← e) h
 
-pub no_less : (f : Flow) → f ≡ less 0 f
+pub no_less : (f : Flow) → f ≡ without_due 0 f
 no_less f = ap (λ (n : ℕ). record f { given = n }) (omega arith)
 
-pub one_more : (part : PartData) (old new : FramesState) (e : Entry) (h : History) → FramesDid part old new h e → FramesStandFor part old h 0 → FramesStandFor part new (e ∷ h) 0
+pub one_more : (part : PartData) (old new : FramesState) (e : Entry) (h : History) → FramesHaveDone part old new h e → FramesStandFor part old h 0 → FramesStandFor part new (e ∷ h) 0
 one_more part old new e h did are =
     let f : Flow = flow_of part h in
-    let has : HasFlow part old.pipeline f = same_flow part old.pipeline (less 0 f) f (sym (no_less f)) are.flow in
+    let has : HasFlow part old.pipeline f = same_flow part old.pipeline (without_due 0 f) f (sym (no_less f)) are.flow in
     let pairs : List PlanRow = puts part (asks part.idcode h e.access) f in
     record {
-      flow = same_flow part new.pipeline (flow_by part (asks part.idcode h e.access) f) (less 0 (flow_of part (e ∷ h))) (sym (flow_more part e h) ∙ no_less (flow_of part (e ∷ h))) (did.flow f has);
+      flow = same_flow part new.pipeline (flow_by part (asks part.idcode h e.access) f) (without_due 0 (flow_of part (e ∷ h))) (sym (flow_more part e h) ∙ no_less (flow_of part (e ∷ h))) (did.flow f has);
       memory = λ far. did.memory f has far ∙ override_same (frame_at part old.memory) (memory_of part h) (planned pairs) (planned pairs) are.memory (λ a. refl) far ∙ sym (memory_more part e h far);
       due_given = omega arith;
     }
@@ -129,10 +129,10 @@ read_same : (part : PartData) (base place : ℕ) (memory other : FrameMap) → A
 unfolding readback_at
 read_same part base place memory other same = no_word part memory other same (read_slot part base place) (place % frame_words part)
 
-words_same : (part : PartData) (base place count : ℕ) (memory other : FrameMap) → AreSame memory other → words_from part base memory place count ≡ words_from part base other place count
+words_same : (part : PartData) (base place count : ℕ) (memory other : FrameMap) → AreSame memory other → readback_words part base memory place count ≡ readback_words part base other place count
 words_same part base place zero memory other same = refl
 words_same part base place (suc count) memory other same =
-    ap (λ (w : ℕ). w ∷ words_from part base memory (place + 1) count) (read_same part base place memory other same)
+    ap (λ (w : ℕ). w ∷ readback_words part base memory (place + 1) count) (read_same part base place memory other same)
     ∙ ap (λ ws. readback_at part base other place ∷ ws) (words_same part base (place + 1) count memory other same)
 
 -- a read that begins, whose words are all due
@@ -145,20 +145,20 @@ pub read_begins : (part : PartData) (p : PipelineData) (frames : List (List ℕ)
 read_begins part p frames e h count a t are =
     let f : Flow = flow_of part h in
     let now : flow_of part (e ∷ h) ≡ record f { given = f.given + count } = flow_more part e h ∙ ap (λ (x : Asked). flow_by part x f) a ∙ read_flow part f count t in
-    let back : less 0 f ≡ less count (flow_of part (e ∷ h)) =
-    ap (λ (n : ℕ). record f { given = n }) (omega arith) ∙ ap (less count) (sym now) in
+    let back : without_due 0 f ≡ without_due count (flow_of part (e ∷ h)) =
+    ap (λ (n : ℕ). record f { given = n }) (omega arith) ∙ ap (without_due count) (sym now) in
     let same : AreSame (memory_of part (e ∷ h)) (memory_of part h) = λ far.
     memory_more part e h far ∙ ap (λ (x : Asked). put_over (puts part x f) (memory_of part h) far) a ∙ put_none [] (memory_of part h) refl far in
     let sum : count_given part (e ∷ h) ≡ f.given + count = ap (λ (g : Flow). g.given) now in
     let place : count_given part (e ∷ h) - count ≡ f.given = omega arith in (
       record {
-        flow = same_flow part p (less 0 f) (less count (flow_of part (e ∷ h))) back are.flow;
+        flow = same_flow part p (without_due 0 f) (without_due count (flow_of part (e ∷ h))) back are.flow;
         memory = λ far. are.memory far ∙ sym (same far);
         due_given = omega arith;
       },
       words_same part (base_of part (e ∷ h)) (count_given part (e ∷ h) - count) count (memory_of part (e ∷ h)) (memory_of part h) same
-          ∙ ap (λ (n : ℕ). words_from part (base_of part (e ∷ h)) (memory_of part h) n count) place
-          ∙ ap (λ (n : ℕ). words_from part n (memory_of part h) f.given count) (ap (λ (g : Flow). g.base) now),
+          ∙ ap (λ (n : ℕ). readback_words part (base_of part (e ∷ h)) (memory_of part h) n count) place
+          ∙ ap (λ (n : ℕ). readback_words part n (memory_of part h) f.given count) (ap (λ (g : Flow). g.base) now),
     )
 
 -- the next of the words due
@@ -173,16 +173,16 @@ read_next part p q frames h due word are is stands =
     let next : f.given - (due + 1) + 1 ≡ f.given - due = omega arith in
     let after : f.given - suc due + 1 ≡ f.given - due = omega arith in
     let first : f.given - (due + 1) ≡ f.given - suc due = omega arith in
-    let from : HoldsFlow part q (given_so f (f.given - (due + 1) + 1)) = stands (less (due + 1) f) has.stands in (
+    let from : HoldsFlow part q (given_so f (f.given - (due + 1) + 1)) = stands (without_due (due + 1) f) has.stands in (
       record {
         flow = record { stands = subst (λ (n : ℕ). HoldsFlow part q (given_so f n)) next from; nowhere = λ e. let none = (flow_sound part h).nowhere e in omega arith };
         memory = are.memory;
         due_given = omega arith;
       },
-      ap (λ (w : ℕ). w ∷ words_from part f.base (memory_of part h) (f.given - suc due + 1) due)
-          (sym (is (less (due + 1) f) has.stands ∙ read_same part f.base (f.given - (due + 1)) (frame_at part frames) (memory_of part h) are.memory
+      ap (λ (w : ℕ). w ∷ readback_words part f.base (memory_of part h) (f.given - suc due + 1) due)
+          (sym (is (without_due (due + 1) f) has.stands ∙ read_same part f.base (f.given - (due + 1)) (frame_at part frames) (memory_of part h) are.memory
           ∙ ap (readback_at part f.base (memory_of part h)) first))
-          ∙ ap (λ (n : ℕ). word ∷ words_from part f.base (memory_of part h) n due) after,
+          ∙ ap (λ (n : ℕ). word ∷ readback_words part f.base (memory_of part h) n due) after,
     )
 
 no_both : {b : Bool} → b ≡ true → b ≡ false → ⊥
@@ -208,7 +208,7 @@ read_past part p q frames h due count are stands =
     let next : f.given - (due + count) + count ≡ f.given - due = omega arith in
     record {
       flow = record {
-        stands = subst (λ (n : ℕ). HoldsFlow part q (given_so f n)) next (stands (less (due + count) f) has.stands);
+        stands = subst (λ (n : ℕ). HoldsFlow part q (given_so f n)) next (stands (without_due (due + count) f) has.stands);
         nowhere = λ e. let none = (flow_sound part h).nowhere e in omega arith;
       };
       memory = are.memory;
@@ -249,7 +249,7 @@ pub other_read : (part : PartData) (p : PipelineData) (frames : List (List ℕ))
 other_read part p frames h r count place b are =
     let a : asks part.idcode h (Read r count) ≡ Other = read_asked (settings_of part.idcode h) r count false b in (
       ap (λ (x : Asked). fault_by part x (flow_of part h)) a,
-      one_more part (frames_state p frames) (frames_state p frames) (entry (Read r count) place) h (subst (λ (x : Asked). Did part x (frames_state p frames) (frames_state p frames)) (sym a) (did_other part (frames_state p frames))) are,
+      one_more part (frames_state p frames) (frames_state p frames) (entry (Read r count) place) h (subst (λ (x : Asked). HaveDone part x (frames_state p frames) (frames_state p frames)) (sym a) (did_other part (frames_state p frames))) are,
       refl,
     )
 
@@ -272,7 +272,7 @@ pub frame_read : (part : PartData) (p : PipelineData) (frames : List (List ℕ))
 frame_read part p frames h r count place b allowed are =
     let f : Flow = flow_of part h in
     let a : asks part.idcode h (Read r count) ≡ Reads count = read_asked (settings_of part.idcode h) r count true b in
-    let none : None ≡ fault_by part (Reads count) f = allowed f (same_flow part p (less 0 f) f (sym (no_less f)) are.flow) in
+    let none : None ≡ fault_by part (Reads count) f = allowed f (same_flow part p (without_due 0 f) f (sym (no_less f)) are.flow) in
     let t : has_frame_at part f.base ≡ true = from_address part f.base count (some_read r count (gives_frames (settings_of part.idcode h)) b) none in
     let begun = read_begins part p frames (entry (Read r count) place) h count a t are in
     (ap (λ (x : Asked). fault_by part x f) a ∙ sym none, begun.0, begun.1)
@@ -281,7 +281,7 @@ pub frame_read_refused : (part : PartData) (p : PipelineData) (frames : List (Li
     ((f : Flow) → HasFlow part p f → Some fault ≡ fault_by part (Reads count) f) → AreFramesAfter part p frames h 0 → frame_fault part h (Read r count) ≡ Some fault
 frame_read_refused part p frames h r count fault b refused are =
     let f : Flow = flow_of part h in
-    ap (λ (x : Asked). fault_by part x f) (read_asked (settings_of part.idcode h) r count true b) ∙ sym (refused f (same_flow part p (less 0 f) f (sym (no_less f)) are.flow))
+    ap (λ (x : Asked). fault_by part x f) (read_asked (settings_of part.idcode h) r count true b) ∙ sym (refused f (same_flow part p (without_due 0 f) f (sym (no_less f)) are.flow))
 
 pub read_answered : (part : PartData) (f : FramesState) (h : History) (r count place : ℕ) (result : Option RunFault) → reads_frame_data h (Read r count) ≡ true →
     ((g : Flow) → HasFlow part f.pipeline g → result ≡ fault_by part (Reads count) g) → FramesStandFor part f h 0 → AfterRead part f h (entry (Read r count) place) result
@@ -320,8 +320,8 @@ nothing_asked idcode h Bootsts w far cmd fdri mfwr = refl
 nothing_asked idcode h Ctl1 w far cmd fdri mfwr = refl
 nothing_asked idcode h Bspi w far cmd fdri mfwr = refl
 
-pub did_as : (part : PartData) (h : History) (reg : Reg) (w : ℕ) (a : Asked) (old new : FramesState) → asks part.idcode h (word_to reg w) ≡ a → Did part a old new → Did part (asks part.idcode h (word_to reg w)) old new
-did_as part h reg w a old new e did = subst (λ (x : Asked). Did part x old new) (sym e) did
+pub did_as : (part : PartData) (h : History) (reg : Reg) (w : ℕ) (a : Asked) (old new : FramesState) → asks part.idcode h (word_to reg w) ≡ a → HaveDone part a old new → HaveDone part (asks part.idcode h (word_to reg w)) old new
+did_as part h reg w a old new e did = subst (λ (x : Asked). HaveDone part x old new) (sym e) did
 
 pub fault_as : (part : PartData) (h : History) (reg : Reg) (w : ℕ) (a : Asked) (f : Flow) → asks part.idcode h (word_to reg w) ≡ a → fault_by part a f ≡ fault_by part (asks part.idcode h (word_to reg w)) f
 fault_as part h reg w a f e = ap (λ (x : Asked). fault_by part x f) (sym e)
@@ -330,10 +330,10 @@ pub word_fault_is : (part : PartData) (p : PipelineData) (frames : List (List �
     ((f : Flow) → HasFlow part p f → result ≡ fault_by part (asks part.idcode h access) f) → AreFramesAfter part p frames h 0 → result ≡ frame_fault part h access
 word_fault_is part p frames h access result fault are =
     let f : Flow = flow_of part h in
-    fault f (same_flow part p (less 0 f) f (sym (no_less f)) are.flow)
+    fault f (same_flow part p (without_due 0 f) f (sym (no_less f)) are.flow)
 
 pub access_taken : (part : PartData) (old new : FramesState) (h : History) (e : Entry) (result : Option RunFault) →
-    IfNone result (Did part (asks part.idcode h e.access) old new) → OnSome result (new.pipeline ≡ old.pipeline) → OnSome result (new.memory ≡ old.memory) → FramesStandFor part old h 0 → AfterAccess part new h e result
+    IfNone result (HaveDone part (asks part.idcode h e.access) old new) → OnSome result (new.pipeline ≡ old.pipeline) → OnSome result (new.memory ≡ old.memory) → FramesStandFor part old h 0 → AfterAccess part new h e result
 access_taken part old new h e None did refused unchanged are = one_more part old new e h did are
 access_taken part old new h e (Some fault) did refused unchanged are = rw (refused, unchanged) are
 
@@ -349,10 +349,10 @@ begins_so part p frames stands none = record {
 
 -- ---- two that stand for the same
 
-pub one_standing : (part : PartData) (p q : PipelineData) (old new : List (List ℕ)) (h : History) (due : ℕ) → AreOf part p old → AreOf part q new →
+pub one_standing : (part : PartData) (p q : PipelineData) (old new : List (List ℕ)) (h : History) (due : ℕ) → AreOfPart part p old → AreOfPart part q new →
     AreFramesAfter part p old h due → AreFramesAfter part q new h due → (p ≡ q) × (old ≡ new)
 one_standing part p q old new h due first second are also_are =
-    let f : Flow = less due (flow_of part h) in
+    let f : Flow = without_due due (flow_of part h) in
     let has = are.flow in
     let also_has = also_are.flow in (
       one_state part p q f has.stands also_has.stands,

@@ -16,17 +16,17 @@ use Rattle.x7_regs.specs.declared.command.Command.{Command}
 use Rattle.x7_regs.specs.declared.command.Command.TheVariants as command
 use Rattle.x7_flow.specs.Asking.{Asked, Load, Commands, Word, Copies, Reads, Other}
 use Rattle.x7_flow.specs.Settings.{Settings, settings_of, takes_frames, takes_copies, gives_frames}
-use Rattle.x7_flow.specs.Flow.{Flow, asked_under, asks, begins, is_copy, flow_by, flow_of}
+use Rattle.x7_flow.specs.Flow.{Flow, asked_under, asks, begins_stretch, is_copy, flow_by, flow_of}
 use Rattle.x7_flow.specs.FrameMemory.{copy_pairs, written_frames_more, memory_of, puts}
 use Rattle.x7_flow.specs.Stretches.{is_boundary, copies_of, ends_of, overridden, stretch_pairs}
 use Rattle.x7_flow.proofs.FlowLemmas.{flow_sound, landed_grows, put_none}
 
 -- ---- boundaries and copies, by what is asked
 
-pub asked_boundary : (s : Settings) (access : Access) → is_boundary access ≡ begins (asked_under s access)
+pub asked_boundary : (s : Settings) (access : Access) → is_boundary access ≡ begins_stretch (asked_under s access)
 asked_boundary s (Write r w) = by (r == 1) (r == 4) (r == 2 && takes_frames s) (r == 10 && takes_copies s)
   where
-    by : (far cmd fdri mfwr : Bool) → (cmd || far) ≡ begins (if far then Load w else if cmd then Commands (command_by w) else if fdri then Word w else if mfwr then Copies else Other)
+    by : (far cmd fdri mfwr : Bool) → (cmd || far) ≡ begins_stretch (if far then Load w else if cmd then Commands (command_by w) else if fdri then Word w else if mfwr then Copies else Other)
     by true true fdri mfwr = refl
     by true false fdri mfwr = refl
     by false true fdri mfwr = refl
@@ -35,7 +35,7 @@ asked_boundary s (Write r w) = by (r == 1) (r == 4) (r == 2 && takes_frames s) (
     by false false false false = refl
 asked_boundary s (Read r count) = by (r == 3 && (not (count == 0) && gives_frames s))
   where
-    by : (b : Bool) → false ≡ begins (if b then Reads count else Other)
+    by : (b : Bool) → false ≡ begins_stretch (if b then Reads count else Other)
     by true = refl
     by false = refl
 asked_boundary s (Bad w) = refl
@@ -66,7 +66,7 @@ asked_copy idcode h (Bad w) = refl
 -- ---- the pairs of a stretch and one access more
 
 copies_by : PartData → Asked → Flow → List PlanRow → List PlanRow
-copies_by part a f old = if begins a then [] else if is_copy a then copy_pairs part f ++ old else old
+copies_by part a f old = if begins_stretch a then [] else if is_copy a then copy_pairs part f ++ old else old
 
 copies_more : (part : PartData) (e : Entry) (h : History) → copies_of part (e ∷ h) ≡ copies_by part (asks part.idcode h e.access) (flow_of part h) (copies_of part h)
 unfolding copies_of copies_by
@@ -88,7 +88,7 @@ copy_last part f old idle = by (is_mfw f.command) refl
     by true e = rw (no_landing part f.base f.run (idle (mfw_not_wcfg f.command e))) refl
     by false e = refl
 
-stretch_step : (part : PartData) (a : Asked) (f : Flow) (old : List PlanRow) → begins a ≡ false → (is_wcfg f.command ≡ false → f.run ≡ []) →
+stretch_step : (part : PartData) (a : Asked) (f : Flow) (old : List PlanRow) → begins_stretch a ≡ false → (is_wcfg f.command ≡ false → f.run ≡ []) →
     written_frames part (flow_by part a f).base (flow_by part a f).run ++ copies_by part a f old ≡ puts part a f ++ (written_frames part f.base f.run ++ old)
 unfolding copies_by
 stretch_step part (Load w) f old e idle = absurd cc
@@ -98,7 +98,7 @@ stretch_step part Copies f old e idle = copy_last part f old idle
 stretch_step part (Reads count) f old e idle = refl
 stretch_step part Other f old e idle = refl
 
-begin_step : (part : PartData) (a : Asked) (f : Flow) (old : List PlanRow) → begins a ≡ true →
+begin_step : (part : PartData) (a : Asked) (f : Flow) (old : List PlanRow) → begins_stretch a ≡ true →
     (written_frames part (flow_by part a f).base (flow_by part a f).run ++ copies_by part a f old ≡ []) × (puts part a f ≡ [])
 unfolding copies_by
 begin_step part (Load w) f old e = (ap (λ ps. ps ++ []) (landed_empty part _), refl)
@@ -138,7 +138,7 @@ by_stretches part (e ∷ h) far =
     let ih : AreSame (memory_of part h) (overridden part (h ∷ ends_of h)) = by_stretches part h in
     let pairs : stretch_pairs part (e ∷ h) ≡ written_frames part (flow_by part a f).base (flow_by part a f).run ++ copies_by part a f old =
     ap (λ ps. written_frames part (flow_by part a f).base (flow_by part a f).run ++ ps) (copies_more part e h) in
-    elim (true_or_false (begins a)) [
+    elim (true_or_false (begins_stretch a)) [
       | inl t ↦
           let step = begin_step part a f old t in
           let b : is_boundary e.access ≡ true = asked_boundary (settings_of part.idcode h) e.access ∙ t in

@@ -15,14 +15,14 @@ use Rattle.x7_pipeline.specs.Runs.{written_frames, onto, put_over, Lands}
 use Rattle.x7_pipeline.specs.Fault.{write_fault}
 use Rattle.x7_pipeline.specs.Flow.{HoldsFlow, OfFlow, after_words, with_run, flow_written}
 use Rattle.x7_pipeline.specs.Pipeline.{PipelineData}
-use Rattle.x7_pipeline.specs.Words.{RunWritten, one_written, run_written}
+use Rattle.x7_pipeline.specs.Words.{RunWritten, with_later_words, run_written}
 use Rattle.x7_flow.specs.Asking.{Asked, Copies, Other, Word}
 use Rattle.x7_flow.specs.Settings.{settings_of, takes_copies, takes_frames}
 use Rattle.x7_flow.specs.Flow.{Flow, asks, base_of, fault_by, flow_of, frame_fault, run_of}
 use Rattle.x7_flow.specs.FrameMemory.{copy_pairs, memory_of}
-use Rattle.x7_flow.specs.Standing.{AreFramesAfter, Did, FramesStandFor, FramesState, HasFlow, frames_state, less}
+use Rattle.x7_flow.specs.Standing.{AreFramesAfter, HaveDone, FramesStandFor, FramesState, HasFlow, frames_state, without_due}
 use Rattle.x7_words.specs.Word.{words_of_bytes}
-use Rattle.x7_flow.specs.Words.{EndsBy, NoneRefused, WordsTaken, with_copies, with_frame_data, with_words_to, words_seen, words_to}
+use Rattle.x7_flow.specs.Words.{EndsBy, NoneRefused, WordsTaken, with_copies, with_frame_data, with_words_to, count_seen, words_to}
 use Rattle.x7_flow.proofs.StreamLemmas.{IsCopied, copied_all, copy_asked, copy_flow}
 use Rattle.x7_flow.proofs.StandingLemmas.{did_other, no_less, one_more, same_flow}
 use Rattle.x7_flow.proofs.ManyLemmas.{word_asked, word_flow, words_flow, words_land}
@@ -40,9 +40,9 @@ record Parted (part : PartData) (n : ℕ) (h : History) (words : List ℕ) (w : 
   none_refused : NoneRefused part reg.Fdri n prefix h
   run_is : w.run ≡ onto prefix (run_of part h)
   end : EndsBy part reg.Fdri (with_frame_data n prefix h) rest w.fault
-  counted : w.count ≡ words_seen (length prefix) w.fault
+  counted : w.count ≡ count_seen (length prefix) w.fault
 
-one_counted : (taken count : ℕ) (fault : Option RunFault) → count ≡ words_seen taken fault → 1 + count ≡ words_seen (suc taken) fault
+one_counted : (taken count : ℕ) (fault : Option RunFault) → count ≡ count_seen taken fault → 1 + count ≡ count_seen (suc taken) fault
 one_counted taken count None e = omega (arith, e)
 one_counted taken count (Some fault) e = omega (arith, e)
 
@@ -59,7 +59,7 @@ parted part n (w ∷ words) h t =
     later : RunWritten
     later = run_written part (base_of part h) (w ∷ run_of part h) words
 
-    by : (o : Option RunFault) → write_fault part (base_of part h) (run_of part h) ≡ o → Parted part (n + 4) now words later → Parted part n h (w ∷ words) (one_written o (run_of part h) later)
+    by : (o : Option RunFault) → write_fault part (base_of part h) (run_of part h) ≡ o → Parted part (n + 4) now words later → Parted part n h (w ∷ words) (with_later_words o (run_of part h) later)
     by (Some fault) e more = record {
       prefix = [];
       rest = w ∷ words;
@@ -96,7 +96,7 @@ pub words_taken : (part : PartData) (p q : PipelineData) (old new : List (List �
 words_taken part p q old new bytes n seen h stands lands counted faulty t are =
     let words : List ℕ = words_of_bytes bytes in
     let f : Flow = flow_of part h in
-    let has : HasFlow part p f = same_flow part p (less 0 f) f (sym (no_less f)) are.flow in
+    let has : HasFlow part p f = same_flow part p (without_due 0 f) f (sym (no_less f)) are.flow in
     let w : RunWritten = run_written part f.base f.run words in
     let parts : Parted part n h words w = parted part n words h t in
     let end : History = with_frame_data n parts.prefix h in
@@ -113,7 +113,7 @@ words_taken part p q old new bytes n seen h stands lands counted faulty t are =
       end = rw (faulty f has.stands) parts.end;
       counted = rw (counted f has.stands, faulty f has.stands) parts.counted;
       stands = record {
-        flow = same_flow part q (record f { run = onto parts.prefix f.run }) (less 0 (flow_of part end)) (sym flow ∙ no_less (flow_of part end)) (record { stands = reached; nowhere = has.nowhere });
+        flow = same_flow part q (record f { run = onto parts.prefix f.run }) (without_due 0 (flow_of part end)) (sym flow ∙ no_less (flow_of part end)) (record { stands = reached; nowhere = has.nowhere });
         memory = lands_alike part f.base f.run (onto parts.prefix f.run) (frame_at part old) (frame_at part new) (memory_of part h) (memory_of part end) grown (words_land part n parts.prefix h t) are.memory;
         due_given = omega arith;
       };
@@ -130,22 +130,22 @@ copies_none part n (w ∷ ws) h t e = (
 )
 
 -- one copy is all of them
-copies_stand : (part : PartData) (old new : FramesState) (n w : ℕ) (ws : List ℕ) (h : History) → takes_copies (settings_of part.idcode h) ≡ true → Did part Copies old new → FramesStandFor part old h 0
+copies_stand : (part : PartData) (old new : FramesState) (n w : ℕ) (ws : List ℕ) (h : History) → takes_copies (settings_of part.idcode h) ≡ true → HaveDone part Copies old new → FramesStandFor part old h 0
     → FramesStandFor part new (with_copies n (w ∷ ws) h) 0
 copies_stand part old new n w ws h t did are =
     let f : Flow = flow_of part h in
     let all : History = with_copies n (w ∷ ws) h in
     let pairs : List PlanRow = copy_pairs part f in
     let c : IsCopied part f (settings_of part.idcode h) (memory_of part h) pairs all = copied_all part n w ws h t in
-    let has : HasFlow part old.pipeline f = same_flow part old.pipeline (less 0 f) f (sym (no_less f)) are.flow in
+    let has : HasFlow part old.pipeline f = same_flow part old.pipeline (without_due 0 f) f (sym (no_less f)) are.flow in
     record {
-      flow = same_flow part new.pipeline f (less 0 (flow_of part all)) (sym c.flow_is ∙ no_less (flow_of part all)) (did.flow f has);
+      flow = same_flow part new.pipeline f (without_due 0 (flow_of part all)) (sym c.flow_is ∙ no_less (flow_of part all)) (did.flow f has);
       memory = λ far. did.memory f has far ∙ override_same (frame_at part old.memory) (memory_of part h) (planned pairs) (planned pairs) are.memory (λ a. refl) far ∙ sym (c.memory_is far);
       due_given = omega arith;
     }
 
 pub copies_taken : (part : PartData) (old new : FramesState) (n count : ℕ) (ws : List ℕ) (h : History) → takes_copies (settings_of part.idcode h) ≡ true → 0 < length ws → count ≡ length ws
-    → None ≡ fault_by part Copies (flow_of part h) → Did part Copies old new → FramesStandFor part old h 0
+    → None ≡ fault_by part Copies (flow_of part h) → HaveDone part Copies old new → FramesStandFor part old h 0
     → WordsTaken part new h (record { register = reg.Mfwr; place = n; words = ws }) (count, None)
 copies_taken part old new n count [] h t some c none did are = absurd (omega (arith, some))
 copies_taken part old new n count (w ∷ ws) h t some c none did are = record {
@@ -187,7 +187,7 @@ record AsksNothing (part : PartData) (r : Reg) (P : History → Type 0) : Type 1
   keeps : (h : History) (w place : ℕ) → P h → P (entry (Write (number_of r) w) place ∷ h)
 
 pub other_access : (part : PartData) (f : FramesState) (h : History) (e : Entry) → asks part.idcode h e.access ≡ Other → FramesStandFor part f h 0 → FramesStandFor part f (e ∷ h) 0
-other_access part f h e a s = one_more part f f e h (subst (λ (x : Asked). Did part x f f) (sym a) (did_other part f)) s
+other_access part f h e a s = one_more part f f e h (subst (λ (x : Asked). HaveDone part x f f) (sym a) (did_other part f)) s
 
 none_refused : (part : PartData) (r : Reg) (P : History → Type 0) (n : ℕ) (ws : List ℕ) (h : History) → AsksNothing part r P → P h → NoneRefused part r n ws h
 unfolding NoneRefused

@@ -11,10 +11,10 @@ use Rattle.x7_pipeline.specs.FarAsRead.{has_frame_at, loaded_base}
 use Rattle.x7_pipeline.specs.Copies.{is_mfw, is_wcfg, newest_of, source_after}
 use Rattle.x7_flow.specs.FrameAccess.{reads_frame_data, writes_frame_data}
 use Rattle.x7_flow.specs.Asking.{Load, Commands, Word, Copies, Reads, Other}
-use Rattle.x7_flow.specs.Settings.{Settings, held_after, settings_of, takes_frames, takes_copies, gives_frames}
+use Rattle.x7_flow.specs.Settings.{Settings, command_code_after, settings_of, takes_frames, takes_copies, gives_frames}
 use Rattle.x7_flow.specs.Flow.{Flow, asked_under, asks, is_read, is_word, far_in, far_read, flow_by, flow_of, base_of, run_of, source_of, count_given}
 use Rattle.x7_flow.specs.Stretches.{is_boundary}
-use Rattle.x7_flow.specs.InWords.{base_after, count_asked, frame_taken, run_with_word, words_given, words_written}
+use Rattle.x7_flow.specs.InWords.{base_after, count_asked, frame_taken, run_with_word, sum_of_reads, words_written}
 use Rattle.x7_flow.proofs.SettingsLemmas.{settings_more}
 use Rattle.x7_flow.proofs.FlowLemmas.{flow_sound}
 
@@ -135,8 +135,8 @@ given_step part idcode h (Read r count) f = by (r == 3 && (not (count == 0) && g
     by false = refl
 given_step part idcode h (Bad w) f = refl
 
-pub given_is : (part : PartData) (h : History) → count_given part h ≡ words_given part h
-unfolding flow_of words_given
+pub given_is : (part : PartData) (h : History) → count_given part h ≡ sum_of_reads part h
+unfolding flow_of sum_of_reads
 given_is part [] = refl
 given_is part (e ∷ h) =
     given_step part part.idcode h e.access (flow_of part h)
@@ -179,8 +179,8 @@ mfw_with n = elim (true_or_false (n == 2)) [
   | inr f ↦ rw f (no_if is_mfw (n == 1) command.Wcfg _ refl (late_commands is_mfw n refl refl refl refl refl refl refl refl refl refl refl refl refl refl refl refl refl))
 ]
 
-source_step : (part : PartData) (s : Settings) (access : Access) (f : Flow) → f.command ≡ command_with s.held →
-    (flow_by part (asked_under s access) f).source ≡ (if writes 4 access then (if held_after access s.held == 2 && s.held == 1 then newest_of (frames_of (frame_words part) f.run) else None) else f.source)
+source_step : (part : PartData) (s : Settings) (access : Access) (f : Flow) → f.command ≡ command_with s.command_code →
+    (flow_by part (asked_under s access) f).source ≡ (if writes 4 access then (if command_code_after access s.command_code == 2 && s.command_code == 1 then newest_of (frames_of (frame_words part) f.run) else None) else f.source)
 unfolding source_after
 source_step part s (Write r w) f c = by (r == 1) (r == 4) (r == 2 && takes_frames s) (r == 10 && takes_copies s) (far_no_cmd r) ordered
   where
@@ -190,16 +190,16 @@ source_step part s (Write r w) f c = by (r == 1) (r == 4) (r == 2 && takes_frame
     swapped false true x = refl
     swapped false false x = refl
 
-    ordered : source_after part f.command (command_by w) f.run ≡ (if w % 2 ^ 5 == 2 && s.held == 1 then newest_of (frames_of (frame_words part) f.run) else None)
+    ordered : source_after part f.command (command_by w) f.run ≡ (if w % 2 ^ 5 == 2 && s.command_code == 1 then newest_of (frames_of (frame_words part) f.run) else None)
     ordered =
-        ap (λ (b : Bool). if b && is_mfw (command_by w) then newest_of (frames_of (frame_words part) f.run) else None) (ap is_wcfg c ∙ wcfg_with s.held)
-        ∙ ap (λ (b : Bool). if s.held == 1 && b then newest_of (frames_of (frame_words part) f.run) else None) (mfw_with (w % 2 ^ 5))
-        ∙ swapped (s.held == 1) (w % 2 ^ 5 == 2) (newest_of (frames_of (frame_words part) f.run))
+        ap (λ (b : Bool). if b && is_mfw (command_by w) then newest_of (frames_of (frame_words part) f.run) else None) (ap is_wcfg c ∙ wcfg_with s.command_code)
+        ∙ ap (λ (b : Bool). if s.command_code == 1 && b then newest_of (frames_of (frame_words part) f.run) else None) (mfw_with (w % 2 ^ 5))
+        ∙ swapped (s.command_code == 1) (w % 2 ^ 5 == 2) (newest_of (frames_of (frame_words part) f.run))
 
     by : (far cmd word mfwr : Bool) → (far ≡ true → cmd ≡ false) →
-        source_after part f.command (command_by w) f.run ≡ (if w % 2 ^ 5 == 2 && s.held == 1 then newest_of (frames_of (frame_words part) f.run) else None) →
+        source_after part f.command (command_by w) f.run ≡ (if w % 2 ^ 5 == 2 && s.command_code == 1 then newest_of (frames_of (frame_words part) f.run) else None) →
         (flow_by part (if far then Load w else if cmd then Commands (command_by w) else if word then Word w else if mfwr then Copies else Other) f).source
-        ≡ (if cmd then (if (if cmd then w % 2 ^ 5 else s.held) == 2 && s.held == 1 then newest_of (frames_of (frame_words part) f.run) else None) else f.source)
+        ≡ (if cmd then (if (if cmd then w % 2 ^ 5 else s.command_code) == 2 && s.command_code == 1 then newest_of (frames_of (frame_words part) f.run) else None) else f.source)
     by true true word mfwr p q = let e = p refl in absurd cc
     by true false word mfwr p q = refl
     by false true word mfwr p q = q
@@ -218,7 +218,7 @@ unfolding flow_of frame_taken
 source_is part [] = refl
 source_is part (e ∷ h) =
     let i = flow_sound part h in
-    let held : held_after e.access (command_held h) ≡ command_held (e ∷ h) = sym (ap (λ (s : Settings). s.held) (settings_more part.idcode e h)) in
+    let held : command_code_after e.access (command_held h) ≡ command_held (e ∷ h) = sym (ap (λ (s : Settings). s.command_code) (settings_more part.idcode e h)) in
     source_step part (settings_of part.idcode h) e.access (flow_of part h) i.command_is
     ∙ ap (λ (n : ℕ). if writes 4 e.access then (if n == 2 && command_held h == 1 then newest_of (frames_of (frame_words part) (run_of part h)) else None) else source_of part h) held
     ∙ ap (λ (ws : List ℕ). if writes 4 e.access then (if command_held (e ∷ h) == 2 && command_held h == 1 then newest_of (frames_of (frame_words part) ws) else None) else source_of part h) (run_is part h)

@@ -7,9 +7,9 @@ use Rattle.x7_flow.specs.Settings.{Settings}
 
 -- two settings are the same but for MASK
 pub record AreSameButForMask (s t : Settings) : Type 0 where
-  pub matched_same : s.matched ≡ t.matched
+  pub is_matched_same : s.is_matched ≡ t.is_matched
   pub ctl0_same : s.ctl0 ≡ t.ctl0
-  pub held_same : s.held ≡ t.held
+  pub command_code_same : s.command_code ≡ t.command_code
 
 -- MASK was written
 abbrev pub sets_mask : History → Bool

@@ -1,6 +1,5 @@
--- The registers that decide what a word of frame data does: MASK and the registers under it, and
--- IDCODE (UG470, configuration registers).
--- A history stands with its newest access first.
+-- The registers that decide what a word of frame data does: MASK and the registers under it, and IDCODE (UG470,
+-- configuration registers). A history stands with its newest access first.
 use Rattle.std.specs.Prelude.{ℕ, ◌-◌, ◌%◌, ◌^◌, ◌==◌, ◌&&◌, ◌||◌, Bool, false, not, if◌then◌else◌, [], ◌∷◌, bit_and, bit_or}
 use Rattle.x7_words.specs.Word.{field_of}
 use Rattle.x7_packets.specs.History.{Access, Write, History, last_word}
@@ -11,19 +10,19 @@ use Rattle.x7_regs.specs.Register.{number_of}
 abbrev pub mask_held : History → ℕ
 mask_held h = last_word (number_of Mask) 0 h
 
--- a register under MASK after an access: the written bits where MASK has them, and the old ones elsewhere
+-- the word of a register under MASK after an access: the written bits where MASK has them, and the old ones elsewhere
 abbrev pub masked_word : ℕ → ℕ → Access → ℕ → ℕ
 masked_word register mask (Write r w) old = if r == register then bit_or (bit_and old (2 ^ 32 - 1 - mask)) (bit_and w mask) else old
 masked_word register mask _ old = old
 
--- CTL0 or CTL1, by its number, after a history
-abbrev pub masked : ℕ → History → ℕ
-masked register [] = 0
-masked register (e ∷ h) = masked_word register (mask_held h) e.access (masked register h)
+-- the word of CTL0 or CTL1, by the register's number, after a history
+abbrev pub masked_register : ℕ → History → ℕ
+masked_register register [] = 0
+masked_register register (e ∷ h) = masked_word register (mask_held h) e.access (masked_register register h)
 
--- CTL0 after a history
+-- the word of CTL0 after a history
 abbrev pub ctl0_held : History → ℕ
-ctl0_held h = masked (number_of Ctl0) h
+ctl0_held h = masked_register (number_of Ctl0) h
 
 -- a written IDCODE is the part's where the low 28 bits agree (that bits 31:28 aren't compared is this project's choice)
 abbrev pub same_idcode : ℕ → ℕ → Bool

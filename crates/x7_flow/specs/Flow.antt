@@ -1,5 +1,5 @@
--- The flow of frames of a history: what a frame pipeline stands for (UG470, frame
--- address register and frame data registers).
+-- The flow of frames of a history: what a frame pipeline stands for (UG470, frame address register and frame data
+-- registers).
 use Rattle.std.specs.Prelude.{◌≡◌, ℕ, ◌+◌, ◌==◌, ◌&&◌, not, Bool, true, false, if◌then◌else◌, List, [], ◌∷◌, Option, None}
 use Rattle.x7_packets.specs.History.{Access, Write, Read, Bad, History}
 use Rattle.x7_part.specs.Part.{PartData}
@@ -8,8 +8,8 @@ use Rattle.x7_regs.specs.Command.{command_by}
 use Rattle.x7_regs.specs.Register.{number_of}
 use Rattle.x7_pipeline.specs.declared.fault.RunFault.{RunFault}
 use Rattle.x7_pipeline.specs.FarAsRead.{far_of, has_frame_at, loaded_base}
-use Rattle.x7_pipeline.specs.Copies.{source_after}
 pub use Rattle.x7_pipeline.specs.Flow.{Flow, first_flow}
+use Rattle.x7_pipeline.specs.Flow.{begun_at, begun_by}
 use Rattle.x7_pipeline.specs.Fault.{address_fault, copy_fault, write_fault}
 use Rattle.x7_flow.specs.Settings.{Settings, settings_of, takes_frames, takes_copies, gives_frames}
 use Rattle.x7_flow.specs.Asking.{Asked, Load, Commands, Word, Copies, Reads, Other}
@@ -35,10 +35,10 @@ abbrev pub asks : ℕ → History → Access → Asked
 asks idcode h access = asked_under (settings_of idcode h) access
 
 -- what is asked begins a stretch, which is what follows a write to CMD or FAR
-abbrev pub begins : Asked → Bool
-begins (Load w) = true
-begins (Commands c) = true
-begins _ = false
+abbrev pub begins_stretch : Asked → Bool
+begins_stretch (Load w) = true
+begins_stretch (Commands c) = true
+begins_stretch _ = false
 
 -- a word of frame data is written
 abbrev pub is_word : Asked → Bool
@@ -57,18 +57,14 @@ is_read _ = false
 
 -- ---- the flow
 
--- the flow after a FAR load
-abbrev pub loaded : PartData → ℕ → Flow → Flow
-loaded part w f = record f { base = loaded_base part w; run = []; given = 0 }
-
 -- FAR as read
 abbrev pub far_in : PartData → Flow → ℕ
 far_in part f = far_of part f.base f.run f.given
 
 -- the flow after what an access asks; words are given only from an address
 abbrev pub flow_by : PartData → Asked → Flow → Flow
-flow_by part (Load w) f = loaded part w f
-flow_by part (Commands c) f = record { command = c; base = far_in part f; run = []; source = source_after part f.command c f.run; given = 0 }
+flow_by part (Load w) f = begun_at (loaded_base part w) f
+flow_by part (Commands c) f = begun_by part c f
 flow_by part (Word w) f = record f { run = w ∷ f.run }
 flow_by part (Reads count) f = record f { given = if has_frame_at part f.base then f.given + count else f.given }
 flow_by part _ f = f

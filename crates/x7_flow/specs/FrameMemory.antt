@@ -1,5 +1,5 @@
--- The memory of a history: zero frames, over which each access puts its frames (UG470, frame
--- data input and multi-frame write registers).
+-- The memory of a history: zero frames, over which each access puts its frames (UG470, frame data input and multi-frame
+-- write registers).
 use Rattle.std.specs.Prelude.{ℕ, ◌&&◌, if◌then◌else◌, List, [], ◌∷◌, length, slice_index_or}
 use Rattle.x7_packets.specs.History.{History}
 use Rattle.x7_part.specs.Part.{PartData, frame_words}
@@ -19,8 +19,8 @@ abbrev pub newest_put : PartData → ℕ → List (List ℕ) → List PlanRow
 newest_put part base [] = []
 newest_put part base (frame ∷ older) = at_slot (slice_index_or (slots_from part base) (length older) End) frame []
 
--- the pairs by which the written frames of a run grow at one word more: where it
--- completes a frame, that of the frame before it
+-- the pairs by which the written frames of a run grow at one word more: where it completes a frame, that of the frame
+-- before it
 unfoldable pub written_frames_more : PartData → ℕ → List ℕ → List PlanRow
 written_frames_more part base run = if completes part run then newest_put part base (frames_of (frame_words part) run) else []
 
@@ -28,7 +28,7 @@ written_frames_more part base run = if completes part run then newest_put part b
 abbrev pub copy_pairs : PartData → Flow → List PlanRow
 copy_pairs part f = if is_mfw f.command && has_frame_at part f.base then copied f.base f.source else []
 
--- what the memory gets by what is asked
+-- the pairs that the memory gets by what an access asks
 abbrev pub puts : PartData → Asked → Flow → List PlanRow
 puts part (Word w) f = written_frames_more part f.base f.run
 puts part Copies f = copy_pairs part f

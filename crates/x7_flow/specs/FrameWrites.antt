@@ -15,8 +15,8 @@ use Rattle.x7_flow.specs.Flow.{run_of, source_of}
 use Rattle.x7_flow.specs.Later.{after_load, has_mfw}
 use Rattle.x7_flow.specs.Words.{with_copies, with_frame_data}
 
--- the word of FAR and its place, the place where the words of FDRI begin, and their frames: some,
--- and the last one, which stays in the buffer
+-- a write of whole frames: the word of FAR and its place, the place where the words of FDRI begin, and their frames:
+-- the last one, which stays in the frame buffer, and those before it
 pub record FrameWrite : Type 0 where
   pub far : ℕ
   pub far_place : ℕ
@@ -80,8 +80,8 @@ with_frame_copies x h = with_copies x.place (x.first ∷ x.words) (after_load x.
 abbrev pub pair_copied : PartData → FrameCopies → List PlanRow
 pair_copied part x = copied (loaded_base part x.far) (Some x.frame)
 
--- a device takes the words of MFWR after a history: it takes copies, the frame is
--- the source, and the word of FAR an address
+-- a device takes the words of MFWR after a history: it takes copies, the frame is the source, and the word of FAR an
+-- address
 pub record TakesCopies (part : PartData) (h : History) (x : FrameCopies) : Type 0 where
   pub takes : takes_copies (settings_of part.idcode h) ≡ true
   pub mfw : has_mfw h ≡ true

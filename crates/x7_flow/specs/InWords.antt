@@ -36,11 +36,11 @@ base_after part (Write register w) far old = if register == number_of reg.Cmd th
 base_after part _ far old = old
 
 -- the sum of the counts of the last stretch's reads of frame data
-unfoldable pub words_given : PartData → History → ℕ
-words_given part [] = 0
-words_given part (e ∷ h) =
+unfoldable pub sum_of_reads : PartData → History → ℕ
+sum_of_reads part [] = 0
+sum_of_reads part (e ∷ h) =
     if is_boundary e.access then 0 else
-    if reads_frame_data h e.access && has_frame_at part (base_of part h) then words_given part h + count_asked e.access else words_given part h
+    if reads_frame_data h e.access && has_frame_at part (base_of part h) then sum_of_reads part h + count_asked e.access else sum_of_reads part h
 
 -- under MFW the newest whole frame of the run that the latest write to CMD ended, if the command was WCFG before it
 unfoldable pub frame_taken : PartData → History → Option (List ℕ)

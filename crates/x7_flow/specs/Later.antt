@@ -1,5 +1,5 @@
--- A history that goes on from settings and a flow: what it makes of them, and the pairs that it puts,
--- the newest first (this project's choice).
+-- A history that goes on from settings and a flow: what it makes of them, and the pairs that it puts, the newest first
+-- (this project's choice).
 use Rattle.std.specs.Prelude.{◌≡◌, ℕ, Bool, true, List, [], ◌∷◌, ◌++◌, Option, None}
 use Rattle.x7_packets.specs.History.{History, Write, command_held, entry}
 use Rattle.x7_part.specs.Part.{PartData}
@@ -25,9 +25,10 @@ unfoldable pub pairs_from : PartData → Settings → Flow → History → List 
 pairs_from part s f [] = []
 pairs_from part s f (e ∷ h) = puts part (asked_under (settings_from part.idcode s h) e.access) (flow_from part s f h) ++ pairs_from part s f h
 
--- the flow right after a FAR load: its command is the one held, its base the word's, and only the source is older
+-- the flow right after a FAR load: its command is the one that CMD holds, its base the word's, and only the source is
+-- older
 abbrev pub flow_loaded : PartData → Settings → Option (List ℕ) → ℕ → Flow
-flow_loaded part s source w = record { command = command_with s.held; base = loaded_base part w; run = []; source = source; given = 0 }
+flow_loaded part s source w = record { command = command_with s.command_code; base = loaded_base part w; run = []; source = source; given = 0 }
 
 -- the pairs of a history that goes on from a FAR load of this word
 abbrev pub pairs_loaded : PartData → Settings → Option (List ℕ) → ℕ → History → List PlanRow
@@ -49,7 +50,7 @@ pairs_after_load part earlier w later = pairs_loaded part (settings_of part.idco
 abbrev pub pairs_alone : PartData → History → ℕ → History → List PlanRow
 pairs_alone part earlier w later = pairs_loaded part (settings_of part.idcode earlier) None w later
 
--- the command held is MFW
+-- the command that CMD holds is MFW
 abbrev pub has_mfw : History → Bool
 has_mfw h = is_mfw (command_with (command_held h))
 

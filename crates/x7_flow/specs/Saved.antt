@@ -20,8 +20,8 @@ pub record FramesAreKept (part : PartData) (s : SavedState) (old new : FramesSta
   pub old_fit : FramesFit part old
   pub new_fit : FramesFit part new
 
--- the old frames stand for a history, and the new memory is that of one access more
-pub record GetAccess (part : PartData) (old new : FramesState) (h : History) (e : Entry) : Type 0 where
+-- the old frames stand for a history, and the new memory is that of the history with one access more
+pub record HaveOneAccessMore (part : PartData) (old new : FramesState) (h : History) (e : Entry) : Type 0 where
   pub stands : FramesStandFor part old h 0
   pub memory : AreSame (frames_map part new) (memory_of part (e ∷ h))
 

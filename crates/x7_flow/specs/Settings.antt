@@ -1,5 +1,5 @@
--- What decides whether an access concerns frames: whether the device is matched, MASK, CTL0
--- and CMD (UG470, configuration registers).
+-- What decides whether an access concerns frames: whether the device is matched, MASK, CTL0 and CMD (UG470,
+-- configuration registers).
 use Rattle.std.specs.Prelude.{◌≡◌, ℕ, ◌%◌, ◌^◌, ◌==◌, ◌||◌, ◌&&◌, not, Bool, true, if◌then◌else◌, [], ◌∷◌}
 use Rattle.x7_part.specs.Part.{PartData}
 use Rattle.x7_packets.specs.History.{Access, Write, History, command_held, written}
@@ -11,35 +11,35 @@ use Rattle.x7_flow.specs.declared.settings.FrameSettings.{FrameSettings}
 use Rattle.x7_regs.specs.Control.{forbids_reading, forbids_writing}
 use Rattle.x7_flow.specs.Controls.{ctl0_held, is_matched, mask_held, masked_word, names_part}
 
--- a matched device or not, the words of MASK and CTL0, and the code of the command that CMD holds
+-- whether the device is matched, the words of MASK and CTL0, and the code of the command that CMD holds
 pub record Settings : Type 0 where
-  pub matched : Bool
+  pub is_matched : Bool
   pub mask : ℕ
   pub ctl0 : ℕ
-  pub held : ℕ
+  pub command_code : ℕ
 
 -- the settings after a history
 abbrev pub settings_of : ℕ → History → Settings
-settings_of idcode h = record { matched = is_matched idcode h; mask = mask_held h; ctl0 = ctl0_held h; held = command_held h }
+settings_of idcode h = record { is_matched = is_matched idcode h; mask = mask_held h; ctl0 = ctl0_held h; command_code = command_held h }
 
 -- the three settings that a device stores are those of a history
 pub record AreSettingsAfter (idcode : ℕ) (s : FrameSettings) (h : History) : Type 0 where
-  pub matched_is : is_matched idcode h ≡ s.matched
+  pub is_matched_is : is_matched idcode h ≡ s.is_matched
   pub ctl0_is : ctl0_held h ≡ s.ctl0
-  pub held_is : command_held h ≡ s.held
+  pub command_code_is : command_held h ≡ s.command_code
 
--- the command that CMD holds after an access
-abbrev pub held_after : Access → ℕ → ℕ
-held_after (Write register w) old = if register == number_of reg.Cmd then w % 2 ^ 5 else old
-held_after _ old = old
+-- the code of the command that CMD holds after an access
+abbrev pub command_code_after : Access → ℕ → ℕ
+command_code_after (Write register w) old = if register == number_of reg.Cmd then w % 2 ^ 5 else old
+command_code_after _ old = old
 
 -- the settings after one access more
 abbrev pub settings_after : ℕ → Access → Settings → Settings
 settings_after idcode access s = record {
-  matched = names_part idcode access || s.matched;
+  is_matched = names_part idcode access || s.is_matched;
   mask = written (number_of reg.Mask) access s.mask;
   ctl0 = masked_word (number_of reg.Ctl0) s.mask access s.ctl0;
-  held = held_after access s.held;
+  command_code = command_code_after access s.command_code;
 }
 
 -- the settings after a history that goes on from these settings
@@ -49,15 +49,15 @@ settings_from idcode s (e ∷ h) = settings_after idcode e.access (settings_from
 
 -- words of FDRI go to the memory
 abbrev pub takes_frames : Settings → Bool
-takes_frames s = s.matched && (s.held == code_of command.Wcfg && not (forbids_writing s.ctl0))
+takes_frames s = s.is_matched && (s.command_code == code_of command.Wcfg && not (forbids_writing s.ctl0))
 
 -- words of MFWR ask for copies
 abbrev pub takes_copies : Settings → Bool
-takes_copies s = s.matched && not (forbids_writing s.ctl0)
+takes_copies s = s.is_matched && not (forbids_writing s.ctl0)
 
 -- reads of FDRO give words of the memory
 abbrev pub gives_frames : Settings → Bool
-gives_frames s = s.held == code_of command.Rcfg && not (forbids_reading s.ctl0)
+gives_frames s = s.command_code == code_of command.Rcfg && not (forbids_reading s.ctl0)
 
 -- after a history words of FDRI go to the memory
 abbrev pub TakesFrames : PartData → History → Type 0

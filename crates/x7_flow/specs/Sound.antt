@@ -7,10 +7,10 @@ use Rattle.x7_pipeline.specs.Copies.{is_mfw, is_wcfg}
 use Rattle.x7_flow.specs.Settings.{Settings}
 use Rattle.x7_flow.specs.Flow.{Flow}
 
--- a flow is sound under settings: its command is the one held, only WCFG has a run, only MFW
--- a source, and only an address gives words
+-- a flow is sound under settings: its command is the one that CMD holds, only WCFG has a run, only MFW a source, and
+-- only an address gives words
 pub record IsSound (part : PartData) (s : Settings) (f : Flow) : Type 0 where
-  pub command_is : f.command ≡ command_with s.held
+  pub command_is : f.command ≡ command_with s.command_code
   pub idle : is_wcfg f.command ≡ false → f.run ≡ []
   pub sourceless : is_mfw f.command ≡ false → f.source ≡ None
   pub nowhere : has_frame_at part f.base ≡ false → f.given ≡ 0

@@ -1,5 +1,5 @@
--- A pipeline and a memory that stand for a history, and the words of frame data
--- that are read out (this project's choice).
+-- A pipeline and a memory that stand for a history, and the words of frame data that are read out (this project's
+-- choice).
 use Rattle.std.specs.Prelude.{◌≡◌, ℕ, zero, suc, ◌+◌, ◌-◌, ◌<◌, ◌≤◌, false, true, List, [], ◌∷◌, Option, None, Some}
 use Rattle.x7_packets.specs.History.{Access, Entry, History, Read, Write, entry}
 use Rattle.x7_regs.specs.declared.register.Reg.{Reg}
@@ -10,7 +10,7 @@ use Rattle.x7_memory.specs.FrameMap.{FrameMap, AreSame}
 use Rattle.x7_memory.specs.Frames.{frame_at}
 use Rattle.x7_pipeline.specs.FarAsRead.{has_frame_at}
 use Rattle.x7_pipeline.specs.Flow.{HoldsFlow}
-use Rattle.x7_pipeline.specs.Pipeline.{AreOf, PipelineData}
+use Rattle.x7_pipeline.specs.Pipeline.{AreOfPart, PipelineData}
 use Rattle.x7_pipeline.specs.Readback.{readback_at}
 use Rattle.x7_pipeline.specs.Runs.{put_over}
 use Rattle.x7_flow.specs.Asking.{Asked, Reads}
@@ -21,19 +21,19 @@ use Rattle.x7_flow.specs.FrameMemory.{memory_of, puts}
 use Rattle.x7_flow.specs.InWords.{count_asked}
 use Rattle.x7_flow.specs.Settings.{AreSettingsAfter}
 
--- the pipeline stands for a flow, of which only an address gives words
+-- the pipeline stands for a flow, which has given words only where its base is an address
 pub record HasFlow (part : PartData) (p : PipelineData) (f : Flow) : Type 0 where
   pub stands : HoldsFlow part p f
   pub nowhere : has_frame_at part f.base ≡ false → f.given ≡ 0
 
 -- a flow without the last `due` of its words given, which are still due
-abbrev pub less : ℕ → Flow → Flow
-less due f = record f { given = f.given - due }
+abbrev pub without_due : ℕ → Flow → Flow
+without_due due f = record f { given = f.given - due }
 
--- the pipeline stands for the flow of a history, of whose last read `due` words are
--- still due, and the memory is the history's
+-- the pipeline stands for the flow of a history, of whose last read `due` words are still due, and the memory is the
+-- history's
 pub record AreFramesAfter (part : PartData) (p : PipelineData) (frames : List (List ℕ)) (h : History) (due : ℕ) : Type 0 where
-  pub flow : HasFlow part p (less due (flow_of part h))
+  pub flow : HasFlow part p (without_due due (flow_of part h))
   pub memory : AreSame (frame_at part frames) (memory_of part h)
   pub due_given : due ≤ count_given part h
 
@@ -46,29 +46,29 @@ pub record FramesState : Type 0 where
 abbrev pub frames_state : PipelineData → List (List ℕ) → FramesState
 frames_state pipeline memory = record { pipeline = pipeline; memory = memory }
 
--- frames before and after they did what was asked
-pub record Did (part : PartData) (a : Asked) (old new : FramesState) : Type 0 where
+-- frames, old before and new after they did what an access asks
+pub record HaveDone (part : PartData) (a : Asked) (old new : FramesState) : Type 0 where
   pub flow : (f : Flow) → HasFlow part old.pipeline f → HasFlow part new.pipeline (flow_by part a f)
   pub memory : (f : Flow) → HasFlow part old.pipeline f → AreSame (frame_at part new.memory) (put_over (puts part a f) (frame_at part old.memory))
 
 -- `count` words of a readback from a place on
-abbrev pub words_from : PartData → ℕ → FrameMap → ℕ → ℕ → List ℕ
-words_from part base memory place zero = []
-words_from part base memory place (suc count) = readback_at part base memory place ∷ words_from part base memory (place + 1) count
+abbrev pub readback_words : PartData → ℕ → FrameMap → ℕ → ℕ → List ℕ
+readback_words part base memory place zero = []
+readback_words part base memory place (suc count) = readback_at part base memory place ∷ readback_words part base memory (place + 1) count
 
 -- the words that a read of frame data after a history gives, from an address
 abbrev pub frames_read : PartData → History → ℕ → List ℕ
-frames_read part h count = words_from part (base_of part h) (memory_of part h) (count_given part h) count
+frames_read part h count = readback_words part (base_of part h) (memory_of part h) (count_given part h) count
 
 -- the last words that were given by a history, as many as are due
 abbrev pub words_due : PartData → History → ℕ → List ℕ
-words_due part h due = words_from part (base_of part h) (memory_of part h) (count_given part h - due) due
+words_due part h due = readback_words part (base_of part h) (memory_of part h) (count_given part h - due) due
 
 -- ---- the frames of a device
 
 -- the frames are a part's
 abbrev pub FramesFit : PartData → FramesState → Type 0
-FramesFit part f = AreOf part f.pipeline f.memory
+FramesFit part f = AreOfPart part f.pipeline f.memory
 
 -- the frames stand for a history, of whose last read `due` words of frame data are still due
 abbrev pub FramesStandFor : PartData → FramesState → History → ℕ → Type 0
@@ -92,8 +92,8 @@ abbrev pub OfFrames : PartData → FrameSettings → FramesState → (History �
 OfFrames part settings f Fact = (h : History) → AreSettingsAfter part.idcode settings h → FramesStandFor part f h 0 → Fact h
 
 -- frames before and after they did what an access after a history asks
-abbrev pub FramesDid : PartData → FramesState → FramesState → History → Entry → Type 0
-FramesDid part old new h e = Did part (asks part.idcode h e.access) old new
+abbrev pub FramesHaveDone : PartData → FramesState → FramesState → History → Entry → Type 0
+FramesHaveDone part old new h e = HaveDone part (asks part.idcode h e.access) old new
 
 -- an access after a history reads `count` words of frame data, from an address
 pub record ReadsFrames (part : PartData) (f : FramesState) (h : History) (access : Access) (count : ℕ) : Type 0 where
@@ -122,7 +122,7 @@ abbrev pub ReadsData : History → ℕ → ℕ → Type 0
 ReadsData h register count = reads_frame_data h (Read register count) ≡ true
 
 -- a read of frame data of which fewer words are due than it asks for
-pub record ReadsMore (h : History) (register count due : ℕ) : Type 0 where
+pub record ReadsMoreThanDue (h : History) (register count due : ℕ) : Type 0 where
   pub reads : ReadsData h register count
   pub fewer : due < count
 

@@ -50,27 +50,28 @@ abbrev pub EndsBy : PartData → Reg → History → List ℕ → Option RunFaul
 EndsBy part r h rest None = rest ≡ []
 EndsBy part r h rest (Some fault) = (w : ℕ) × (more : List ℕ) × (rest ≡ w ∷ more) × (frame_fault part h (Write (number_of r) w) ≡ Some fault)
 
--- how many words were looked at, where `taken` words were taken: a refused one too
-abbrev pub words_seen : ℕ → Option RunFault → ℕ
-words_seen taken None = taken
-words_seen taken (Some fault) = taken + 1
+-- how many words were looked at, where `taken` words were taken: those, and a refused one
+abbrev pub count_seen : ℕ → Option RunFault → ℕ
+count_seen taken None = taken
+count_seen taken (Some fault) = taken + 1
 
 -- how many of the words looked at were taken: not the last one, where it is refused
-abbrev pub words_before : ℕ → Option RunFault → ℕ
-words_before count None = count
-words_before count (Some fault) = count - 1
+abbrev pub count_taken : ℕ → Option RunFault → ℕ
+count_taken count None = count
+count_taken count (Some fault) = count - 1
 
--- the words up to the first refused one were taken; the count, beside the fault, has the refused one too
+-- the words up to the first refused one were taken; `seen` is how many were looked at, a refused one too, and its fault
 pub record WordsTaken (part : PartData) (f : FramesState) (h : History) (x : WordsTo) (seen : ℕ × Option RunFault) : Type 0 where
   pub taken : List ℕ
   pub rest : List ℕ
   pub words_are : x.words ≡ taken ++ rest
   pub none_refused : NoneRefused part x.register x.place taken h
   pub end : EndsBy part x.register (with_words_to x.register x.place taken h) rest seen.1
-  pub counted : seen.0 ≡ words_seen (length taken) seen.1
+  pub counted : seen.0 ≡ count_seen (length taken) seen.1
   pub stands : FramesStandFor part f (with_words_to x.register x.place taken h) 0
 
--- what holds of a history whose settings take words, and that a pipeline and frames stand for with no word due
+-- what holds of each history whose settings take the words, and that the pipeline and the frames stand for with no word
+-- due
 abbrev pub OfTaking : PartData → (Settings → Bool) → PipelineData → List (List ℕ) → (History → Type 0) → Type 0
 OfTaking part takes p frames Fact = (h : History) → takes (settings_of part.idcode h) ≡ true → AreFramesAfter part p frames h 0 → Fact h
 

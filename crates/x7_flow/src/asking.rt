@@ -11,25 +11,25 @@ ghost use Rattle.x7_flow.specs.Settings.{AreSettingsAfter, settings_of, takes_co
 use crate::settings::FrameSettings;
 use x7_regs::{Command, Reg, forbids_reading, forbids_writing, reg_of};
 
-/// Whether words of MFWR ask for copies.
+/// Whether words of MFWR ask for copies under these settings.
 pub(crate) fn takes_copies(settings: FrameSettings) -> bool
-    ensures value { result ≡ (settings.matched && not (forbids_writing settings.ctl0)) }
+    ensures value { result ≡ (settings.is_matched && not (forbids_writing settings.ctl0)) }
     ensures after { (idcode : ℕ) (h : History) → AreSettingsAfter idcode settings h → result ≡ takes_copies_by (settings_of idcode h) }
 {
-    settings.matched && !forbids_writing(settings.ctl0)
+    settings.is_matched && !forbids_writing(settings.ctl0)
 }
 
-/// Whether words of FDRI go to the memory.
+/// Whether words of FDRI go to the memory under these settings.
 pub(crate) fn takes_frames(settings: FrameSettings) -> bool
-    ensures value { result ≡ (settings.matched && (settings.held == code_of command.Wcfg && not (forbids_writing settings.ctl0))) }
+    ensures value { result ≡ (settings.is_matched && (settings.command_code == code_of command.Wcfg && not (forbids_writing settings.ctl0))) }
     ensures after { (idcode : ℕ) (h : History) → AreSettingsAfter idcode settings h → result ≡ takes_frames_by (settings_of idcode h) }
 {
-    settings.matched
-        && u32::from(settings.held) == Command::Wcfg.code()
+    settings.is_matched
+        && u32::from(settings.command_code) == Command::Wcfg.code()
         && !forbids_writing(settings.ctl0)
 }
 
-/// Whether a register's number is that of the frame data that are read.
+/// Whether a register's number is that of FDRO.
 fn is_readback(register: u8) -> bool
     ensures { result ≡ (register == number_of Reg.Fdro) }
 {
@@ -45,6 +45,6 @@ pub fn reads_frames(settings: FrameSettings, register: u8, count: u32) -> bool
 {
     is_readback(register)
         && count != 0
-        && u32::from(settings.held) == Command::Rcfg.code()
+        && u32::from(settings.command_code) == Command::Rcfg.code()
         && !forbids_reading(settings.ctl0)
 }

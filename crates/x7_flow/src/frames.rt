@@ -5,7 +5,7 @@ ghost use Rattle.x7_packets.specs.History.{History, Write};
 ghost use Rattle.x7_regs.specs.Register.{number_of};
 ghost use Rattle.x7_regs.specs.declared.register.Reg.TheVariants as reg;
 ghost use Rattle.x7_flow.specs.Flow.{far_in, flow_of, frame_fault};
-ghost use Rattle.x7_flow.specs.Standing.{AfterAccess, AfterRead, FramesFit, FramesStandFor, HaveWordsDue, OfFrames, ReadsData, less, read_entry, words_due, written_to};
+ghost use Rattle.x7_flow.specs.Standing.{AfterAccess, AfterRead, FramesFit, FramesStandFor, HaveWordsDue, OfFrames, ReadsData, without_due, read_entry, words_due, written_to};
 ghost use Rattle.x7_flow.specs.Words.{TakesWords, WordsTaken, words_to};
 
 mod saved;
@@ -37,8 +37,8 @@ impl Model for Frames {
 }
 
 impl Frames {
-    /// The frames of a device after a reset: zeros. The call takes room for all frames of
-    /// the part, and no other call takes memory.
+    /// The frames of a device after a reset: zeros. The call takes room for all frames of the part, and no other call
+    /// takes memory.
     pub fn new(alloc: Global, part: &Part) -> Result<Frames, NoMemory>
         ensures stands { IfOk result (λ frames. FramesStandFor part.now frames [] 0) }
         ensures part { IfOk result (FramesFit part.now) }
@@ -184,7 +184,7 @@ impl Frames {
 
     /// The frame address register as it is read, while words of the last read may still be due.
     pub fn far(&self, part: &Part) -> u32
-        ensures { (h : History) (due : ℕ) → FramesStandFor part.now self.now h due → result ≡ far_in part.now (less due (flow_of part.now h)) }
+        ensures { (h : History) (due : ℕ) → FramesStandFor part.now self.now h due → result ≡ far_in part.now (without_due due (flow_of part.now h)) }
     {
         self.pipeline.far(part)
     }

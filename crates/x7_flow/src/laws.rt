@@ -1,4 +1,4 @@
-//! Laws of the definitions. The functions do nothing: their contracts are the laws.
+//! Laws of the frames of a history. The functions do nothing: their contracts are the laws.
 ghost use Rattle.std.specs.Prelude.{◌≡◌, ◌↔◌, ◌∷◌, ◌++◌, [], ℕ, List, None, Option, Some, reverse, ◌<◌, ◌-◌, true, false};
 ghost use Rattle.x7_memory.specs.FrameMap.{AreSame};
 ghost use Rattle.x7_part.specs.AddressOrder.{Rises, addresses_in};
@@ -11,19 +11,19 @@ ghost use Rattle.x7_pipeline.specs.Runs.{written_frames, onto};
 ghost use Rattle.x7_pipeline.specs.Saved.{SavedState};
 ghost use Rattle.x7_pipeline.specs.declared.fault.RunFault.{RunFault};
 ghost use Rattle.x7_flow.specs.Alike.{AreSameButForMask, MasksFirst};
-ghost use Rattle.x7_flow.specs.Flow.{Flow, HasAddress, asks, base_of, begins, far_read, flow_of, frame_fault, count_given, is_copy, is_read, is_word, run_of, source_of};
+ghost use Rattle.x7_flow.specs.Flow.{Flow, HasAddress, asks, base_of, begins_stretch, far_read, flow_of, frame_fault, count_given, is_copy, is_read, is_word, run_of, source_of};
 ghost use Rattle.x7_flow.specs.FrameAccess.{copies_frame, reads_frame_data, writes_frame_data};
 ghost use Rattle.x7_flow.specs.FrameMemory.{written_frames_more, memory_of};
 ghost use Rattle.x7_flow.specs.FrameWrites.{FrameCopies, FrameWrite, MfwAfter, TakesCopies, TakesWrite, pair_copied, placed, with_frame_copies, with_frames};
-ghost use Rattle.x7_flow.specs.InWords.{base_after, frame_taken, words_given, words_written};
+ghost use Rattle.x7_flow.specs.InWords.{base_after, frame_taken, sum_of_reads, words_written};
 ghost use Rattle.x7_flow.specs.Inside.{HasFrames};
 ghost use Rattle.x7_flow.specs.Later.{BeginsRun, MemoryGets, Start, after_load, flow_from, flow_on, has_mfw, pairs_after, pairs_alone, pairs_after_load, pairs_from, pairs_loaded, pairs_on, start_on};
 ghost use Rattle.x7_flow.specs.NeedsAddress.{LacksAddress, LacksSlot, LacksSource, RunsAtAddress, WritesWord};
 ghost use Rattle.x7_flow.specs.Quiet.{AreQuiet};
-ghost use Rattle.x7_flow.specs.Saved.{FramesAreKept, FramesBack, GetAccess};
+ghost use Rattle.x7_flow.specs.Saved.{FramesAreKept, FramesBack, HaveOneAccessMore};
 ghost use Rattle.x7_flow.specs.Settings.{Settings, TakesFrames, settings_after, settings_from, settings_of};
 ghost use Rattle.x7_flow.specs.Sound.{IsSound};
-ghost use Rattle.x7_flow.specs.Standing.{FramesDid, FramesFit, FramesStandFor, FramesState, ReadsData, ReadsFrames, ReadsMore, flow_read, frames_map, frames_read, less, words_due, written_to};
+ghost use Rattle.x7_flow.specs.Standing.{FramesHaveDone, FramesFit, FramesStandFor, FramesState, ReadsData, ReadsFrames, ReadsMoreThanDue, flow_read, frames_map, frames_read, without_due, words_due, written_to};
 ghost use Rattle.x7_flow.specs.Stretches.{ends_of, is_boundary, overridden};
 ghost use Rattle.x7_flow.specs.Words.{HasRoomFor, NoneRefused, with_copies, with_frame_data};
 
@@ -35,7 +35,7 @@ pub fn flows_go_by_settings()
     ensures settings { (idcode : ℕ) (e : Entry) (h : History) → settings_of idcode (e ∷ h) ≡ settings_after idcode e.access (settings_of idcode h) }
 {}
 
-/// The memory of a later history after an earlier one.
+/// The settings, the flow and the memory of a later history after an earlier one.
 pub fn later_histories_override()
     ensures settings { (idcode : ℕ) (later earlier : History) → settings_of idcode (later ++ earlier) ≡ settings_from idcode (settings_of idcode earlier) later }
     ensures flow { (part : PartData) (later earlier : History) → flow_of part (later ++ earlier) ≡ flow_from part (settings_of part.idcode earlier) (flow_of part earlier) later }
@@ -51,7 +51,7 @@ pub fn stretches_override_in_order()
 
 /// What an access asks is what it does: frame data written, a copy, frame data read.
 pub fn accesses_do_what_they_ask()
-    ensures begins { (idcode : ℕ) (h : History) (access : Access) → is_boundary access ≡ begins (asks idcode h access) }
+    ensures begins { (idcode : ℕ) (h : History) (access : Access) → is_boundary access ≡ begins_stretch (asks idcode h access) }
     ensures word { (idcode : ℕ) (h : History) (access : Access) → writes_frame_data idcode h access ≡ is_word (asks idcode h access) }
     ensures copy { (idcode : ℕ) (h : History) (access : Access) → copies_frame idcode h access ≡ is_copy (asks idcode h access) }
     ensures read { (idcode : ℕ) (h : History) (access : Access) → reads_frame_data h access ≡ is_read (asks idcode h access) }
@@ -61,7 +61,7 @@ pub fn accesses_do_what_they_ask()
 pub fn flows_go_by_accesses()
     ensures base { (part : PartData) (e : Entry) (h : History) → base_of part (e ∷ h) ≡ base_after part e.access (far_read part h) (base_of part h) }
     ensures run { (part : PartData) (h : History) → run_of part h ≡ words_written part.idcode h }
-    ensures given { (part : PartData) (h : History) → count_given part h ≡ words_given part h }
+    ensures given { (part : PartData) (h : History) → count_given part h ≡ sum_of_reads part h }
     ensures source { (part : PartData) (h : History) → source_of part h ≡ frame_taken part h }
 {}
 
@@ -69,7 +69,7 @@ pub fn flows_go_by_accesses()
 /// all the words of that read are due. Frames of a part that stand for one history, with as many words due, are equal.
 pub fn frames_stand_for_one_more()
     ensures one_more { (part : PartData) (old new : FramesState) (e : Entry) (h : History) →
-        FramesDid part old new h e → FramesStandFor part old h 0 → FramesStandFor part new (e ∷ h) 0 }
+        FramesHaveDone part old new h e → FramesStandFor part old h 0 → FramesStandFor part new (e ∷ h) 0 }
     ensures read { (part : PartData) (f : FramesState) (e : Entry) (h : History) (count : ℕ) →
         ReadsFrames part f h e.access count → FramesStandFor part f (e ∷ h) count }
     ensures words_due { (part : PartData) (f : FramesState) (e : Entry) (h : History) (count : ℕ) →
@@ -100,7 +100,7 @@ pub fn words_at_once_land()
         pairs_on x (with_frame_data n ws later) ≡ written_frames x.part (flow_on x later).base (onto ws []) ++ pairs_on x later }
 {}
 
-/// A history that goes on in two parts, and after a load under another command than MFW.
+/// A history that goes on after one that went on, and one that goes on after a FAR load under another command than MFW.
 pub fn later_histories_join()
     ensures settings { (idcode : ℕ) (s : Settings) (later middle : History) → settings_from idcode s (later ++ middle) ≡ settings_from idcode (settings_from idcode s middle) later }
     ensures flow { (x : Start) (later middle : History) → flow_on x (later ++ middle) ≡ flow_on (start_on x middle) later }
@@ -123,14 +123,13 @@ pub fn written_frames_land_in_order()
 pub fn quiet_accesses_move_no_frame()
     ensures pairs { (part : PartData) (s : Settings) (f : Flow) (later : History) → AreQuiet later → pairs_from part s f later ≡ [] }
     ensures memory { (part : PartData) (later earlier : History) → AreQuiet later → AreSame (memory_of part (later ++ earlier)) (memory_of part earlier) }
-    ensures some_due { (part : PartData) (h : History) (register count due n : ℕ) → ReadsMore h register count due →
-        less due (flow_read part h register count n) ≡ flow_read part h register (count - due) n }
-    ensures all_due { (part : PartData) (h : History) (register count n : ℕ) → ReadsData h register count → less count (flow_read part h register count n) ≡ flow_of part h }
+    ensures some_due { (part : PartData) (h : History) (register count due n : ℕ) → ReadsMoreThanDue h register count due →
+        without_due due (flow_read part h register count n) ≡ flow_read part h register (count - due) n }
+    ensures all_due { (part : PartData) (h : History) (register count n : ℕ) → ReadsData h register count → without_due count (flow_read part h register count n) ≡ flow_of part h }
 {}
 
-/// A write of whole frames after a FAR load leaves the memory overridden by a
-/// plan of these frames at the slots in order.
-/// MFW right after WCFG takes the last frame of the run, and words of MFWR keep it and the settings.
+/// A write of whole frames after a FAR load leaves the memory overridden by a plan of these frames at the slots in
+/// order. MFW right after WCFG takes the last frame of the run, and words of MFWR keep it and the settings.
 pub fn written_frames_are_a_plan()
     ensures write { (part : PartData) (earlier : History) (x : FrameWrite) → TakesWrite part earlier x → Rises 0 (addresses_in part) →
         MemoryGets part (with_frames x earlier) earlier (placed part x) }
@@ -147,8 +146,8 @@ pub fn memory_has_frames()
     ensures { (part : PartData) (h : History) → 0 < frame_words part → HasFrames part (memory_of part h) }
 {}
 
-/// Words of frame data for which there are slots: none is refused, and where they
-/// begin a run the memory gets what they land.
+/// Words of frame data for which there are slots: none is refused, and where they begin a run the memory gets what they
+/// land.
 pub fn words_have_room()
     ensures none { (part : PartData) (n : ℕ) (ws : List ℕ) (h : History) → TakesFrames part h → HasAddress part h → HasRoomFor part h ws → NoneRefused part reg.Fdri n ws h }
     ensures memory { (part : PartData) (n : ℕ) (ws : List ℕ) (h : History) → TakesFrames part h → run_of part h ≡ [] →
@@ -160,5 +159,5 @@ pub fn kept_frames_lead_back()
     ensures unchanged { (part : PartData) (s : SavedState) (old new : FramesState) → FramesAreKept part s old new →
         AreSame (frames_map part new) (frames_map part old) → FramesBack part s new old }
     ensures one_more { (part : PartData) (s : SavedState) (old new : FramesState) (h : History) (e : Entry) → FramesAreKept part s old new →
-        GetAccess part old new h e → FramesBack part s new old }
+        HaveOneAccessMore part old new h e → FramesBack part s new old }
 {}

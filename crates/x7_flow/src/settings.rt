@@ -3,10 +3,10 @@
 /// What decides what an access asks of frames (UG470, configuration registers).
 #[derive(Clone, Copy, Debug, Drop, PartialEq, Eq)]
 pub struct FrameSettings {
-    /// Whether an IDCODE that was written is the part's.
-    pub matched: bool,
+    /// Whether an IDCODE that was written is the part's, but for bits 31:28.
+    pub is_matched: bool,
     /// The word of CTL0.
     pub ctl0: u32,
-    /// The command that CMD holds, five bits.
-    pub held: u8,
+    /// The code of the command that CMD holds, five bits.
+    pub command_code: u8,
 }

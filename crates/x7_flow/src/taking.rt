@@ -4,9 +4,9 @@ ghost use Rattle.x7_regs.specs.declared.register.Reg.TheVariants as reg;
 ghost use Rattle.x7_flow.specs.Settings.{AreSettingsAfter, takes_copies as takes_copies_by};
 ghost use Rattle.x7_flow.specs.Words.{OfTaking, WordsTaken, words_to};
 ghost use Rattle.x7_packets.specs.History.{History};
-ghost use Rattle.x7_pipeline.specs.Pipeline.{AreOf};
+ghost use Rattle.x7_pipeline.specs.Pipeline.{AreOfPart};
 ghost use Rattle.x7_flow.specs.Flow.{Flow, asks, fault_by};
-ghost use Rattle.x7_flow.specs.Standing.{Did, HasFlow, frames_state, word_to};
+ghost use Rattle.x7_flow.specs.Standing.{HaveDone, HasFlow, frames_state, word_to};
 
 use crate::asking::{takes_copies, takes_frames};
 use crate::settings::FrameSettings;
@@ -24,14 +24,14 @@ pub(crate) fn take(
     pipeline: &mut Pipeline,
     memory: &mut Memory,
 ) -> Option<RunFault>
-    requires part { AreOf part.now pipeline.old memory.old }
-    ensures did { (h : History) → AreSettingsAfter part.now.idcode settings h →
-        IfNone result (Did part.now (asks part.now.idcode h (word_to reg word)) (frames_state pipeline.old memory.old) (frames_state pipeline.new memory.new)) }
+    requires part { AreOfPart part.now pipeline.old memory.old }
+    ensures done { (h : History) → AreSettingsAfter part.now.idcode settings h →
+        IfNone result (HaveDone part.now (asks part.now.idcode h (word_to reg word)) (frames_state pipeline.old memory.old) (frames_state pipeline.new memory.new)) }
     ensures fault { (h : History) (f : Flow) → AreSettingsAfter part.now.idcode settings h → HasFlow part.now pipeline.old f →
         result ≡ fault_by part.now (asks part.now.idcode h (word_to reg word)) f }
 
     // Whatever the answer.
-    ensures part { AreOf part.now pipeline.new memory.new }
+    ensures part { AreOfPart part.now pipeline.new memory.new }
 
     // After a fault.
     ensures refused { OnSome result (pipeline.new ≡ pipeline.old) }
@@ -68,9 +68,8 @@ pub(crate) fn take(
     }
 }
 
-/// Takes words written to MFWR at once, four bytes each: the first puts the source, and
-/// each later one would put it there again.
-/// The answer is the number of words looked at, a refused one included, and the fault.
+/// Takes words written to MFWR at once, four bytes each: the first puts the source, and each later one would put it
+/// there again. The answer is the number of words looked at, a refused one included, and the fault.
 pub(crate) fn take_copies(
     bytes: &[u8],
     part: &Part,
@@ -78,10 +77,10 @@ pub(crate) fn take_copies(
     memory: &mut Memory,
 ) -> (usize, Option<RunFault>)
     requires whole { length bytes.now % 4 ≡ 0 }
-    requires part { AreOf part.now pipeline.old memory.old }
+    requires part { AreOfPart part.now pipeline.old memory.old }
     ensures taken { (n : ℕ) → OfTaking part.now takes_copies_by pipeline.old memory.old (λ h. WordsTaken part.now (frames_state pipeline.new memory.new) h (words_to reg.Mfwr n bytes.now) result) }
     ensures within { result.0 ≤ length bytes.now / 4 }
-    ensures part { AreOf part.now pipeline.new memory.new }
+    ensures part { AreOfPart part.now pipeline.new memory.new }
 {
     if bytes.is_empty() {
         return (0, None);

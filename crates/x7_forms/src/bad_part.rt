@@ -10,32 +10,32 @@ use x7_words::{Failed, Sink, write_pieces};
 /// The start of the line, before the name of the part file.
 const START: &[u8] = b"x7: bad part ";
 
-/// Writes the line of a fault that names a number.
+/// Writes the line of a fault that names a number. `reason` stands between the name of the file and the number.
 fn say_number<'x, E: Sink>(
     err: &mut E,
     name: &'x str,
-    kind: &'x [u8],
+    reason: &'x [u8],
     number: u32,
 ) -> Result<(), Failed>
-    ensures { PutsOrFails (E.state err.old) (codes "x7: bad part " ++ (name.now ++ (kind.now ++ (decimal number ++ codes "\n")))) (E.state err.new) }
+    ensures { PutsOrFails (E.state err.old) (codes "x7: bad part " ++ (name.now ++ (reason.now ++ (decimal number ++ codes "\n")))) (E.state err.new) }
 {
     let mut buffer = Buffer::new();
     let digits = buffer.format(number);
     write_pieces(
         err,
-        &[START, name.as_bytes(), kind, digits.as_bytes(), b"\n"],
+        &[START, name.as_bytes(), reason, digits.as_bytes(), b"\n"],
     )
 }
 
-/// Writes the line of a fault that names a key of a row.
+/// Writes the line of a fault that names a key of a row. `reason` stands between the name of the file and the key.
 fn say_key_in_row<'x, E: Sink>(
     err: &mut E,
     name: &'x str,
-    kind: &'x [u8],
+    reason: &'x [u8],
     key: &'x str,
     row: u32,
 ) -> Result<(), Failed>
-    ensures { PutsOrFails (E.state err.old) (codes "x7: bad part " ++ (name.now ++ (kind.now ++ (key.now ++ (codes " in row " ++ (decimal row ++ codes "\n")))))) (E.state err.new) }
+    ensures { PutsOrFails (E.state err.old) (codes "x7: bad part " ++ (name.now ++ (reason.now ++ (key.now ++ (codes " in row " ++ (decimal row ++ codes "\n")))))) (E.state err.new) }
 {
     let mut buffer = Buffer::new();
     let digits = buffer.format(row);
@@ -44,7 +44,7 @@ fn say_key_in_row<'x, E: Sink>(
         &[
             START,
             name.as_bytes(),
-            kind,
+            reason,
             key.as_bytes(),
             b" in row ",
             digits.as_bytes(),
@@ -53,25 +53,29 @@ fn say_key_in_row<'x, E: Sink>(
     )
 }
 
-/// Writes the line of a fault that names a key of the top table.
+/// Writes the line of a fault that names a key of the top table. `reason` stands between the name of the file and the
+/// key.
 fn say_top_key<'x, E: Sink>(
     err: &mut E,
     name: &'x str,
-    kind: &'x [u8],
+    reason: &'x [u8],
     key: &'x str,
 ) -> Result<(), Failed>
-    ensures { PutsOrFails (E.state err.old) (codes "x7: bad part " ++ (name.now ++ (kind.now ++ (key.now ++ codes "\n")))) (E.state err.new) }
+    ensures { PutsOrFails (E.state err.old) (codes "x7: bad part " ++ (name.now ++ (reason.now ++ (key.now ++ codes "\n")))) (E.state err.new) }
 {
-    write_pieces(err, &[START, name.as_bytes(), kind, key.as_bytes(), b"\n"])
+    write_pieces(
+        err,
+        &[START, name.as_bytes(), reason, key.as_bytes(), b"\n"],
+    )
 }
 
-/// Writes the line of a fault that names a key.
-fn say_key<E: Sink>(err: &mut E, name: &str, kind: &[u8], which: Which) -> Result<(), Failed>
-    ensures { PutsOrFails (E.state err.old) (codes "x7: bad part " ++ (name.now ++ (kind.now ++ (which_text which ++ codes "\n")))) (E.state err.new) }
+/// Writes the line of a fault that names a key. `reason` stands between the name of the file and the key.
+fn say_key<E: Sink>(err: &mut E, name: &str, reason: &[u8], at: Which) -> Result<(), Failed>
+    ensures { PutsOrFails (E.state err.old) (codes "x7: bad part " ++ (name.now ++ (reason.now ++ (which_text at ++ codes "\n")))) (E.state err.new) }
 {
-    match which.row {
-        Some(row) => say_key_in_row(err, name, kind, which.key.name(), row),
-        None => say_top_key(err, name, kind, which.key.name()),
+    match at.row {
+        Some(row) => say_key_in_row(err, name, reason, at.key.name(), row),
+        None => say_top_key(err, name, reason, at.key.name()),
     }
 }
 
@@ -81,8 +85,8 @@ pub(crate) fn say_bad_part<E: Sink>(err: &mut E, name: &str, fault: PartFault) -
 {
     match fault {
         PartFault::Toml => write_pieces(err, &[START, name.as_bytes(), b": toml\n"]),
-        PartFault::Key(which) => say_key(err, name, b": key ", which),
-        PartFault::Range(which) => say_key(err, name, b": range ", which),
+        PartFault::Key(at) => say_key(err, name, b": key ", at),
+        PartFault::Range(at) => say_key(err, name, b": range ", at),
         PartFault::SameRow(row) => say_number(err, name, b": same row ", row),
         PartFault::TooMany(frames) => say_number(err, name, b": too many ", frames),
         PartFault::NoMemory => write_pieces(err, &[START, name.as_bytes(), b": no memory\n"]),

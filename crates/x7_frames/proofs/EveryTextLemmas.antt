@@ -15,8 +15,8 @@ use Rattle.x7_part.specs.AddressOrder.{addresses_in}
 use Rattle.x7_part.specs.Part.{PartData, frame_words}
 use Rattle.x7_memory.specs.Plan.{IsPlanRow, PlanRow, planned_addresses}
 use Rattle.x7_memory.proofs.DraftLemmas.{sorted_plan}
-use Rattle.x7_frames.specs.FramesText.{AreGood, AreLinesOfRows, frame, frame_head, HasPlan, IsFrameLine, IsGoodText, no_frame, no_line}
-use Rattle.x7_frames.specs.Steps.{IsFaultAt, TakesLine}
+use Rattle.x7_frames.specs.FramesText.{AreGood, AreLinesOfRows, frame, frame_head, HasPlanOrFault, IsFrameLine, IsGoodText, no_frame, no_line}
+use Rattle.x7_frames.specs.Reading.{IsFaultAt, TakesLine}
 use Rattle.x7_frames.specs.declared.fault.FramesFault.{FramesFault}
 use Rattle.x7_frames.specs.declared.fault.FramesFault.TheVariants as fault
 use Rattle.x7_frames.proofs.GoodLemmas.{fault_of, good_next, no_rows_apart}
@@ -172,16 +172,16 @@ good_text part text rows good =
 
 -- ---- the lines of a text in turn
 
-from : (part : PartData) (text : List ℕ) (before rest : List (List ℕ)) (rows : List PlanRow) → split text ≡ before ++ rest → AreGood part before rows → HasPlan part text
+from : (part : PartData) (text : List ℕ) (before rest : List (List ℕ)) (rows : List PlanRow) → split text ≡ before ++ rest → AreGood part before rows → HasPlanOrFault part text
 unfolding LineOr
 from part text before [] rows e good = let g = good_text part text rows (subst (λ lines. AreGood part lines rows) (sym (e ∙ append-nil before)) good) in (Ok g.0, g.1)
 from part text before (line ∷ rest) rows e good = by (λ new. from part text (before ++ line ∷ []) rest new (e ∙ sym (append_assoc before (line ∷ []) rest))) (line_or part rows (length before + 1) line)
   where
-    by : ((new : List PlanRow) → AreGood part (before ++ line ∷ []) new → HasPlan part text) → LineOr part rows (length before + 1) line → HasPlan part text
+    by : ((new : List PlanRow) → AreGood part (before ++ line ∷ []) new → HasPlanOrFault part text) → LineOr part rows (length before + 1) line → HasPlanOrFault part text
     by goes-on (inl (new, takes)) = goes-on new (good_next part before line rows new good takes)
     by goes-on (inr (f, is)) =
         (Err f, fault_of part text line rows (length before + 1) f (record { before = before; after = rest; texts = e; good = good; count = refl }) is)
 
-pub has_plan : (part : PartData) (text : List ℕ) → HasPlan part text
+pub has_plan : (part : PartData) (text : List ℕ) → HasPlanOrFault part text
 has_plan part text =
     from part text [] (split text) [] refl (record { read = no_line (frame_words part); addresses = All-nil (λ r. Contains (addresses_in part) r.far); apart = no_rows_apart })

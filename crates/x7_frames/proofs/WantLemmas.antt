@@ -5,9 +5,9 @@ use Rattle.x7_text.specs.LineReader.{ReaderState, StandsFor, WantsIn}
 use Rattle.x7_text.proofs.SplitLemmas.{split_some}
 use Rattle.x7_part.specs.Part.{PartData}
 use Rattle.x7_memory.specs.Plan.{PlanRow}
-use Rattle.x7_frames.specs.FrameLines.{AreGoodWith, HasRows, Rows}
+use Rattle.x7_frames.specs.FrameLines.{AreGoodWith, HasRows, RowsRead}
 use Rattle.x7_frames.specs.FramesText.{AreGood, IsGoodText}
-use Rattle.x7_frames.specs.Steps.{IsGoodLine}
+use Rattle.x7_frames.specs.Reading.{IsGoodLine}
 use Rattle.x7_frames.specs.declared.fault.FramesFault.TheVariants as fault
 use Rattle.x7_frames.proofs.EveryTextLemmas.{LineOr, good_text, line_or}
 use Rattle.x7_frames.proofs.OneLemmas.{foreign_there, no_line_there, repeated_there}
@@ -29,7 +29,7 @@ up_to : (before after more : List (List ℕ)) (last line : List ℕ) → before 
 up_to [] after more last line e = let head : last ≡ line = cc in ([], ap (λ (l : List ℕ). l ∷ []) head)
 up_to (b ∷ before) after more last line e = let head : b ≡ line = cc in (before ++ last ∷ [], ap (λ (l : List ℕ). l ∷ (before ++ last ∷ [])) head)
 
-module _ (part : PartData) (r : ReaderState Rows) (text : List ℕ) (s : StandsFor (HasRows part) r text) where
+module _ (part : PartData) (r : ReaderState RowsRead) (text : List ℕ) (s : StandsFor (HasRows part) r text) where
   -- the first line that ends in a piece is good
   pub first_good : (piece line after : List ℕ) → WantsIn (HasRows part) (AreGoodWith part) s.lines piece → split piece ≡ line ∷ split after → IsGoodLine part r.taker.rows line
   first_good piece line after (inl w) e =

@@ -4,7 +4,7 @@ use Rattle.x7_text.specs.Lines.{split}
 use Rattle.x7_part.specs.Part.{PartData, frame_words}
 use Rattle.x7_memory.specs.Plan.{AreApart, PlanData, PlanRow}
 use Rattle.x7_frames.specs.FramesText.{AreGood, IsPlanOf}
-use Rattle.x7_frames.specs.Steps.{HasMarks}
+use Rattle.x7_frames.specs.Reading.{HasMarks}
 use Rattle.x7_frames.specs.declared.fault.FramesFault.{FramesFault}
 use Rattle.x7_frames.specs.declared.fault.FramesFault.TheVariants as fault
 
@@ -16,19 +16,19 @@ pub record AreSoundRows (part : PartData) (rows : List PlanRow) (width : ℕ) (m
   pub apart : AreApart rows
 
 -- the rows of a part that lines gave so far
-pub record Rows : Type 0 where
+pub record RowsRead : Type 0 where
   pub part : PartData
   pub rows : List PlanRow
 
 -- good lines of a part gave these rows
-abbrev pub HasRows : PartData → Rows → List (List ℕ) → Type 0
+abbrev pub HasRows : PartData → RowsRead → List (List ℕ) → Type 0
 HasRows part r lines = (r.part ≡ part) × AreGood part lines r.rows
 
--- the lines and one more after them are good: only at such a line may memory be wanting
+-- good lines, with one line more after them: only at such a line may memory be wanting
 abbrev pub AreGoodWith : PartData → List (List ℕ) → List ℕ → Type 0
 AreGoodWith part lines line = (rows : List PlanRow) × AreGood part (lines ++ line ∷ []) rows
 
--- a text of these lines comes to this
+-- a text of these lines comes to this plan or this fault
 abbrev pub ComeTo : PartData → Result PlanData FramesFault → List (List ℕ) → Type 0
 ComeTo part r lines = (text : List ℕ) → split text ≡ lines → IsPlanOf part text r
 

@@ -15,7 +15,7 @@ use Rattle.x7_frames.specs.declared.fault.FramesFault.TheVariants as fault
 abbrev pub frame_head : ℕ → List ℕ
 frame_head far = codes "frame " ++ (hex_word far ++ 32 ∷ [])
 
--- a line is none of a frame with this many digits, whatever its address
+-- a line isn't that of a frame with this many digits, whatever its address
 abbrev pub HasNoFrameHead : ℕ → List ℕ → Type 0
 HasNoFrameHead digit_count line = (far : ℕ) (digits : List ℕ) → far < 2 ^ 32 → length digits ≡ digit_count → line ≡ frame_head far ++ digits → ⊥
 
@@ -43,7 +43,7 @@ pub record AreGood (part : PartData) (lines : List (List ℕ)) (rows : List Plan
   pub addresses : AreAddressed part rows
   pub apart : AreApart rows
 
--- all lines are good, and the plan has their frames, in number order of the addresses
+-- all lines of a text are good, and the plan has their frames, in number order of the addresses
 pub record Plans (part : PartData) (text : List ℕ) (plan : PlanData) : Type 0 where
   pub rows : List PlanRow
   pub good : AreGood part (split text) rows
@@ -51,7 +51,7 @@ pub record Plans (part : PartData) (text : List ℕ) (plan : PlanData) : Type 0 
   pub is_plan : IsPlan plan
   pub width : plan.width ≡ frame_words part
 
--- line n is this one, and the lines before it are good and have these rows
+-- line n of a text, from 1, is this one, and the lines before it are good and have these rows
 pub record ReachesLine (part : PartData) (text : List ℕ) (n : ℕ) (line : List ℕ) (rows : List PlanRow) : Type 0 where
   pub before : List (List ℕ)
   pub after : List (List ℕ)
@@ -89,9 +89,9 @@ IsPlanOf part text (Err fault.NoMemory) = ⊥
 abbrev pub IsGoodText : PartData → List ℕ → Type 0
 IsGoodText part text = (plan : PlanData) × Plans part text plan
 
--- a text comes to something
-abbrev pub HasPlan : PartData → List ℕ → Type 0
-HasPlan part text = (r : Result PlanData FramesFault) × IsPlanOf part text r
+-- a text has a plan or a fault
+abbrev pub HasPlanOrFault : PartData → List ℕ → Type 0
+HasPlanOrFault part text = (r : Result PlanData FramesFault) × IsPlanOf part text r
 
 -- the line of a row, its end too, in upper case
 abbrev pub frame_line : PlanRow → List ℕ

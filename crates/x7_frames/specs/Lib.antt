@@ -1,3 +1,3 @@
 pub mod FramesText
-pub mod Steps
+pub mod Reading
 pub mod FrameLines

@@ -1,4 +1,4 @@
-//! Why a text gives no plan.
+//! Why a frames text gives no plan.
 ghost use Rattle.std.specs.Prelude.{◌≡◌};
 
 use thiserror::Error;

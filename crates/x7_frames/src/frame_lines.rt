@@ -1,9 +1,9 @@
-//! What the lines of a frames text give, as they come.
+//! The plan that the lines of a frames text give, one by one.
 ghost use Rattle.std.specs.Prelude.{◌≡◌, ◌⊎◌, ℕ, List, [], Ok, IfErr, IfOk, OnOk, IsPermutation};
 ghost use Rattle.x7_part.specs.Part.{frame_words};
 ghost use Rattle.x7_memory.specs.Plan.{IsPlan};
-ghost use Rattle.x7_frames.specs.FrameLines.{AreGoodWith, AreRefused, ComeTo, HasRows, Rows};
-ghost use Rattle.x7_frames.specs.Steps.{IsFaultAt, IsGoodLine, TakesLine};
+ghost use Rattle.x7_frames.specs.FrameLines.{AreGoodWith, AreRefused, ComeTo, HasRows, RowsRead};
+ghost use Rattle.x7_frames.specs.Reading.{IsFaultAt, IsGoodLine, TakesLine};
 ghost use Rattle.x7_frames.specs.declared.fault.FramesFault.{FramesFault};
 
 use crate::fault::FramesFault;
@@ -24,9 +24,9 @@ pub struct FrameLines<'p> {
 
 impl<'p> Model for FrameLines<'p> {
     ghost use Rattle.std.specs.Prelude.{vec_capacity};
-    ghost use Rattle.x7_frames.specs.FrameLines.{AreSoundRows, Rows};
+    ghost use Rattle.x7_frames.specs.FrameLines.{AreSoundRows, RowsRead};
 
-    ghost Value = { Rows };
+    ghost Value = { RowsRead };
 
     ghost view = { λ l. record { part = l.part.now; rows = l.reading.draft.rows } };
 
@@ -43,8 +43,8 @@ impl<'p> FrameLines<'p> {
         Ok(FrameLines { part, reading })
     }
 
-    /// Takes line `n`, after which nothing more may be taken where there is an
-    /// error. Memory is wanting only for a good line.
+    /// Takes a line, whose number `n` counts from 1. After an error nothing more may be taken. Memory is wanting only
+    /// for a good line.
     pub fn take(&mut self, n: u64, line: &[u8]) -> Result<(), FramesFault>
         ensures part { self.new.part ≡ self.old.part }
         ensures taken { OnOk result (TakesLine self.old.part line.now self.old.rows self.new.rows) }
@@ -81,7 +81,7 @@ impl<'p> TakesLines for FrameLines<'p> {
     ghost wants = { λ first. AreGoodWith first.part };
 
     fn no_memory() -> FramesFault
-        ensures { (first : Rows) (lines : List (List ℕ)) → AreRefused first.part result lines }
+        ensures { (first : RowsRead) (lines : List (List ℕ)) → AreRefused first.part result lines }
     {
         FramesFault::NoMemory
     }

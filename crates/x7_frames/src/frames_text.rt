@@ -1,9 +1,9 @@
-//! The plan of a text, line by line.
+//! The plan of a frames text, and one line more of it.
 ghost use Rattle.std.specs.Prelude.{◌≡◌, ◌≤◌, ◌⊎◌, [], Ok, Err, IfOk, IfErr, OnErr, OnOk, MatchResult, vec_capacity};
 ghost use Rattle.x7_part.specs.Part.{frame_words};
 ghost use Rattle.x7_memory.specs.Plan.{IsPlanFor, PlanData};
 ghost use Rattle.x7_frames.specs.FramesText.{IsPlanOf, plan_text};
-ghost use Rattle.x7_frames.specs.Steps.{IsFaultAt, IsGoodLine, TakesLine, HasMarks};
+ghost use Rattle.x7_frames.specs.Reading.{IsFaultAt, IsGoodLine, TakesLine, HasMarks};
 ghost use Rattle.x7_frames.specs.declared.fault.FramesFault.{FramesFault};
 
 use crate::fault::FramesFault;
@@ -44,13 +44,14 @@ impl Reading {
         })
     }
 
-    /// Takes line `n`.
+    /// Takes a line, whose number `n` counts from 1. A line at fault, or want of memory, leaves the frames
+    /// that were read.
     pub(crate) fn take(&mut self, part: &Part, n: u64, line: &[u8]) -> Result<(), FramesFault>
         requires width { self.old.draft.width ≡ frame_words part.now }
         requires marks { HasMarks part.now self.old.draft.rows self.old.marks.items }
         requires room { frame_words part.now ≤ vec_capacity self.old.frame }
         ensures taken { OnOk result (TakesLine part.now line.now self.old.draft.rows self.new.draft.rows) }
-        ensures err { OnErr result (self.new.draft.rows ≡ self.old.draft.rows) }
+        ensures failed { OnErr result (self.new.draft.rows ≡ self.old.draft.rows) }
         ensures marks { HasMarks part.now self.new.draft.rows self.new.marks.items }
         ensures width { self.new.draft.width ≡ frame_words part.now }
         ensures room { frame_words part.now ≤ vec_capacity self.new.frame }

@@ -4,9 +4,9 @@ ghost use Rattle.x7_text.specs.Lines.{split};
 ghost use Rattle.x7_text.specs.LineReader.{ReaderState, StandsFor, WantsIn};
 ghost use Rattle.x7_part.specs.Part.{PartData};
 ghost use Rattle.x7_memory.specs.Plan.{IsPlanFor, PlanData};
-ghost use Rattle.x7_frames.specs.FrameLines.{AreGoodWith, HasRows, Rows};
-ghost use Rattle.x7_frames.specs.FramesText.{HasPlan, IsGoodText, IsPlanOf, plan_text};
-ghost use Rattle.x7_frames.specs.Steps.{IsGoodLine};
+ghost use Rattle.x7_frames.specs.FrameLines.{AreGoodWith, HasRows, RowsRead};
+ghost use Rattle.x7_frames.specs.FramesText.{HasPlanOrFault, IsGoodText, IsPlanOf, plan_text};
+ghost use Rattle.x7_frames.specs.Reading.{IsGoodLine};
 ghost use Rattle.x7_frames.specs.declared.fault.FramesFault.{FramesFault};
 
 /// A text comes to one thing: it has at most one plan, one that has a plan has no fault, and another has one fault.
@@ -18,15 +18,15 @@ pub fn one_plan()
 
 /// A text comes to something: its plan, or its first line at fault.
 pub fn every_text_is_read()
-    ensures { (part : PartData) (text : List ℕ) → HasPlan part text }
+    ensures { (part : PartData) (text : List ℕ) → HasPlanOrFault part text }
 {}
 
 /// Where memory is wanting as the lines of a text for a part are taken. While a piece is taken and no beginning of a
 /// line was held, the first line that ends in it is good; at the end of the text, the text has a plan.
 pub fn memory_wants_for_good_lines()
-    ensures piece { (part : PartData) (r : ReaderState Rows) (text piece line after : List ℕ) (s : StandsFor (HasRows part) r text)
+    ensures piece { (part : PartData) (r : ReaderState RowsRead) (text piece line after : List ℕ) (s : StandsFor (HasRows part) r text)
         → WantsIn (HasRows part) (AreGoodWith part) s.lines piece → split piece ≡ line ∷ split after → IsGoodLine part r.taker.rows line }
-    ensures end { (part : PartData) (r : ReaderState Rows) (text : List ℕ) (s : StandsFor (HasRows part) r text)
+    ensures end { (part : PartData) (r : ReaderState RowsRead) (text : List ℕ) (s : StandsFor (HasRows part) r text)
         → AreGoodWith part s.lines r.held → IsGoodText part text }
 {}
 

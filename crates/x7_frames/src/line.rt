@@ -1,4 +1,4 @@
-//! One line.
+//! One line of a frames text.
 ghost use Rattle.std.specs.Prelude.{◌≡◌, ◌+◌, ◌*◌, ◌%◌, ◌<◌, ◌≤◌, ◌++◌, length, take, Some, None, MatchBool, MatchOption, vec_capacity};
 ghost use Rattle.x7_text.specs.EitherCase.{bytes_of_pairs};
 ghost use Rattle.x7_words.specs.Word.{AreBytes, words_of_bytes};
@@ -12,23 +12,23 @@ use x7_words::{is_same, word_of};
 /// The most bytes of a frame: four for each of its words, of which it has 255 at most.
 const MOST_FRAME_BYTES: usize = 4 * 255;
 
-/// How many bytes stand before the digits of a frame's line: `frame`, a space,
-/// the eight digits of its address, a space.
+/// How many bytes stand before the digits of a frame's line: `frame`, a space, the eight digits of its address, a
+/// space.
 const HEAD_SIZE: usize = 15;
 
 /// What stands on a frame's line: its address, and the digits of its words.
 #[derive(Clone, Copy)]
-struct Parts<'t> {
+struct FarAndDigits<'t> {
     far: u32,
     digits: &'t [u8],
 }
 
-/// The parts of the line of a frame with this many digits.
-fn parts_of(line: &[u8], digit_count: usize) -> Option<Parts<'_>>
+/// The address and the digits on the line of a frame, none where it is no line of a frame with this many digits.
+fn far_and_digits_of(line: &[u8], digit_count: usize) -> Option<FarAndDigits<'_>>
     requires { digit_count ≤ 8 * most_frame_words }
     ensures { MatchOption result
         (HasNoFrameHead digit_count line.now)
-        (λ parts. (line.now ≡ frame_head parts.far ++ parts.digits.now) × (length parts.digits.now ≡ digit_count)) }
+        (λ found. (line.now ≡ frame_head found.far ++ found.digits.now) × (length found.digits.now ≡ digit_count)) }
 {
     if line.len() != HEAD_SIZE + digit_count {
         return None;
@@ -37,13 +37,13 @@ fn parts_of(line: &[u8], digit_count: usize) -> Option<Parts<'_>>
         return None;
     }
     let far = word_of_hex(&line[6..14])?;
-    Some(Parts {
+    Some(FarAndDigits {
         far,
         digits: &line[HEAD_SIZE..],
     })
 }
 
-/// Writes the bytes of a block from `at` on.
+/// Writes the 32 bytes of a block over those from `at` on.
 #[inline(always)]
 fn write_block(bytes: &mut [u8], at: usize, block: &[u8])
     requires inside { at + 32 ≤ length bytes.old }
@@ -55,7 +55,7 @@ fn write_block(bytes: &mut [u8], at: usize, block: &[u8])
     bytes[at..at + 32].copy_from_slice(block);
 }
 
-/// Reads the blocks of 64 upper-case digits that stand first, and gives the number of their bytes.
+/// Reads the blocks of 64 upper-case digits that stand first, 32 bytes each. The answer is the number of bytes read.
 fn read_blocks(bytes: &mut [u8], digits: &[u8]) -> usize
     requires { length digits.now ≡ 2 * length bytes.old }
     ensures value { bytes_of_pairs (take (2 * result) digits.now) ≡ Some (take result bytes.new) }
@@ -82,7 +82,7 @@ fn read_digits(bytes: &mut [u8], digits: &[u8]) -> bool
     read_pairs(&mut bytes[read..], &digits[2 * read..])
 }
 
-/// Puts the words of bytes in the place of others.
+/// Makes the vector, which has room for them, hold the words of these bytes, four bytes each.
 fn replace(words: &mut Vec<u32>, bytes: &[u8])
     requires whole { length bytes.now % 4 ≡ 0 }
     requires room { length bytes.now ≤ 4 * vec_capacity words.old }
@@ -107,14 +107,14 @@ pub(crate) fn read_frame(frame: &mut Vec<u32>, width: u32, line: &[u8]) -> Optio
     ensures room { vec_capacity frame.old ≤ vec_capacity frame.new }
 {
     let byte_count = 4 * width as usize;
-    let Some(parts) = parts_of(line, 2 * byte_count) else {
+    let Some(found) = far_and_digits_of(line, 2 * byte_count) else {
         return None;
     };
     let mut room = [0; MOST_FRAME_BYTES];
     let bytes = &mut room[..byte_count];
-    if !read_digits(bytes, parts.digits) {
+    if !read_digits(bytes, found.digits) {
         return None;
     }
     replace(frame, bytes);
-    Some(parts.far)
+    Some(found.far)
 }

@@ -10,7 +10,7 @@ use x7_memory::Plan;
 use x7_text::{hex_of_word, put};
 use x7_words::NoMemory;
 
-/// Appends the digits of words.
+/// Appends the digits of words, eight in upper case for each. There is room for them.
 fn put_words(text: &mut Vec<u8>, words: &[u32])
     requires { HasSpareRoom text.old (8 * length words.now) }
     ensures appends { Appends text.old text.new (flat_map hex_word words.now) (8 * length words.now) }
@@ -20,7 +20,7 @@ fn put_words(text: &mut Vec<u8>, words: &[u32])
     }
 }
 
-/// Appends the line of a frame.
+/// Appends the line of a frame, with its end.
 fn put_line(text: &mut Vec<u8>, far: u32, words: &[u32]) -> Result<(), AllocError>
     ensures { OnOk result (text.new.items ≡ text.old.items ++ frame_line record { far = far; words = words.now }) }
 {

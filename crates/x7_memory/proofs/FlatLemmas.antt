@@ -2,15 +2,15 @@
 use Rattle.std.proofs.Common.{◌≡◌, ℕ, zero, suc, ◌+◌, ◌-◌, ◌*◌, ◌<◌, ◌≤◌, List, ◌∷◌, ◌++◌, length, get_or, set, take, drop, refl, sym, ap, ◌∙◌, arith}
 use Rattle.std.proofs.Math.Nat.{mul-suc, mul-zero, zero-add, mul-le-mul_left}
 use Rattle.std.proofs.lemmas.List.{length-take-le, length-drop, take_at, drop_at, take-take, drop-take, drop-drop, take-append-le, drop-append-le}
-use Rattle.x7_memory.specs.Flat.{cut}
+use Rattle.x7_memory.specs.Flat.{cut_in_frames}
 
-pub cut_length : (w n : ℕ) (ws : List ℕ) → length (cut w n ws) ≡ n
-unfolding cut
+pub cut_length : (w n : ℕ) (ws : List ℕ) → length (cut_in_frames w n ws) ≡ n
+unfolding cut_in_frames
 cut_length w zero ws = refl
 cut_length w (suc n) ws = ap suc (cut_length w n (drop w ws))
 
-pub cut_at : (w n i : ℕ) (ws d : List ℕ) → i < n → get_or (cut w n ws) i d ≡ take w (drop (w * i) ws)
-unfolding cut
+pub cut_at : (w n i : ℕ) (ws d : List ℕ) → i < n → get_or (cut_in_frames w n ws) i d ≡ take w (drop (w * i) ws)
+unfolding cut_in_frames
 cut_at w zero i ws d h = absurd (omega arith)
 cut_at w (suc n) zero ws d h = rw (mul-zero w) refl
 cut_at w (suc n) (suc i) ws d h =
@@ -26,13 +26,13 @@ frame_end w n i h =
 
 -- one frame written over
 pub cut_set : (w n i : ℕ) (ws new : List ℕ) → i < n → length new ≡ w → w * n ≤ length ws →
-    cut w n (take (w * i) ws ++ (new ++ drop (w * i + w) ws)) ≡ set (cut w n ws) i new
-unfolding cut
+    cut_in_frames w n (take (w * i) ws ++ (new ++ drop (w * i + w) ws)) ≡ set (cut_in_frames w n ws) i new
+unfolding cut_in_frames
 cut_set w zero i ws new h e long = absurd (omega arith)
 cut_set w (suc n) zero ws new h e long =
     let first : take w (new ++ drop w ws) ≡ new = take_at new (drop w ws) w e in
     let rest : drop w (new ++ drop w ws) ≡ drop w ws = drop_at new (drop w ws) w e in
-    rw (mul-zero w, zero-add w) (ap (λ f. f ∷ cut w n (drop w (new ++ drop w ws))) first ∙ ap (λ r. new ∷ cut w n r) rest)
+    rw (mul-zero w, zero-add w) (ap (λ f. f ∷ cut_in_frames w n (drop w (new ++ drop w ws))) first ∙ ap (λ r. new ∷ cut_in_frames w n r) rest)
 cut_set w (suc n) (suc i) ws new h e long =
     let a : w * suc i ≡ w + w * i = mul-suc w i ∙ (omega arith) in
     let all : w * suc n ≡ w * n + w = mul-suc w n in
@@ -46,6 +46,6 @@ cut_set w (suc n) (suc i) ws new h e long =
     let rest : drop w (take (w + w * i) ws ++ back) ≡ take (w * i) (drop w ws) ++ (new ++ drop (w * i + w) (drop w ws)) =
     drop-append-le w (take (w + w * i) ws) back (omega arith) ∙ ap (λ t. t ++ back) (drop-take w (w * i) ws) ∙ ap (λ d. take (w * i) (drop w ws) ++ (new ++ d)) after in
     let left : length (drop w ws) ≡ length ws - w = length-drop w ws in
-    rw a (ap (λ f. f ∷ cut w n (drop w (take (w + w * i) ws ++ back))) first
-    ∙ ap (λ r. take w ws ∷ cut w n r) rest
+    rw a (ap (λ f. f ∷ cut_in_frames w n (drop w (take (w + w * i) ws ++ back))) first
+    ∙ ap (λ r. take w ws ∷ cut_in_frames w n r) rest
     ∙ ap (λ fs. take w ws ∷ fs) (cut_set w n i (drop w ws) new (omega arith) e (omega arith)))

@@ -7,8 +7,8 @@ use Rattle.std.proofs.lemmas.List.Sums.{sum_by-le, sum_by-set}
 use Rattle.std.specs.List.{sum_by}
 use Rattle.std.specs.Prelude.{vec_capacity}
 use Rattle.x7_memory.specs.declared.memory.Memory.TheInside.{Inside}
-use Rattle.x7_memory.specs.Flat.{cut, words_with_frame}
-use Rattle.x7_memory.specs.Memory.{frames_seen, stored_frame, own_frames, AreDistinct, HasRoom}
+use Rattle.x7_memory.specs.Flat.{cut_in_frames, words_with_frame}
+use Rattle.x7_memory.specs.Memory.{frames_seen, stored_frame, own_frame_count, AreDistinct, HasRoom}
 use Rattle.x7_memory.proofs.FlatLemmas.{cut_length, cut_at, cut_set, frame_end}
 
 -- ---- frames that are stored one after another
@@ -31,20 +31,20 @@ frame_after w n ws new e f = ap (take w) (drop_at ws new (w * n) e) ∙ take_all
 
 -- one written over
 frame_over : (w n p q : ℕ) (ws new : List ℕ) → p < n → q < n → length ws ≡ w * n → length new ≡ w →
-    stored_frame w (words_with_frame (w * p) new ws) q ≡ get_or (set (cut w n ws) p new) q []
+    stored_frame w (words_with_frame (w * p) new ws) q ≡ get_or (set (cut_in_frames w n ws) p new) q []
 frame_over w n p q ws new h i e f =
     sym (cut_at w n q (words_with_frame (w * p) new ws) [] i)
-    ∙ ap (λ fs. get_or fs q []) (ap (λ k. cut w n (take (w * p) ws ++ (new ++ drop (w * p + k) ws))) f ∙ cut_set w n p ws new h f (omega arith))
+    ∙ ap (λ fs. get_or fs q []) (ap (λ k. cut_in_frames w n (take (w * p) ws ++ (new ++ drop (w * p + k) ws))) f ∙ cut_set w n p ws new h f (omega arith))
 
 pub over_same : (w n p : ℕ) (ws new : List ℕ) → p < n → length ws ≡ w * n → length new ≡ w → stored_frame w (words_with_frame (w * p) new ws) p ≡ new
 over_same w n p ws new h e f =
-    let all : length (cut w n ws) ≡ n = cut_length w n ws in
-    frame_over w n p p ws new h h e f ∙ get_or-set_same (cut w n ws) p new [] (omega arith)
+    let all : length (cut_in_frames w n ws) ≡ n = cut_length w n ws in
+    frame_over w n p p ws new h h e f ∙ get_or-set_same (cut_in_frames w n ws) p new [] (omega arith)
 
 pub over_other : (w n p q : ℕ) (ws new : List ℕ) → p < n → q < n → q ≢ p → length ws ≡ w * n → length new ≡ w →
     stored_frame w (words_with_frame (w * p) new ws) q ≡ stored_frame w ws q
 over_other w n p q ws new h i ne e f =
-    frame_over w n p q ws new h i e f ∙ get_or-set_other (cut w n ws) p q new [] ne ∙ cut_at w n q ws [] i
+    frame_over w n p q ws new h i e f ∙ get_or-set_other (cut_in_frames w n ws) p q new [] ne ∙ cut_at w n q ws [] i
 
 pub over_length : (a : ℕ) (ws new : List ℕ) → a + length new ≤ length ws → length (take a ws ++ (new ++ drop (a + length new) ws)) ≡ length ws
 over_length a ws new h =
@@ -82,22 +82,22 @@ seen_count m frames e = ap length (sym e) ∙ length-map m.numbers.items (stored
 -- a rank, and the number of its frame
 pub record IsRank (m : Inside) (rank : ℕ) : Type 0 where
   pub inside : rank < length m.numbers.items
-  pub below : get_or m.numbers.items rank 0 < m.stored
-  pub end : m.width * get_or m.numbers.items rank 0 + m.width ≤ m.width * m.stored
-  pub small : m.width * m.stored ≤ 33423615
+  pub below : get_or m.numbers.items rank 0 < m.stored_count
+  pub end : m.width * get_or m.numbers.items rank 0 + m.width ≤ m.width * m.stored_count
+  pub small : m.width * m.stored_count ≤ 33423615
 
-own_most : (n : ℕ) → own_frames n ≤ 1
+own_most : (n : ℕ) → own_frame_count n ≤ 1
 own_most zero = omega arith
 own_most (suc n) = omega arith
 
-own_some : (n : ℕ) → 0 < n → own_frames n ≡ 1
+own_some : (n : ℕ) → 0 < n → own_frame_count n ≡ 1
 own_some zero h = absurd (omega arith)
 own_some (suc n) h = refl
 
-pub ones_most : (numbers : List ℕ) → sum_by own_frames numbers ≤ length numbers
-ones_most numbers = let ones = sum_by-le own_frames 1 numbers (λ i d h. own_most (get_or numbers i d)) in omega arith
+pub ones_most : (numbers : List ℕ) → sum_by own_frame_count numbers ≤ length numbers
+ones_most numbers = let ones = sum_by-le own_frame_count 1 numbers (λ i d h. own_most (get_or numbers i d)) in omega arith
 
-pub stored_few : (m : Inside) → HasRoom m → m.stored ≤ length m.numbers.items + 1
+pub stored_few : (m : Inside) → HasRoom m → m.stored_count ≤ length m.numbers.items + 1
 stored_few m is =
     let ones = ones_most m.numbers.items in
     let used = is.used in
@@ -106,11 +106,11 @@ stored_few m is =
 pub is_rank : (m : Inside) (rank : ℕ) → HasRoom m → rank < length (frames_seen m) → IsRank m rank
 is_rank m rank is h =
     let n : length (frames_seen m) ≡ length m.numbers.items = length-map m.numbers.items (stored_frame m.width m.words.items) in
-    let low : get_or m.numbers.items rank 0 < m.stored = is.below rank (omega arith) in
+    let low : get_or m.numbers.items rank 0 < m.stored_count = is.below rank (omega arith) in
     let few = stored_few m is in
     let limit = is.ranks in
-    let all : m.width * m.stored ≤ 255 * 131073 = mul-le-mul is.narrow (let s : m.stored ≤ 131073 = omega arith in s) in
-    record { inside = omega arith; below = low; end = frame_end m.width m.stored (get_or m.numbers.items rank 0) low; small = omega arith }
+    let all : m.width * m.stored_count ≤ 255 * 131073 = mul-le-mul is.narrow (let s : m.stored_count ≤ 131073 = omega arith in s) in
+    record { inside = omega arith; below = low; end = frame_end m.width m.stored_count (get_or m.numbers.items rank 0) low; small = omega arith }
 
 pub own_number : {n k : ℕ} → n ≡ k → (n ≡ 0 → ⊥) → 0 < k
 own_number {n} {k} e own = elim (cases_lt 0 k) [
@@ -119,10 +119,10 @@ own_number {n} {k} e own = elim (cases_lt 0 k) [
 ]
 
 -- there is room for the first frame of its own at a rank
-pub next_room : (m : Inside) → HasRoom m → m.stored ≤ length m.numbers.items → m.width * m.stored + m.width ≤ vec_capacity m.words
+pub next_room : (m : Inside) → HasRoom m → m.stored_count ≤ length m.numbers.items → m.width * m.stored_count + m.width ≤ vec_capacity m.words
 next_room m is h =
-    let next : m.width * suc m.stored ≡ m.width * m.stored + m.width = mul-suc m.width m.stored in
-    let most : m.width * suc m.stored ≤ m.width * (length m.numbers.items + 1) = mul-le-mul_left m.width (omega arith) in
+    let next : m.width * suc m.stored_count ≡ m.width * m.stored_count + m.width = mul-suc m.width m.stored_count in
+    let most : m.width * suc m.stored_count ≤ m.width * (length m.numbers.items + 1) = mul-le-mul_left m.width (omega arith) in
     let room = is.room in
     omega arith
 
@@ -132,7 +132,7 @@ pub new_width : (m : Inside) (rank : ℕ) (new : List ℕ) (frames : List (List 
 new_width m rank new frames is r e f =
     f ∙ ap (λ l. length (get_or l rank [])) (sym e)
     ∙ ap length (get_or-map (stored_frame m.width m.words.items) m.numbers.items rank 0 [] r.inside)
-    ∙ stored_width m.width m.stored (get_or m.numbers.items rank 0) m.words.items r.below is.whole
+    ∙ stored_width m.width m.stored_count (get_or m.numbers.items rank 0) m.words.items r.below is.whole
 
 -- ---- a frame written over the one of its rank
 
@@ -141,12 +141,12 @@ pub over_seen : (m : Inside) (rank : ℕ) (us new : List ℕ) → HasRoom m → 
 over_seen m rank us new is r own e f =
     let number = get_or m.numbers.items rank 0 in
     seen_set m.width m.words.items us m.numbers.items m.numbers.items rank new refl r.inside
-    (ap (λ ws. stored_frame m.width ws number) f ∙ over_same m.width m.stored number m.words.items new r.below is.whole e)
+    (ap (λ ws. stored_frame m.width ws number) f ∙ over_same m.width m.stored_count number m.words.items new r.below is.whole e)
     (λ i h ne. ap (λ ws. stored_frame m.width ws (get_or m.numbers.items i 0)) f
-    ∙ over_other m.width m.stored number (get_or m.numbers.items i 0) m.words.items new r.below (is.below i h) (λ same. ne (sym (is.apart rank i r.inside h own (sym same)))) is.whole e)
+    ∙ over_other m.width m.stored_count number (get_or m.numbers.items i 0) m.words.items new r.below (is.below i h) (λ same. ne (sym (is.apart rank i r.inside h own (sym same)))) is.whole e)
 
 pub over_room : (m p : Inside) (rank : ℕ) (new : List ℕ) → HasRoom m → IsRank m rank → 0 < get_or m.numbers.items rank 0 → length new ≡ m.width →
-    p.width ≡ m.width → p.stored ≡ m.stored → p.numbers.items ≡ m.numbers.items → vec_capacity m.words ≤ vec_capacity p.words →
+    p.width ≡ m.width → p.stored_count ≡ m.stored_count → p.numbers.items ≡ m.numbers.items → vec_capacity m.words ≤ vec_capacity p.words →
     p.words.items ≡ words_with_frame (m.width * get_or m.numbers.items rank 0) new m.words.items → HasRoom p
 over_room m p rank new is r own e ew es en cap f =
     let number = get_or m.numbers.items rank 0 in
@@ -159,7 +159,7 @@ over_room m p rank new is r own e ew es en cap f =
       ranks = rw en few;
       room = rw (ew, en) (omega arith);
       whole = rw (ew, es) (long ∙ whole);
-      zeros = rw (ew, f) (over_other m.width m.stored number 0 m.words.items new low (omega arith) (λ z. omega arith) whole e ∙ is.zeros);
+      zeros = rw (ew, f) (over_other m.width m.stored_count number 0 m.words.items new low (omega arith) (λ z. omega arith) whole e ∙ is.zeros);
       used = rw (es, en) is.used;
       below = rw (es, en) is.below;
       apart = rw en is.apart;
@@ -175,13 +175,13 @@ none_seen m rank new is r none e z =
 
 -- ---- the first frame of its own at a rank
 
-pub first_room : (m : Inside) (rank : ℕ) → HasRoom m → IsRank m rank → get_or m.numbers.items rank 0 ≡ 0 → m.stored ≤ length m.numbers.items
+pub first_room : (m : Inside) (rank : ℕ) → HasRoom m → IsRank m rank → get_or m.numbers.items rank 0 ≡ 0 → m.stored_count ≤ length m.numbers.items
 first_room m rank is r none =
-    let set_one = sum_by-set own_frames m.numbers.items rank 1 0 r.inside in
+    let set_one = sum_by-set own_frame_count m.numbers.items rank 1 0 r.inside in
     let ones = ones_most (set m.numbers.items rank 1) in
     let long = length-set m.numbers.items rank 1 in
-    let zero_one : own_frames (get_or m.numbers.items rank 0) ≡ 0 = ap own_frames none in
-    let one : own_frames 1 ≡ 1 = refl in
+    let zero_one : own_frame_count (get_or m.numbers.items rank 0) ≡ 0 = ap own_frame_count none in
+    let one : own_frame_count 1 ≡ 1 = refl in
     let used = is.used in
     omega arith
 
@@ -194,46 +194,46 @@ number_after numbers rank number i h =
       | inr ne ↦ inr (ne, get_or-set_other numbers rank i number 0 ne)
     ]
 
-first_below : (m : Inside) (rank : ℕ) → HasRoom m → IsRank m rank → (i : ℕ) → i < length m.numbers.items → get_or (set m.numbers.items rank m.stored) i 0 < m.stored + 1
+first_below : (m : Inside) (rank : ℕ) → HasRoom m → IsRank m rank → (i : ℕ) → i < length m.numbers.items → get_or (set m.numbers.items rank m.stored_count) i 0 < m.stored_count + 1
 first_below m rank is r i h =
-    elim (number_after m.numbers.items rank m.stored i r.inside) [
+    elim (number_after m.numbers.items rank m.stored_count i r.inside) [
       | inl (e, n) ↦ omega arith
       | inr (ne, n) ↦ let low = is.below i h in omega arith
     ]
 
-first_apart : (m : Inside) (rank : ℕ) → HasRoom m → IsRank m rank → AreDistinct (set m.numbers.items rank m.stored)
+first_apart : (m : Inside) (rank : ℕ) → HasRoom m → IsRank m rank → AreDistinct (set m.numbers.items rank m.stored_count)
 first_apart m rank is r i j h k some same =
-    let long = length-set m.numbers.items rank m.stored in
-    elim (number_after m.numbers.items rank m.stored i r.inside) [
-      | inl (e, n) ↦ elim (number_after m.numbers.items rank m.stored j r.inside) [
+    let long = length-set m.numbers.items rank m.stored_count in
+    elim (number_after m.numbers.items rank m.stored_count i r.inside) [
+      | inl (e, n) ↦ elim (number_after m.numbers.items rank m.stored_count j r.inside) [
         | inl (f, o) ↦ e ∙ sym f
         | inr (ne, o) ↦ let low = is.below j (omega arith) in absurd (omega arith)
       ]
-      | inr (ne, n) ↦ elim (number_after m.numbers.items rank m.stored j r.inside) [
+      | inr (ne, n) ↦ elim (number_after m.numbers.items rank m.stored_count j r.inside) [
         | inl (f, o) ↦ let low = is.below i (omega arith) in absurd (omega arith)
         | inr (of, o) ↦ is.apart i j (omega arith) (omega arith) (omega arith) (omega arith)
       ]
     ]
 
 pub first_seen : (m : Inside) (rank : ℕ) (us others new : List ℕ) → HasRoom m → IsRank m rank → length new ≡ m.width →
-    us ≡ m.words.items ++ new → others ≡ set m.numbers.items rank m.stored → map (stored_frame m.width us) others ≡ set (frames_seen m) rank new
+    us ≡ m.words.items ++ new → others ≡ set m.numbers.items rank m.stored_count → map (stored_frame m.width us) others ≡ set (frames_seen m) rank new
 first_seen m rank us others new is r e f g =
-    rw (f, g) (seen_set m.width m.words.items (m.words.items ++ new) m.numbers.items (set m.numbers.items rank m.stored) rank new (length-set m.numbers.items rank m.stored) r.inside
-    (ap (stored_frame m.width (m.words.items ++ new)) (get_or-set_same m.numbers.items rank m.stored 0 r.inside) ∙ frame_after m.width m.stored m.words.items new is.whole e)
-    (λ i h ne. ap (stored_frame m.width (m.words.items ++ new)) (get_or-set_other m.numbers.items rank i m.stored 0 ne)
-    ∙ frame_before m.width m.stored (get_or m.numbers.items i 0) m.words.items new (is.below i h) is.whole))
+    rw (f, g) (seen_set m.width m.words.items (m.words.items ++ new) m.numbers.items (set m.numbers.items rank m.stored_count) rank new (length-set m.numbers.items rank m.stored_count) r.inside
+    (ap (stored_frame m.width (m.words.items ++ new)) (get_or-set_same m.numbers.items rank m.stored_count 0 r.inside) ∙ frame_after m.width m.stored_count m.words.items new is.whole e)
+    (λ i h ne. ap (stored_frame m.width (m.words.items ++ new)) (get_or-set_other m.numbers.items rank i m.stored_count 0 ne)
+    ∙ frame_before m.width m.stored_count (get_or m.numbers.items i 0) m.words.items new (is.below i h) is.whole))
 
 pub first_fields : (m p : Inside) (rank : ℕ) (new : List ℕ) → HasRoom m → IsRank m rank → get_or m.numbers.items rank 0 ≡ 0 → length new ≡ m.width →
-    p.width ≡ m.width → p.stored ≡ m.stored + 1 → p.numbers.items ≡ set m.numbers.items rank m.stored → vec_capacity m.words ≤ vec_capacity p.words →
+    p.width ≡ m.width → p.stored_count ≡ m.stored_count + 1 → p.numbers.items ≡ set m.numbers.items rank m.stored_count → vec_capacity m.words ≤ vec_capacity p.words →
     p.words.items ≡ m.words.items ++ new → HasRoom p
 first_fields m p rank new is r none e ew es en cap f =
     let some = is.some in let narrow = is.narrow in let few = is.ranks in let room = is.room in let whole = is.whole in let used = is.used in
-    let long = length-set m.numbers.items rank m.stored in
+    let long = length-set m.numbers.items rank m.stored_count in
     let more : length p.words.items ≡ length m.words.items + length new = ap length f ∙ length-append m.words.items new in
-    let next : m.width * suc m.stored ≡ m.width * m.stored + m.width = mul-suc m.width m.stored in
-    let ones = sum_by-set own_frames m.numbers.items rank m.stored 0 r.inside in
-    let none_own : own_frames (get_or m.numbers.items rank 0) ≡ 0 = ap own_frames none in
-    let one = own_some m.stored (omega arith) in
+    let next : m.width * suc m.stored_count ≡ m.width * m.stored_count + m.width = mul-suc m.width m.stored_count in
+    let ones = sum_by-set own_frame_count m.numbers.items rank m.stored_count 0 r.inside in
+    let none_own : own_frame_count (get_or m.numbers.items rank 0) ≡ 0 = ap own_frame_count none in
+    let one = own_some m.stored_count (omega arith) in
     let low = r.below in
     record {
       some = omega arith;
@@ -241,7 +241,7 @@ first_fields m p rank new is r none e ew es en cap f =
       ranks = rw (en, long) few;
       room = rw (ew, en, long) (omega arith);
       whole = rw (ew, es) (more ∙ (omega arith));
-      zeros = rw (ew, f) (frame_before m.width m.stored 0 m.words.items new (omega arith) whole ∙ is.zeros);
+      zeros = rw (ew, f) (frame_before m.width m.stored_count 0 m.words.items new (omega arith) whole ∙ is.zeros);
       used = rw (es, en) (omega arith);
       below = rw (es, en, long) (first_below m rank is r);
       apart = rw en (first_apart m rank is r);

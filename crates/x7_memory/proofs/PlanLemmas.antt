@@ -12,7 +12,7 @@ use Rattle.std.proofs.lemmas.Option.{none-some, same_Some}
 use Rattle.std.proofs.lemmas.Bool.{cases_order}
 use Rattle.x7_words.specs.Word.{AreWords}
 use Rattle.x7_memory.specs.Plan.{PlanRow, IsPlan, IsPlanRow, AreInOrder, AreApart, planned, planned_addresses}
-use Rattle.x7_memory.specs.Places.{IsRowPlace, IsGap}
+use Rattle.x7_memory.specs.Places.{IsRowPlace, IsInsertPlace}
 
 pub no_row : PlanRow
 no_row = record { far = 0; words = [] }
@@ -64,7 +64,7 @@ planned_insert (first ∷ rows) (suc i) row a h free =
       | inr n ↦ rw (planned_after first (insert rows i row) a n.1, planned_after first rows a n.1) ih
     ]
 
-module _ (rows : List PlanRow) (row : PlanRow) (at : ℕ) (gap : IsGap rows row.far at) where
+module _ (rows : List PlanRow) (row : PlanRow) (at : ℕ) (gap : IsInsertPlace rows row.far at) where
   -- each new row is an old one below the gap, the new one at it, or an old one moved up by one
   pub order_insert : AreInOrder rows → AreInOrder (insert rows at row)
   order_insert order i j d lt inside =
@@ -89,7 +89,7 @@ module _ (rows : List PlanRow) (row : PlanRow) (at : ℕ) (gap : IsGap rows row.
             subst P (sym (ap (λ k. get_or new k d) (sym place) ∙ get_or-insert_above rows at row d (i - 1) (omega arith) gap.inside)) (all (i - 1) d (omega arith))
       ]
 
-pub plan_insert : (width : ℕ) (rows : List PlanRow) (row : PlanRow) (at : ℕ) → IsPlan record { width = width; rows = rows } → IsGap rows row.far at → length row.words ≡ width →
+pub plan_insert : (width : ℕ) (rows : List PlanRow) (row : PlanRow) (at : ℕ) → IsPlan record { width = width; rows = rows } → IsInsertPlace rows row.far at → length row.words ≡ width →
     IsPlanRow row → IsPlan record { width = width; rows = insert rows at row }
 plan_insert width rows row at is gap e fits = record {
   order = order_insert rows row at gap is.order;
@@ -152,14 +152,14 @@ place_listed rows far i place =
     let long = length-map rows (λ row. row.far) in
     (i, (let h = place.inside in omega arith), get_or-map (λ row. row.far) rows i no_row far place.inside ∙ place.same no_row)
 
-pub gap_free : (rows : List PlanRow) (far i : ℕ) → IsGap rows far i → (j : ℕ) → j < length rows → (get_or rows j no_row).far ≡ far → ⊥
+pub gap_free : (rows : List PlanRow) (far i : ℕ) → IsInsertPlace rows far i → (j : ℕ) → j < length rows → (get_or rows j no_row).far ≡ far → ⊥
 gap_free rows far i gap j h e = grind (arith, gap.smaller j no_row, gap.greater j no_row)
 
-pub gap_unlisted : (rows : List PlanRow) (far i : ℕ) → IsGap rows far i → Contains (planned_addresses rows) far → ⊥
+pub gap_unlisted : (rows : List PlanRow) (far i : ℕ) → IsInsertPlace rows far i → Contains (planned_addresses rows) far → ⊥
 gap_unlisted rows far i gap has =
     let long = length-map rows (λ row. row.far) in
     let inside : has.0 < length rows = let h = has.1 in omega arith in
     gap_free rows far i gap has.0 inside (sym (get_or-map (λ row. row.far) rows has.0 no_row far inside) ∙ has.2)
 
-pub gap_none : (rows : List PlanRow) (far i : ℕ) → IsGap rows far i → planned rows far ≡ None
+pub gap_none : (rows : List PlanRow) (far i : ℕ) → IsInsertPlace rows far i → planned rows far ≡ None
 gap_none rows far i gap = planned_none rows far (gap_free rows far i gap)

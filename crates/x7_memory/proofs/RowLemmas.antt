@@ -12,7 +12,7 @@ use Rattle.std.proofs.lemmas.List.Sorted.{All-permutation, IsNonDecreasingBy-fro
 use Rattle.std.proofs.lemmas.List.Elements.{All-nil, All-cons, All-head, All-tail}
 use Rattle.x7_memory.specs.declared.rows.Row.{Row}
 use Rattle.x7_memory.specs.Plan.{PlanRow, AreInOrder, IsDraft, IsPlanRow}
-use Rattle.x7_memory.specs.Places.{IsRowPlace, IsGap}
+use Rattle.x7_memory.specs.Places.{IsRowPlace, IsInsertPlace}
 use Rattle.x7_memory.specs.Rows.{AreKept, row_in, rows_in}
 
 pub no_place : Row
@@ -108,7 +108,7 @@ module _ (width : ℕ) (words : List ℕ) (rows : List Row) (order : AreInOrder 
       grind (arith, nat_tests))
 
   pub searched : (r : Result ℕ ℕ) → IsSearchInRange r (length rows) → IsBinarySearchResult (λ row. nat_cmp row.far far) rows r
-      → (IfOk r (IsRowPlace (rows_in width words rows) far)) × (IfErr r (IsGap (rows_in width words rows) far))
+      → (IfOk r (IsRowPlace (rows_in width words rows) far)) × (IfErr r (IsInsertPlace (rows_in width words rows) far))
   searched (Ok at) inside equal =
       let all = long in (record { inside = omega arith; same = λ d. far_at at no_place d inside ∙ ranked _ far _ (sym (equal no_place)) }, tt)
   searched (Err at) inside parted =

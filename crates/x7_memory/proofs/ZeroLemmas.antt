@@ -13,7 +13,7 @@ use Rattle.x7_part.specs.Part.{PartData, frame_words}
 use Rattle.x7_part.specs.AddressOrder.{addresses_in, Rises}
 use Rattle.x7_memory.specs.declared.memory.Memory.TheInside.{Inside}
 use Rattle.x7_memory.specs.Frames.{zero_frames, are_zeros, AreFramesOf}
-use Rattle.x7_memory.specs.Memory.{frames_seen, stored_frame, own_frames, HasRoom}
+use Rattle.x7_memory.specs.Memory.{frames_seen, stored_frame, own_frame_count, HasRoom}
 use Rattle.x7_memory.proofs.MemoryLemmas.{is_rank, stored_width}
 
 -- ---- words of which none has a bit
@@ -85,14 +85,14 @@ none_seen width count words numbers e f =
     rw (mul-zero width) (take_all width (replicate width 0) (let n = length-replicate {A = ℕ} width 0 in omega arith)) in
     rw (e, f) (map_alike (stored_frame width (replicate width 0)) count 0 ∙ ap (replicate count) first)
 
-pub none_room : (p : Inside) (width count : ℕ) → 0 < width → width ≤ 255 → count ≤ 131072 → p.width ≡ width → p.stored ≡ 1 →
+pub none_room : (p : Inside) (width count : ℕ) → 0 < width → width ≤ 255 → count ≤ 131072 → p.width ≡ width → p.stored_count ≡ 1 →
     p.words.items ≡ replicate width 0 → p.numbers.items ≡ replicate count 0 → width * (count + 1) ≤ vec_capacity p.words → HasRoom p
 none_room p width count some narrow few ew es e f room =
     let n : length p.numbers.items ≡ count = ap length f ∙ length-replicate count 0 in
     let l : length p.words.items ≡ width = ap length e ∙ length-replicate width 0 in
-    let ones : sum_by own_frames (replicate count 0) ≡ count * own_frames 0 = sum_by-replicate own_frames count 0 in
-    let no_one : count * own_frames 0 ≡ 0 = mul-zero count in
-    let sum : sum_by own_frames p.numbers.items ≡ 0 = ap (sum_by own_frames) f ∙ ones ∙ no_one in
+    let ones : sum_by own_frame_count (replicate count 0) ≡ count * own_frame_count 0 = sum_by-replicate own_frame_count count 0 in
+    let no_one : count * own_frame_count 0 ≡ 0 = mul-zero count in
+    let sum : sum_by own_frame_count p.numbers.items ≡ 0 = ap (sum_by own_frame_count) f ∙ ones ∙ no_one in
     let number : (i : ℕ) → i < length p.numbers.items → get_or p.numbers.items i 0 ≡ 0 = λ i h. ap (λ xs. get_or xs i 0) f ∙ get_or-replicate count i 0 0 (omega arith) in
     record {
       some = omega arith;
@@ -121,7 +121,7 @@ cleared part m frames words numbers is e are f g =
           let r = is_rank m 0 is (omega arith) in
           let first : length (get_or (frames_seen m) 0 []) ≡ m.width =
           ap length (get_or-map (stored_frame m.width m.words.items) m.numbers.items 0 0 [] some)
-          ∙ stored_width m.width m.stored (get_or m.numbers.items 0 0) m.words.items r.below is.whole in
+          ∙ stored_width m.width m.stored_count (get_or m.numbers.items 0 0) m.words.items r.below is.whole in
           let same : length (get_or (frames_seen m) 0 []) ≡ length (get_or frames 0 []) = ap (λ l. length (get_or l 0 [])) e in
           let there : 0 < length frames = (let c = are.count in omega arith) in
           let wide : m.width ≡ frame_words part = sym first ∙ same ∙ are.width 0 [] there in

@@ -2,7 +2,7 @@
 use Rattle.std.specs.Prelude.{◌≡◌, ℕ, List, Option, Some, None, ◌⊎◌, if◌then◌else◌, ◌==◌}
 use Rattle.std.specs.Option.{option_or}
 
--- the frame at an address, none where the map has no frame
+-- a map: the frame at an address, none where the map has no frame
 abbrev pub FrameMap : Type 0
 FrameMap = ℕ → Option (List ℕ)
 
@@ -18,7 +18,7 @@ nothing far = None
 abbrev pub only : ℕ → List ℕ → FrameMap
 only at words far = if far == at then Some words else None
 
--- no address has a frame in both
+-- no address has a frame in both maps
 abbrev pub AreDisjoint : FrameMap → FrameMap → Type 0
 AreDisjoint p q = (far : ℕ) → (p far ≡ None) ⊎ (q far ≡ None)
 

@@ -1,12 +1,12 @@
--- The frames of a memory: one for each address of its part, in number order (UG470, frame
--- data; this order is this project's choice).
+-- The frames of a memory: one for each address of its part, in number order (UG470, frame data; this order is this
+-- project's choice).
 use Rattle.std.specs.Prelude.{◌≡◌, ℕ, List, [], ◌∷◌, length, replicate, All, Some, None, if◌then◌else◌, ◌==◌, ◌&&◌, Bool, true}
 use Rattle.x7_part.specs.Part.{PartData, frame_words}
 use Rattle.x7_part.specs.AddressOrder.{addresses_in, Rises}
 use Rattle.x7_words.specs.Word.{AreWords}
 use Rattle.x7_memory.specs.FrameMap.{FrameMap}
 
--- the first frame whose address is this one
+-- of frames that go with addresses one by one, the first whose address is `far`
 unfoldable pub frame_among : List ℕ → List (List ℕ) → FrameMap
 frame_among (a ∷ rest) (words ∷ frames) far = if far == a then Some words else frame_among rest frames far
 frame_among _ _ far = None
@@ -15,8 +15,8 @@ frame_among _ _ far = None
 abbrev pub frame_at : PartData → List (List ℕ) → FrameMap
 frame_at part frames = frame_among (addresses_in part) frames
 
--- the frames are those of the part: one for each of its addresses, which rise, of
--- the part's width, and with words of 32 bits
+-- the frames are those of the part: one for each of its addresses, which rise, of the part's width, and with words of
+-- 32 bits
 pub record AreFramesOf (part : PartData) (frames : List (List ℕ)) : Type 0 where
   pub order : Rises 0 (addresses_in part)
   pub count : length frames ≡ length (addresses_in part)

@@ -12,10 +12,10 @@ stored_frame width words number = take width (drop (width * number) words)
 abbrev pub frames_seen : Inside → List (List ℕ)
 frames_seen m = map (stored_frame m.width m.words.items) m.numbers.items
 
--- how many frames a rank has stored for itself, by its number: none where that is 0, the number of the zeros
-abbrev pub own_frames : ℕ → ℕ
-own_frames zero = 0
-own_frames (suc number) = 1
+-- how many frames are stored for a rank alone, by the number of its frame: none where that is 0, that of the zeros
+abbrev pub own_frame_count : ℕ → ℕ
+own_frame_count zero = 0
+own_frame_count (suc number) = 1
 
 -- no two ranks have one number, save 0, that of the zeros
 abbrev pub AreDistinct : List ℕ → Type 0
@@ -28,8 +28,8 @@ pub record HasRoom (m : Inside) : Type 0 where
   pub narrow : m.width ≤ most_frame_words
   pub ranks : length m.numbers.items ≤ most_frames
   pub room : m.width * (length m.numbers.items + 1) ≤ vec_capacity m.words
-  pub whole : length m.words.items ≡ m.width * m.stored
+  pub whole : length m.words.items ≡ m.width * m.stored_count
   pub zeros : stored_frame m.width m.words.items 0 ≡ replicate m.width 0
-  pub used : m.stored ≡ 1 + sum_by own_frames m.numbers.items
-  pub below : (i : ℕ) → i < length m.numbers.items → slice_index_or m.numbers.items i 0 < m.stored
+  pub used : m.stored_count ≡ 1 + sum_by own_frame_count m.numbers.items
+  pub below : (i : ℕ) → i < length m.numbers.items → slice_index_or m.numbers.items i 0 < m.stored_count
   pub apart : AreDistinct m.numbers.items

@@ -20,7 +20,7 @@ pub record PlanData : Type 0 where
 abbrev pub planned_addresses : List PlanRow → List ℕ
 planned_addresses rows = map (λ row. row.far) rows
 
--- the plan as a map
+-- rows as a map: the frame of the first row with the address
 unfoldable pub planned : List PlanRow → FrameMap
 planned [] far = None
 planned (row ∷ rows) far = if far == row.far then Some row.words else planned rows far
@@ -63,9 +63,9 @@ pub record IsPlanFor (part : PartData) (plan : PlanData) : Type 0 where
   pub width : plan.width ≡ frame_words part
   pub addressed : AreAddressed part plan.rows
 
--- the new plan is the old one with this row more
-abbrev pub HasMore : PlanData → PlanRow → PlanData → Type 0
-HasMore old row new =
+-- the new plan is the old one with this row more, at some place
+abbrev pub HasOneRowMore : PlanData → PlanRow → PlanData → Type 0
+HasOneRowMore old row new =
     (before : List PlanRow) × (after : List PlanRow) × (old.rows ≡ before ++ after) × (new.rows ≡ before ++ row ∷ after) × (new.width ≡ old.width)
 
 -- the memory that a full write of the plan leaves: zeros, overridden by the plan

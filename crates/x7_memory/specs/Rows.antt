@@ -1,15 +1,15 @@
--- Rows as their fields hold them: the words of all frames in one list, and each row's address
--- and place in it (this project's choice).
+-- Rows as their fields hold them: the words of all frames in one list, and each row's address and the number of its
+-- first word there (this project's choice).
 use Rattle.std.specs.Prelude.{ℕ, ◌+◌, ◌≤◌, List, length, map, take, drop, All}
 use Rattle.x7_memory.specs.declared.rows.Row.{Row}
 use Rattle.x7_memory.specs.declared.rows.Rows.TheInside.{Inside}
 use Rattle.x7_memory.specs.Plan.{PlanRow, PlanData, IsDraft}
 
--- a row with the words from its place on
+-- a row with its words, which begin at number `start`
 abbrev pub row_in : ℕ → List ℕ → Row → PlanRow
 row_in width words row = record { far = row.far; words = take width (drop row.start words) }
 
--- all rows, each with the words from its place on
+-- all rows, each with its words
 abbrev pub rows_in : ℕ → List ℕ → List Row → List PlanRow
 rows_in width words rows = map (row_in width words) rows
 

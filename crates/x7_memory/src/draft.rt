@@ -1,4 +1,4 @@
-//! Frames as they come, which become a plan at once.
+//! Frames as they come, of which a plan is made when all have come.
 ghost use Rattle.std.specs.Prelude.{◌≡◌, [], ◌∷◌, ◌++◌, length, IsPermutation, IfOk, OnOk, OnErr};
 ghost use Rattle.x7_memory.specs.Plan.{IsPlan, AreApart};
 
@@ -25,27 +25,27 @@ impl Model for Draft {
 }
 
 impl Draft {
-    /// A draft of no frame, for frames of `words` words.
-    pub fn new(alloc: Global, words: u32) -> Draft
-        ensures width { result.width ≡ words }
+    /// A draft of no frame, for frames of `width` words.
+    pub fn new(alloc: Global, width: u32) -> Draft
+        ensures width { result.width ≡ width }
         ensures empty { result.rows ≡ [] }
     {
         Draft {
-            rows: Rows::new(alloc, words),
+            rows: Rows::new(alloc, width),
         }
     }
 
-    /// A draft of no frame, for frames of `words` words, with room for `frames` of them.
-    pub fn with_room(alloc: Global, words: u32, frames: usize) -> Result<Draft, NoMemory>
-        ensures width { IfOk result (λ draft. draft.width ≡ words) }
+    /// A draft of no frame, for frames of `width` words, with room for `frame_count` of them.
+    pub fn with_room(alloc: Global, width: u32, frame_count: usize) -> Result<Draft, NoMemory>
+        ensures width { IfOk result (λ draft. draft.width ≡ width) }
         ensures empty { IfOk result (λ draft. draft.rows ≡ []) }
     {
         Ok(Draft {
-            rows: Rows::with_room(alloc, words, frames)?,
+            rows: Rows::with_room(alloc, width, frame_count)?,
         })
     }
 
-    /// Adds a frame after the others.
+    /// Adds a frame after the others. Its address may stand in the draft already.
     pub fn push(&mut self, far: u32, words: &[u32]) -> Result<(), NoMemory>
         requires width { length words.now ≡ self.old.width }
         ensures added { OnOk result (self.new.rows ≡ self.old.rows ++ record { far = far; words = words.now } ∷ []) }

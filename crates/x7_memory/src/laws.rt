@@ -24,7 +24,7 @@ pub fn memories_are_maps()
     ensures equal { (part : PartData) (m n : List (List ℕ)) → AreFramesOf part m → AreFramesOf part n → AreSame (frame_at part m) (frame_at part n) → m ≡ n }
 {}
 
-/// A plan as a map: its rows, the addresses that it names, its parts, and its total.
+/// A plan as a map: its rows, the addresses that it names, its first rows and its later ones, and its total.
 pub fn plans_are_maps()
     ensures rows { (plan : PlanData) (k : ℕ) (d : PlanRow) → IsPlan plan → k < length plan.rows → planned plan.rows (slice_index_or plan.rows k d).far ≡ Some (slice_index_or plan.rows k d).words }
     ensures named { (rows : List PlanRow) (far : ℕ) → (planned rows far ≡ None) ↔ (¬ Contains (planned_addresses rows) far) }

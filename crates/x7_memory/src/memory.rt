@@ -14,13 +14,13 @@ use x7_words::NoMemory;
 /// The frames of a part, as they stand in a device.
 #[derive(Drop)]
 pub struct Memory {
-    /// The words of the frames that are stored, one after another. The first one is zeros.
-    /// There is room for it and for a frame of each rank.
+    /// The words of the frames that are stored, one after another. The first frame is zeros. There is room for it and
+    /// for a frame of each rank.
     words: Vec<u32>,
     /// By rank, the number of its frame among those that are stored: 0 for zeros, until other words are put there.
     numbers: Vec<u32>,
     /// The number of the frames that are stored.
-    stored: u32,
+    stored_count: u32,
     /// The number of words of a frame.
     width: usize,
 }
@@ -37,20 +37,20 @@ impl Model for Memory {
 }
 
 impl Memory {
-    /// The part's frames, all zeros. The call takes room for all of them, and writes one:
-    /// the frame of zeros that all ranks share.
+    /// The part's frames, all zeros. The call takes room for all of them, and writes one: the frame of zeros that all
+    /// ranks share.
     pub fn new(alloc: Global, part: &Part) -> Result<Memory, NoMemory>
         ensures zeros { IfOk result (λ memory. memory ≡ zero_frames part.now) }
         ensures part { IfOk result (λ memory. AreFramesOf part.now memory) }
     {
-        let count = part.frames() as usize;
+        let frame_count = part.frames() as usize;
         let width = part.words() as usize;
-        let words = zeros_with_room(alloc, width, width * (count + 1))?;
-        let numbers = zeros_with_room(alloc, count, count)?;
+        let words = zeros_with_room(alloc, width, width * (frame_count + 1))?;
+        let numbers = zeros_with_room(alloc, frame_count, frame_count)?;
         Ok(Memory {
             words,
             numbers,
-            stored: 1,
+            stored_count: 1,
             width,
         })
     }
@@ -82,7 +82,7 @@ impl Memory {
         }
     }
 
-    /// The frame of a rank.
+    /// The words of the frame of a rank.
     fn frame_of(&self, rank: usize) -> &[u32]
         requires { rank < length self.now }
         ensures { (d : List ℕ) → result.now ≡ slice_index_or self.now rank d }
@@ -115,7 +115,7 @@ impl Memory {
         self.put_at(rank as usize, words);
     }
 
-    /// Puts the frame of a rank.
+    /// Puts a frame at a rank. Zeros that take the place of zeros are not stored.
     fn put_at(&mut self, rank: usize, words: &[u32])
         requires rank { rank < length self.old }
         requires width { (d : List ℕ) → length words.now ≡ length (slice_index_or self.old rank d) }
@@ -129,8 +129,8 @@ impl Memory {
         if are_zeros(words) {
             return;
         }
-        self.numbers[rank] = self.stored;
-        self.stored += 1;
+        self.numbers[rank] = self.stored_count;
+        self.stored_count += 1;
         append(&mut self.words, words);
     }
 
@@ -141,7 +141,7 @@ impl Memory {
     {
         self.words.truncate(self.width);
         clear_words(&mut self.numbers);
-        self.stored = 1;
+        self.stored_count = 1;
     }
 
     /// An equal memory.
@@ -152,7 +152,7 @@ impl Memory {
         Ok(Memory {
             words: copy_with_room(alloc, &self.words, room)?,
             numbers: copy_with_room(alloc, &self.numbers, self.numbers.len())?,
-            stored: self.stored,
+            stored_count: self.stored_count,
             width: self.width,
         })
     }
@@ -203,7 +203,7 @@ fn append(words: &mut Vec<u32>, frame: &[u32])
     }
 }
 
-/// Writes a frame over the words from a place on.
+/// Writes a frame over the words from number `start` on.
 fn write_over(words: &mut Vec<u32>, start: usize, frame: &[u32])
     requires { start + length frame.now ≤ length words.old.items }
     ensures items { words.new.items ≡ words_with_frame start frame.now words.old.items }
@@ -212,7 +212,7 @@ fn write_over(words: &mut Vec<u32>, start: usize, frame: &[u32])
     words[start..start + frame.len()].copy_from_slice(frame);
 }
 
-/// The `count` words from a place on.
+/// The `count` words from number `start` on.
 fn words_from(words: &[u32], start: usize, count: usize) -> &[u32]
     requires inside { start + count ≤ length words.now }
     ensures { result.now ≡ take count (drop start words.now) }

@@ -1,8 +1,8 @@
 //! The frames that a user plans to write.
 ghost use Rattle.std.specs.Prelude.{◌≡◌, ℕ, ◌<◌, ◌≤◌, ◌==◌, ◌↔◌, true, false, Ok, if◌then◌else◌, [], length, slice_index_or, Contains, Some, None, IfSome, IfNone, IfOk, IfErr, OnOk, OnErr};
 ghost use Rattle.std.specs.List.{insert};
-ghost use Rattle.x7_memory.specs.Plan.{PlanRow, PlanData, IsPlan, HasMore, planned, planned_addresses};
-ghost use Rattle.x7_memory.specs.Places.{IsRowPlace, IsGap};
+ghost use Rattle.x7_memory.specs.Plan.{PlanRow, PlanData, IsPlan, HasOneRowMore, planned, planned_addresses};
+ghost use Rattle.x7_memory.specs.Places.{IsRowPlace, IsInsertPlace};
 
 use crate::rows::Rows;
 use std::alloc::Global;
@@ -24,13 +24,13 @@ impl Model for Plan {
 }
 
 impl Plan {
-    /// A plan of no frame, for frames of `words` words.
-    pub fn new(alloc: Global, words: u32) -> Plan
-        ensures width { result.width ≡ words }
+    /// A plan of no frame, for frames of `width` words.
+    pub fn new(alloc: Global, width: u32) -> Plan
+        ensures width { result.width ≡ width }
         ensures empty { result.rows ≡ [] }
     {
         Plan {
-            rows: Rows::new(alloc, words),
+            rows: Rows::new(alloc, width),
         }
     }
 
@@ -47,7 +47,7 @@ impl Plan {
         requires width { length words.now ≡ self.old.width }
         ensures certain { Contains (planned_addresses self.old.rows) far → result ≡ Ok false }
         ensures answer { IfOk result (λ added. (added ≡ false) ↔ Contains (planned_addresses self.old.rows) far) }
-        ensures added { IfOk result (λ added. added ≡ true → HasMore self.old record { far = far; words = words.now } self.new) }
+        ensures added { IfOk result (λ added. added ≡ true → HasOneRowMore self.old record { far = far; words = words.now } self.new) }
         ensures frames { IfOk result (λ added. added ≡ true → (a : ℕ) → planned self.new.rows a ≡ (if a == far then Some words.now else planned self.old.rows a)) }
         ensures refused { IfOk result (λ added. added ≡ false → self.new ≡ self.old) }
         ensures failed { OnErr result (self.new ≡ self.old) }
@@ -62,17 +62,17 @@ impl Plan {
         }
     }
 
-    /// Where the address is, or where it would go.
+    /// The place of the row with the address, or the place where such a row would go. Places count from 0.
     fn search(&self, far: u32) -> Result<usize, usize>
         ensures found { IfOk result (IsRowPlace self.now.rows far) }
-        ensures gap { IfErr result (IsGap self.now.rows far) }
+        ensures insert_place { IfErr result (IsInsertPlace self.now.rows far) }
     {
         self.rows.search(far)
     }
 
-    /// Adds a row where its address goes.
+    /// Adds a row at the place where its address goes.
     fn insert_at(&mut self, place: usize, far: u32, words: &[u32]) -> Result<(), NoMemory>
-        requires gap { IsGap self.old.rows far place }
+        requires insert_place { IsInsertPlace self.old.rows far place }
         requires width { length words.now ≡ self.old.width }
         ensures added { OnOk result (self.new.rows ≡ insert self.old.rows place record { far = far; words = words.now }) }
         ensures width { self.new.width ≡ self.old.width }
@@ -81,7 +81,7 @@ impl Plan {
         Ok(self.rows.insert(place, far, words)?)
     }
 
-    /// The frame that is planned for an address.
+    /// The frame that is planned for an address, none where there is none.
     pub fn get(&self, far: u32) -> Option<&[u32]>
         ensures found { IfSome result (λ words. planned self.now.rows far ≡ Some words.now) }
         ensures width { IfSome result (λ words. length words.now ≡ self.now.width) }

@@ -3,13 +3,13 @@ ghost use Rattle.std.specs.Prelude.{◌≡◌, [], ◌∷◌, ◌++◌, ◌<◌,
 ghost use Rattle.std.specs.List.{insert};
 ghost use Rattle.std.specs.List.Sorted.{IsNonDecreasingBy};
 ghost use Rattle.x7_memory.specs.Plan.{PlanRow, AreInOrder};
-ghost use Rattle.x7_memory.specs.Places.{IsRowPlace, IsGap};
+ghost use Rattle.x7_memory.specs.Places.{IsRowPlace, IsInsertPlace};
 
 use std::alloc::Global;
 use std::marker::Model;
 use x7_words::NoMemory;
 
-/// The address of a frame, and where its words begin.
+/// The address of a frame, and the number of the words of other frames before its own.
 #[derive(Clone, Copy)]
 struct Row {
     far: u32,
@@ -38,7 +38,7 @@ impl Model for Rows {
 }
 
 impl Rows {
-    /// No row, of frames of `width` words.
+    /// Rows of frames of `width` words, none so far.
     pub(crate) fn new(alloc: Global, width: u32) -> Rows
         ensures width { result.width ≡ width }
         ensures empty { result.rows ≡ [] }
@@ -50,7 +50,7 @@ impl Rows {
         }
     }
 
-    /// No row, of frames of `width` words, with room for `count` rows.
+    /// Rows of frames of `width` words, none so far, with room for `count` of them.
     pub(crate) fn with_room(alloc: Global, width: u32, count: usize) -> Result<Rows, NoMemory>
         ensures width { IfOk result (λ rows. rows.width ≡ width) }
         ensures empty { IfOk result (λ rows. rows.rows ≡ []) }
@@ -86,11 +86,11 @@ impl Rows {
         Ok(self.rows.insert(place, Row { far, start })?)
     }
 
-    /// Where an address is among rows in order, or where it would go.
+    /// The place of the row with the address among rows in order, or the place where such a row would go.
     pub(crate) fn search(&self, far: u32) -> Result<usize, usize>
         requires { AreInOrder self.now.rows }
         ensures found { IfOk result (IsRowPlace self.now.rows far) }
-        ensures gap { IfErr result (IsGap self.now.rows far) }
+        ensures insert_place { IfErr result (IsInsertPlace self.now.rows far) }
     {
         self.rows.binary_search_by_key(&far, |row| row.far)
     }
@@ -111,7 +111,7 @@ impl Rows {
         self.rows.len()
     }
 
-    /// The i-th row, from 0 on.
+    /// The address and the words of the i-th row, from 0 on, none from `len()` on.
     pub(crate) fn get(&self, i: usize) -> Option<(u32, &[u32])>
         ensures found { IfSome result (λ row. (i < length self.now.rows) × ((d : PlanRow) → slice_index_or self.now.rows i d ≡ record { far = row.0; words = row.1.now })) }
         ensures width { IfSome result (λ row. length row.1.now ≡ self.now.width) }
@@ -124,7 +124,7 @@ impl Rows {
         ))
     }
 
-    /// The words of the i-th row.
+    /// The words of the i-th row, from 0 on.
     pub(crate) fn words(&self, i: usize) -> &[u32]
         requires { i < length self.now.rows }
         ensures value { (d : PlanRow) → result.now ≡ (slice_index_or self.now.rows i d).words }

@@ -12,7 +12,7 @@ pub fn are_zeros(words: &[u32]) -> bool
     }
 }
 
-/// Whether no word has a bit.
+/// Whether no word has a bit that is 1.
 fn has_no_bit(words: &[u32]) -> bool
     ensures { result ≡ are_zeros words.now }
 {

@@ -39,24 +39,24 @@ count_from_bounds a n x (k, h, e) =
 -- ---- the order of columns
 
 pub starts : (r s l : ℕ) (cs : List Column) → IsTable r s l cs → (j : ℕ) (d : Column) → j < length cs →
-    (l ≤ (get_or cs j d).first) × (r ≤ (get_or cs j d).rank) × (s ≤ (get_or cs j d).slot)
+    (l ≤ (get_or cs j d).first) × (r ≤ (get_or cs j d).rank) × (s ≤ (get_or cs j d).place)
 starts _ _ _ _ (no_column r s l) j d h = absurd (omega arith)
 starts _ _ _ _ (column r s l c cs er es le pos top rest) zero d h = (le, omega arith, omega arith)
 starts _ _ _ _ (column r s l c cs er es le pos top rest) (suc j) d h =
-    let k = starts (r + c.count) (s + c.count + c.pads) (c.first + c.count) cs rest j d (omega arith) in
+    let k = starts (r + c.count) (s + c.count + c.pad_count) (c.first + c.count) cs rest j d (omega arith) in
     (omega arith, omega arith, omega arith)
 
 pub order : (r s l : ℕ) (cs : List Column) → IsTable r s l cs → (i j : ℕ) (d : Column) → i < j → j < length cs →
     ((get_or cs i d).first + (get_or cs i d).count ≤ (get_or cs j d).first)
     × ((get_or cs i d).rank + (get_or cs i d).count ≤ (get_or cs j d).rank)
-    × ((get_or cs i d).slot + (get_or cs i d).count + (get_or cs i d).pads ≤ (get_or cs j d).slot)
+    × ((get_or cs i d).place + (get_or cs i d).count + (get_or cs i d).pad_count ≤ (get_or cs j d).place)
 order _ _ _ _ (no_column r s l) i j d k h = absurd (omega arith)
 order _ _ _ _ (column r s l c cs er es le pos top rest) i zero d k h = absurd (omega arith)
 order _ _ _ _ (column r s l c cs er es le pos top rest) zero (suc j) d k h =
-    let f = starts (r + c.count) (s + c.count + c.pads) (c.first + c.count) cs rest j d (omega arith) in
+    let f = starts (r + c.count) (s + c.count + c.pad_count) (c.first + c.count) cs rest j d (omega arith) in
     (omega arith, omega arith, omega arith)
 order _ _ _ _ (column r s l c cs er es le pos top rest) (suc i) (suc j) d k h =
-    order (r + c.count) (s + c.count + c.pads) (c.first + c.count) cs rest i j d (omega arith) (omega arith)
+    order (r + c.count) (s + c.count + c.pad_count) (c.first + c.count) cs rest i j d (omega arith) (omega arith)
 
 rising : (f : Column → ℕ) (cs : List Column) → ((i j : ℕ) (d : Column) → i < j → j < length cs → f (get_or cs i d) ≤ f (get_or cs j d)) → IsNonDecreasingBy f cs
 rising f cs o i j d k h =
@@ -68,8 +68,8 @@ first_rises cs t = rising (λ c. c.first) cs (λ i j d k h. let o = order 0 0 0 
 pub rank_rises : (cs : List Column) → IsTable 0 0 0 cs → IsNonDecreasingBy (λ c. c.rank) cs
 rank_rises cs t = rising (λ c. c.rank) cs (λ i j d k h. let o = order 0 0 0 cs t i j d k h in omega arith)
 
-pub slot_rises : (cs : List Column) → IsTable 0 0 0 cs → IsNonDecreasingBy (λ c. c.slot) cs
-slot_rises cs t = rising (λ c. c.slot) cs (λ i j d k h. let o = order 0 0 0 cs t i j d k h in omega arith)
+pub slot_rises : (cs : List Column) → IsTable 0 0 0 cs → IsNonDecreasingBy (λ c. c.place) cs
+slot_rises cs t = rising (λ c. c.place) cs (λ i j d k h. let o = order 0 0 0 cs t i j d k h in omega arith)
 
 -- ---- the numbers before a column
 
@@ -80,25 +80,25 @@ rank_is _ _ _ _ (no_column r s l) i d h = absurd (omega arith)
 rank_is _ _ _ _ (column r s l c cs er es le pos top rest) zero d h = er ∙ sym (add-zero r)
 rank_is _ _ _ _ (column r s l c cs er es le pos top rest) (suc i) d h =
     let ih : (get_or cs i d).rank ≡ r + c.count + length (column_addresses (take i cs)) =
-    rank_is (r + c.count) (s + c.count + c.pads) (c.first + c.count) cs rest i d (omega arith) in
+    rank_is (r + c.count) (s + c.count + c.pad_count) (c.first + c.count) cs rest i d (omega arith) in
     let len : length (count_from c.first c.count ++ column_addresses (take i cs)) ≡ c.count + length (column_addresses (take i cs)) =
     length-append (count_from c.first c.count) (column_addresses (take i cs)) ∙ ap (λ x. x + length (column_addresses (take i cs))) (length_count_from c.first c.count) in
     omega arith
 
-pub slots_length : (c : Column) → length (slots_of c) ≡ c.count + c.pads
+pub slots_length : (c : Column) → length (slots_of c) ≡ c.count + c.pad_count
 slots_length c =
-    length-append (map Frame (addresses_of_column c)) (replicate c.pads Pad)
-    ∙ rw (length-map (addresses_of_column c) Frame, length_count_from c.first c.count, length-replicate c.pads Pad) refl
+    length-append (map Frame (addresses_of_column c)) (replicate c.pad_count Pad)
+    ∙ rw (length-map (addresses_of_column c) Frame, length_count_from c.first c.count, length-replicate c.pad_count Pad) refl
 
 pub slot_is : (r s l : ℕ) (cs : List Column) → IsTable r s l cs → (i : ℕ) (d : Column) → i < length cs →
-    (get_or cs i d).slot ≡ s + length (column_slots (take i cs))
+    (get_or cs i d).place ≡ s + length (column_slots (take i cs))
 unfolding column_slots
 slot_is _ _ _ _ (no_column r s l) i d h = absurd (omega arith)
 slot_is _ _ _ _ (column r s l c cs er es le pos top rest) zero d h = es ∙ sym (add-zero s)
 slot_is _ _ _ _ (column r s l c cs er es le pos top rest) (suc i) d h =
-    let ih : (get_or cs i d).slot ≡ s + c.count + c.pads + length (column_slots (take i cs)) =
-    slot_is (r + c.count) (s + c.count + c.pads) (c.first + c.count) cs rest i d (omega arith) in
-    let len : length (slots_of c ++ column_slots (take i cs)) ≡ c.count + c.pads + length (column_slots (take i cs)) =
+    let ih : (get_or cs i d).place ≡ s + c.count + c.pad_count + length (column_slots (take i cs)) =
+    slot_is (r + c.count) (s + c.count + c.pad_count) (c.first + c.count) cs rest i d (omega arith) in
+    let len : length (slots_of c ++ column_slots (take i cs)) ≡ c.count + c.pad_count + length (column_slots (take i cs)) =
     length-append (slots_of c) (column_slots (take i cs)) ∙ ap (λ x. x + length (column_slots (take i cs))) (slots_length c) in
     omega arith
 
@@ -124,7 +124,7 @@ ends _ _ _ _ (column r s l c cs er es le pos top rest) zero d h =
     omega arith
 ends _ _ _ _ (column r s l c cs er es le pos top rest) (suc i) d h =
     let ih : (get_or cs i d).rank + (get_or cs i d).count ≤ r + c.count + length (column_addresses cs) =
-    ends (r + c.count) (s + c.count + c.pads) (c.first + c.count) cs rest i d (omega arith) in
+    ends (r + c.count) (s + c.count + c.pad_count) (c.first + c.count) cs rest i d (omega arith) in
     let len : length (count_from c.first c.count ++ column_addresses cs) ≡ c.count + length (column_addresses cs) =
     length-append (count_from c.first c.count) (column_addresses cs) ∙ ap (λ x. x + length (column_addresses cs)) (length_count_from c.first c.count) in
     omega arith
@@ -168,32 +168,32 @@ ends_last _ _ _ _ (column r s l c [] er es le pos top rest) zero d h =
 ends_last _ _ _ _ (column r s l c (b ∷ cs) er es le pos top rest) zero d h = absurd (omega arith)
 ends_last _ _ _ _ (column r s l c cs er es le pos top rest) (suc i) d h =
     let ih : r + c.count + length (column_addresses cs) ≡ (get_or cs i d).rank + (get_or cs i d).count =
-    ends_last (r + c.count) (s + c.count + c.pads) (c.first + c.count) cs rest i d (omega arith) in
+    ends_last (r + c.count) (s + c.count + c.pad_count) (c.first + c.count) cs rest i d (omega arith) in
     let len : length (count_from c.first c.count ++ column_addresses cs) ≡ c.count + length (column_addresses cs) =
     length-append (count_from c.first c.count) (column_addresses cs) ∙ ap (λ x. x + length (column_addresses cs)) (length_count_from c.first c.count) in
     omega arith
 
 pub next_rank : (r s l : ℕ) (cs : List Column) → IsTable r s l cs → (i : ℕ) (d : Column) → i + 1 < length cs →
     ((get_or cs (i + 1) d).rank ≡ (get_or cs i d).rank + (get_or cs i d).count)
-    × ((get_or cs (i + 1) d).slot ≡ (get_or cs i d).slot + (get_or cs i d).count + (get_or cs i d).pads)
+    × ((get_or cs (i + 1) d).place ≡ (get_or cs i d).place + (get_or cs i d).count + (get_or cs i d).pad_count)
 next_rank _ _ _ _ (no_column r s l) i d h = absurd (omega arith)
 next_rank _ _ _ _ (column r s l c _ er es le pos top (no_column r' s' l')) i d h = absurd (omega arith)
 next_rank _ _ _ _ (column r s l c _ er es le pos top (column r' s' l' b cs er' es' le' pos' top' rest)) zero d h = (omega arith, omega arith)
 next_rank _ _ _ _ (column r s l c cs er es le pos top rest) (suc i) d h =
     let e : suc i + 1 ≡ suc (i + 1) = omega arith in
-    rw e (next_rank (r + c.count) (s + c.count + c.pads) (c.first + c.count) cs rest i d (omega arith))
+    rw e (next_rank (r + c.count) (s + c.count + c.pad_count) (c.first + c.count) cs rest i d (omega arith))
 
 pub bounded : (r s l : ℕ) (cs : List Column) → IsTable r s l cs → (i : ℕ) (d : Column) → i < length cs → (get_or cs i d).first + (get_or cs i d).count ≤ 2 ^ 32
 bounded _ _ _ _ (no_column r s l) i d h = absurd (omega arith)
 bounded _ _ _ _ (column r s l c cs er es le pos top rest) zero d h = top
 bounded _ _ _ _ (column r s l c cs er es le pos top rest) (suc i) d h =
-    bounded (r + c.count) (s + c.count + c.pads) (c.first + c.count) cs rest i d (omega arith)
+    bounded (r + c.count) (s + c.count + c.pad_count) (c.first + c.count) cs rest i d (omega arith)
 
 pub filled : (r s l : ℕ) (cs : List Column) → IsTable r s l cs → (i : ℕ) (d : Column) → i < length cs → 0 < (get_or cs i d).count
 filled _ _ _ _ (no_column r s l) i d h = absurd (omega arith)
 filled _ _ _ _ (column r s l c cs er es le pos top rest) zero d h = pos
 filled _ _ _ _ (column r s l c cs er es le pos top rest) (suc i) d h =
-    filled (r + c.count) (s + c.count + c.pads) (c.first + c.count) cs rest i d (omega arith)
+    filled (r + c.count) (s + c.count + c.pad_count) (c.first + c.count) cs rest i d (omega arith)
 
 pub rank_found : (cs : List Column) → IsTable 0 0 0 cs → (i x : ℕ) (d : Column) → i < length cs →
     (get_or cs i d).first ≤ x → x < (get_or cs i d).first + (get_or cs i d).count →
@@ -241,58 +241,58 @@ address_missing cs t (suc n) r d le after last =
 
 -- ---- a column's slots
 
-slot_in : (cs : List Column) → IsTable 0 0 0 cs → (i j : ℕ) (d : Column) → i < length cs → j < (get_or cs i d).count + (get_or cs i d).pads →
-    get_or (column_slots cs) ((get_or cs i d).slot + j) End ≡ get_or (slots_of (get_or cs i d)) j End
+slot_in : (cs : List Column) → IsTable 0 0 0 cs → (i j : ℕ) (d : Column) → i < length cs → j < (get_or cs i d).count + (get_or cs i d).pad_count →
+    get_or (column_slots cs) ((get_or cs i d).place + j) End ≡ get_or (slots_of (get_or cs i d)) j End
 unfolding column_slots
 slot_in cs t i j d h k =
     let c = get_or cs i d in
-    let e : c.slot ≡ length (column_slots (take i cs)) = slot_is 0 0 0 cs t i d h ∙ zero-add (length (column_slots (take i cs))) in
-    let len : length (slots_of c) ≡ c.count + c.pads = slots_length c in
+    let e : c.place ≡ length (column_slots (take i cs)) = slot_is 0 0 0 cs t i d h ∙ zero-add (length (column_slots (take i cs))) in
+    let len : length (slots_of c) ≡ c.count + c.pad_count = slots_length c in
     rw e (get_or-flat_map slots_of cs i j d End h (omega arith))
 
 frame_in : (c : Column) (j : ℕ) → j < c.count → get_or (slots_of c) j End ≡ Frame (c.first + j)
 frame_in c j h =
     let len : length (addresses_of_column c) ≡ c.count = length_count_from c.first c.count in
     let mlen : length (map Frame (addresses_of_column c)) ≡ c.count = length-map (addresses_of_column c) Frame ∙ len in
-    get_or_append_left (map Frame (addresses_of_column c)) (replicate c.pads Pad) End j (omega arith)
+    get_or_append_left (map Frame (addresses_of_column c)) (replicate c.pad_count Pad) End j (omega arith)
     ∙ get_or-map Frame (addresses_of_column c) j 0 End (omega arith) ∙ ap (λ (x : ℕ). Frame x) (get_or_count_from c.first c.count j 0 h)
 
-pad_in : (c : Column) (j : ℕ) → c.count ≤ j → j < c.count + c.pads → get_or (slots_of c) j End ≡ Pad
+pad_in : (c : Column) (j : ℕ) → c.count ≤ j → j < c.count + c.pad_count → get_or (slots_of c) j End ≡ Pad
 pad_in c j h k =
     let mlen : length (map Frame (addresses_of_column c)) ≡ c.count = length-map (addresses_of_column c) Frame ∙ length_count_from c.first c.count in
-    get_or-append_right (map Frame (addresses_of_column c)) (replicate c.pads Pad) c.count j End mlen h
-    ∙ get_or-replicate c.pads (j - c.count) Pad End (omega arith)
+    get_or-append_right (map Frame (addresses_of_column c)) (replicate c.pad_count Pad) c.count j End mlen h
+    ∙ get_or-replicate c.pad_count (j - c.count) Pad End (omega arith)
 
 pub slot_frame : (cs : List Column) → IsTable 0 0 0 cs → (i p : ℕ) (d : Column) → i < length cs →
-    (get_or cs i d).slot ≤ p → p - (get_or cs i d).slot < (get_or cs i d).count →
-    Frame ((get_or cs i d).first + (p - (get_or cs i d).slot)) ≡ get_or (column_slots cs) p End
+    (get_or cs i d).place ≤ p → p - (get_or cs i d).place < (get_or cs i d).count →
+    Frame ((get_or cs i d).first + (p - (get_or cs i d).place)) ≡ get_or (column_slots cs) p End
 slot_frame cs t i p d h low high =
     let c = get_or cs i d in
-    let z : c.slot + (p - c.slot) ≡ p = omega arith in
-    sym (ap (λ x. get_or (column_slots cs) x End) (sym z) ∙ slot_in cs t i (p - c.slot) d h (omega arith) ∙ frame_in c (p - c.slot) high)
+    let z : c.place + (p - c.place) ≡ p = omega arith in
+    sym (ap (λ x. get_or (column_slots cs) x End) (sym z) ∙ slot_in cs t i (p - c.place) d h (omega arith) ∙ frame_in c (p - c.place) high)
 
 pub slot_pad : (cs : List Column) → IsTable 0 0 0 cs → (i p : ℕ) (d : Column) → i < length cs →
-    (get_or cs i d).slot ≤ p → (get_or cs i d).count ≤ p - (get_or cs i d).slot → p - (get_or cs i d).slot < (get_or cs i d).count + (get_or cs i d).pads →
+    (get_or cs i d).place ≤ p → (get_or cs i d).count ≤ p - (get_or cs i d).place → p - (get_or cs i d).place < (get_or cs i d).count + (get_or cs i d).pad_count →
     Pad ≡ get_or (column_slots cs) p End
 slot_pad cs t i p d h low past high =
     let c = get_or cs i d in
-    let z : c.slot + (p - c.slot) ≡ p = omega arith in
-    sym (ap (λ x. get_or (column_slots cs) x End) (sym z) ∙ slot_in cs t i (p - c.slot) d h high ∙ pad_in c (p - c.slot) past high)
+    let z : c.place + (p - c.place) ≡ p = omega arith in
+    sym (ap (λ x. get_or (column_slots cs) x End) (sym z) ∙ slot_in cs t i (p - c.place) d h high ∙ pad_in c (p - c.place) past high)
 
 -- the frame of a slot, by its rank
 pub slot_rank : (cs : List Column) → IsTable 0 0 0 cs → (i p : ℕ) (d : Column) → i < length cs →
-    (get_or cs i d).slot ≤ p → p - (get_or cs i d).slot < (get_or cs i d).count →
-    ((get_or cs i d).rank + (p - (get_or cs i d).slot) < length (column_addresses cs))
-    × (get_or (column_slots cs) p End ≡ Frame (get_or (column_addresses cs) ((get_or cs i d).rank + (p - (get_or cs i d).slot)) 0))
+    (get_or cs i d).place ≤ p → p - (get_or cs i d).place < (get_or cs i d).count →
+    ((get_or cs i d).rank + (p - (get_or cs i d).place) < length (column_addresses cs))
+    × (get_or (column_slots cs) p End ≡ Frame (get_or (column_addresses cs) ((get_or cs i d).rank + (p - (get_or cs i d).place)) 0))
 slot_rank cs t i p d h low high =
     let e : (get_or cs i d).rank + (get_or cs i d).count ≤ 0 + length (column_addresses cs) = ends 0 0 0 cs t i d h in
-    let a : get_or (column_addresses cs) ((get_or cs i d).rank + (p - (get_or cs i d).slot)) 0 ≡ (get_or cs i d).first + (p - (get_or cs i d).slot) =
-    address_at cs t i (p - (get_or cs i d).slot) d h high in
+    let a : get_or (column_addresses cs) ((get_or cs i d).rank + (p - (get_or cs i d).place)) 0 ≡ (get_or cs i d).first + (p - (get_or cs i d).place) =
+    address_at cs t i (p - (get_or cs i d).place) d h high in
     (omega arith, sym (slot_frame cs t i p d h low high) ∙ ap (λ (x : ℕ). Frame x) (sym a))
 
 -- the columns after the last that begins so far, by its place and the default that code reads
 abbrev pub nothing : Column
-nothing = record { first = 0; count = 0; pads = 0; rank = 0; slot = 0 }
+nothing = record { first = 0; count = 0; pad_count = 0; rank = 0; place = 0 }
 
 pub past_last : (cs : List Column) (x n : ℕ) → IsTable 0 0 0 cs → n ≤ length cs → (n ≡ 0 → ⊥) →
     ((k : ℕ) (d : Column) → k < n → (get_or cs k d).first ≤ x) →
@@ -316,17 +316,17 @@ missing_last cs r n t le some before after last =
     rw same (omega arith))
 
 pub slots_end : (r s l : ℕ) (cs : List Column) → IsTable r s l cs → (i : ℕ) (d : Column) → i + 1 ≡ length cs →
-    s + length (column_slots cs) ≡ (get_or cs i d).slot + (get_or cs i d).count + (get_or cs i d).pads
+    s + length (column_slots cs) ≡ (get_or cs i d).place + (get_or cs i d).count + (get_or cs i d).pad_count
 unfolding column_slots
 slots_end _ _ _ _ (no_column r s l) i d h = absurd (omega arith)
 slots_end _ _ _ _ (column r s l c [] er es le pos top rest) zero d h =
-    let len : length (slots_of c ++ []) ≡ c.count + c.pads + 0 =
+    let len : length (slots_of c ++ []) ≡ c.count + c.pad_count + 0 =
     length-append (slots_of c) [] ∙ ap (λ x. x + 0) (slots_length c) in omega arith
 slots_end _ _ _ _ (column r s l c (b ∷ cs) er es le pos top rest) zero d h = absurd (omega arith)
 slots_end _ _ _ _ (column r s l c cs er es le pos top rest) (suc i) d h =
-    let ih : s + c.count + c.pads + length (column_slots cs) ≡ (get_or cs i d).slot + (get_or cs i d).count + (get_or cs i d).pads =
-    slots_end (r + c.count) (s + c.count + c.pads) (c.first + c.count) cs rest i d (omega arith) in
-    let len : length (slots_of c ++ column_slots cs) ≡ c.count + c.pads + length (column_slots cs) =
+    let ih : s + c.count + c.pad_count + length (column_slots cs) ≡ (get_or cs i d).place + (get_or cs i d).count + (get_or cs i d).pad_count =
+    slots_end (r + c.count) (s + c.count + c.pad_count) (c.first + c.count) cs rest i d (omega arith) in
+    let len : length (slots_of c ++ column_slots cs) ≡ c.count + c.pad_count + length (column_slots cs) =
     length-append (slots_of c) (column_slots cs) ∙ ap (λ x. x + length (column_slots cs)) (slots_length c) in
     omega arith
 
@@ -336,43 +336,43 @@ no_slot [] h = refl
 no_slot (c ∷ cs) h = absurd (omega arith)
 
 pub slot_missing : (cs : List Column) → IsTable 0 0 0 cs → (n r : ℕ) (d : Column) → n ≤ length cs →
-    ((k : ℕ) (d : Column) → n ≤ k → k < length cs → r < (get_or cs k d).slot) →
-    ((k : ℕ) → k + 1 ≡ n → (get_or cs k d).slot + (get_or cs k d).count + (get_or cs k d).pads ≤ r) → length (column_slots cs) ≤ r
+    ((k : ℕ) (d : Column) → n ≤ k → k < length cs → r < (get_or cs k d).place) →
+    ((k : ℕ) → k + 1 ≡ n → (get_or cs k d).place + (get_or cs k d).count + (get_or cs k d).pad_count ≤ r) → length (column_slots cs) ≤ r
 slot_missing cs t zero r d le after last =
     elim (cases_lt 0 (length cs)) [
       | inl some ↦ let f = starts 0 0 0 cs t 0 d some in
-          let a : r < (get_or cs 0 d).slot = after 0 d (omega arith) some in
-          let b : (get_or cs 0 d).slot ≡ 0 + length (column_slots (take 0 cs)) = slot_is 0 0 0 cs t 0 d some in
+          let a : r < (get_or cs 0 d).place = after 0 d (omega arith) some in
+          let b : (get_or cs 0 d).place ≡ 0 + length (column_slots (take 0 cs)) = slot_is 0 0 0 cs t 0 d some in
           let z : length (column_slots (take 0 cs)) ≡ 0 = no_slot (take 0 cs) refl in absurd (omega arith)
       | inr none ↦ let z : length (column_slots cs) ≡ 0 = no_slot cs (omega arith) in omega arith
     ]
 slot_missing cs t (suc n) r d le after last =
-    let l : (get_or cs n d).slot + (get_or cs n d).count + (get_or cs n d).pads ≤ r = last n (omega arith) in
+    let l : (get_or cs n d).place + (get_or cs n d).count + (get_or cs n d).pad_count ≤ r = last n (omega arith) in
     elim (cases_lt (n + 1) (length cs)) [
       | inl more ↦ let b = next_rank 0 0 0 cs t n d more in
-          let a : r < (get_or cs (n + 1) d).slot = after (n + 1) d (omega arith) more in absurd (omega arith)
-      | inr end ↦ let e : 0 + length (column_slots cs) ≡ (get_or cs n d).slot + (get_or cs n d).count + (get_or cs n d).pads = slots_end 0 0 0 cs t n d (omega arith) in omega arith
+          let a : r < (get_or cs (n + 1) d).place = after (n + 1) d (omega arith) more in absurd (omega arith)
+      | inr end ↦ let e : 0 + length (column_slots cs) ≡ (get_or cs n d).place + (get_or cs n d).count + (get_or cs n d).pad_count = slots_end 0 0 0 cs t n d (omega arith) in omega arith
     ]
 
 pub missing_slot : (cs : List Column) (r n : ℕ) → IsTable 0 0 0 cs → n ≤ length cs → (n ≡ 0 → ⊥) →
-    ((k : ℕ) (d : Column) → k < n → (get_or cs k d).slot ≤ r) →
-    ((k : ℕ) (d : Column) → n ≤ k → k < length cs → r < (get_or cs k d).slot) →
-    (get_or cs (n - 1) nothing).count + (get_or cs (n - 1) nothing).pads ≤ r - (get_or cs (n - 1) nothing).slot → End ≡ get_or (column_slots cs) r End
+    ((k : ℕ) (d : Column) → k < n → (get_or cs k d).place ≤ r) →
+    ((k : ℕ) (d : Column) → n ≤ k → k < length cs → r < (get_or cs k d).place) →
+    (get_or cs (n - 1) nothing).count + (get_or cs (n - 1) nothing).pad_count ≤ r - (get_or cs (n - 1) nothing).place → End ≡ get_or (column_slots cs) r End
 missing_slot cs r n t le some before after last =
     let past : length (column_slots cs) ≤ r = slot_missing cs t n r nothing le after (λ k e.
     let same : k ≡ n - 1 = omega arith in
-    let b : (get_or cs (n - 1) nothing).slot ≤ r = before (n - 1) nothing (omega arith) in
+    let b : (get_or cs (n - 1) nothing).place ≤ r = before (n - 1) nothing (omega arith) in
     rw same (omega arith)) in
     sym (get_or_past (column_slots cs) r End past)
 
 -- no frame stands after the last column's
 pub no_frame : (cs : List Column) (r n far : ℕ) → IsTable 0 0 0 cs → n ≤ length cs → (n ≡ 0 → ⊥) →
-    ((k : ℕ) (d : Column) → k < n → (get_or cs k d).slot ≤ r) →
-    ((k : ℕ) (d : Column) → n ≤ k → k < length cs → r < (get_or cs k d).slot) →
-    (get_or cs (n - 1) nothing).count ≤ r - (get_or cs (n - 1) nothing).slot → get_or (column_slots cs) r End ≡ Frame far → ⊥
+    ((k : ℕ) (d : Column) → k < n → (get_or cs k d).place ≤ r) →
+    ((k : ℕ) (d : Column) → n ≤ k → k < length cs → r < (get_or cs k d).place) →
+    (get_or cs (n - 1) nothing).count ≤ r - (get_or cs (n - 1) nothing).place → get_or (column_slots cs) r End ≡ Frame far → ⊥
 no_frame cs r n far t le some before after past e =
-    let low : (get_or cs (n - 1) nothing).slot ≤ r = before (n - 1) nothing (omega arith) in
-    elim (cases_lt (r - (get_or cs (n - 1) nothing).slot) ((get_or cs (n - 1) nothing).count + (get_or cs (n - 1) nothing).pads)) [
+    let low : (get_or cs (n - 1) nothing).place ≤ r = before (n - 1) nothing (omega arith) in
+    elim (cases_lt (r - (get_or cs (n - 1) nothing).place) ((get_or cs (n - 1) nothing).count + (get_or cs (n - 1) nothing).pad_count)) [
       | inl pad ↦ let p : Pad ≡ get_or (column_slots cs) r End = slot_pad cs t (n - 1) r nothing (omega arith) low past pad in absurd (cc (p, e))
       | inr end ↦ let p : End ≡ get_or (column_slots cs) r End = missing_slot cs r n t le some before after end in absurd (cc (p, e))
     ]
@@ -402,31 +402,31 @@ stop_here far a (suc n) rest h k =
 
 pub from_at : (r s l : ℕ) (cs : List Column) → IsTable r s l cs → (i far : ℕ) (d : Column) → i < length cs →
     (get_or cs i d).first ≤ far → far < (get_or cs i d).first + (get_or cs i d).count →
-    from far (column_slots cs) ≡ drop ((get_or cs i d).slot + (far - (get_or cs i d).first) - s) (column_slots cs)
+    from far (column_slots cs) ≡ drop ((get_or cs i d).place + (far - (get_or cs i d).first) - s) (column_slots cs)
 unfolding column_slots
 from_at _ _ _ _ (no_column r s l) i far d h low high = absurd (omega arith)
 from_at _ _ _ _ (column r s l c cs er es le pos top rest) zero far d h low high =
-    let z : c.slot + (far - c.first) - s ≡ far - c.first = omega arith in
-    rw (z, append_assoc (map Frame (addresses_of_column c)) (replicate c.pads Pad) (column_slots cs))
-    (stop_here far c.first c.count (replicate c.pads Pad ++ column_slots cs) low high)
+    let z : c.place + (far - c.first) - s ≡ far - c.first = omega arith in
+    rw (z, append_assoc (map Frame (addresses_of_column c)) (replicate c.pad_count Pad) (column_slots cs))
+    (stop_here far c.first c.count (replicate c.pad_count Pad ++ column_slots cs) low high)
 from_at _ _ _ _ (column r s l c cs er es le pos top rest) (suc i) far d h low high =
-    let f = starts (r + c.count) (s + c.count + c.pads) (c.first + c.count) cs rest i d (omega arith) in
+    let f = starts (r + c.count) (s + c.count + c.pad_count) (c.first + c.count) cs rest i d (omega arith) in
     let x = get_or cs i d in
-    let len : length (slots_of c) ≡ c.count + c.pads = slots_length c in
-    let z : x.slot + (far - x.first) - s ≡ length (slots_of c) + (x.slot + (far - x.first) - (s + c.count + c.pads)) = omega arith in
-    let ih : from far (column_slots cs) ≡ drop (x.slot + (far - x.first) - (s + c.count + c.pads)) (column_slots cs) =
-    from_at (r + c.count) (s + c.count + c.pads) (c.first + c.count) cs rest i far d (omega arith) low high in
+    let len : length (slots_of c) ≡ c.count + c.pad_count = slots_length c in
+    let z : x.place + (far - x.first) - s ≡ length (slots_of c) + (x.place + (far - x.first) - (s + c.count + c.pad_count)) = omega arith in
+    let ih : from far (column_slots cs) ≡ drop (x.place + (far - x.first) - (s + c.count + c.pad_count)) (column_slots cs) =
+    from_at (r + c.count) (s + c.count + c.pad_count) (c.first + c.count) cs rest i far d (omega arith) low high in
     let l : from far (slots_of c ++ column_slots cs) ≡ from far (column_slots cs) =
-    ap (from far) (append_assoc (map Frame (addresses_of_column c)) (replicate c.pads Pad) (column_slots cs))
-    ∙ skip_frames far c.first c.count (replicate c.pads Pad ++ column_slots cs) (omega arith) ∙ skip_pads far c.pads (column_slots cs) in
-    l ∙ ih ∙ sym (ap (λ n. drop n (slots_of c ++ column_slots cs)) z ∙ drop-append-add (slots_of c) (column_slots cs) (x.slot + (far - x.first) - (s + c.count + c.pads)))
+    ap (from far) (append_assoc (map Frame (addresses_of_column c)) (replicate c.pad_count Pad) (column_slots cs))
+    ∙ skip_frames far c.first c.count (replicate c.pad_count Pad ++ column_slots cs) (omega arith) ∙ skip_pads far c.pad_count (column_slots cs) in
+    l ∙ ih ∙ sym (ap (λ n. drop n (slots_of c ++ column_slots cs)) z ∙ drop-append-add (slots_of c) (column_slots cs) (x.place + (far - x.first) - (s + c.count + c.pad_count)))
 
-pub first_slot : (cs : List Column) (r : ℕ) → IsTable 0 0 0 cs → ((k : ℕ) (d : Column) → k < length cs → r < (get_or cs k d).slot) → End ≡ get_or (column_slots cs) r End
+pub first_slot : (cs : List Column) (r : ℕ) → IsTable 0 0 0 cs → ((k : ℕ) (d : Column) → k < length cs → r < (get_or cs k d).place) → End ≡ get_or (column_slots cs) r End
 first_slot cs r t after =
     let past : length (column_slots cs) ≤ r = slot_missing cs t 0 r nothing (omega arith) (λ k d low high. after k d high) (λ k e. absurd (omega arith)) in
     sym (get_or_past (column_slots cs) r End past)
 
-pub no_frame_first : (cs : List Column) (r far : ℕ) → IsTable 0 0 0 cs → ((k : ℕ) (d : Column) → k < length cs → r < (get_or cs k d).slot) →
+pub no_frame_first : (cs : List Column) (r far : ℕ) → IsTable 0 0 0 cs → ((k : ℕ) (d : Column) → k < length cs → r < (get_or cs k d).place) →
     get_or (column_slots cs) r End ≡ Frame far → ⊥
 no_frame_first cs r far t after e = let p : End ≡ get_or (column_slots cs) r End = first_slot cs r t after in absurd (cc (p, e))
 
@@ -463,33 +463,33 @@ next_none cs t i x d h low last =
 
 pub slot_after_is : (cs : List Column) → IsTable 0 0 0 cs → (i far n : ℕ) (d : Column) → i < length cs →
     (get_or cs i d).first ≤ far → far < (get_or cs i d).first + (get_or cs i d).count →
-    get_or (column_slots cs) ((get_or cs i d).slot + (far - (get_or cs i d).first) + n) End ≡ get_or (from far (column_slots cs)) n End
+    get_or (column_slots cs) ((get_or cs i d).place + (far - (get_or cs i d).first) + n) End ≡ get_or (from far (column_slots cs)) n End
 slot_after_is cs t i far n d h low high =
     rw (from_at 0 0 0 cs t i far d h low high)
-    (sym (get_or-drop ((get_or cs i d).slot + (far - (get_or cs i d).first) - 0) (column_slots cs) n End
-    ∙ ap (λ x. get_or (column_slots cs) (x + n) End) (let e : (get_or cs i d).slot + (far - (get_or cs i d).first) - 0 ≡ (get_or cs i d).slot + (far - (get_or cs i d).first) = omega arith in e)))
+    (sym (get_or-drop ((get_or cs i d).place + (far - (get_or cs i d).first) - 0) (column_slots cs) n End
+    ∙ ap (λ x. get_or (column_slots cs) (x + n) End) (let e : (get_or cs i d).place + (far - (get_or cs i d).first) - 0 ≡ (get_or cs i d).place + (far - (get_or cs i d).first) = omega arith in e)))
 
 pub slots_from_is : (cs : List Column) → IsTable 0 0 0 cs → (i far : ℕ) (d : Column) → i < length cs →
     (get_or cs i d).first ≤ far → far < (get_or cs i d).first + (get_or cs i d).count →
-    length (column_slots cs) - ((get_or cs i d).slot + (far - (get_or cs i d).first)) ≡ length (from far (column_slots cs))
+    length (column_slots cs) - ((get_or cs i d).place + (far - (get_or cs i d).first)) ≡ length (from far (column_slots cs))
 slots_from_is cs t i far d h low high =
     rw (from_at 0 0 0 cs t i far d h low high)
-    (sym (length-drop ((get_or cs i d).slot + (far - (get_or cs i d).first) - 0) (column_slots cs)
-    ∙ ap (λ x. length (column_slots cs) - x) (let e : (get_or cs i d).slot + (far - (get_or cs i d).first) - 0 ≡ (get_or cs i d).slot + (far - (get_or cs i d).first) = omega arith in e)))
+    (sym (length-drop ((get_or cs i d).place + (far - (get_or cs i d).first) - 0) (column_slots cs)
+    ∙ ap (λ x. length (column_slots cs) - x) (let e : (get_or cs i d).place + (far - (get_or cs i d).first) - 0 ≡ (get_or cs i d).place + (far - (get_or cs i d).first) = omega arith in e)))
 
 -- the slots end after the last column's
 pub slot_ends : (r s l : ℕ) (cs : List Column) → IsTable r s l cs → (i : ℕ) (d : Column) → i < length cs →
-    (get_or cs i d).slot + (get_or cs i d).count + (get_or cs i d).pads ≤ s + length (column_slots cs)
+    (get_or cs i d).place + (get_or cs i d).count + (get_or cs i d).pad_count ≤ s + length (column_slots cs)
 unfolding column_slots
 slot_ends _ _ _ _ (no_column r s l) i d h = absurd (omega arith)
 slot_ends _ _ _ _ (column r s l c cs er es le pos top rest) zero d h =
-    let len : length (slots_of c ++ column_slots cs) ≡ c.count + c.pads + length (column_slots cs) =
+    let len : length (slots_of c ++ column_slots cs) ≡ c.count + c.pad_count + length (column_slots cs) =
     length-append (slots_of c) (column_slots cs) ∙ ap (λ x. x + length (column_slots cs)) (slots_length c) in
     omega arith
 slot_ends _ _ _ _ (column r s l c cs er es le pos top rest) (suc i) d h =
-    let ih : (get_or cs i d).slot + (get_or cs i d).count + (get_or cs i d).pads ≤ s + c.count + c.pads + length (column_slots cs) =
-    slot_ends (r + c.count) (s + c.count + c.pads) (c.first + c.count) cs rest i d (omega arith) in
-    let len : length (slots_of c ++ column_slots cs) ≡ c.count + c.pads + length (column_slots cs) =
+    let ih : (get_or cs i d).place + (get_or cs i d).count + (get_or cs i d).pad_count ≤ s + c.count + c.pad_count + length (column_slots cs) =
+    slot_ends (r + c.count) (s + c.count + c.pad_count) (c.first + c.count) cs rest i d (omega arith) in
+    let len : length (slots_of c ++ column_slots cs) ≡ c.count + c.pad_count + length (column_slots cs) =
     length-append (slots_of c) (column_slots cs) ∙ ap (λ x. x + length (column_slots cs)) (slots_length c) in
     omega arith
 
@@ -503,7 +503,7 @@ last_rank cs c t e =
     let l = ends_last 0 0 0 cs t (length cs - 1) nothing i in
     rw (← g) (sym l ∙ zero-add (length (column_addresses cs)))
 
-pub last_slot : (cs : List Column) (c : Column) → IsTable 0 0 0 cs → Some c ≡ slice_get cs (length cs - 1) → c.slot + c.count + c.pads ≡ length (column_slots cs)
+pub last_slot : (cs : List Column) (c : Column) → IsTable 0 0 0 cs → Some c ≡ slice_get cs (length cs - 1) → c.place + c.count + c.pad_count ≡ length (column_slots cs)
 last_slot cs c t e =
     let h : length cs - 1 < length cs = slice_get_within cs (length cs - 1) c (sym e) in
     let i : length cs - 1 + 1 ≡ length cs = omega arith in

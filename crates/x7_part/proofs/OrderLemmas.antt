@@ -16,7 +16,7 @@ use Rattle.x7_part.specs.Part.{FieldWidths, RowData}
 use Rattle.x7_part.specs.Address.{row_address, row_low, AreWidths, IsRow, AreRows, no_row, row}
 use Rattle.x7_part.specs.AddressOrder.{addresses}
 use Rattle.x7_part.specs.PartChecks.{unless, first_of}
-use Rattle.x7_part.specs.Row.{has_place_of, has_same, same_row_fault}
+use Rattle.x7_part.specs.Row.{is_same_row, has_same_row, same_row_fault}
 use Rattle.x7_part.proofs.TableLemmas.{frames_cons}
 use Rattle.x7_part.proofs.WidthLemmas.{Order, rows_same, row_before, row_after, order_of, gap, some_weight}
 
@@ -32,13 +32,13 @@ first_none (Some fault) rest e = absurd (none-some fault (sym e))
 
 -- ---- rows by their addresses
 
-same_from : (far : FieldWidths) (r s : RowData) → AreWidths far → IsRow r → IsRow s → row_address far s ≡ row_address far r → has_place_of r s ≡ true
+same_from : (far : FieldWidths) (r s : RowData) → AreWidths far → IsRow r → IsRow s → row_address far s ≡ row_address far r → is_same_row r s ≡ true
 same_from far r s w a c e = by (order_of far r s w a c)
   where
     some : 1 ≤ 2 ^ row_low far
     some = some_weight far
 
-    by : Order far r s → has_place_of r s ≡ true
+    by : Order far r s → is_same_row r s ≡ true
     by (rows_same block half n) = rw (eq-eqb r.block s.block block, eq-eqb r.half s.half half, eq-eqb r.row s.row n) refl
     by (row_before k) = absurd (omega (arith, k, e, some))
     by (row_after k) = absurd (omega (arith, k, e, some))
@@ -75,11 +75,11 @@ not_true : (b : Bool) → not b ≡ true → b ≡ false
 not_true false e = refl
 not_true true e = absurd (false≢true e)
 
-not_there : (far : FieldWidths) (r : RowData) (rows : List RowData) → AreWidths far → IsRow r → All IsRow rows → has_same r rows ≡ false → many far (row_address far r) rows ≡ 0
+not_there : (far : FieldWidths) (r : RowData) (rows : List RowData) → AreWidths far → IsRow r → All IsRow rows → has_same_row r rows ≡ false → many far (row_address far r) rows ≡ 0
 unfolding many
 not_there far r [] w is all e = refl
 not_there far r (s ∷ rows) w is all e =
-    let p = or_false (has_place_of r s) (has_same r rows) e in
+    let p = or_false (is_same_row r s) (has_same_row r rows) e in
     let no = at_no far (row_address far r) s (λ same. false≢true (sym p.0 ∙ same_from far r s w is (All-head IsRow s rows all) same)) in
     let ih = not_there far r rows w is (All-tail IsRow s rows all) p.1 in
     let c = many_cons far (row_address far r) s rows in
@@ -102,8 +102,8 @@ apart_push far r rows apart none a =
 apart_rows : (far : FieldWidths) (earlier rows : List RowData) → AreWidths far → All IsRow earlier → All IsRow rows → same_row_fault earlier rows ≡ None → Apart far earlier → Apart far (earlier ++ rows)
 apart_rows far earlier [] w before all e apart = rw (append-nil earlier) apart
 apart_rows far earlier (r ∷ rows) w before all e apart =
-    let p = first_none (unless (not (has_same r earlier)) (SameRow (length earlier + 1))) (same_row_fault (earlier ++ r ∷ []) rows ∷ []) e in
-    let no = not_true (has_same r earlier) (unless_none (not (has_same r earlier)) (SameRow (length earlier + 1)) p.0) in
+    let p = first_none (unless (not (has_same_row r earlier)) (SameRow (length earlier + 1))) (same_row_fault (earlier ++ r ∷ []) rows ∷ []) e in
+    let no = not_true (has_same_row r earlier) (unless_none (not (has_same_row r earlier)) (SameRow (length earlier + 1)) p.0) in
     let q = first_none (same_row_fault (earlier ++ r ∷ []) rows) [] p.1 in
     let is = All-head IsRow r rows all in
     let more = apart_rows far (earlier ++ r ∷ []) rows w (All-push IsRow earlier r before is) (All-tail IsRow r rows all) q.0

@@ -13,14 +13,14 @@ use Rattle.x7_part.specs.declared.fault.PartFault.{PartFault}
 use Rattle.x7_part.specs.declared.fault.PartFault.TheVariants.{Toml, Range, TooMany, NoMemory}
 use Rattle.x7_part.specs.declared.fault.PartKey.TheVariants as key
 use Rattle.x7_part.specs.Keys.{top}
-use Rattle.x7_part.specs.Limits.{least_frame_words, most_frame_words, most_rows, most_frames, most_wait_ticks, most_words}
+use Rattle.x7_part.specs.Limits.{greatest_bus_width, greatest_mode, most_name_bytes, least_frame_words, most_frame_words, most_rows, most_frames, most_wait_ticks, most_words}
 use Rattle.x7_part.specs.Part.{RowData, PartData}
 use Rattle.x7_part.specs.Ranges.{IsPart}
 use Rattle.x7_part.specs.Address.{IsRow}
 use Rattle.x7_part.specs.declared.settings.Settings.{Settings}
 use Rattle.x7_part.specs.AddressOrder.{addresses}
 use Rattle.x7_part.specs.Values.{RowValues, TopValues, top_values, settings_by_values, row_by_values, rows_in_file, part_data, part_with}
-use Rattle.x7_part.specs.PartChecks.{fault_of_call, AnswersDue, unless, first_of, rows_fault, is_in, is_long, is_name, is_odd, is_unit, are_widths_or_none, row_range_fault, type_fault, other_fault, number_range_fault, top_range_fault, range_fault}
+use Rattle.x7_part.specs.PartChecks.{fault_of_call, AnswersDue, unless, first_of, rows_fault, is_in, is_length_in, is_name, is_odd, is_start_unit, are_widths_or_none, row_range_fault, type_fault, other_fault, number_range_fault, top_range_fault, range_fault}
 use Rattle.x7_part.specs.Row.{same_row_fault, has_few_frames, frames_fault, sorted_rows}
 use Rattle.x7_part.specs.PartFile.{first_fault, part_in, part_of_table, part_unless, part_from}
 use Rattle.x7_part.proofs.OrderLemmas.{unless_none, ordered, frames_sum, frames_permutation}
@@ -43,43 +43,43 @@ made t types others ranges apart frames =
     let rows = rows_in_file t in
     let sorted = sorted_rows s.far rows in
     let each = nones (top_range_fault v ∷ rows_fault row_range_fault 1 v.rows ∷ []) ranges in
-    let all = nones (unless (is_name v.name) (Range (top key.Name)) ∷ number_range_fault v ∷ unless (is_long 1 most_rows (length v.rows)) (Range (top key.Row)) ∷ []) each.0 in
+    let all = nones (unless (is_name v.name) (Range (top key.Name)) ∷ number_range_fault v ∷ unless (is_length_in 1 most_rows (length v.rows)) (Range (top key.Row)) ∷ []) each.0 in
     let h = nones (
     unless (is_odd v.idcode) (Range (top key.Idcode))
-    ∷ unless (is_in 0 7 v.mode) (Range (top key.Mode))
-    ∷ unless (is_in 0 3 v.bus_width) (Range (top key.BusWidth))
+    ∷ unless (is_in 0 greatest_mode v.mode) (Range (top key.Mode))
+    ∷ unless (is_in 0 greatest_bus_width v.bus_width) (Range (top key.BusWidth))
     ∷ unless (is_in 0 most_wait_ticks v.lock) (Range (top key.Lock))
     ∷ unless (is_in 0 most_wait_ticks v.matched) (Range (top key.Match))
-    ∷ unless (is_in least_frame_words most_frame_words v.words) (Range (top key.FrameWords))
+    ∷ unless (is_in least_frame_words most_frame_words v.frame_words) (Range (top key.FrameWords))
     ∷ unless (are_widths_or_none v.far) (Range (top key.Far))
-    ∷ unless (is_unit v.start_unit) (Range (top key.StartUnit))
+    ∷ unless (is_start_unit v.start_unit) (Range (top key.StartUnit))
     ∷ []) all.1.0 in
     let name = name_in v.name (unless_none (is_name v.name) (Range (top key.Name)) all.0) in
-    let long = long_in 1 64 (length v.name) name.0 in
+    let long = long_in 1 most_name_bytes (length v.name) name.0 in
     let idcode = odd_in v.idcode (unless_none (is_odd v.idcode) (Range (top key.Idcode)) h.0) in
     let lock = (in_range 0 most_wait_ticks v.lock (unless_none (is_in 0 most_wait_ticks v.lock) (Range (top key.Lock)) h.1.1.1.0)).1 in
     let matched = (in_range 0 most_wait_ticks v.matched (unless_none (is_in 0 most_wait_ticks v.matched) (Range (top key.Match)) h.1.1.1.1.0)).1 in
     let far = far_is v.far (unless_none (are_widths_or_none v.far) (Range (top key.Far)) h.1.1.1.1.1.1.0) in
-    let many = long_in 1 most_rows (length v.rows) (unless_none (is_long 1 most_rows (length v.rows)) (Range (top key.Row)) all.1.1.0) in
+    let many = long_in 1 most_rows (length v.rows) (unless_none (is_length_in 1 most_rows (length v.rows)) (Range (top key.Row)) all.1.1.0) in
     let count : length rows ≡ length v.rows = length-map v.rows row_by_values in
     let same = ordered_same s.far rows in
     let are = ordered s.far rows sorted far (rows_are 1 v.rows each.1.0) apart same (ordered_sorted s.far rows) in
     let l : length sorted ≡ length rows = length_permutation rows sorted same in
     let n : length (addresses s.far sorted) ≡ length (addresses s.far rows) = frames_permutation s.far rows sorted same in
-    let fits = few s.words (length (addresses s.far rows)) (length rows) (unless_none (has_few_frames s.words (length (addresses s.far rows)) (length rows)) (TooMany (length (addresses s.far rows))) frames) in
+    let fits = few s.frame_words (length (addresses s.far rows)) (length rows) (unless_none (has_few_frames s.frame_words (length (addresses s.far rows)) (length rows)) (TooMany (length (addresses s.far rows))) frames) in
     record {
       named = long.0;
       short = long.1;
       printed = printed v.name name.1;
       idcode = (let i = idcode.0 in omega arith);
       odd = idcode.1;
-      mode = (in_range 0 7 v.mode (unless_none (is_in 0 7 v.mode) (Range (top key.Mode)) h.1.0)).1;
-      bus_width = (in_range 0 3 v.bus_width (unless_none (is_in 0 3 v.bus_width) (Range (top key.BusWidth)) h.1.1.0)).1;
+      mode = (in_range 0 greatest_mode v.mode (unless_none (is_in 0 greatest_mode v.mode) (Range (top key.Mode)) h.1.0)).1;
+      bus_width = (in_range 0 greatest_bus_width v.bus_width (unless_none (is_in 0 greatest_bus_width v.bus_width) (Range (top key.BusWidth)) h.1.1.0)).1;
       lock = omega (arith, lock);
       matched = omega (arith, matched);
-      words = in_range least_frame_words most_frame_words v.words (unless_none (is_in least_frame_words most_frame_words v.words) (Range (top key.FrameWords)) h.1.1.1.1.1.0);
+      words = in_range least_frame_words most_frame_words v.frame_words (unless_none (is_in least_frame_words most_frame_words v.frame_words) (Range (top key.FrameWords)) h.1.1.1.1.1.0);
       far = far;
-      start_unit = unit_in v.start_unit (unless_none (is_unit v.start_unit) (Range (top key.StartUnit)) h.1.1.1.1.1.1.1.0);
+      start_unit = unit_in v.start_unit (unless_none (is_start_unit v.start_unit) (Range (top key.StartUnit)) h.1.1.1.1.1.1.1.0);
       some = (let low = many.0 in omega arith);
       few = (let high = many.1 in omega arith);
       rows = are;
@@ -102,7 +102,7 @@ first_alone None = refl
 first_alone (Some fault) = refl
 
 -- the checks of rows, by their number of frames
-pub rows_checked : (part : PartData) (words frames : ℕ) (rows : List RowData) (r : Result (Unit {0}) PartFault) → part.words ≡ words → part.rows ≡ rows →
+pub rows_checked : (part : PartData) (words frames : ℕ) (rows : List RowData) (r : Result (Unit {0}) PartFault) → part.frame_words ≡ words → part.rows ≡ rows →
     frames ≡ sum_by (λ r. sum r.minors) rows → None ≡ same_row_fault [] rows →
     fault_of_call r ≡ unless (has_few_frames words frames (length rows)) (TooMany frames) → fault_of_call r ≡ first_of (same_row_fault [] rows ∷ frames_fault part ∷ [])
 rows_checked part words frames rows r wide same counted apart checked =
@@ -196,8 +196,8 @@ ranges_none text t v s rows h = rw (← h.before, h.each) refl
 pub few_rows : (text : List ℕ) (t : Members) (v : TopValues) (s : Settings) (rows : List RowData) → Passed text t v s rows → length rows ≤ most_rows
 unfolding top_range_fault
 few_rows text t v s rows h =
-    let all = nones (unless (is_name v.name) (Range (top key.Name)) ∷ number_range_fault v ∷ unless (is_long 1 most_rows (length v.rows)) (Range (top key.Row)) ∷ []) (sym h.before) in
-    let many = (long_in 1 most_rows (length v.rows) (unless_none (is_long 1 most_rows (length v.rows)) (Range (top key.Row)) all.1.1.0)).1 in
+    let all = nones (unless (is_name v.name) (Range (top key.Name)) ∷ number_range_fault v ∷ unless (is_length_in 1 most_rows (length v.rows)) (Range (top key.Row)) ∷ []) (sym h.before) in
+    let many = (long_in 1 most_rows (length v.rows) (unless_none (is_length_in 1 most_rows (length v.rows)) (Range (top key.Row)) all.1.1.0)).1 in
     let count : length rows ≡ length v.rows = ap length h.made ∙ length-map v.rows row_by_values in
     omega arith
 
@@ -266,9 +266,9 @@ or_memory fault one due f (inl e) = inl e
 or_memory fault one due f (inr e) = inr (f e)
 
 -- the start unit is the first number out of range
-pub unit_reported : (v : TopValues) (fault : PartFault) → None ≡ unless (is_odd v.idcode) (Range (top key.Idcode)) → None ≡ unless (is_in 0 7 v.mode) (Range (top key.Mode)) →
-    None ≡ unless (is_in 0 3 v.bus_width) (Range (top key.BusWidth)) → None ≡ unless (is_in 0 most_wait_ticks v.lock) (Range (top key.Lock)) →
-    None ≡ unless (is_in 0 most_wait_ticks v.matched) (Range (top key.Match)) → None ≡ unless (is_in least_frame_words most_frame_words v.words) (Range (top key.FrameWords)) →
-    None ≡ unless (are_widths_or_none v.far) (Range (top key.Far)) → Some fault ≡ unless (is_unit v.start_unit) (Range (top key.StartUnit)) → Some fault ≡ number_range_fault v
+pub unit_reported : (v : TopValues) (fault : PartFault) → None ≡ unless (is_odd v.idcode) (Range (top key.Idcode)) → None ≡ unless (is_in 0 greatest_mode v.mode) (Range (top key.Mode)) →
+    None ≡ unless (is_in 0 greatest_bus_width v.bus_width) (Range (top key.BusWidth)) → None ≡ unless (is_in 0 most_wait_ticks v.lock) (Range (top key.Lock)) →
+    None ≡ unless (is_in 0 most_wait_ticks v.matched) (Range (top key.Match)) → None ≡ unless (is_in least_frame_words most_frame_words v.frame_words) (Range (top key.FrameWords)) →
+    None ≡ unless (are_widths_or_none v.far) (Range (top key.Far)) → Some fault ≡ unless (is_start_unit v.start_unit) (Range (top key.StartUnit)) → Some fault ≡ number_range_fault v
 unfolding number_range_fault
 unit_reported v fault idcode mode bus_width lock matched words far unit = rw (← idcode, ← mode, ← bus_width, ← lock, ← matched, ← words, ← far, ← unit) refl

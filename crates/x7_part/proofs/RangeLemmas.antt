@@ -10,10 +10,10 @@ use Rattle.x7_part.specs.declared.fault.PartFault.{PartFault}
 use Rattle.x7_part.specs.declared.fault.PartFault.TheVariants.{Range}
 use Rattle.x7_part.specs.declared.fault.PartKey.TheVariants as key
 use Rattle.x7_part.specs.Keys.{in_row}
-use Rattle.x7_part.specs.Limits.{most_columns, most_minors, IsStartUnit}
+use Rattle.x7_part.specs.Limits.{first_printed, greatest_block, greatest_half, greatest_row, last_printed, most_columns, most_minors, most_name_bytes, IsStartUnit}
 use Rattle.x7_part.specs.Address.{IsRow, AreWidths}
 use Rattle.x7_part.specs.Values.{RowValues, natural, row_by_values, widths_of}
-use Rattle.x7_part.specs.PartChecks.{unless, first_of, rows_fault, next_row_number, is_in, is_long, are_printed, is_name, is_odd, is_unit, are_in, are_minors, are_widths, are_widths_or_none, row_range_fault}
+use Rattle.x7_part.specs.PartChecks.{unless, first_of, rows_fault, next_row_number, is_in, is_length_in, are_printed, is_name, is_odd, is_start_unit, are_in, are_minors, are_widths, are_widths_or_none, row_range_fault}
 use Rattle.x7_part.proofs.OrderLemmas.{unless_none, first_none}
 
 -- where no check finds a fault, none of them does
@@ -30,19 +30,19 @@ in_range low high (negsuc n) h =
     let p = and_parts (int_le (pos low) (negsuc n)) (int_le (negsuc n) (pos high)) h in
     absurd (false≢true p.0)
 
-pub name_in : (bs : List ℕ) → is_name bs ≡ true → (is_long 1 64 (length bs) ≡ true) × (are_printed bs ≡ true)
+pub name_in : (bs : List ℕ) → is_name bs ≡ true → (is_length_in 1 most_name_bytes (length bs) ≡ true) × (are_printed bs ≡ true)
 unfolding is_name
-name_in bs h = and_parts (is_long 1 64 (length bs)) (are_printed bs) h
+name_in bs h = and_parts (is_length_in 1 most_name_bytes (length bs)) (are_printed bs) h
 
-pub long_in : (low high n : ℕ) → is_long low high n ≡ true → (low ≤ n) × (n ≤ high)
+pub long_in : (low high n : ℕ) → is_length_in low high n ≡ true → (low ≤ n) × (n ≤ high)
 long_in low high n h = let p = and_parts (nat_le low n) (nat_le n high) h in (leb-true low n p.0, leb-true n high p.1)
 
-pub printed : (bs : List ℕ) → are_printed bs ≡ true → All (λ b. (0x21 ≤ b) × (b ≤ 0x7E)) bs
-printed [] e = All-nil (λ b. (0x21 ≤ b) × (b ≤ 0x7E))
+pub printed : (bs : List ℕ) → are_printed bs ≡ true → All (λ b. (first_printed ≤ b) × (b ≤ last_printed)) bs
+printed [] e = All-nil (λ b. (first_printed ≤ b) × (b ≤ last_printed))
 printed (b ∷ bs) e =
-    let p = and_parts (nat_le 0x21 b && nat_le b 0x7E) (are_printed bs) e in
-    let q = and_parts (nat_le 0x21 b) (nat_le b 0x7E) p.0 in
-    All-cons (λ b. (0x21 ≤ b) × (b ≤ 0x7E)) b bs (leb-true 0x21 b q.0, leb-true b 0x7E q.1) (printed bs p.1)
+    let p = and_parts (nat_le first_printed b && nat_le b last_printed) (are_printed bs) e in
+    let q = and_parts (nat_le first_printed b) (nat_le b last_printed) p.0 in
+    All-cons (λ b. (first_printed ≤ b) × (b ≤ last_printed)) b bs (leb-true first_printed b q.0, leb-true b last_printed q.1) (printed bs p.1)
 
 is_one : (n : ℕ) → (n == 1) ≡ true → n ≡ 1
 is_one n e = elim (eqb_tells n 1) [ inl y ↦ y.1 | inr n' ↦ absurd (false≢true (sym n'.0 ∙ e)) ]
@@ -59,8 +59,8 @@ or_cases false b h = inr h
 one_number : (n : ℕ) (z : ℤ) → is_in n n z ≡ true → natural z ≡ n
 one_number n z h = let r = in_range n n z h in let low = r.0 in let high = r.1 in omega arith
 
-pub unit_in : (z : ℤ) → is_unit z ≡ true → IsStartUnit (natural z)
-unfolding is_unit
+pub unit_in : (z : ℤ) → is_start_unit z ≡ true → IsStartUnit (natural z)
+unfolding is_start_unit
 unit_in z h = elim (or_cases (is_in 1 1 z) (is_in 256 256 z) h) [ inl first ↦ inl (one_number 1 z first) | inr second ↦ inr (one_number 256 z second) ]
 
 widths_are : (zs : List ℤ) → are_widths zs ≡ true → AreWidths (widths_of zs)
@@ -105,7 +105,7 @@ pub record Minors (minors : List ℕ) : Type 0 where
 
 pub minors_are : (zs : List ℤ) (fault : PartFault) → unless (are_minors zs) fault ≡ None → Minors (map natural zs)
 minors_are zs fault e =
-    let m = and_parts (is_long 1 most_columns (length zs)) (are_in 1 most_minors zs) (unless_none (are_minors zs) fault e) in
+    let m = and_parts (is_length_in 1 most_columns (length zs)) (are_in 1 most_minors zs) (unless_none (are_minors zs) fault e) in
     let many = long_in 1 most_columns (length zs) m.0 in
     let l = length-map zs natural in
     record {
@@ -117,16 +117,16 @@ minors_are zs fault e =
 row_is : (n : ℕ) (v : RowValues) → row_range_fault n v ≡ None → IsRow (row_by_values v)
 row_is n v e =
     let none = nones (
-    unless (is_in 0 2 v.block) (Range (in_row n key.Block))
-    ∷ unless (is_in 0 1 v.half) (Range (in_row n key.Half))
-    ∷ unless (is_in 0 31 v.row) (Range (in_row n key.Row))
+    unless (is_in 0 greatest_block v.block) (Range (in_row n key.Block))
+    ∷ unless (is_in 0 greatest_half v.half) (Range (in_row n key.Half))
+    ∷ unless (is_in 0 greatest_row v.row) (Range (in_row n key.Row))
     ∷ unless (are_minors v.minors) (Range (in_row n key.Minors))
     ∷ []) e in
     let m = minors_are v.minors (Range (in_row n key.Minors)) none.1.1.1.0 in
     record {
-      block = (in_range 0 2 v.block (unless_none (is_in 0 2 v.block) (Range (in_row n key.Block)) none.0)).1;
-      half = (in_range 0 1 v.half (unless_none (is_in 0 1 v.half) (Range (in_row n key.Half)) none.1.0)).1;
-      row = (in_range 0 31 v.row (unless_none (is_in 0 31 v.row) (Range (in_row n key.Row)) none.1.1.0)).1;
+      block = (in_range 0 greatest_block v.block (unless_none (is_in 0 greatest_block v.block) (Range (in_row n key.Block)) none.0)).1;
+      half = (in_range 0 greatest_half v.half (unless_none (is_in 0 greatest_half v.half) (Range (in_row n key.Half)) none.1.0)).1;
+      row = (in_range 0 greatest_row v.row (unless_none (is_in 0 greatest_row v.row) (Range (in_row n key.Row)) none.1.1.0)).1;
       some = m.some;
       columns = m.columns;
       minors = m.each;

@@ -148,7 +148,7 @@ unfolding column_addresses
 addresses_rise _ _ _ _ (no_column r s l) = risen l
 addresses_rise _ _ _ _ (column r s l c cs er es le pos top rest) =
     rises_lower l c.first (column_addresses (c ∷ cs)) le
-    (count_rises c.first c.count (column_addresses cs) (addresses_rise (r + c.count) (s + c.count + c.pads) (c.first + c.count) cs rest))
+    (count_rises c.first c.count (column_addresses cs) (addresses_rise (r + c.count) (s + c.count + c.pad_count) (c.first + c.count) cs rest))
 
 -- in a list that rises the element at a place has as many smaller ones as come before it
 count_cons : (x y : ℕ) (ys : List ℕ) →
@@ -186,14 +186,14 @@ drop_step i xs h = rw (add-one, drop-cons xs i 0) refl
 
 one_more : (pitch base i rank slot n : ℕ) (rest : List ℕ) (all : ℕ) → length rest ≡ all - (i + 1) → i < all →
     row_columns pitch base i rank slot (n ∷ rest)
-    ≡ record { first = base + i * pitch; count = n; pads = (if i + 1 == all then 2 else 0); rank = rank; slot = slot }
+    ≡ record { first = base + i * pitch; count = n; pad_count = (if i + 1 == all then 2 else 0); rank = rank; place = slot }
     ∷ row_columns pitch base (i + 1) (rank + n) (slot + n) rest
 one_more pitch base i rank slot n [] all e h = let f : eqb (i + 1) all ≡ true = eq-eqb (i + 1) all (omega arith) in rw f refl
 one_more pitch base i rank slot n (m ∷ rest) all e h = let f : eqb (i + 1) all ≡ false = ne_eqb (i + 1) all (λ x. omega arith) in rw f refl
 
 pub row_more : (pitch base i rank slot : ℕ) (minors : List ℕ) → i < length minors →
     row_columns pitch base i rank slot (drop i minors)
-    ≡ record { first = base + i * pitch; count = get_or minors i 0; pads = (if i + 1 == length minors then 2 else 0); rank = rank; slot = slot }
+    ≡ record { first = base + i * pitch; count = get_or minors i 0; pad_count = (if i + 1 == length minors then 2 else 0); rank = rank; place = slot }
     ∷ row_columns pitch base (i + 1) (rank + get_or minors i 0) (slot + get_or minors i 0) (drop (i + 1) minors)
 row_more pitch base i rank slot minors h =
     rw (drop_step i minors h) (one_more pitch base i rank slot (get_or minors i 0) (drop (i + 1) minors) (length minors) (length-drop (i + 1) minors) h)

@@ -1,49 +1,49 @@
 -- Frame addresses (UG470, frame address register): minor, column, row, half (0 top, 1 bottom) and block type, from bit
 -- 0 up, each with the part's width.
 use Rattle.std.specs.Prelude.{◌≡◌, ℕ, ◌+◌, ◌*◌, ◌^◌, ◌<◌, ◌≤◌, List, [], ◌∷◌, length, slice_index, Contains, All}
-use Rattle.x7_part.specs.Limits.{most_columns, most_minors}
+use Rattle.x7_part.specs.Limits.{greatest_block, greatest_half, greatest_row, most_columns, most_minors}
 use Rattle.x7_part.specs.Part.{FieldWidths, RowData, PartData}
 
 -- the lowest bit of the column
 abbrev pub column_low : FieldWidths → ℕ
-column_low far = far.minor
+column_low widths = widths.minor
 
 -- the lowest bit of the row
 abbrev pub row_low : FieldWidths → ℕ
-row_low far = far.minor + far.column
+row_low widths = widths.minor + widths.column
 
 -- the lowest bit of the half
 abbrev pub half_low : FieldWidths → ℕ
-half_low far = far.minor + far.column + far.row
+half_low widths = widths.minor + widths.column + widths.row
 
 -- the lowest bit of the block type
 abbrev pub block_low : FieldWidths → ℕ
-block_low far = far.minor + far.column + far.row + far.half
+block_low widths = widths.minor + widths.column + widths.row + widths.half
 
 -- how many bits an address has
 abbrev pub address_width : FieldWidths → ℕ
-address_width far = far.minor + far.column + far.row + far.half + far.block
+address_width widths = widths.minor + widths.column + widths.row + widths.half + widths.block
 
 -- how many bits a part's addresses have
 abbrev pub far_width : PartData → ℕ
 far_width part = address_width part.far
 
--- fields in which each part has its place, in an address of 25 to 32 bits
-pub record AreWidths (far : FieldWidths) : Type 0 where
-  pub minor : (7 ≤ far.minor) × (far.minor ≤ 12)
-  pub column : (10 ≤ far.column) × (far.column ≤ 12)
-  pub row : (5 ≤ far.row) × (far.row ≤ 8)
-  pub half : far.half ≡ 1
-  pub block : (2 ≤ far.block) × (far.block ≤ 3)
-  pub sum : address_width far ≤ 32
+-- widths that the fields of an address may have, 32 bits together at most
+pub record AreWidths (widths : FieldWidths) : Type 0 where
+  pub minor : (7 ≤ widths.minor) × (widths.minor ≤ 12)
+  pub column : (10 ≤ widths.column) × (widths.column ≤ 12)
+  pub row : (5 ≤ widths.row) × (widths.row ≤ 8)
+  pub half : widths.half ≡ 1
+  pub block : (2 ≤ widths.block) × (widths.block ≤ 3)
+  pub sum : address_width widths ≤ 32
 
 -- the address of a row's column 0, minor 0
 abbrev pub row_address : FieldWidths → RowData → ℕ
-row_address far r = r.block * 2 ^ block_low far + r.half * 2 ^ half_low far + r.row * 2 ^ row_low far
+row_address widths r = r.block * 2 ^ block_low widths + r.half * 2 ^ half_low widths + r.row * 2 ^ row_low widths
 
 -- the address of a frame by its row, column and minor
 abbrev pub frame_address : FieldWidths → RowData → ℕ → ℕ → ℕ
-frame_address far r column minor = row_address far r + column * 2 ^ column_low far + minor
+frame_address widths r column minor = row_address widths r + column * 2 ^ column_low widths + minor
 
 -- an address is that of a frame of one of the part's rows: the column has a place in the row, and the
 -- minor is below the column's number of minors
@@ -54,15 +54,15 @@ IsAddressOf part address =
 
 -- a row whose numbers are in range
 pub record IsRow (r : RowData) : Type 0 where
-  pub block : r.block ≤ 2
-  pub half : r.half ≤ 1
-  pub row : r.row ≤ 31
+  pub block : r.block ≤ greatest_block
+  pub half : r.half ≤ greatest_half
+  pub row : r.row ≤ greatest_row
   pub some : 1 ≤ length r.minors
   pub columns : length r.minors ≤ most_columns
   pub minors : All (λ n. (1 ≤ n) × (n ≤ most_minors)) r.minors
 
 -- rows in range, in number order and no two of them the same; the first has its address at `least` or above
 pub data AreRows : FieldWidths → ℕ → List RowData → Type 0 where
-  no_row : (far : FieldWidths) (least : ℕ) → AreRows far least []
-  row : (far : FieldWidths) (least : ℕ) (r : RowData) (rows : List RowData) → least ≤ row_address far r → IsRow r →
-      AreRows far (row_address far r + 2 ^ row_low far) rows → AreRows far least (r ∷ rows)
+  no_row : (widths : FieldWidths) (least : ℕ) → AreRows widths least []
+  row : (widths : FieldWidths) (least : ℕ) (r : RowData) (rows : List RowData) → least ≤ row_address widths r → IsRow r →
+      AreRows widths (row_address widths r + 2 ^ row_low widths) rows → AreRows widths least (r ∷ rows)

@@ -9,19 +9,19 @@ abbrev pub count_from : ℕ → ℕ → List ℕ
 count_from first zero = []
 count_from first (suc n) = first ∷ count_from (first + 1) n
 
--- the addresses of the row at `base`, from a column on, by the minors of these
--- columns; the next column is `pitch` further
+-- the addresses of the row at `base` from a column on, of which are given the numbers of minors; the next column stands
+-- `pitch` further
 abbrev pub row_addresses : ℕ → ℕ → ℕ → List ℕ → List ℕ
 row_addresses pitch base column [] = []
 row_addresses pitch base column (n ∷ minors) = count_from (base + column * pitch) n ++ row_addresses pitch base (column + 1) minors
 
 -- the addresses of a row
 abbrev pub addresses_of : FieldWidths → RowData → List ℕ
-addresses_of far r = row_addresses (2 ^ column_low far) (row_address far r) 0 r.minors
+addresses_of widths r = row_addresses (2 ^ column_low widths) (row_address widths r) 0 r.minors
 
--- the addresses of the rows, which stand in number order
+-- the addresses of rows that stand in number order
 unfoldable pub addresses : FieldWidths → List RowData → List ℕ
-addresses far rows = flat_map (addresses_of far) rows
+addresses widths rows = flat_map (addresses_of widths) rows
 
 -- the addresses of a part
 abbrev pub addresses_in : PartData → List ℕ

@@ -16,7 +16,7 @@ addresses_of_column c = count_from c.first c.count
 
 -- the slots of one column: its frames, and the pads after them
 abbrev pub slots_of : Column → List Slot
-slots_of c = map Frame (addresses_of_column c) ++ replicate c.pads Pad
+slots_of c = map Frame (addresses_of_column c) ++ replicate c.pad_count Pad
 
 -- the address is one of a column's
 abbrev pub IsIn : Column → ℕ → Type 0
@@ -30,12 +30,13 @@ column_addresses columns = flat_map addresses_of_column columns
 unfoldable pub column_slots : List Column → List Slot
 column_slots columns = flat_map slots_of columns
 
--- the columns stand in order, each with the numbers of addresses and of slots before it
+-- the columns stand in order after `rank` addresses and `place` slots, each with the numbers of addresses and of slots
+-- before it; the first one begins at `least` or above
 pub data IsTable : ℕ → ℕ → ℕ → List Column → Type 0 where
-  no_column : (rank slot least : ℕ) → IsTable rank slot least []
-  column : (rank slot least : ℕ) (c : Column) (columns : List Column) → c.rank ≡ rank → c.slot ≡ slot → least ≤ c.first →
+  no_column : (rank place least : ℕ) → IsTable rank place least []
+  column : (rank place least : ℕ) (c : Column) (columns : List Column) → c.rank ≡ rank → c.place ≡ place → least ≤ c.first →
       0 < c.count → c.first + c.count ≤ 2 ^ 32 →
-      IsTable (rank + c.count) (slot + c.count + c.pads) (c.first + c.count) columns → IsTable rank slot least (c ∷ columns)
+      IsTable (rank + c.count) (place + c.count + c.pad_count) (c.first + c.count) columns → IsTable rank place least (c ∷ columns)
 
 -- columns that can be searched: they stand in order, their addresses are counted in 32 bits and their slots in 63
 pub record AreColumns (columns : List Column) : Type 0 where
@@ -51,17 +52,17 @@ pub record AreColumnsOf (part : PartData) (columns : List Column) : Type 0 where
   pub slots : column_slots columns ≡ slots_in part
 
 module _ (pitch base : ℕ) where
-  -- the columns of the row at `base`, from its `i`th on, after `rank` addresses and `slot`
+  -- the columns of the row at `base`, from its `i`th on, after `rank` addresses and `place`
   -- slots; the next column begins `pitch` further
   abbrev pub row_columns : ℕ → ℕ → ℕ → List ℕ → List Column
-  row_columns i rank slot [] = []
-  row_columns i rank slot (n ∷ []) = record { first = base + i * pitch; count = n; pads = 2; rank = rank; slot = slot } ∷ []
-  row_columns i rank slot (n ∷ m ∷ minors) =
-      record { first = base + i * pitch; count = n; pads = 0; rank = rank; slot = slot } ∷ row_columns (i + 1) (rank + n) (slot + n) (m ∷ minors)
+  row_columns i rank place [] = []
+  row_columns i rank place (n ∷ []) = record { first = base + i * pitch; count = n; pad_count = 2; rank = rank; place = place } ∷ []
+  row_columns i rank place (n ∷ m ∷ minors) =
+      record { first = base + i * pitch; count = n; pad_count = 0; rank = rank; place = place } ∷ row_columns (i + 1) (rank + n) (place + n) (m ∷ minors)
 
--- the columns of the rows, after `rank` addresses and `slot` slots
+-- the columns of the rows, after `rank` addresses and `place` slots
 abbrev pub table_of : FieldWidths → ℕ → ℕ → List RowData → List Column
-table_of far rank slot [] = []
-table_of far rank slot (r ∷ rows) =
-    row_columns (2 ^ column_low far) (row_address far r) 0 rank slot r.minors
-    ++ table_of far (rank + length (addresses_of far r)) (slot + length (addresses_of far r) + 2) rows
+table_of widths rank place [] = []
+table_of widths rank place (r ∷ rows) =
+    row_columns (2 ^ column_low widths) (row_address widths r) 0 rank place r.minors
+    ++ table_of widths (rank + length (addresses_of widths r)) (place + length (addresses_of widths r) + 2) rows

@@ -22,11 +22,11 @@ name_of key.Half = codes "half"
 name_of key.Minors = codes "minors"
 name_of key.Other = codes "other"
 
--- a key of the top table
+-- the place of a key in the top table
 abbrev pub top : PartKey → Which
 top k = record { row = None; key = k }
 
--- a key of row n
+-- the place of a key in row n
 abbrev pub in_row : ℕ → PartKey → Which
 in_row n k = record { row = Some n; key = k }
 

@@ -1,6 +1,38 @@
 -- The most and the least that a part may have (this project's choice, where no other source is named).
 use Rattle.std.specs.Prelude.{◌≡◌, ◌⊎◌, ℕ}
 
+-- the greatest number of the mode pins, which STAT shows in three bits (UG470, status register)
+abbrev pub greatest_mode : ℕ
+greatest_mode = 7
+
+-- the greatest number of the bus width, which STAT shows in two bits (UG470, status register)
+abbrev pub greatest_bus_width : ℕ
+greatest_bus_width = 3
+
+-- the greatest block type of a row
+abbrev pub greatest_block : ℕ
+greatest_block = 2
+
+-- the greatest half of a row: 0 is the top one, 1 the bottom one (UG470, frame address register)
+abbrev pub greatest_half : ℕ
+greatest_half = 1
+
+-- the greatest row of a half: the last number of 5 bits (UG470, frame address register)
+abbrev pub greatest_row : ℕ
+greatest_row = 31
+
+-- the most bytes of a part's name
+abbrev pub most_name_bytes : ℕ
+most_name_bytes = 64
+
+-- the first byte that may stand in a part's name, an exclamation mark
+abbrev pub first_printed : ℕ
+first_printed = 0x21
+
+-- the last byte that may stand in a part's name, a tilde
+abbrev pub last_printed : ℕ
+last_printed = 0x7E
+
 -- the most rows of a part
 abbrev pub most_rows : ℕ
 most_rows = 192
@@ -33,8 +65,8 @@ most_frame_words = 255
 abbrev pub usual_frame_words : ℕ
 usual_frame_words = 101
 
--- the most words of a part's frames and pads: 101 for each of the most frames, and for
--- the two pads after each of the most rows
+-- the most words of a part's frames and pads: 101 for each of 131,072 frames, and for the two pads after each of 192
+-- rows
 abbrev pub most_words : ℕ
 most_words = 13277056
 

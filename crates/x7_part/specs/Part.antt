@@ -17,6 +17,10 @@ pub record FieldWidths : Type 0 where
   pub half : ℕ
   pub block : ℕ
 
+-- the widths of the fields of an address in the 7 series (UG470, frame address register)
+abbrev pub usual_widths : FieldWidths
+usual_widths = record { minor = 7; column = 10; row = 5; half = 1; block = 3 }
+
 -- all that a part file says, its rows in number order
 pub record PartData : Type 0 where
   pub name : List ℕ
@@ -28,7 +32,7 @@ pub record PartData : Type 0 where
   pub lock : ℕ
   pub matched : ℕ
   -- how many words a frame has
-  pub words : ℕ
+  pub frame_words : ℕ
   -- the fields of a frame address
   pub far : FieldWidths
   -- the bytes of a flash that one step of WBSTAR's start address stands for
@@ -37,4 +41,4 @@ pub record PartData : Type 0 where
 
 -- the words of a frame (UG470, frame data)
 abbrev pub frame_words : PartData → ℕ
-frame_words part = part.words
+frame_words part = part.frame_words

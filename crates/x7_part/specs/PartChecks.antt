@@ -4,7 +4,7 @@ use Rattle.toml.specs.Data.{Data, Items, no_items, item, Members, as_str, as_int
 use Rattle.x7_part.specs.declared.fault.PartKey.TheVariants as key
 use Rattle.x7_part.specs.declared.fault.PartFault.{PartFault}
 use Rattle.x7_part.specs.declared.fault.PartFault.TheVariants.{Key, Range, NoMemory}
-use Rattle.x7_part.specs.Limits.{least_frame_words, most_frame_words, most_rows, most_columns, most_minors, most_wait_ticks}
+use Rattle.x7_part.specs.Limits.{first_printed, greatest_block, greatest_bus_width, greatest_half, greatest_mode, greatest_row, last_printed, most_name_bytes, least_frame_words, most_frame_words, most_rows, most_columns, most_minors, most_wait_ticks}
 use Rattle.x7_part.specs.Keys.{top, in_row}
 use Rattle.x7_part.specs.Address.{address_width}
 use Rattle.x7_part.specs.Values.{under, row_tables, RowValues, TopValues, natural, widths_of}
@@ -110,11 +110,11 @@ type_fault t = first_of (
 
 -- an unknown key of row n
 abbrev pub row_other_fault : ℕ → RowValues → Option PartFault
-row_other_fault n v = unless v.known (Key (in_row n key.Other))
+row_other_fault n v = unless v.has_only_known_keys (Key (in_row n key.Other))
 
 -- an unknown key, at the top and then row by row
 unfoldable pub other_fault : TopValues → Option PartFault
-other_fault v = first_of (unless v.known (Key (top key.Other)) ∷ rows_fault row_other_fault 1 v.rows ∷ [])
+other_fault v = first_of (unless v.has_only_known_keys (Key (top key.Other)) ∷ rows_fault row_other_fault 1 v.rows ∷ [])
 
 -- ---- ranges
 
@@ -123,25 +123,25 @@ unfoldable pub is_in : ℕ → ℕ → ℤ → Bool
 is_in low high z = int_le (pos low) z && int_le z (pos high)
 
 -- a length is in a range
-abbrev pub is_long : ℕ → ℕ → ℕ → Bool
-is_long low high n = nat_le low n && nat_le n high
+abbrev pub is_length_in : ℕ → ℕ → ℕ → Bool
+is_length_in low high n = nat_le low n && nat_le n high
 
--- the bytes are printed ones, 21 to 7E
+-- the bytes are printed ones, none of them a blank
 abbrev pub are_printed : List ℕ → Bool
 are_printed [] = true
-are_printed (b ∷ bs) = (nat_le 0x21 b && nat_le b 0x7E) && are_printed bs
+are_printed (b ∷ bs) = (nat_le first_printed b && nat_le b last_printed) && are_printed bs
 
 -- a name: 1 to 64 printed bytes
 unfoldable pub is_name : List ℕ → Bool
-is_name bs = is_long 1 64 (length bs) && are_printed bs
+is_name bs = is_length_in 1 most_name_bytes (length bs) && are_printed bs
 
 -- the number is odd, positive and below 2^32
 unfoldable pub is_odd : ℤ → Bool
 is_odd z = is_in 1 4294967295 z && (natural z % 2 == 1)
 
 -- the number is 1 or 256: the bytes that one step of a start address may stand for
-unfoldable pub is_unit : ℤ → Bool
-is_unit z = is_in 1 1 z || is_in 256 256 z
+unfoldable pub is_start_unit : ℤ → Bool
+is_start_unit z = is_in 1 1 z || is_in 256 256 z
 
 -- the widths of the five fields of an address, each in range, of 32 bits together
 abbrev pub are_widths : List ℤ → Bool
@@ -162,14 +162,14 @@ are_in low high (z ∷ zs) = is_in low high z && are_in low high zs
 
 -- the numbers of minors of a row's columns
 abbrev pub are_minors : List ℤ → Bool
-are_minors zs = is_long 1 most_columns (length zs) && are_in 1 most_minors zs
+are_minors zs = is_length_in 1 most_columns (length zs) && are_in 1 most_minors zs
 
 -- the first value of a row that is out of range
 abbrev pub row_range_fault : ℕ → RowValues → Option PartFault
 row_range_fault n v = first_of (
-    unless (is_in 0 2 v.block) (Range (in_row n key.Block))
-    ∷ unless (is_in 0 1 v.half) (Range (in_row n key.Half))
-    ∷ unless (is_in 0 31 v.row) (Range (in_row n key.Row))
+    unless (is_in 0 greatest_block v.block) (Range (in_row n key.Block))
+    ∷ unless (is_in 0 greatest_half v.half) (Range (in_row n key.Half))
+    ∷ unless (is_in 0 greatest_row v.row) (Range (in_row n key.Row))
     ∷ unless (are_minors v.minors) (Range (in_row n key.Minors))
     ∷ [])
 
@@ -177,13 +177,13 @@ row_range_fault n v = first_of (
 unfoldable pub number_range_fault : TopValues → Option PartFault
 number_range_fault v = first_of (
     unless (is_odd v.idcode) (Range (top key.Idcode))
-    ∷ unless (is_in 0 7 v.mode) (Range (top key.Mode))
-    ∷ unless (is_in 0 3 v.bus_width) (Range (top key.BusWidth))
+    ∷ unless (is_in 0 greatest_mode v.mode) (Range (top key.Mode))
+    ∷ unless (is_in 0 greatest_bus_width v.bus_width) (Range (top key.BusWidth))
     ∷ unless (is_in 0 most_wait_ticks v.lock) (Range (top key.Lock))
     ∷ unless (is_in 0 most_wait_ticks v.matched) (Range (top key.Match))
-    ∷ unless (is_in least_frame_words most_frame_words v.words) (Range (top key.FrameWords))
+    ∷ unless (is_in least_frame_words most_frame_words v.frame_words) (Range (top key.FrameWords))
     ∷ unless (are_widths_or_none v.far) (Range (top key.Far))
-    ∷ unless (is_unit v.start_unit) (Range (top key.StartUnit))
+    ∷ unless (is_start_unit v.start_unit) (Range (top key.StartUnit))
     ∷ [])
 
 -- the first value of the top table that is out of range: the name, the numbers, how many rows there are
@@ -191,7 +191,7 @@ unfoldable pub top_range_fault : TopValues → Option PartFault
 top_range_fault v = first_of (
     unless (is_name v.name) (Range (top key.Name))
     ∷ number_range_fault v
-    ∷ unless (is_long 1 most_rows (length v.rows)) (Range (top key.Row))
+    ∷ unless (is_length_in 1 most_rows (length v.rows)) (Range (top key.Row))
     ∷ [])
 
 -- the first value of a part file that is out of range, at the top and then row by row

@@ -1,23 +1,23 @@
 -- The ranges of a part's numbers (this project's choice).
 use Rattle.std.specs.Prelude.{◌≡◌, ◌+◌, ◌*◌, ◌%◌, ◌^◌, ◌<◌, ◌≤◌, length, All}
-use Rattle.x7_part.specs.Limits.{least_frame_words, most_frame_words, most_rows, most_frames, most_words, IsStartUnit}
+use Rattle.x7_part.specs.Limits.{first_printed, greatest_bus_width, greatest_mode, last_printed, least_frame_words, most_frame_words, most_name_bytes, most_rows, most_frames, most_words, IsStartUnit}
 use Rattle.x7_part.specs.Part.{PartData, frame_words}
 use Rattle.x7_part.specs.Address.{AreRows, AreWidths}
 use Rattle.x7_part.specs.AddressOrder.{addresses_in}
 
--- a name of 1 to 64 printed bytes, an odd idcode of 32 bits, numbers in range, and no more
--- rows, frames and words than a part may have
+-- a name of 1 to 64 printed bytes, an odd idcode of 32 bits, numbers in range, and no more rows, frames and words than
+-- a part may have
 pub record IsPart (part : PartData) : Type 0 where
   pub named : 1 ≤ length part.name
-  pub short : length part.name ≤ 64
-  pub printed : All (λ b. (0x21 ≤ b) × (b ≤ 0x7E)) part.name
+  pub short : length part.name ≤ most_name_bytes
+  pub printed : All (λ b. (first_printed ≤ b) × (b ≤ last_printed)) part.name
   pub idcode : part.idcode < 2 ^ 32
   pub odd : part.idcode % 2 ≡ 1
-  pub mode : part.mode ≤ 7
-  pub bus_width : part.bus_width ≤ 3
+  pub mode : part.mode ≤ greatest_mode
+  pub bus_width : part.bus_width ≤ greatest_bus_width
   pub lock : part.lock < 2 ^ 16
   pub matched : part.matched < 2 ^ 16
-  pub words : (least_frame_words ≤ part.words) × (part.words ≤ most_frame_words)
+  pub words : (least_frame_words ≤ part.frame_words) × (part.frame_words ≤ most_frame_words)
   pub far : AreWidths part.far
   pub start_unit : IsStartUnit part.start_unit
   pub some : 1 ≤ length part.rows

@@ -9,23 +9,25 @@ use Rattle.x7_part.specs.AddressOrder.{addresses_in}
 use Rattle.x7_part.specs.PartChecks.{unless, first_of}
 
 -- two rows are of one block type, half and row
-abbrev pub has_place_of : RowData → RowData → Bool
-has_place_of r s = ((r.block == s.block) && (r.half == s.half)) && (r.row == s.row)
+abbrev pub is_same_row : RowData → RowData → Bool
+is_same_row r s = ((r.block == s.block) && (r.half == s.half)) && (r.row == s.row)
 
 -- a row is the same as one of others
-abbrev pub has_same : RowData → List RowData → Bool
-has_same r [] = false
-has_same r (s ∷ rows) = has_place_of r s || has_same r rows
+abbrev pub has_same_row : RowData → List RowData → Bool
+has_same_row r [] = false
+has_same_row r (s ∷ rows) = is_same_row r s || has_same_row r rows
 
--- the first row that is the same as an earlier one
+-- the first of the rows that is the same as one of `earlier` or as one before it; rows count from 1, with the earlier
+-- ones
 abbrev pub same_row_fault : List RowData → List RowData → Option PartFault
 same_row_fault earlier [] = None
 same_row_fault earlier (r ∷ rows) =
-    first_of (unless (not (has_same r earlier)) (SameRow (length earlier + 1)) ∷ same_row_fault (earlier ++ r ∷ []) rows ∷ [])
+    first_of (unless (not (has_same_row r earlier)) (SameRow (length earlier + 1)) ∷ same_row_fault (earlier ++ r ∷ []) rows ∷ [])
 
--- no more frames than a part may have, and no more words of frames and of the two pads after each row
+-- `count` frames of `width` words in `row_count` rows are no more than a part may have, and neither are their words and
+-- those of the two pads after each row
 abbrev pub has_few_frames : ℕ → ℕ → ℕ → Bool
-has_few_frames words frames rows = nat_le frames most_frames && nat_le (words * (frames + 2 * rows)) most_words
+has_few_frames width count row_count = nat_le count most_frames && nat_le (width * (count + 2 * row_count)) most_words
 
 -- too many frames, with how many there are
 abbrev pub frames_fault : PartData → Option PartFault
@@ -36,13 +38,13 @@ frames_fault part =
 
 -- a row put among rows that rise by address, right after those with smaller addresses
 abbrev pub put_in : FieldWidths → RowData → List RowData → List RowData
-put_in far r [] = r ∷ []
-put_in far r (s ∷ rows) = if nat_lt (row_address far s) (row_address far r) then s ∷ put_in far r rows else r ∷ s ∷ rows
+put_in widths r [] = r ∷ []
+put_in widths r (s ∷ rows) = if nat_lt (row_address widths s) (row_address widths r) then s ∷ put_in widths r rows else r ∷ s ∷ rows
 
--- rows sorted by address
+-- rows in rising order of their addresses
 unfoldable pub sorted_rows : FieldWidths → List RowData → List RowData
-sorted_rows far [] = []
-sorted_rows far (r ∷ rows) = put_in far r (sorted_rows far rows)
+sorted_rows widths [] = []
+sorted_rows widths (r ∷ rows) = put_in widths r (sorted_rows widths rows)
 
 -- one row stands before another in a part: by the block type, then by the half, then by the row
 abbrev pub IsBefore : RowData → RowData → Type 0

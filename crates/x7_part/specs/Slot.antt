@@ -9,11 +9,11 @@ use Rattle.x7_part.specs.declared.slot.Slot.TheVariants.{Frame, Pad, End}
 
 -- the addresses of the rows in number order, and two pads after each row's last
 unfoldable pub slots : FieldWidths → List RowData → List Slot
-slots far rows = flat_map (λ r. map Frame (addresses_of far r) ++ Pad ∷ Pad ∷ []) rows
+slots widths rows = flat_map (λ r. map Frame (addresses_of widths r) ++ Pad ∷ Pad ∷ []) rows
 
--- the slots of a row: its frames, two pads, and then the slots that follow the row
+-- the slots of a row, its frames and two pads, with the later slots after them
 abbrev pub row_slots : FieldWidths → RowData → List Slot → List Slot
-row_slots far r rest = map Frame (addresses_of far r) ++ (Pad ∷ Pad ∷ rest)
+row_slots widths r later = map Frame (addresses_of widths r) ++ (Pad ∷ Pad ∷ later)
 
 -- the slots of a part
 abbrev pub slots_in : PartData → List Slot
@@ -22,9 +22,9 @@ slots_in part = slots part.far part.rows
 -- the slots from an address on
 abbrev pub from : ℕ → List Slot → List Slot
 from address [] = []
-from address (Frame a ∷ rest) = if a == address then Frame a ∷ rest else from address rest
-from address (Pad ∷ rest) = from address rest
-from address (End ∷ rest) = from address rest
+from address (Frame a ∷ later) = if a == address then Frame a ∷ later else from address later
+from address (Pad ∷ later) = from address later
+from address (End ∷ later) = from address later
 
 -- slot n of the slots from an address on, `End` where there are no more than n
 abbrev pub slot_after : PartData → ℕ → ℕ → Slot
@@ -37,9 +37,9 @@ HasFrameOf addresses slots place rank = (rank < length addresses) × (slice_inde
 -- the addresses of the slots that are frames
 abbrev pub addresses_among : List Slot → List ℕ
 addresses_among [] = []
-addresses_among (Frame address ∷ places) = address ∷ addresses_among places
-addresses_among (Pad ∷ places) = addresses_among places
-addresses_among (End ∷ places) = addresses_among places
+addresses_among (Frame address ∷ later) = address ∷ addresses_among later
+addresses_among (Pad ∷ later) = addresses_among later
+addresses_among (End ∷ later) = addresses_among later
 
 -- two addresses of one row
 abbrev pub AreInOneRow : PartData → ℕ → ℕ → Type 0

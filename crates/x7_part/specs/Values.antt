@@ -6,7 +6,7 @@ use Rattle.x7_part.specs.declared.fault.PartKey.TheVariants as key
 use Rattle.x7_part.specs.declared.settings.Settings.{Settings}
 use Rattle.x7_part.specs.Keys.{name_of, has_only, top_keys, row_keys}
 use Rattle.x7_part.specs.Limits.{usual_frame_words}
-use Rattle.x7_part.specs.Part.{FieldWidths, RowData, PartData}
+use Rattle.x7_part.specs.Part.{FieldWidths, RowData, PartData, usual_widths}
 
 -- ---- one value
 
@@ -49,7 +49,7 @@ pub record RowValues : Type 0 where
   pub half : ℤ
   pub row : ℤ
   pub minors : List ℤ
-  pub known : Bool
+  pub has_only_known_keys : Bool
 
 -- the top table's values, and whether the table has known keys alone
 pub record TopValues : Type 0 where
@@ -59,11 +59,11 @@ pub record TopValues : Type 0 where
   pub bus_width : ℤ
   pub lock : ℤ
   pub matched : ℤ
-  pub words : ℤ
+  pub frame_words : ℤ
   pub far : Option (List ℤ)
   pub start_unit : ℤ
   pub rows : List RowValues
-  pub known : Bool
+  pub has_only_known_keys : Bool
 
 -- the values of a row's table; 0, or none, stands for what isn't there
 abbrev pub row_values : Members → RowValues
@@ -72,7 +72,7 @@ row_values t = record {
   half = number_or 0 key.Half t;
   row = number_or 0 key.Row t;
   minors = unwrap_or (numbers_under key.Minors t) [];
-  known = has_only row_keys t;
+  has_only_known_keys = has_only row_keys t;
 }
 
 -- the values of a top table
@@ -84,11 +84,11 @@ top_values t = record {
   bus_width = number_or 0 key.BusWidth t;
   lock = number_or 0 key.Lock t;
   matched = number_or 0 key.Match t;
-  words = number_or usual_frame_words key.FrameWords t;
+  frame_words = number_or usual_frame_words key.FrameWords t;
   far = numbers_under key.Far t;
   start_unit = number_or 1 key.StartUnit t;
   rows = map row_values (row_tables t);
-  known = has_only top_keys t;
+  has_only_known_keys = has_only top_keys t;
 }
 
 -- ---- what the values stand for
@@ -97,11 +97,11 @@ top_values t = record {
 abbrev pub natural : ℤ → ℕ
 natural z = unsigned_abs z
 
--- the widths of the fields of an address, those of the 7 series where they aren't given (UG470, frame address register)
+-- the widths of the fields of an address, those of the 7 series where there is another number of them, or none
 abbrev pub widths_of : List ℤ → FieldWidths
 widths_of (minor ∷ column ∷ row ∷ half ∷ block ∷ []) =
     record { minor = natural minor; column = natural column; row = natural row; half = natural half; block = natural block }
-widths_of _ = record { minor = 7; column = 10; row = 5; half = 1; block = 3 }
+widths_of _ = usual_widths
 
 -- the row with these values
 abbrev pub row_by_values : RowValues → RowData
@@ -115,7 +115,7 @@ settings_by_values v = record {
   bus_width = natural v.bus_width;
   lock = natural v.lock;
   matched = natural v.matched;
-  words = natural v.words;
+  frame_words = natural v.frame_words;
   far = widths_of (unwrap_or v.far []);
   start_unit = natural v.start_unit;
 }
@@ -129,7 +129,7 @@ part_data name s rows = record {
   bus_width = s.bus_width;
   lock = s.lock;
   matched = s.matched;
-  words = s.words;
+  frame_words = s.frame_words;
   far = s.far;
   start_unit = s.start_unit;
   rows = rows;

@@ -1,11 +1,11 @@
 //! The fields of a frame address (UG470, frame address register).
 ghost use Rattle.std.specs.Prelude.{◌≡◌, ◌≤◌, ◌+◌, ◌^◌, nat_le, is_some, IfSome};
 ghost use Rattle.x7_part.specs.Address.{AreWidths, address_width, column_low, row_low, half_low, block_low};
-ghost use Rattle.x7_part.specs.Part.{FieldWidths};
+ghost use Rattle.x7_part.specs.Part.{FieldWidths, usual_widths};
 
 use std::marker::Model;
 
-/// The widths of the fields in bits, each field right above the one before it, from bit 0.
+/// The widths in bits of the fields of an address, each field right above the one before it, from bit 0.
 #[derive(Clone, Copy, Drop)]
 pub(crate) struct Fields {
     pub(crate) minor: u8,
@@ -28,7 +28,7 @@ impl Model for Fields {
 impl Fields {
     /// The fields of an address in the 7 series.
     pub(crate) fn usual() -> Fields
-        ensures { result ≡ record { minor = 7; column = 10; row = 5; half = 1; block = 3 } }
+        ensures { result ≡ usual_widths }
     {
         Fields {
             minor: 7,
@@ -39,7 +39,7 @@ impl Fields {
         }
     }
 
-    /// Fields of these widths, where they have 32 bits together.
+    /// Fields of these widths, none where they have more than 32 bits together.
     pub(crate) fn of(minor: u8, column: u8, row: u8, half: u8, block: u8) -> Option<Fields>
         requires minor { (7 ≤ minor) × (minor ≤ 12) }
         requires column { (10 ≤ column) × (column ≤ 12) }

@@ -8,16 +8,16 @@ ghost use Rattle.x7_part.specs.declared.slot.Slot.{Slot};
 
 use crate::slot::Slot;
 
-/// A column of a row: its addresses are `count` numbers from `first` on, and `pads` pads follow.
+/// A column of a row: its addresses are `count` numbers from `first` on, and `pad_count` pads follow its frames.
 #[derive(Clone, Copy, Drop)]
 pub(crate) struct Column {
     pub(crate) first: u32,
     pub(crate) count: u32,
-    pub(crate) pads: u32,
+    pub(crate) pad_count: u32,
     /// The number of the part's addresses before the column.
     pub(crate) rank: u32,
     /// The number of the part's slots before the column.
-    pub(crate) slot: u64,
+    pub(crate) place: u64,
 }
 
 /// The number of columns that begin at or before an address.
@@ -44,14 +44,14 @@ fn begun_by_rank(columns: &[Column], rank: u32) -> usize
 fn begun_by_slot(columns: &[Column], place: u64) -> usize
     requires { AreColumns columns.now }
     ensures within { result ≤ length columns.now }
-    ensures before { (k : ℕ) (d : Column) → k < result → (slice_index_or columns.now k d).slot ≤ place }
-    ensures after { (k : ℕ) (d : Column) → result ≤ k → k < length columns.now → place < (slice_index_or columns.now k d).slot }
+    ensures before { (k : ℕ) (d : Column) → k < result → (slice_index_or columns.now k d).place ≤ place }
+    ensures after { (k : ℕ) (d : Column) → result ≤ k → k < length columns.now → place < (slice_index_or columns.now k d).place }
 {
-    columns.partition_point(|column| column.slot <= place)
+    columns.partition_point(|column| column.place <= place)
 }
 
-/// The place of the column that has the address.
-pub(crate) fn column_of(columns: &[Column], far: u32) -> Option<usize>
+/// The index in the table of the column that has the address, none where no column has it.
+pub(crate) fn column_index(columns: &[Column], far: u32) -> Option<usize>
     requires { AreColumns columns.now }
     ensures found { IfSome result (λ i. (i < length columns.now) × ((d : Column) → IsIn (slice_index_or columns.now i d) far)) }
     ensures address { IfSome result (λ i. Contains (column_addresses columns.now) far) }
@@ -69,18 +69,18 @@ pub(crate) fn column_of(columns: &[Column], far: u32) -> Option<usize>
     }
 }
 
-/// The number of the part's addresses below this one.
+/// The number of the part's addresses below this one, none for what is no address.
 pub(crate) fn rank_of(columns: &[Column], far: u32) -> Option<u32>
     requires { AreColumns columns.now }
     ensures found { IfSome result (λ r. (r < length (column_addresses columns.now)) × (slice_index (column_addresses columns.now) r ≡ far)) }
     ensures none { IfNone result (¬ Contains (column_addresses columns.now) far) }
 {
-    let place = column_of(columns, far)?;
-    let column = columns[place];
+    let index = column_index(columns, far)?;
+    let column = columns[index];
     Some(column.rank + (far - column.first))
 }
 
-/// The address with `rank` smaller ones.
+/// The address with `rank` smaller ones, none where there are no more than `rank` addresses.
 pub(crate) fn address_of(columns: &[Column], rank: u32) -> Option<u32>
     requires { AreColumns columns.now }
     ensures found { IfSome result (λ far. (rank < length (column_addresses columns.now)) × (slice_index (column_addresses columns.now) rank ≡ far)) }
@@ -99,24 +99,24 @@ pub(crate) fn address_of(columns: &[Column], rank: u32) -> Option<u32>
     }
 }
 
-/// The address after an address.
+/// The next address in number order, none for the last one and for what is no address.
 pub(crate) fn next_of(columns: &[Column], far: u32) -> Option<u32>
     requires { AreColumns columns.now }
     ensures found { IfSome result (λ y. IsFollowedBy (column_addresses columns.now) far y) }
     ensures none { IfNone result (IsLastIn (column_addresses columns.now) far ⊎ (¬ Contains (column_addresses columns.now) far)) }
 {
-    let place = column_of(columns, far)?;
-    let column = columns[place];
+    let index = column_index(columns, far)?;
+    let column = columns[index];
     if far - column.first + 1 < column.count {
         return Some(far + 1);
     }
-    if place + 1 == columns.len() {
+    if index + 1 == columns.len() {
         return None;
     }
-    Some(columns[place + 1].first)
+    Some(columns[index + 1].first)
 }
 
-/// The slot at a place, `End` after the last.
+/// The slot that has `place` slots before it, `End` past the last one.
 fn slot_at(columns: &[Column], place: u64) -> Slot
     requires { AreColumns columns.now }
     ensures { result ≡ slice_index_or (column_slots columns.now) place Slot.End }
@@ -126,31 +126,31 @@ fn slot_at(columns: &[Column], place: u64) -> Slot
         return Slot::End;
     }
     let column = columns[after - 1];
-    let offset = place - column.slot;
+    let offset = place - column.place;
     if offset < u64::from(column.count) {
         Slot::Frame(column.first + offset as u32)
-    } else if offset < u64::from(column.count) + u64::from(column.pads) {
+    } else if offset < u64::from(column.count) + u64::from(column.pad_count) {
         Slot::Pad
     } else {
         Slot::End
     }
 }
 
-/// The rank of the frame at a place of the slots, where the column of number `at` has that frame, and else none.
-fn rank_in(columns: &[Column], at: usize, place: u64) -> Option<u32>
+/// The rank of the frame at a place of the slots, where the column at `index` has that frame, and else none.
+fn rank_in(columns: &[Column], index: usize, place: u64) -> Option<u32>
     requires { AreColumns columns.now }
     ensures found { IfSome result (λ r. HasFrameOf (column_addresses columns.now) (column_slots columns.now) place r) }
-    ensures none { IfNone result ((d : Column) → at < length columns.now → (slice_index_or columns.now at d).slot ≤ place →
-        (slice_index_or columns.now at d).count ≤ place - (slice_index_or columns.now at d).slot) }
+    ensures none { IfNone result ((d : Column) → index < length columns.now → (slice_index_or columns.now index d).place ≤ place →
+        (slice_index_or columns.now index d).count ≤ place - (slice_index_or columns.now index d).place) }
 {
-    if columns.len() <= at {
+    if columns.len() <= index {
         return None;
     }
-    let column = columns[at];
-    if place < column.slot {
+    let column = columns[index];
+    if place < column.place {
         return None;
     }
-    let offset = place - column.slot;
+    let offset = place - column.place;
     if offset < u64::from(column.count) {
         Some(column.rank + offset as u32)
     } else {
@@ -159,8 +159,8 @@ fn rank_in(columns: &[Column], at: usize, place: u64) -> Option<u32>
 }
 
 /// The number of addresses before the frame at a place of the slots, none at a pad and past the last slot.
-/// `near` is the number of the column that is looked at first, and then of the one that begins last at or before
-/// the place; the answer doesn't hang on it.
+/// `near` is the index of the column that is looked at first, and then of the one that begins last at or before
+/// the place; the answer doesn't depend on it.
 pub(crate) fn rank_at(columns: &[Column], place: u64, near: &mut usize) -> Option<u32>
     requires { AreColumns columns.now }
     ensures found { IfSome result (λ r. HasFrameOf (column_addresses columns.now) (column_slots columns.now) place r) }
@@ -177,22 +177,22 @@ pub(crate) fn rank_at(columns: &[Column], place: u64, near: &mut usize) -> Optio
     rank_in(columns, after - 1, place)
 }
 
-/// The place of an address among the slots.
+/// The number of slots before that of an address.
 pub(crate) fn place_of(columns: &[Column], far: u32) -> u64
     requires columns { AreColumns columns.now }
     requires address { Contains (column_addresses columns.now) far }
     ensures within { result < length (column_slots columns.now) }
-    ensures slot { (n : ℕ) → slice_index_or (column_slots columns.now) (result + n) Slot.End ≡ slice_index_or (from far (column_slots columns.now)) n Slot.End }
-    ensures left { length (column_slots columns.now) - result ≡ length (from far (column_slots columns.now)) }
+    ensures slots { (n : ℕ) → slice_index_or (column_slots columns.now) (result + n) Slot.End ≡ slice_index_or (from far (column_slots columns.now)) n Slot.End }
+    ensures slots_left { length (column_slots columns.now) - result ≡ length (from far (column_slots columns.now)) }
 {
-    let Some(place) = column_of(columns, far) else {
+    let Some(index) = column_index(columns, far) else {
         unreachable!()
     };
-    let column = columns[place];
-    column.slot + u64::from(far - column.first)
+    let column = columns[index];
+    column.place + u64::from(far - column.first)
 }
 
-/// Slot n of the slots from an address.
+/// Slot n of the slots from an address on, `End` where there are no more than n.
 pub(crate) fn slot_after(columns: &[Column], far: u32, n: u64) -> Slot
     requires columns { AreColumns columns.now }
     requires address { Contains (column_addresses columns.now) far }
@@ -221,7 +221,7 @@ fn slot_count(columns: &[Column]) -> u64
     ensures { result ≡ length (column_slots columns.now) }
 {
     match columns.last() {
-        Some(last) => last.slot + u64::from(last.count) + u64::from(last.pads),
+        Some(last) => last.place + u64::from(last.count) + u64::from(last.pad_count),
         None => 0,
     }
 }

@@ -50,14 +50,15 @@ impl PartKey {
     }
 }
 
-/// A key of the top table, or of a row. Rows count from 1.
+/// The place of a key in a part file.
 #[derive(Clone, Copy, Debug, Drop, PartialEq, Eq)]
 pub struct Which {
+    /// The number of the row that the key belongs to, from 1, none for a key of the top table.
     pub row: Option<u32>,
     pub key: PartKey,
 }
 
-/// A key of the top table.
+/// The place of a key in the top table.
 macro_rules! top {
     ($key:ident) => {
         Which {
@@ -67,7 +68,7 @@ macro_rules! top {
     };
 }
 
-/// A key of a row.
+/// The place of a key in a row, whose number counts from 1.
 macro_rules! in_row {
     ($row:expr, $key:ident) => {
         Which {
@@ -101,11 +102,11 @@ pub enum PartFault {
     /// The key's value is out of range.
     #[error("range {0}")]
     Range(Which),
-    /// The row has the block type, the half and the row of an earlier one.
+    /// The row of this number, from 1, has the block type, the half and the row of an earlier one.
     #[error("same row {0}")]
     SameRow(u32),
-    /// The rows have more frames than a part may have, or more words with their
-    /// pads; the number is that of their frames.
+    /// The rows have more frames than a part may have, or more words with their pads; the number is that of their
+    /// frames.
     #[error("too many frames: {0}")]
     TooMany(u32),
     /// There was no memory for the part.

@@ -1,5 +1,29 @@
 //! The most and the least that a part may have.
 
+/// The greatest number of the mode pins.
+pub(crate) const GREATEST_MODE: u32 = 7;
+
+/// The greatest number of the bus width.
+pub(crate) const GREATEST_BUS_WIDTH: u32 = 3;
+
+/// The greatest block type of a row.
+pub(crate) const GREATEST_BLOCK: u32 = 2;
+
+/// The greatest half of a row: 0 is the top one, 1 the bottom one.
+pub(crate) const GREATEST_HALF: u32 = 1;
+
+/// The greatest row of a half.
+pub(crate) const GREATEST_ROW: u32 = 31;
+
+/// The most bytes of a part's name.
+pub(crate) const MOST_NAME_BYTES: usize = 64;
+
+/// The first byte that may stand in a part's name, an exclamation mark.
+pub(crate) const FIRST_PRINTED: u8 = 0x21;
+
+/// The last byte that may stand in a part's name, a tilde.
+pub(crate) const LAST_PRINTED: u8 = 0x7E;
+
 /// The most rows of a part.
 pub(crate) const MOST_ROWS: usize = 192;
 
@@ -24,6 +48,6 @@ pub(crate) const MOST_FRAME_WORDS: u32 = 255;
 /// The words of a frame where a part file doesn't say (UG470, frame data).
 pub(crate) const USUAL_FRAME_WORDS: u32 = 101;
 
-/// The most words of a part's frames and pads: 101 for each of the most frames, and for the two pads after each of the
-/// most rows.
+/// The most words of a part's frames and pads: 101 for each of 131,072 frames, and for the two pads after each of 192
+/// rows.
 pub(crate) const MOST_WORDS: u32 = 13_277_056;

@@ -3,7 +3,7 @@ ghost use Rattle.std.specs.Prelude.{◌≡◌, ◌+◌, ◌*◌, ◌<◌, ◌≤
 ghost use Rattle.x7_part.specs.AddressOrder.{addresses_in, IsFollowedBy, IsLastIn, Rises};
 ghost use Rattle.x7_part.specs.Column.{AreColumnsOf, table_of as columns_of};
 ghost use Rattle.x7_part.specs.Address.{IsAddressOf, IsRow, far_width};
-ghost use Rattle.x7_part.specs.Limits.{least_frame_words, most_frame_words, most_frames, most_words, IsStartUnit};
+ghost use Rattle.x7_part.specs.Limits.{greatest_bus_width, greatest_mode, least_frame_words, most_frame_words, most_frames, most_words, IsStartUnit};
 ghost use Rattle.x7_part.specs.Part.{PartData, frame_words};
 ghost use Rattle.x7_part.specs.Values.{part_data};
 ghost use Rattle.x7_part.specs.Row.{same_row_fault, sorted_rows};
@@ -88,18 +88,18 @@ impl Part {
         self.settings.idcode
     }
 
-    /// The mode pins, as STAT shows them.
+    /// The mode pins, as STAT shows them (UG470, status register).
     pub fn mode(&self) -> u8
         ensures value { result ≡ self.now.mode }
-        ensures range { result ≤ 7 }
+        ensures range { result ≤ greatest_mode }
     {
         self.settings.mode
     }
 
-    /// The bus width, as STAT shows it.
+    /// The bus width, as STAT shows it (UG470, status register).
     pub fn bus_width(&self) -> u8
         ensures value { result ≡ self.now.bus_width }
-        ensures range { result ≤ 3 }
+        ensures range { result ≤ greatest_bus_width }
     {
         self.settings.bus_width
     }
@@ -124,7 +124,7 @@ impl Part {
         ensures least { least_frame_words ≤ result }
         ensures most { result ≤ most_frame_words }
     {
-        u32::from(self.settings.words)
+        u32::from(self.settings.frame_words)
     }
 
     /// The width of an address in bits (UG470, frame address register).
@@ -155,7 +155,7 @@ impl Part {
     pub fn frames(&self) -> u32
         ensures value { result ≡ length (addresses_in self.now) }
         ensures some { 0 < result }
-        ensures limit { result ≤ most_frames }
+        ensures most { result ≤ most_frames }
         ensures part { IsPart self.now }
         ensures words { frame_words self.now * (result + 2 * length self.now.rows) ≤ most_words }
         ensures order { Rises 0 (addresses_in self.now) }
@@ -168,7 +168,7 @@ impl Part {
         ensures listed { (result ≡ true) ↔ Contains (addresses_in self.now) far }
         ensures fields { (result ≡ true) ↔ IsAddressOf self.now far }
     {
-        column::column_of(self.table(), far).is_some()
+        column::column_index(self.table(), far).is_some()
     }
 
     /// The next address in number order, none for the last one and for what is no address.
@@ -179,7 +179,7 @@ impl Part {
         column::next_of(self.table(), far)
     }
 
-    /// The number of smaller addresses, none for what is no address.
+    /// The number of smaller addresses of the part, none for what is no address.
     pub fn rank(&self, far: u32) -> Option<u32>
         ensures found { IfSome result (λ r. (r < length (addresses_in self.now)) × (slice_index (addresses_in self.now) r ≡ far)) }
         ensures smaller { IfSome result (λ r. r ≡ count_by (λ y. nat_lt y far) (addresses_in self.now)) }
@@ -197,7 +197,7 @@ impl Part {
         column::address_of(self.table(), rank)
     }
 
-    /// Slot n of the slots from an address on, `End` where there are no more than n.
+    /// Slot n, from 0, of the slots from an address on, `End` where there are no more than n.
     pub fn slot_after(&self, far: u32, n: u64) -> Slot
         requires address { Contains (addresses_in self.now) far }
         ensures { result ≡ slice_index_or (from far (slots_in self.now)) n Slot.End }

@@ -44,28 +44,28 @@ fn table_in(alloc: Global, text: &[u8]) -> Result<Table, PartFault>
     }
 }
 
-/// What the rows may not be together: the same, or too many frames for words of this width.
-fn check_rows(words: u32, rows: &[Row]) -> Result<(), PartFault>
-    requires words { words ≤ most_frame_words }
+/// Refuses rows of which one is the same as an earlier one, or that have too many frames of `width` words.
+fn check_rows(width: u32, rows: &[Row]) -> Result<(), PartFault>
+    requires width { width ≤ most_frame_words }
     requires rows { length rows.now ≤ most_rows }
-    ensures { (part : PartData) → part.words ≡ words → part.rows ≡ rows.now →
+    ensures { (part : PartData) → part.frame_words ≡ width → part.rows ≡ rows.now →
         fault_of_call result ≡ first_of (same_row_fault [] rows.now ∷ frames_fault part ∷ []) }
 {
     check_same_rows(rows)?;
-    let frames = frame_count(rows);
+    let count = frame_count(rows);
     require(
-        are_few(words, frames, rows.len() as u32),
-        PartFault::TooMany(frames),
+        has_few_frames(width, count, rows.len() as u32),
+        PartFault::TooMany(count),
     )
 }
 
-/// Whether a part may have `frames` frames of `words` words in `rows` rows.
-fn are_few(words: u32, frames: u32, rows: u32) -> bool
-    requires words { words ≤ most_frame_words }
-    requires rows { rows ≤ most_rows }
-    ensures { result ≡ has_few_frames words frames rows }
+/// Whether a part may have `count` frames of `width` words in `row_count` rows.
+fn has_few_frames(width: u32, count: u32, row_count: u32) -> bool
+    requires width { width ≤ most_frame_words }
+    requires rows { row_count ≤ most_rows }
+    ensures { result ≡ has_few_frames width count row_count }
 {
-    frames <= MOST_FRAMES && words * (frames + 2 * rows) <= MOST_WORDS
+    count <= MOST_FRAMES && width * (count + 2 * row_count) <= MOST_WORDS
 }
 
 /// The part of a part file, or the first fault of the file.
@@ -79,6 +79,6 @@ pub fn part_of(alloc: Global, text: &[u8]) -> Result<Part, PartFault>
     check_known(&values)?;
     let settings = settings_in(&values)?;
     let rows = rows_in(alloc, &values.rows)?;
-    check_rows(u32::from(settings.words), &rows)?;
+    check_rows(u32::from(settings.frame_words), &rows)?;
     Ok(Part::of(alloc, values.name, settings, rows)?)
 }

@@ -1,12 +1,12 @@
 //! The ranges of a part file's values: each judges a value and gives the number of a part that it stands for.
 ghost use Rattle.std.specs.Prelude.{◌≡◌, ◌≤◌, [], ◌∷◌, map, length, is_some, true, false, IfOk, IfSome, MatchOption, Some};
 ghost use Rattle.x7_part.specs.Values.{natural, widths_of};
-ghost use Rattle.x7_part.specs.PartChecks.{fault_of_call, AnswersDue, unless, is_in, is_long, are_printed, is_name, is_odd, is_unit, are_widths, are_minors};
+ghost use Rattle.x7_part.specs.PartChecks.{fault_of_call, AnswersDue, unless, is_in, is_length_in, are_printed, is_name, is_odd, is_start_unit, are_widths, are_minors};
 ghost use Rattle.x7_part.specs.declared.fault.PartFault.TheVariants.{Range};
 
 use crate::address::Fields;
 use crate::fault::{PartFault, Which};
-use crate::limits::{MOST_COLUMNS, MOST_MINORS};
+use crate::limits::{FIRST_PRINTED, LAST_PRINTED, MOST_COLUMNS, MOST_MINORS, MOST_NAME_BYTES};
 use std::alloc::Global;
 
 /// The fault, unless the test holds.
@@ -16,34 +16,34 @@ pub(crate) fn require(holds: bool, fault: PartFault) -> Result<(), PartFault>
     if holds { Ok(()) } else { Err(fault) }
 }
 
-/// Whether a length lies in the range.
-pub(crate) fn is_long(length: usize, low: usize, high: usize) -> bool
-    ensures { result ≡ is_long low high length }
+/// Whether a length lies from `low` to `high`.
+pub(crate) fn is_length_in(length: usize, low: usize, high: usize) -> bool
+    ensures { result ≡ is_length_in low high length }
 {
     low <= length && length <= high
 }
 
-/// Whether each byte is a printed one.
+/// Whether each byte is a printed one, and none a blank.
 fn are_printed(bytes: &[u8]) -> bool
     ensures { result ≡ are_printed bytes.now }
 {
     for byte in bytes {
-        if *byte < 0x21 || *byte > 0x7E {
+        if *byte < FIRST_PRINTED || *byte > LAST_PRINTED {
             return false;
         }
     }
     true
 }
 
-/// Whether a text can be a name.
+/// Whether a text can be the name of a part.
 #[tactic(auto, unfolding(crate::specs::PartChecks::is_name))]
 pub(crate) fn is_name(text: &str) -> bool
     ensures { result ≡ is_name text.now }
 {
-    is_long(text.len(), 1, 64) && are_printed(text.as_bytes())
+    is_length_in(text.len(), 1, MOST_NAME_BYTES) && are_printed(text.as_bytes())
 }
 
-/// The number, where it lies in the range; else the fault `Range`.
+/// The number, where it lies from `low` to `high`; else the fault `Range`.
 #[tactic(auto, unfolding(crate::specs::PartChecks::is_in))]
 pub(crate) fn within(number: i64, low: u32, high: u32, at: Which) -> Result<u32, PartFault>
     ensures fault { fault_of_call result ≡ unless (is_in low high number) (Range at) }
@@ -59,7 +59,7 @@ pub(crate) fn within(number: i64, low: u32, high: u32, at: Which) -> Result<u32,
 
 /// The number, where it is odd, positive and below 2^32; else the fault `Range`.
 #[tactic(auto, unfolding(crate::specs::PartChecks::is_odd))]
-pub(crate) fn odd(number: i64, at: Which) -> Result<u32, PartFault>
+pub(crate) fn odd_number(number: i64, at: Which) -> Result<u32, PartFault>
     ensures fault { fault_of_call result ≡ unless (is_odd number) (Range at) }
     ensures value { IfOk result (λ n. n ≡ natural number) }
 {
@@ -68,10 +68,10 @@ pub(crate) fn odd(number: i64, at: Which) -> Result<u32, PartFault>
     Ok(odd)
 }
 
-/// The number, where it is 1 or 256; else the fault `Range`.
-#[tactic(auto, unfolding(crate::specs::PartChecks::is_unit, crate::specs::PartChecks::is_in))]
-pub(crate) fn unit(number: i64, at: Which) -> Result<u16, PartFault>
-    ensures fault { fault_of_call result ≡ unless (is_unit number) (Range at) }
+/// The start unit, where the number is 1 or 256; else the fault `Range`.
+#[tactic(auto, unfolding(crate::specs::PartChecks::is_start_unit, crate::specs::PartChecks::is_in))]
+pub(crate) fn start_unit_in(number: i64, at: Which) -> Result<u16, PartFault>
+    ensures fault { fault_of_call result ≡ unless (is_start_unit number) (Range at) }
     ensures value { IfOk result (λ n. n ≡ natural number) }
 {
     if number == 1 {
@@ -83,7 +83,7 @@ pub(crate) fn unit(number: i64, at: Which) -> Result<u16, PartFault>
     }
 }
 
-/// A width in the range, none where it lies outside.
+/// A width in bits from `low` to `high`, none where the number lies outside.
 #[tactic(auto, unfolding(crate::specs::PartChecks::is_in))]
 fn width_in(number: i64, low: u8, high: u8) -> Option<u8>
     ensures { MatchOption result (is_in low high number ≡ false) (λ n. (is_in low high number ≡ true) × (n ≡ natural number) × (low ≤ n) × (n ≤ high)) }
@@ -109,8 +109,9 @@ fn fields_of(minor: i64, column: i64, row: i64, half: i64, block: i64) -> Option
     Fields::of(minor, column, row, half, block)
 }
 
-/// The widths of the fields of an address, each in its range, with 32 bits together.
-pub(crate) fn widths(numbers: &[i64], at: Which) -> Result<Fields, PartFault>
+/// The fields of an address of these widths in bits; the fault `Range` where there aren't five of them, where one is
+/// out of its range, or where they have more than 32 bits together.
+pub(crate) fn fields_by_widths(numbers: &[i64], at: Which) -> Result<Fields, PartFault>
     ensures fault { fault_of_call result ≡ unless (are_widths numbers.now) (Range at) }
     ensures value { IfOk result (λ far. far ≡ widths_of numbers.now) }
 {
@@ -123,14 +124,15 @@ pub(crate) fn widths(numbers: &[i64], at: Which) -> Result<Fields, PartFault>
     }
 }
 
-/// The numbers of minors of a row's columns.
+/// The numbers of minors of a row's columns; the fault `Range` where there are too few or too many columns, or where a
+/// number is out of range.
 #[tactic(auto, unfolding(crate::specs::PartChecks::is_in))]
-pub(crate) fn minors(alloc: Global, numbers: &[i64], at: Which) -> Result<Vec<u8>, PartFault>
+pub(crate) fn minors_in(alloc: Global, numbers: &[i64], at: Which) -> Result<Vec<u8>, PartFault>
     ensures fault { AnswersDue (unless (are_minors numbers.now) (Range at)) result }
     ensures value { IfOk result (λ minors. minors.items ≡ map natural numbers.now) }
 {
     require(
-        is_long(numbers.len(), 1, MOST_COLUMNS),
+        is_length_in(numbers.len(), 1, MOST_COLUMNS),
         PartFault::Range(at),
     )?;
     let mut minors = Vec::with_capacity(alloc, numbers.len())?;

@@ -4,18 +4,20 @@ ghost use Rattle.std.specs.List.{sum_by};
 ghost use Rattle.x7_part.specs.Address.{row_address, AreWidths, IsRow};
 ghost use Rattle.x7_part.specs.Limits.{most_columns, most_rows};
 ghost use Rattle.x7_part.specs.PartChecks.{fault_of_call, AnswersDue, rows_fault, row_range_fault};
-ghost use Rattle.x7_part.specs.Row.{has_place_of, has_same, same_row_fault, sorted_rows};
+ghost use Rattle.x7_part.specs.Row.{is_same_row, has_same_row, same_row_fault, sorted_rows};
 ghost use Rattle.x7_part.specs.Values.{row_by_values};
 ghost use Rattle.x7_part.specs.Part.{RowData};
 
 use crate::address::Fields;
 use crate::fault::{PartFault, PartKey, Which, in_row};
-use crate::ranges::{minors, require, within};
+use crate::limits::{GREATEST_BLOCK, GREATEST_HALF, GREATEST_ROW};
+use crate::ranges::{minors_in, require, within};
 use crate::values::RowValues;
 use std::alloc::{AllocError, Global};
 use std::marker::Model;
 
-/// A row of one block type, with the number of minors of each column.
+/// A row of one block type: its half (0 top, 1 bottom), its row within the half, and the number of minors of each
+/// column from 0 on.
 #[derive(Drop)]
 pub(crate) struct Row {
     pub(crate) block: u8,
@@ -46,31 +48,31 @@ impl Row {
     }
 
     /// Whether the other has the same block type, half and row.
-    fn has_place_of(&self, other: &Row) -> bool
-        ensures { result ≡ has_place_of self.now other.now }
+    fn is_same_row(&self, other: &Row) -> bool
+        ensures { result ≡ is_same_row self.now other.now }
     {
         self.block == other.block && self.half == other.half && self.row == other.row
     }
 
     /// The address of the row's column 0, minor 0.
-    pub(crate) fn address(&self, far: Fields) -> u32
-        ensures { result ≡ row_address far self.now }
+    pub(crate) fn address(&self, fields: Fields) -> u32
+        ensures { result ≡ row_address fields self.now }
     {
-        u32::from(self.block) * far.block_weight()
-            + u32::from(self.half) * far.half_weight()
-            + u32::from(self.row) * far.row_weight()
+        u32::from(self.block) * fields.block_weight()
+            + u32::from(self.half) * fields.half_weight()
+            + u32::from(self.row) * fields.row_weight()
     }
 
     /// The number of the row's frames.
-    pub(crate) fn frames(&self) -> u32
+    pub(crate) fn frame_count(&self) -> u32
         ensures value { result ≡ sum self.now.minors }
         ensures most { result ≤ 255 * most_columns }
     {
-        let mut frames = 0;
+        let mut total = 0;
         for count in &self.minors {
-            frames += u32::from(*count);
+            total += u32::from(*count);
         }
-        frames
+        total
     }
 }
 
@@ -80,10 +82,10 @@ fn row_in(alloc: Global, number: u32, values: &RowValues) -> Result<Row, PartFau
     ensures value { IfOk result (λ row. row ≡ row_by_values values.now) }
 {
     Ok(Row {
-        block: within(values.block, 0, 2, in_row!(number, Block))? as u8,
-        half: within(values.half, 0, 1, in_row!(number, Half))? as u8,
-        row: within(values.row, 0, 31, in_row!(number, Row))? as u8,
-        minors: minors(alloc, &values.minors, in_row!(number, Minors))?,
+        block: within(values.block, 0, GREATEST_BLOCK, in_row!(number, Block))? as u8,
+        half: within(values.half, 0, GREATEST_HALF, in_row!(number, Half))? as u8,
+        row: within(values.row, 0, GREATEST_ROW, in_row!(number, Row))? as u8,
+        minors: minors_in(alloc, &values.minors, in_row!(number, Minors))?,
     })
 }
 
@@ -102,24 +104,24 @@ pub(crate) fn rows_in(alloc: Global, values: &[RowValues]) -> Result<Vec<Row>, P
 }
 
 /// Whether one of the rows has the same block type, half and row.
-fn has_same(row: &Row, rows: &[Row]) -> bool
-    ensures { result ≡ has_same row.now rows.now }
+fn has_same_row(row: &Row, rows: &[Row]) -> bool
+    ensures { result ≡ has_same_row row.now rows.now }
 {
     for other in rows {
-        if row.has_place_of(other) {
+        if row.is_same_row(other) {
             return true;
         }
     }
     false
 }
 
-/// The first row that is the same as an earlier one. Rows count from 1.
+/// Refuses the first row that is the same as an earlier one. Rows count from 1.
 pub(crate) fn check_same_rows(rows: &[Row]) -> Result<(), PartFault>
     requires { length rows.now ≤ most_rows }
     ensures { fault_of_call result ≡ same_row_fault [] rows.now }
 {
     for (place, row) in rows.iter().enumerate() {
-        let same = has_same(row, &rows[..place]);
+        let same = has_same_row(row, &rows[..place]);
         require(!same, PartFault::SameRow(place as u32 + 1))?;
     }
     Ok(())
@@ -130,21 +132,21 @@ pub(crate) fn frame_count(rows: &[Row]) -> u32
     requires { length rows.now ≤ most_rows }
     ensures { result ≡ sum_by (λ row. sum row.minors) rows.now }
 {
-    let mut frames = 0;
+    let mut total = 0;
     for row in rows {
-        frames += row.frames();
+        total += row.frame_count();
     }
-    frames
+    total
 }
 
-/// Puts rows in number order, no two of which are the same.
-pub(crate) fn sort_rows(rows: &mut Vec<Row>, far: Fields)
-    requires widths { AreWidths far }
+/// Puts rows, no two of which are the same, in rising order of their addresses.
+pub(crate) fn sort_rows(rows: &mut Vec<Row>, fields: Fields)
+    requires widths { AreWidths fields }
     requires rows { All IsRow rows.old.items }
     requires apart { same_row_fault [] rows.old.items ≡ None }
-    ensures { rows.new.items ≡ sorted_rows far rows.old.items }
+    ensures { rows.new.items ≡ sorted_rows fields rows.old.items }
 {
-    rows.sort_unstable_by_key(|row| row.address(far));
+    rows.sort_unstable_by_key(|row| row.address(fields));
 }
 
 /// Gives equal rows, in the order of the given ones.

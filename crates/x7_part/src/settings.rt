@@ -6,8 +6,13 @@ ghost use Rattle.x7_part.specs.declared.fault.PartFault.TheVariants.{Range};
 
 use crate::address::Fields;
 use crate::fault::{PartFault, PartKey, Which, top};
-use crate::limits::{LEAST_FRAME_WORDS, MOST_FRAME_WORDS, MOST_ROWS, MOST_WAIT_TICKS};
-use crate::ranges::{is_long, is_name, odd, require, unit, widths, within};
+use crate::limits::{
+    GREATEST_BUS_WIDTH, GREATEST_MODE, LEAST_FRAME_WORDS, MOST_FRAME_WORDS, MOST_ROWS,
+    MOST_WAIT_TICKS,
+};
+use crate::ranges::{
+    fields_by_widths, is_length_in, is_name, odd_number, require, start_unit_in, within,
+};
 use crate::values::Values;
 
 /// The numbers of a part, each in its range.
@@ -16,21 +21,25 @@ pub(crate) struct Settings {
     pub(crate) idcode: u32,
     pub(crate) mode: u8,
     pub(crate) bus_width: u8,
+    /// The ticks that startup waits for the clocks to lock.
     pub(crate) lock: u16,
+    /// The ticks that startup waits for the impedance to match.
     pub(crate) matched: u16,
-    pub(crate) words: u8,
+    /// The number of words of a frame.
+    pub(crate) frame_words: u8,
     pub(crate) far: Fields,
+    /// The bytes of the flash that one step of the start address in WBSTAR stands for.
     pub(crate) start_unit: u16,
 }
 
-/// The widths of the fields of an address, those of the 7 series where they aren't given.
+/// The fields of an address of the given widths, those of the 7 series where none are given.
 #[tactic(auto, unfolding(crate::specs::PartChecks::are_widths_or_none))]
 fn fields_in(widths_given: &Option<Vec<i64>>, at: Which) -> Result<Fields, PartFault>
     ensures fault { fault_of_call result ≡ unless (are_widths_or_none (option_map (λ zs. zs.items) widths_given.now)) (Range at) }
     ensures value { IfOk result (λ far. far ≡ widths_of (unwrap_or (option_map (λ zs. zs.items) widths_given.now) [])) }
 {
     match widths_given {
-        Some(numbers) => widths(numbers, at),
+        Some(numbers) => fields_by_widths(numbers, at),
         None => Ok(Fields::usual()),
     }
 }
@@ -42,19 +51,19 @@ fn numbers_in(values: &Values) -> Result<Settings, PartFault>
     ensures value { IfOk result (λ settings. settings ≡ settings_by_values values.now) }
 {
     Ok(Settings {
-        idcode: odd(values.idcode, top!(Idcode))?,
-        mode: within(values.mode, 0, 7, top!(Mode))? as u8,
-        bus_width: within(values.bus_width, 0, 3, top!(BusWidth))? as u8,
+        idcode: odd_number(values.idcode, top!(Idcode))?,
+        mode: within(values.mode, 0, GREATEST_MODE, top!(Mode))? as u8,
+        bus_width: within(values.bus_width, 0, GREATEST_BUS_WIDTH, top!(BusWidth))? as u8,
         lock: within(values.lock, 0, MOST_WAIT_TICKS, top!(Lock))? as u16,
         matched: within(values.matched, 0, MOST_WAIT_TICKS, top!(Match))? as u16,
-        words: within(
-            values.words,
+        frame_words: within(
+            values.frame_words,
             LEAST_FRAME_WORDS,
             MOST_FRAME_WORDS,
             top!(FrameWords),
         )? as u8,
         far: fields_in(&values.far, top!(Far))?,
-        start_unit: unit(values.start_unit, top!(StartUnit))?,
+        start_unit: start_unit_in(values.start_unit, top!(StartUnit))?,
     })
 }
 
@@ -68,6 +77,6 @@ pub(crate) fn settings_in(values: &Values) -> Result<Settings, PartFault>
     require(is_name(&values.name), name)?;
     let settings = numbers_in(values)?;
     let rows = PartFault::Range(top!(Row));
-    require(is_long(values.rows.len(), 1, MOST_ROWS), rows)?;
+    require(is_length_in(values.rows.len(), 1, MOST_ROWS), rows)?;
     Ok(settings)
 }

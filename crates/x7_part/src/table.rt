@@ -10,15 +10,17 @@ use crate::column::Column;
 use crate::row::Row;
 use std::alloc::{AllocError, Global};
 
-/// The pads after column `column` of a row's `columns`: two after the last one, else none (this project's choice).
-fn pads_after(column: usize, columns: usize) -> u32
-    requires { column < columns }
-    ensures { result ≡ (if column + 1 == columns then 2 else 0) }
+/// The number of pads after a column of a row that has `column_count` columns: two after the last one, else none (this
+/// project's choice). Columns count from 0.
+fn pads_after(column: usize, column_count: usize) -> u32
+    requires { column < column_count }
+    ensures { result ≡ (if column + 1 == column_count then 2 else 0) }
 {
-    if column + 1 == columns { 2 } else { 0 }
+    if column + 1 == column_count { 2 } else { 0 }
 }
 
-/// Adds a row's columns, with the numbers of addresses and slots before it. One column more adds `pitch` to an address.
+/// Adds the columns of the row at `base`, before which stand `rank` addresses and `place` slots. One column more adds
+/// `pitch` to an address.
 #[tactic(auto, using(crate::proofs::RowLemmas::row_more))]
 fn add_row(
     columns: &mut Vec<Column>,
@@ -26,53 +28,57 @@ fn add_row(
     base: u32,
     minors: &[u8],
     rank: u32,
-    slot: u64,
+    place: u64,
 ) -> Result<(), AllocError>
     requires base { base + length minors.now * pitch ≤ 2 ^ 32 }
     requires columns { length minors.now ≤ most_columns }
     requires rank { rank < 2 ^ 31 }
-    requires slot { slot < 2 ^ 62 }
-    ensures { OnOk result (columns.new.items ≡ columns.old.items ++ row_columns pitch base 0 rank slot minors.now) }
+    requires place { place < 2 ^ 62 }
+    ensures { OnOk result (columns.new.items ≡ columns.old.items ++ row_columns pitch base 0 rank place minors.now) }
 {
     let mut rank = rank;
-    let mut slot = slot;
+    let mut place = place;
     for (column, count) in minors.iter().enumerate() {
         columns.push(Column {
             first: base + column as u32 * pitch,
             count: u32::from(*count),
-            pads: pads_after(column, minors.len()),
+            pad_count: pads_after(column, minors.len()),
             rank,
-            slot,
+            place,
         })?;
         rank += u32::from(*count);
-        slot += u64::from(*count);
+        place += u64::from(*count);
     }
     Ok(())
 }
 
 /// The table of rows that stand in number order.
-pub(crate) fn table_of(alloc: Global, far: Fields, rows: &[Row]) -> Result<Vec<Column>, AllocError>
-    requires rows { AreRows far 0 rows.now }
+pub(crate) fn table_of(
+    alloc: Global,
+    fields: Fields,
+    rows: &[Row],
+) -> Result<Vec<Column>, AllocError>
+    requires rows { AreRows fields 0 rows.now }
     requires count { length rows.now ≤ most_rows }
-    requires frames { length (addresses far rows.now) ≤ most_frames }
-    ensures { IfOk result (λ columns. columns.items ≡ columns_of far 0 0 rows.now) }
+    requires frames { length (addresses fields rows.now) ≤ most_frames }
+    ensures { IfOk result (λ columns. columns.items ≡ columns_of fields 0 0 rows.now) }
 {
     let mut columns = Vec::new(alloc);
     let mut rank = 0;
-    let mut slot = 0;
+    let mut place = 0;
     for row in rows {
-        let base = row.address(far);
+        let base = row.address(fields);
         add_row(
             &mut columns,
-            far.column_weight(),
+            fields.column_weight(),
             base,
             &row.minors,
             rank,
-            slot,
+            place,
         )?;
-        let frames = row.frames();
-        rank += frames;
-        slot += u64::from(frames) + 2;
+        let frame_count = row.frame_count();
+        rank += frame_count;
+        place += u64::from(frame_count) + 2;
     }
     Ok(columns)
 }

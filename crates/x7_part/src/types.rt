@@ -19,7 +19,7 @@ fn value_under(table: &Table, key: PartKey) -> Option<&Value>
     table.get(key.name())
 }
 
-/// The text under a key.
+/// The text under a key; the fault `Key` where the key is missing or its value is no text.
 pub(crate) fn text(alloc: Global, table: &Table, at: Which) -> Result<String, PartFault>
     ensures fault { AnswersDue (unless (has is_text (under at.key (table_view table.now))) (Key at)) result }
     ensures missing { under at.key (table_view table.now) ≡ None → IsErrOf result (Key at) }
@@ -35,7 +35,7 @@ pub(crate) fn text(alloc: Global, table: &Table, at: Which) -> Result<String, Pa
     }
 }
 
-/// The whole number under a key.
+/// The whole number under a key; the fault `Key` where the key is missing or its value is no whole number.
 pub(crate) fn number(table: &Table, at: Which) -> Result<i64, PartFault>
     ensures fault { fault_of_call result ≡ unless (has is_whole (under at.key (table_view table.now))) (Key at) }
     ensures value { IfOk result (λ z. z ≡ number_or 0 at.key (table_view table.now)) }
@@ -49,7 +49,7 @@ pub(crate) fn number(table: &Table, at: Which) -> Result<i64, PartFault>
     }
 }
 
-/// The whole number under a key, `usual` where the key is left out.
+/// The whole number under a key, `usual` where the key is left out; the fault `Key` where its value is no whole number.
 pub(crate) fn number_or(usual: u32, table: &Table, at: Which) -> Result<i64, PartFault>
     ensures fault { fault_of_call result ≡ unless (may_have is_whole (under at.key (table_view table.now))) (Key at) }
     ensures value { IfOk result (λ z. z ≡ number_or usual at.key (table_view table.now)) }
@@ -78,8 +78,9 @@ fn wholes(alloc: Global, items: &[Value]) -> Result<Option<Vec<i64>>, AllocError
     Ok(Some(numbers))
 }
 
-/// The whole numbers of the list under a key, none where the key is left out.
-pub(crate) fn numbers(
+/// The whole numbers of the list under a key, none where the key is left out; the fault `Key` where its value is no
+/// list of whole numbers.
+pub(crate) fn numbers_under(
     alloc: Global,
     table: &Table,
     at: Which,
@@ -115,8 +116,8 @@ fn tables_among<'t>(alloc: Global, items: &'t [Value]) -> Result<Option<Vec<&'t 
     Ok(Some(tables))
 }
 
-/// The tables of the rows.
-pub(crate) fn rows<'t>(alloc: Global, table: &'t Table) -> Result<Vec<&'t Table>, PartFault>
+/// The tables of the rows; the fault `Key` where the key `row` is missing or its value is no list of tables.
+pub(crate) fn row_tables<'t>(alloc: Global, table: &'t Table) -> Result<Vec<&'t Table>, PartFault>
     ensures fault { AnswersDue (unless (has is_list_of_tables (under key.Row (table_view table.now))) (Key (top key.Row))) result }
     ensures missing { under key.Row (table_view table.now) ≡ None → IsErrOf result (Key (top key.Row)) }
     ensures value { IfOk result (λ rows. map (λ t. table_view t.now) rows.items ≡ row_tables (table_view table.now)) }

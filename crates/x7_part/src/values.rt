@@ -11,28 +11,29 @@ use crate::fault::{PartFault, PartKey, Which, in_row, top};
 use crate::keys::{ROW_KEYS, TOP_KEYS, has_only};
 use crate::limits::USUAL_FRAME_WORDS;
 use crate::ranges::require;
-use crate::types::{number, number_or, numbers, rows, text};
+use crate::types::{number, number_or, numbers_under, row_tables, text};
 use std::alloc::Global;
 use std::marker::Model;
 use toml::Table;
 
-/// A row's values, and whether the row has these keys alone.
+/// A row's values, each of its key's type, and whether the row has known keys alone.
 #[derive(Drop)]
 pub(crate) struct RowValues {
     pub(crate) block: i64,
     pub(crate) half: i64,
     pub(crate) row: i64,
     pub(crate) minors: Vec<i64>,
-    pub(crate) known: bool,
+    pub(crate) has_only_known_keys: bool,
 }
 
 impl Model for RowValues {
     ghost Value = { ValuesOfRow };
 
-    ghost view = { λ v. record { block = v.block; half = v.half; row = v.row; minors = v.minors.items; known = v.known } };
+    ghost view = { λ v. record { block = v.block; half = v.half; row = v.row; minors = v.minors.items; has_only_known_keys = v.has_only_known_keys } };
 }
 
-/// The top table's values, and whether it has these keys alone. A number that is left out has its usual value.
+/// The top table's values, each of its key's type, and whether the table has known keys alone. A number that is left
+/// out has its usual value.
 #[derive(Drop)]
 pub(crate) struct Values {
     pub(crate) name: String,
@@ -41,17 +42,17 @@ pub(crate) struct Values {
     pub(crate) bus_width: i64,
     pub(crate) lock: i64,
     pub(crate) matched: i64,
-    pub(crate) words: i64,
+    pub(crate) frame_words: i64,
     pub(crate) far: Option<Vec<i64>>,
     pub(crate) start_unit: i64,
     pub(crate) rows: Vec<RowValues>,
-    pub(crate) known: bool,
+    pub(crate) has_only_known_keys: bool,
 }
 
 impl Model for Values {
     ghost Value = { TopValues };
 
-    ghost view = { λ v. record { name = string_bytes v.name; idcode = v.idcode; mode = v.mode; bus_width = v.bus_width; lock = v.lock; matched = v.matched; words = v.words; far = option_map (λ zs. zs.items) v.far; start_unit = v.start_unit; rows = v.rows.items; known = v.known } };
+    ghost view = { λ v. record { name = string_bytes v.name; idcode = v.idcode; mode = v.mode; bus_width = v.bus_width; lock = v.lock; matched = v.matched; frame_words = v.frame_words; far = option_map (λ zs. zs.items) v.far; start_unit = v.start_unit; rows = v.rows.items; has_only_known_keys = v.has_only_known_keys } };
 }
 
 /// A row's values, or the first of its keys that is missing or of another type.
@@ -64,11 +65,11 @@ fn row_values(alloc: Global, number_of_row: u32, row: &Table) -> Result<RowValue
         block: number(row, in_row!(number_of_row, Block))?,
         half: number(row, in_row!(number_of_row, Half))?,
         row: number(row, in_row!(number_of_row, Row))?,
-        minors: match numbers(alloc, row, minors)? {
+        minors: match numbers_under(alloc, row, minors)? {
             Some(numbers) => numbers,
             None => return Err(PartFault::Key(minors)),
         },
-        known: has_only(&ROW_KEYS, row),
+        has_only_known_keys: has_only(&ROW_KEYS, row),
     })
 }
 
@@ -100,31 +101,31 @@ pub(crate) fn values_of(alloc: Global, table: &Table) -> Result<Values, PartFaul
         bus_width: number_or(0, table, top!(BusWidth))?,
         lock: number_or(0, table, top!(Lock))?,
         matched: number_or(0, table, top!(Match))?,
-        words: number_or(USUAL_FRAME_WORDS, table, top!(FrameWords))?,
-        far: numbers(alloc, table, top!(Far))?,
+        frame_words: number_or(USUAL_FRAME_WORDS, table, top!(FrameWords))?,
+        far: numbers_under(alloc, table, top!(Far))?,
         start_unit: number_or(1, table, top!(StartUnit))?,
-        rows: rows_values(alloc, &rows(alloc, table)?)?,
-        known: has_only(&TOP_KEYS, table),
+        rows: rows_values(alloc, &row_tables(alloc, table)?)?,
+        has_only_known_keys: has_only(&TOP_KEYS, table),
     })
 }
 
-/// An unknown key, at the top and then row by row.
+/// Refuses the first unknown key, at the top and then row by row.
 #[tactic(auto, unfolding(crate::specs::PartChecks::other_fault))]
 pub(crate) fn check_known(values: &Values) -> Result<(), PartFault>
     ensures { fault_of_call result ≡ other_fault values.now }
 {
-    require(values.known, PartFault::Key(top!(Other)))?;
+    require(values.has_only_known_keys, PartFault::Key(top!(Other)))?;
     check_known_rows(&values.rows)
 }
 
-/// An unknown key of the rows, which count from 1.
+/// Refuses the first unknown key of the rows, which count from 1.
 fn check_known_rows(rows: &[RowValues]) -> Result<(), PartFault>
     ensures { fault_of_call result ≡ rows_fault row_other_fault 1 rows.now }
 {
     let mut number = 1u32;
     for row in rows {
         let other = in_row!(number, Other);
-        require(row.known, PartFault::Key(other))?;
+        require(row.has_only_known_keys, PartFault::Key(other))?;
         number = number.saturating_add(1);
     }
     Ok(())

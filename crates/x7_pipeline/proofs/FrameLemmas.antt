@@ -12,7 +12,7 @@ use Rattle.x7_pipeline.specs.declared.fault.RunFault.{RunFault}
 use Rattle.x7_pipeline.specs.FarAsRead.{has_frame_at}
 use Rattle.x7_pipeline.specs.Runs.{at_slot, onto, put_over, slots_from, Lands}
 use Rattle.x7_pipeline.specs.Fault.{write_fault}
-use Rattle.x7_pipeline.specs.Words.{RunWritten, one_written, run_written}
+use Rattle.x7_pipeline.specs.Words.{RunWritten, with_later_words, run_written}
 use Rattle.x7_pipeline.specs.Flow.{Flow, HoldsFlow, with_run}
 use Rattle.x7_pipeline.specs.Pipeline.{PipelineData}
 use Rattle.x7_pipeline.proofs.FlowLemmas.{StandsFor, flow}
@@ -28,9 +28,9 @@ unfolding run_written
 written_some part base run [] rest e = ap (λ n. record (run_written part base run rest) { count = n }) (omega arith)
 written_some part base run (w ∷ words) rest e = by (write_fault part base run) e (written_some part base (w ∷ run) words rest)
   where
-    by : (o : Option RunFault) → (one_written o run (run_written part base (w ∷ run) words)).fault ≡ None →
+    by : (o : Option RunFault) → (with_later_words o run (run_written part base (w ∷ run) words)).fault ≡ None →
         ((run_written part base (w ∷ run) words).fault ≡ None → run_written part base (w ∷ run) (words ++ rest) ≡ after (length words) (run_written part base (onto words (w ∷ run)) rest)) →
-        one_written o run (run_written part base (w ∷ run) (words ++ rest)) ≡ after (length (w ∷ words)) (run_written part base (onto words (w ∷ run)) rest)
+        with_later_words o run (run_written part base (w ∷ run) (words ++ rest)) ≡ after (length (w ∷ words)) (run_written part base (onto words (w ∷ run)) rest)
     by (Some fault) e later = absurd (none-some fault (sym e))
     by None e later = ap (after 1) (later e) ∙ ap (λ n. record (run_written part base (onto words (w ∷ run)) rest) { count = n }) (omega arith)
 

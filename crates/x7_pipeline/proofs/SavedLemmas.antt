@@ -20,7 +20,7 @@ use Rattle.x7_pipeline.specs.Fault.{address_fault, copy_fault}
 use Rattle.x7_pipeline.specs.Pipeline.{PipelineData}
 use Rattle.x7_pipeline.proofs.FlowLemmas.{StandsFor}
 use Rattle.x7_pipeline.specs.Copies.{copied, is_mfw}
-use Rattle.x7_pipeline.specs.Saved.{ChangesAt, address_at_slot, next_put, pair_at, pair_held, pair_of_frame, expects_copies}
+use Rattle.x7_pipeline.specs.Saved.{ChangesAt, address_at_slot, next_put, pair_at, pair_seen, pair_of_frame, may_copy}
 use Rattle.x7_pipeline.proofs.SlotLemmas.{slot_address}
 use Rattle.x7_pipeline.proofs.RunLemmas.{frames_completes, frames_goes_on}
 use Rattle.x7_pipeline.proofs.StateLemmas.{at_slot_more}
@@ -34,11 +34,11 @@ slot_named part base n Pad at s e = rw e tt
 slot_named part base n End at s e = rw e tt
 
 -- the pair is put, where there is one
-pub pair_put : (has : Bool) (far : ℕ) (words frame : List ℕ) (pair : List PlanRow) (old new : FrameMap) → pair_held has far words ≡ pair → has ≡ true → frame ≡ words → ((a : ℕ) → new a ≡ (if a == far then Some frame else old a)) → AreSame new (put_over pair old)
+pub pair_put : (has : Bool) (far : ℕ) (words frame : List ℕ) (pair : List PlanRow) (old new : FrameMap) → pair_seen has far words ≡ pair → has ≡ true → frame ≡ words → ((a : ℕ) → new a ≡ (if a == far then Some frame else old a)) → AreSame new (put_over pair old)
 unfolding planned
 pair_put has far words frame pair old new e h f n = rw (← e, h, ← f) (override_one old new far frame n)
 
-pub pair_none : (has : Bool) (far : ℕ) (words : List ℕ) (pair : List PlanRow) (m : FrameMap) → pair_held has far words ≡ pair → has ≡ false → AreSame m (put_over pair m)
+pub pair_none : (has : Bool) (far : ℕ) (words : List ℕ) (pair : List PlanRow) (m : FrameMap) → pair_seen has far words ≡ pair → has ≡ false → AreSame m (put_over pair m)
 unfolding planned
 pair_none has far words pair m e h = rw (← e, h) (λ a. refl)
 
@@ -140,7 +140,7 @@ pub word_changes : (part : PartData) (p : PipelineData) (command : Command) (bas
 unfolding written_frames
 word_changes part p command base run source given word old new s words l =
     let mfw : is_mfw p.command ≡ false = ap is_mfw s.command_is ∙ words in
-    let copies : expects_copies p ≡ false = rw mfw refl in
+    let copies : may_copy p ≡ false = rw mfw refl in
     let rest : length p.rest + 1 ≡ length (rest_of (frame_words part) run) + 1 = ap (λ (r : List ℕ). length r + 1) s.rest_is in
     elim (cases_eq (length p.rest + 1) p.width) [
       | inl e ↦

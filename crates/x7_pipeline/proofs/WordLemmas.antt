@@ -7,7 +7,7 @@ use Rattle.x7_regs.specs.declared.command.Command.{Command}
 use Rattle.x7_pipeline.specs.declared.fault.RunFault.{RunFault}
 use Rattle.x7_pipeline.specs.Runs.{onto, Lands}
 use Rattle.x7_pipeline.specs.Fault.{write_fault}
-use Rattle.x7_pipeline.specs.Words.{RunWritten, one_written, run_written, Refused}
+use Rattle.x7_pipeline.specs.Words.{RunWritten, with_later_words, run_written, Refused}
 use Rattle.x7_pipeline.specs.Pipeline.{PipelineData}
 use Rattle.x7_pipeline.proofs.FlowLemmas.{StandsFor}
 use Rattle.x7_pipeline.proofs.LawLemmas.{lands_none}
@@ -24,11 +24,11 @@ written_end part base run = refl
 
 pub written_next : (part : PartData) (base w : ℕ) (run words : List ℕ) → None ≡ write_fault part base run → run_written part base run (w ∷ words) ≡ after 1 (run_written part base (w ∷ run) words)
 unfolding run_written
-written_next part base w run words e = ap (λ o. one_written o run (run_written part base (w ∷ run) words)) (sym e)
+written_next part base w run words e = ap (λ o. with_later_words o run (run_written part base (w ∷ run) words)) (sym e)
 
 pub written_refused : (part : PartData) (base w : ℕ) (run words : List ℕ) (fault : RunFault) → Some fault ≡ write_fault part base run → run_written part base run (w ∷ words) ≡ record { run = run; count = 1; fault = Some fault }
 unfolding run_written
-written_refused part base w run words fault e = ap (λ o. one_written o run (run_written part base (w ∷ run) words)) (sym e)
+written_refused part base w run words fault e = ap (λ o. with_later_words o run (run_written part base (w ∷ run) words)) (sym e)
 
 -- ---- on the way
 
@@ -72,9 +72,9 @@ unfolding run_written
 all_written part base run [] e = refl
 all_written part base run (w ∷ words) e = by (write_fault part base run) e (all_written part base (w ∷ run) words)
   where
-    by : (o : Option RunFault) → (one_written o run (run_written part base (w ∷ run) words)).fault ≡ None →
+    by : (o : Option RunFault) → (with_later_words o run (run_written part base (w ∷ run) words)).fault ≡ None →
         ((run_written part base (w ∷ run) words).fault ≡ None → run_written part base (w ∷ run) words ≡ record { run = onto words (w ∷ run); count = length words; fault = None }) →
-        one_written o run (run_written part base (w ∷ run) words) ≡ record { run = onto words (w ∷ run); count = length (w ∷ words); fault = None }
+        with_later_words o run (run_written part base (w ∷ run) words) ≡ record { run = onto words (w ∷ run); count = length (w ∷ words); fault = None }
     by (Some fault) e later = absurd (none-some fault (sym e))
     by None e later = ap (after 1) (later e) ∙ ap (λ n. record { run = onto words (w ∷ run); count = n; fault = None }) (omega arith)
 
@@ -83,14 +83,14 @@ unfolding run_written
 some_refused part base run [] fault e = absurd (none-some fault e)
 some_refused part base run (w ∷ words) fault e = by (write_fault part base run) refl e (some_refused part base (w ∷ run) words fault)
   where
-    by : (o : Option RunFault) → write_fault part base run ≡ o → (one_written o run (run_written part base (w ∷ run) words)).fault ≡ Some fault →
+    by : (o : Option RunFault) → write_fault part base run ≡ o → (with_later_words o run (run_written part base (w ∷ run) words)).fault ≡ Some fault →
         ((run_written part base (w ∷ run) words).fault ≡ Some fault → Refused part base (w ∷ run) words fault) → Refused part base run (w ∷ words) fault
     by (Some f) is e later = record {
       before = [];
       word = w;
       later = words;
       words_are = refl;
-      written_is = ap (λ o. one_written o run (run_written part base (w ∷ run) words)) is ∙ ap (λ o. record { run = run; count = 1; fault = o }) e;
+      written_is = ap (λ o. with_later_words o run (run_written part base (w ∷ run) words)) is ∙ ap (λ o. record { run = run; count = 1; fault = o }) e;
       refused = is ∙ e;
     }
     by None is e later =
@@ -100,7 +100,7 @@ some_refused part base run (w ∷ words) fault e = by (write_fault part base run
           word = r.word;
           later = r.later;
           words_are = ap (λ t. w ∷ t) r.words_are;
-          written_is = ap (λ o. one_written o run (run_written part base (w ∷ run) words)) is ∙ ap (after 1) r.written_is
+          written_is = ap (λ o. with_later_words o run (run_written part base (w ∷ run) words)) is ∙ ap (after 1) r.written_is
               ∙ ap (λ n. record { run = onto r.before (w ∷ run); count = n; fault = Some fault }) (omega arith);
           refused = r.refused;
         }

@@ -22,7 +22,7 @@ abbrev pub newest_of : List (List ℕ) → Option (List ℕ)
 newest_of [] = None
 newest_of (frame ∷ older) = Some frame
 
--- MFW right after WCFG takes the frame, and no other command has one
+-- the source that the frame becomes: MFW right after WCFG takes it, and under other commands there is none
 abbrev pub source_with : Command → Command → Option (List ℕ) → Option (List ℕ)
 source_with old new frame = if is_wcfg old && is_mfw new then frame else None
 

@@ -23,9 +23,9 @@ loaded_base part word = word % 2 ^ far_width part
 -- the first address among slots
 abbrev pub first_address : List Slot → Option ℕ
 first_address [] = None
-first_address (Frame far ∷ places) = Some far
-first_address (Pad ∷ places) = first_address places
-first_address (End ∷ places) = first_address places
+first_address (Frame far ∷ slots) = Some far
+first_address (Pad ∷ slots) = first_address slots
+first_address (End ∷ slots) = first_address slots
 
 -- the part's greatest address
 abbrev pub last_address : PartData → ℕ
@@ -37,8 +37,8 @@ unfoldable pub far_at : PartData → ℕ → ℕ → ℕ
 far_at part base slot =
     if has_frame_at part base then unwrap_or (first_address (drop slot (slots_from part base))) (last_address part) else base
 
--- FAR as read, after a run from the base or `given` words of a readback: FAR
--- stands at the slot of the newest whole frame
+-- FAR as read, after a run from the base or `given` words of a readback: FAR stands at the slot of the newest whole
+-- frame
 unfoldable pub far_of : PartData → ℕ → List ℕ → ℕ → ℕ
 far_of part base run given =
     far_at part base (max (length (frames_of (frame_words part) run)) (given / frame_words part) - 1)

@@ -21,15 +21,15 @@ completes part run = length (rest_of (frame_words part) run) + 1 == frame_words 
 abbrev pub has_filled : PartData → ℕ → List ℕ → Bool
 has_filled part base run = nat_le (length (slots_from part base)) (length (frames_of (frame_words part) run))
 
--- the fault of one word more in a run: Address at the first word, Overrun at
--- the last word of a frame past the last slot
+-- the fault of one word more in a run: Address at the first word, where the base is no address, and Overrun at the last
+-- word of a frame past the last slot
 unfoldable pub write_fault : PartData → ℕ → List ℕ → Option RunFault
 write_fault part base [] = address_fault part base
 write_fault part base (w ∷ run) =
     if completes part (w ∷ run) && has_filled part base (w ∷ run) then Some Overrun else None
 
--- the fault of a copy: Multi where the command isn't MFW or there is no source,
--- else Address where the base is no address
+-- the fault of a copy: Multi where the command isn't MFW or there is no source, else Address where the base is no
+-- address
 unfoldable pub copy_fault : PartData → Command → ℕ → Option (List ℕ) → Option RunFault
 copy_fault part command base source =
     if is_mfw command && is_some source then address_fault part base else Some Multi

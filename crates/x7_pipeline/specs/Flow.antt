@@ -62,7 +62,7 @@ with_run run f = record f { run = run }
 abbrev pub after_words : List ℕ → Flow → Flow
 after_words words f = with_run (onto words f.run) f
 
--- the flow after `count` words of a readback given more
+-- the flow after a readback gave `count` words more
 abbrev pub after_reads : ℕ → Flow → Flow
 after_reads count f = record f { given = f.given + count }
 
@@ -72,7 +72,13 @@ begun_at base f = record f { base = base; run = []; given = 0 }
 
 -- the flow after a command: a run begins at FAR as read
 abbrev pub begun_by : PartData → Command → Flow → Flow
-begun_by part command f = record { command = command; base = far_of part f.base f.run f.given; run = []; source = source_after part f.command command f.run; given = 0 }
+begun_by part command f = record {
+  command = command;
+  base = far_of part f.base f.run f.given;
+  run = [];
+  source = source_after part f.command command f.run;
+  given = 0;
+}
 
 -- ---- a copy
 
@@ -90,7 +96,7 @@ fault_of_copy part f = copy_fault part f.command f.base f.source
 abbrev pub flow_written : PartData → Flow → List ℕ → RunWritten
 flow_written part f words = run_written part f.base f.run words
 
--- the memory gets the frames that land at these words
+-- the memory gets the frames that land as these words are written, the oldest first
 abbrev pub LandsAt : PartData → Flow → List ℕ → FrameMap → FrameMap → Type 0
 LandsAt part f words old new = Lands part f.base f.run (onto words f.run) old new
 
@@ -98,4 +104,5 @@ LandsAt part f words old new = Lands part f.base f.run (onto words f.run) old ne
 
 -- the newest whole frame, where there is one, was put at its slot
 abbrev pub PutsNewest : PartData → PipelineData → FrameMap → FrameMap → Type 0
-PutsNewest part p old new = (frame : List ℕ) → p.newest ≡ Some frame → AreSame new (put_over (at_slot (slice_index_or (slots_from part p.base) (p.frame_count - 1) End) frame []) old)
+PutsNewest part p old new = (frame : List ℕ) → p.newest ≡ Some frame →
+    AreSame new (put_over (at_slot (slice_index_or (slots_from part p.base) (p.frame_count - 1) End) frame []) old)

@@ -34,7 +34,7 @@ HasRun part base run under memory = AreSame memory (put_over (written_frames par
 abbrev pub all_written : List ℕ → List ℕ → RunWritten
 all_written words run = record { run = onto words run; count = length words; fault = None }
 
--- the place in a readback of a word of its nth frame, after the pad
+-- the place in a readback of word `i` of frame `n` after the pad frame, both from 0
 abbrev pub place_in : PartData → ℕ → ℕ → ℕ
 place_in part n i = frame_words part * (1 + n) + i
 
@@ -49,17 +49,17 @@ abbrev pub HasNoFrame : Slot → Type 0
 HasNoFrame slot = (far : ℕ) → slot ≢ Frame far
 
 -- an address is the first one at or after slot n
-pub record IsFirstAddress (places : List Slot) (n far : ℕ) : Type 0 where
+pub record IsFirstAddress (slots : List Slot) (n far : ℕ) : Type 0 where
   pub place : ℕ
   pub no_sooner : n ≤ place
-  pub there : slice_index_or places place End ≡ Frame far
-  pub none_before : (earlier : ℕ) → n ≤ earlier → earlier < place → HasNoFrame (slice_index_or places earlier End)
+  pub there : slice_index_or slots place End ≡ Frame far
+  pub none_before : (earlier : ℕ) → n ≤ earlier → earlier < place → HasNoFrame (slice_index_or slots earlier End)
 
 -- no address is at or after slot n
 abbrev pub HasNoAddress : List Slot → ℕ → Type 0
-HasNoAddress places n = (place : ℕ) → n ≤ place → HasNoFrame (slice_index_or places place End)
+HasNoAddress slots n = (place : ℕ) → n ≤ place → HasNoFrame (slice_index_or slots place End)
 
--- FAR stands at slot n of those from a base on: it is the first address there or after,
--- and the part's last one where there is none
+-- FAR stands at slot n of those from a base on: it is the first address there or after, and the part's last one where
+-- there is none
 abbrev pub FarStandsAt : PartData → ℕ → ℕ → ℕ → Type 0
 FarStandsAt part base n far = IsFirstAddress (slots_from part base) n far ⊎ (HasNoAddress (slots_from part base) n × (far ≡ last_address part))

@@ -31,18 +31,18 @@ abbrev pub IsPipelineOf : PartData → PipelineData → Type 0
 IsPipelineOf part pipeline = (pipeline.width ≡ frame_words part) × (pipeline.far_width ≡ far_width part)
 
 -- a pipeline and the frames of a memory are those of one part
-pub record AreOf (part : PartData) (p : PipelineData) (frames : List (List ℕ)) : Type 0 where
+pub record AreOfPart (part : PartData) (p : PipelineData) (frames : List (List ℕ)) : Type 0 where
   pub pipeline_fits : IsPipelineOf part p
   pub frames_fit : AreFramesOf part frames
 
--- the count after `n` words of a readback were given more, up to the limit
+-- how many words a readback gave after `n` more, counted up to where there are zeros alone
 abbrev pub given_after : PartData → PipelineData → ℕ → ℕ
 given_after part p n = min (p.given + n) (p.width * (1 + length (slots_from part p.base)))
 
--- the slot at which `given` words of a readback were given: one pad frame, then the slots from the base on
+-- the slot of the next word of a readback that gave `given` words: one pad frame, then the slots from the base on
 abbrev pub slot_given : PartData → PipelineData → ℕ → Slot
 slot_given part p given = slice_index_or (Pad ∷ slots_from part p.base) (given / p.width) End
 
--- the pipeline after `n` words of a readback were given more
+-- the pipeline after a readback gave `n` words more
 abbrev pub passed : PartData → PipelineData → ℕ → PipelineData
 passed part p n = record p { given = given_after part p n; slot = slot_given part p (given_after part p n) }

@@ -5,7 +5,7 @@ use Rattle.x7_pipeline.specs.Pipeline.{PipelineData}
 
 -- the newest whole frame, where there is one
 abbrev pub newest_seen : Inside → Option (List ℕ)
-newest_seen p = if p.frame_count == 0 then None else Some p.held.items
+newest_seen p = if p.frame_count == 0 then None else Some p.newest.items
 
 -- the frame that copies take, where there is one
 abbrev pub source_seen : Inside → Option (List ℕ)
@@ -33,7 +33,7 @@ pub record HasFrameRoom (p : Inside) : Type 0 where
   pub narrow : p.far_width ≤ 32
   pub short : vec_len p.rest < p.width
   pub rest_room : p.width ≤ vec_capacity p.rest
-  pub held_room : p.width ≤ vec_capacity p.held
+  pub newest_room : p.width ≤ vec_capacity p.newest
   pub source_room : p.width ≤ vec_capacity p.source
-  pub held_whole : 0 < p.frame_count → vec_len p.held ≡ p.width
+  pub newest_whole : 0 < p.frame_count → vec_len p.newest ≡ p.width
   pub source_whole : p.has_source ≡ true → vec_len p.source ≡ p.width

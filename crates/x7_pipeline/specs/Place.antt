@@ -5,7 +5,7 @@ use Rattle.x7_part.specs.Slot.{slots_in}
 use Rattle.x7_part.specs.declared.slot.Slot.TheVariants.{End}
 use Rattle.x7_pipeline.specs.Runs.{slots_from}
 
--- the slots from the base on stand at `place` among all slots of the part, below 2^63
+-- `place` slots of the part, fewer than 2^63, stand before those from the base on
 pub record StartsAt (part : PartData) (base place : ℕ) : Type 0 where
   pub fits : place < 2 ^ 63
   pub same : (n : ℕ) → slice_index_or (slots_in part) (place + n) End ≡ slice_index_or (slots_from part base) n End

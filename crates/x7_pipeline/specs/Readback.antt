@@ -18,7 +18,7 @@ word_at (Frame far) memory i = word_in_frame (memory far) i
 word_at Pad memory i = 0
 word_at End memory i = 0
 
--- the slot of a place of the list: one pad frame, then the slots from the base on
+-- the slot of a place of the endless list: one pad frame, then the slots from the base on
 unfoldable pub read_slot : PartData → ℕ → ℕ → Slot
 read_slot part base place = slice_index_or (Pad ∷ slots_from part base) (place / frame_words part) End
 
@@ -26,10 +26,10 @@ read_slot part base place = slice_index_or (Pad ∷ slots_from part base) (place
 unfoldable pub readback_at : PartData → ℕ → FrameMap → ℕ → ℕ
 readback_at part base memory place = word_at (read_slot part base place) memory (place % frame_words part)
 
--- the place from which on the list has zeros alone
+-- the place from which on the endless list has zeros alone
 unfoldable pub read_limit : PartData → ℕ → ℕ
 read_limit part base = frame_words part * (1 + length (slots_from part base))
 
--- the count of words given as it is stored: a count above the limit is stored as the limit
+-- the count of words that a readback gave, as it is stored: a count above the limit is stored as the limit
 abbrev pub given_stored : PartData → ℕ → ℕ → ℕ
 given_stored part base given = min given (read_limit part base)

@@ -40,8 +40,8 @@ at_slot End words pairs = pairs
 
 -- frames, the newest first, with slots: the oldest frame goes with the first slot
 unfoldable pub in_slots : List Slot → List (List ℕ) → List PlanRow
-in_slots places [] = []
-in_slots places (frame ∷ older) = at_slot (slice_index_or places (length older) End) frame (in_slots places older)
+in_slots slots [] = []
+in_slots slots (frame ∷ older) = at_slot (slice_index_or slots (length older) End) frame (in_slots slots older)
 
 -- frames without the newest one, which stands first
 abbrev pub but_newest : List (List ℕ) → List (List ℕ)

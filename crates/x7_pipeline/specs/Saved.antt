@@ -25,22 +25,22 @@ address_at_slot End = None
 abbrev pub newest_slot : PartData → PipelineData → Slot
 newest_slot part p = if p.frame_count == 0 then Pad else slice_index_or (slots_from part p.base) (p.frame_count - 1) End
 
--- where the next word would put a frame: a word that completes a frame puts the
--- whole frame before it, at that frame's slot
+-- the address where the next word would put a frame: a word that completes a frame puts the whole frame before it, at
+-- that frame's slot
 abbrev pub put_by_word : PartData → PipelineData → Option ℕ
 put_by_word part p = if length p.rest + 1 == p.width then address_at_slot (newest_slot part p) else None
 
--- where a copy would put a frame
+-- the address where a copy would put a frame: the base, where that is an address
 abbrev pub put_by_copy : PartData → PipelineData → Option ℕ
 put_by_copy part p = if has_frame_at part p.base then Some p.base else None
 
 -- a pipeline takes copies: the command is MFW, and there is a source
-abbrev pub expects_copies : PipelineData → Bool
-expects_copies p = is_mfw p.command && is_some p.source
+abbrev pub may_copy : PipelineData → Bool
+may_copy p = is_mfw p.command && is_some p.source
 
--- where the next word, or under MFW the next copy, would put a frame
+-- the address where the next word, or under MFW with a source the next copy, would put a frame
 abbrev pub next_put : PartData → PipelineData → Option ℕ
-next_put part p = if expects_copies p then put_by_copy part p else put_by_word part p
+next_put part p = if may_copy p then put_by_copy part p else put_by_word part p
 
 -- ---- what is kept
 
@@ -60,8 +60,8 @@ pub record SavedState : Type 0 where
   pub pair : List PlanRow
 
 -- the pair as the fields hold it
-abbrev pub pair_held : Bool → ℕ → List ℕ → List PlanRow
-pair_held has_frame far words = if has_frame then record { far = far; words = words } ∷ [] else []
+abbrev pub pair_seen : Bool → ℕ → List ℕ → List PlanRow
+pair_seen has_frame far words = if has_frame then record { far = far; words = words } ∷ [] else []
 
 -- a frame of the part at one of its addresses
 pub record IsPairOf (part : PartData) (row : PlanRow) : Type 0 where

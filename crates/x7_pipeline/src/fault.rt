@@ -1,9 +1,9 @@
-//! Why a run or a copy is refused.
+//! Why a word of a run, a copy or a readback is refused.
 
-/// Why the pipeline takes no word.
+/// Why the pipeline takes no word, puts no copy or gives no word.
 #[derive(Clone, Copy, Debug, Drop, PartialEq, Eq)]
 pub enum RunFault {
-    /// FAR, with this word, is no address of the part.
+    /// The part has no frame at FAR, whose word this is.
     Address(u32),
     /// The word completes a frame past the last slot.
     Overrun,

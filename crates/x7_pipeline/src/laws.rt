@@ -52,16 +52,16 @@ pub fn mfw_takes_the_newest_frame()
 {}
 
 /// FAR as read is the base up to the first whole frame and where the base is no address. After a whole frame, or the
-/// pad frame of a readback, and `count` more it stands at slot `count` of those from the base on; past the limit of a
-/// readback it is the last address.
+/// pad frame of a readback, and `count` frames more it stands at slot `count` of those from the base on; past the limit
+/// of a readback it is the last address.
 pub fn far_is_read_by_slots()
     ensures loaded { (part : PartData) (base : ℕ) → far_of part base [] 0 ≡ base }
     ensures nowhere { (part : PartData) (base : ℕ) (run : List ℕ) (given : ℕ) → has_frame_at part base ≡ false → far_of part base run given ≡ base }
     ensures begun { (part : PartData) (base given : ℕ) (run : List ℕ) → length run < frame_words part → given < frame_words part → far_of part base run given ≡ base }
-    ensures written { (part : PartData) (base count rest : ℕ) (run : List ℕ) → IsBase part base → length run ≡ place_in part count rest → rest < frame_words part →
+    ensures written { (part : PartData) (base count more : ℕ) (run : List ℕ) → IsBase part base → length run ≡ place_in part count more → more < frame_words part →
         FarStandsAt part base count (far_of part base run 0) }
-    ensures read { (part : PartData) (base count rest : ℕ) → IsBase part base → rest < frame_words part →
-        FarStandsAt part base count (far_of part base [] (place_in part count rest)) }
+    ensures read { (part : PartData) (base count more : ℕ) → IsBase part base → more < frame_words part →
+        FarStandsAt part base count (far_of part base [] (place_in part count more)) }
     ensures last { (part : PartData) (base : ℕ) (run : List ℕ) (given : ℕ) → 0 < frame_words part → IsBase part base → read_limit part base ≤ given →
         far_of part base run given ≡ last_address part }
 {}

@@ -13,13 +13,13 @@ ghost use Rattle.x7_pipeline.specs.Copies.{is_wcfg, is_mfw, source_with};
 ghost use Rattle.x7_pipeline.specs.Readback.{readback_at, word_at};
 ghost use Rattle.x7_pipeline.specs.Fault.{write_fault, readback_fault, drop_fault};
 ghost use Rattle.x7_pipeline.specs.Place.{StartsAt};
-ghost use Rattle.x7_pipeline.specs.Pipeline.{AreOf, PipelineData, IsPipelineOf, passed};
+ghost use Rattle.x7_pipeline.specs.Pipeline.{AreOfPart, PipelineData, IsPipelineOf, passed};
 ghost use Rattle.x7_pipeline.specs.Flow.{copied_by, fault_of_copy, FlowGoesOn, HoldsFlow, LandsAt, OfFlow, PutsNewest, after_reads, after_words, begun_at, begun_by, first_flow, with_run, flow_written};
 
 mod saved;
 
 use crate::fault::RunFault;
-use crate::place::{far_at, is_base, slot_count, slot_read};
+use crate::place::{far_at, has_frame_at, readback_slot, slot_count};
 pub use saved::Saved;
 use std::alloc::Global;
 use std::marker::Model;
@@ -42,13 +42,14 @@ pub struct Pipeline {
     /// The words after the run's last whole frame.
     rest: Vec<u32>,
     /// The run's newest whole frame, where `frame_count` isn't 0.
-    held: Vec<u32>,
+    newest: Vec<u32>,
     /// The number of the run's whole frames.
     frame_count: u64,
-    /// The source of copies, where `has_source`.
+    /// The frame that copies put, where `has_source`.
     source: Vec<u32>,
+    /// Whether there is a source: MFW came right after WCFG, and took a frame.
     has_source: bool,
-    /// The words that a readback gave, counted up to where there are zeros alone.
+    /// The number of words that a readback gave, counted up to where there are zeros alone.
     given: u64,
     /// The slot of the next word of a readback.
     slot: Slot,
@@ -67,8 +68,8 @@ impl Model for Pipeline {
 }
 
 impl Pipeline {
-    /// A pipeline as after a reset: no command was written, FAR is 0. The call takes room for
-    /// three frames, and no other call takes memory.
+    /// A pipeline as after a reset: no command was written, FAR is 0. The call takes room for three frames, and no
+    /// other call takes memory.
     pub fn new(alloc: Global, part: &Part) -> Result<Pipeline, NoMemory>
         ensures stands { IfOk result (λ pipeline. HoldsFlow part.now pipeline first_flow) }
         ensures part { IfOk result (IsPipelineOf part.now) }
@@ -80,7 +81,7 @@ impl Pipeline {
             command: Command::Null,
             base: 0,
             rest: Vec::with_capacity(alloc, width as usize)?,
-            held: Vec::with_capacity(alloc, width as usize)?,
+            newest: Vec::with_capacity(alloc, width as usize)?,
             frame_count: 0,
             source: Vec::with_capacity(alloc, width as usize)?,
             has_source: false,
@@ -120,7 +121,7 @@ impl Pipeline {
         self.end_run();
     }
 
-    /// Ends the run and the readback.
+    /// Ends the run and the readback: there are no words of either.
     fn end_run(&mut self)
         ensures { self.new ≡ record self.old { rest = []; newest = None; frame_count = 0; given = 0; slot = Slot.Pad } }
     {
@@ -130,12 +131,13 @@ impl Pipeline {
         self.slot = Slot::Pad;
     }
 
-    /// The source under the command that comes. The newest whole frame is used up.
+    /// Makes the newest whole frame the source, where the new command begins copies, and else leaves none. The run has
+    /// no whole frame then.
     fn take_source(&mut self, command: Command)
         ensures { self.new ≡ record self.old { newest = None; frame_count = 0; source = source_with self.old.command command self.old.newest } }
     {
         if begins_copies(self.command, command) && self.frame_count > 0 {
-            std::mem::swap(&mut self.held, &mut self.source);
+            std::mem::swap(&mut self.newest, &mut self.source);
             self.has_source = true;
         } else {
             self.has_source = false;
@@ -145,13 +147,13 @@ impl Pipeline {
 
     /// One word more of a run under WCFG. A word that completes a frame puts the frame before it.
     pub fn write(&mut self, word: u32, part: &Part, memory: &mut Memory) -> Result<(), RunFault>
-        requires part { AreOf part.now self.old memory.old }
+        requires part { AreOfPart part.now self.old memory.old }
         ensures stands { OnOk result (FlowGoesOn part.now self.old self.new (after_words (word ∷ []))) }
         ensures lands { OnOk result (OfFlow part.now self.old (λ f. LandsAt part.now f (word ∷ []) (frame_at part.now memory.old) (frame_at part.now memory.new))) }
         ensures fault { OfFlow part.now self.old (λ f. result_err result ≡ write_fault part.now f.base f.run) }
 
         // Whatever the answer.
-        ensures part { AreOf part.now self.new memory.new }
+        ensures part { AreOfPart part.now self.new memory.new }
 
         // After a fault.
         ensures refused { OnErr result (self.new ≡ self.old) }
@@ -169,9 +171,9 @@ impl Pipeline {
         }
         let first = part.place_of(self.base);
         let mut near = 0;
-        self.put_held(first, &mut near, part, memory);
+        self.put_newest(first, &mut near, part, memory);
         push_word(&mut self.rest, word);
-        std::mem::swap(&mut self.rest, &mut self.held);
+        std::mem::swap(&mut self.rest, &mut self.newest);
         self.rest.clear();
         self.frame_count += 1;
         Ok(())
@@ -186,18 +188,18 @@ impl Pipeline {
         memory: &mut Memory,
     ) -> (usize, Option<RunFault>)
         requires whole { length bytes.now % 4 ≡ 0 }
-        requires part { AreOf part.now self.old memory.old }
+        requires part { AreOfPart part.now self.old memory.old }
         ensures stands { OfFlow part.now self.old (λ f. HoldsFlow part.now self.new (with_run (flow_written part.now f (words_of_bytes bytes.now)).run f)) }
         ensures lands { OfFlow part.now self.old (λ f. Lands part.now f.base f.run (flow_written part.now f (words_of_bytes bytes.now)).run (frame_at part.now memory.old) (frame_at part.now memory.new)) }
         ensures count { OfFlow part.now self.old (λ f. result.0 ≡ (flow_written part.now f (words_of_bytes bytes.now)).count) }
         ensures fault { OfFlow part.now self.old (λ f. result.1 ≡ (flow_written part.now f (words_of_bytes bytes.now)).fault) }
         ensures within { result.0 ≤ length bytes.now / 4 }
-        ensures part { AreOf part.now self.new memory.new }
+        ensures part { AreOfPart part.now self.new memory.new }
     {
         let mut at = 0;
         'pieces: while at < bytes.len() {
-            let (_, rest) = bytes.split_at(at);
-            match self.write_some(rest, part, memory) {
+            let (_, later) = bytes.split_at(at);
+            match self.write_some(later, part, memory) {
                 Ok(taken) => at += taken,
                 Err(fault) => return (at / 4 + 1, Some(fault)),
             }
@@ -205,8 +207,8 @@ impl Pipeline {
         (at / 4, None)
     }
 
-    /// Writes the whole frames that come next, where none has begun, or else the next
-    /// word. The answer is the number of bytes.
+    /// Writes the whole frames that come next, where none has begun, or else the next word. The answer is the number of
+    /// bytes written.
     fn write_some(
         &mut self,
         bytes: &[u8],
@@ -214,18 +216,18 @@ impl Pipeline {
         memory: &mut Memory,
     ) -> Result<usize, RunFault>
         requires some { 4 ≤ length bytes.now }
-        requires part { AreOf part.now self.old memory.old }
+        requires part { AreOfPart part.now self.old memory.old }
         ensures words { IfOk result (λ taken. (1 ≤ taken / 4) × (taken % 4 ≡ 0) × (taken ≤ length bytes.now)) }
         ensures stands { IfOk result (λ taken. FlowGoesOn part.now self.old self.new (after_words (words_of_bytes (take taken bytes.now)))) }
         ensures lands { IfOk result (λ taken. OfFlow part.now self.old (λ f. LandsAt part.now f (words_of_bytes (take taken bytes.now)) (frame_at part.now memory.old) (frame_at part.now memory.new))) }
         ensures passes { IfOk result (λ taken. OfFlow part.now self.old (λ f. (flow_written part.now f (words_of_bytes (take taken bytes.now))).fault ≡ None)) }
         ensures fault { IfErr result (λ fault. OfFlow part.now self.old (λ f. Some fault ≡ write_fault part.now f.base f.run)) }
-        ensures part { AreOf part.now self.new memory.new }
+        ensures part { AreOfPart part.now self.new memory.new }
         ensures refused { OnErr result (self.new ≡ self.old) }
         ensures unchanged { OnErr result (memory.new ≡ memory.old) }
     {
-        let size = 4 * self.width as usize;
-        if size <= bytes.len() && self.takes_frame(part) {
+        let frame_size = 4 * self.width as usize;
+        if frame_size <= bytes.len() && self.takes_frame(part) {
             return Ok(self.write_frames(bytes, part, memory));
         }
         let word = word_of([bytes[0], bytes[1], bytes[2], bytes[3]]);
@@ -243,10 +245,10 @@ impl Pipeline {
         self.rest.is_empty() && self.frame_count < slot_count(part, self.base)
     }
 
-    /// Writes the whole frames that come next, up to the last one that has a slot; the first one has a
-    /// slot. The answer is the number of bytes.
+    /// Writes the whole frames that come next, up to the last one that has a slot; the first one has a slot. The answer
+    /// is the number of bytes written.
     fn write_frames(&mut self, bytes: &[u8], part: &Part, memory: &mut Memory) -> usize
-        requires part { AreOf part.now self.old memory.old }
+        requires part { AreOfPart part.now self.old memory.old }
         requires begins { self.old.rest ≡ [] }
         requires frame { 4 * self.old.width ≤ length bytes.now }
         requires slot { self.old.frame_count < length (slots_from part.now self.old.base) }
@@ -254,26 +256,26 @@ impl Pipeline {
         ensures stands { FlowGoesOn part.now self.old self.new (after_words (words_of_bytes (take result bytes.now))) }
         ensures lands { OfFlow part.now self.old (λ f. LandsAt part.now f (words_of_bytes (take result bytes.now)) (frame_at part.now memory.old) (frame_at part.now memory.new)) }
         ensures passes { OfFlow part.now self.old (λ f. (flow_written part.now f (words_of_bytes (take result bytes.now))).fault ≡ None) }
-        ensures part { AreOf part.now self.new memory.new }
+        ensures part { AreOfPart part.now self.new memory.new }
     {
-        let size = 4 * self.width as usize;
-        let slots = slot_count(part, self.base);
+        let frame_size = 4 * self.width as usize;
+        let frame_limit = slot_count(part, self.base);
         let first = part.place_of(self.base);
         let mut near = 0;
-        self.write_frame(&bytes[..size], first, &mut near, part, memory);
-        let mut at = size;
-        'frames: while self.has_next(size, bytes.len() - at, slots) {
-            self.write_frame(&bytes[at..at + size], first, &mut near, part, memory);
-            at += size;
+        self.write_frame(&bytes[..frame_size], first, &mut near, part, memory);
+        let mut at = frame_size;
+        'frames: while self.has_next(frame_size, bytes.len() - at, frame_limit) {
+            self.write_frame(&bytes[at..at + frame_size], first, &mut near, part, memory);
+            at += frame_size;
         }
         at
     }
 
-    /// Whether a whole frame of `size` bytes is left, and the next frame has one of the `slots` slots.
-    fn has_next(&self, size: usize, left: usize, slots: u64) -> bool
-        ensures { IsTrue result → (size ≤ left) × (self.now.frame_count < slots) }
+    /// Whether a whole frame of `frame_size` bytes is left, and the run may have it: it has up to `frame_limit` frames.
+    fn has_next(&self, frame_size: usize, bytes_left: usize, frame_limit: u64) -> bool
+        ensures { IsTrue result → (frame_size ≤ bytes_left) × (self.now.frame_count < frame_limit) }
     {
-        size <= left && self.frame_count < slots
+        frame_size <= bytes_left && self.frame_count < frame_limit
     }
 
     /// Puts the newest whole frame, and holds the next one. `first` slots stand before those from the base on, and
@@ -286,18 +288,18 @@ impl Pipeline {
         part: &Part,
         memory: &mut Memory,
     )
-        requires part { AreOf part.now self.old memory.old }
+        requires part { AreOfPart part.now self.old memory.old }
         requires frame { length bytes.now ≡ 4 * self.old.width }
         requires slot { self.old.frame_count < length (slots_from part.now self.old.base) }
         requires limit { length (slots_from part.now self.old.base) < 2 ^ 31 }
         requires place { StartsAt part.now self.old.base first }
-        ensures held { self.new ≡ record self.old { newest = Some (words_of_bytes bytes.now); frame_count = self.old.frame_count + 1 } }
+        ensures newest { self.new ≡ record self.old { newest = Some (words_of_bytes bytes.now); frame_count = self.old.frame_count + 1 } }
         ensures none { self.old.newest ≡ None → memory.new ≡ memory.old }
         ensures put { PutsNewest part.now self.old (frame_at part.now memory.old) (frame_at part.now memory.new) }
-        ensures part { AreOf part.now self.new memory.new }
+        ensures part { AreOfPart part.now self.new memory.new }
     {
-        self.put_held(first, near, part, memory);
-        hold(&mut self.held, bytes);
+        self.put_newest(first, near, part, memory);
+        set_words(&mut self.newest, bytes);
         self.frame_count += 1;
     }
 
@@ -305,13 +307,13 @@ impl Pipeline {
     fn writes_nowhere(&self, part: &Part) -> bool
         ensures { result ≡ ((self.now.frame_count == 0) && (length self.now.rest == 0) && not (has_frame_at part.now self.now.base)) }
     {
-        self.frame_count == 0 && self.rest.is_empty() && !is_base(part, self.base)
+        self.frame_count == 0 && self.rest.is_empty() && !has_frame_at(part, self.base)
     }
 
     /// Puts the newest whole frame, where there is one and its slot is an address. `first` slots stand before those
     /// from the base on, and `near` keeps where the part looks for a slot first.
-    fn put_held(&self, first: u64, near: &mut usize, part: &Part, memory: &mut Memory)
-        requires part { AreOf part.now self.now memory.old }
+    fn put_newest(&self, first: u64, near: &mut usize, part: &Part, memory: &mut Memory)
+        requires part { AreOfPart part.now self.now memory.old }
         requires slot { self.now.frame_count < length (slots_from part.now self.now.base) }
         requires limit { length (slots_from part.now self.now.base) < 2 ^ 31 }
         requires place { StartsAt part.now self.now.base first }
@@ -323,19 +325,19 @@ impl Pipeline {
             return;
         }
         if let Some(rank) = part.rank_at(first + (self.frame_count - 1), near) {
-            memory.put_at_rank(part, rank, &self.held);
+            memory.put_at_rank(part, rank, &self.newest);
         }
     }
 
     /// A copy, which is a word written to MFWR: the source is put at the base.
     pub fn copy(&mut self, part: &Part, memory: &mut Memory) -> Result<(), RunFault>
-        requires part { AreOf part.now self.old memory.old }
+        requires part { AreOfPart part.now self.old memory.old }
         ensures put { OnOk result (OfFlow part.now self.old (λ f. AreSame (frame_at part.now memory.new) (put_over (copied_by f) (frame_at part.now memory.old)))) }
         ensures fault { OfFlow part.now self.old (λ f. result_err result ≡ fault_of_copy part.now f) }
 
         // Whatever the answer.
         ensures same { self.new ≡ self.old }
-        ensures part { AreOf part.now self.new memory.new }
+        ensures part { AreOfPart part.now self.new memory.new }
 
         // After a fault.
         ensures unchanged { OnErr result (memory.new ≡ memory.old) }
@@ -343,7 +345,7 @@ impl Pipeline {
         if !self.may_copy() {
             return Err(RunFault::Multi);
         }
-        if !is_base(part, self.base) {
+        if !has_frame_at(part, self.base) {
             return Err(RunFault::Address(self.base));
         }
         memory.put(part, self.base, &self.source);
@@ -362,7 +364,7 @@ impl Pipeline {
 
     /// The next word of a readback under RCFG.
     pub fn read_word(&mut self, part: &Part, memory: &Memory) -> Result<u32, RunFault>
-        requires part { AreOf part.now self.old memory.now }
+        requires part { AreOfPart part.now self.old memory.now }
         ensures word { IfOk result (λ word. OfFlow part.now self.old (λ f. word ≡ readback_at part.now f.base (frame_at part.now memory.now) f.given)) }
         ensures stands { OnOk result (FlowGoesOn part.now self.old self.new (after_reads 1)) }
         ensures fault { OfFlow part.now self.old (λ f. result_err result ≡ readback_fault part.now f.base f.given) }
@@ -377,7 +379,7 @@ impl Pipeline {
             return Err(RunFault::Address(self.base));
         }
         let word = self.word(part, memory);
-        self.step(part);
+        self.pass_word(part);
         Ok(word)
     }
 
@@ -395,12 +397,12 @@ impl Pipeline {
     fn reads_nowhere(&self, part: &Part) -> bool
         ensures { result ≡ ((self.now.given == 0) && not (has_frame_at part.now self.now.base)) }
     {
-        self.given == 0 && !is_base(part, self.base)
+        self.given == 0 && !has_frame_at(part, self.base)
     }
 
-    /// The word at the place that the readback is at.
+    /// The next word of the readback, which is one of the frame at its slot, and 0 at a pad and past the last slot.
     fn word(&self, part: &Part, memory: &Memory) -> u32
-        requires part { AreOf part.now self.now memory.now }
+        requires part { AreOfPart part.now self.now memory.now }
         ensures { result ≡ word_at self.now.slot (frame_at part.now memory.now) (self.now.given % self.now.width) }
     {
         let Slot::Frame(far) = self.slot else {
@@ -412,8 +414,8 @@ impl Pipeline {
         }
     }
 
-    /// Counts a word that was given. The slot changes at the end of a frame alone.
-    fn step(&mut self, part: &Part)
+    /// Counts one word more that a readback gave. The slot changes at the end of a frame alone.
+    fn pass_word(&mut self, part: &Part)
         ensures stands { FlowGoesOn part.now self.old self.new (after_reads 1) }
         ensures part { IsPipelineOf part.now self.old → IsPipelineOf part.now self.new }
     {
@@ -426,7 +428,7 @@ impl Pipeline {
         if self.given % u64::from(self.width) != 0 {
             return;
         }
-        self.slot = slot_read(part, self.base, self.given / u64::from(self.width));
+        self.slot = readback_slot(part, self.base, self.given / u64::from(self.width));
     }
 
     /// Passes over `n` words of a readback, as `n` calls of `read_word` would.
@@ -446,17 +448,17 @@ impl Pipeline {
         if self.reads_nowhere(part) {
             return Err(RunFault::Address(self.base));
         }
-        self.pass(n, part);
+        self.pass_words(n, part);
         Ok(())
     }
 
-    /// Counts words that were given.
-    fn pass(&mut self, n: u32, part: &Part)
+    /// Counts `n` words more that a readback gave.
+    fn pass_words(&mut self, n: u32, part: &Part)
         ensures { self.new ≡ passed part.now self.old n }
     {
         let limit = u64::from(self.width) * (1 + slot_count(part, self.base));
         self.given = self.given.saturating_add(u64::from(n)).min(limit);
-        self.slot = slot_read(part, self.base, self.given / u64::from(self.width));
+        self.slot = readback_slot(part, self.base, self.given / u64::from(self.width));
     }
 
     /// The frame address register as it is read.
@@ -490,7 +492,7 @@ fn begins_copies(old: Command, new: Command) -> bool
 fn push_word(words: &mut Vec<u32>, word: u32)
     requires { vec_len words.old + 1 ≤ vec_capacity words.old }
     ensures items { words.new.items ≡ words.old.items ++ word ∷ [] }
-    ensures len { vec_len words.new ≡ vec_len words.old + 1 }
+    ensures count { vec_len words.new ≡ vec_len words.old + 1 }
     ensures room { vec_capacity words.old ≤ vec_capacity words.new }
 {
     match words.push(word) {
@@ -499,18 +501,18 @@ fn push_word(words: &mut Vec<u32>, word: u32)
     }
 }
 
-/// Makes a vector with room the words of these bytes.
-fn hold(words: &mut Vec<u32>, bytes: &[u8])
+/// Makes the vector, which has room for them, hold the words of these bytes, four bytes each.
+fn set_words(words: &mut Vec<u32>, bytes: &[u8])
     requires room { length bytes.now / 4 ≤ vec_capacity words.old }
     ensures items { words.new.items ≡ words_of_bytes bytes.now }
     ensures room { vec_capacity words.old ≤ vec_capacity words.new }
 {
-    set_len(words, bytes.len() / 4);
+    set_count(words, bytes.len() / 4);
     read_words(words, bytes);
 }
 
-/// Makes a vector with room have `count` words.
-fn set_len(words: &mut Vec<u32>, count: usize)
+/// Makes the vector, which has room for them, have `count` words.
+fn set_count(words: &mut Vec<u32>, count: usize)
     requires room { count ≤ vec_capacity words.old }
     ensures count { length words.new.items ≡ count }
     ensures room { vec_capacity words.old ≤ vec_capacity words.new }

@@ -7,7 +7,7 @@ ghost use Rattle.x7_pipeline.specs.FarAsRead.{far_at as address_at, last_address
 use x7_part::{Part, Slot};
 
 /// Whether the part has a frame at the address.
-pub(crate) fn is_base(part: &Part, far: u32) -> bool
+pub(crate) fn has_frame_at(part: &Part, far: u32) -> bool
     ensures { result ≡ has_frame_at part.now far }
 {
     part.is_address(far)
@@ -39,7 +39,7 @@ pub(crate) fn slot_at(part: &Part, far: u32, n: u64) -> Slot
 }
 
 /// The slot of frame `frame` of a readback, from 0 on: a pad, and then the slots from the address on.
-pub(crate) fn slot_read(part: &Part, far: u32, frame: u64) -> Slot
+pub(crate) fn readback_slot(part: &Part, far: u32, frame: u64) -> Slot
     ensures { result ≡ slice_index_or (Slot.Pad ∷ slots_from part.now far) frame Slot.End }
 {
     if frame == 0 {

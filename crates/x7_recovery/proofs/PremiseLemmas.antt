@@ -114,7 +114,7 @@ slots_are : length (slots_in tiny) ≡ 8
 unfolding slots addresses
 slots_are = refl
 
-full_long : (part : PartData) (plan : PlanData) → IsPart part → IsPlanFor part plan → length (full_stream part plan) ≡ 4 * (55 + part.words * length (slots_in part))
+full_long : (part : PartData) (plan : PlanData) → IsPart part → IsPlanFor part plan → length (full_stream part plan) ≡ 4 * (55 + part.frame_words * length (slots_in part))
 full_long part plan is for = ap length (full_same part plan is for.is_plan for.width) ∙ full_length part plan for.is_plan for.width
 
 pub tiny_image : HasImage tiny nothing_planned []

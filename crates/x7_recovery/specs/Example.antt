@@ -12,7 +12,7 @@ tiny = record {
   bus_width = 0;
   lock = 0;
   matched = 0;
-  words = 101;
+  frame_words = 101;
   far = record { minor = 7; column = 10; row = 5; half = 1; block = 3 };
   start_unit = 1;
   rows = record { block = 0; half = 0; row = 0; minors = 2 ∷ [] } ∷ record { block = 0; half = 1; row = 0; minors = 2 ∷ [] } ∷ [];

@@ -5,12 +5,12 @@ ghost use Rattle.x7_part.specs.AddressOrder.{addresses_in};
 ghost use Rattle.x7_memory.specs.FrameMap.{AreSame};
 ghost use Rattle.x7_memory.specs.Frames.{AreFramesOf, frame_at};
 ghost use Rattle.x7_pipeline.specs.Flow.{HoldsFlow, first_flow};
-ghost use Rattle.x7_pipeline.specs.Pipeline.{AreOf, IsPipelineOf};
+ghost use Rattle.x7_pipeline.specs.Pipeline.{AreOfPart, IsPipelineOf};
 ghost use Rattle.x7_pipeline.specs.Runs.{put_over};
 ghost use Rattle.x7_pipeline.specs.Saved.{IsPairOf, IsSavedOf, address_at_slot, next_put, pair_at, put_by_copy, put_by_word};
 
 use super::Pipeline;
-use crate::place::{is_base, slot_at};
+use crate::place::{has_frame_at, slot_at};
 use std::alloc::Global;
 use std::marker::Model;
 use x7_memory::Memory;
@@ -21,25 +21,27 @@ use x7_words::NoMemory;
 #[derive(Drop)]
 pub struct Saved {
     pipeline: Pipeline,
+    /// Whether a frame is kept.
     has_frame: bool,
-    /// The address of the frame, where `has_frame`.
+    /// The address of the kept frame, where `has_frame`.
     far: u32,
+    /// The words of the kept frame, where `has_frame`.
     frame: Vec<u32>,
 }
 
 impl Model for Saved {
     ghost use Rattle.std.specs.Prelude.{◌≤◌, vec_capacity};
-    ghost use Rattle.x7_pipeline.specs.Saved.{SavedState, pair_held};
+    ghost use Rattle.x7_pipeline.specs.Saved.{SavedState, pair_seen};
 
     ghost Value = { SavedState };
 
-    ghost view = { λ s. record { pipeline = s.pipeline; pair = pair_held s.has_frame s.far s.frame.items } };
+    ghost view = { λ s. record { pipeline = s.pipeline; pair = pair_seen s.has_frame s.far s.frame.items } };
 
     ghost invariant = { λ s. s.pipeline.width ≤ vec_capacity s.frame };
 }
 
-/// The address of a slot.
-fn address(slot: Slot) -> Option<u32>
+/// The address of a slot, none at a pad and past the last slot.
+fn address_at_slot(slot: Slot) -> Option<u32>
     ensures { result ≡ address_at_slot slot }
 {
     match slot {
@@ -49,11 +51,11 @@ fn address(slot: Slot) -> Option<u32>
     }
 }
 
-/// Writes words over others, for which there is room.
+/// Makes the vector, which has room for them, hold the words.
 fn copy_words(words: &mut Vec<u32>, from: &[u32])
     requires { length from.now ≤ vec_capacity words.old }
     ensures items { words.new.items ≡ from.now }
-    ensures len { vec_len words.new ≡ length from.now }
+    ensures count { vec_len words.new ≡ length from.now }
     ensures room { vec_capacity words.old ≤ vec_capacity words.new }
 {
     words.clear();
@@ -63,21 +65,21 @@ fn copy_words(words: &mut Vec<u32>, from: &[u32])
     }
 }
 
-/// Writes words over others, for which there is room, where `some` says that there are any.
-fn copy_some(words: &mut Vec<u32>, from: &[u32], some: bool)
-    requires { some ≡ true → length from.now ≤ vec_capacity words.old }
-    ensures items { some ≡ true → words.new.items ≡ from.now }
-    ensures len { some ≡ true → vec_len words.new ≡ length from.now }
+/// Makes the vector, which has room for them, hold the words, where `has_words` says that there are any.
+fn copy_some(words: &mut Vec<u32>, from: &[u32], has_words: bool)
+    requires { has_words ≡ true → length from.now ≤ vec_capacity words.old }
+    ensures items { has_words ≡ true → words.new.items ≡ from.now }
+    ensures count { has_words ≡ true → vec_len words.new ≡ length from.now }
     ensures room { vec_capacity words.old ≤ vec_capacity words.new }
 {
-    if some {
+    if has_words {
         copy_words(words, from);
     }
 }
 
 impl Saved {
-    /// Takes room for a pipeline of this part and a frame. What is kept at first is a new pipeline,
-    /// and no frame. No other call takes memory.
+    /// Takes room for a pipeline of this part and a frame. What is kept at first is a new pipeline, and no frame. No
+    /// other call takes memory.
     pub fn new(alloc: Global, part: &Part) -> Result<Saved, NoMemory>
         ensures pipeline { IfOk result (λ saved. HoldsFlow part.now saved.pipeline first_flow) }
         ensures pair { IfOk result (λ saved. saved.pair ≡ []) }
@@ -137,7 +139,7 @@ impl Pipeline {
         self.command = other.command;
         self.base = other.base;
         copy_words(&mut self.rest, &other.rest);
-        copy_some(&mut self.held, &other.held, other.frame_count > 0);
+        copy_some(&mut self.newest, &other.newest, other.frame_count > 0);
         self.frame_count = other.frame_count;
         copy_some(&mut self.source, &other.source, other.has_source);
         self.has_source = other.has_source;
@@ -145,7 +147,7 @@ impl Pipeline {
         self.slot = other.slot;
     }
 
-    /// Where the next word would put a frame.
+    /// The address where the next word of a run would put a frame, none where it would put none.
     fn put_by_word(&self, part: &Part) -> Option<u32>
         ensures value { result ≡ put_by_word part.now self.now }
         ensures address { IfSome result (Contains (addresses_in part.now)) }
@@ -156,22 +158,22 @@ impl Pipeline {
         if self.frame_count == 0 {
             return None;
         }
-        address(slot_at(part, self.base, self.frame_count - 1))
+        address_at_slot(slot_at(part, self.base, self.frame_count - 1))
     }
 
-    /// Where a copy would put a frame.
+    /// The address where a copy would put a frame, none where the base is no address.
     fn put_by_copy(&self, part: &Part) -> Option<u32>
         ensures value { result ≡ put_by_copy part.now self.now }
         ensures address { IfSome result (Contains (addresses_in part.now)) }
     {
-        if is_base(part, self.base) {
+        if has_frame_at(part, self.base) {
             Some(self.base)
         } else {
             None
         }
     }
 
-    /// Where the next word or copy would put a frame.
+    /// The address where the next word, or under MFW the next copy, would put a frame, none where it would put none.
     fn next_put(&self, part: &Part) -> Option<u32>
         ensures value { result ≡ next_put part.now self.now }
         ensures address { IfSome result (Contains (addresses_in part.now)) }
@@ -184,7 +186,7 @@ impl Pipeline {
 
     /// Keeps the pipeline and, where the next word or copy would put a frame, that address and its frame in the memory.
     pub fn save(&self, part: &Part, memory: &Memory, into: &mut Saved)
-        requires part { AreOf part.now self.now memory.now }
+        requires part { AreOfPart part.now self.now memory.now }
         requires saved { IsSavedOf part.now into.old }
         ensures pipeline { into.new.pipeline ≡ self.now }
         ensures pair { into.new.pair ≡ pair_at (frame_at part.now memory.now) (next_put part.now self.now) }
@@ -194,10 +196,10 @@ impl Pipeline {
         into.keep_frame(part, memory, self.next_put(part));
     }
 
-    /// Makes this pipeline the kept one, and puts the kept frame into the memory,
-    /// where there is one. Every other frame stays.
+    /// Makes this pipeline the kept one, and puts the kept frame into the memory, where there is one. Every other frame
+    /// stays.
     pub fn restore(&mut self, part: &Part, memory: &mut Memory, from: &Saved)
-        requires part { AreOf part.now self.old memory.old }
+        requires part { AreOfPart part.now self.old memory.old }
         requires saved { IsSavedOf part.now from.now }
         ensures pipeline { self.new ≡ from.now.pipeline }
         ensures put { AreSame (frame_at part.now memory.new) (put_over from.now.pair (frame_at part.now memory.old)) }

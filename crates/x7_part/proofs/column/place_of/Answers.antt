@@ -6,22 +6,22 @@ pub overflow_add-result : goal.overflow_add-result
 overflow_add-result c =
     let at = c.in-Some.ensures.found in
     let low = (at.1 nothing).0 in let high = (at.1 nothing).1 in
-    let e = slot_ends 0 0 0 c.args.columns.now c.requires.columns.table c.in-Some.place nothing at.0 in
+    let e = slot_ends 0 0 0 c.args.columns.now c.requires.columns.table c.in-Some.index nothing at.0 in
     record { fits = omega arith }
 
 pub returns-clause-within : goal.returns-clause-within
 returns-clause-within c =
     let at = c.in-Some.ensures.found in
     let low = (at.1 nothing).0 in let high = (at.1 nothing).1 in
-    let e = slot_ends 0 0 0 c.args.columns.now c.requires.columns.table c.in-Some.place nothing at.0 in
+    let e = slot_ends 0 0 0 c.args.columns.now c.requires.columns.table c.in-Some.index nothing at.0 in
     omega arith
 
-pub returns-clause-slot : goal.returns-clause-slot
-returns-clause-slot c n =
+pub returns-clause-slots : goal.returns-clause-slots
+returns-clause-slots c n =
     let at = c.in-Some.ensures.found in
-    rw c.from.ensures (slot_after_is c.args.columns.now c.requires.columns.table c.in-Some.place c.args.far n nothing at.0 (at.1 nothing).0 (at.1 nothing).1)
+    rw c.from.ensures (slot_after_is c.args.columns.now c.requires.columns.table c.in-Some.index c.args.far n nothing at.0 (at.1 nothing).0 (at.1 nothing).1)
 
-pub returns-clause-left : goal.returns-clause-left
-returns-clause-left c =
+pub returns-clause-slots_left : goal.returns-clause-slots_left
+returns-clause-slots_left c =
     let at = c.in-Some.ensures.found in
-    rw c.from.ensures (slots_from_is c.args.columns.now c.requires.columns.table c.in-Some.place c.args.far nothing at.0 (at.1 nothing).0 (at.1 nothing).1)
+    rw c.from.ensures (slots_from_is c.args.columns.now c.requires.columns.table c.in-Some.index c.args.far nothing at.0 (at.1 nothing).0 (at.1 nothing).1)

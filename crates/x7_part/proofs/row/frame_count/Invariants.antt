@@ -6,6 +6,6 @@ use Rattle.x7_part.proofs.row.frame_count.Given as goal
 
 abbrev pub invariant-loop-row : goal.invariant-loop-row
 invariant-loop-row l = record {
-  sum : l.frames ≡ sum_by (λ r. sum r.minors) (take l.row-index l.rows);
-  bound : l.frames ≤ 255 * most_columns * l.row-index;
+  sum : l.total ≡ sum_by (λ r. sum r.minors) (take l.row-index l.rows);
+  bound : l.total ≤ 255 * most_columns * l.row-index;
 }

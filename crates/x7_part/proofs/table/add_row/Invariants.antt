@@ -4,7 +4,7 @@ use Rattle.x7_part.proofs.table.add_row.Given as goal
 
 abbrev pub invariant-loop-column : goal.invariant-loop-column
 invariant-loop-column l = record {
-  columns : l.columns.items ++ row_columns l.pitch l.base l.column l.rank l.slot (drop l.column l.minors) ≡ l.fn.columns.items ++ row_columns l.fn.pitch l.fn.base 0 l.fn.rank l.fn.slot l.fn.minors;
+  columns : l.columns.items ++ row_columns l.pitch l.base l.column l.rank l.place (drop l.column l.minors) ≡ l.fn.columns.items ++ row_columns l.fn.pitch l.fn.base 0 l.fn.rank l.fn.place l.fn.minors;
   rank : l.rank ≤ l.fn.rank + 255 * l.column;
-  slot : l.slot ≤ l.fn.slot + 255 * l.column;
+  place : l.place ≤ l.fn.place + 255 * l.column;
 }

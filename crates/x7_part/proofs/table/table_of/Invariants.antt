@@ -5,7 +5,7 @@ use Rattle.x7_part.proofs.table.table_of.Given as goal
 
 abbrev pub invariant-loop-row : goal.invariant-loop-row
 invariant-loop-row l = record {
-  columns : l.columns.items ++ columns_of l.far l.rank l.slot (drop l.row-index l.rows) ≡ columns_of l.far 0 0 l.rows;
-  rank : l.rank + length (addresses l.far (drop l.row-index l.rows)) ≡ length (addresses l.far l.rows);
-  slot : l.slot ≤ l.rank + 2 * l.row-index;
+  columns : l.columns.items ++ columns_of l.fields l.rank l.place (drop l.row-index l.rows) ≡ columns_of l.fields 0 0 l.rows;
+  rank : l.rank + length (addresses l.fields (drop l.row-index l.rows)) ≡ length (addresses l.fields l.rows);
+  place : l.place ≤ l.rank + 2 * l.row-index;
 }

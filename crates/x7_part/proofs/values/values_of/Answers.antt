@@ -87,10 +87,10 @@ returns-in_err-number_or-5-clause-fault c =
 pub returns-in_err-number_or-5-clause-unnamed : goal.returns-in_err-number_or-5-clause-unnamed
 returns-in_err-number_or-5-clause-unnamed c h = absurd (not_given _ (Key (top key.Name)) (c.in_ok-text.ensures.missing h))
 
-pub returns-in_err-numbers-clause-fault : goal.returns-in_err-numbers-clause-fault
+pub returns-in_err-numbers_under-clause-fault : goal.returns-in_err-numbers_under-clause-fault
 unfolding type_fault
-returns-in_err-numbers-clause-fault c =
-    due_or_memory c.from_residual-in_err-numbers.result c.in_err-numbers.field-0.0 _ c.from_residual-in_err-numbers.ensures
+returns-in_err-numbers_under-clause-fault c =
+    due_or_memory c.from_residual-in_err-numbers_under.result c.in_err-numbers_under.field-0.0 _ c.from_residual-in_err-numbers_under.ensures
     (or_memory _ _ _ (λ e. rw (
       c.in_ok-text.ensures.fault,
       ← c.in_ok-number.ensures.fault,
@@ -100,10 +100,10 @@ returns-in_err-numbers-clause-fault c =
       ← c.in_ok-number_or-4.ensures.fault,
       ← c.in_ok-number_or-5.ensures.fault,
       e,
-    ) refl) c.in_err-numbers.ensures.fault)
+    ) refl) c.in_err-numbers_under.ensures.fault)
 
-pub returns-in_err-numbers-clause-unnamed : goal.returns-in_err-numbers-clause-unnamed
-returns-in_err-numbers-clause-unnamed c h = absurd (not_given _ (Key (top key.Name)) (c.in_ok-text.ensures.missing h))
+pub returns-in_err-numbers_under-clause-unnamed : goal.returns-in_err-numbers_under-clause-unnamed
+returns-in_err-numbers_under-clause-unnamed c h = absurd (not_given _ (Key (top key.Name)) (c.in_ok-text.ensures.missing h))
 
 pub returns-in_err-number_or-6-clause-fault : goal.returns-in_err-number_or-6-clause-fault
 unfolding type_fault
@@ -117,17 +117,17 @@ returns-in_err-number_or-6-clause-fault c =
       ← c.in_ok-number_or-3.ensures.fault,
       ← c.in_ok-number_or-4.ensures.fault,
       ← c.in_ok-number_or-5.ensures.fault,
-      c.in_ok-numbers.ensures.fault,
+      c.in_ok-numbers_under.ensures.fault,
       ← c.in_err-number_or-6.ensures.fault,
     ) refl)
 
 pub returns-in_err-number_or-6-clause-unnamed : goal.returns-in_err-number_or-6-clause-unnamed
 returns-in_err-number_or-6-clause-unnamed c h = absurd (not_given _ (Key (top key.Name)) (c.in_ok-text.ensures.missing h))
 
-pub returns-in_err-rows-clause-fault : goal.returns-in_err-rows-clause-fault
+pub returns-in_err-row_tables-clause-fault : goal.returns-in_err-row_tables-clause-fault
 unfolding type_fault
-returns-in_err-rows-clause-fault c =
-    due_or_memory c.from_residual-in_err-rows.result c.in_err-rows.field-0.0 _ c.from_residual-in_err-rows.ensures
+returns-in_err-row_tables-clause-fault c =
+    due_or_memory c.from_residual-in_err-row_tables.result c.in_err-row_tables.field-0.0 _ c.from_residual-in_err-row_tables.ensures
     (or_memory _ _ _ (λ e. rw (
       c.in_ok-text.ensures.fault,
       ← c.in_ok-number.ensures.fault,
@@ -136,13 +136,13 @@ returns-in_err-rows-clause-fault c =
       ← c.in_ok-number_or-3.ensures.fault,
       ← c.in_ok-number_or-4.ensures.fault,
       ← c.in_ok-number_or-5.ensures.fault,
-      c.in_ok-numbers.ensures.fault,
+      c.in_ok-numbers_under.ensures.fault,
       ← c.in_ok-number_or-6.ensures.fault,
       e,
-    ) refl) c.in_err-rows.ensures.fault)
+    ) refl) c.in_err-row_tables.ensures.fault)
 
-pub returns-in_err-rows-clause-unnamed : goal.returns-in_err-rows-clause-unnamed
-returns-in_err-rows-clause-unnamed c h = absurd (not_given _ (Key (top key.Name)) (c.in_ok-text.ensures.missing h))
+pub returns-in_err-row_tables-clause-unnamed : goal.returns-in_err-row_tables-clause-unnamed
+returns-in_err-row_tables-clause-unnamed c h = absurd (not_given _ (Key (top key.Name)) (c.in_ok-text.ensures.missing h))
 
 pub returns-in_err-rows_values-clause-unnamed : goal.returns-in_err-rows_values-clause-unnamed
 returns-in_err-rows_values-clause-unnamed c h = absurd (not_given _ (Key (top key.Name)) (c.in_ok-text.ensures.missing h))

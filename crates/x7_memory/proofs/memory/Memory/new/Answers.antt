@@ -6,17 +6,17 @@ use Rattle.x7_memory.proofs.memory.Memory.new.Goals as goal
 pub invariant_of-result : goal.invariant_of-result
 invariant_of-result c =
     let least = c.words-width.ensures.least in
-    none_room _ c.words-width.result c.frames-count.result (omega arith) c.words-width.ensures.most c.frames-count.ensures.limit refl refl c.in_ok-words.ensures.items c.in_ok-numbers.ensures.items
+    none_room _ c.words-width.result c.frames-frame_count.result (omega arith) c.words-width.ensures.most c.frames-frame_count.ensures.most refl refl c.in_ok-words.ensures.items c.in_ok-numbers.ensures.items
     c.in_ok-words.ensures.room
 
 pub returns-clause-zeros : goal.returns-clause-zeros
 returns-clause-zeros c =
-    none_seen c.words-width.result c.frames-count.result c.in_ok-words.words.items c.in_ok-numbers.numbers.items c.in_ok-words.ensures.items c.in_ok-numbers.ensures.items
-    ∙ new_zeros c.args.part.now c.words-width.result c.frames-count.result c.words-width.ensures.value c.frames-count.ensures.value
+    none_seen c.words-width.result c.frames-frame_count.result c.in_ok-words.words.items c.in_ok-numbers.numbers.items c.in_ok-words.ensures.items c.in_ok-numbers.ensures.items
+    ∙ new_zeros c.args.part.now c.words-width.result c.frames-frame_count.result c.words-width.ensures.value c.frames-frame_count.ensures.value
 
 pub returns-clause-part : goal.returns-clause-part
 returns-clause-part c =
     subst (λ frames. AreFramesOf c.args.part.now frames)
-    (sym (none_seen c.words-width.result c.frames-count.result c.in_ok-words.words.items c.in_ok-numbers.numbers.items c.in_ok-words.ensures.items c.in_ok-numbers.ensures.items
-    ∙ new_zeros c.args.part.now c.words-width.result c.frames-count.result c.words-width.ensures.value c.frames-count.ensures.value))
-    (zeros_are c.args.part.now c.frames-count.ensures.order)
+    (sym (none_seen c.words-width.result c.frames-frame_count.result c.in_ok-words.words.items c.in_ok-numbers.numbers.items c.in_ok-words.ensures.items c.in_ok-numbers.ensures.items
+    ∙ new_zeros c.args.part.now c.words-width.result c.frames-frame_count.result c.words-width.ensures.value c.frames-frame_count.ensures.value))
+    (zeros_are c.args.part.now c.frames-frame_count.ensures.order)

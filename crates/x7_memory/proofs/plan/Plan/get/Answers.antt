@@ -12,7 +12,7 @@ returns-in-Ok-clause-found c =
     ∙ ap Some (sym (c.words.ensures.value no_row))
 
 pub returns-in-Err-clause-none : goal.returns-in-Err-clause-none
-returns-in-Err-clause-none c = gap_unlisted c.args.self.now.rows c.args.far c.in-Err.field-0 c.in-Err.ensures.gap
+returns-in-Err-clause-none c = gap_unlisted c.args.self.now.rows c.args.far c.in-Err.field-0 c.in-Err.ensures.insert_place
 
 pub returns-in-Err-clause-nothing : goal.returns-in-Err-clause-nothing
-returns-in-Err-clause-nothing c = gap_none c.args.self.now.rows c.args.far c.in-Err.field-0 c.in-Err.ensures.gap
+returns-in-Err-clause-nothing c = gap_none c.args.self.now.rows c.args.far c.in-Err.field-0 c.in-Err.ensures.insert_place

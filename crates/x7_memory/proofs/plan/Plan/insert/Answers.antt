@@ -9,17 +9,17 @@ returns-in-Ok-clause-answer c = (λ e. place_listed c.args.self.now.rows c.args.
 
 pub returns-in_ok-insert_at-in-Err-clause-answer : goal.returns-in_ok-insert_at-in-Err-clause-answer
 returns-in_ok-insert_at-in-Err-clause-answer c =
-    (λ e. absurd (false≢true (sym e)), λ has. absurd (gap_unlisted c.args.self.now.rows c.args.far c.in-Err.place c.in-Err.ensures.gap has))
+    (λ e. absurd (false≢true (sym e)), λ has. absurd (gap_unlisted c.args.self.now.rows c.args.far c.in-Err.place c.in-Err.ensures.insert_place has))
 
 pub returns-in_ok-insert_at-in-Err-clause-frames : goal.returns-in_ok-insert_at-in-Err-clause-frames
 returns-in_ok-insert_at-in-Err-clause-frames c e a =
-    let gap = c.in-Err.ensures.gap in
+    let gap = c.in-Err.ensures.insert_place in
     ap (λ rows. planned rows a) c.in_ok-insert_at-in-Err.ensures.added
     ∙ planned_insert c.args.self.now.rows c.in-Err.place record { far = c.args.far; words = c.args.words.now } a gap.inside
     (λ j h. gap_free c.args.self.now.rows c.args.far c.in-Err.place gap j (let k = gap.inside in omega arith))
 
 pub returns-in_ok-insert_at-in-Err-clause-certain : goal.returns-in_ok-insert_at-in-Err-clause-certain
-returns-in_ok-insert_at-in-Err-clause-certain c has = absurd (gap_unlisted c.args.self.now.rows c.args.far c.in-Err.place c.in-Err.ensures.gap has)
+returns-in_ok-insert_at-in-Err-clause-certain c has = absurd (gap_unlisted c.args.self.now.rows c.args.far c.in-Err.place c.in-Err.ensures.insert_place has)
 
 pub returns-in_err-insert_at-in-Err-clause-certain : goal.returns-in_err-insert_at-in-Err-clause-certain
-returns-in_err-insert_at-in-Err-clause-certain c has = absurd (gap_unlisted c.args.self.now.rows c.args.far c.in-Err.place c.in-Err.ensures.gap has)
+returns-in_err-insert_at-in-Err-clause-certain c has = absurd (gap_unlisted c.args.self.now.rows c.args.far c.in-Err.place c.in-Err.ensures.insert_place has)

@@ -1,12 +1,12 @@
 use Rattle.std.proofs.Common.{◌∙◌, ap, sym, subst, arith}
 use Rattle.x7_words.specs.Word.{AreWords}
-use Rattle.x7_memory.specs.Places.{IsGap}
+use Rattle.x7_memory.specs.Places.{IsInsertPlace}
 use Rattle.x7_memory.proofs.PlanLemmas.{plan_insert, words_by_place}
 use Rattle.x7_memory.proofs.plan.Plan.insert_at.Goals as goal
 
 pub invariant_of-self-2 : goal.invariant_of-self-2
 invariant_of-self-2 c =
-    let gap = subst (λ plan. IsGap plan.rows c.args.far c.args.place) (sym c.self.view_is) c.requires.gap in
+    let gap = subst (λ plan. IsInsertPlace plan.rows c.args.far c.args.place) (sym c.self.view_is) c.requires.insert_place in
     let width = c.requires.width ∙ ap (λ plan. plan.width) (sym c.self.view_is) in
     let fits : AreWords c.args.words.now = words_by_place c.args.words.now (λ i h. (c.type_inv.words i).fits) in
     let far = c.ranges.far.fits in

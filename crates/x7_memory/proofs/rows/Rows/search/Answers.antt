@@ -12,8 +12,8 @@ returns-clause-found c =
     let order : AreInOrder (rows_in c.self.inside.width c.self.inside.words.items c.self.inside.rows.items) = subst (λ plan. AreInOrder plan.rows) (sym c.self.view_is) c.requires in
     rw (← c.self.view_is, ← c.deref.ensures.value) (searched c.self.inside.width c.self.inside.words.items _ (rw c.deref.ensures.value order) c.args.far _ facts.bound by_key).0
 
-pub returns-clause-gap : goal.returns-clause-gap
-returns-clause-gap c =
+pub returns-clause-insert_place : goal.returns-clause-insert_place
+returns-clause-insert_place c =
     let facts = c.binary_search_by_key.ensures in
     let by_key = facts.position (λ row. row.far) (answers_always _ _ _ (λ f a r g called. search rules)) in
     let order : AreInOrder (rows_in c.self.inside.width c.self.inside.words.items c.self.inside.rows.items) = subst (λ plan. AreInOrder plan.rows) (sym c.self.view_is) c.requires in

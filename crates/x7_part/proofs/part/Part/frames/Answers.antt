@@ -10,8 +10,8 @@ returns-clause-some c =
     let of = c.table.ensures in
     rw (c.frame_count.ensures, of.addresses) (some_address c.args.self.now.far 0 c.args.self.now.rows of.is_part.rows of.is_part.some)
 
-pub returns-clause-limit : goal.returns-clause-limit
-returns-clause-limit c = let of = c.table.ensures in rw (c.frame_count.ensures, of.addresses) of.is_part.frames
+pub returns-clause-most : goal.returns-clause-most
+returns-clause-most c = let of = c.table.ensures in rw (c.frame_count.ensures, of.addresses) of.is_part.frames
 
 pub returns-clause-order : goal.returns-clause-order
 returns-clause-order c = let of = c.table.ensures in part_rises _ _ of.is_part.far of.is_part.rows

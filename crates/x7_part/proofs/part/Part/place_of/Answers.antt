@@ -7,7 +7,7 @@ pub returns-clause-within : goal.returns-clause-within
 returns-clause-within c = rw (← c.table.ensures.slots) c.place_of.ensures.within
 
 pub returns-clause-slots : goal.returns-clause-slots
-returns-clause-slots c = rw (← c.table.ensures.slots) c.place_of.ensures.slot
+returns-clause-slots c = rw (← c.table.ensures.slots) c.place_of.ensures.slots
 
 pub returns-clause-few : goal.returns-clause-few
 returns-clause-few c = rw (← c.table.ensures.slots) c.table.ensures.are_columns.slots

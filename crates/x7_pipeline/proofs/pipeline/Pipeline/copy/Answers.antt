@@ -12,14 +12,14 @@ pub returns-then-not-may_copy-clause-fault : goal.returns-then-not-may_copy-clau
 returns-then-not-may_copy-clause-fault c = λ f s.
     copy_refused c.args.part.now f.command f.base f.source (rw (← s.command_is, ← s.source_is) (sym c.may_copy.ensures ∙ c.if-not-may_copy.true))
 
-pub returns-then-not-is_base-clause-fault : goal.returns-then-not-is_base-clause-fault
-returns-then-not-is_base-clause-fault c = λ f s.
+pub returns-then-not-has_frame_at-clause-fault : goal.returns-then-not-has_frame_at-clause-fault
+returns-then-not-has_frame_at-clause-fault c = λ f s.
     let at = ap (λ (v : PipelineData). v.base) c.self.view_is ∙ s.base_is in
-    rw at (address_refused c.args.part.now f.base (rw (← at) (sym c.is_base.ensures ∙ c.if-not-is_base.true))
+    rw at (address_refused c.args.part.now f.base (rw (← at) (sym c.has_frame_at.ensures ∙ c.if-not-has_frame_at.true))
     ∙ copy_asks c.args.part.now f.command f.base f.source (rw (← s.command_is, ← s.source_is) (sym c.may_copy.ensures ∙ c.if-not-may_copy.false)))
 
 pub put-requires-clause-address : goal.put-requires-clause-address
-put-requires-clause-address c = has_address c.args.part.now c.self.inside.base (sym c.is_base.ensures ∙ c.if-not-is_base.false)
+put-requires-clause-address c = has_address c.args.part.now c.self.inside.base (sym c.has_frame_at.ensures ∙ c.if-not-has_frame_at.false)
 
 pub returns-clause-put : goal.returns-clause-put
 returns-clause-put c = λ f s.
@@ -33,6 +33,6 @@ returns-clause-put c = λ f s.
 pub returns-clause-fault : goal.returns-clause-fault
 returns-clause-fault c = λ f s.
     let at = ap (λ (v : PipelineData). v.base) c.self.view_is ∙ s.base_is in
-    let t : has_frame_at c.args.part.now c.self.inside.base ≡ true = sym c.is_base.ensures ∙ c.if-not-is_base.false in
+    let t : has_frame_at c.args.part.now c.self.inside.base ≡ true = sym c.has_frame_at.ensures ∙ c.if-not-has_frame_at.false in
     address_allowed c.args.part.now f.base (rw (← at) t)
     ∙ copy_asks c.args.part.now f.command f.base f.source (rw (← s.command_is, ← s.source_is) (sym c.may_copy.ensures ∙ c.if-not-may_copy.false))

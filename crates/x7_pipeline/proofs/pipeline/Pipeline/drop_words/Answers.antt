@@ -21,7 +21,7 @@ returns-then-reads_nowhere-clause-fault c = λ f s.
 
 pub returns-clause-stands : goal.returns-clause-stands
 returns-clause-stands c = λ f s.
-    reads_on c.args.part.now c.args.self.now c.pass.new.self c.args.n _ f.command f.base f.run f.source f.given s refl c.pass.ensures
+    reads_on c.args.part.now c.args.self.now c.pass_words.new.self c.args.n _ f.command f.base f.run f.source f.given s refl c.pass_words.ensures
 
 pub returns-clause-fault : goal.returns-clause-fault
 returns-clause-fault c = λ f s.

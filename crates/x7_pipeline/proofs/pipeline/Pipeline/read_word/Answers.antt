@@ -17,7 +17,7 @@ returns-clause-word c = λ f s.
     c.word-word.ensures ∙ read_so c.args.part.now c.args.self.now (frame_at c.args.part.now c.args.memory.now) f.command f.base f.run f.source f.given s
 
 pub returns-clause-stands : goal.returns-clause-stands
-returns-clause-stands c = λ f s. c.step.ensures.stands f s
+returns-clause-stands c = λ f s. c.pass_word.ensures.stands f s
 
 pub returns-clause-fault : goal.returns-clause-fault
 returns-clause-fault c = λ f s.

@@ -71,10 +71,10 @@ returns-clause-lands c = λ f s.
     let rest = ap (λ (v : PipelineData). length v.rest) c.self.view_is in
     let width = ap (λ (v : PipelineData). v.width) c.self.view_is in
     let short = c.self.invariant.short in
-    lands_frame c.args.part.now c.args.self.now c.args.word f.command f.base f.run f.source f.given (frame_at c.args.part.now c.args.memory.now) (frame_at c.args.part.now c.put_held.new.memory) s
+    lands_frame c.args.part.now c.args.self.now c.args.word f.command f.base f.run f.source f.given (frame_at c.args.part.now c.args.memory.now) (frame_at c.args.part.now c.put_newest.new.memory) s
     (omega arith)
-    (λ none far. ap (λ memory. frame_at c.args.part.now memory far) (c.put_held.ensures.none none))
-    c.put_held.ensures.put
+    (λ none far. ap (λ memory. frame_at c.args.part.now memory far) (c.put_newest.ensures.none none))
+    c.put_newest.ensures.put
 
 pub returns-clause-fault : goal.returns-clause-fault
 returns-clause-fault c = λ f s.

@@ -19,7 +19,7 @@ frames-init c =
     let some = c.self.invariant.some in
     let wide = ap (λ (v : PipelineData). v.width) c.self.view_is in
     let frame = c.requires.frame in
-    let held = c.write_frame.ensures.held in
+    let held = c.write_frame.ensures.newest in
     record {
       part = c.write_frame.ensures.part;
       some = omega arith;
@@ -41,15 +41,15 @@ frames-preserved c =
     let fits = next.0 in
     let free = next.1 in
     let size : c.frames.at + 4 * c.self.inside.width - c.frames.at ≡ 4 * c.self.inside.width = omega arith in
-    let held = c.write_frame-in-frames.ensures.held
+    let held = c.write_frame-in-frames.ensures.newest
     ∙ ap (λ n. record c.frames.self { newest = Some (words_of_bytes (take n (drop c.frames.at c.args.bytes.now))); frame_count = c.frames.self.frame_count + 1 }) size in
     let before = c.frames.invariant in
     let first = before.some in
     let within = before.within in
     let whole_words = before.whole in
     let left : length (drop c.frames.at c.args.bytes.now) ≡ length c.args.bytes.now - c.frames.at = length-drop c.frames.at c.args.bytes.now in
-    let slots : c.slot_count-slots.result ≡ length (slots_from c.args.part.now c.frames.self.base) =
-    c.slot_count-slots.ensures.value ∙ ap (λ b. length (slots_from c.args.part.now b)) (ap (λ (v : PipelineData). v.base) c.self.view_is ∙ sym before.base) in
+    let slots : c.slot_count-frame_limit.result ≡ length (slots_from c.args.part.now c.frames.self.base) =
+    c.slot_count-frame_limit.ensures.value ∙ ap (λ b. length (slots_from c.args.part.now b)) (ap (λ (v : PipelineData). v.base) c.self.view_is ∙ sym before.base) in
     record {
       part = c.write_frame-in-frames.ensures.part;
       some = omega arith;

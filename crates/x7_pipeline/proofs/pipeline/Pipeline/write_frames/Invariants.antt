@@ -1,14 +1,14 @@
 use Rattle.std.proofs.Common.{◌≡◌, ◌≤◌, ◌-◌, ◌%◌, [], take, length}
 use Rattle.x7_words.specs.Word.{words_of_bytes}
 use Rattle.x7_memory.specs.Frames.{frame_at}
-use Rattle.x7_pipeline.specs.Pipeline.{AreOf}
+use Rattle.x7_pipeline.specs.Pipeline.{AreOfPart}
 use Rattle.x7_pipeline.proofs.FrameLemmas.{WritesFrames}
 use Rattle.x7_pipeline.proofs.pipeline.Pipeline.write_frames.Given as goal
 
 -- whole frames were written, this many bytes
 abbrev pub invariant-frames : goal.invariant-frames
 invariant-frames l = record {
-  part : AreOf l.part l.self l.memory;
+  part : AreOfPart l.part l.self l.memory;
   some : 4 ≤ l.at;
   within : l.at ≤ length l.fn.bytes;
   whole : l.at % 4 ≡ 0;

@@ -1,6 +1,6 @@
 use Rattle.std.proofs.Common.{◌-◌, arith}
 use Rattle.x7_part.proofs.ColumnLemmas.{past_column, past_last, column_lists, nothing}
-use Rattle.x7_part.proofs.column.column_of.Goals as goal
+use Rattle.x7_part.proofs.column.column_index.Goals as goal
 
 pub returns-then-after-eq0-clause-none : goal.returns-then-after-eq0-clause-none
 returns-then-after-eq0-clause-none c =

@@ -2,7 +2,7 @@ use Rattle.std.proofs.Common.{◌≡◌, ◌+◌, ◌∙◌, ap, sym, refl, arit
 use Rattle.x7_pipeline.specs.PipelineFields.{pipeline_seen}
 use Rattle.x7_pipeline.specs.Pipeline.{PipelineData}
 use Rattle.x7_pipeline.proofs.StateLemmas.{alike, steps_nowhere, steps_in, steps_over, few_given}
-use Rattle.x7_pipeline.proofs.pipeline.Pipeline.step.Goals as goal
+use Rattle.x7_pipeline.proofs.pipeline.Pipeline.pass_word.Goals as goal
 
 pub returns-in-End-clause-stands : goal.returns-in-End-clause-stands
 returns-in-End-clause-stands c = λ f s.
@@ -22,6 +22,6 @@ returns-clause-stands c = λ f s.
     let few = few_given c.args.part.now (pipeline_seen c.self.inside) f.command f.base f.run f.source f.given now c.frames-frames.ensures.part in
     let up : c.saturating_add-self-inside.result ≡ c.self.inside.given + 1 = (let a = c.saturating_add-self-inside.ensures in omega arith) in
     steps_over c.args.part.now (pipeline_seen c.self.inside) _ f.command f.base f.run f.source f.given now c.in_default.not-End
-    (ap (λ n. record (pipeline_seen c.self.inside) { given = n; slot = c.slot_read-self-inside.result }) up
+    (ap (λ n. record (pipeline_seen c.self.inside) { given = n; slot = c.readback_slot-self-inside.result }) up
     ∙ ap (λ slot. record (pipeline_seen c.self.inside) { given = c.self.inside.given + 1; slot = slot })
-    (c.slot_read-self-inside.ensures ∙ rw (up, c.from-2.ensures) refl))
+    (c.readback_slot-self-inside.ensures ∙ rw (up, c.from-2.ensures) refl))

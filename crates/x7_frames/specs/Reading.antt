@@ -1,4 +1,4 @@
--- A text that is being read: one line more, and the marks of addresses (this project's choice).
+-- The reading of a frames text: one line more, and the marks of addresses (this project's choice).
 use Rattle.std.specs.Prelude.{◌≡◌, ◌↔◌, ℕ, ◌<◌, ◌⊎◌, Bool, true, false, List, [], ◌∷◌, ◌++◌, length, slice_index, slice_index_or, Contains}
 use Rattle.x7_text.specs.Lines.{means_nothing}
 use Rattle.x7_part.specs.AddressOrder.{addresses_in, Rises}
@@ -14,7 +14,7 @@ pub record HasMarks (part : PartData) (rows : List PlanRow) (marks : List Bool) 
   pub long : length marks ≡ length (addresses_in part)
   pub at : (r : ℕ) → r < length marks → (slice_index_or marks r false ≡ true) ↔ Contains (planned_addresses rows) (slice_index (addresses_in part) r)
 
--- a frame's row is after the others
+-- the line is that of a frame of the part, whose address no row has, and its row was added after the others
 pub record IsAdded (part : PartData) (line : List ℕ) (old new : List PlanRow) : Type 0 where
   pub row : PlanRow
   pub frame : IsFrameLine (frame_words part) line row
@@ -22,15 +22,15 @@ pub record IsAdded (part : PartData) (line : List ℕ) (old new : List PlanRow) 
   pub apart : ¬ Contains (planned_addresses old) row.far
   pub rows : new ≡ old ++ row ∷ []
 
--- a line that means nothing was taken, or that of a frame
+-- a line was taken: one that means nothing, or that of a frame
 abbrev pub TakesLine : PartData → List ℕ → List PlanRow → List PlanRow → Type 0
 TakesLine part line old new = ((means_nothing line ≡ true) × (new ≡ old)) ⊎ IsAdded part line old new
 
--- a line is good after these rows
+-- a line is good after lines of these rows
 abbrev pub IsGoodLine : PartData → List PlanRow → List ℕ → Type 0
 IsGoodLine part rows line = (new : List PlanRow) × TakesLine part line rows new
 
--- line n after these rows is at fault
+-- line n, after lines of these rows, has this fault
 abbrev pub IsFaultAt : PartData → List PlanRow → ℕ → List ℕ → FramesFault → Type 0
 IsFaultAt part rows n line (fault.Line m) = (m ≡ n) × IsNoLine (frame_words part) line
 IsFaultAt part rows n line (fault.Address m) = (m ≡ n) × IsForeign part line

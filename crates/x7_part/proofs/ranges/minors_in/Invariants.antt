@@ -2,7 +2,7 @@ use Rattle.std.proofs.Common.{◌≡◌, ◌++◌, map, drop}
 use Rattle.x7_part.specs.Limits.{most_minors}
 use Rattle.x7_part.specs.PartChecks.{are_in}
 use Rattle.x7_part.specs.Values.{natural}
-use Rattle.x7_part.proofs.ranges.minors.Given as goal
+use Rattle.x7_part.proofs.ranges.minors_in.Given as goal
 
 abbrev pub invariant-loop-number : goal.invariant-loop-number
 invariant-loop-number l = record {

@@ -1,6 +1,0 @@
-use Rattle.std.proofs.Common.{◌≡◌, drop}
-use Rattle.x7_part.specs.Row.{has_same}
-use Rattle.x7_part.proofs.row.has_same.Given as goal
-
-abbrev pub invariant-loop-other : goal.invariant-loop-other
-invariant-loop-other l = has_same l.row (drop l.other-index l.rows) ≡ has_same l.row l.rows
