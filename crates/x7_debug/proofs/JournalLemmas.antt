@@ -101,7 +101,7 @@ refed part stream d e n q s =
         registers_are = t.registers_are;
         cutter_is = t.cutter_is;
         due_are = t.due_are;
-        at_rest = t.at_rest;
+        none_due_at_stop = t.none_due_at_stop;
       };
       taken = s.taken;
       within = s.within;

@@ -22,7 +22,7 @@ use Rattle.x7_startup.specs.Startup.{Call, Arm, Desync, DropBack, StartupProgres
 use Rattle.x7_startup.proofs.CallLemmas.{further, progress_arm, progress_bytes, progress_drop}
 use Rattle.x7_engine.specs.declared.fed.Fed.{Fed}
 use Rattle.x7_engine.specs.declared.kept.Kept.{Kept}
-use Rattle.x7_engine.specs.declared.stop.Stop.{Stop}
+use Rattle.x7_engine.specs.declared.stop.StopCause.{StopCause}
 use Rattle.x7_engine.specs.declared.until_started.UntilStarted.{UntilStarted}
 use Rattle.x7_engine.specs.declared.until_started.UntilStarted.TheVariants as until
 use Rattle.x7_engine.specs.Phases.{soonest}
@@ -212,7 +212,7 @@ phase_going part kept wrapped bytes none = ap (λ (o : Option Stopped). phase_by
 pub going_before : (part : PartData) (kept : Kept) (wrapped : Bool) (d : DeviceState) (bytes more : List ℕ) → DeviceStandsFor part kept wrapped d (bytes ++ more) → 0 < length more → stop_in part kept bytes ≡ None
 going_before part kept wrapped d bytes more s some = by (stop_in part kept bytes) refl
   where
-    at_last : (o : Option Stop) (t : Stopped) → stopped_at (length (bytes ++ more)) o ≡ Some t → t.place ≡ length (bytes ++ more)
+    at_last : (o : Option StopCause) (t : Stopped) → stopped_at (length (bytes ++ more)) o ≡ Some t → t.place ≡ length (bytes ++ more)
     at_last None t e = absurd (cc)
     at_last (Some why) t e = cc
 

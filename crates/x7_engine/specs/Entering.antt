@@ -11,8 +11,8 @@ use Rattle.x7_part.specs.Part.{PartData}
 use Rattle.x7_engine.specs.declared.due.Due.{Due}
 use Rattle.x7_engine.specs.declared.kept.Kept.{Kept}
 use Rattle.x7_engine.specs.declared.registers.Registers.{Registers}
-use Rattle.x7_engine.specs.Standing.{EndsWords, IsNextAccess, RegistersStandFor, RegistersState, counted_in, registers_in, words_left}
-use Rattle.x7_engine.specs.Value.{answer_of, read_out}
+use Rattle.x7_engine.specs.Standing.{EndsWords, IsNextAccess, RegistersStandFor, RegistersState, counted_in, registers_in, words_still_due}
+use Rattle.x7_engine.specs.Value.{words_read_by, read_out}
 
 -- what holds of what the registers stand for: what the reset kept, the history, and the number of bytes
 abbrev pub OfHistory : PartData → RegistersState → (Kept → History → ℕ → Type 0) → Type 0
@@ -57,15 +57,15 @@ EntersAt x longer = (kept : Kept) (h : History) (place : ℕ) → IsNextAccess p
 
 -- the longer history reads out the words that are due, and no others
 abbrev pub AreRead : PartData → Kept → History → History → Due → Type 0
-AreRead part kept h longer due = read_out part kept longer ≡ read_out part kept h ++ words_left part longer due
+AreRead part kept h longer due = read_out part kept longer ≡ read_out part kept h ++ words_still_due part longer due
 
 -- where a condition holds, the longer history reads out the words that are then due, and no others
 abbrev pub ReadsIf : Type 0 → Change → Extension → Type 0
 ReadsIf Condition x longer = (kept : Kept) (h : History) (n : ℕ) → Condition → RegistersStandFor x.part kept x.old h n → AreRead x.part kept h (longer n h) x.new.due
 
 -- the words that an access reads out are those due
-abbrev pub AreAnswer : PartData → Kept → History → Entry → Due → Type 0
-AreAnswer part kept h e due = answer_of part kept h e.access e.place ≡ words_left part (e ∷ h) due
+abbrev pub AreReadBy : PartData → Kept → History → Entry → Due → Type 0
+AreReadBy part kept h e due = words_read_by part kept h e.access e.place ≡ words_still_due part (e ∷ h) due
 
 -- ---- words and runs
 

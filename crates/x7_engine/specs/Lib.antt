@@ -1,8 +1,8 @@
 pub mod Checked
 pub mod Clock
 pub mod Course
-pub mod Entering
 pub mod DeviceFields
+pub mod Entering
 pub mod FirstStop
 pub mod Kept
 pub mod Past
@@ -22,8 +22,8 @@ pub mod Taken
 pub mod Targets
 pub mod Timeout
 pub mod Turns
-pub mod Value
-pub mod Watching
 pub mod Undo
 pub mod UntilRead
 pub mod UntilStarted
+pub mod Value
+pub mod Watching

@@ -10,13 +10,13 @@ use Rattle.x7_flow.specs.Saved.{FramesBack, KeepsFrames}
 use Rattle.x7_flow.specs.Standing.{FramesFit, FramesState, frames_state}
 use Rattle.x7_engine.specs.declared.due.Due.{Due}
 use Rattle.x7_engine.specs.declared.saved.SavedRegisters.{SavedRegisters}
-use Rattle.x7_engine.specs.declared.stop.Stop.{Stop}
+use Rattle.x7_engine.specs.declared.stop.StopCause.{StopCause}
 use Rattle.x7_engine.specs.Clock.{ClockState, clock_in}
 use Rattle.x7_engine.specs.Past.{HasPast, Past, later}
 use Rattle.x7_engine.specs.ReadBuffer.{ReadBufState}
 use Rattle.x7_engine.specs.Standing.{ControlsState, DeviceState, NoWordDue, ProgressState, RegistersState, controls_in, progress_in}
 
--- the stored values of registers but their frames
+-- the stored values of registers but their frames: what `RegistersState` has beside them
 pub record ValuesState : Type 0 where
   pub words : List ℕ
   pub controls : ControlsState
@@ -24,7 +24,7 @@ pub record ValuesState : Type 0 where
   pub kind : Kind
   pub before : Option Attempt
   pub clock : ClockState
-  pub stop : Option Stop
+  pub stop : Option StopCause
   pub due : Due
 
 -- the stored values of registers, their frames left out

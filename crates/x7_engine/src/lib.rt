@@ -34,5 +34,5 @@ pub use laws::{
 };
 pub use read_buffer::ReadBuf;
 pub use regs::{End, Regs};
-pub use stop::Stop;
+pub use stop::StopCause;
 pub use until_started::UntilStarted;

@@ -1,4 +1,4 @@
-//! The running check, and what is known of all accesses so far.
+//! The running check, and the flags that written words set and clear.
 ghost use Rattle.std.specs.Prelude.{◌≡◌, ◌<◌, false, ◌||◌, ◌&&◌, ℕ, ◌∷◌, [], length, ◌%◌};
 ghost use Rattle.x7_packets.specs.History.{entry, History, Write};
 ghost use Rattle.x7_crc.specs.RunningCheck.{executed_after};
@@ -80,20 +80,24 @@ fn wrote_iprog_after(wrote: bool, reg: Reg, word: u32) -> bool
     }
 }
 
-/// What is known of all accesses so far.
+/// The running check and the flags after all accesses so far.
 #[derive(Clone, Copy)]
 pub(crate) struct Progress {
     pub(crate) check: u32,
+    // the part's idcode was written to IDCODE
     pub(crate) matched: bool,
+    // a shutdown is pending
     pub(crate) pending: bool,
+    // GHIGH_B is 1
     pub(crate) ghigh: bool,
+    // an IPROG command was written
     pub(crate) iprog: bool,
 }
 
 impl Progress {
     ghost use Rattle.x7_engine.specs.Standing.{IsProgress, progress_in};
 
-    /// What is known of no accesses: the check is 0, and no flag is set.
+    /// The check and the flags of a device that took nothing: the check is 0, and no flag is set.
     pub(crate) fn new() -> Progress
         ensures { (idcode : ℕ) → IsProgress idcode (progress_in result) [] }
     {
@@ -106,7 +110,7 @@ impl Progress {
         }
     }
 
-    /// Takes a word written to a register in which it stays, and is folded.
+    /// Takes a word written to a register in which it stays, and is folded into the check.
     pub(crate) fn pass(&mut self, plain: PlainNumber, word: u32)
         ensures { (idcode : ℕ) (h : History) (place : ℕ) → IsProgress idcode (progress_in self.old) h → IsProgress idcode (progress_in self.new) (entry (Write plain.register word) place ∷ h) }
     {

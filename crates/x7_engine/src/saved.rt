@@ -14,7 +14,7 @@ use crate::due::Due;
 use crate::kept::ON_THE_BENCH;
 use crate::progress::Progress;
 use crate::registers::Registers;
-use crate::stop::Stop;
+use crate::stop::StopCause;
 use crate::words::Words;
 use x7_part::Part;
 use x7_pipeline::Saved;
@@ -26,10 +26,12 @@ pub(crate) struct SavedRegisters {
     pub(crate) words: Words,
     pub(crate) controls: Controls,
     pub(crate) progress: Progress,
+    // what began the boot attempt
     pub(crate) kind: Kind,
+    // the boot attempt before, if there was one
     pub(crate) before: Option<Attempt>,
     pub(crate) clock: Clock,
-    pub(crate) stop: Option<Stop>,
+    pub(crate) stop: Option<StopCause>,
     pub(crate) due: Due,
 }
 
