@@ -6,7 +6,6 @@ pub mod Entering
 pub mod FirstStop
 pub mod Kept
 pub mod Past
-pub mod Phases
 pub mod ReadBuffer
 pub mod Readout
 pub mod Ready
@@ -14,6 +13,7 @@ pub mod Registers
 pub mod Rest
 pub mod Sequence
 pub mod Since
+pub mod SoonestEnd
 pub mod Standing
 pub mod Startup
 pub mod State

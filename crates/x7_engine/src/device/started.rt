@@ -2,7 +2,7 @@
 ghost use Rattle.std.specs.Prelude.{◌≡◌, ◌≤◌, ◌<◌, ◌+◌, ◌-◌, ◌^◌, ◌⊎◌, false, if◌then◌else◌, length, take, is_some, IsSome, IsTrue};
 ghost use Rattle.x7_packets.specs.Cutter.{between};
 ghost use Rattle.x7_engine.specs.UntilRead.{RoomBefore};
-ghost use Rattle.x7_engine.specs.Phases.{soonest};
+ghost use Rattle.x7_engine.specs.SoonestEnd.{soonest_end};
 ghost use Rattle.x7_engine.specs.Standing.{HasBegun, HasStopped, NoWordDue, fed_more, fed_of};
 ghost use Rattle.x7_engine.specs.Turns.{MayTake, TookTurn};
 ghost use Rattle.x7_engine.specs.UntilStarted.{HasNotBegun, NoneBegun, NoneStarted, says_started, taken_until};
@@ -15,8 +15,8 @@ use crate::read_buffer::ReadBuf;
 use crate::until_started::UntilStarted;
 
 /// How many bytes a device in this phase can be given, so that startup ends at the last of them at the soonest.
-fn soonest(phase: u8) -> usize
-    ensures { result ≡ soonest phase }
+fn soonest_end(phase: u8) -> usize
+    ensures { result ≡ soonest_end phase }
 {
     4 * 6usize.saturating_sub(phase as usize) + 1
 }
@@ -40,10 +40,10 @@ impl Device {
         ensures within { result ≤ length }
         ensures forward { (result ≡ length) ⊎ (at < result) }
         ensures order { at ≤ result }
-        ensures soonest { OfPast self.now (λ p. HasNotBegun p.part p.kept p.bytes ⊎ (result ≤ at + soonest (state_at p).phase)) }
+        ensures soonest { OfPast self.now (λ p. HasNotBegun p.part p.kept p.bytes ⊎ (result ≤ at + soonest_end (state_at p).phase)) }
     {
         if self.registers.clock.startup.has_begun() {
-            return at + soonest(self.phase()).min(length - at);
+            return at + soonest_end(self.phase()).min(length - at);
         }
         length
     }
