@@ -48,7 +48,7 @@ pub record HasSomePast (d : DeviceState) : Type 0 where
   pub past : Past
   pub has : HasPast d past
 
--- what holds of each past that the device has
+-- `Fact` holds of each past that the device has
 abbrev pub OfPast : DeviceState → (Past → Type 0) → Type 0
 OfPast d Fact = (part : PartData) (kept : Kept) (wrapped : Bool) (bytes : List ℕ)
     → DeviceStandsFor part kept wrapped d bytes → Fact (record { part = part; kept = kept; wrapped = wrapped; bytes = bytes })

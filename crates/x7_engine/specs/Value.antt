@@ -46,7 +46,7 @@ lines_by part p = record {
   gwe = gwe_line (cor0_of p) (phase_by part p);
 }
 
--- what STAT shows, by how far startup is
+-- what STAT shows, by the fault, how far startup is, and GHIGH_B
 abbrev pub stat_parts : PartData → Option Fault → StartupProgress → Bool → StatParts
 stat_parts part fault p ghigh = record {
   crc_error = is_crc_fault fault;
