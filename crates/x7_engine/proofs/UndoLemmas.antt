@@ -17,12 +17,12 @@ use Rattle.x7_engine.specs.declared.fed.Fed.{Fed}
 use Rattle.x7_engine.specs.declared.fed.Fed.TheVariants as fed
 use Rattle.x7_engine.specs.declared.kept.Kept.{Kept}
 use Rattle.x7_engine.specs.declared.stop.StopCause.{StopCause}
-use Rattle.x7_engine.specs.ReadBuffer.{IsFullBy, ReadBufState, with_words}
+use Rattle.x7_engine.specs.ReadBuffer.{IsFullBy, ReadBufState, dropping, with_words}
 use Rattle.x7_engine.specs.Past.{Answers, Past}
 use Rattle.x7_engine.specs.Standing.{DeviceState, DeviceStandsFor, NoWordDue, frames_due}
 use Rattle.x7_engine.specs.State.{history_by, history_taken, last_counted, memory_in, stop_in}
 use Rattle.x7_engine.specs.Stop.{Stopped, stopped_at}
-use Rattle.x7_engine.specs.Undo.{Back, KeepsDevice, UndoState, dropping}
+use Rattle.x7_engine.specs.Undo.{Back, KeepsDevice, UndoState}
 use Rattle.x7_engine.proofs.DeviceLemmas.{going_taken}
 use Rattle.x7_engine.proofs.FrameLemmas.{frames_of, goes_on, none_frames}
 use Rattle.x7_engine.proofs.StateLemmas.{stop_is_final_stop, counted_most}

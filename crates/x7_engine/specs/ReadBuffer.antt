@@ -12,6 +12,10 @@ pub record ReadBufState : Type 0 where
 abbrev pub no_room : ReadBufState
 no_room = record { most = Some 0; words = [] }
 
+-- a buffer that drops each word
+abbrev pub dropping : ReadBufState
+dropping = record { most = None; words = [] }
+
 -- the words of a buffer after more of them
 abbrev pub gathered : Option ℕ → List ℕ → List ℕ → List ℕ
 gathered None words more = words

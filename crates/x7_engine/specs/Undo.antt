@@ -1,5 +1,5 @@
 -- What is kept of a device, so that the next bytes up to four can be taken back (this project's choice).
-use Rattle.std.specs.Prelude.{◌≡◌, ℕ, ◌≤◌, Bool, List, length, Option, None, []}
+use Rattle.std.specs.Prelude.{◌≡◌, ℕ, ◌≤◌, Bool, List, length, Option}
 use Rattle.x7_packets.specs.Cutter.{CutterState}
 use Rattle.x7_part.specs.Part.{PartData}
 use Rattle.x7_regs.specs.declared.boot_status.Attempt.{Attempt}
@@ -13,7 +13,6 @@ use Rattle.x7_engine.specs.declared.saved.SavedRegisters.{SavedRegisters}
 use Rattle.x7_engine.specs.declared.stop.StopCause.{StopCause}
 use Rattle.x7_engine.specs.Clock.{ClockState, clock_in}
 use Rattle.x7_engine.specs.Past.{HasPast, Past, later}
-use Rattle.x7_engine.specs.ReadBuffer.{ReadBufState}
 use Rattle.x7_engine.specs.Standing.{ControlsState, DeviceState, NoWordDue, ProgressState, RegistersState, controls_in, progress_in}
 
 -- the stored values of registers but their frames: what `RegistersState` has beside them
@@ -98,7 +97,3 @@ pub record TookFewSince (u : UndoState) (d : DeviceState) : Type 0 where
 -- two devices are equal but for the count of all bytes that they were fed
 abbrev pub AreEqual : DeviceState → DeviceState → Type 0
 AreEqual d e = d ≡ record e { fed = d.fed }
-
--- a buffer that drops each word
-abbrev pub dropping : ReadBufState
-dropping = record { most = None; words = [] }

@@ -1,6 +1,6 @@
 //! Words read out of a device.
 ghost use Rattle.std.specs.Prelude.{◌≡◌, ◌≤◌, ◌<◌, ◌-◌, ◌∷◌, [], false, length, replicate, ◌==◌, ℕ, List, IfOk, IsTrue, Some, None};
-ghost use Rattle.x7_engine.specs.ReadBuffer.{HoldsWithinMost, IsFull, no_room, with_words};
+ghost use Rattle.x7_engine.specs.ReadBuffer.{HoldsWithinMost, IsFull, dropping, no_room, with_words};
 
 use std::alloc::Global;
 use std::marker::Model;
@@ -110,7 +110,7 @@ impl ReadBuf {
 
     /// A buffer that drops each word, and is never full.
     pub fn dropping() -> ReadBuf
-        ensures { result ≡ record { most = None; words = [] } }
+        ensures { result ≡ dropping }
     {
         ReadBuf {
             room: Room::Nothing,

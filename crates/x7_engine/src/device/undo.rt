@@ -2,8 +2,9 @@
 ghost use Rattle.std.specs.Prelude.{◌≡◌, ◌≤◌, ◌+◌, ◌^◌, ℕ, List, [], false, length, IfOk, IsSome, Some};
 ghost use Rattle.x7_flow.specs.Standing.{FramesFit};
 ghost use Rattle.x7_engine.specs.Kept.{on_the_bench};
+ghost use Rattle.x7_engine.specs.ReadBuffer.{dropping};
 ghost use Rattle.x7_engine.specs.Standing.{DeviceState, DeviceStandsFor, NoWordDue, answer_at_stop, fed_more, fed_of, taken_in};
-ghost use Rattle.x7_engine.specs.Undo.{AreEqual, Back, IsUndoOf, KeepsDevice, TookFewSince, device_kept, dropping};
+ghost use Rattle.x7_engine.specs.Undo.{AreEqual, Back, IsUndoOf, KeepsDevice, TookFewSince, device_kept};
 ghost use Rattle.x7_engine.specs.declared.stop.StopCause.{StopCause};
 ghost use Rattle.x7_engine.specs.Past.{AnswersFor, OfPast, TakesJust, prefix_taken, stop_at, HasPast, Past, later};
 
