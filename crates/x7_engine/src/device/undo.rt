@@ -30,11 +30,11 @@ pub struct Undo {
 }
 
 impl Model for Undo {
-    ghost use Rattle.x7_engine.specs.Undo.{UndoState, values_in};
+    ghost use Rattle.x7_engine.specs.Undo.{UndoState, saved_registers_in};
 
     ghost Value = { UndoState };
 
-    ghost view = { λ u. record { cutter = u.cutter; values = values_in u.registers; frames = u.frames; wrapped = u.wrapped; taken = u.taken } };
+    ghost view = { λ u. record { cutter = u.cutter; values = saved_registers_in u.registers; frames = u.frames; wrapped = u.wrapped; taken = u.taken } };
 }
 
 impl Undo {
