@@ -24,7 +24,7 @@ use Rattle.x7_engine.specs.declared.stop.StopCause.TheVariants as stop
 use Rattle.x7_engine.specs.Clock.{ClockState, IsClock, newest_place}
 use Rattle.x7_engine.specs.Kept.{is_fallback}
 use Rattle.x7_flow.specs.Controls.{is_matched, same_idcode}
-use Rattle.x7_engine.specs.Registers.{ghigh_after, has_effect, has_ghigh, clears_check, is_controlling, is_pending, pending_after, takes_shutdown, word_held, wrote_iprog}
+use Rattle.x7_engine.specs.Registers.{has_ghigh_after, has_effect, has_ghigh, clears_check, is_controlling, is_pending, is_pending_after, takes_shutdown, word_held, wrote_iprog}
 use Rattle.x7_engine.specs.Standing.{AreControls, ControlsState, counted_in}
 use Rattle.x7_engine.specs.Startup.{has_ended, phase_by, startup_call, startup_calls}
 use Rattle.x7_engine.specs.State.{last_counted}
@@ -127,8 +127,8 @@ flags_more idcode matched pending ghigh iprog h register w place p s =
     let cleared : clears_check h (Write register w) ≡ false = rw (none, p.crc) refl in
     record {
       matched_is = s.matched_is ∙ sym (ap (λ b. b && same_idcode idcode w || is_matched idcode h) p.idcode);
-      pending_is = s.pending_is ∙ sym (ap (λ o. pending_after o (clears_check h (Write register w)) (is_pending h)) none ∙ ap (λ b. pending_after None b (is_pending h)) cleared);
-      ghigh_is = s.ghigh_is ∙ sym (ap (λ o. ghigh_after o (takes_shutdown h (Write register w)) (has_ghigh h)) none ∙ ap (λ b. ghigh_after None (b && is_pending h) (has_ghigh h)) cleared);
+      pending_is = s.pending_is ∙ sym (ap (λ o. is_pending_after o (clears_check h (Write register w)) (is_pending h)) none ∙ ap (λ b. is_pending_after None b (is_pending h)) cleared);
+      ghigh_is = s.ghigh_is ∙ sym (ap (λ o. has_ghigh_after o (takes_shutdown h (Write register w)) (has_ghigh h)) none ∙ ap (λ b. has_ghigh_after None (b && is_pending h) (has_ghigh h)) cleared);
       iprog_is = s.iprog_is ∙ sym (ap (λ b. b && w % 2 ^ 5 == 15 || wrote_iprog h) p.cmd);
     }
 

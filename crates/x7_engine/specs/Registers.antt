@@ -54,26 +54,26 @@ abbrev pub clears_check : History → Access → Bool
 clears_check h access = clears_by (executed_by (command_held h) access) (running_check h) access
 
 -- whether a shutdown is pending after a command, by whether the check was cleared
-abbrev pub pending_after : Option ℕ → Bool → Bool → Bool
-pending_after command cleared pending = if cleared then false else is_command (code_of Shutdown) command || pending
+abbrev pub is_pending_after : Option ℕ → Bool → Bool → Bool
+is_pending_after command cleared pending = if cleared then false else is_command (code_of Shutdown) command || pending
 
 -- a shutdown is pending: SHUTDOWN was executed since the check was last cleared (this project's choice)
 abbrev pub is_pending : History → Bool
 is_pending [] = false
-is_pending (e ∷ h) = pending_after (executed_by (command_held h) e.access) (clears_check h e.access) (is_pending h)
+is_pending (e ∷ h) = is_pending_after (executed_by (command_held h) e.access) (clears_check h e.access) (is_pending h)
 
 -- the access takes a pending shutdown (this project's choice)
 abbrev pub takes_shutdown : History → Access → Bool
 takes_shutdown h access = clears_check h access && is_pending h
 
 -- GHIGH_B after a command, by whether a shutdown was taken
-abbrev pub ghigh_after : Option ℕ → Bool → Bool → Bool
-ghigh_after command taken ghigh = if is_command (code_of Lfrm) command then true else if is_command (code_of Aghigh) command || taken then false else ghigh
+abbrev pub has_ghigh_after : Option ℕ → Bool → Bool → Bool
+has_ghigh_after command taken ghigh = if is_command (code_of Lfrm) command then true else if is_command (code_of Aghigh) command || taken then false else ghigh
 
 -- GHIGH_B: the latest of LFRM, AGHIGH and a taken shutdown is LFRM
 abbrev pub has_ghigh : History → Bool
 has_ghigh [] = false
-has_ghigh (e ∷ h) = ghigh_after (executed_by (command_held h) e.access) (takes_shutdown h e.access) (has_ghigh h)
+has_ghigh (e ∷ h) = has_ghigh_after (executed_by (command_held h) e.access) (takes_shutdown h e.access) (has_ghigh h)
 
 -- the access writes this command to CMD
 abbrev pub writes_command : ℕ → Access → Bool

@@ -74,7 +74,7 @@ fn answer_at_stop(stop: StopCause, at: usize) -> Fed
 }
 
 /// Where bytes end, by the stop, and without one by whether they end in a session.
-fn end_of(stop: Option<StopCause>, synced: bool, wbstar: u32) -> End
+fn end_by(stop: Option<StopCause>, synced: bool, wbstar: u32) -> End
     ensures { result ≡ end_by stop synced wbstar }
 {
     match stop {
@@ -374,7 +374,7 @@ impl Device {
     pub fn end(&self) -> End
         ensures { OfPast self.now (λ p. result ≡ (state_at p).end) }
     {
-        end_of(
+        end_by(
             self.registers.stop(),
             self.cutter.is_synced(),
             self.registers.value(&self.part, Reg::Wbstar),

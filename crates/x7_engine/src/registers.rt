@@ -167,7 +167,7 @@ impl Registers {
     }
 
     /// Why a written word, which executes a command or none, stops the device by its register alone.
-    fn why_of_write(
+    fn why_by_write(
         &self,
         part: &Part,
         reg: Reg,
@@ -214,7 +214,7 @@ impl Registers {
         let idcode = part.idcode();
         let settings = self.settings();
         let executed = executed(settings.held, reg, word);
-        let why = self.why_of_write(part, reg, word, executed);
+        let why = self.why_by_write(part, reg, word, executed);
         let mask = self.words.held(Reg::Mask);
         let cor0 = self.words.held(Reg::Cor0);
         let taken = self.progress.write(idcode, reg, word, executed);

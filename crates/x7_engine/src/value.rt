@@ -67,7 +67,7 @@ impl Registers {
     ghost use Rattle.x7_engine.specs.Entering.{OfHistory};
 
     /// The running check; at a fault `Crc` the one that was wanted.
-    fn check(&self) -> u32
+    fn check_shown(&self) -> u32
         ensures { (part : PartData) (kept : Kept) (h : History) (n : ℕ) → RegistersStandFor part kept (registers_in self.now) h n → result ≡ check_shown (stop_fault self.now.stop) h }
     {
         match self.stop {
@@ -123,7 +123,7 @@ impl Registers {
         ensures { OfHistory part.now (registers_in self.now) (λ kept h n. result ≡ value_owing (course_at part.now kept h n) (stop_fault self.now.stop) (frames_due self.now.due) reg) }
     {
         match reg {
-            Reg::Crc     => self.check(),
+            Reg::Crc     => self.check_shown(),
             Reg::Far     => self.far(part),
             Reg::Fdri    => 0,
             Reg::Fdro    => 0,
