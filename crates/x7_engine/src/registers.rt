@@ -22,7 +22,7 @@ use crate::clock::Clock;
 use crate::controls::{Controls, masked_word};
 use crate::due::Due;
 use crate::fault::Fault;
-use crate::kept::{Kept, is_a_fallback};
+use crate::kept::{Kept, is_fallback};
 use crate::progress::{Progress, is_same_idcode};
 use crate::stop::StopCause;
 use crate::target::{PlainNumber, Target};
@@ -115,7 +115,7 @@ impl Registers {
             progress: Progress::new(),
             kind: kept.kind,
             before: kept.before,
-            clock: Clock::new(kept.timer, is_a_fallback(kept.kind)),
+            clock: Clock::new(kept.timer, is_fallback(kept.kind)),
             stop: None,
             due: Due::Nothing,
             frames,
@@ -134,7 +134,7 @@ impl Registers {
         self.progress = Progress::new();
         self.kind = kept.kind;
         self.before = kept.before;
-        self.clock = Clock::new(kept.timer, is_a_fallback(kept.kind));
+        self.clock = Clock::new(kept.timer, is_fallback(kept.kind));
         self.stop = None;
         self.due = Due::Nothing;
         self.frames.reset();
@@ -191,7 +191,7 @@ impl Registers {
             Reg::Far | Reg::Cmd if is_command(Command::Start, executed) && !matched => unmatched,
             Reg::Fdri if !matched => unmatched,
             Reg::Mfwr if !matched => unmatched,
-            Reg::Cmd if is_command(Command::Iprog, executed) && !is_a_fallback(self.kind) => Some(
+            Reg::Cmd if is_command(Command::Iprog, executed) && !is_fallback(self.kind) => Some(
                 StopCause::Iprog,
             ),
             Reg::Ctl0
