@@ -16,6 +16,12 @@ const END_ROOM: usize = 27;
 /// The most bytes of the line of startup, with 20 digits for its phase: it is written as a number of 64 bits.
 const PHASE_ROOM: usize = 46;
 
+/// How many registers have a line.
+const REG_LINES: usize = 15;
+
+/// The most bytes that the line of a register takes: those of `reg BOOTSTS`, a blank, eight digits and a line end.
+const REG_LINE_ROOM: usize = 21;
+
 /// Appends a name and the digits of a word.
 fn put_named_word(out: &mut Vec<u8>, name: &[u8], word: u32)
     requires { HasSpareRoom out.old (length name.now + 8) }
@@ -139,12 +145,6 @@ fn rows_of(r: &Regs) -> [(Reg, u32); REG_LINES]
         (Reg::Bspi,    r.bspi),
     ]
 }
-
-/// How many registers have a line.
-const REG_LINES: usize = 15;
-
-/// The most bytes that the line of a register takes: those of `reg BOOTSTS`, a blank, eight digits and a line end.
-const REG_LINE_ROOM: usize = 21;
 
 /// Appends the line of a register: its name and its word.
 fn put_row(out: &mut Vec<u8>, row: (Reg, u32))
