@@ -9,6 +9,7 @@ ghost use Rattle.x7_engine.specs.Entering.{words_entered};
 ghost use Rattle.x7_engine.specs.Registers.{clears_by, has_ghigh_after, is_controlling, is_pending_after, takes_shutdown, writes_check, writes_command};
 
 use crate::target::PlainNumber;
+use crate::words::COMMAND_BITS;
 use x7_crc::{check_after_write, fold, fold_slice, is_command};
 use x7_regs::{Command, Reg};
 
@@ -75,7 +76,7 @@ fn wrote_iprog_after(wrote: bool, reg: Reg, word: u32) -> bool
     ensures { result ≡ (writes_command (code_of Command.Iprog) (word_to reg word) || wrote) }
 {
     match reg {
-        Reg::Cmd => word & 31 == Command::Iprog.code() || wrote,
+        Reg::Cmd => word & COMMAND_BITS == Command::Iprog.code() || wrote,
         _ => wrote,
     }
 }

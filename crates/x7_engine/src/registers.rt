@@ -26,7 +26,7 @@ use crate::kept::{Kept, is_fallback};
 use crate::progress::{Progress, is_same_idcode};
 use crate::stop::StopCause;
 use crate::target::{PlainNumber, Target};
-use crate::words::Words;
+use crate::words::{COMMAND_BITS, Words};
 use x7_crc::{executed, is_command};
 use x7_flow::{FrameSettings, Frames};
 use x7_packets::{Cut, Step};
@@ -151,7 +151,7 @@ impl Registers {
     pub(crate) fn command(&self) -> u8
         ensures { (part : PartData) (kept : KeptData) (h : History) (n : ℕ) → RegistersStandFor part kept (registers_in self.now) h n → result ≡ command_held h }
     {
-        (self.words.held(Reg::Cmd) & 31) as u8
+        (self.words.held(Reg::Cmd) & COMMAND_BITS) as u8
     }
 
     /// What decides whether an access concerns frames.

@@ -17,6 +17,7 @@ ghost use Rattle.x7_engine.specs.declared.kept.Kept.{Kept};
 use crate::fault::Fault;
 use crate::registers::Registers;
 use crate::stop::StopCause;
+use crate::words::COMMAND_BITS;
 use x7_part::Part;
 use x7_regs::{Attempt, Cause, Kind, Reg, StatParts, boot_word, reg_of, stat_word};
 
@@ -127,7 +128,7 @@ impl Registers {
             Reg::Far     => self.far(part),
             Reg::Fdri    => 0,
             Reg::Fdro    => 0,
-            Reg::Cmd     => self.words.held(Reg::Cmd) & 31,
+            Reg::Cmd     => self.words.held(Reg::Cmd) & COMMAND_BITS,
             Reg::Ctl0    => self.controls.ctl0,
             Reg::Mask    => self.words.held(Reg::Mask),
             Reg::Stat    => self.stat(part),

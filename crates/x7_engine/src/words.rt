@@ -11,6 +11,9 @@ use crate::kept::Kept;
 use x7_regs::Reg;
 use x7_words::word_of;
 
+/// The bits of a word of CMD that are the command, bits 4 to 0 (UG470, command register).
+pub(crate) const COMMAND_BITS: u32 = 0x1F;
+
 /// The number of WBSTAR, which a reset keeps.
 const WBSTAR: usize = 16;
 
