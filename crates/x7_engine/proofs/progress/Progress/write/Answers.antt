@@ -9,13 +9,13 @@ use Rattle.x7_engine.proofs.progress.Progress.write.Goals as goal
 pub returns-clause-takes : goal.returns-clause-takes
 returns-clause-takes c = λ h e p.
     let access : Access = Write (number_of c.args.reg) c.args.word in
-    let cleared : c.c.clears_by-cleared.result ≡ clears_check h access = c.c.clears_by-cleared.ensures ∙ ap (λ k. clears_by c.args.executed k access) p.check ∙ ap (λ o. clears_by o (running_check h) access) e in
+    let cleared : c.clears_by-cleared.result ≡ clears_check h access = c.clears_by-cleared.ensures ∙ ap (λ k. clears_by c.args.executed k access) p.check ∙ ap (λ o. clears_by o (running_check h) access) e in
     c.both-taken.ensures ∙ ap (λ b. b && c.args.self.now.pending) cleared ∙ ap (λ b. clears_check h access && b) p.pending
 
 pub returns-clause-stands : goal.returns-clause-stands
 returns-clause-stands c = λ h place e p.
     let access : Access = Write (number_of c.args.reg) c.args.word in
-    let cleared : c.c.clears_by-cleared.result ≡ clears_check h access = c.c.clears_by-cleared.ensures ∙ ap (λ k. clears_by c.args.executed k access) p.check ∙ ap (λ o. clears_by o (running_check h) access) e in
+    let cleared : c.clears_by-cleared.result ≡ clears_check h access = c.clears_by-cleared.ensures ∙ ap (λ k. clears_by c.args.executed k access) p.check ∙ ap (λ o. clears_by o (running_check h) access) e in
     let taken : c.both-taken.result ≡ takes_shutdown h access = c.both-taken.ensures ∙ ap (λ b. b && c.args.self.now.pending) cleared ∙ ap (λ b. clears_check h access && b) p.pending in
     record {
       check = c.check_after_write.ensures h place p.check e;
