@@ -15,8 +15,8 @@ use Rattle.x7_engine.specs.Value.{failure_of}
 use Rattle.x7_engine.specs.declared.fault.Fault.{Fault}
 use Rattle.x7_engine.specs.declared.fault.Fault.TheVariants as fault
 use Rattle.x7_engine.specs.declared.kept.Kept.{Kept}
-use Rattle.x7_engine.specs.declared.stop.Stop.{Stop}
-use Rattle.x7_engine.specs.declared.stop.Stop.TheVariants as stop
+use Rattle.x7_engine.specs.declared.stop.StopCause.{StopCause}
+use Rattle.x7_engine.specs.declared.stop.StopCause.TheVariants as stop
 use Rattle.x7_boot.specs.Attempt.{IsAttemptOver, NoneBefore, AttemptCourse, ending_at, ending_by, failed_by}
 use Rattle.x7_regs.specs.Control.{forbids_fallback}
 use Rattle.x7_boot.specs.Boot.{BootedState, IsBoot, LeadsToEnd, end_state, next_by, tried}
@@ -57,7 +57,7 @@ failed_is : (o : Option Cause) (cause : Cause) → failed_by o ≡ Some (ending.
 failed_is None cause e = absurd (cc)
 failed_is (Some c) cause e = cc
 
-cause_by : (o : Option Stop) (cause : Cause) → ending_by o ≡ Some (ending.Failed cause) → failure_of (stop_fault o) false ≡ Some cause
+cause_by : (o : Option StopCause) (cause : Cause) → ending_by o ≡ Some (ending.Failed cause) → failure_of (stop_fault o) false ≡ Some cause
 cause_by None cause e = failed_is None cause e
 cause_by (Some stop.Iprog) cause e = absurd (cc)
 cause_by (Some (stop.Fault f)) cause e = failed_is (failure_of (Some f) false) cause e
@@ -95,12 +95,12 @@ never_ends part kept from n none = elim (cases_lt n (suc (length from))) [
 
 pub cause_is : (part : PartData) (flash : List ℕ) (t : AttemptCourse) (cause : Cause) → IsAttemptOver part flash t → t.ending ≡ ending.Failed cause → failure_of (stop_fault (why_of (stop_in part t.kept t.bytes))) t.wrapped ≡ Some cause
 cause_is part flash t cause (inl first) e =
-    let why : Option Stop = why_of (stop_in part t.kept t.bytes) in
+    let why : Option StopCause = why_of (stop_in part t.kept t.bytes) in
     let ends : ending_by why ≡ Some (ending.Failed cause) = not_started ((state_of part t.kept false t.bytes).phase == 7) (ending_by why) cause (first.ends ∙ ap Some e) in
     ap (failure_of (stop_fault why)) first.in_flash ∙ cause_by why cause ends
 cause_is part flash t cause (inr out) e =
     let from : List ℕ = drop t.address flash in
-    let why : Option Stop = why_of (stop_in part t.kept t.bytes) in
+    let why : Option StopCause = why_of (stop_in part t.kept t.bytes) in
     let none : ending_at part t.kept t.bytes ≡ None = ap (ending_at part t.kept) out.taken ∙ never_ends part t.kept from (taken_of part t.kept from) out.none in
     let open_end : ending_by why ≡ None = not_ended ((state_of part t.kept false t.bytes).phase == 7) (ending_by why) none in
     ap (failure_of (stop_fault why)) out.past_end ∙ wrapped_by (stop_fault why) (no_cause why open_end) ∙ some_failed Wrap cause (sym out.failed ∙ e)

@@ -9,8 +9,8 @@ use Rattle.x7_engine.specs.Kept.{is_fallback}
 use Rattle.x7_engine.specs.State.{why_of, state_of, stop_in, taken_of}
 use Rattle.x7_engine.specs.Value.{failure_of}
 use Rattle.x7_engine.specs.declared.kept.Kept.{Kept}
-use Rattle.x7_engine.specs.declared.stop.Stop.{Stop}
-use Rattle.x7_engine.specs.declared.stop.Stop.TheVariants as stop
+use Rattle.x7_engine.specs.declared.stop.StopCause.{StopCause}
+use Rattle.x7_engine.specs.declared.stop.StopCause.TheVariants as stop
 use Rattle.x7_engine.proofs.CheckedLemmas.{check_equals, idcode_matches, none_before, phase_started}
 use Rattle.x7_regs.specs.declared.boot_status.Cause.{Cause}
 use Rattle.x7_boot.specs.Attempt.{IsAttemptOver, AttemptCourse, ending_at, ending_by, failed_by}
@@ -29,12 +29,12 @@ no_cause_starts : (c : Option Cause) → failed_by c ≡ Some ending.Started →
 no_cause_starts None e = absurd (cc)
 no_cause_starts (Some c) e = absurd (cc)
 
-no_stop_starts : (o : Option Stop) → ending_by o ≡ Some ending.Started → ⊥
+no_stop_starts : (o : Option StopCause) → ending_by o ≡ Some ending.Started → ⊥
 no_stop_starts None e = absurd (cc)
 no_stop_starts (Some stop.Iprog) e = absurd (cc)
 no_stop_starts (Some (stop.Fault f)) e = no_cause_starts (failure_of (Some f) false) e
 
-starts_by : (b : Bool) (o : Option Stop) → (if b then Some ending.Started else ending_by o) ≡ Some ending.Started → b ≡ true
+starts_by : (b : Bool) (o : Option StopCause) → (if b then Some ending.Started else ending_by o) ≡ Some ending.Started → b ≡ true
 starts_by true o e = refl
 starts_by false o e = absurd (no_stop_starts o e)
 

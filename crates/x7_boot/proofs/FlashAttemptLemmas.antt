@@ -11,8 +11,8 @@ use Rattle.x7_regs.specs.declared.boot_status.Cause.TheVariants.{Wrap}
 use Rattle.x7_regs.specs.declared.boot_status.Kind.TheVariants.{Bench}
 use Rattle.x7_engine.specs.declared.kept.Kept.{Kept}
 use Rattle.x7_engine.specs.declared.regs.Regs.{Regs}
-use Rattle.x7_engine.specs.declared.stop.Stop.{Stop}
-use Rattle.x7_engine.specs.declared.stop.Stop.TheVariants as stop
+use Rattle.x7_engine.specs.declared.stop.StopCause.{StopCause}
+use Rattle.x7_engine.specs.declared.stop.StopCause.TheVariants as stop
 use Rattle.x7_engine.specs.Standing.{DeviceState, DeviceStandsFor, MayWrap, NoWordDue}
 use Rattle.x7_engine.specs.State.{why_of, state_of, stop_in, taken_of, taken_by}
 use Rattle.x7_engine.specs.Stop.{Stopped, stop_fault, stopped_at}
@@ -41,7 +41,7 @@ no_ending : (part : PartData) (kept : Kept) (bytes : List ℕ) → ending_at par
 no_ending part kept bytes none = sym (ends_by_stop part kept bytes (not_started part kept bytes none)) ∙ none
 
 -- what ends no attempt is no cause of a failure
-pub no_cause : (o : Option Stop) → ending_by o ≡ None → failure_of (stop_fault o) false ≡ None
+pub no_cause : (o : Option StopCause) → ending_by o ≡ None → failure_of (stop_fault o) false ≡ None
 no_cause None e = refl
 no_cause (Some stop.Iprog) e = refl
 no_cause (Some (stop.Fault f)) e = by (failure_of (Some f) false) e
@@ -50,7 +50,7 @@ no_cause (Some (stop.Fault f)) e = by (failure_of (Some f) false) e
     by None e = refl
     by (Some c) e = cc
 
-not_left : (o : Option Stop) → ending_by o ≡ None → o ≡ Some stop.Iprog → ⊥
+not_left : (o : Option StopCause) → ending_by o ≡ None → o ≡ Some stop.Iprog → ⊥
 not_left o e f = let some : ending_by o ≡ Some Iprog = ap ending_by f in cc
 
 -- the flash may end where nothing ended the attempt
@@ -188,7 +188,7 @@ stays_open part kept bytes more fits some none = by (stop_in part kept bytes) re
 stop_at_last : (part : PartData) (kept : Kept) (d : DeviceState) (bytes : List ℕ) → DeviceStandsFor part kept false d bytes → (s : Stopped) → stop_in part kept bytes ≡ Some s → s.place ≡ length bytes
 stop_at_last part kept d bytes stands s e = by d.registers.stop (sym e ∙ stands.stop_is)
   where
-    by : (o : Option Stop) → Some s ≡ stopped_at (length bytes) o → s.place ≡ length bytes
+    by : (o : Option StopCause) → Some s ≡ stopped_at (length bytes) o → s.place ≡ length bytes
     by None f = cc
     by (Some why) f = cc
 

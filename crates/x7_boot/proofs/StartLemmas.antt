@@ -7,7 +7,7 @@ use Rattle.x7_words.proofs.ListLemmas.{all_take}
 use Rattle.x7_packets.specs.History.{Entry, History, executes, history_of, until}
 use Rattle.x7_packets.proofs.GrowthLemmas.{prefix_of}
 use Rattle.x7_part.specs.Part.{PartData}
-use Rattle.x7_engine.specs.Checked.{HasStarted}
+use Rattle.x7_engine.specs.Checked.{HasStartAndDesync}
 use Rattle.x7_engine.specs.State.{history_by, history_taken, last_counted, why_of, state_of, stop_in, taken_of}
 use Rattle.x7_engine.specs.Stop.{Stopped}
 use Rattle.x7_engine.specs.declared.kept.Kept.{Kept}
@@ -57,7 +57,7 @@ never_taken part kept bytes never = by (stop_in part kept bytes)
 -- startup hasn't begun
 phase_none : (part : PartData) (kept : Kept) (wrapped : Bool) (bytes : List ℕ) → AreBytes bytes → NeverStarts (history_of bytes) → 0 < (state_of part kept wrapped bytes).phase → ⊥
 phase_none part kept wrapped bytes fits never late =
-    let s : HasStarted part.idcode (history_taken part kept bytes) (taken_of part kept bytes) = phase_started part kept wrapped bytes fits late in
+    let s : HasStartAndDesync part.idcode (history_taken part kept bytes) (taken_of part kept bytes) = phase_started part kept wrapped bytes fits late in
     no_pair s.newer s.between s.older s.desync s.start (subst NeverStarts s.split (never_taken part kept bytes never)) s.desync_is s.start_is
 
 -- phase 7 is a phase above 0

@@ -13,8 +13,8 @@ use Rattle.x7_engine.specs.Value.{failure_of}
 use Rattle.x7_engine.specs.declared.fed.Fed.{Fed}
 use Rattle.x7_engine.specs.declared.fed.Fed.TheVariants as fed
 use Rattle.x7_engine.specs.declared.kept.Kept.{Kept}
-use Rattle.x7_engine.specs.declared.stop.Stop.{Stop}
-use Rattle.x7_engine.specs.declared.stop.Stop.TheVariants as stop
+use Rattle.x7_engine.specs.declared.stop.StopCause.{StopCause}
+use Rattle.x7_engine.specs.declared.stop.StopCause.TheVariants as stop
 use Rattle.x7_boot.specs.declared.attempt.Ending.{Ending}
 use Rattle.x7_boot.specs.declared.attempt.Ending.TheVariants.{Started, Iprog, Failed}
 use Rattle.x7_boot.specs.declared.attempt.Step.{Step}
@@ -26,7 +26,7 @@ failed_by None = None
 failed_by (Some cause) = Some (Failed cause)
 
 -- what a stop ends an attempt by: an obeyed IPROG, or a fault Id, Crc or Watchdog; another fault doesn't end it
-abbrev pub ending_by : Option Stop → Option Ending
+abbrev pub ending_by : Option StopCause → Option Ending
 ending_by (Some stop.Iprog) = Some Iprog
 ending_by why = failed_by (failure_of (stop_fault why) false)
 

@@ -6,13 +6,13 @@ use Rattle.x7_part.specs.Part.{PartData}
 use Rattle.x7_regs.specs.Register.{number_of}
 use Rattle.x7_regs.specs.declared.register.Reg.TheVariants.{Crc, Idcode}
 use Rattle.x7_flow.specs.Controls.{same_idcode}
-use Rattle.x7_engine.specs.Checked.{HasStarted, StandsIn}
+use Rattle.x7_engine.specs.Checked.{HasStartAndDesync, StandsIn}
 use Rattle.x7_engine.specs.State.{history_taken, taken_of}
 use Rattle.x7_engine.specs.declared.kept.Kept.{Kept}
 
 -- START was executed on a matched device and DESYNC after it, and before the last byte every write to CRC had the
 -- running check and every write to IDCODE the part's idcode
 pub record HasChecked (part : PartData) (kept : Kept) (bytes : List ℕ) : Type 0 where
-  pub started : HasStarted part.idcode (history_taken part kept bytes) (taken_of part kept bytes)
+  pub started : HasStartAndDesync part.idcode (history_taken part kept bytes) (taken_of part kept bytes)
   pub checks : (w place : ℕ) (older : History) → StandsIn (history_taken part kept bytes) (Write (number_of Crc) w) place older → place < taken_of part kept bytes → w ≡ running_check older
   pub idcodes : (w place : ℕ) (older : History) → StandsIn (history_taken part kept bytes) (Write (number_of Idcode) w) place older → place < taken_of part kept bytes → IsTrue (same_idcode part.idcode w)

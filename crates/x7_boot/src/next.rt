@@ -12,7 +12,7 @@ ghost use Rattle.x7_boot.specs.declared.next.Next.TheVariants as next;
 
 use crate::attempt::Ending;
 use crate::boots::BootEnd;
-use x7_engine::{Device, Kept, is_a_fallback};
+use x7_engine::{Device, Kept, is_fallback};
 use x7_regs::{Kind, forbids_fallback};
 
 /// The most attempts of a boot that may end by IPROG (this project's choice).
@@ -63,7 +63,7 @@ pub(crate) fn next_of(device: &Device, kind: Kind, number: u32, ending: Ending) 
             }
         }
         Ending::Failed(_) => {
-            if is_a_fallback(kind) || forbids_fallback(device.state().ctl0) {
+            if is_fallback(kind) || forbids_fallback(device.state().ctl0) {
                 return Next::Ends(BootEnd::Stopped);
             }
             Next::Again {

@@ -10,8 +10,8 @@ use Rattle.x7_engine.specs.Kept.{on_the_bench}
 use Rattle.x7_engine.specs.Standing.{DeviceState, DeviceStandsFor, NoWordDue}
 use Rattle.x7_engine.proofs.BootLemmas.{none_due_at_first}
 use Rattle.x7_engine.specs.Undo.{AreEqual, IsUndoOf, KeepsDevice, TookFewSince, UndoState}
-use Rattle.x7_debug.specs.Journal.{ComesToPosition, IsFedAtMost, MoveCosts, IsOn, IsRecord, JournalState, LeadBack, oldest_by, records_of}
-use Rattle.x7_debug.specs.Kept.{session_of}
+use Rattle.x7_debug.specs.Journal.{ComesToPosition, IsFedAtMost, MoveCosts, IsOnStream, IsRecord, JournalState, LeadBack, oldest_by, records_of}
+use Rattle.x7_debug.specs.SessionFields.{session_of}
 use Rattle.x7_debug.specs.Moving.{ComesForward, ComesForwardRecorded}
 use Rattle.x7_debug.specs.Position.{last_of}
 use Rattle.x7_debug.specs.Session.{SessionState, StandsAtPosition}
@@ -101,7 +101,7 @@ refed part stream d e n q s =
         registers_are = t.registers_are;
         cutter_is = t.cutter_is;
         due_are = t.due_are;
-        at_rest = t.at_rest;
+        none_due_at_stop = t.none_due_at_stop;
       };
       taken = s.taken;
       within = s.within;
@@ -191,26 +191,26 @@ some_there (v ∷ us) (suc i) l e = some_there us i (omega (arith, l)) e
 -- ---- a device on its way
 
 -- no records
-pub on_without : (stream : List ℕ) (d : DeviceState) (j k : JournalState) (part : PartData) (n : ℕ) → StandsAtPosition part stream d n → AllByRecursion (IsUndoOf part) j.all → k ≡ record j { count = 0 } → IsOn d.part stream d k
+pub on_without : (stream : List ℕ) (d : DeviceState) (j k : JournalState) (part : PartData) (n : ℕ) → StandsAtPosition part stream d n → AllByRecursion (IsUndoOf part) j.all → k ≡ record j { count = 0 } → IsOnStream d.part stream d k
 on_without stream d j k part n s a e =
     let there : d.part ≡ part = s.stands.part_is in
-    subst (λ (x : JournalState). IsOn d.part stream d x) (sym e) (record {
+    subst (λ (x : JournalState). IsOnStream d.part stream d x) (sym e) (record {
       stands = own part stream d n s;
       records = subst (λ (p : PartData). AllByRecursion (IsUndoOf p) j.all) (sym there) a;
       few = omega arith;
       leads = tt;
     })
 
-pub on_empty : (part : PartData) (stream : List ℕ) (d : DeviceState) (j : JournalState) (n : ℕ) → StandsAtPosition part stream d n → AllByRecursion (IsUndoOf part) j.all → j.count ≡ 0 → IsOn d.part stream d j
+pub on_empty : (part : PartData) (stream : List ℕ) (d : DeviceState) (j : JournalState) (n : ℕ) → StandsAtPosition part stream d n → AllByRecursion (IsUndoOf part) j.all → j.count ≡ 0 → IsOnStream d.part stream d j
 on_empty part stream d j n s a e = on_without stream d j j part n s a (ap (λ (k : ℕ). record j { count = k }) e)
 
 -- a record more
-pub on_more : (part : PartData) (stream : List ℕ) (d new : DeviceState) (j k : JournalState) (to : ℕ) (u : UndoState) → IsOn part stream d j → StandsAtPosition part stream new to → d.taken ≤ to → to ≤ d.taken + 4 → AllByRecursion (IsUndoOf part) k.all → KeepsDevice u d
-    → records_of k ≡ u ∷ take 63 (records_of j) → IsOn new.part stream new k
+pub on_more : (part : PartData) (stream : List ℕ) (d new : DeviceState) (j k : JournalState) (to : ℕ) (u : UndoState) → IsOnStream part stream d j → StandsAtPosition part stream new to → d.taken ≤ to → to ≤ d.taken + 4 → AllByRecursion (IsUndoOf part) k.all → KeepsDevice u d
+    → records_of k ≡ u ∷ take 63 (records_of j) → IsOnStream new.part stream new k
 on_more part stream d new j k to u o s low high a keeps e =
     let there : new.part ≡ part = s.stands.part_is in
     let leads : LeadBack part stream to (records_of k) = subst (LeadBack part stream to) (sym e) (leads_more part stream d d.taken to u (records_of j) o.stands keeps low high o.leads) in
-    subst (λ (p : PartData). IsOn p stream new k) (sym there) (record {
+    subst (λ (p : PartData). IsOnStream p stream new k) (sym there) (record {
       stands = by_taken part stream new to s;
       records = a;
       few = omega (arith, ap length e, length-take 63 (records_of j));
@@ -218,13 +218,13 @@ on_more part stream d new j k to u o s low high a keeps e =
     })
 
 -- a record less
-pub on_less : (part : PartData) (stream : List ℕ) (d new : DeviceState) (j k : JournalState) (u : UndoState) → IsOn part stream d j → records_of j ≡ u ∷ records_of k → AllByRecursion (IsUndoOf part) k.all
+pub on_less : (part : PartData) (stream : List ℕ) (d new : DeviceState) (j k : JournalState) (u : UndoState) → IsOnStream part stream d j → records_of j ≡ u ∷ records_of k → AllByRecursion (IsUndoOf part) k.all
     → ((more : List ℕ) (old : DeviceState) → KeepsDevice u old → NoWordDue old → length more ≤ 4 → DeviceStandsFor part on_the_bench false old (take u.taken stream) → DeviceStandsFor part on_the_bench false d (take u.taken stream ++ more) → AreEqual new old)
-    → IsOn new.part stream new k × (new.taken ≡ u.taken) × (u.taken ≤ d.taken) × (d.taken ≤ u.taken + 4)
+    → IsOnStream new.part stream new k × (new.taken ≡ u.taken) × (u.taken ≤ d.taken) × (d.taken ≤ u.taken + 4)
 on_less part stream d new j k u o e a back =
     let leads : LeadBack part stream d.taken (u ∷ records_of k) = subst (LeadBack part stream d.taken) e o.leads in
     let s : StandsAtPosition part stream new u.taken = goes_back part stream d new d.taken u leads.0 o.stands leads.1 leads.2 back in (
-      subst (λ (p : PartData). IsOn p stream new k) (sym s.stands.part_is) (record {
+      subst (λ (p : PartData). IsOnStream p stream new k) (sym s.stands.part_is) (record {
         stands = by_taken part stream new u.taken s;
         records = a;
         few = omega (arith, ap length e, o.few);
@@ -236,11 +236,11 @@ on_less part stream d new j k u o e a back =
     )
 
 -- the newest record still leads back
-pub on_further : (part : PartData) (stream : List ℕ) (d new : DeviceState) (j : JournalState) (to : ℕ) (u : UndoState) (older : List UndoState) → IsOn part stream d j → records_of j ≡ u ∷ older → StandsAtPosition part stream new to → d.taken ≤ to → to ≤ u.taken + 4
-    → IsOn new.part stream new j
+pub on_further : (part : PartData) (stream : List ℕ) (d new : DeviceState) (j : JournalState) (to : ℕ) (u : UndoState) (older : List UndoState) → IsOnStream part stream d j → records_of j ≡ u ∷ older → StandsAtPosition part stream new to → d.taken ≤ to → to ≤ u.taken + 4
+    → IsOnStream new.part stream new j
 on_further part stream d new j to u older o e s low high =
     let leads : LeadBack part stream to (records_of j) = subst (LeadBack part stream to) (sym e) (leads_further part stream d.taken to u older low high (subst (LeadBack part stream d.taken) e o.leads)) in
-    subst (λ (p : PartData). IsOn p stream new j) (sym s.stands.part_is) (record {
+    subst (λ (p : PartData). IsOnStream p stream new j) (sym s.stands.part_is) (record {
       stands = by_taken part stream new to s;
       records = o.records;
       few = o.few;
@@ -248,7 +248,7 @@ on_further part stream d new j to u older o e s low high =
     })
 
 -- the position, by the part that a device had before
-pub stands_of : (p q : PartData) (stream : List ℕ) (d : DeviceState) (j : JournalState) → p ≡ q → IsOn p stream d j → StandsAtPosition q stream d d.taken
+pub stands_of : (p q : PartData) (stream : List ℕ) (d : DeviceState) (j : JournalState) → p ≡ q → IsOnStream p stream d j → StandsAtPosition q stream d d.taken
 stands_of p q stream d j e o = subst (λ (x : PartData). StandsAtPosition x stream d d.taken) e o.stands
 
 -- a device after a reset
@@ -291,7 +291,7 @@ goes_forward old new l within oldest fed = record {
 }
 
 -- a session whose device came forward
-pub goes_recorded : (stream : List ℕ) (d new : DeviceState) (j k : JournalState) (n : ℕ) → IsOn d.part stream d j → d.taken < new.taken → ComesForwardRecorded stream d new k n → MoveCosts (session_of d stream j) (session_of new stream k)
+pub goes_recorded : (stream : List ℕ) (d new : DeviceState) (j k : JournalState) (n : ℕ) → IsOnStream d.part stream d j → d.taken < new.taken → ComesForwardRecorded stream d new k n → MoveCosts (session_of d stream j) (session_of new stream k)
 goes_recorded stream d new j k n o l c = goes_forward (session_of d stream j) (session_of new stream k) l (oldest_within d.part stream d.taken (records_of j) o.leads) c.oldest (c.forward.fed.never_less, c.forward.fed.most)
 
 -- a device comes to one position, and from there to another one
@@ -303,7 +303,7 @@ pub comes_on : (stream : List ℕ) (d e f : DeviceState) (j k : JournalState) (m
 comes_on stream d e f j k m n l h c x = record { there = comes_twice stream d e f j k m n c.there x.there; fed = fed_on d e f l h c.fed x.fed }
 
 -- a device stays where it is, and one that came forward is where it is
-pub comes_nowhere : (stream : List ℕ) (d : DeviceState) (j : JournalState) → IsOn d.part stream d j → ComesForward stream d d j d.taken
+pub comes_nowhere : (stream : List ℕ) (d : DeviceState) (j : JournalState) → IsOnStream d.part stream d j → ComesForward stream d d j d.taken
 comes_nowhere stream d j o = record { there = record { on = o; part = refl; taken = refl }; fed = fed_none d }
 
 pub comes_here : (stream : List ℕ) (d new : DeviceState) (j : JournalState) (n : ℕ) → ComesForward stream d new j n → ComesForward stream d new j new.taken

@@ -7,7 +7,7 @@ use Rattle.x7_words.proofs.ListLemmas.{all_prefix}
 use Rattle.x7_packets.specs.ByHand.{reading_of}
 use Rattle.x7_packets.specs.Reading.{is_synced as ends_synced}
 use Rattle.x7_part.specs.Part.{PartData}
-use Rattle.x7_engine.specs.declared.stop.Stop.{Stop as Line}
+use Rattle.x7_engine.specs.declared.stop.StopCause.{StopCause}
 use Rattle.x7_engine.specs.Kept.{on_the_bench}
 use Rattle.x7_engine.specs.State.{end_by, why_of, stop_in}
 use Rattle.x7_engine.specs.Stop.{Stopped}
@@ -37,9 +37,9 @@ none_before part stream n fits lt = by (stop_in part on_the_bench (take n stream
         let place = stop_place part on_the_bench (take n stream) s (all_prefix (λ b. b < 256) (take n stream) (drop n stream) fit) e in
         absurd (omega (arith, taken_stopped part on_the_bench stream s later, place.1, long, lt))
 
-going : (o : Option Line) (synced : Bool) (wbstar : ℕ) → o ≡ None → has_stopped (end_by o synced wbstar) ≡ false
-going o true wbstar e = ap (λ (x : Option Line). has_stopped (end_by x true wbstar)) e
-going o false wbstar e = ap (λ (x : Option Line). has_stopped (end_by x false wbstar)) e
+going : (o : Option StopCause) (synced : Bool) (wbstar : ℕ) → o ≡ None → has_stopped (end_by o synced wbstar) ≡ false
+going o true wbstar e = ap (λ (x : Option StopCause). has_stopped (end_by x true wbstar)) e
+going o false wbstar e = ap (λ (x : Option StopCause). has_stopped (end_by x false wbstar)) e
 
 not_stopped : (part : PartData) (stream : List ℕ) (n : ℕ) → AreBytes stream → n < last_of part stream → holds_at part stream stop.Stopped n ≡ false
 not_stopped part stream n fits lt = going (why_of (stop_in part on_the_bench (take n stream))) (ends_synced (reading_of (take n stream)).place) _ (ap why_of (none_before part stream n fits lt))

@@ -10,7 +10,7 @@ use Rattle.x7_words.proofs.ListLemmas.{all_prefix, take_up_to}
 use Rattle.x7_packets.specs.History.{history_of}
 use Rattle.x7_part.specs.Part.{PartData}
 use Rattle.x7_engine.specs.declared.fault.Fault.TheVariants as faults
-use Rattle.x7_engine.specs.declared.stop.Stop.TheVariants as stops
+use Rattle.x7_engine.specs.declared.stop.StopCause.TheVariants as stops
 use Rattle.x7_engine.specs.FirstStop.{why_at_byte, why_at_newest}
 use Rattle.x7_engine.specs.Kept.{on_the_bench}
 use Rattle.x7_engine.specs.Standing.{DeviceState, DeviceStandsFor, NoWordDue}

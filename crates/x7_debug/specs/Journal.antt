@@ -50,7 +50,7 @@ oldest_by at [] = at
 oldest_by at (u ∷ older) = oldest_by u.taken older
 
 -- a device at its position of the stream, and records that lead back from there
-pub record IsOn (part : PartData) (stream : List ℕ) (d : DeviceState) (j : JournalState) : Type 0 where
+pub record IsOnStream (part : PartData) (stream : List ℕ) (d : DeviceState) (j : JournalState) : Type 0 where
   pub stands : StandsAtPosition part stream d d.taken
   pub records : AreRecordsOf part j
   pub few : length (records_of j) ≤ record_room
@@ -58,7 +58,7 @@ pub record IsOn (part : PartData) (stream : List ℕ) (d : DeviceState) (j : Jou
 
 -- a device came to position n of the stream, and these records lead back from there
 pub record ComesToPosition (stream : List ℕ) (old new : DeviceState) (j : JournalState) (n : ℕ) : Type 0 where
-  pub on : IsOn new.part stream new j
+  pub on : IsOnStream new.part stream new j
   pub part : new.part ≡ old.part
   pub taken : new.taken ≡ n
 

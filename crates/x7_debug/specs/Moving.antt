@@ -2,12 +2,12 @@
 -- what they come to (this project's choice).
 use Rattle.std.specs.Prelude.{◌≡◌, ◌≤◌, ◌<◌, ◌-◌, ℕ, List, max}
 use Rattle.x7_engine.specs.Standing.{DeviceState}
-use Rattle.x7_debug.specs.Journal.{ComesToPosition, IsFedAtMost, IsOn, JournalState, oldest_by, reach, records_of}
+use Rattle.x7_debug.specs.Journal.{ComesToPosition, IsFedAtMost, IsOnStream, JournalState, oldest_by, reach, records_of}
 use Rattle.x7_debug.specs.Position.{last_of}
 
 -- a device on its stream, with its records, can be brought to a position, which isn't past the last one
 pub record MayMove (stream : List ℕ) (d : DeviceState) (j : JournalState) (to : ℕ) : Type 0 where
-  pub on : IsOn d.part stream d j
+  pub on : IsOnStream d.part stream d j
   pub within : to ≤ last_of d.part stream
 
 -- a device on its stream, with its records, can be brought forward to a position, which isn't past the last one
@@ -17,13 +17,13 @@ pub record MayMoveForward (stream : List ℕ) (d : DeviceState) (j : JournalStat
 
 -- a device on its stream can be brought back to an earlier position to which its records lead
 pub record MayMoveBack (stream : List ℕ) (d : DeviceState) (j : JournalState) (to : ℕ) : Type 0 where
-  pub on : IsOn d.part stream d j
+  pub on : IsOnStream d.part stream d j
   pub before : to < d.taken
   pub led : oldest_by d.taken (records_of j) ≤ to
 
 -- a device on its stream, with its records, is before the last position
 pub record IsBeforeLast (stream : List ℕ) (d : DeviceState) (j : JournalState) (last : ℕ) : Type 0 where
-  pub on : IsOn d.part stream d j
+  pub on : IsOnStream d.part stream d j
   pub last_is : last ≡ last_of d.part stream
   pub before : d.taken < last
 

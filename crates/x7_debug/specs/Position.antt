@@ -24,9 +24,9 @@ abbrev pub memory_at_position : PartData → List ℕ → ℕ → FrameMap
 memory_at_position part stream n = memory_in part on_the_bench (take n stream)
 
 -- the bytes end in a session
-abbrev pub is_synced_end : End → Bool
-is_synced_end at_end.Synced = true
-is_synced_end _ = false
+abbrev pub is_synced : End → Bool
+is_synced at_end.Synced = true
+is_synced _ = false
 
 -- the bytes end in a gap, where the sync word is searched
 abbrev pub is_searching : End → Bool
@@ -41,7 +41,7 @@ has_stopped _ = false
 
 -- the stop of an order `until` holds where the bytes end so, in this phase of startup
 abbrev pub holds_in : Stop → End → ℕ → Bool
-holds_in stop.Synced end phase = is_synced_end end
+holds_in stop.Synced end phase = is_synced end
 holds_in stop.Searching end phase = is_searching end
 holds_in stop.Stopped end phase = has_stopped end
 holds_in (stop.Phase wanted) end phase = phase == wanted

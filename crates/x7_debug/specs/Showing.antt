@@ -21,15 +21,15 @@ position_after part stream at order.Regs = at
 position_after part stream at order.Phase = at
 position_after part stream at (order.Frame far) = at
 
--- the position that orders bring a session to that begins at 0
+-- the position that orders bring a session to which begins at position 0
 abbrev pub final_position : PartData → List ℕ → List Order → ℕ
 final_position part stream orders = fold (position_after part stream) 0 orders
 
--- following orders from position 0 on has brought a session here
+-- a session moved to where these orders lead from position 0 on
 abbrev pub FollowsOrders : SessionState → SessionState → List Order → Type 0
 FollowsOrders old new orders = MovesTo old new (final_position old.part old.stream orders)
 
--- following the first few of the orders from position 0 on has brought a session here
+-- a session moved to where the first of the orders lead from position 0 on: some of them, none or all
 abbrev pub FollowsSome : SessionState → SessionState → List Order → Type 0
 FollowsSome old new orders = (done : List Order) × (left : List Order) × (orders ≡ done ++ left) × FollowsOrders old new done
 

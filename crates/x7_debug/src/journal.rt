@@ -3,7 +3,7 @@ ghost use Rattle.std.specs.Prelude.{◌≡◌, ◌≤◌, ◌<◌, ◌+◌, ◌-
 ghost use Rattle.x7_engine.specs.Past.{OfPast};
 ghost use Rattle.x7_engine.specs.Standing.{NoWordDue, fed_of};
 ghost use Rattle.x7_engine.specs.Undo.{KeepsDevice, UndoState};
-ghost use Rattle.x7_debug.specs.Journal.{AreRecordsOf, IsFedAtMost, IsOn, oldest_by, record_bytes, record_room, records_of};
+ghost use Rattle.x7_debug.specs.Journal.{AreRecordsOf, IsFedAtMost, IsOnStream, oldest_by, record_bytes, record_room, records_of};
 ghost use Rattle.x7_debug.specs.Session.{TakesPiece};
 
 use circular_buffer::HeapCircularBuffer;
@@ -95,12 +95,12 @@ impl Journal {
     pub(crate) fn back(&mut self, device: &mut Device)
         requires some { 0 < self.old.count }
         requires records { AreRecordsOf device.old.part self.old }
-        requires on { (stream : List ℕ) × IsOn device.old.part stream device.old self.old }
-        ensures back { (stream : List ℕ) → IsOn device.old.part stream device.old self.old → IsOn device.new.part stream device.new self.new }
-        ensures less { (stream : List ℕ) → IsOn device.old.part stream device.old self.old → device.new.taken ≤ device.old.taken × device.old.taken ≤ device.new.taken + record_bytes }
+        requires on { (stream : List ℕ) × IsOnStream device.old.part stream device.old self.old }
+        ensures back { (stream : List ℕ) → IsOnStream device.old.part stream device.old self.old → IsOnStream device.new.part stream device.new self.new }
+        ensures less { (stream : List ℕ) → IsOnStream device.old.part stream device.old self.old → device.new.taken ≤ device.old.taken × device.old.taken ≤ device.new.taken + record_bytes }
         ensures fed { fed_of device.new ≡ fed_of device.old }
-        ensures oldest { (stream : List ℕ) → IsOn device.old.part stream device.old self.old → oldest_by device.new.taken (records_of self.new) ≡ oldest_by device.old.taken (records_of self.old) }
-        ensures room_for_one { (stream : List ℕ) → IsOn device.old.part stream device.old self.old → length (records_of self.new) < record_room }
+        ensures oldest { (stream : List ℕ) → IsOnStream device.old.part stream device.old self.old → oldest_by device.new.taken (records_of self.new) ≡ oldest_by device.old.taken (records_of self.old) }
+        ensures room_for_one { (stream : List ℕ) → IsOnStream device.old.part stream device.old self.old → length (records_of self.new) < record_room }
         ensures count { self.new.count + 1 ≡ self.old.count }
         ensures part { device.new.part ≡ device.old.part }
     {

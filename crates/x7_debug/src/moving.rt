@@ -2,8 +2,8 @@
 ghost use Rattle.std.specs.Prelude.{◌≡◌, ◌≤◌, ◌<◌, ◌+◌, ◌-◌, ◌^◌, length};
 ghost use Rattle.x7_engine.specs.Past.{OfPast};
 ghost use Rattle.x7_engine.specs.Standing.{NoWordDue, fed_of};
-ghost use Rattle.x7_debug.specs.Journal.{ComesToPosition, MoveCosts, HasRecorded, IsFedAtMost, IsOn, oldest_by, reach, record_bytes, record_room, records_of};
-ghost use Rattle.x7_debug.specs.Kept.{session_of};
+ghost use Rattle.x7_debug.specs.Journal.{ComesToPosition, MoveCosts, HasRecorded, IsFedAtMost, IsOnStream, oldest_by, reach, record_bytes, record_room, records_of};
+ghost use Rattle.x7_debug.specs.SessionFields.{session_of};
 ghost use Rattle.x7_debug.specs.Moving.{ComesForward, ComesForwardRecorded, MayMove, MayMoveBack, MayMoveForward};
 ghost use Rattle.x7_debug.specs.Position.{last_of};
 ghost use Rattle.x7_debug.specs.Session.{StandsAtPosition, TakesPiece};
@@ -23,7 +23,7 @@ pub(crate) const REACH: u64 = (RECORD_ROOM as u64 - 1) * RECORD_BYTES + 1;
 const RECORDED_BYTES: u64 = RECORD_ROOM as u64 * RECORD_BYTES;
 
 /// Feeds a piece to a device, up to what stops it. Words read out are dropped.
-pub(crate) fn take(device: &mut Device, piece: &[u8])
+pub(crate) fn feed_piece(device: &mut Device, piece: &[u8])
     requires { device.old.taken + length piece.now ≤ 2 ^ 63 }
     ensures stands { TakesPiece device.old device.new piece.now }
     ensures no_word_due { OfPast device.old (λ p. NoWordDue device.new) }
@@ -42,7 +42,7 @@ pub(crate) fn feed_to(device: &mut Device, stream: &[u8], to: u64)
     ensures fed { IsFedAtMost device.old device.new (device.new.taken - device.old.taken) }
 {
     let from = device.taken() as usize;
-    take(device, &stream[from..to as usize]);
+    feed_piece(device, &stream[from..to as usize]);
 }
 
 /// Feeds a device up to four bytes of the stream, with a record of it before them.
@@ -93,7 +93,7 @@ fn go_forward(device: &mut Device, journal: &mut Journal, stream: &[u8], to: u64
 
 /// Resets a device, and forgets the records.
 fn begin_again(device: &mut Device, journal: &mut Journal, stream: &[u8])
-    requires { IsOn device.old.part stream.now device.old journal.old }
+    requires { IsOnStream device.old.part stream.now device.old journal.old }
     ensures at_position { ComesToPosition stream.now device.old device.new journal.new 0 }
     ensures fed { fed_of device.new ≡ fed_of device.old }
 {

@@ -1,6 +1,6 @@
 //! The orders of a script.
 
-/// What a session goes forward to.
+/// What holds at the position that an order `until` goes forward to.
 #[derive(Clone, Copy, Debug, Drop, PartialEq, Eq)]
 pub enum Stop {
     /// The bytes end in a session.
@@ -16,18 +16,18 @@ pub enum Stop {
 /// What a line of a script asks for.
 #[derive(Clone, Copy, Debug, Drop, PartialEq, Eq)]
 pub enum Order {
-    /// Forward by this many bytes.
+    /// Goes forward by this many bytes.
     Step(u32),
-    /// Back by this many bytes.
+    /// Goes back by this many bytes.
     Back(u32),
-    /// To this position.
+    /// Goes to this position.
     Go(u32),
-    /// Forward to the first later position like this.
+    /// Goes forward to the first later position where this holds.
     Until(Stop),
-    /// The registers.
+    /// Shows the registers.
     Regs,
-    /// The line of startup.
+    /// Shows the line of startup.
     Phase,
-    /// The frame at this address.
+    /// Shows the frame at this address.
     Frame(u32),
 }

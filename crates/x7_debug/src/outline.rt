@@ -2,16 +2,17 @@
 ghost use Rattle.std.specs.Prelude.{◌≡◌, IfOk};
 ghost use Rattle.x7_debug.specs.Position.{BeginsAtSoonest, last_of};
 
-use crate::moving::take;
+use crate::moving::feed_piece;
 use std::alloc::Global;
 use x7_engine::Device;
 use x7_part::Part;
 use x7_words::NoMemory;
 
-/// The last position of a stream, and one before which startup hasn't begun.
+/// What one play of a stream shows: its last position, and one before which startup hasn't begun.
 #[derive(Clone, Copy)]
 pub(crate) struct Outline {
     pub(crate) last: u64,
+    // a position before which startup hasn't begun
     pub(crate) begins: u64,
 }
 
@@ -23,7 +24,7 @@ impl Outline {
     {
         let mut device = Device::new(alloc, part)?;
         let begins = device.feed_until_begun(stream);
-        take(&mut device, &stream[begins..]);
+        feed_piece(&mut device, &stream[begins..]);
         Ok(Outline {
             last: device.taken(),
             begins: begins as u64,

@@ -63,11 +63,11 @@ pub fn script_of(alloc: Global, text: &[u8]) -> Result<Script, ScriptFault>
 {
     let mut orders = Vec::new(alloc);
     let mut rest = text;
-    let mut count: u64 = 0;
+    let mut line_number: u64 = 0;
     loop {
         let (line, more) = first_line(rest);
-        count += 1;
-        take_line(&mut orders, count, line)?;
+        line_number += 1;
+        take_line(&mut orders, line_number, line)?;
         match more {
             Some(after) => rest = after,
             None => return Ok(Script { orders }),

@@ -28,14 +28,14 @@ pub struct Session {
 }
 
 impl Model for Session {
-    ghost use Rattle.x7_debug.specs.Kept.{IsKeptSession, session_of};
+    ghost use Rattle.x7_debug.specs.SessionFields.{SessionFits, session_of};
     ghost use Rattle.x7_debug.specs.Session.{SessionState};
 
     ghost Value = { SessionState };
 
     ghost view = { λ s. session_of s.device s.stream.items s.journal };
 
-    ghost invariant = { λ s. IsKeptSession s.device s.stream.items s.outline.last s.outline.begins s.journal };
+    ghost invariant = { λ s. SessionFits s.device s.stream.items s.outline.last s.outline.begins s.journal };
 }
 
 impl Session {

@@ -15,12 +15,18 @@ use x7_report::{end_words, frame_line, phase_line, reg_lines};
 use x7_text::{hex_of_word, make_room, put, put_decimal};
 use x7_words::NoMemory;
 
-/// Appends where a move led.
+/// The most bytes of `at `, a position of up to 20 digits, and a blank.
+const POSITION_ROOM: usize = 24;
+
+/// The bytes of the line `none FAR`, with its end.
+const NONE_LINE_ROOM: usize = 14;
+
+/// Appends where a move led: the position, and where the bytes up to it end.
 #[tactic(auto, unfolding(crate::specs::Showing::position_text))]
 fn put_position(text: &mut Vec<u8>, regs: &Regs) -> Result<(), NoMemory>
     ensures { OnOk result (text.new.items ≡ text.old.items ++ position_text regs.now) }
 {
-    make_room(text, 24)?;
+    make_room(text, POSITION_ROOM)?;
     put(text, b"at ");
     put_decimal(text, regs.taken);
     put(text, b" ");
@@ -35,15 +41,20 @@ fn put_position(text: &mut Vec<u8>, regs: &Regs) -> Result<(), NoMemory>
 fn none_line(text: &mut Vec<u8>, far: u32) -> Result<(), NoMemory>
     ensures { OnOk result (text.new.items ≡ text.old.items ++ none_text far) }
 {
-    make_room(text, 14)?;
+    make_room(text, NONE_LINE_ROOM)?;
     put(text, b"none ");
     put(text, &hex_of_word(far));
     put(text, b"\n");
     Ok(())
 }
 
-/// Appends the line of the frame at an address.
-fn put_frame(text: &mut Vec<u8>, part: &Part, memory: &Memory, far: u32) -> Result<(), NoMemory>
+/// Appends the line of the frame at an address, or `none FAR` where there is no frame.
+fn put_frame_shown(
+    text: &mut Vec<u8>,
+    part: &Part,
+    memory: &Memory,
+    far: u32,
+) -> Result<(), NoMemory>
     requires { AreFramesOf part.now memory.now }
     ensures { OnOk result (text.new.items ≡ text.old.items ++ frame_shown far (frame_at part.now memory.now far)) }
 {
@@ -64,7 +75,7 @@ fn show(text: &mut Vec<u8>, session: &Session, order: Order) -> Result<(), NoMem
         }
         Order::Regs => reg_lines(text, &device.state()),
         Order::Phase => phase_line(text, &device.state()),
-        Order::Frame(far) => put_frame(text, device.part(), device.memory(), far),
+        Order::Frame(far) => put_frame_shown(text, device.part(), device.memory(), far),
     }
 }
 

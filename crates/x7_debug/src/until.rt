@@ -2,7 +2,7 @@
 ghost use Rattle.std.specs.Prelude.{◌≡◌, ◌≤◌, ◌<◌, ◌+◌, ◌-◌, ◌∷◌, ℕ, List, true, false, max};
 ghost use Rattle.x7_engine.specs.Undo.{UndoState};
 ghost use Rattle.x7_debug.specs.Journal.{ComesToPosition, MoveCosts, HasRecorded, reach, record_bytes, records_of};
-ghost use Rattle.x7_debug.specs.Kept.{IsKeptSession, session_of};
+ghost use Rattle.x7_debug.specs.SessionFields.{SessionFits, session_of};
 ghost use Rattle.x7_debug.specs.Moving.{ComesForward, ComesForwardRecorded, IsBeforeLast, MayMove, MayMoveForward};
 ghost use Rattle.x7_debug.specs.Position.{holds_at, holds_in, until_of};
 ghost use Rattle.x7_debug.specs.declared.order.Stop.TheVariants as to;
@@ -14,7 +14,7 @@ use crate::outline::Outline;
 use x7_engine::{Device, End};
 
 /// Whether a stop holds where the bytes end so, in this phase of startup.
-fn holds(stop: Stop, end: End, phase: u8) -> bool
+fn holds_in(stop: Stop, end: End, phase: u8) -> bool
     ensures { result ≡ holds_in stop end phase }
 {
     match (stop, end) {
@@ -27,24 +27,24 @@ fn holds(stop: Stop, end: End, phase: u8) -> bool
     }
 }
 
-/// Brings a device forward byte by byte to the first position where the stop holds, or to `end`, which is at most four
+/// Brings a device forward byte by byte to the first position where the stop holds, or to `bound`, which is at most four
 /// bytes after the newest record. Says whether the stop holds there.
-fn seek(device: &mut Device, journal: &Journal, stream: &[u8], end: u64, stop: Stop) -> bool
-    requires may { MayMoveForward stream.now device.old journal.now end }
-    requires some { (u : UndoState) × (older : List UndoState) × (records_of journal.now ≡ u ∷ older) × (end ≤ u.taken + record_bytes) }
+fn seek(device: &mut Device, journal: &Journal, stream: &[u8], bound: u64, stop: Stop) -> bool
+    requires may { MayMoveForward stream.now device.old journal.now bound }
+    requires some { (u : UndoState) × (older : List UndoState) × (records_of journal.now ≡ u ∷ older) × (bound ≤ u.taken + record_bytes) }
     ensures at_position { ComesForward stream.now device.old device.new journal.now device.new.taken }
-    ensures forward { device.old.taken ≤ device.new.taken × device.new.taken ≤ end }
+    ensures forward { device.old.taken ≤ device.new.taken × device.new.taken ≤ bound }
     ensures found { result ≡ true → holds_at device.old.part stream.now stop device.new.taken ≡ true }
-    ensures end { result ≡ false → device.new.taken ≡ end }
+    ensures at_bound { result ≡ false → device.new.taken ≡ bound }
     ensures none { (k : ℕ) → device.old.taken ≤ k → k < device.new.taken → holds_at device.old.part stream.now stop k ≡ false }
-    ensures none_at_end { result ≡ false → holds_at device.old.part stream.now stop end ≡ false }
+    ensures none_at_end { result ≡ false → holds_at device.old.part stream.now stop bound ≡ false }
 {
     loop {
-        if holds(stop, device.end(), device.phase()) {
+        if holds_in(stop, device.end(), device.phase()) {
             return true;
         }
         let at = device.taken();
-        if at >= end {
+        if at >= bound {
             return false;
         }
         feed_to(device, stream, at + 1);
@@ -110,7 +110,7 @@ fn go_to_phase(
     outline: Outline,
     phase: u8,
 )
-    requires kept { IsKeptSession device.old stream.now outline.last outline.begins journal.old }
+    requires kept { SessionFits device.old stream.now outline.last outline.begins journal.old }
     requires before { device.old.taken < outline.last }
     ensures at_position { ComesForwardRecorded stream.now device.old device.new journal.new (until_of device.old.part stream.now (to.Phase phase) device.old.taken) }
     ensures forward { device.old.taken < device.new.taken }
@@ -131,7 +131,7 @@ pub(crate) fn go_until(
     outline: Outline,
     stop: Stop,
 )
-    requires { IsKeptSession device.old stream.now outline.last outline.begins journal.old }
+    requires { SessionFits device.old stream.now outline.last outline.begins journal.old }
     ensures at_position { ComesToPosition stream.now device.old device.new journal.new (until_of device.old.part stream.now stop device.old.taken) }
     ensures costs { MoveCosts (session_of device.old stream.now journal.old) (session_of device.new stream.now journal.new) }
 {

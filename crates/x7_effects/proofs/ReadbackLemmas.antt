@@ -34,7 +34,7 @@ use Rattle.x7_engine.specs.Rest.{AtRest}
 use Rattle.x7_engine.specs.Startup.{startup_progress}
 use Rattle.x7_engine.specs.State.{reads_of}
 use Rattle.x7_engine.specs.Stop.{why_at}
-use Rattle.x7_engine.specs.Value.{answer_of, read_out, read_value, words_answered}
+use Rattle.x7_engine.specs.Value.{words_read_by, read_out, read_value, words_of_read}
 use Rattle.x7_engine.proofs.UntilLemmas.{phase_going}
 use Rattle.x7_effects.proofs.Checking.{Piece, pieces_length}
 use Rattle.x7_effects.specs.Played.{PlaysRead, resting_after, slot_words, words_along}
@@ -81,9 +81,9 @@ gives part h count some e f = let none : (count == 0) ≡ false = grind (arith, 
 read_none : (part : PartData) (h : History) (count : ℕ) → reads_frame_data h (access.Read 3 count) ≡ true → has_frame_at part (base_of part h) ≡ true → frame_fault part h (access.Read 3 count) ≡ None
 read_none part h count t a = ap (λ (b : Bool). fault_by part (if b then Reads count else Other) (flow_of part h)) t ∙ no_fault part (base_of part h) count a
 
-read_answer : (part : PartData) (kept : Kept) (h : History) (count place : ℕ) → reads_frame_data h (access.Read 3 count) ≡ true → why_at part kept h (access.Read 3 count) ≡ None → answer_of part kept h (access.Read 3 count) place ≡ frames_read part h count
+read_answer : (part : PartData) (kept : Kept) (h : History) (count place : ℕ) → reads_frame_data h (access.Read 3 count) ≡ true → why_at part kept h (access.Read 3 count) ≡ None → words_read_by part kept h (access.Read 3 count) place ≡ frames_read part h count
 read_answer part kept h count place t e =
-    ap (λ o. if is_some o then [] else words_answered (course_at part kept h place) 3 count) e
+    ap (λ o. if is_some o then [] else words_of_read (course_at part kept h place) 3 count) e
     ∙ ap (λ (b : Bool). if b then frames_read part h count else replicate count (read_value (course_at part kept h place) 3)) t
 
 -- ---- how much can be read
@@ -141,7 +141,7 @@ read_plays part kept bytes far n f r is has l =
     ∙ reading.words_read part far (memory_of part c) n (memory_has part c (omega (arith, is.words))) l
     ∙ along_same part (memory_of part c) (memory_of part h) far n same in
     let out : read_out part kept d ≡ read_out part kept h ++ words_along part (memory_of part h) far n =
-    ap (λ x. x ++ answer_of part kept c (access.Read 3 count) (at + 8)) (append-nil ((read_out part kept h ++ []) ++ []) ∙ append-nil (read_out part kept h ++ []) ∙ append-nil (read_out part kept h))
+    ap (λ x. x ++ words_read_by part kept c (access.Read 3 count) (at + 8)) (append-nil ((read_out part kept h ++ []) ++ []) ∙ append-nil (read_out part kept h ++ []) ∙ append-nil (read_out part kept h))
     ∙ ap (λ x. read_out part kept h ++ x) (read_answer part kept c count (at + 8) asks none ∙ words) in
     record {
       reads = reads_all part kept (bytes ++ stream_of pieces 4) all.rests_again.no_stop

@@ -10,7 +10,7 @@ use Rattle.x7_packets.proofs.HistoryLemmas.{entered_all_append}
 use Rattle.x7_words.proofs.WordLemmas.{words_by_chunks}
 use Rattle.x7_part.specs.Part.{PartData}
 use Rattle.x7_engine.specs.declared.kept.Kept.{Kept}
-use Rattle.x7_engine.specs.declared.stop.Stop.{Stop}
+use Rattle.x7_engine.specs.declared.stop.StopCause.{StopCause}
 use Rattle.x7_engine.specs.Standing.{RegistersStandFor, RegistersState, counted_in}
 use Rattle.x7_engine.proofs.TurnLemmas.{all_counted, counted_within, prefix_until}
 
@@ -93,7 +93,7 @@ word_on part kept old new register n i w left taken m ws h e l t k r g f s =
     let one : RegistersStandFor part kept new (until (counted_in new.stop m) (entry (Write register w) (n + taken + 4) ∷ prefix)) m =
     subst (λ (x : ℕ). RegistersStandFor part kept new (until (counted_in new.stop x) (entry (Write register w) (n + taken + 4) ∷ prefix)) x) here (f prefix (n + taken) (omega arith) s) in
     let all : until (counted_in new.stop m) (entry (Write register w) (n + taken + 4) ∷ prefix) ≡ entered_all n (payload_steps register (take (i + 1) ws)) h =
-    ap (λ (o : Option Stop). until (counted_in o m) (entry (Write register w) (n + taken + 4) ∷ prefix)) g
+    ap (λ (o : Option StopCause). until (counted_in o m) (entry (Write register w) (n + taken + 4) ∷ prefix)) g
     ∙ ap (λ (b : Bool). if b then until m prefix else entry (Write register w) (n + taken + 4) ∷ prefix) (le-ltb m (n + taken + 4) last)
     ∙ word_entered register n i w taken ws h e l t in
     subst (λ (x : History). RegistersStandFor part kept new x m) all one
@@ -103,5 +103,5 @@ pub words_all : (part : PartData) (kept : Kept) (d : RegistersState) (register n
     → RegistersStandFor part kept d (until (counted_in d.stop m) (entered_all n (payload_steps register ws) h)) m
 words_all part kept d register n i m ws h l e s =
     let all : take i ws ≡ ws = take_all i ws l in
-    all_counted part kept d (entered_all n (payload_steps register ws) h) m (ap (λ (o : Option Stop). counted_in o m) e)
+    all_counted part kept d (entered_all n (payload_steps register ws) h) m (ap (λ (o : Option StopCause). counted_in o m) e)
     (subst (λ (t : List ℕ). RegistersStandFor part kept d (entered_all n (payload_steps register t) h) m) all s)

@@ -4,11 +4,11 @@ use Rattle.x7_part.specs.Part.{PartData}
 use Rattle.x7_packets.specs.History.{History}
 use Rattle.x7_regs.specs.declared.boot_status.Kind.TheVariants.{Bench}
 use Rattle.x7_engine.specs.declared.kept.Kept.{Kept}
-use Rattle.x7_engine.specs.declared.stop.Stop.{Stop}
-use Rattle.x7_engine.specs.declared.stop.Stop.TheVariants as stop
+use Rattle.x7_engine.specs.declared.stop.StopCause.{StopCause}
+use Rattle.x7_engine.specs.declared.stop.StopCause.TheVariants as stop
 use Rattle.x7_engine.specs.declared.due.Due.{Due}
 use Rattle.x7_engine.specs.declared.due.Due.TheVariants as due
-use Rattle.x7_engine.specs.Standing.{DeviceState, DeviceStandsFor, MayWrap, NoWordDue, due_count, words_left}
+use Rattle.x7_engine.specs.Standing.{DeviceState, DeviceStandsFor, MayWrap, NoWordDue, due_count, words_still_due}
 use Rattle.x7_engine.specs.Startup.{phase_of}
 use Rattle.x7_engine.specs.State.{history_taken, why_of, state_of, stop_in}
 use Rattle.x7_engine.specs.Stop.{stop_fault}
@@ -27,7 +27,7 @@ may_wrap part kept wrapped d bytes s boots not_started not_failed not_left none 
     record {
       boots = λ e. boots (sym s.registers_are.kind ∙ e);
       not_started = ap (λ (p : ℕ). p == 7) (phase ∙ all) ∙ not_started;
-      not_failed = ap (λ (o : Option Stop). failure_of (stop_fault o) false) (sym why) ∙ not_failed;
+      not_failed = ap (λ (o : Option StopCause). failure_of (stop_fault o) false) (sym why) ∙ not_failed;
       not_left = λ e. not_left (why ∙ e);
       no_word_due = none;
     }
@@ -36,7 +36,7 @@ nothing_more : {A : Type 0} (xs ys : List A) (y : A) → [] ≡ xs ++ y ∷ ys �
 nothing_more [] ys y e = cc
 nothing_more (x ∷ xs) ys y e = cc
 
-few : (part : PartData) (h : History) (known : List ℕ) (words : Due) → [] ≡ known ++ words_left part h words → due_count words ≡ 0
+few : (part : PartData) (h : History) (known : List ℕ) (words : Due) → [] ≡ known ++ words_still_due part h words → due_count words ≡ 0
 few part h known due.Nothing e = refl
 few part h known (due.Same word zero) e = refl
 few part h known (due.Same word (suc n)) e = absurd (nothing_more known (replicate n word) word e)

@@ -11,9 +11,9 @@ use Rattle.x7_part.specs.Part.{PartData}
 use Rattle.x7_startup.specs.Startup.{Begun, NotBegun, StartupProgress}
 use Rattle.x7_engine.specs.declared.fault.Fault.TheVariants as fault
 use Rattle.x7_engine.specs.declared.kept.Kept.{Kept}
-use Rattle.x7_engine.specs.declared.stop.Stop.{Stop}
-use Rattle.x7_engine.specs.declared.stop.Stop.TheVariants as stop
-use Rattle.x7_engine.specs.Checked.{HasStarted, StandsIn}
+use Rattle.x7_engine.specs.declared.stop.StopCause.{StopCause}
+use Rattle.x7_engine.specs.declared.stop.StopCause.TheVariants as stop
+use Rattle.x7_engine.specs.Checked.{HasStartAndDesync, StandsIn}
 use Rattle.x7_flow.specs.Controls.{is_matched, same_idcode}
 use Rattle.x7_engine.specs.Sequence.{Begins}
 use Rattle.x7_engine.specs.Startup.{phase_by, startup_progress}
@@ -23,7 +23,7 @@ use Rattle.x7_engine.proofs.BeginsLemmas.{begins_by}
 use Rattle.x7_engine.proofs.StateLemmas.{counted_least, no_stop_before, stop_place, parts_none}
 use Rattle.x7_engine.proofs.TurnLemmas.{until_until}
 
-pub none_at : (place : ℕ) (o : Option Stop) → stopped_at place o ≡ None → o ≡ None
+pub none_at : (place : ℕ) (o : Option StopCause) → stopped_at place o ≡ None → o ≡ None
 none_at place None e = refl
 none_at place (Some why) e = absurd (cc)
 
@@ -56,7 +56,7 @@ placed_until n k (x ∷ h) p = by (nat_lt k x.place) refl (placed_until (x.place
     by true e i = i
     by false e i = (p.0, grind (arith, nat_tests, e), p.2)
 
-counted_most : (why : Stop) (place : ℕ) → place - 1 ≤ last_counted why place
+counted_most : (why : StopCause) (place : ℕ) → place - 1 ≤ last_counted why place
 counted_most (stop.Fault fault.Watchdog) place = omega arith
 counted_most (stop.Fault (fault.Packet w)) place = omega arith
 counted_most (stop.Fault (fault.Id want got)) place = omega arith
@@ -150,7 +150,7 @@ placed_split n (x ∷ newer) older e p =
     let s = placed_split (x.place - 1) newer older e p.2 in
     (s.0, omega (arith, s.1, p.1), s.2)
 
-begun_started : (part : PartData) (kept : Kept) (bytes : List ℕ) → AreBytes bytes → Begins (history_taken part kept bytes) → HasStarted part.idcode (history_taken part kept bytes) (taken_of part kept bytes)
+begun_started : (part : PartData) (kept : Kept) (bytes : List ℕ) → AreBytes bytes → Begins (history_taken part kept bytes) → HasStartAndDesync part.idcode (history_taken part kept bytes) (taken_of part kept bytes)
 begun_started part kept bytes fits b =
     let armed = b.armed.1 in
     let h : History = history_taken part kept bytes in
@@ -176,9 +176,9 @@ begun_started part kept bytes fits b =
       within = desync.1;
     }
 
-pub phase_started : (part : PartData) (kept : Kept) (wrapped : Bool) (bytes : List ℕ) → AreBytes bytes → 0 < (state_of part kept wrapped bytes).phase → HasStarted part.idcode (history_taken part kept bytes) (taken_of part kept bytes)
+pub phase_started : (part : PartData) (kept : Kept) (wrapped : Bool) (bytes : List ℕ) → AreBytes bytes → 0 < (state_of part kept wrapped bytes).phase → HasStartAndDesync part.idcode (history_taken part kept bytes) (taken_of part kept bytes)
 phase_started part kept wrapped bytes fits some = by (startup_progress (history_taken part kept bytes) (taken_of part kept bytes)) refl some
   where
-    by : (p : StartupProgress) → startup_progress (history_taken part kept bytes) (taken_of part kept bytes) ≡ p → 0 < phase_by part p → HasStarted part.idcode (history_taken part kept bytes) (taken_of part kept bytes)
+    by : (p : StartupProgress) → startup_progress (history_taken part kept bytes) (taken_of part kept bytes) ≡ p → 0 < phase_by part p → HasStartAndDesync part.idcode (history_taken part kept bytes) (taken_of part kept bytes)
     by NotBegun e l = absurd (omega (arith, l))
     by (Begun cor0 count) e l = begun_started part kept bytes fits (begins_by (history_taken part kept bytes) (taken_of part kept bytes) cor0 count (taken_placed part kept bytes fits) e).0

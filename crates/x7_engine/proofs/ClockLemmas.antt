@@ -12,7 +12,7 @@ use Rattle.x7_startup.proofs.CallLemmas.{idle_stands, one_phase_after, phase_nev
 use Rattle.x7_startup.proofs.WatchdogLemmas.{idle_fires, idle_watches, timer_load, timer_reload, timer_watched}
 use Rattle.x7_engine.specs.Course.{course_at}
 use Rattle.x7_engine.specs.declared.kept.Kept.{Kept}
-use Rattle.x7_engine.specs.Clock.{AreEndedAlike, ClockState, IsClock, Ticks, newest_place, startup_call_by, watch_call_by}
+use Rattle.x7_engine.specs.Clock.{AreEndedAlike, ClockState, IsClock, ClockTakes, newest_place, startup_call_by, watch_call_by}
 use Rattle.x7_engine.specs.Kept.{is_fallback}
 use Rattle.x7_engine.specs.Registers.{takes_shutdown}
 use Rattle.x7_engine.specs.Startup.{has_ended, phase_by, phase_of, startup_call, startup_calls, startup_progress}
@@ -341,7 +341,7 @@ idle_quiet part kept w h n k l e s = none_fires part kept h n k (λ i m.
     let no : false ≡ true = (idle_fires (is_fallback kept.kind) kept.timer w (watch_calls part h (n + i)) eos false before (never_counts w eos e) refl).1 f in
     absurd (cc)))
 
-pub idle_ticks : (part : PartData) (kept : Kept) (c : ClockState) (h : History) (n k : ℕ) → newest_place h ≤ n → c.startup.begun ≡ None → c.watchdog.limit ≡ 0 → IsClock part kept c h n → Ticks (course_at part kept h n) c k None
+pub idle_ticks : (part : PartData) (kept : Kept) (c : ClockState) (h : History) (n k : ℕ) → newest_place h ≤ n → c.startup.begun ≡ None → c.watchdog.limit ≡ 0 → IsClock part kept c h n → ClockTakes (course_at part kept h n) c k None
 idle_ticks part kept c h n k l b e s = (
   record {
     startup = subst (λ (calls : List Call). StandsForCalls part.lock part.matched c.startup calls) (sym (startup_more h n k l)) (idle_stands part.lock part.matched c.startup (startup_calls h n) k b s.startup);
@@ -366,14 +366,14 @@ ended_alike part kept c h n a count l e s =
     let newest : newest_place h ≤ n + a = omega (arith, l) in
     record { newest = newest; each = λ i m. ended_on part h (n + a) i newest e; stands = s }
 
-pub ticks_none : (part : PartData) (kept : Kept) (c : ClockState) (h : History) (n a b count : ℕ) → a + b ≡ count → first_firing part kept h n a ≡ None → Ticks (course_at part kept h (n + a)) c b None → Ticks (course_at part kept h n) c count None
+pub ticks_none : (part : PartData) (kept : Kept) (c : ClockState) (h : History) (n a b count : ℕ) → a + b ≡ count → first_firing part kept h n a ≡ None → ClockTakes (course_at part kept h (n + a)) c b None → ClockTakes (course_at part kept h n) c count None
 ticks_none part kept c h n a b count e f t =
     let place : n + a + b ≡ n + count = omega (arith, e) in (
       subst (λ (m : ℕ). IsClock part kept c h m) place t.0,
       ap (first_firing part kept h n) (sym e) ∙ firing_more part kept h n a b ∙ ap (λ (o : Option ℕ). option_or o (first_firing part kept h (n + a) b)) f ∙ t.1,
     )
 
-pub ticks_some : (part : PartData) (kept : Kept) (c : ClockState) (h : History) (n a b count k : ℕ) → a + b ≡ count → first_firing part kept h n a ≡ None → Ticks (course_at part kept h (n + a)) c b (Some k) → Ticks (course_at part kept h n) c count (Some (a + k))
+pub ticks_some : (part : PartData) (kept : Kept) (c : ClockState) (h : History) (n a b count k : ℕ) → a + b ≡ count → first_firing part kept h n a ≡ None → ClockTakes (course_at part kept h (n + a)) c b (Some k) → ClockTakes (course_at part kept h n) c count (Some (a + k))
 ticks_some part kept c h n a b count k e f t =
     let place : n + a + k ≡ n + (a + k) = omega arith in (
       omega (arith, t.0),

@@ -17,8 +17,8 @@ use Rattle.x7_packets.proofs.GrowthLemmas.{prefix_of, placed_of}
 use Rattle.x7_packets.proofs.HistoryLemmas.{cut_enters, next_word_is, words_end}
 use Rattle.x7_part.specs.Part.{PartData}
 use Rattle.x7_engine.specs.declared.kept.Kept.{Kept}
-use Rattle.x7_engine.specs.declared.stop.Stop.{Stop}
-use Rattle.x7_engine.specs.Standing.{DeviceStandsFor, DeviceState, EndsWords, HoldsRun, IsCutterOf, RegistersStandFor, counted_in, due_count, reads_given, words_left}
+use Rattle.x7_engine.specs.declared.stop.StopCause.{StopCause}
+use Rattle.x7_engine.specs.Standing.{DeviceStandsFor, DeviceState, EndsWords, HoldsRun, IsCutterOf, RegistersStandFor, counted_in, due_count, reads_given, words_still_due}
 use Rattle.x7_engine.specs.State.{history_by, history_taken, reads_of, stop_in}
 use Rattle.x7_engine.specs.Stop.{Stopped, stop_of, stopped_at}
 use Rattle.x7_engine.specs.Value.{read_out}
@@ -38,9 +38,9 @@ prefix_given known rest due e =
     let count : length (known ++ rest) - due ≡ length known = omega (arith, length-append known rest, e) in
     ap (λ (n : ℕ). take n (known ++ rest)) count ∙ take-append_seam known rest
 
-pub given_by : (part : PartData) (kept : Kept) (d : DeviceState) (bytes known : List ℕ) (h : History) → reads_of part kept bytes ≡ known ++ words_left part h d.registers.due → reads_given part kept d bytes ≡ known
+pub given_by : (part : PartData) (kept : Kept) (d : DeviceState) (bytes known : List ℕ) (h : History) → reads_of part kept bytes ≡ known ++ words_still_due part h d.registers.due → reads_given part kept d bytes ≡ known
 given_by part kept d bytes known h e =
-    ap (λ (t : List ℕ). take (length t - due_count d.registers.due) t) e ∙ prefix_given known (words_left part h d.registers.due) (due_count d.registers.due) (length_left part h d.registers.due)
+    ap (λ (t : List ℕ). take (length t - due_count d.registers.due) t) e ∙ prefix_given known (words_still_due part h d.registers.due) (due_count d.registers.due) (length_left part h d.registers.due)
 
 -- a part of a piece, cut at a place in it
 pub between_prefix : (piece : List ℕ) (from at left : ℕ) → from ≤ at - left → between piece from at ≡ between piece from (at - left) ++ drop (at - left - from) (between piece from at)
@@ -111,10 +111,10 @@ pub turned : (part : PartData) (kept : Kept) (wrapped : Bool) (d e : DeviceState
     → ((h : History) (from n : ℕ) → EndsWords run from n count → RegistersStandFor part kept d.registers h n → RegistersStandFor part kept e.registers (until (counted_in e.registers.stop (n + (count - left))) (entered_all from (run_steps run) h)) (n + (count - left)))
     → ((h : History) (from n : ℕ) → EndsWords run from n count → RegistersStandFor part kept d.registers h n
     → read_out part kept (until (counted_in e.registers.stop (n + (count - left))) (entered_all from (run_steps run) h))
-    ≡ read_out part kept h ++ words_left part (until (counted_in e.registers.stop (n + (count - left))) (entered_all from (run_steps run) h)) e.registers.due)
+    ≡ read_out part kept h ++ words_still_due part (until (counted_in e.registers.stop (n + (count - left))) (entered_all from (run_steps run) h)) e.registers.due)
     → count ≡ length cut → cut ≡ more ++ rest → length rest ≡ left → IsRun run → IsLent d.cutter room run
-    → (e.registers.stop ≡ None → left ≡ 0) → ((why : Stop) → e.registers.stop ≡ Some why → due_count e.registers.due ≡ 0) → e.part ≡ d.part → e.wrapped ≡ d.wrapped → e.taken ≡ d.taken + length more
-    → DeviceStandsFor part kept wrapped e (bytes ++ more) × (reads_of part kept (bytes ++ more) ≡ reads_of part kept bytes ++ words_left part (history_taken part kept (bytes ++ more)) e.registers.due)
+    → (e.registers.stop ≡ None → left ≡ 0) → ((why : StopCause) → e.registers.stop ≡ Some why → due_count e.registers.due ≡ 0) → e.part ≡ d.part → e.wrapped ≡ d.wrapped → e.taken ≡ d.taken + length more
+    → DeviceStandsFor part kept wrapped e (bytes ++ more) × (reads_of part kept (bytes ++ more) ≡ reads_of part kept bytes ++ words_still_due part (history_taken part kept (bytes ++ more)) e.registers.due)
 turned part kept wrapped d e bytes cut more rest run count left room s going went stands reads k j l r i g q p y t =
     let none : stop_in part kept bytes ≡ None = s.stop_is ∙ ap (stopped_at (length bytes)) going in
     let old : history_taken part kept bytes ≡ history_of bytes = going_taken part kept bytes none in
@@ -140,13 +140,13 @@ turned part kept wrapped d e bytes cut more rest run count left room s going wen
     let new : history_taken part kept (bytes ++ more) ≡ counted =
     ap (λ (o : Option Stopped). history_by o (history_of (bytes ++ more))) stops ∙ ap (history_by (stopped_at m e.registers.stop)) prefix ∙ history_until e.registers.stop m all in
     let first : read_out part kept (until (counted_in e.registers.stop (length bytes + (count - left))) all)
-    ≡ reads_of part kept bytes ++ words_left part (until (counted_in e.registers.stop (length bytes + (count - left))) all) e.registers.due =
+    ≡ reads_of part kept bytes ++ words_still_due part (until (counted_in e.registers.stop (length bytes + (count - left))) all) e.registers.due =
     reads (history_of bytes) from (length bytes) ends before
-    ∙ ap (λ (x : History). read_out part kept x ++ words_left part (until (counted_in e.registers.stop (length bytes + (count - left))) all) e.registers.due) (sym old) in
-    let here_read : read_out part kept counted ≡ reads_of part kept bytes ++ words_left part counted e.registers.due =
-    subst (λ (x : ℕ). read_out part kept (until (counted_in e.registers.stop x) all) ≡ reads_of part kept bytes ++ words_left part (until (counted_in e.registers.stop x) all) e.registers.due) count_is first in
-    let known : reads_of part kept (bytes ++ more) ≡ reads_of part kept bytes ++ words_left part (history_taken part kept (bytes ++ more)) e.registers.due =
-    subst (λ (x : History). read_out part kept x ≡ reads_of part kept bytes ++ words_left part x e.registers.due) (sym new) here_read in (
+    ∙ ap (λ (x : History). read_out part kept x ++ words_still_due part (until (counted_in e.registers.stop (length bytes + (count - left))) all) e.registers.due) (sym old) in
+    let here_read : read_out part kept counted ≡ reads_of part kept bytes ++ words_still_due part counted e.registers.due =
+    subst (λ (x : ℕ). read_out part kept (until (counted_in e.registers.stop x) all) ≡ reads_of part kept bytes ++ words_still_due part (until (counted_in e.registers.stop x) all) e.registers.due) count_is first in
+    let known : reads_of part kept (bytes ++ more) ≡ reads_of part kept bytes ++ words_still_due part (history_taken part kept (bytes ++ more)) e.registers.due =
+    subst (λ (x : History). read_out part kept x ≡ reads_of part kept bytes ++ words_still_due part x e.registers.due) (sym new) here_read in (
       record {
         fits = here;
         part_is = p ∙ s.part_is;
@@ -156,7 +156,7 @@ turned part kept wrapped d e bytes cut more rest run count left room s going wen
         registers_are = subst (λ (x : History). RegistersStandFor part kept e.registers x m) (sym new) after;
         cutter_is = λ o. record { sessions = w.new_sessions; place = w.new_place; stands = subst (λ (x : List ℕ). CutterStandsFor e.cutter (bytes ++ x) w.new_sessions w.new_place) (sym (no_rest cut more rest j (l ∙ g o))) w.stands };
         due_are = record { given = reads_of part kept bytes; all = known };
-        at_rest = q;
+        none_due_at_stop = q;
       },
       known,
     )

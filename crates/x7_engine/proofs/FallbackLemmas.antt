@@ -15,7 +15,7 @@ use Rattle.x7_engine.specs.Stop.{Stopped, stop_of, stopped_at, stopped_by_watchd
 use Rattle.x7_engine.specs.Watching.{first_firing, timer_held, turns_on}
 use Rattle.x7_engine.specs.declared.kept.Kept.{Kept}
 use Rattle.x7_engine.specs.declared.regs.Regs.{Regs}
-use Rattle.x7_engine.specs.declared.stop.Stop.{Stop}
+use Rattle.x7_engine.specs.declared.stop.StopCause.{StopCause}
 use Rattle.x7_engine.proofs.RestLemmas.{never_fires}
 
 -- no watchdog runs in a fallback, and none fires
@@ -36,7 +36,7 @@ module _ (part : PartData) (one other : Kept) (bytes : List ℕ) (f : AreFallbac
   same_stops (x ∷ h) n =
       let fired : first_firing part one (x ∷ h) x.place (n - x.place) ≡ first_firing part other (x ∷ h) x.place (n - x.place) = none_fired part one (x ∷ h) x.place (n - x.place) f.0 ∙ sym (none_fired part other (x ∷ h) x.place (n - x.place) f.1) in
       ap (λ (o : Option Stopped). option_or o (option_or (stopped_at x.place (why_at part one h x.access)) (stopped_by_watchdog (first_firing part one (x ∷ h) x.place (n - x.place))))) (same_stops h x.place)
-      ∙ ap (λ (w : Option Stop). option_or (stop_of part other h x.place) (option_or (stopped_at x.place w) (stopped_by_watchdog (first_firing part one (x ∷ h) x.place (n - x.place))))) (same_why h x.access)
+      ∙ ap (λ (w : Option StopCause). option_or (stop_of part other h x.place) (option_or (stopped_at x.place w) (stopped_by_watchdog (first_firing part one (x ∷ h) x.place (n - x.place))))) (same_why h x.access)
       ∙ ap (λ (m : Option ℕ). option_or (stop_of part other h x.place) (option_or (stopped_at x.place (why_at part other h x.access)) (stopped_by_watchdog m))) fired
 
   pub kept_stop : stop_in part one bytes ≡ stop_in part other bytes

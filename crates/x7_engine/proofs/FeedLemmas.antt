@@ -12,12 +12,12 @@ use Rattle.x7_engine.specs.Course.{course_at}
 use Rattle.x7_engine.specs.declared.due.Due.{Due}
 use Rattle.x7_engine.specs.declared.due.Due.TheVariants as due
 use Rattle.x7_engine.specs.declared.kept.Kept.{Kept}
-use Rattle.x7_engine.specs.declared.stop.Stop.{Stop}
-use Rattle.x7_engine.specs.declared.stop.Stop.TheVariants as stop
+use Rattle.x7_engine.specs.declared.stop.StopCause.{StopCause}
+use Rattle.x7_engine.specs.declared.stop.StopCause.TheVariants as stop
 use Rattle.x7_engine.specs.ReadBuffer.{ReadBufState, gathered, with_words}
 use Rattle.x7_engine.specs.Readout.{RegistersGaveWords, GotAllBut, DeviceGaveWords}
 use Rattle.x7_engine.specs.Past.{Answers, past_of}
-use Rattle.x7_engine.specs.Standing.{DeviceStandsFor, DeviceState, NoWordDue, RegistersStandFor, RegistersState, due_count, fed_by, frames_among, frames_due, taken_in, reads_given, words_left}
+use Rattle.x7_engine.specs.Standing.{DeviceStandsFor, DeviceState, NoWordDue, RegistersStandFor, RegistersState, due_count, answer_at_stop, frames_among, frames_due, taken_in, reads_given, words_still_due}
 use Rattle.x7_engine.specs.State.{history_taken, reads_of}
 use Rattle.x7_engine.specs.Stop.{stopped_at}
 use Rattle.x7_engine.proofs.DeviceLemmas.{given_by}
@@ -30,7 +30,7 @@ given part kept wrapped d r bytes old new going on s g =
     let known : List ℕ = s.due_are.given in
     let h : History = history_taken part kept bytes in
     let e : DeviceState = record d { registers = r } in
-    let all : reads_of part kept bytes ≡ (known ++ g.more) ++ words_left part h r.due = s.due_are.all ∙ ap (λ t. known ++ t) g.words_are ∙ sym (append_assoc known g.more (words_left part h r.due)) in
+    let all : reads_of part kept bytes ≡ (known ++ g.more) ++ words_still_due part h r.due = s.due_are.all ∙ ap (λ t. known ++ t) g.words_are ∙ sym (append_assoc known g.more (words_still_due part h r.due)) in
     record {
       more = g.more;
       read_is = g.read_is;
@@ -44,7 +44,7 @@ given part kept wrapped d r bytes old new going on s g =
         registers_are = g.stands;
         cutter_is = λ o. s.cutter_is going;
         due_are = record { given = known ++ g.more; all = all };
-        at_rest = λ why q. absurd (none-some _ (sym on ∙ q));
+        none_due_at_stop = λ why q. absurd (none-some _ (sym on ∙ q));
       };
     }
 
@@ -105,13 +105,13 @@ read_here part kept wrapped old new next first read last bytes piece known from 
     (now.0, now.1, given_on part kept wrapped new next bytes piece from to f t g.stands ∙ now.2)
 
 -- what is answered for a stop
-pub taken_by_stop : (why : Stop) (n at : ℕ) → taken_in n (fed_by why at) ≡ at
+pub taken_by_stop : (why : StopCause) (n at : ℕ) → taken_in n (answer_at_stop why at) ≡ at
 taken_by_stop (stop.Fault f) n at = refl
 taken_by_stop stop.Iprog n at = refl
 
-pub answers_stop : (part : PartData) (kept : Kept) (wrapped : Bool) (d : DeviceState) (bytes : List ℕ) (read : ReadBufState) (why : Stop) (at : ℕ) → DeviceStandsFor part kept wrapped d bytes → Some why ≡ d.registers.stop → Answers (past_of part kept wrapped bytes) d read (fed_by why at)
-answers_stop part kept wrapped d bytes read (stop.Fault f) at s e = (f, s.stop_is ∙ ap (stopped_at (length bytes)) (sym e), s.at_rest (stop.Fault f) (sym e))
-answers_stop part kept wrapped d bytes read stop.Iprog at s e = (s.stop_is ∙ ap (stopped_at (length bytes)) (sym e), s.at_rest stop.Iprog (sym e))
+pub answers_stop : (part : PartData) (kept : Kept) (wrapped : Bool) (d : DeviceState) (bytes : List ℕ) (read : ReadBufState) (why : StopCause) (at : ℕ) → DeviceStandsFor part kept wrapped d bytes → Some why ≡ d.registers.stop → Answers (past_of part kept wrapped bytes) d read (answer_at_stop why at)
+answers_stop part kept wrapped d bytes read (stop.Fault f) at s e = (f, s.stop_is ∙ ap (stopped_at (length bytes)) (sym e), s.none_due_at_stop (stop.Fault f) (sym e))
+answers_stop part kept wrapped d bytes read stop.Iprog at s e = (s.stop_is ∙ ap (stopped_at (length bytes)) (sym e), s.none_due_at_stop stop.Iprog (sym e))
 
 -- ---- named facts for the crates above
 
@@ -177,7 +177,7 @@ gave_frames part kept d frames h n count left old new going is few got stands s 
     record {
       more = gets.more;
       read_is = gets.read_is;
-      words_are = ap (words_left part h) is ∙ gets.words_are;
+      words_are = ap (words_still_due part h) is ∙ gets.words_are;
       stands = record {
         places = s.places;
         words = s.words;

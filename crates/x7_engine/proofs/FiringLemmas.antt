@@ -6,7 +6,7 @@ use Rattle.x7_packets.specs.History.{History}
 use Rattle.x7_part.specs.Part.{PartData}
 use Rattle.x7_engine.specs.Course.{course_at}
 use Rattle.x7_engine.specs.declared.kept.Kept.{Kept}
-use Rattle.x7_engine.specs.Clock.{ClockState, Ticks}
+use Rattle.x7_engine.specs.Clock.{ClockState, ClockTakes}
 use Rattle.x7_engine.specs.Watching.{first_firing}
 use Rattle.x7_engine.proofs.ClockLemmas.{firing_more}
 use Rattle.x7_engine.proofs.StateLemmas.{firing_within}
@@ -25,7 +25,7 @@ pub firing_less : (part : PartData) (kept : Kept) (h : History) (n a b : ℕ) �
 firing_less part kept h n a b l e = none_of_none (first_firing part kept h n a) (first_firing part kept h (n + a) (b - a)) (firing_upto part kept h n a b l ∙ e)
 
 -- of the bytes before the one that fires none does
-pub firing_first : (part : PartData) (kept : Kept) (c : ClockState) (h : History) (n count k : ℕ) → Ticks (course_at part kept h n) c count (Some k) → first_firing part kept h n (k - 1) ≡ None
+pub firing_first : (part : PartData) (kept : Kept) (c : ClockState) (h : History) (n count k : ℕ) → ClockTakes (course_at part kept h n) c count (Some k) → first_firing part kept h n (k - 1) ≡ None
 firing_first part kept c h n count k t =
     by (first_firing part kept h n (k - 1)) (firing_within part kept h n (k - 1)) (firing_upto part kept h n (k - 1) count (omega (arith, t.1)) ∙ t.3)
   where
@@ -37,6 +37,6 @@ firing_first part kept c h n count k t =
         absurd (omega (arith, w.1, same, t.0))
 
 -- bytes without a firing are all taken
-pub ticks_quiet : (part : PartData) (kept : Kept) (c : ClockState) (h : History) (n count : ℕ) (o : Option ℕ) → first_firing part kept h n count ≡ None → Ticks (course_at part kept h n) c count o → Ticks (course_at part kept h n) c count None
+pub ticks_quiet : (part : PartData) (kept : Kept) (c : ClockState) (h : History) (n count : ℕ) (o : Option ℕ) → first_firing part kept h n count ≡ None → ClockTakes (course_at part kept h n) c count o → ClockTakes (course_at part kept h n) c count None
 ticks_quiet part kept c h n count None e t = t
 ticks_quiet part kept c h n count (Some k) e t = absurd (none-some _ (sym e ∙ t.3))

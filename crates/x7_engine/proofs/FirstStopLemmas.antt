@@ -11,8 +11,8 @@ use Rattle.x7_packets.proofs.GrowthLemmas.{OneMore, byte_enters, placed_of}
 use Rattle.x7_part.specs.Part.{PartData}
 use Rattle.x7_engine.specs.declared.fault.Fault.TheVariants as fault
 use Rattle.x7_engine.specs.declared.kept.Kept.{Kept}
-use Rattle.x7_engine.specs.declared.stop.Stop.{Stop}
-use Rattle.x7_engine.specs.declared.stop.Stop.TheVariants as stop
+use Rattle.x7_engine.specs.declared.stop.StopCause.{StopCause}
+use Rattle.x7_engine.specs.declared.stop.StopCause.TheVariants as stop
 use Rattle.x7_engine.specs.FirstStop.{IsFirstStop, why_at_byte, why_at_newest}
 use Rattle.x7_engine.specs.State.{stop_in}
 use Rattle.x7_engine.specs.Stop.{Stopped, why_at, stop_of, stopped_at, stopped_by_watchdog}
@@ -37,10 +37,10 @@ or_assoc (Some x) b c = refl
 or_assoc None b c = refl
 
 -- why a byte stops a device: by the watchdog, or by an access
-abbrev why_by_fire : Bool → Option Stop → Option Stop
+abbrev why_by_fire : Bool → Option StopCause → Option StopCause
 why_by_fire b why = if b then Some (stop.Fault fault.Watchdog) else why
 
-fired_why : (b : Bool) (n : ℕ) (why : Option Stop) → option_or (stopped_by_watchdog (fired_or None b n)) (stopped_at n why) ≡ stopped_at n (why_by_fire b why)
+fired_why : (b : Bool) (n : ℕ) (why : Option StopCause) → option_or (stopped_by_watchdog (fired_or None b n)) (stopped_at n why) ≡ stopped_at n (why_by_fire b why)
 fired_why true n why = refl
 fired_why false n why = refl
 
@@ -73,7 +73,7 @@ stop_next part kept h g n p (inl e) =
     ap (λ (x : History). stop_of part kept x (suc n)) e
     ∙ fired_next part kept h n p
     ∙ ap (option_or (stop_of part kept h n)) (sym (or_none (stopped_by_watchdog (fired_or None fired (suc n)))) ∙ fired_why fired (suc n) None)
-    ∙ ap (λ (o : Option Stop). option_or (stop_of part kept h n) (stopped_at (suc n) (why_by_fire fired o))) (sym (ap (λ (x : History). why_at_newest part kept x (suc n)) e ∙ none_newest part kept n h p))
+    ∙ ap (λ (o : Option StopCause). option_or (stop_of part kept h n) (stopped_at (suc n) (why_by_fire fired o))) (sym (ap (λ (x : History). why_at_newest part kept x (suc n)) e ∙ none_newest part kept n h p))
 stop_next part kept h g n p (inr more) =
     let access : Access = more.0 in
     let fired : Bool = fires part kept h (suc n) in
@@ -82,46 +82,46 @@ stop_next part kept h g n p (inr more) =
     ∙ ap (λ (o : Option Stopped). option_or o (stopped_at (suc n) (why_at part kept h access))) (fired_next part kept h n p)
     ∙ or_assoc (stop_of part kept h n) (stopped_by_watchdog (fired_or None fired (suc n))) (stopped_at (suc n) (why_at part kept h access))
     ∙ ap (option_or (stop_of part kept h n)) (fired_why fired (suc n) (why_at part kept h access))
-    ∙ ap (λ (o : Option Stop). option_or (stop_of part kept h n) (stopped_at (suc n) (why_by_fire fired o))) (sym (ap (λ (x : History). why_at_newest part kept x (suc n)) more.1 ∙ some_newest part kept (suc n) h access))
+    ∙ ap (λ (o : Option StopCause). option_or (stop_of part kept h n) (stopped_at (suc n) (why_by_fire fired o))) (sym (ap (λ (x : History). why_at_newest part kept x (suc n)) more.1 ∙ some_newest part kept (suc n) h access))
 
 -- ---- the first of a row of stops
 
-abbrev IsRow : (ℕ → Option Stopped) → (ℕ → Option Stop) → ℕ → Type 0
+abbrev IsRow : (ℕ → Option Stopped) → (ℕ → Option StopCause) → ℕ → Type 0
 IsRow stops whys most = (stops 0 ≡ None) × ((n : ℕ) → n < most → stops (suc n) ≡ option_or (stops n) (stopped_at (suc n) (whys (suc n))))
 
-record IsLeast (whys : ℕ → Option Stop) (most : ℕ) (s : Stopped) : Type 0 where
+record IsLeast (whys : ℕ → Option StopCause) (most : ℕ) (s : Stopped) : Type 0 where
   some : 0 < s.place
   within : s.place ≤ most
   holds : whys s.place ≡ Some s.why
   none_earlier : (n : ℕ) → 0 < n → n < s.place → whys n ≡ None
 
-abbrev AreNone : (ℕ → Option Stop) → ℕ → Type 0
+abbrev AreNone : (ℕ → Option StopCause) → ℕ → Type 0
 AreNone whys most = (n : ℕ) → 0 < n → n ≤ most → whys n ≡ None
 
-none_more : (whys : ℕ → Option Stop) (n : ℕ) → AreNone whys n → whys (suc n) ≡ None → AreNone whys (suc n)
+none_more : (whys : ℕ → Option StopCause) (n : ℕ) → AreNone whys n → whys (suc n) ≡ None → AreNone whys (suc n)
 none_more whys n f e m some few = elim (m == suc n) as (λ b. (m == suc n) ≡ b → whys m ≡ None) [
   | true ↦ λ q. let same : m ≡ suc n = grind (arith, nat_tests, q) in ap whys same ∙ e
   | false ↦ λ q. f m some (let less : m ≤ n = grind (arith, nat_tests, q, few) in less)
 ] refl
 
 -- of a row that is none up to here, and of one that is some
-abbrev Found : (ℕ → Option Stop) → ℕ → Option Stopped → Type 0
+abbrev Found : (ℕ → Option StopCause) → ℕ → Option Stopped → Type 0
 Found whys n None = AreNone whys n
 Found whys n (Some s) = IsLeast whys n s
 
-found_more : (whys : ℕ → Option Stop) (n : ℕ) (o : Option Stopped) (why : Option Stop) → whys (suc n) ≡ why → Found whys n o → Found whys (suc n) (option_or o (stopped_at (suc n) why))
+found_more : (whys : ℕ → Option StopCause) (n : ℕ) (o : Option Stopped) (why : Option StopCause) → whys (suc n) ≡ why → Found whys n o → Found whys (suc n) (option_or o (stopped_at (suc n) why))
 found_more whys n (Some s) why e f = record { some = f.some; within = omega (arith, f.within); holds = f.holds; none_earlier = f.none_earlier }
 found_more whys n None None e f = none_more whys n f e
 found_more whys n None (Some why) e f = record { some = omega arith; within = omega arith; holds = e; none_earlier = λ m some less. f m some (omega (arith, less)) }
 
-found : (stops : ℕ → Option Stopped) (whys : ℕ → Option Stop) (most n : ℕ) → IsRow stops whys most → n ≤ most → Found whys n (stops n)
+found : (stops : ℕ → Option Stopped) (whys : ℕ → Option StopCause) (most n : ℕ) → IsRow stops whys most → n ≤ most → Found whys n (stops n)
 found stops whys most zero r l = subst (λ (o : Option Stopped). Found whys 0 o) (sym r.0) (λ m some few. absurd (omega (arith, some, few)))
 found stops whys most (suc n) r l =
     subst (λ (o : Option Stopped). Found whys (suc n) o) (sym (r.1 n (omega (arith, l))))
     (found_more whys n (stops n) (whys (suc n)) refl (found stops whys most n r (omega (arith, l))))
 
 -- two that are least are one
-one_least : (whys : ℕ → Option Stop) (most : ℕ) (o : Option Stopped) (s : Stopped) → Found whys most o → IsLeast whys most s → o ≡ Some s
+one_least : (whys : ℕ → Option StopCause) (most : ℕ) (o : Option Stopped) (s : Stopped) → Found whys most o → IsLeast whys most s → o ≡ Some s
 one_least whys most None s f i = absurd (let no : Some s.why ≡ None = sym i.holds ∙ f s.place i.some i.within in cc)
 one_least whys most (Some t) s f i = by (t.place == s.place) refl
   where

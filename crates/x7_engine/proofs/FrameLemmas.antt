@@ -30,39 +30,39 @@ use Rattle.x7_engine.specs.declared.due.Due.TheVariants as due
 use Rattle.x7_engine.specs.declared.fault.Fault.{Fault}
 use Rattle.x7_engine.specs.declared.fault.Fault.TheVariants as fault
 use Rattle.x7_engine.specs.declared.kept.Kept.{Kept}
-use Rattle.x7_engine.specs.declared.stop.Stop.{Stop}
-use Rattle.x7_engine.specs.declared.stop.Stop.TheVariants as stop
+use Rattle.x7_engine.specs.declared.stop.StopCause.{StopCause}
+use Rattle.x7_engine.specs.declared.stop.StopCause.TheVariants as stop
 use Rattle.x7_engine.specs.Kept.{is_fallback}
-use Rattle.x7_engine.specs.Standing.{FramesAre, due_count, frames_among, frames_due, frames_history, is_refusal, older, words_left}
-use Rattle.x7_engine.specs.Stop.{why_by_access, asks_decryption, why_by_frames, why_at, needs_match, stop_by, why_by_write}
+use Rattle.x7_engine.specs.Standing.{FramesAre, due_count, frames_among, frames_due, frames_history, is_refusal, without_newest, words_still_due}
+use Rattle.x7_engine.specs.Stop.{why_by_access, asks_decryption, why_by_frames, why_at, needs_match, stop_of_refused, why_by_write}
 use Rattle.x7_engine.specs.Value.{register_value, value_owing}
 use Rattle.x7_engine.proofs.PlainLemmas.{IsPlain, plain_asks}
 
 -- ---- the history that the frames stand for
 
 -- frames that stand for a history are its frames, where no access was refused
-pub frames_at : (part : PartData) (f : FramesState) (why : Option Stop) (h : History) (due : ℕ) → is_refusal why ≡ false → FramesStandFor part f h due → FramesAre part f why h due
+pub frames_at : (part : PartData) (f : FramesState) (why : Option StopCause) (h : History) (due : ℕ) → is_refusal why ≡ false → FramesStandFor part f h due → FramesAre part f why h due
 frames_at part f why h due e s =
-    let same : frames_history why h ≡ h = ap (λ (b : Bool). if b then older h else h) e in
+    let same : frames_history why h ≡ h = ap (λ (b : Bool). if b then without_newest h else h) e in
     record {
       stands = subst (λ (x : History). FramesStandFor part f x due) (sym same) s;
       memory_same = λ far. ap (λ (x : History). memory_of part x far) same;
       far_same = ap (λ (x : History). far_in part (without_due due (flow_of part x))) same;
     }
 
-pub frames_of : (part : PartData) (f : FramesState) (why : Option Stop) (h : History) (due : ℕ) → is_refusal why ≡ false → FramesAre part f why h due → FramesStandFor part f h due
+pub frames_of : (part : PartData) (f : FramesState) (why : Option StopCause) (h : History) (due : ℕ) → is_refusal why ≡ false → FramesAre part f why h due → FramesStandFor part f h due
 frames_of part f why h due e s =
-    let same : frames_history why h ≡ h = ap (λ (b : Bool). if b then older h else h) e in
+    let same : frames_history why h ≡ h = ap (λ (b : Bool). if b then without_newest h else h) e in
     subst (λ (x : History). FramesStandFor part f x due) same s.stands
 
 -- a device that goes on has refused nothing
-pub goes_on : (why : Option Stop) → why ≡ None → is_refusal why ≡ false
+pub goes_on : (why : Option StopCause) → why ≡ None → is_refusal why ≡ false
 goes_on why e = ap is_refusal e
 
 -- nor has one that the watchdog stopped
-pub ticks_on : (why : Option Stop) (P : Type 0) → ((l : Stop) → why ≡ Some l → (l ≡ stop.Fault fault.Watchdog) × P) → is_refusal why ≡ false
+pub ticks_on : (why : Option StopCause) (P : Type 0) → ((l : StopCause) → why ≡ Some l → (l ≡ stop.Fault fault.Watchdog) × P) → is_refusal why ≡ false
 ticks_on None P f = refl
-ticks_on (Some l) P f = ap (λ (x : Stop). is_refusal (Some x)) (f l refl).0
+ticks_on (Some l) P f = ap (λ (x : StopCause). is_refusal (Some x)) (f l refl).0
 
 -- ---- what is due
 
@@ -83,20 +83,20 @@ zero_among (e ∷ h) = if_same (reads_frame_data h e.access) 0
 pub none_among : (d : Due) (h : History) → due_count d ≡ 0 → frames_due d ≡ frames_among h (due_count d)
 none_among d h e = none_frames d e ∙ sym (ap (frames_among h) e ∙ zero_among h)
 
-pub none_left : (part : PartData) (h : History) (d : Due) → due_count d ≡ 0 → words_left part h d ≡ []
+pub none_left : (part : PartData) (h : History) (d : Due) → due_count d ≡ 0 → words_still_due part h d ≡ []
 none_left part h due.Nothing e = refl
 none_left part h (due.Same word count) e = ap (λ (n : ℕ). replicate n word) e
 none_left part h (due.Frames count) e = ap (λ (n : ℕ). words_due part h n) e
 
 -- no words are due
-pub no_word_due : (reads : List ℕ) (part : PartData) (h : History) (d : Due) → due_count d ≡ 0 → reads ≡ reads ++ words_left part h d
+pub no_word_due : (reads : List ℕ) (part : PartData) (h : History) (d : Due) → due_count d ≡ 0 → reads ≡ reads ++ words_still_due part h d
 no_word_due reads part h d e = sym (ap (λ (ws : List ℕ). reads ++ ws) (none_left part h d e) ∙ append-nil reads)
 
 length_from : (part : PartData) (base : ℕ) (memory : ℕ → Option (List ℕ)) (place count : ℕ) → length (readback_words part base memory place count) ≡ count
 length_from part base memory place zero = refl
 length_from part base memory place (suc count) = ap suc (length_from part base memory (place + 1) count)
 
-pub length_left : (part : PartData) (h : History) (d : Due) → length (words_left part h d) ≡ due_count d
+pub length_left : (part : PartData) (h : History) (d : Due) → length (words_still_due part h d) ≡ due_count d
 length_left part h due.Nothing = refl
 length_left part h (due.Same word count) = length-replicate count word
 length_left part h (due.Frames count) = length_from part _ _ _ count
@@ -107,13 +107,13 @@ value_now part kept f h n reg.Far = ap (far_in part) (sym (no_less (flow_of part
 value_now part kept f h n r = refl
 
 -- where no word is due and no access was refused
-pub standing_frames : (part : PartData) (f : FramesState) (why : Option Stop) (h : History) (d : Due) → why ≡ None → due_count d ≡ 0 → FramesAre part f why h (frames_due d) → FramesStandFor part f h 0
+pub standing_frames : (part : PartData) (f : FramesState) (why : Option StopCause) (h : History) (d : Due) → why ≡ None → due_count d ≡ 0 → FramesAre part f why h (frames_due d) → FramesStandFor part f h 0
 standing_frames part f why h d e z s = frames_of part f why h 0 (goes_on why e) (subst (λ (n : ℕ). FramesAre part f why h n) (none_frames d z) s)
 
-pub frames_none_at : (part : PartData) (f : FramesState) (why : Option Stop) (h : History) (d : Due) → is_refusal why ≡ false → due_count d ≡ 0 → FramesStandFor part f h 0 → FramesAre part f why h (frames_due d)
+pub frames_none_at : (part : PartData) (f : FramesState) (why : Option StopCause) (h : History) (d : Due) → is_refusal why ≡ false → due_count d ≡ 0 → FramesStandFor part f h 0 → FramesAre part f why h (frames_due d)
 frames_none_at part f why h d e z s = subst (λ (n : ℕ). FramesAre part f why h n) (sym (none_frames d z)) (frames_at part f why h 0 e s)
 
-pub frames_none : (part : PartData) (f : FramesState) (why : Option Stop) (h : History) (d : Due) → why ≡ None → due_count d ≡ 0 → FramesStandFor part f h 0 → FramesAre part f why h (frames_due d)
+pub frames_none : (part : PartData) (f : FramesState) (why : Option StopCause) (h : History) (d : Due) → why ≡ None → due_count d ≡ 0 → FramesStandFor part f h 0 → FramesAre part f why h (frames_due d)
 frames_none part f why h d e z s = subst (λ (n : ℕ). FramesAre part f why h n) (sym (none_frames d z)) (frames_at part f why h 0 (goes_on why e) s)
 
 -- ---- an access stops a device by one thing alone
@@ -173,43 +173,43 @@ no_refusal part kept h (Write r w) =
 -- ---- one access more
 
 -- a refused one leaves the frames as they are
-pub refused : (part : PartData) (f : FramesState) (h : History) (e : Entry) (refusal : RunFault) → frame_fault part h e.access ≡ Some refusal → FramesStandFor part f h 0 → FramesAre part f (Some (stop_by refusal)) (e ∷ h) 0
+pub refused : (part : PartData) (f : FramesState) (h : History) (e : Entry) (refusal : RunFault) → frame_fault part h e.access ≡ Some refusal → FramesStandFor part f h 0 → FramesAre part f (Some (stop_of_refused refusal)) (e ∷ h) 0
 refused part f h e refusal r s = by refusal r
   where
     far : (fault : RunFault) → frame_fault part h e.access ≡ Some fault → far_in part (without_due 0 (flow_of part h)) ≡ far_in part (without_due 0 (flow_of part (e ∷ h)))
     far fault r = sym (ap (far_in part) (no_less (flow_of part h))) ∙ sym (refused_far_read part e h fault r) ∙ ap (far_in part) (no_less (flow_of part (e ∷ h)))
 
-    by : (fault : RunFault) → frame_fault part h e.access ≡ Some fault → FramesAre part f (Some (stop_by fault)) (e ∷ h) 0
+    by : (fault : RunFault) → frame_fault part h e.access ≡ Some fault → FramesAre part f (Some (stop_of_refused fault)) (e ∷ h) 0
     by (Address a) r = record { stands = s; memory_same = λ x. sym (refused_memory part e h (Address a) r x); far_same = far (Address a) r }
     by Overrun r = record { stands = s; memory_same = λ x. sym (refused_memory part e h Overrun r x); far_same = far Overrun r }
     by Multi r = record { stands = s; memory_same = λ x. sym (refused_memory part e h Multi r x); far_same = far Multi r }
 
 -- after an access, by why it stops the device
-pub access_frames : (part : PartData) (kept : Kept) (f g : FramesState) (h : History) (e : Entry) (why now : Option Stop) (result : Option RunFault) → FramesStandFor part f h 0
+pub access_frames : (part : PartData) (kept : Kept) (f g : FramesState) (h : History) (e : Entry) (why now : Option StopCause) (result : Option RunFault) → FramesStandFor part f h 0
     → AfterAccess part g h e result → result ≡ frame_fault part h e.access → why ≡ why_by_access part kept h e.access → now ≡ option_or why (why_by_frames result) → FramesAre part g now (e ∷ h) 0
 access_frames part kept f g h e why now None s after r l n =
     let same : now ≡ why = n ∙ alone why in
     frames_at part g now (e ∷ h) 0 (ap is_refusal (same ∙ l) ∙ no_refusal part kept h e.access) after
   where
-    alone : (o : Option Stop) → option_or o None ≡ o
+    alone : (o : Option StopCause) → option_or o None ≡ o
     alone None = refl
     alone (Some x) = refl
 access_frames part kept f g h e why now (Some refusal) s after r l n =
     let none : why ≡ None = l ∙ one_why part kept h e.access refusal (sym r) in
-    let same : now ≡ Some (stop_by refusal) = n ∙ ap (λ (o : Option Stop). option_or o (Some (stop_by refusal))) none in
-    subst (λ (o : Option Stop). FramesAre part g o (e ∷ h) 0) (sym same) (refused part g h e refusal (sym r) after)
+    let same : now ≡ Some (stop_of_refused refusal) = n ∙ ap (λ (o : Option StopCause). option_or o (Some (stop_of_refused refusal))) none in
+    subst (λ (o : Option StopCause). FramesAre part g o (e ∷ h) 0) (sym same) (refused part g h e refusal (sym r) after)
 
 -- why an access stops a device
-pub why_is : (part : PartData) (kept : Kept) (h : History) (access : Access) (why now : Option Stop) (result : Option RunFault) → result ≡ frame_fault part h access → why ≡ why_by_access part kept h access → now ≡ option_or why (why_by_frames result)
+pub why_is : (part : PartData) (kept : Kept) (h : History) (access : Access) (why now : Option StopCause) (result : Option RunFault) → result ≡ frame_fault part h access → why ≡ why_by_access part kept h access → now ≡ option_or why (why_by_frames result)
     → now ≡ why_at part kept h access
-why_is part kept h access why now result r l n = n ∙ ap (λ (o : Option Stop). option_or o (why_by_frames result)) l ∙ ap (λ (o : Option RunFault). option_or (why_by_access part kept h access) (why_by_frames o)) r
+why_is part kept h access why now result r l n = n ∙ ap (λ (o : Option StopCause). option_or o (why_by_frames result)) l ∙ ap (λ (o : Option RunFault). option_or (why_by_access part kept h access) (why_by_frames o)) r
 
 -- words of a register without an effect ask nothing of the frames
 pub plain_frames : (part : PartData) (f : FramesState) (register n : ℕ) (ws : List ℕ) (h : History) → IsPlain register → FramesStandFor part f h 0 → FramesStandFor part f (entered_all n (payload_steps register ws) h) 0
 plain_frames part f register n ws h p s =
     kept_all (λ (x : History). FramesStandFor part f x 0) register (λ (x : History) (w place : ℕ) (t : FramesStandFor part f x 0). other_access part f x (entry (Write register w) place) (plain_asks part.idcode x register w p) t) n ws h s
 
-pub plain_are : (part : PartData) (f : FramesState) (why : Option Stop) (register n : ℕ) (ws : List ℕ) (h : History) (d : Due) → IsPlain register → is_refusal why ≡ false → due_count d ≡ 0 → FramesAre part f why h (frames_due d)
+pub plain_are : (part : PartData) (f : FramesState) (why : Option StopCause) (register n : ℕ) (ws : List ℕ) (h : History) (d : Due) → IsPlain register → is_refusal why ≡ false → due_count d ≡ 0 → FramesAre part f why h (frames_due d)
     → FramesAre part f why (entered_all n (payload_steps register ws) h) (frames_due d)
 plain_are part f why register n ws h d p e z s =
     let now : FramesStandFor part f h 0 = frames_of part f why h 0 e (subst (λ (k : ℕ). FramesAre part f why h k) (none_frames d z) s) in

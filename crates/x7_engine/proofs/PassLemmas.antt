@@ -13,8 +13,8 @@ use Rattle.x7_packets.proofs.HistoryLemmas.{history_is}
 use Rattle.x7_part.specs.Part.{PartData}
 use Rattle.x7_engine.specs.declared.fault.Fault.TheVariants as fault
 use Rattle.x7_engine.specs.declared.kept.Kept.{Kept}
-use Rattle.x7_engine.specs.declared.stop.Stop.{Stop}
-use Rattle.x7_engine.specs.declared.stop.Stop.TheVariants as stop
+use Rattle.x7_engine.specs.declared.stop.StopCause.{StopCause}
+use Rattle.x7_engine.specs.declared.stop.StopCause.TheVariants as stop
 use Rattle.x7_engine.specs.Standing.{DeviceStandsFor, DeviceState, IsCutterOf, RegistersStandFor, counted_in, due_count, reads_given}
 use Rattle.x7_engine.specs.State.{history_by, history_taken, reads_of, stop_in}
 use Rattle.x7_engine.specs.Stop.{stop_of, stopped_at}
@@ -37,7 +37,7 @@ pub passed : (part : PartData) (kept : Kept) (wrapped : Bool) (d e : DeviceState
     → ((sessions : List Session) (place : Place) → CutterStandsFor d.cutter bytes sessions place → Idles d.cutter (bytes ++ cut) sessions place)
     → ((h : History) (n : ℕ) → RegistersStandFor part kept d.registers h n → RegistersStandFor part kept e.registers h (n + (count - left)))
     → count ≡ length cut → cut ≡ more ++ rest → length rest ≡ left → (e.registers.stop ≡ None → left ≡ 0)
-    → ((why : Stop) → e.registers.stop ≡ Some why → (why ≡ stop.Fault fault.Watchdog) × (left < count))
+    → ((why : StopCause) → e.registers.stop ≡ Some why → (why ≡ stop.Fault fault.Watchdog) × (left < count))
     → e.cutter ≡ d.cutter → e.part ≡ d.part → e.wrapped ≡ d.wrapped → e.taken ≡ d.taken + length more → due_count e.registers.due ≡ 0
     → DeviceStandsFor part kept wrapped e (bytes ++ more) × (reads_of part kept (bytes ++ more) ≡ reads_of part kept bytes) × (history_of (bytes ++ more) ≡ history_of bytes)
 passed part kept wrapped d e bytes cut more rest count left s going quiet idles stands k j l g f c p y t due =
@@ -80,7 +80,7 @@ passed part kept wrapped d e bytes cut more rest count left s going quiet idles 
               (subst (λ (x : List ℕ). CutterStandsFor d.cutter (bytes ++ x) cutter.sessions i.new_place) (sym (no_rest cut more rest j (l ∙ g o))) i.stands);
         };
         due_are = record { given = reads_of part kept bytes; all = known ∙ no_word_due (reads_of part kept bytes) part (history_taken part kept (bytes ++ more)) e.registers.due due };
-        at_rest = λ why o. due;
+        none_due_at_stop = λ why o. due;
       },
       known,
       prefix,

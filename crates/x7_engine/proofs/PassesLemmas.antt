@@ -17,15 +17,15 @@ use Rattle.x7_engine.specs.Stop.{Stopped, stop_of, stopped_at, stopped_by_watchd
 use Rattle.x7_engine.specs.Watching.{first_firing}
 use Rattle.x7_engine.specs.declared.fault.Fault.TheVariants as fault
 use Rattle.x7_engine.specs.declared.kept.Kept.{Kept}
-use Rattle.x7_engine.specs.declared.stop.Stop.{Stop}
-use Rattle.x7_engine.specs.declared.stop.Stop.TheVariants as stop
+use Rattle.x7_engine.specs.declared.stop.StopCause.{StopCause}
+use Rattle.x7_engine.specs.declared.stop.StopCause.TheVariants as stop
 use Rattle.x7_engine.proofs.FallbackLemmas.{none_fired}
 use Rattle.x7_engine.proofs.SameLemmas.{IsSame, check, faults, held, mask}
 use Rattle.x7_engine.proofs.StateLemmas.{parts_none}
 
 -- ---- why a write stops a device, by what was left before it
 
-abbrev why_from : PartData → Bool → ℕ → ℕ → ℕ → Bool → ℕ → ℕ → ℕ → Option Stop
+abbrev why_from : PartData → Bool → ℕ → ℕ → ℕ → Bool → ℕ → ℕ → ℕ → Option StopCause
 why_from part fallback check mask ctl0 matched held r w =
     if r == number_of reg.Crc && not (w == check) then Some (stop.Fault (fault.Crc check w)) else
     if r == number_of reg.Cbc || (r == number_of reg.Ctl0 && has_dec (masked_word (number_of reg.Ctl0) mask (Write r w) ctl0)) then Some (stop.Fault fault.Encrypted) else
@@ -36,7 +36,7 @@ why_from part fallback check mask ctl0 matched held r w =
 from_is : (part : PartData) (kept : Kept) (h : History) (r w : ℕ) → why_by_write part kept h r w ≡ why_from part (is_fallback kept.kind) (running_check h) (mask_held h) (ctl0_held h) (is_matched part.idcode h) (command_held h) r w
 from_is part kept h r w = refl
 
-less : (b1 b2 b3 b4 x y : Bool) (s1 s2 s3 s4 s5 : Stop) → y ≡ false → (if b1 then Some s1 else if b2 then Some s2 else if b3 then Some s3 else if b4 then Some s4 else if x then Some s5 else None) ≡ None
+less : (b1 b2 b3 b4 x y : Bool) (s1 s2 s3 s4 s5 : StopCause) → y ≡ false → (if b1 then Some s1 else if b2 then Some s2 else if b3 then Some s3 else if b4 then Some s4 else if x then Some s5 else None) ≡ None
     → (if b1 then Some s1 else if b2 then Some s2 else if b3 then Some s3 else if b4 then Some s4 else if y then Some s5 else None) ≡ None
 less true b2 b3 b4 x y s1 s2 s3 s4 s5 e f = absurd (cc)
 less false true b3 b4 x y s1 s2 s3 s4 s5 e f = absurd (cc)
@@ -51,7 +51,7 @@ lets_pass part fallback check mask ctl0 matched held r w e =
     ((r == number_of reg.Fdri || (r == number_of reg.Mfwr || is_command (code_of command.Start) (executed_by held (Write r w)))) && not matched) (r == number_of reg.Cmd && (w % 2 ^ 5 == code_of command.Iprog && not fallback)) (r == number_of reg.Cmd && (w % 2 ^ 5 == code_of command.Iprog && not true))
     (stop.Fault (fault.Crc check w)) (stop.Fault fault.Encrypted) (stop.Fault (fault.Id part.idcode w)) (stop.Fault (fault.Id part.idcode 0)) stop.Iprog (and_right (r == number_of reg.Cmd) (w % 2 ^ 5 == code_of command.Iprog && not true) (and_right (w % 2 ^ 5 == code_of command.Iprog) false refl)) e
 
-stopped_none : (place : ℕ) (w : Option Stop) → stopped_at place w ≡ None → w ≡ None
+stopped_none : (place : ℕ) (w : Option StopCause) → stopped_at place w ≡ None → w ≡ None
 stopped_none place None e = refl
 stopped_none place (Some w) e = absurd (cc)
 
@@ -59,7 +59,7 @@ stopped_none place (Some w) e = absurd (cc)
 pub goes_past : (part : PartData) (kept : Kept) (h : History) (a : Access) (place m : ℕ) → is_fallback kept.kind ≡ true → stop_of part kept h place ≡ None → why_at part kept h a ≡ None → stop_of part kept (entry a place ∷ h) m ≡ None
 goes_past part kept h a place m fell before why =
     ap (λ (o : Option Stopped). option_or o (option_or (stopped_at place (why_at part kept h a)) (stopped_by_watchdog (first_firing part kept (entry a place ∷ h) place (m - place))))) before
-    ∙ ap (λ (w : Option Stop). option_or (stopped_at place w) (stopped_by_watchdog (first_firing part kept (entry a place ∷ h) place (m - place)))) why
+    ∙ ap (λ (w : Option StopCause). option_or (stopped_at place w) (stopped_by_watchdog (first_firing part kept (entry a place ∷ h) place (m - place)))) why
     ∙ ap stopped_by_watchdog (none_fired part kept (entry a place ∷ h) place (m - place) fell)
 
 pub went_past : (part : PartData) (kept : Kept) (h : History) (e : Entry) (m : ℕ) → stop_of part kept (e ∷ h) m ≡ None → (stop_of part kept h e.place ≡ None) × (why_at part kept h e.access ≡ None)
@@ -86,4 +86,4 @@ module _ (part : PartData) (kept power : Kept) (low : ℕ) (g h : History) (fell
   pub why_passes : (a : Access) → why_at part power h a ≡ None → why_at part kept g a ≡ None
   why_passes a e =
       let parts : (why_by_access part power h a ≡ None) × (why_by_frames (frame_fault part h a) ≡ None) = parts_none (why_by_access part power h a) (why_by_frames (frame_fault part h a)) e in
-      ap (λ (o : Option Stop). option_or o (why_by_frames (frame_fault part g a))) (passes a parts.0) ∙ ap why_by_frames (faults part low g h s a) ∙ parts.1
+      ap (λ (o : Option StopCause). option_or o (why_by_frames (frame_fault part g a))) (passes a parts.0) ∙ ap why_by_frames (faults part low g h s a) ∙ parts.1

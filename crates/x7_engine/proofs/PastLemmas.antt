@@ -25,7 +25,7 @@ stands_fed part kept wrapped d bytes fed s = record {
   registers_are = s.registers_are;
   cutter_is = s.cutter_is;
   due_are = s.due_are;
-  at_rest = s.at_rest;
+  none_due_at_stop = s.none_due_at_stop;
 }
 
 -- the end of the flash is in no stored value but one
@@ -39,7 +39,7 @@ stands_wrapped part kept wrapped d bytes s = record {
   registers_are = s.registers_are;
   cutter_is = s.cutter_is;
   due_are = s.due_are;
-  at_rest = s.at_rest;
+  none_due_at_stop = s.none_due_at_stop;
 }
 
 past_equal : (d e : DeviceState) → AreEqual d e → HasSomePast e → HasSomePast d

@@ -19,12 +19,12 @@ use Rattle.x7_flow.specs.Asking.{Asked, Other}
 use Rattle.x7_flow.specs.Flow.{asks, fault_by, flow_of, frame_fault}
 use Rattle.x7_engine.specs.declared.fault.Fault.TheVariants as fault
 use Rattle.x7_engine.specs.declared.kept.Kept.{Kept}
-use Rattle.x7_engine.specs.declared.stop.Stop.{Stop}
-use Rattle.x7_engine.specs.declared.stop.Stop.TheVariants as stop
+use Rattle.x7_engine.specs.declared.stop.StopCause.{StopCause}
+use Rattle.x7_engine.specs.declared.stop.StopCause.TheVariants as stop
 use Rattle.x7_engine.specs.Clock.{ClockState, IsClock, newest_place}
 use Rattle.x7_engine.specs.Kept.{is_fallback}
 use Rattle.x7_flow.specs.Controls.{is_matched, same_idcode}
-use Rattle.x7_engine.specs.Registers.{ghigh_after, has_effect, has_ghigh, clears_check, is_controlling, is_pending, pending_after, takes_shutdown, word_held, wrote_iprog}
+use Rattle.x7_engine.specs.Registers.{has_ghigh_after, has_effect, has_ghigh, clears_check, is_controlling, is_pending, is_pending_after, takes_shutdown, word_held, wrote_iprog}
 use Rattle.x7_engine.specs.Standing.{AreControls, ControlsState, counted_in}
 use Rattle.x7_engine.specs.Startup.{has_ended, phase_by, startup_call, startup_calls}
 use Rattle.x7_engine.specs.State.{last_counted}
@@ -110,7 +110,7 @@ own_none part kept h register w p = let q = p.quiet in rw (executes_none (comman
 
 pub why_none : (part : PartData) (kept : Kept) (h : History) (register w : ℕ) → IsPlain register → None ≡ why_at part kept h (Write register w)
 why_none part kept h register w p =
-    sym (ap (λ (o : Option Stop). option_or o (why_by_frames (frame_fault part h (Write register w)))) (own_none part kept h register w p)
+    sym (ap (λ (o : Option StopCause). option_or o (why_by_frames (frame_fault part h (Write register w)))) (own_none part kept h register w p)
     ∙ ap (λ (a : Asked). why_by_frames (fault_by part a (flow_of part h))) (plain_asks part.idcode h register w p))
 
 -- the flags stay
@@ -127,8 +127,8 @@ flags_more idcode matched pending ghigh iprog h register w place p s =
     let cleared : clears_check h (Write register w) ≡ false = rw (none, p.crc) refl in
     record {
       matched_is = s.matched_is ∙ sym (ap (λ b. b && same_idcode idcode w || is_matched idcode h) p.idcode);
-      pending_is = s.pending_is ∙ sym (ap (λ o. pending_after o (clears_check h (Write register w)) (is_pending h)) none ∙ ap (λ b. pending_after None b (is_pending h)) cleared);
-      ghigh_is = s.ghigh_is ∙ sym (ap (λ o. ghigh_after o (takes_shutdown h (Write register w)) (has_ghigh h)) none ∙ ap (λ b. ghigh_after None (b && is_pending h) (has_ghigh h)) cleared);
+      pending_is = s.pending_is ∙ sym (ap (λ o. is_pending_after o (clears_check h (Write register w)) (is_pending h)) none ∙ ap (λ b. is_pending_after None b (is_pending h)) cleared);
+      ghigh_is = s.ghigh_is ∙ sym (ap (λ o. has_ghigh_after o (takes_shutdown h (Write register w)) (has_ghigh h)) none ∙ ap (λ b. has_ghigh_after None (b && is_pending h) (has_ghigh h)) cleared);
       iprog_is = s.iprog_is ∙ sym (ap (λ b. b && w % 2 ^ 5 == 15 || wrote_iprog h) p.cmd);
     }
 
@@ -233,13 +233,13 @@ plain_firing part kept h register w place (suc count) p l =
 plain_stop : (part : PartData) (kept : Kept) (h : History) (register w place m : ℕ) → IsQuiet register → why_at part kept h (Write register w) ≡ None → newest_place h ≤ place → place ≤ m → stop_of part kept (entry (Write register w) place ∷ h) m ≡ stop_of part kept h m
 plain_stop part kept h register w place m p none l k =
     let sum : place + (m - place) ≡ m = omega (arith, k) in
-    ap (λ (o : Option Stop). option_or (stop_of part kept h place) (option_or (stopped_at place o) (stopped_by_watchdog (first_firing part kept (entry (Write register w) place ∷ h) place (m - place))))) none
+    ap (λ (o : Option StopCause). option_or (stop_of part kept h place) (option_or (stopped_at place o) (stopped_by_watchdog (first_firing part kept (entry (Write register w) place ∷ h) place (m - place))))) none
     ∙ ap (λ (o : Option ℕ). option_or (stop_of part kept h place) (stopped_by_watchdog o)) (plain_firing part kept h register w place (m - place) p l)
     ∙ sym (stop_more_bytes part kept h place (m - place) l)
     ∙ ap (stop_of part kept h) sum
 
 -- the clock and the stop after m bytes are those of a history
-pub record Clocked (part : PartData) (kept : Kept) (c : ClockState) (d : Option Stop) (h : History) (n m : ℕ) : Type 0 where
+pub record Clocked (part : PartData) (kept : Kept) (c : ClockState) (d : Option StopCause) (h : History) (n m : ℕ) : Type 0 where
   pub places : Placed n h
   pub clock : IsClock part kept c h m
   pub stop : stop_of part kept h m ≡ stopped_at m d
@@ -253,7 +253,7 @@ pub plain_none : (part : PartData) (kept : Kept) (register n : ℕ) (ws : List �
 plain_none part kept register n [] h p = tt
 plain_none part kept register n (w ∷ ws) h p = (sym (why_none part kept h register w p), plain_none part kept register (n + 4) ws (entry (Write register w) (n + 4) ∷ h) p)
 
-clocked_more : (part : PartData) (kept : Kept) (c : ClockState) (d : Option Stop) (h : History) (n m register w : ℕ) → IsQuiet register → why_at part kept h (Write register w) ≡ None → n + 4 ≤ m → Clocked part kept c d h n m → Clocked part kept c d (entry (Write register w) (n + 4) ∷ h) (n + 4) m
+clocked_more : (part : PartData) (kept : Kept) (c : ClockState) (d : Option StopCause) (h : History) (n m register w : ℕ) → IsQuiet register → why_at part kept h (Write register w) ≡ None → n + 4 ≤ m → Clocked part kept c d h n m → Clocked part kept c d (entry (Write register w) (n + 4) ∷ h) (n + 4) m
 clocked_more part kept c d h n m register w p none l s =
     let before : newest_place h ≤ n + 4 = omega (arith, newest_within n h s.places) in
     record {
@@ -265,7 +265,7 @@ clocked_more part kept c d h n m register w p none l s =
       stop = plain_stop part kept h register w (n + 4) m p none before l ∙ s.stop;
     }
 
-pub clocked_all : (part : PartData) (kept : Kept) (c : ClockState) (d : Option Stop) (register n m : ℕ) (ws : List ℕ) (h : History) → IsQuiet register → NoneStop part kept register n ws h → n + 4 * length ws ≤ m → Clocked part kept c d h n m
+pub clocked_all : (part : PartData) (kept : Kept) (c : ClockState) (d : Option StopCause) (register n m : ℕ) (ws : List ℕ) (h : History) → IsQuiet register → NoneStop part kept register n ws h → n + 4 * length ws ≤ m → Clocked part kept c d h n m
     → Clocked part kept c d (entered_all n (payload_steps register ws) h) (n + 4 * length ws) m
 clocked_all part kept c d register n m [] h p none l s = let same : n ≡ n + 0 = omega arith in subst (λ (k : ℕ). Clocked part kept c d h k m) same s
 clocked_all part kept c d register n m (w ∷ ws) h p none l s =
@@ -298,8 +298,8 @@ words_prefix (suc k) bytes = ap (λ (n : ℕ). words_of_bytes (take n bytes)) ne
     by (a ∷ b ∷ c ∷ d ∷ rest) f = ap (λ t. word_of_bytes (a ∷ b ∷ c ∷ d ∷ []) ∷ t) (f rest)
 
 -- the byte up to which words count, after some bytes
-pub counted_after : (d : Option Stop) (n count left : ℕ) → ((why : Stop) → d ≡ Some why → (why ≡ stop.Fault fault.Watchdog) × (left < count)) → counted_in d (n + (count - left)) ≡ n + counted_in d (count - left)
+pub counted_after : (d : Option StopCause) (n count left : ℕ) → ((why : StopCause) → d ≡ Some why → (why ≡ stop.Fault fault.Watchdog) × (left < count)) → counted_in d (n + (count - left)) ≡ n + counted_in d (count - left)
 counted_after None n count left f = refl
 counted_after (Some why) n count left f =
     let w : (why ≡ stop.Fault fault.Watchdog) × (left < count) = f why refl in
-    ap (λ (l : Stop). last_counted l (n + (count - left))) w.0 ∙ omega (arith, w.1) ∙ sym (ap (λ (l : Stop). n + last_counted l (count - left)) w.0)
+    ap (λ (l : StopCause). last_counted l (n + (count - left))) w.0 ∙ omega (arith, w.1) ∙ sym (ap (λ (l : StopCause). n + last_counted l (count - left)) w.0)

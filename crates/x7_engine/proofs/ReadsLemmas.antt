@@ -9,10 +9,10 @@ use Rattle.x7_packets.specs.History.{AllAfter, History, Placed, history_of, unti
 use Rattle.x7_packets.proofs.GrowthLemmas.{newer_of, placed_of}
 use Rattle.x7_part.specs.Part.{PartData}
 use Rattle.x7_engine.specs.declared.kept.Kept.{Kept}
-use Rattle.x7_engine.specs.declared.stop.Stop.{Stop}
+use Rattle.x7_engine.specs.declared.stop.StopCause.{StopCause}
 use Rattle.x7_engine.specs.State.{history_by, history_taken, last_counted, reads_of, stop_in}
 use Rattle.x7_engine.specs.Stop.{Stopped, why_at, stop_of, stopped_at, stopped_by_watchdog}
-use Rattle.x7_engine.specs.Value.{answer_of, read_out}
+use Rattle.x7_engine.specs.Value.{words_read_by, read_out}
 use Rattle.x7_engine.specs.Watching.{fired_or, fires, first_firing}
 use Rattle.x7_engine.proofs.StateLemmas.{stop_is_final_reads, parts_none, counted_most}
 
@@ -68,7 +68,7 @@ newer_stop part kept [] h first most n s a l none e = stop_after part kept h fir
 newer_stop part kept (x ∷ newer) h first most n s a l none e =
     by (stop_of part kept (newer ++ h) x.place) (why_at part kept (newer ++ h) x.access) refl (newer_stop part kept newer h first most x.place s a.2 (omega (arith, a.0)) none) e
   where
-    by : (o : Option Stopped) (why : Option Stop) → stop_of part kept (newer ++ h) x.place ≡ o → (stop_of part kept (newer ++ h) x.place ≡ Some s → first < s.place)
+    by : (o : Option Stopped) (why : Option StopCause) → stop_of part kept (newer ++ h) x.place ≡ o → (stop_of part kept (newer ++ h) x.place ≡ Some s → first < s.place)
         → option_or o (option_or (stopped_at x.place why) (stopped_by_watchdog (first_firing part kept (x ∷ (newer ++ h)) x.place (n - x.place)))) ≡ Some s → first < s.place
     by (Some q) why p before g = before (p ∙ g)
     by None (Some q) p before g =
@@ -102,7 +102,7 @@ reads_prefix : (part : PartData) (kept : Kept) (newer h : History) → (rest : L
 reads_prefix part kept [] h = ([], sym (append-nil (read_out part kept h)))
 reads_prefix part kept (x ∷ newer) h =
     let more = reads_prefix part kept newer h in
-    let answer = answer_of part kept (newer ++ h) x.access x.place in
+    let answer = words_read_by part kept (newer ++ h) x.access x.place in
     (more.0 ++ answer, ap (λ (r : List ℕ). r ++ answer) more.1 ∙ append_assoc (read_out part kept h) more.0 answer)
 
 reads_on : (part : PartData) (kept : Kept) (bytes more : List ℕ) → AreBytes bytes → AreBytes (bytes ++ more) → stop_in part kept bytes ≡ None → (rest : List ℕ) × (reads_of part kept (bytes ++ more) ≡ reads_of part kept bytes ++ rest)

@@ -18,7 +18,7 @@ use Rattle.x7_flow.specs.Controls.{ctl0_held, is_matched, mask_held, masked_word
 use Rattle.x7_flow.specs.Flow.{Flow, asked_under, asks, fault_by, flow_by, flow_of, frame_fault}
 use Rattle.x7_flow.specs.FrameMemory.{memory_of, puts}
 use Rattle.x7_flow.specs.Settings.{Settings, settings_of}
-use Rattle.x7_engine.specs.Registers.{clears_by, clears_check, is_pending, pending_after, takes_shutdown}
+use Rattle.x7_engine.specs.Registers.{clears_by, clears_check, is_pending, is_pending_after, takes_shutdown}
 use Rattle.x7_engine.specs.Startup.{startup_call, startup_calls}
 
 -- ---- startup, by two lists of calls
@@ -117,9 +117,9 @@ module _ (part : PartData) (low : ℕ) (g h : History) (s : IsSame part low g h)
         matched = ap (λ (x : Bool). names_part part.idcode a || x) s.matched;
         open_are = ap (λ (c : ℕ). if is_command 7 (executed_by c a) || writes 0 a then [] else with_write a (open_writes g)) held
             ∙ ap (λ (w : List RegisterWrite). if clears h a then [] else with_write a w) s.open_are;
-        pending = ap (λ (c : ℕ). pending_after (executed_by c a) (clears_check g a) (is_pending g)) held
-            ∙ ap (λ (x : Bool). pending_after (executed_by (command_held h) a) x (is_pending g)) (cleared a)
-            ∙ ap (pending_after (executed_by (command_held h) a) (clears_check h a)) s.pending;
+        pending = ap (λ (c : ℕ). is_pending_after (executed_by c a) (clears_check g a) (is_pending g)) held
+            ∙ ap (λ (x : Bool). is_pending_after (executed_by (command_held h) a) x (is_pending g)) (cleared a)
+            ∙ ap (is_pending_after (executed_by (command_held h) a) (clears_check h a)) s.pending;
         flow = flows e;
         memory = memories e;
         startup = after_access low g h e l s.startup (calls a);

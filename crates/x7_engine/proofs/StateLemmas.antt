@@ -12,8 +12,8 @@ use Rattle.x7_part.specs.Part.{PartData}
 use Rattle.x7_engine.specs.Course.{course_at}
 use Rattle.x7_engine.specs.declared.kept.Kept.{Kept}
 use Rattle.x7_engine.specs.declared.fault.Fault.TheVariants as fault
-use Rattle.x7_engine.specs.declared.stop.Stop.{Stop}
-use Rattle.x7_engine.specs.declared.stop.Stop.TheVariants as stop
+use Rattle.x7_engine.specs.declared.stop.StopCause.{StopCause}
+use Rattle.x7_engine.specs.declared.stop.StopCause.TheVariants as stop
 use Rattle.x7_engine.specs.Standing.{DeviceStandsFor, DeviceState}
 use Rattle.x7_flow.specs.Flow.{Flow, far_in, flow_of}
 use Rattle.x7_flow.specs.FrameMemory.{memory_of}
@@ -23,11 +23,11 @@ use Rattle.x7_engine.specs.Stop.{Stopped, why_at, stop_of, stopped_at, stopped_b
 use Rattle.x7_engine.specs.Watching.{fired_or, fires, first_firing}
 use Rattle.x7_engine.specs.Value.{read_out}
 
-why_at_end : (n : ℕ) (d : Option Stop) → why_of (stopped_at n d) ≡ d
+why_at_end : (n : ℕ) (d : Option StopCause) → why_of (stopped_at n d) ≡ d
 why_at_end n None = refl
 why_at_end n (Some why) = refl
 
-taken_at_end : (n : ℕ) (d : Option Stop) → taken_by (stopped_at n d) n ≡ n
+taken_at_end : (n : ℕ) (d : Option StopCause) → taken_by (stopped_at n d) n ≡ n
 taken_at_end n None = refl
 taken_at_end n (Some why) = refl
 
@@ -112,7 +112,7 @@ watchdog_within part kept h from count n s e l = by_firing (first_firing part ke
         let p : place ≡ s.place = cc in
         (omega (arith, w.0), omega (arith, w.1))
 
-some_why : (place : ℕ) (o : Option Stop) (s : Stopped) → stopped_at place o ≡ Some s → s.place ≡ place
+some_why : (place : ℕ) (o : Option StopCause) (s : Stopped) → stopped_at place o ≡ Some s → s.place ≡ place
 some_why place None s e = absurd cc
 some_why place (Some why) s e = cc
 
@@ -134,7 +134,7 @@ stop_within part kept (x ∷ h) n s p e =
 pub stop_place : (part : PartData) (kept : Kept) (bytes : List ℕ) (s : Stopped) → AreBytes bytes → stop_in part kept bytes ≡ Some s → (0 < s.place) × (s.place ≤ length bytes)
 stop_place part kept bytes s f e = stop_within part kept (history_of bytes) (length bytes) s (placed_of bytes f) e
 
-pub counted_least : (why : Stop) (place : ℕ) → last_counted why place ≤ place
+pub counted_least : (why : StopCause) (place : ℕ) → last_counted why place ≤ place
 counted_least (stop.Fault (fault.Packet w)) place = omega arith
 counted_least (stop.Fault (fault.Id want got)) place = omega arith
 counted_least (stop.Fault (fault.Crc want got)) place = omega arith
@@ -167,7 +167,7 @@ pub stop_is_final_memory : (part : PartData) (kept : Kept) (bytes more : List �
 stop_is_final_memory part kept bytes more s f e = ap (memory_of part) (history_final part kept bytes more s f e)
 
 -- after a stop it doesn't matter whether the bytes end in a session
-stopped_state : (part : PartData) (kept : Kept) (wrapped : Bool) (why : Stop) (h : History) (n : ℕ) (a b : Bool) → state_by (course_at part kept h n) wrapped (Some why) a ≡ state_by (course_at part kept h n) wrapped (Some why) b
+stopped_state : (part : PartData) (kept : Kept) (wrapped : Bool) (why : StopCause) (h : History) (n : ℕ) (a b : Bool) → state_by (course_at part kept h n) wrapped (Some why) a ≡ state_by (course_at part kept h n) wrapped (Some why) b
 stopped_state part kept wrapped (stop.Fault f) h n a b = refl
 stopped_state part kept wrapped stop.Iprog h n a b = refl
 
@@ -191,7 +191,7 @@ no_stop_before part kept bytes more s f e l = by_stop (stop_in part kept bytes) 
         absurd (omega (arith, (stop_place part kept bytes t (all_prefix (λ b. b < 256) bytes more f) g).1, ap (λ (x : Stopped). x.place) same, l))
 
 -- the last byte that counts is none of those before the last one
-pub counted_most : (why : Stop) (place n : ℕ) → n < place → n ≤ last_counted why place
+pub counted_most : (why : StopCause) (place n : ℕ) → n < place → n ≤ last_counted why place
 counted_most (stop.Fault (fault.Packet w)) place n l = omega (arith, l)
 counted_most (stop.Fault (fault.Id want got)) place n l = omega (arith, l)
 counted_most (stop.Fault (fault.Crc want got)) place n l = omega (arith, l)

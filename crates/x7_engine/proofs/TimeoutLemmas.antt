@@ -9,7 +9,7 @@ use Rattle.x7_startup.proofs.WatchdogLemmas.{count_loaded, count_watched}
 use Rattle.x7_engine.specs.declared.kept.Kept.{Kept}
 use Rattle.x7_engine.specs.Kept.{is_fallback}
 use Rattle.x7_engine.specs.Startup.{has_ended}
-use Rattle.x7_engine.specs.Timeout.{before_byte, counted_at, fires_at, is_on_at, last_load, loads, on_after}
+use Rattle.x7_engine.specs.Timeout.{before_byte, bytes_on_since_load, fires_at, is_on_at, last_load, loads, bytes_on_after}
 use Rattle.x7_engine.specs.Watching.{fires, timer_held, watch_call, watch_calls}
 use Rattle.x7_engine.proofs.ClockLemmas.{one_watched, timer_is, watch_entered}
 use Rattle.x7_engine.proofs.FirstStopLemmas.{one_more}
@@ -51,11 +51,11 @@ count_call off t h calls (Write register w) = by (executes 17 h (Write register 
 -- ---- the count of bytes
 
 abbrev Counts : PartData → Kept → List ℕ → ℕ → Type 0
-Counts part kept bytes n = watched_count (is_fallback kept.kind) kept.timer (watch_calls part (history_of (take n bytes)) n) ≡ on_after part kept bytes (last_load (history_of (take n bytes))) (n - last_load (history_of (take n bytes)))
+Counts part kept bytes n = watched_count (is_fallback kept.kind) kept.timer (watch_calls part (history_of (take n bytes)) n) ≡ bytes_on_after part kept bytes (last_load (history_of (take n bytes))) (n - last_load (history_of (take n bytes)))
 
 -- up to a byte itself, before its access
 counted_here : (part : PartData) (kept : Kept) (bytes : List ℕ) (n : ℕ) → Placed n (history_of (take n bytes)) → Counts part kept bytes n
-    → watched_count (is_fallback kept.kind) kept.timer (watch_calls part (history_of (take n bytes)) (n + 1)) ≡ on_after part kept bytes (last_load (history_of (take n bytes))) (suc n - last_load (history_of (take n bytes)))
+    → watched_count (is_fallback kept.kind) kept.timer (watch_calls part (history_of (take n bytes)) (n + 1)) ≡ bytes_on_after part kept bytes (last_load (history_of (take n bytes))) (suc n - last_load (history_of (take n bytes)))
 counted_here part kept bytes n p e =
     let h : History = history_of (take n bytes) in
     let from : ℕ = last_load h in
@@ -65,9 +65,9 @@ counted_here part kept bytes n p e =
     let before : n + 1 - 1 ≡ n = omega arith in
     count_byte part kept h n p
     ∙ ap (λ (k : ℕ). k + (if is_on (is_fallback kept.kind) (timer_held kept h) (has_ended part h (n + 1)) then 1 else 0)) e
-    ∙ ap (λ (m : ℕ). on_after part kept bytes from (n - from) + (if is_on (is_fallback kept.kind) (timer_held kept (history_of (take m bytes))) (has_ended part (history_of (take m bytes)) (n + 1)) then 1 else 0)) (sym before)
-    ∙ ap (λ (m : ℕ). on_after part kept bytes from (n - from) + (if is_on_at part kept bytes m then 1 else 0)) (sym place)
-    ∙ ap (on_after part kept bytes from) (sym count)
+    ∙ ap (λ (m : ℕ). bytes_on_after part kept bytes from (n - from) + (if is_on (is_fallback kept.kind) (timer_held kept (history_of (take m bytes))) (has_ended part (history_of (take m bytes)) (n + 1)) then 1 else 0)) (sym before)
+    ∙ ap (λ (m : ℕ). bytes_on_after part kept bytes from (n - from) + (if is_on_at part kept bytes m then 1 else 0)) (sym place)
+    ∙ ap (bytes_on_after part kept bytes from) (sym count)
 
 counted_next : (part : PartData) (kept : Kept) (bytes : List ℕ) (n : ℕ) → Placed n (history_of (take n bytes)) → OneMore (suc n) (history_of (take n bytes)) (history_of (take (suc n) bytes)) → Counts part kept bytes n → Counts part kept bytes (suc n)
 counted_next part kept bytes n p (inl same) e =
@@ -76,7 +76,7 @@ counted_next part kept bytes n p (inl same) e =
     ap (λ (g : History). watched_count (is_fallback kept.kind) kept.timer (watch_calls part g (suc n))) same
     ∙ ap (λ (m : ℕ). watched_count (is_fallback kept.kind) kept.timer (watch_calls part h m)) next
     ∙ counted_here part kept bytes n p e
-    ∙ ap (λ (g : History). on_after part kept bytes (last_load g) (suc n - last_load g)) (sym same)
+    ∙ ap (λ (g : History). bytes_on_after part kept bytes (last_load g) (suc n - last_load g)) (sym same)
 counted_next part kept bytes n p (inr more) e =
     let h : History = history_of (take n bytes) in
     let access : Access = more.0 in
@@ -86,12 +86,12 @@ counted_next part kept bytes n p (inr more) e =
     ∙ ap (watched_count off kept.timer) (watch_entered part h access (suc n))
     ∙ count_call off kept.timer h (watch_calls part h (suc n)) access
     ∙ by (loads h access) (ap (λ (m : ℕ). watched_count off kept.timer (watch_calls part h m)) next ∙ counted_here part kept bytes n p e)
-    ∙ ap (λ (g : History). on_after part kept bytes (last_load g) (suc n - last_load g)) (sym more.1)
+    ∙ ap (λ (g : History). bytes_on_after part kept bytes (last_load g) (suc n - last_load g)) (sym more.1)
   where
-    by : (b : Bool) → watched_count (is_fallback kept.kind) kept.timer (watch_calls part (history_of (take n bytes)) (suc n)) ≡ on_after part kept bytes (last_load (history_of (take n bytes))) (suc n - last_load (history_of (take n bytes)))
+    by : (b : Bool) → watched_count (is_fallback kept.kind) kept.timer (watch_calls part (history_of (take n bytes)) (suc n)) ≡ bytes_on_after part kept bytes (last_load (history_of (take n bytes))) (suc n - last_load (history_of (take n bytes)))
         → (if b then 0 else watched_count (is_fallback kept.kind) kept.timer (watch_calls part (history_of (take n bytes)) (suc n)))
-        ≡ on_after part kept bytes (if b then suc n else last_load (history_of (take n bytes))) (suc n - (if b then suc n else last_load (history_of (take n bytes))))
-    by true f = let none : 0 ≡ suc n - suc n = omega arith in ap (on_after part kept bytes (suc n)) none
+        ≡ bytes_on_after part kept bytes (if b then suc n else last_load (history_of (take n bytes))) (suc n - (if b then suc n else last_load (history_of (take n bytes))))
+    by true f = let none : 0 ≡ suc n - suc n = omega arith in ap (bytes_on_after part kept bytes (suc n)) none
     by false f = f
 
 counted_all : (part : PartData) (kept : Kept) (bytes : List ℕ) (n : ℕ) → AreBytes bytes → n ≤ length bytes → Counts part kept bytes n
@@ -108,8 +108,8 @@ fires_by_bytes part kept bytes n f some few =
     let next : n ≡ m + 1 = omega (arith, some) in
     let up : suc m ≡ n = omega (arith, some) in
     let more = one_more bytes m f (omega (arith, some, few)) in
-    let count : watched_count (is_fallback kept.kind) kept.timer (watch_calls part h n) ≡ counted_at part kept bytes n =
+    let count : watched_count (is_fallback kept.kind) kept.timer (watch_calls part h n) ≡ bytes_on_since_load part kept bytes n =
     ap (λ (k : ℕ). watched_count (is_fallback kept.kind) kept.timer (watch_calls part h k)) next
     ∙ counted_here part kept bytes m more.0 (counted_all part kept bytes m f (omega (arith, few)))
-    ∙ ap (λ (k : ℕ). on_after part kept bytes (last_load h) (k - last_load h)) up in
+    ∙ ap (λ (k : ℕ). bytes_on_after part kept bytes (last_load h) (k - last_load h)) up in
     ap (λ (c : ℕ). is_on (is_fallback kept.kind) (timer_held kept h) (has_ended part h n) && c == timer_value_of (timer_held kept h) * 4) count

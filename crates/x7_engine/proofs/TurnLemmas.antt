@@ -15,9 +15,9 @@ use Rattle.x7_part.specs.Part.{PartData}
 use Rattle.x7_engine.specs.Course.{course_at}
 use Rattle.x7_engine.specs.declared.fault.Fault.TheVariants as fault
 use Rattle.x7_engine.specs.declared.kept.Kept.{Kept}
-use Rattle.x7_engine.specs.declared.stop.Stop.{Stop}
-use Rattle.x7_engine.specs.declared.stop.Stop.TheVariants as stop
-use Rattle.x7_engine.specs.Clock.{ClockState, Ticks, newest_place}
+use Rattle.x7_engine.specs.declared.stop.StopCause.{StopCause}
+use Rattle.x7_engine.specs.declared.stop.StopCause.TheVariants as stop
+use Rattle.x7_engine.specs.Clock.{ClockState, ClockTakes, newest_place}
 use Rattle.x7_engine.specs.Standing.{FramesAre, IsNextAccess, RegistersStandFor, RegistersState, counted_in, frames_due}
 use Rattle.x7_engine.specs.State.{history_by, last_counted}
 use Rattle.x7_engine.specs.Stop.{Stopped, why_at, stop_of, stopped_at, stopped_by_watchdog}
@@ -65,12 +65,12 @@ until_until k m (e ∷ h) l = by (until_until k m h l) (nat_lt m e.place) refl
 
 -- ---- the stop at the last byte taken
 
-pub counted_within : (d : Option Stop) (n : ℕ) → counted_in d n ≤ n
+pub counted_within : (d : Option StopCause) (n : ℕ) → counted_in d n ≤ n
 counted_within None n = omega arith
 counted_within (Some why) n = counted_least why n
 
 -- the history taken, where the stop comes at the last byte
-pub history_until : (d : Option Stop) (m : ℕ) (h : History) → history_by (stopped_at m d) (until m h) ≡ until (counted_in d m) h
+pub history_until : (d : Option StopCause) (m : ℕ) (h : History) → history_by (stopped_at m d) (until m h) ≡ until (counted_in d m) h
 history_until None m h = refl
 history_until (Some why) m h = until_until (last_counted why m) m h (counted_least why m)
 
@@ -91,7 +91,7 @@ stop_at_last part kept k m (x ∷ h) s p e = by (λ q. stop_at_last part kept (x
         let before : stop_of part kept h x.place ≡ Some s = ap (stop_of part kept h) (sym here) ∙ sym (ap (λ (t : History). stop_of part kept t m) all) ∙ e in
         ap (λ (o : Option Stopped). option_or o (option_or (stopped_at x.place (why_at part kept h x.access)) (stopped_by_watchdog (first_firing part kept (x ∷ h) x.place (m - x.place))))) before
 
-pub stop_until : (part : PartData) (kept : Kept) (d : Option Stop) (k m : ℕ) (h : History) → Placed k h → stop_of part kept (until (counted_in d m) h) m ≡ stopped_at m d → stop_of part kept (until m h) m ≡ stopped_at m d
+pub stop_until : (part : PartData) (kept : Kept) (d : Option StopCause) (k m : ℕ) (h : History) → Placed k h → stop_of part kept (until (counted_in d m) h) m ≡ stopped_at m d → stop_of part kept (until m h) m ≡ stopped_at m d
 stop_until part kept None k m h p e = e
 stop_until part kept (Some (stop.Fault (fault.Packet w))) k m h p e = e
 stop_until part kept (Some (stop.Fault (fault.Id want got))) k m h p e = e
@@ -110,7 +110,7 @@ newest_within n [] p = omega arith
 newest_within n (e ∷ h) p = p.1
 
 -- bytes that fire no watchdog
-pub ticked : (part : PartData) (kept : Kept) (d : RegistersState) (clock : ClockState) (h : History) (n count m : ℕ) → m ≡ n + count → d.stop ≡ None → RegistersStandFor part kept d h n → Ticks (course_at part kept h n) clock count None
+pub ticked : (part : PartData) (kept : Kept) (d : RegistersState) (clock : ClockState) (h : History) (n count m : ℕ) → m ≡ n + count → d.stop ≡ None → RegistersStandFor part kept d h n → ClockTakes (course_at part kept h n) clock count None
     → RegistersStandFor part kept (record d { clock = clock }) h m
 ticked part kept d clock h n count m i e s t = subst (λ (x : ℕ). RegistersStandFor part kept (record d { clock = clock }) h x) (sym i) record {
   places = placed_within n (n + count) h (omega arith) s.places;
@@ -145,11 +145,11 @@ fires_last part kept h n count k a b e =
 -- the frames stay where it fires
 frames_fired : (part : PartData) (d : RegistersState) (h : History) (due : ℕ) → d.stop ≡ None → FramesAre part d.frames d.stop h due → FramesAre part d.frames (Some (stop.Fault fault.Watchdog)) h due
 frames_fired part d h due e s =
-    let now : FramesAre part d.frames None h due = subst (λ (o : Option Stop). FramesAre part d.frames o h due) e s in
+    let now : FramesAre part d.frames None h due = subst (λ (o : Option StopCause). FramesAre part d.frames o h due) e s in
     record { stands = now.stands; memory_same = now.memory_same; far_same = now.far_same }
 
 -- bytes up to the one at which it fires
-pub fired : (part : PartData) (kept : Kept) (d : RegistersState) (clock : ClockState) (h : History) (n count k m : ℕ) → m ≡ n + k → d.stop ≡ None → RegistersStandFor part kept d h n → Ticks (course_at part kept h n) clock count (Some k)
+pub fired : (part : PartData) (kept : Kept) (d : RegistersState) (clock : ClockState) (h : History) (n count k m : ℕ) → m ≡ n + k → d.stop ≡ None → RegistersStandFor part kept d h n → ClockTakes (course_at part kept h n) clock count (Some k)
     → RegistersStandFor part kept (record d { clock = clock; stop = Some (stop.Fault fault.Watchdog) }) h m
 fired part kept d clock h n count k m i e s t =
     let rest : n + count ≡ n + k + (count - k) = omega (arith, t.1) in
@@ -175,12 +175,12 @@ pub all_counted : (part : PartData) (kept : Kept) (d : RegistersState) (h : Hist
 all_counted part kept d h m e s = subst (λ (t : History). RegistersStandFor part kept d t m) (sym (ap (λ (k : ℕ). until k h) e ∙ until_placed m h s.places)) s
 
 -- at a firing the word that ends there, or after it, is none
-pub fired_until : (d : Option Stop) (n count left : ℕ) (s : Step) (h : History) → is_some d ≡ true → ((why : Stop) → d ≡ Some why → (why ≡ stop.Fault fault.Watchdog) × (left < count)) → Placed n h
+pub fired_until : (d : Option StopCause) (n count left : ℕ) (s : Step) (h : History) → is_some d ≡ true → ((why : StopCause) → d ≡ Some why → (why ≡ stop.Fault fault.Watchdog) × (left < count)) → Placed n h
     → until (counted_in d (n + (count - left))) (entered (n + count) s h) ≡ h
 fired_until None n count left s h e f p = absurd cc
 fired_until (Some why) n count left s h e f p =
     let w : (why ≡ stop.Fault fault.Watchdog) × (left < count) = f why refl in
-    ap (λ (l : Stop). until (last_counted l (n + (count - left))) (entered (n + count) s h)) w.0
+    ap (λ (l : StopCause). until (last_counted l (n + (count - left))) (entered (n + count) s h)) w.0
     ∙ step_until n (n + (count - left) - 1) (n + count) s h p (omega (arith, w.1)) (omega (arith, w.1))
 
 -- ---- the words read out
@@ -222,7 +222,7 @@ pub until_all : (part : PartData) (kept : Kept) (d : RegistersState) (h : Histor
 until_all part kept d h m e s = ap (λ (k : ℕ). until k h) e ∙ until_placed m h s.places
 
 -- where a byte is taken, no access before it is left out
-pub counted_more : (d : Option Stop) (n k : ℕ) → 0 < k → n ≤ counted_in d (n + k)
+pub counted_more : (d : Option StopCause) (n k : ℕ) → 0 < k → n ≤ counted_in d (n + k)
 counted_more None n k l = omega arith
 counted_more (Some (stop.Fault (fault.Packet w))) n k l = omega arith
 counted_more (Some (stop.Fault (fault.Id want got))) n k l = omega arith
@@ -235,9 +235,9 @@ counted_more (Some (stop.Fault fault.Watchdog)) n k l = omega (arith, l)
 counted_more (Some stop.Iprog) n k l = omega arith
 
 -- bytes without a word leave all accesses
-pub quiet_until : (d : Option Stop) (n count left : ℕ) (h : History) → ((why : Stop) → d ≡ Some why → (why ≡ stop.Fault fault.Watchdog) × (left < count)) → Placed n h → until (counted_in d (n + (count - left))) h ≡ h
+pub quiet_until : (d : Option StopCause) (n count left : ℕ) (h : History) → ((why : StopCause) → d ≡ Some why → (why ≡ stop.Fault fault.Watchdog) × (left < count)) → Placed n h → until (counted_in d (n + (count - left))) h ≡ h
 quiet_until None n count left h f p = until_placed (n + (count - left)) h (placed_within n (n + (count - left)) h (omega arith) p)
 quiet_until (Some why) n count left h f p =
     let w : (why ≡ stop.Fault fault.Watchdog) × (left < count) = f why refl in
-    ap (λ (l : Stop). until (last_counted l (n + (count - left))) h) w.0
+    ap (λ (l : StopCause). until (last_counted l (n + (count - left))) h) w.0
     ∙ until_placed (n + (count - left) - 1) h (placed_within n (n + (count - left) - 1) h (omega (arith, w.1)) p)

@@ -16,13 +16,13 @@ use Rattle.x7_flow.proofs.SavedLemmas.{back_one, back_same}
 use Rattle.x7_engine.specs.declared.fed.Fed.{Fed}
 use Rattle.x7_engine.specs.declared.fed.Fed.TheVariants as fed
 use Rattle.x7_engine.specs.declared.kept.Kept.{Kept}
-use Rattle.x7_engine.specs.declared.stop.Stop.{Stop}
-use Rattle.x7_engine.specs.ReadBuffer.{IsFullBy, ReadBufState, with_words}
+use Rattle.x7_engine.specs.declared.stop.StopCause.{StopCause}
+use Rattle.x7_engine.specs.ReadBuffer.{IsFullBy, ReadBufState, dropping, with_words}
 use Rattle.x7_engine.specs.Past.{Answers, Past}
 use Rattle.x7_engine.specs.Standing.{DeviceState, DeviceStandsFor, NoWordDue, frames_due}
 use Rattle.x7_engine.specs.State.{history_by, history_taken, last_counted, memory_in, stop_in}
 use Rattle.x7_engine.specs.Stop.{Stopped, stopped_at}
-use Rattle.x7_engine.specs.Undo.{Back, KeepsDevice, UndoState, dropping}
+use Rattle.x7_engine.specs.Undo.{Back, KeepsDevice, UndoState}
 use Rattle.x7_engine.proofs.DeviceLemmas.{going_taken}
 use Rattle.x7_engine.proofs.FrameLemmas.{frames_of, goes_on, none_frames}
 use Rattle.x7_engine.proofs.StateLemmas.{stop_is_final_stop, counted_most}
@@ -40,7 +40,7 @@ until_one n k h g l p (inr one) = subst (λ (x : History). OneEntry h (until k x
     by true = inl (until_placed k h (placed_within n k h l p))
     by false = inr (one.0, refl)
 
-taken_one : (part : PartData) (kept : Kept) (bytes more : List ℕ) (why : Option Stop) → AreBytes (bytes ++ more) → length more ≤ 4 → 0 < length more → stop_in part kept (bytes ++ more) ≡ stopped_at (length (bytes ++ more)) why
+taken_one : (part : PartData) (kept : Kept) (bytes more : List ℕ) (why : Option StopCause) → AreBytes (bytes ++ more) → length more ≤ 4 → 0 < length more → stop_in part kept (bytes ++ more) ≡ stopped_at (length (bytes ++ more)) why
     → OneEntry (history_of bytes) (history_taken part kept (bytes ++ more))
 taken_one part kept bytes more None f few some e = subst (OneEntry (history_of bytes)) (sym (going_taken part kept (bytes ++ more) e)) (enter_once bytes more f few)
 taken_one part kept bytes more (Some why) f few some e =
@@ -51,7 +51,7 @@ taken_one part kept bytes more (Some why) f few some e =
     (enter_once bytes more f few))
 
 -- a device that went on had no stop
-no_stop : (part : PartData) (kept : Kept) (bytes more : List ℕ) (now why : Option Stop) → AreBytes (bytes ++ more) → 0 < length more → stop_in part kept bytes ≡ stopped_at (length bytes) now → stop_in part kept (bytes ++ more) ≡ stopped_at (length (bytes ++ more)) why
+no_stop : (part : PartData) (kept : Kept) (bytes more : List ℕ) (now why : Option StopCause) → AreBytes (bytes ++ more) → 0 < length more → stop_in part kept bytes ≡ stopped_at (length bytes) now → stop_in part kept (bytes ++ more) ≡ stopped_at (length (bytes ++ more)) why
     → now ≡ None
 no_stop part kept bytes more None why f some e g = refl
 no_stop part kept bytes more (Some now) why f some e g = by why g
@@ -66,7 +66,7 @@ no_stop part kept bytes more (Some now) why f some e g = by why g
     place_of None = 0
     place_of (Some s) = s.place
 
-    by : (why : Option Stop) → stop_in part kept (bytes ++ more) ≡ stopped_at (length (bytes ++ more)) why → Some now ≡ None
+    by : (why : Option StopCause) → stop_in part kept (bytes ++ more) ≡ stopped_at (length (bytes ++ more)) why → Some now ≡ None
     by None g = absurd (let no : Some at ≡ None = sym final ∙ g in cc)
     by (Some later) g = absurd (let same : length bytes ≡ length (bytes ++ more) = ap (λ (o : Option Stopped). place_of o) (sym final ∙ g) in omega (arith, same, length-append bytes more, some))
 

@@ -22,10 +22,10 @@ use Rattle.x7_startup.specs.Startup.{Call, Arm, Desync, DropBack, StartupProgres
 use Rattle.x7_startup.proofs.CallLemmas.{further, progress_arm, progress_bytes, progress_drop}
 use Rattle.x7_engine.specs.declared.fed.Fed.{Fed}
 use Rattle.x7_engine.specs.declared.kept.Kept.{Kept}
-use Rattle.x7_engine.specs.declared.stop.Stop.{Stop}
+use Rattle.x7_engine.specs.declared.stop.StopCause.{StopCause}
 use Rattle.x7_engine.specs.declared.until_started.UntilStarted.{UntilStarted}
 use Rattle.x7_engine.specs.declared.until_started.UntilStarted.TheVariants as until
-use Rattle.x7_engine.specs.Phases.{soonest}
+use Rattle.x7_engine.specs.SoonestEnd.{soonest_end}
 use Rattle.x7_engine.specs.Registers.{takes_shutdown}
 use Rattle.x7_engine.specs.ReadBuffer.{ReadBufState}
 use Rattle.x7_engine.specs.Past.{Answers, AnswersUntil, Past}
@@ -212,7 +212,7 @@ phase_going part kept wrapped bytes none = ap (λ (o : Option Stopped). phase_by
 pub going_before : (part : PartData) (kept : Kept) (wrapped : Bool) (d : DeviceState) (bytes more : List ℕ) → DeviceStandsFor part kept wrapped d (bytes ++ more) → 0 < length more → stop_in part kept bytes ≡ None
 going_before part kept wrapped d bytes more s some = by (stop_in part kept bytes) refl
   where
-    at_last : (o : Option Stop) (t : Stopped) → stopped_at (length (bytes ++ more)) o ≡ Some t → t.place ≡ length (bytes ++ more)
+    at_last : (o : Option StopCause) (t : Stopped) → stopped_at (length (bytes ++ more)) o ≡ Some t → t.place ≡ length (bytes ++ more)
     at_last None t e = absurd (cc)
     at_last (Some why) t e = cc
 
@@ -247,7 +247,7 @@ unbegun_in_turn part kept wrapped d bytes more going s f unbegun k l =
     ap (λ (o : Option Stopped). startup_progress (history_by o (history_of (bytes ++ prefix))) (taken_by o (length (bytes ++ prefix)))) none ∙ still
 
 pub none_started : (part : PartData) (kept : Kept) (wrapped : Bool) (d : DeviceState) (bytes more : List ℕ) → stop_in part kept bytes ≡ None → DeviceStandsFor part kept wrapped d (bytes ++ more) → has_started part kept bytes ≡ false
-    → CommandsLast bytes more → HasNotBegun part kept bytes ⊎ (length more ≤ soonest (state_of part kept wrapped bytes).phase) → NoneStarted part kept bytes more (length more)
+    → CommandsLast bytes more → HasNotBegun part kept bytes ⊎ (length more ≤ soonest_end (state_of part kept wrapped bytes).phase) → NoneStarted part kept bytes more (length more)
 none_started part kept wrapped d bytes more going s not f b = λ k l.
     let prefix : List ℕ = take k more in
     let few : length prefix ≡ k = length-take-le k more (omega (arith, l)) in
@@ -294,13 +294,13 @@ turn_stands part kept wrapped d bytes piece end from to m l k s = subst (λ (t :
 
 pub turn_first : (part : PartData) (kept : Kept) (wrapped : Bool) (d e : DeviceState) (bytes piece : List ℕ) (end from to : ℕ) → end ≤ length piece → from ≤ to → to ≤ length (take end piece) → d.registers.stop ≡ None
     → DeviceStandsFor part kept wrapped d bytes → DeviceStandsFor part kept wrapped e (bytes ++ between (take end piece) from to) → CommandsLast bytes (between (take end piece) from to)
-    → HasNotBegun part kept bytes ⊎ (end ≤ from + soonest (state_of part kept wrapped bytes).phase) → has_started part kept bytes ≡ false → NoneStarted part kept bytes (between piece from to) (to - from)
+    → HasNotBegun part kept bytes ⊎ (end ≤ from + soonest_end (state_of part kept wrapped bytes).phase) → has_started part kept bytes ≡ false → NoneStarted part kept bytes (between piece from to) (to - from)
 turn_first part kept wrapped d e bytes piece end from to m l k going s after f b not =
     let more : List ℕ = between piece from to in
     let most : to ≤ end = omega (arith, k, slice_long piece end m) in
     let count : length more ≡ to - from = length_between piece from to l (omega (arith, most, m)) in
     let same : between (take end piece) from to ≡ more = in_slice piece end from to m l k in
-    let soon : HasNotBegun part kept bytes ⊎ (length more ≤ soonest (state_of part kept wrapped bytes).phase) = elim b [ inl unbegun ↦ inl unbegun | inr few ↦ inr (omega (arith, few, count, most)) ] in
+    let soon : HasNotBegun part kept bytes ⊎ (length more ≤ soonest_end (state_of part kept wrapped bytes).phase) = elim b [ inl unbegun ↦ inl unbegun | inr few ↦ inr (omega (arith, few, count, most)) ] in
     subst (NoneStarted part kept bytes more) count
     (none_started part kept wrapped e bytes more (s.stop_is ∙ ap (stopped_at (length bytes)) going) (turn_stands part kept wrapped e bytes piece end from to m l k after) not (subst (CommandsLast bytes) same f) soon)
 

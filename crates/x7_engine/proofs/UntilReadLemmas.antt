@@ -12,7 +12,7 @@ use Rattle.x7_engine.specs.State.{history_by, reads_of, stop_in}
 use Rattle.x7_engine.specs.Stop.{Stopped, stopped_at}
 use Rattle.x7_engine.specs.UntilRead.{RoomBefore}
 use Rattle.x7_engine.specs.UntilStarted.{AreOtherWrites, CommandsLast, IsOtherWrite}
-use Rattle.x7_engine.specs.Value.{answer_of, read_out}
+use Rattle.x7_engine.specs.Value.{words_read_by, read_out}
 use Rattle.x7_engine.proofs.DeviceLemmas.{length_between}
 use Rattle.x7_engine.proofs.FeedLemmas.{taken_more, given_all}
 use Rattle.x7_engine.proofs.UntilLemmas.{going_before}
@@ -23,7 +23,7 @@ writes_read_none part kept [] h w = refl
 writes_read_none part kept (e ∷ newer) h w =
     ap (λ t. read_out part kept (newer ++ h) ++ t) (none e.access w.0) ∙ append-nil (read_out part kept (newer ++ h)) ∙ writes_read_none part kept newer h w.1
   where
-    none : (access : Access) → IsOtherWrite access → answer_of part kept (newer ++ h) access e.place ≡ []
+    none : (access : Access) → IsOtherWrite access → words_read_by part kept (newer ++ h) access e.place ≡ []
     none (Write r x) f = refl
     none (Read r n) f = absurd f
     none (Bad x) f = absurd f

@@ -104,7 +104,7 @@ write_taken part kept wrapped d e bytes rest register w s going begun limit one 
         registers_are = subst (λ (x : History). RegistersStandFor part kept e.registers x (length all)) (sym taken) here;
         cutter_is = λ o. is.cutter;
         due_are = record { given = reads_of part kept bytes; all = known ∙ no_word_due (reads_of part kept bytes) part (history_taken part kept all) e.registers.due due };
-        at_rest = λ why o. due;
+        none_due_at_stop = λ why o. due;
       },
       known,
       written_last bytes (take 8 rest) register w eight is.fits before.places is.history,

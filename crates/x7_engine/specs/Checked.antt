@@ -13,7 +13,7 @@ pub record StandsIn (h : History) (access : Access) (place : ℕ) (older : Histo
   pub split : h ≡ newer ++ entry access place ∷ older
 
 -- START was executed on a matched device, and DESYNC after it, by byte n
-pub record HasStarted (idcode : ℕ) (h : History) (n : ℕ) : Type 0 where
+pub record HasStartAndDesync (idcode : ℕ) (h : History) (n : ℕ) : Type 0 where
   pub newer : History
   pub desync : Entry
   pub between : History

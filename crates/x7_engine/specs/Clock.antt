@@ -36,15 +36,15 @@ newest_place (e ∷ h) = e.place
 
 -- The clock takes `count` bytes more: the watchdog fires at none of them; or it fires first at byte k of them, and the
 -- bytes up to that one are taken.
-abbrev pub Ticks : Course → ClockState → ℕ → Option ℕ → Type 0
-Ticks c clock count None = IsClock c.part c.kept clock c.history (c.taken + count) × (first_firing c.part c.kept c.history c.taken count ≡ None)
-Ticks c clock count (Some k) = (0 < k) × (k ≤ count) × IsClock c.part c.kept clock c.history (c.taken + k) × (first_firing c.part c.kept c.history c.taken count ≡ Some (c.taken + k))
+abbrev pub ClockTakes : Course → ClockState → ℕ → Option ℕ → Type 0
+ClockTakes c clock count None = IsClock c.part c.kept clock c.history (c.taken + count) × (first_firing c.part c.kept c.history c.taken count ≡ None)
+ClockTakes c clock count (Some k) = (0 < k) × (k ≤ count) × IsClock c.part c.kept clock c.history (c.taken + k) × (first_firing c.part c.kept c.history c.taken count ≡ Some (c.taken + k))
 
 -- A part's clock takes `count` bytes more, whatever course it is the clock of: all of them, or those
 -- up to byte k, at which the watchdog fires.
-pub record TicksOn (part : PartData) (old new : ClockState) (count : ℕ) (result : Option ℕ) : Type 0 where
+pub record ClockTakesInAny (part : PartData) (old new : ClockState) (count : ℕ) (result : Option ℕ) : Type 0 where
   pub within : IfSome result (λ k. (0 < k) × (k ≤ count))
-  pub ticks : (kept : Kept) (h : History) (n : ℕ) → newest_place h ≤ n → IsClock part kept old h n → Ticks (course_at part kept h n) new count result
+  pub takes : (kept : Kept) (h : History) (n : ℕ) → newest_place h ≤ n → IsClock part kept old h n → ClockTakes (course_at part kept h n) new count result
 
 -- at each of `count` bytes more startup has ended, or at none, and `clock` is the clock before them
 pub record AreEndedAlike (c : Course) (clock : ClockState) (count : ℕ) (ended : Bool) : Type 0 where

@@ -11,10 +11,10 @@ use Rattle.x7_part.specs.Part.{PartData}
 use Rattle.x7_engine.specs.declared.due.Due.{Due}
 use Rattle.x7_engine.specs.declared.kept.Kept.{Kept}
 use Rattle.x7_engine.specs.declared.registers.Registers.{Registers}
-use Rattle.x7_engine.specs.Standing.{EndsWords, IsNextAccess, RegistersStandFor, RegistersState, counted_in, registers_in, words_left}
-use Rattle.x7_engine.specs.Value.{answer_of, read_out}
+use Rattle.x7_engine.specs.Standing.{EndsWords, IsNextAccess, RegistersStandFor, RegistersState, counted_in, registers_in, words_still_due}
+use Rattle.x7_engine.specs.Value.{words_read_by, read_out}
 
--- what holds of what the registers stand for: what the reset kept, the history, and the number of bytes
+-- `Fact` holds of all that the registers stand for: what the reset kept, the history, and the number of bytes taken
 abbrev pub OfHistory : PartData → RegistersState → (Kept → History → ℕ → Type 0) → Type 0
 OfHistory part d Fact = (kept : Kept) (h : History) (n : ℕ) → RegistersStandFor part kept d h n → Fact kept h n
 
@@ -25,7 +25,7 @@ pub record HaveHistory (part : PartData) (d : RegistersState) : Type 0 where
   pub taken : ℕ
   pub stands : RegistersStandFor part kept d history taken
 
--- a longer history, by the place at which its accesses begin
+-- how a history becomes longer: from the number of bytes taken before, and the history, to the longer one
 abbrev pub Extension : Type 0
 Extension = ℕ → History → History
 
@@ -57,35 +57,35 @@ EntersAt x longer = (kept : Kept) (h : History) (place : ℕ) → IsNextAccess p
 
 -- the longer history reads out the words that are due, and no others
 abbrev pub AreRead : PartData → Kept → History → History → Due → Type 0
-AreRead part kept h longer due = read_out part kept longer ≡ read_out part kept h ++ words_left part longer due
+AreRead part kept h longer due = read_out part kept longer ≡ read_out part kept h ++ words_still_due part longer due
 
 -- where a condition holds, the longer history reads out the words that are then due, and no others
 abbrev pub ReadsIf : Type 0 → Change → Extension → Type 0
 ReadsIf Condition x longer = (kept : Kept) (h : History) (n : ℕ) → Condition → RegistersStandFor x.part kept x.old h n → AreRead x.part kept h (longer n h) x.new.due
 
 -- the words that an access reads out are those due
-abbrev pub AreAnswer : PartData → Kept → History → Entry → Due → Type 0
-AreAnswer part kept h e due = answer_of part kept h e.access e.place ≡ words_left part (e ∷ h) due
+abbrev pub AreReadBy : PartData → Kept → History → Entry → Due → Type 0
+AreReadBy part kept h e due = words_read_by part kept h e.access e.place ≡ words_still_due part (e ∷ h) due
 
 -- ---- words and runs
 
--- words written to a register, four bytes each
+-- a history after words written to a register, four bytes each
 abbrev pub words_entered : ℕ → List ℕ → Extension
 words_entered register bytes n h = entered_all n (payload_steps register (words_of_bytes bytes)) h
 
--- a word written to a register, which ends `count` bytes further
+-- a history after a word written to a register, which ends `count` bytes further
 abbrev pub word_entered : ℕ → ℕ → ℕ → Extension
 word_entered register word count n h = entry (Write register word) (n + count) ∷ h
 
--- the step of a word in a header's place, which ends `count` bytes further
+-- a history after the step of a word in a header's place, which ends `count` bytes further
 abbrev pub step_entered : Step → ℕ → Extension
 step_entered step count n h = entered (n + count) step h
 
--- a read of a register
+-- a history after a read of a register, whose header ends at this place
 abbrev pub read_entered : ℕ → ℕ → Extension
 read_entered register count place h = entry (Read register count) place ∷ h
 
--- the words of a run, the first of which begins at `from`
+-- a history after the words of a run, the first of which begins at place `from`
 abbrev pub run_entered : Cut → ℕ → History → History
 run_entered run from h = entered_all from (run_steps run) h
 

@@ -1,12 +1,11 @@
 pub mod Checked
 pub mod Clock
 pub mod Course
-pub mod Entering
 pub mod DeviceFields
+pub mod Entering
 pub mod FirstStop
 pub mod Kept
 pub mod Past
-pub mod Phases
 pub mod ReadBuffer
 pub mod Readout
 pub mod Ready
@@ -14,6 +13,7 @@ pub mod Registers
 pub mod Rest
 pub mod Sequence
 pub mod Since
+pub mod SoonestEnd
 pub mod Standing
 pub mod Startup
 pub mod State
@@ -22,8 +22,8 @@ pub mod Taken
 pub mod Targets
 pub mod Timeout
 pub mod Turns
-pub mod Value
-pub mod Watching
 pub mod Undo
 pub mod UntilRead
 pub mod UntilStarted
+pub mod Value
+pub mod Watching

@@ -13,7 +13,7 @@ use Rattle.x7_engine.specs.Value.{failure_of}
 use Rattle.x7_engine.specs.declared.fault.Fault.{Fault}
 use Rattle.x7_engine.specs.declared.fed.Fed.{Fed}
 use Rattle.x7_engine.specs.declared.fed.Fed.TheVariants as fed
-use Rattle.x7_engine.specs.declared.stop.Stop.TheVariants as stop
+use Rattle.x7_engine.specs.declared.stop.StopCause.TheVariants as stop
 use Rattle.x7_engine.specs.declared.kept.Kept.{Kept}
 use Rattle.x7_engine.specs.declared.regs.Regs.{Regs}
 use Rattle.x7_engine.specs.declared.until_started.UntilStarted.{UntilStarted}
@@ -48,11 +48,12 @@ pub record HasSomePast (d : DeviceState) : Type 0 where
   pub past : Past
   pub has : HasPast d past
 
--- what holds of each past that the device has
+-- `Fact` holds of each past that the device has
 abbrev pub OfPast : DeviceState → (Past → Type 0) → Type 0
-OfPast d Fact = (part : PartData) (kept : Kept) (wrapped : Bool) (bytes : List ℕ) → DeviceStandsFor part kept wrapped d bytes → Fact (record { part = part; kept = kept; wrapped = wrapped; bytes = bytes })
+OfPast d Fact = (part : PartData) (kept : Kept) (wrapped : Bool) (bytes : List ℕ)
+    → DeviceStandsFor part kept wrapped d bytes → Fact (record { part = part; kept = kept; wrapped = wrapped; bytes = bytes })
 
--- what a past comes to: the state
+-- the state that the bytes of a past leave
 abbrev pub state_at : Past → Regs
 state_at p = state_of p.part p.kept p.wrapped p.bytes
 
@@ -95,8 +96,8 @@ abbrev pub cause_in : PartData → Kept → List ℕ → Option Cause
 cause_in part kept bytes = failure_of (stop_fault (why_of (stop_in part kept bytes))) false
 
 -- an attempt of a boot
-abbrev pub IsAttempt : Kept → Type 0
-IsAttempt kept = kept.kind ≡ Bench → ⊥
+abbrev pub IsBootAttempt : Kept → Type 0
+IsBootAttempt kept = kept.kind ≡ Bench → ⊥
 
 -- the device stopped, and then more bytes came
 pub record HasStoppedBefore (p : Past) (more : List ℕ) (s : Stopped) : Type 0 where
@@ -112,7 +113,7 @@ pub record StandsBefore (p : Past) (access : Access) (place : ℕ) (older : Hist
 -- the attempt of a boot goes on: startup hasn't ended, and neither a fault that
 -- a fallback follows nor an IPROG ended it
 pub record BootGoesOn (p : Past) : Type 0 where
-  pub boots : IsAttempt p.kept
+  pub boots : IsBootAttempt p.kept
   pub not_started : ((state_at p).phase == 7) ≡ false
   pub not_failed : cause_in p.part p.kept p.bytes ≡ None
   pub not_left : why_of (stop_at p) ≡ Some stop.Iprog → ⊥
@@ -124,8 +125,8 @@ abbrev pub TakesJust : DeviceState → DeviceState → List ℕ → Type 0
 TakesJust old new more = OfPast old (λ p. HasPast new (later p more))
 
 -- the bytes `more` give no word: the words given so far are those given before
-abbrev pub GivesNone : DeviceState → DeviceState → List ℕ → Type 0
-GivesNone old new more = OfPast old (λ p. reads_given_at new (later p more) ≡ reads_given_at old p)
+abbrev pub GivesNoWord : DeviceState → DeviceState → List ℕ → Type 0
+GivesNoWord old new more = OfPast old (λ p. reads_given_at new (later p more) ≡ reads_given_at old p)
 
 -- the bytes `more` give the buffer words: the words given so far are those given before, and then these
 abbrev pub GivesWordsNext : DeviceState → DeviceState → List ℕ → ReadBufState → ReadBufState → Type 0
@@ -139,8 +140,8 @@ Answers p d read (fed.Stopped n) = (f : Fault) × (stop_at p ≡ Some (record { 
 Answers p d read (fed.Iprog n) = (stop_at p ≡ Some (record { place = length p.bytes; why = stop.Iprog })) × NoWordDue d
 Answers p d read (fed.ReadFull n) = (stop_at p ≡ None) × (0 < due_count d.registers.due) × IsFull read
 
--- what a feed up to the end of startup answers: that no word is due, where
--- startup has ended, and else what a feed answers
+-- what a feed up to the end of startup answers: where it says that startup has ended, no word is due; and else what a
+-- feed answers
 abbrev pub AnswersUntil : Past → DeviceState → ReadBufState → UntilStarted → Type 0
 AnswersUntil p d read (until.Started n) = NoWordDue d
 AnswersUntil p d read (until.Fed answer) = Answers p d read answer
@@ -154,9 +155,9 @@ abbrev pub AnswersUntilFor : DeviceState → DeviceState → List ℕ → ReadBu
 AnswersUntilFor old new more read answer = OfPast old (λ p. AnswersUntil (later p more) new read answer)
 
 -- the bytes taken of a piece, by what is answered
-abbrev pub part_taken : List ℕ → Fed → List ℕ
-part_taken piece answer = take (taken_in (length piece) answer) piece
+abbrev pub prefix_taken : List ℕ → Fed → List ℕ
+prefix_taken piece answer = take (taken_in (length piece) answer) piece
 
 -- the bytes taken of a piece, by what a feed up to the end of startup answers
-abbrev pub part_until : List ℕ → UntilStarted → List ℕ
-part_until piece answer = take (taken_until (length piece) answer) piece
+abbrev pub prefix_taken_until : List ℕ → UntilStarted → List ℕ
+prefix_taken_until piece answer = take (taken_until (length piece) answer) piece

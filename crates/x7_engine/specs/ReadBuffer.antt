@@ -3,7 +3,7 @@ use Rattle.std.specs.Prelude.{◌≡◌, ◌≤◌, ◌+◌, ℕ, List, [], ◌+
 use Rattle.x7_engine.specs.declared.read_buffer.Room.{Room}
 use Rattle.x7_engine.specs.declared.read_buffer.Room.TheVariants as room
 
--- the most words that a buffer holds, none where it drops each word; and the words that it holds
+-- the most words that a buffer holds (no number where it drops each word), and the words that it holds
 pub record ReadBufState : Type 0 where
   pub most : Option ℕ
   pub words : List ℕ
@@ -11,6 +11,10 @@ pub record ReadBufState : Type 0 where
 -- a buffer that has room for no word
 abbrev pub no_room : ReadBufState
 no_room = record { most = Some 0; words = [] }
+
+-- a buffer that drops each word
+abbrev pub dropping : ReadBufState
+dropping = record { most = None; words = [] }
 
 -- the words of a buffer after more of them
 abbrev pub gathered : Option ℕ → List ℕ → List ℕ → List ℕ
@@ -21,16 +25,16 @@ gathered (Some most) words more = words ++ more
 abbrev pub with_words : ReadBufState → List ℕ → ReadBufState
 with_words b more = record { most = b.most; words = gathered b.most b.words more }
 
--- there is room for more words: with them a gathering buffer has at most its most
+-- a buffer has room for `count` words in all: a gathering one for no more than its most, and a dropping one always
 abbrev pub HasRoomBy : Option ℕ → ℕ → Type 0
 HasRoomBy None count = Unit {0}
 HasRoomBy (Some most) count = count ≤ most
 
--- there is room for these words
+-- a buffer has room for these words beside those that it holds
 abbrev pub HasRoomForWords : ReadBufState → List ℕ → Type 0
 HasRoomForWords b more = HasRoomBy b.most (length b.words + length more)
 
--- no word more has room
+-- a gathering buffer that holds `count` words has room for no word more; a dropping one always has room
 abbrev pub IsFullBy : Option ℕ → ℕ → Type 0
 IsFullBy None count = ⊥
 IsFullBy (Some most) count = count ≡ most
@@ -39,20 +43,20 @@ IsFullBy (Some most) count = count ≡ most
 abbrev pub IsFull : ReadBufState → Type 0
 IsFull b = IsFullBy b.most (length b.words)
 
--- a gathering buffer holds its most at most, and a dropping one nothing
+-- a gathering buffer holds no more words than its most, and a dropping one none
 abbrev pub HoldsWithinMost : Option ℕ → List ℕ → Type 0
 HoldsWithinMost None words = words ≡ []
 HoldsWithinMost (Some most) words = length words ≤ most
 
--- where a buffer has its words: nowhere (it drops each, or has room for none), in
--- place, or in a vector with room for the most
+-- the words that a buffer holds: none where it drops each or has room for none, and else the one in place or those of
+-- its vector
 abbrev pub words_in : Room → List ℕ
 words_in room.Nothing = []
 words_in room.Full = []
 words_in (room.One words) = words
 words_in (room.Many words most) = words.items
 
--- the most words that a buffer holds, none where it drops each
+-- the most words that a buffer holds, and no number where it drops each
 abbrev pub most_in : Room → Option ℕ
 most_in room.Nothing = None
 most_in room.Full = Some 0

@@ -7,7 +7,7 @@ use Rattle.x7_engine.specs.declared.registers.Registers.{Registers}
 use Rattle.x7_engine.specs.Entering.{Change, HaveHistory, OfHistory}
 use Rattle.x7_engine.specs.Past.{HasPast, Past, reads_given_at}
 use Rattle.x7_engine.specs.ReadBuffer.{IsFull, ReadBufState, with_words}
-use Rattle.x7_engine.specs.Standing.{DeviceState, RegistersStandFor, RegistersState, due_count, registers_in, words_left}
+use Rattle.x7_engine.specs.Standing.{DeviceState, RegistersStandFor, RegistersState, due_count, registers_in, words_still_due}
 
 -- of `words` the buffer got the first ones, all but `rest`
 pub record GotAllBut (rest words : List ℕ) (old new : ReadBufState) : Type 0 where
@@ -19,7 +19,7 @@ pub record GotAllBut (rest words : List ℕ) (old new : ReadBufState) : Type 0 w
 pub record RegistersGaveWords (c : Course) (d e : RegistersState) (old new : ReadBufState) : Type 0 where
   pub more : List ℕ
   pub read_is : new ≡ with_words old more
-  pub words_are : words_left c.part c.history d.due ≡ more ++ words_left c.part c.history e.due
+  pub words_are : words_still_due c.part c.history d.due ≡ more ++ words_still_due c.part c.history e.due
   pub stands : RegistersStandFor c.part c.kept e c.history c.taken
 
 -- registers that can give the words due: nothing stopped them, their frames are those of a device

@@ -3,7 +3,7 @@ use Rattle.std.specs.Prelude.{◌≡◌, ℕ, ◌<◌, ◌≤◌, Option, None, 
 use Rattle.x7_part.specs.Part.{PartData}
 use Rattle.x7_flow.specs.Standing.{FramesFit}
 use Rattle.x7_engine.specs.declared.registers.Registers.{Registers}
-use Rattle.x7_engine.specs.declared.stop.Stop.{Stop}
+use Rattle.x7_engine.specs.declared.stop.StopCause.{StopCause}
 use Rattle.x7_engine.specs.Entering.{Change}
 use Rattle.x7_engine.specs.Standing.{due_count}
 
@@ -20,7 +20,7 @@ pub record LeavesDue (x : Change) : Type 0 where
   pub frames : FramesFit x.part x.new.frames
 
 -- of `count` bytes the registers took `taken`: all of them unless a stop came, and at least one where there is one
-pub record TakesUpTo (count taken : ℕ) (stop : Option Stop) : Type 0 where
+pub record TakesUpTo (count taken : ℕ) (stop : Option StopCause) : Type 0 where
   pub within : taken ≤ count
   pub some : 0 < count → 0 < taken
   pub goes_on : stop ≡ None → taken ≡ count
@@ -31,6 +31,6 @@ pub record LeavesBytes (count left : ℕ) (d : Registers) : Type 0 where
   pub goes_on : d.stop ≡ None → left ≡ 0
 
 -- registers that a stop has stopped have no word due, and the frames are still those of a device of the part
-pub record RestsAtStop (part : PartData) (d : Registers) : Type 0 where
-  pub at_rest : (why : Stop) → d.stop ≡ Some why → due_count d.due ≡ 0
+pub record HasNoneDueAtStop (part : PartData) (d : Registers) : Type 0 where
+  pub none_due_at_stop : (why : StopCause) → d.stop ≡ Some why → due_count d.due ≡ 0
   pub frames : FramesFit part d.frames

@@ -22,12 +22,14 @@ word_held kept register h = last_word register (kept_word kept register) h
 abbrev pub cor0_held : History → ℕ
 cor0_held h = last_word (number_of Cor0) 0 h
 
--- CTL0 or CTL1 bit by bit: each is that of the last word written there while MASK had it, and 0 where none was
+-- a bit of a register under MASK (CTL0 or CTL1) after an access: that of a word written there, where MASK has the bit,
+-- and else the old one
 abbrev pub bit_written : ℕ → ℕ → ℕ → Access → ℕ → ℕ
 bit_written register i mask (Write r w) old = if r == register && bit_at mask i == 1 then bit_at w i else old
 bit_written register i mask _ old = old
 
--- a bit of a register under MASK after a history
+-- a bit of a register under MASK after a history: that of the last word written there while MASK had the bit, and 0
+-- where none was
 abbrev pub masked_bit : ℕ → ℕ → History → ℕ
 masked_bit register i [] = 0
 masked_bit register i (e ∷ h) = bit_written register i (mask_held h) e.access (masked_bit register i h)
@@ -52,26 +54,26 @@ abbrev pub clears_check : History → Access → Bool
 clears_check h access = clears_by (executed_by (command_held h) access) (running_check h) access
 
 -- whether a shutdown is pending after a command, by whether the check was cleared
-abbrev pub pending_after : Option ℕ → Bool → Bool → Bool
-pending_after command cleared pending = if cleared then false else is_command (code_of Shutdown) command || pending
+abbrev pub is_pending_after : Option ℕ → Bool → Bool → Bool
+is_pending_after command cleared pending = if cleared then false else is_command (code_of Shutdown) command || pending
 
 -- a shutdown is pending: SHUTDOWN was executed since the check was last cleared (this project's choice)
 abbrev pub is_pending : History → Bool
 is_pending [] = false
-is_pending (e ∷ h) = pending_after (executed_by (command_held h) e.access) (clears_check h e.access) (is_pending h)
+is_pending (e ∷ h) = is_pending_after (executed_by (command_held h) e.access) (clears_check h e.access) (is_pending h)
 
 -- the access takes a pending shutdown (this project's choice)
 abbrev pub takes_shutdown : History → Access → Bool
 takes_shutdown h access = clears_check h access && is_pending h
 
 -- GHIGH_B after a command, by whether a shutdown was taken
-abbrev pub ghigh_after : Option ℕ → Bool → Bool → Bool
-ghigh_after command taken ghigh = if is_command (code_of Lfrm) command then true else if is_command (code_of Aghigh) command || taken then false else ghigh
+abbrev pub has_ghigh_after : Option ℕ → Bool → Bool → Bool
+has_ghigh_after command taken ghigh = if is_command (code_of Lfrm) command then true else if is_command (code_of Aghigh) command || taken then false else ghigh
 
 -- GHIGH_B: the latest of LFRM, AGHIGH and a taken shutdown is LFRM
 abbrev pub has_ghigh : History → Bool
 has_ghigh [] = false
-has_ghigh (e ∷ h) = ghigh_after (executed_by (command_held h) e.access) (takes_shutdown h e.access) (has_ghigh h)
+has_ghigh (e ∷ h) = has_ghigh_after (executed_by (command_held h) e.access) (takes_shutdown h e.access) (has_ghigh h)
 
 -- the access writes this command to CMD
 abbrev pub writes_command : ℕ → Access → Bool
@@ -83,8 +85,8 @@ abbrev pub wrote_iprog : History → Bool
 wrote_iprog [] = false
 wrote_iprog (e ∷ h) = writes_command (code_of Iprog) e.access || wrote_iprog h
 
--- a word written to this register does more than stay and be folded; a write to
--- LOUT isn't folded (this project's choice)
+-- the registers in which a written word does more than stay and be folded into the check; a write to LOUT isn't folded
+-- (this project's choice)
 abbrev pub effective_registers : List Reg
 effective_registers = Crc ∷ Far ∷ Fdri ∷ Cmd ∷ Ctl0 ∷ Lout ∷ Mfwr ∷ Cbc ∷ Idcode ∷ Timer ∷ Ctl1 ∷ []
 
@@ -92,7 +94,7 @@ effective_registers = Crc ∷ Far ∷ Fdri ∷ Cmd ∷ Ctl0 ∷ Lout ∷ Mfwr �
 abbrev pub has_effect : ℕ → Bool
 has_effect register = list_any (λ reg. register == number_of reg) effective_registers
 
--- a word written to this register moves a flag, a register under MASK or the clock, or isn't just folded
+-- the registers of which a written word moves a flag, a register under MASK or the clock, or isn't just folded
 abbrev pub controlling_registers : List Reg
 controlling_registers = Crc ∷ Far ∷ Cmd ∷ Ctl0 ∷ Lout ∷ Idcode ∷ Timer ∷ Ctl1 ∷ []
 
@@ -100,8 +102,8 @@ controlling_registers = Crc ∷ Far ∷ Cmd ∷ Ctl0 ∷ Lout ∷ Idcode ∷ Tim
 abbrev pub is_controlling : ℕ → Bool
 is_controlling register = list_any (λ reg. register == number_of reg) controlling_registers
 
--- a word written after a history: the command that it executes, whether it takes a shutdown, and COR0 there
-pub record IsWrite (executed : Option ℕ) (taken : Bool) (cor0 : ℕ) (h : History) (access : Access) : Type 0 where
+-- these are the command that a word written after a history executes, whether it takes a shutdown, and COR0 there
+pub record AreFactsOfWrite (executed : Option ℕ) (taken : Bool) (cor0 : ℕ) (h : History) (access : Access) : Type 0 where
   pub executed_is : executed ≡ executed_by (command_held h) access
   pub taken_is : taken ≡ takes_shutdown h access
   pub cor0_is : cor0 ≡ cor0_held h

@@ -29,8 +29,8 @@ use Rattle.x7_engine.specs.declared.fed.Fed.TheVariants as fed
 use Rattle.x7_engine.specs.declared.kept.Kept.{Kept}
 use Rattle.x7_engine.specs.declared.progress.Progress.{Progress}
 use Rattle.x7_engine.specs.declared.registers.Registers.{Registers}
-use Rattle.x7_engine.specs.declared.stop.Stop.{Stop}
-use Rattle.x7_engine.specs.declared.stop.Stop.TheVariants as stop
+use Rattle.x7_engine.specs.declared.stop.StopCause.{StopCause}
+use Rattle.x7_engine.specs.declared.stop.StopCause.TheVariants as stop
 use Rattle.x7_engine.specs.Clock.{ClockState, IsClock, clock_in}
 use Rattle.x7_flow.specs.Controls.{is_matched, masked_register}
 use Rattle.x7_flow.specs.FrameAccess.{reads_frame_data}
@@ -61,7 +61,7 @@ pub record RegistersState : Type 0 where
   pub kind : Kind
   pub before : Option Attempt
   pub clock : ClockState
-  pub stop : Option Stop
+  pub stop : Option StopCause
   pub due : Due
   pub frames : FramesState
 
@@ -85,32 +85,32 @@ frames_among [] count = 0
 frames_among (e ∷ h) count = if reads_frame_data h e.access then count else 0
 
 -- the words that are due after this history
-abbrev pub words_left : PartData → History → Due → List ℕ
-words_left part h due.Nothing = []
-words_left part h (due.Same word count) = replicate count word
-words_left part h (due.Frames count) = words_due part h count
+abbrev pub words_still_due : PartData → History → Due → List ℕ
+words_still_due part h due.Nothing = []
+words_still_due part h (due.Same word count) = replicate count word
+words_still_due part h (due.Frames count) = words_due part h count
 
 -- ---- the frames
 
 -- the stop is that of a refused word, copy or read of frame data
-abbrev pub is_refusal : Option Stop → Bool
+abbrev pub is_refusal : Option StopCause → Bool
 is_refusal (Some (stop.Fault (fault.Address far))) = true
 is_refusal (Some (stop.Fault fault.Overrun)) = true
 is_refusal (Some (stop.Fault fault.Multi)) = true
 is_refusal _ = false
 
 -- a history without its newest access
-abbrev pub older : History → History
-older [] = []
-older (e ∷ h) = h
+abbrev pub without_newest : History → History
+without_newest [] = []
+without_newest (e ∷ h) = h
 
--- what the frames stand for: a refused access changes nothing of them
-abbrev pub frames_history : Option Stop → History → History
-frames_history why h = if is_refusal why then older h else h
+-- the history that the frames stand for: a refused access changes nothing of them
+abbrev pub frames_history : Option StopCause → History → History
+frames_history why h = if is_refusal why then without_newest h else h
 
 -- The frames are those of a history, of whose last read `due` words are due. Where the last access was refused, the
 -- frames stand for the history before it; memory and FAR are the same with and without it.
-pub record FramesAre (part : PartData) (f : FramesState) (why : Option Stop) (h : History) (due : ℕ) : Type 0 where
+pub record FramesAre (part : PartData) (f : FramesState) (why : Option StopCause) (h : History) (due : ℕ) : Type 0 where
   pub stands : FramesStandFor part f (frames_history why h) due
   pub memory_same : AreSame (memory_of part (frames_history why h)) (memory_of part h)
   pub far_same : far_in part (without_due due (flow_of part (frames_history why h))) ≡ far_in part (without_due due (flow_of part h))
@@ -175,7 +175,7 @@ pub record RegistersStandFor (part : PartData) (kept : Kept) (d : RegistersState
   pub due_kind : frames_due d.due ≡ frames_among h (due_count d.due)
 
 -- the last byte whose access counts, where n bytes are taken and this is the stop
-abbrev pub counted_in : Option Stop → ℕ → ℕ
+abbrev pub counted_in : Option StopCause → ℕ → ℕ
 counted_in None n = n
 counted_in (Some why) n = last_counted why n
 
@@ -257,9 +257,9 @@ pub record IsCutterOf (c : CutterState) (bytes : List ℕ) : Type 0 where
   pub stands : CutterStandsFor c bytes sessions place
 
 -- the words read out: those that were given already, and then those that are still due
-pub record AreDue (part : PartData) (d : RegistersState) (h : History) (reads : List ℕ) : Type 0 where
+pub record AreGivenOrDue (part : PartData) (d : RegistersState) (h : History) (reads : List ℕ) : Type 0 where
   pub given : List ℕ
-  pub all : reads ≡ given ++ words_left part h d.due
+  pub all : reads ≡ given ++ words_still_due part h d.due
 
 -- A device took all of `bytes` since a reset that kept `kept`: it has no stop, or its stop came at the last byte. Where
 -- it stopped, its cutter may be past that byte.
@@ -271,8 +271,8 @@ pub record DeviceStandsFor (part : PartData) (kept : Kept) (wrapped : Bool) (d :
   pub stop_is : stop_in part kept bytes ≡ stopped_at (length bytes) d.registers.stop
   pub registers_are : RegistersStandFor part kept d.registers (history_taken part kept bytes) (length bytes)
   pub cutter_is : d.registers.stop ≡ None → IsCutterOf d.cutter bytes
-  pub due_are : AreDue part d.registers (history_taken part kept bytes) (reads_of part kept bytes)
-  pub at_rest : (why : Stop) → d.registers.stop ≡ Some why → due_count d.registers.due ≡ 0
+  pub due_are : AreGivenOrDue part d.registers (history_taken part kept bytes) (reads_of part kept bytes)
+  pub none_due_at_stop : (why : StopCause) → d.registers.stop ≡ Some why → due_count d.registers.due ≡ 0
 
 -- the words read out so far, without those that are still due
 abbrev pub reads_given : PartData → Kept → DeviceState → List ℕ → List ℕ
@@ -280,7 +280,7 @@ reads_given part kept d bytes = take (length (reads_of part kept bytes) - due_co
 
 -- the words read out that are still due
 abbrev pub due_of : PartData → Kept → DeviceState → List ℕ → List ℕ
-due_of part kept d bytes = words_left part (history_taken part kept bytes) d.registers.due
+due_of part kept d bytes = words_still_due part (history_taken part kept bytes) d.registers.due
 
 -- how many bytes of a piece of this length are taken, by what a feed answers
 abbrev pub taken_in : ℕ → Fed → ℕ
@@ -290,6 +290,6 @@ taken_in length (fed.Iprog n) = n
 taken_in length (fed.ReadFull n) = n
 
 -- what a feed answers for a stop at place `at` of a piece
-abbrev pub fed_by : Stop → ℕ → Fed
-fed_by (stop.Fault f) at = fed.Stopped at
-fed_by stop.Iprog at = fed.Iprog at
+abbrev pub answer_at_stop : StopCause → ℕ → Fed
+answer_at_stop (stop.Fault f) at = fed.Stopped at
+answer_at_stop stop.Iprog at = fed.Iprog at

@@ -18,8 +18,8 @@ use Rattle.x7_engine.specs.declared.kept.Kept.{Kept}
 use Rattle.x7_engine.specs.declared.regs.End.{End}
 use Rattle.x7_engine.specs.declared.regs.End.TheVariants as at_end
 use Rattle.x7_engine.specs.declared.regs.Regs.{Regs}
-use Rattle.x7_engine.specs.declared.stop.Stop.{Stop}
-use Rattle.x7_engine.specs.declared.stop.Stop.TheVariants as stop
+use Rattle.x7_engine.specs.declared.stop.StopCause.{StopCause}
+use Rattle.x7_engine.specs.declared.stop.StopCause.TheVariants as stop
 use Rattle.x7_engine.specs.Registers.{word_held}
 use Rattle.x7_engine.specs.Startup.{phase_by, startup_progress}
 use Rattle.x7_engine.specs.Stop.{Stopped, stop_fault, stop_of}
@@ -35,7 +35,7 @@ taken_by None n = n
 taken_by (Some s) n = s.place
 
 -- the last byte whose access counts: a word that ends at a firing of the watchdog isn't executed
-abbrev pub last_counted : Stop → ℕ → ℕ
+abbrev pub last_counted : StopCause → ℕ → ℕ
 last_counted (stop.Fault fault.Watchdog) place = place - 1
 last_counted _ place = place
 
@@ -45,18 +45,18 @@ history_by None h = h
 history_by (Some s) h = until (last_counted s.why s.place) h
 
 -- why a stop came
-abbrev pub why_of : Option Stopped → Option Stop
+abbrev pub why_of : Option Stopped → Option StopCause
 why_of None = None
 why_of (Some s) = Some s.why
 
 -- where the bytes taken end; an obeyed IPROG shows WBSTAR
-abbrev pub end_by : Option Stop → Bool → ℕ → End
+abbrev pub end_by : Option StopCause → Bool → ℕ → End
 end_by None synced wbstar = if synced then at_end.Synced else at_end.Searching
 end_by (Some (stop.Fault f)) synced wbstar = at_end.Fault f
 end_by (Some stop.Iprog) synced wbstar = at_end.Iprog wbstar
 
 -- the state in the course of a device, with this stop
-abbrev pub state_by : Course → Bool → Option Stop → Bool → Regs
+abbrev pub state_by : Course → Bool → Option StopCause → Bool → Regs
 state_by c wrapped why synced = record {
   taken = c.taken;
   end = end_by why synced (word_held c.kept (number_of Wbstar) c.history);

@@ -15,8 +15,8 @@ use Rattle.x7_flow.specs.Flow.{frame_fault}
 use Rattle.x7_engine.specs.declared.fault.Fault.{Fault}
 use Rattle.x7_engine.specs.declared.fault.Fault.TheVariants as fault
 use Rattle.x7_engine.specs.declared.kept.Kept.{Kept}
-use Rattle.x7_engine.specs.declared.stop.Stop.{Stop}
-use Rattle.x7_engine.specs.declared.stop.Stop.TheVariants as stop
+use Rattle.x7_engine.specs.declared.stop.StopCause.{StopCause}
+use Rattle.x7_engine.specs.declared.stop.StopCause.TheVariants as stop
 use Rattle.x7_engine.specs.Kept.{is_fallback}
 use Rattle.x7_flow.specs.Controls.{ctl0_held, is_matched, mask_held, masked_word, same_idcode}
 use Rattle.x7_engine.specs.Watching.{first_firing}
@@ -31,7 +31,7 @@ abbrev pub needs_match : History → ℕ → ℕ → Bool
 needs_match h register w = register == number_of reg.Fdri || (register == number_of reg.Mfwr || executes (code_of command.Start) h (Write register w))
 
 -- why a word written after this history stops a device, where it does
-abbrev pub why_by_write : PartData → Kept → History → ℕ → ℕ → Option Stop
+abbrev pub why_by_write : PartData → Kept → History → ℕ → ℕ → Option StopCause
 why_by_write part kept h register w =
     if register == number_of reg.Crc && not (w == running_check h) then Some (stop.Fault (fault.Crc (running_check h) w)) else
     if asks_decryption h register w then Some (stop.Fault fault.Encrypted) else
@@ -40,43 +40,43 @@ why_by_write part kept h register w =
     if register == number_of reg.Cmd && (w % 2 ^ 5 == code_of command.Iprog && not (is_fallback kept.kind)) then Some stop.Iprog else None
 
 -- why an access after this history stops a device, where it does, the faults of frames left out
-abbrev pub why_by_access : PartData → Kept → History → Access → Option Stop
+abbrev pub why_by_access : PartData → Kept → History → Access → Option StopCause
 why_by_access part kept h (Write register w) = why_by_write part kept h register w
 why_by_access part kept h (Read register count) = None
 why_by_access part kept h (Bad w) = Some (stop.Fault (fault.Packet w))
 
 -- the stop by a refused word, copy or read of frame data
-abbrev pub stop_by : RunFault → Stop
-stop_by (run.Address far) = stop.Fault (fault.Address far)
-stop_by run.Overrun = stop.Fault fault.Overrun
-stop_by run.Multi = stop.Fault fault.Multi
+abbrev pub stop_of_refused : RunFault → StopCause
+stop_of_refused (run.Address far) = stop.Fault (fault.Address far)
+stop_of_refused run.Overrun = stop.Fault fault.Overrun
+stop_of_refused run.Multi = stop.Fault fault.Multi
 
 -- the stop by what the frames refuse, where they refuse something
-abbrev pub why_by_frames : Option RunFault → Option Stop
+abbrev pub why_by_frames : Option RunFault → Option StopCause
 why_by_frames None = None
-why_by_frames (Some fault) = Some (stop_by fault)
+why_by_frames (Some fault) = Some (stop_of_refused fault)
 
 -- why an access after this history stops a device, where it does
-abbrev pub why_at : PartData → Kept → History → Access → Option Stop
+abbrev pub why_at : PartData → Kept → History → Access → Option StopCause
 why_at part kept h access = option_or (why_by_access part kept h access) (why_by_frames (frame_fault part h access))
 
 -- the fault of a stop
-abbrev pub fault_in : Stop → Option Fault
+abbrev pub fault_in : StopCause → Option Fault
 fault_in (stop.Fault f) = Some f
 fault_in stop.Iprog = None
 
 -- the fault of a stop, where there is one
-abbrev pub stop_fault : Option Stop → Option Fault
+abbrev pub stop_fault : Option StopCause → Option Fault
 stop_fault None = None
 stop_fault (Some why) = fault_in why
 
 -- the number of bytes taken at a stop, and why it came
 pub record Stopped : Type 0 where
   pub place : ℕ
-  pub why : Stop
+  pub why : StopCause
 
 -- a stop at this place, where one came
-abbrev pub stopped_at : ℕ → Option Stop → Option Stopped
+abbrev pub stopped_at : ℕ → Option StopCause → Option Stopped
 stopped_at place None = None
 stopped_at place (Some why) = Some (record { place = place; why = why })
 

@@ -30,14 +30,14 @@ last_load [] = 0
 last_load (e ∷ h) = if loads h e.access then e.place else last_load h
 
 -- how many of the `count` bytes after the first `from` have the watchdog on
-abbrev pub on_after : PartData → Kept → List ℕ → ℕ → ℕ → ℕ
-on_after part kept bytes from zero = 0
-on_after part kept bytes from (suc count) = on_after part kept bytes from count + (if is_on_at part kept bytes (from + count + 1) then 1 else 0)
+abbrev pub bytes_on_after : PartData → Kept → List ℕ → ℕ → ℕ → ℕ
+bytes_on_after part kept bytes from zero = 0
+bytes_on_after part kept bytes from (suc count) = bytes_on_after part kept bytes from count + (if is_on_at part kept bytes (from + count + 1) then 1 else 0)
 
 -- how many of the bytes after the last load, up to byte n, have the watchdog on
-abbrev pub counted_at : PartData → Kept → List ℕ → ℕ → ℕ
-counted_at part kept bytes n = on_after part kept bytes (last_load (before_byte bytes n)) (n - last_load (before_byte bytes n))
+abbrev pub bytes_on_since_load : PartData → Kept → List ℕ → ℕ → ℕ
+bytes_on_since_load part kept bytes n = bytes_on_after part kept bytes (last_load (before_byte bytes n)) (n - last_load (before_byte bytes n))
 
--- the watchdog fires at byte n: it is on there, and four times TIMER's value of the bytes since the last load had it on
+-- the watchdog fires at byte n: it is on there, and four times TIMER's value of the bytes after the last load had it on
 abbrev pub fires_at : PartData → Kept → List ℕ → ℕ → Bool
-fires_at part kept bytes n = is_on_at part kept bytes n && counted_at part kept bytes n == timer_value_of (timer_held kept (before_byte bytes n)) * 4
+fires_at part kept bytes n = is_on_at part kept bytes n && bytes_on_since_load part kept bytes n == timer_value_of (timer_held kept (before_byte bytes n)) * 4

@@ -1,7 +1,7 @@
 -- What one turn of a device does over bytes of a piece (this project's choice).
 use Rattle.std.specs.Prelude.{◌≡◌, ℕ, ◌+◌, ◌-◌, ◌^◌, ◌<◌, ◌≤◌, Bool, false, IsTrue, List, length, None}
 use Rattle.x7_packets.specs.Cutter.{between, calls_left}
-use Rattle.x7_engine.specs.Past.{GivesNone, OfPast, TakesJust}
+use Rattle.x7_engine.specs.Past.{GivesNoWord, OfPast, TakesJust}
 use Rattle.x7_engine.specs.Standing.{DeviceState, NoWordDue, fed_more, fed_of}
 use Rattle.x7_engine.specs.UntilStarted.{CommandsLast}
 
@@ -18,7 +18,7 @@ pub record MayTake (d : DeviceState) (piece : List ℕ) (at : ℕ) : Type 0 wher
 pub record TakesTurn (old new : DeviceState) (more : List ℕ) : Type 0 where
   pub part : new.part ≡ old.part
   pub stands : TakesJust old new more
-  pub silent : GivesNone old new more
+  pub silent : GivesNoWord old new more
   pub commands : OfPast old (λ p. CommandsLast p.bytes more)
 
 -- a device took a turn over the bytes of a piece between two places, and counted them
@@ -41,7 +41,7 @@ HasFewerCalls old new piece from to = new.registers.stop ≡ None → calls_left
 
 -- a device took a turn over the bytes of a piece between two places, and used up the piece, where it says so, or else
 -- has fewer calls of its cutter left in it
-pub record TookTurn (old new : DeviceState) (piece : List ℕ) (from to : ℕ) (says_so : Bool) : Type 0 where
+pub record TookTurn (old new : DeviceState) (piece : List ℕ) (from to : ℕ) (says_used_up : Bool) : Type 0 where
   pub turned : Turned old new piece from to
-  pub used_up : IsTrue says_so → IsUsedUp new piece to
-  pub goes_on : says_so ≡ false → HasFewerCalls old new piece from to
+  pub used_up : IsTrue says_used_up → IsUsedUp new piece to
+  pub goes_on : says_used_up ≡ false → HasFewerCalls old new piece from to

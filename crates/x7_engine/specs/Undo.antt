@@ -1,5 +1,5 @@
 -- What is kept of a device, so that the next bytes up to four can be taken back (this project's choice).
-use Rattle.std.specs.Prelude.{◌≡◌, ℕ, ◌≤◌, Bool, List, length, Option, None, []}
+use Rattle.std.specs.Prelude.{◌≡◌, ℕ, ◌≤◌, Bool, List, length, Option}
 use Rattle.x7_packets.specs.Cutter.{CutterState}
 use Rattle.x7_part.specs.Part.{PartData}
 use Rattle.x7_regs.specs.declared.boot_status.Attempt.{Attempt}
@@ -10,30 +10,29 @@ use Rattle.x7_flow.specs.Saved.{FramesBack, KeepsFrames}
 use Rattle.x7_flow.specs.Standing.{FramesFit, FramesState, frames_state}
 use Rattle.x7_engine.specs.declared.due.Due.{Due}
 use Rattle.x7_engine.specs.declared.saved.SavedRegisters.{SavedRegisters}
-use Rattle.x7_engine.specs.declared.stop.Stop.{Stop}
+use Rattle.x7_engine.specs.declared.stop.StopCause.{StopCause}
 use Rattle.x7_engine.specs.Clock.{ClockState, clock_in}
 use Rattle.x7_engine.specs.Past.{HasPast, Past, later}
-use Rattle.x7_engine.specs.ReadBuffer.{ReadBufState}
 use Rattle.x7_engine.specs.Standing.{ControlsState, DeviceState, NoWordDue, ProgressState, RegistersState, controls_in, progress_in}
 
--- the stored values of registers but their frames
-pub record ValuesState : Type 0 where
+-- the stored values of registers but their frames: all that `RegistersState` has beside these
+pub record SavedRegistersState : Type 0 where
   pub words : List ℕ
   pub controls : ControlsState
   pub progress : ProgressState
   pub kind : Kind
   pub before : Option Attempt
   pub clock : ClockState
-  pub stop : Option Stop
+  pub stop : Option StopCause
   pub due : Due
 
--- the stored values of registers, their frames left out
-abbrev pub values_of : RegistersState → ValuesState
-values_of r = record { words = r.words; controls = r.controls; progress = r.progress; kind = r.kind; before = r.before; clock = r.clock; stop = r.stop; due = r.due }
+-- the stored values of registers without their frames
+abbrev pub without_frames : RegistersState → SavedRegistersState
+without_frames r = record { words = r.words; controls = r.controls; progress = r.progress; kind = r.kind; before = r.before; clock = r.clock; stop = r.stop; due = r.due }
 
--- the stored values as the fields of what is kept hold them
-abbrev pub values_in : SavedRegisters → ValuesState
-values_in s = record {
+-- the stored values of kept registers as their fields hold them
+abbrev pub saved_registers_in : SavedRegisters → SavedRegistersState
+saved_registers_in s = record {
   words = s.words.last;
   controls = controls_in s.controls;
   progress = progress_in s.progress;
@@ -44,19 +43,19 @@ values_in s = record {
   due = s.due;
 }
 
--- registers with these values and frames
-abbrev pub registers_with : ValuesState → FramesState → RegistersState
+-- registers of these stored values and frames
+abbrev pub registers_with : SavedRegistersState → FramesState → RegistersState
 registers_with v f = record { words = v.words; controls = v.controls; progress = v.progress; kind = v.kind; before = v.before; clock = v.clock; stop = v.stop; due = v.due; frames = f }
 
--- what is kept: each stored value of a device but its memory, and at most one frame of that
+-- what is kept of a device: each stored value but its memory, and at most one frame of that
 pub record UndoState : Type 0 where
   pub cutter : CutterState
-  pub values : ValuesState
+  pub values : SavedRegistersState
   pub frames : SavedState
   pub wrapped : Bool
   pub taken : ℕ
 
--- what is kept is of a device of the part
+-- what is kept is kept of a device of the part
 abbrev pub IsUndoOf : PartData → UndoState → Type 0
 IsUndoOf part u = IsSavedOf part u.frames
 
@@ -67,7 +66,7 @@ device_kept part u = record { part = part; cutter = u.cutter; registers = regist
 -- each value but the memory is that of a device
 pub record KeepsValues (u : UndoState) (d : DeviceState) : Type 0 where
   pub cutter : u.cutter ≡ d.cutter
-  pub values : u.values ≡ values_of d.registers
+  pub values : u.values ≡ without_frames d.registers
   pub wrapped : u.wrapped ≡ d.wrapped
   pub taken : u.taken ≡ d.taken
 
@@ -98,7 +97,3 @@ pub record TookFewSince (u : UndoState) (d : DeviceState) : Type 0 where
 -- two devices are equal but for the count of all bytes that they were fed
 abbrev pub AreEqual : DeviceState → DeviceState → Type 0
 AreEqual d e = d ≡ record e { fed = d.fed }
-
--- a buffer that drops each word
-abbrev pub dropping : ReadBufState
-dropping = record { most = None; words = [] }

@@ -46,7 +46,7 @@ lines_by part p = record {
   gwe = gwe_line (cor0_of p) (phase_by part p);
 }
 
--- what STAT shows, by how far startup is
+-- what STAT shows, by the fault, how far startup is, and GHIGH_B
 abbrev pub stat_parts : PartData → Option Fault → StartupProgress → Bool → StatParts
 stat_parts part fault p ghigh = record {
   crc_error = is_crc_fault fault;
@@ -124,17 +124,17 @@ value_owing c fault due reg = register_value c false fault reg
 
 -- the words of a read that isn't refused: words of frame data, or the register's value as
 -- often as it asks, taken where its header ends
-abbrev pub words_answered : Course → ℕ → ℕ → List ℕ
-words_answered c register count =
+abbrev pub words_of_read : Course → ℕ → ℕ → List ℕ
+words_of_read c register count =
     if reads_frame_data c.history (Read register count) then frames_read c.part c.history count else replicate count (read_value c register)
 
 -- the words that an access after this history reads out
-abbrev pub answer_of : PartData → Kept → History → Access → ℕ → List ℕ
-answer_of part kept h (Write register w) n = []
-answer_of part kept h (Read register count) n = if is_some (why_at part kept h (Read register count)) then [] else words_answered (course_at part kept h n) register count
-answer_of part kept h (Bad w) n = []
+abbrev pub words_read_by : PartData → Kept → History → Access → ℕ → List ℕ
+words_read_by part kept h (Write register w) n = []
+words_read_by part kept h (Read register count) n = if is_some (why_at part kept h (Read register count)) then [] else words_of_read (course_at part kept h n) register count
+words_read_by part kept h (Bad w) n = []
 
 -- all words that a history reads out, in order
 abbrev pub read_out : PartData → Kept → History → List ℕ
 read_out part kept [] = []
-read_out part kept (e ∷ h) = read_out part kept h ++ answer_of part kept h e.access e.place
+read_out part kept (e ∷ h) = read_out part kept h ++ words_read_by part kept h e.access e.place

@@ -48,8 +48,8 @@ fires part kept h n =
 
 -- the place where the watchdog fired already, or place n where it fires there
 abbrev pub fired_or : Option ℕ → Bool → ℕ → Option ℕ
-fired_or (Some place) now n = Some place
-fired_or None now n = if now then Some n else None
+fired_or (Some place) fires_now n = Some place
+fired_or None fires_now n = if fires_now then Some n else None
 
 -- the least of `count` bytes after byte `from` at which the watchdog fires
 abbrev pub first_firing : PartData → Kept → History → ℕ → ℕ → Option ℕ

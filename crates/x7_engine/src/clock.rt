@@ -5,10 +5,10 @@ ghost use Rattle.x7_part.specs.Part.{PartData};
 ghost use Rattle.x7_flow.specs.Standing.{word_to, written_to};
 ghost use Rattle.x7_startup.specs.Startup.{Call, StandsForCalls, ticks_of};
 ghost use Rattle.x7_startup.specs.Watchdog.{WatchCall, WatchesFor};
-ghost use Rattle.x7_engine.specs.Clock.{AreEndedAlike, HasEndedBy, TakesEntry, Ticks, TicksOn, newest_place, startup_call_by, watch_call_by};
+ghost use Rattle.x7_engine.specs.Clock.{AreEndedAlike, HasEndedBy, TakesEntry, ClockTakes, ClockTakesInAny, newest_place, startup_call_by, watch_call_by};
 ghost use Rattle.x7_engine.specs.Course.{course_at};
 ghost use Rattle.x7_engine.specs.Kept.{is_fallback};
-ghost use Rattle.x7_engine.specs.Registers.{IsWrite};
+ghost use Rattle.x7_engine.specs.Registers.{AreFactsOfWrite};
 ghost use Rattle.x7_engine.specs.Startup.{has_ended, phase_of, startup_calls, startup_progress};
 ghost use Rattle.x7_engine.specs.Value.{lines_by};
 ghost use Rattle.x7_engine.specs.Watching.{fires, first_firing};
@@ -21,7 +21,8 @@ use x7_startup::{Lines, Startup, Watchdog};
 
 /// What a written word asks of startup.
 fn move_startup(startup: &mut Startup, executed: Option<u8>, taken: bool, cor0: u32)
-    ensures { (lock matched : ℕ) (calls : List Call) → StandsForCalls lock matched startup.old calls → StandsForCalls lock matched startup.new (calls ++ startup_call_by executed taken cor0) }
+    ensures { (lock_ticks match_ticks : ℕ) (calls : List Call) → StandsForCalls lock_ticks match_ticks startup.old calls
+        → StandsForCalls lock_ticks match_ticks startup.new (calls ++ startup_call_by executed taken cor0) }
 {
     if is_command(Command::Start, executed) {
         startup.arm();
@@ -86,7 +87,7 @@ impl Clock {
         reg: Reg,
         word: u32,
     )
-        ensures { (place : ℕ) → TakesEntry (clock_in self.old) (clock_in self.new) (written_to reg word place) (λ h. IsWrite executed taken cor0 h (word_to reg word)) }
+        ensures { (place : ℕ) → TakesEntry (clock_in self.old) (clock_in self.new) (written_to reg word place) (λ h. AreFactsOfWrite executed taken cor0 h (word_to reg word)) }
     {
         move_startup(&mut self.startup, executed, taken, cor0);
         move_watchdog(&mut self.watchdog, executed, reg, word);
@@ -133,39 +134,42 @@ impl Clock {
         self.watchdog.byte(eos)
     }
 
-    /// Takes bytes one by one, up to the end of startup or the one at which the
-    /// watchdog fires: the number of that byte, from 1.
-    fn each(&mut self, part: &Part, count: usize) -> Option<usize>
-        ensures { TicksOn part.now (clock_in self.old) (clock_in self.new) count result }
+    /// Takes `count` bytes, one by one up to the end of startup and the rest at once, up to the one at which the watchdog
+    /// fires: the number of that byte, from 1.
+    fn bytes_one_by_one(&mut self, part: &Part, count: usize) -> Option<usize>
+        ensures { ClockTakesInAny part.now (clock_in self.old) (clock_in self.new) count result }
     {
         for i in 0..count {
             if self.byte(part) {
                 return Some(i + 1);
             }
             if self.has_ended() {
-                return self.go_on(part, i + 1, count);
+                return self.bytes_after_end(part, i + 1, count);
             }
         }
         None
     }
 
-    /// Takes the rest of `count` bytes at once, where startup has ended with the last of the `taken` ones.
-    fn go_on(&mut self, part: &Part, taken: usize, count: usize) -> Option<usize>
+    /// Takes the rest of `count` bytes at once, where startup has ended with the last of the `taken` ones, up to the one
+    /// at which the watchdog fires: the number of that byte among all `count`, from 1.
+    fn bytes_after_end(&mut self, part: &Part, taken: usize, count: usize) -> Option<usize>
         requires within { taken ≤ count }
         ensures within { IfSome result (λ k. (0 < k) × (k ≤ count)) }
-        ensures ticks { (kept : Kept) (h : History) (n : ℕ) → HasEndedBy (course_at part.now kept h n) (clock_in self.old) taken → Ticks (course_at part.now kept h n) (clock_in self.new) count result }
+        ensures takes { (kept : Kept) (h : History) (n : ℕ) → HasEndedBy (course_at part.now kept h n) (clock_in self.old) taken
+            → ClockTakes (course_at part.now kept h n) (clock_in self.new) count result }
     {
-        match self.alike(part, count - taken, true) {
+        match self.bytes_alike(part, count - taken, true) {
             Some(k) => Some(taken + k),
             None => None,
         }
     }
 
-    /// Takes bytes, in each of which startup has ended or in none, up to the one at which the watchdog fires.
-    fn alike(&mut self, part: &Part, count: usize, eos: bool) -> Option<usize>
+    /// Takes `count` bytes, at each of which startup has ended (`eos`) or at none, up to the one at which the watchdog
+    /// fires: the number of that byte, from 1.
+    fn bytes_alike(&mut self, part: &Part, count: usize, eos: bool) -> Option<usize>
         ensures within { IfSome result (λ k. (0 < k) × (k ≤ count)) }
-        ensures ticks { (kept : Kept) (h : History) (n : ℕ) → AreEndedAlike (course_at part.now kept h n) (clock_in self.old) count eos
-            → Ticks (course_at part.now kept h n) (clock_in self.new) count result }
+        ensures takes { (kept : Kept) (h : History) (n : ℕ) → AreEndedAlike (course_at part.now kept h n) (clock_in self.old) count eos
+            → ClockTakes (course_at part.now kept h n) (clock_in self.new) count result }
     {
         let Some(k) = self.watchdog.bytes(count as u64, eos) else {
             self.startup
@@ -189,8 +193,8 @@ impl Clock {
     /// Whether bytes leave the clock as it is: startup hasn't begun, and the watchdog doesn't run.
     #[inline(always)]
     pub(crate) fn is_idle(&self) -> bool
-        ensures begun { IsTrue result → self.now.startup.begun ≡ None }
-        ensures limit { IsTrue result → self.now.watchdog.limit ≡ 0 }
+        ensures not_begun { IsTrue result → self.now.startup.begun ≡ None }
+        ensures no_limit { IsTrue result → self.now.watchdog.limit ≡ 0 }
     {
         if self.startup.has_begun() {
             return false;
@@ -198,11 +202,11 @@ impl Clock {
         !self.watchdog.is_running()
     }
 
-    /// Takes bytes before the word that they complete, up to the one at which the
-    /// watchdog fires: the number of that byte, from 1.
+    /// Takes `count` bytes before the word that they complete, up to the one at which the watchdog fires: the number of
+    /// that byte, from 1.
     #[inline(always)]
     pub(crate) fn bytes(&mut self, part: &Part, count: usize) -> Option<usize>
-        ensures { TicksOn part.now (clock_in self.old) (clock_in self.new) count result }
+        ensures { ClockTakesInAny part.now (clock_in self.old) (clock_in self.new) count result }
     {
         if self.is_idle() {
             return None;
@@ -210,7 +214,7 @@ impl Clock {
         self.move_on(part, count)
     }
 
-    /// How many of the bytes to come end before the watchdog fires.
+    /// How many of the next `count` bytes come before the one at which the watchdog fires.
     #[inline(always)]
     pub(crate) fn before_firing(&self, part: &Part, count: usize) -> usize
         ensures within { result ≤ count }
@@ -227,12 +231,12 @@ impl Clock {
     /// watchdog fires: the number of that byte, from 1.
     #[inline(never)]
     fn move_on(&mut self, part: &Part, count: usize) -> Option<usize>
-        ensures { TicksOn part.now (clock_in self.old) (clock_in self.new) count result }
+        ensures { ClockTakesInAny part.now (clock_in self.old) (clock_in self.new) count result }
     {
         let eos = self.has_ended();
         if are_same(eos, self.ends_within(part, count)) {
-            return self.alike(part, count, eos);
+            return self.bytes_alike(part, count, eos);
         }
-        self.each(part, count)
+        self.bytes_one_by_one(part, count)
     }
 }

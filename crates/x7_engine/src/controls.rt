@@ -7,7 +7,7 @@ ghost use Rattle.x7_flow.specs.Controls.{mask_held, masked_word};
 use x7_regs::Reg;
 
 /// The bits of the word where MASK has them, and the old ones elsewhere.
-pub(crate) fn masked(old: u32, mask: u32, word: u32) -> u32
+pub(crate) fn masked_word(old: u32, mask: u32, word: u32) -> u32
     ensures { (register : ℕ) → result ≡ masked_word register mask (Write register word) old }
 {
     old & !mask | word & mask
@@ -35,8 +35,8 @@ impl Controls {
         ensures { (h : History) (place : ℕ) → mask ≡ mask_held h → AreControls (controls_in self.old) h → AreControls (controls_in self.new) (entry (Write (number_of reg) word) place ∷ h) }
     {
         match reg {
-            Reg::Ctl0 => self.ctl0 = masked(self.ctl0, mask, word),
-            Reg::Ctl1 => self.ctl1 = masked(self.ctl1, mask, word),
+            Reg::Ctl0 => self.ctl0 = masked_word(self.ctl0, mask, word),
+            Reg::Ctl1 => self.ctl1 = masked_word(self.ctl1, mask, word),
             _ => (),
         }
     }

@@ -8,13 +8,13 @@ ghost use Rattle.x7_engine.specs.UntilRead.{RoomBefore};
 ghost use Rattle.x7_engine.specs.Kept.{on_the_bench};
 ghost use Rattle.x7_engine.specs.Readout.{DeviceGaveWords};
 ghost use Rattle.x7_engine.specs.ReadBuffer.{HoldsWithinMost, IsFull};
-ghost use Rattle.x7_engine.specs.Standing.{DeviceStandsFor, MayWrap, NoWordDue, due_count, fed_by, fed_more, fed_of, frames_due, taken_in, with_wrap};
+ghost use Rattle.x7_engine.specs.Standing.{DeviceStandsFor, MayWrap, NoWordDue, due_count, answer_at_stop, fed_more, fed_of, frames_due, taken_in, with_wrap};
 ghost use Rattle.x7_engine.specs.State.{attempt_in, end_by, kept_after, why_of, memory_in, state_owing};
 ghost use Rattle.x7_engine.specs.Stop.{stop_fault};
 ghost use Rattle.x7_engine.specs.Turns.{MayTake, TookTurn, Turned};
 ghost use Rattle.x7_engine.specs.Value.{failure_of};
 ghost use Rattle.x7_engine.specs.declared.fault.Fault.{Fault as FaultData};
-ghost use Rattle.x7_engine.specs.Past.{AnswersFor, HasSomePast, OfPast, TakesJust, GivesWordsNext, part_taken, state_at, stop_at, reads_given_at};
+ghost use Rattle.x7_engine.specs.Past.{AnswersFor, HasSomePast, OfPast, TakesJust, GivesWordsNext, prefix_taken, state_at, stop_at, reads_given_at};
 
 mod boot;
 mod started;
@@ -26,7 +26,7 @@ use crate::kept::{Kept, ON_THE_BENCH};
 use crate::read_buffer::ReadBuf;
 use crate::registers::Registers;
 use crate::regs::{End, Regs};
-use crate::stop::Stop;
+use crate::stop::StopCause;
 use crate::target::Target;
 pub use boot::flash_may_end;
 use std::alloc::Global;
@@ -64,22 +64,22 @@ impl Model for Device {
 }
 
 /// What a feed answers for a stop at place `at` of a piece.
-fn stopped(stop: Stop, at: usize) -> Fed
-    ensures { result ≡ fed_by stop at }
+fn answer_at_stop(stop: StopCause, at: usize) -> Fed
+    ensures { result ≡ answer_at_stop stop at }
 {
     match stop {
-        Stop::Fault(_) => Fed::Stopped(at),
-        Stop::Iprog => Fed::Iprog(at),
+        StopCause::Fault(_) => Fed::Stopped(at),
+        StopCause::Iprog => Fed::Iprog(at),
     }
 }
 
 /// Where bytes end, by the stop, and without one by whether they end in a session.
-fn end_of(stop: Option<Stop>, synced: bool, wbstar: u32) -> End
+fn end_by(stop: Option<StopCause>, synced: bool, wbstar: u32) -> End
     ensures { result ≡ end_by stop synced wbstar }
 {
     match stop {
-        Some(Stop::Fault(fault)) => End::Fault(fault),
-        Some(Stop::Iprog) => End::Iprog(wbstar),
+        Some(StopCause::Fault(fault)) => End::Fault(fault),
+        Some(StopCause::Iprog) => End::Iprog(wbstar),
         None if synced => End::Synced,
         None => End::Searching,
     }
@@ -96,7 +96,7 @@ fn is_need(run: &Cut<'_>) -> bool
 }
 
 /// Whether the piece is used up and no stop came.
-fn is_done(used_up: bool, stop: Option<Stop>) -> bool
+fn is_done(used_up: bool, stop: Option<StopCause>) -> bool
     ensures yes { IsTrue result → IsTrue used_up × (stop ≡ None) }
     ensures no { result ≡ false → stop ≡ None → used_up ≡ false }
 {
@@ -107,7 +107,7 @@ fn is_done(used_up: bool, stop: Option<Stop>) -> bool
 }
 
 /// What an attempt failed by, where the flash has ended or not, by what it failed by before that.
-fn cause_with(cause: Option<Cause>, wrapped: bool) -> Option<Cause>
+fn failure_with_wrap(cause: Option<Cause>, wrapped: bool) -> Option<Cause>
     ensures { (fault : Option FaultData) → cause ≡ failure_of fault false → result ≡ failure_of fault wrapped }
 {
     match cause {
@@ -155,7 +155,7 @@ impl Device {
         let attempt = self.registers.attempt();
         Attempt {
             kind: attempt.kind,
-            cause: cause_with(attempt.cause, self.wrapped),
+            cause: failure_with_wrap(attempt.cause, self.wrapped),
             ignored: attempt.ignored,
         }
     }
@@ -190,7 +190,7 @@ impl Device {
     }
 
     /// What stopped the device.
-    fn stop(&self) -> Option<Stop>
+    fn stop(&self) -> Option<StopCause>
         ensures { result ≡ self.now.registers.stop }
     {
         self.registers.stop()
@@ -203,7 +203,7 @@ impl Device {
         self.registers.stop().is_some()
     }
 
-    /// DeviceGaveWords the words due to a buffer, as many as it has room for, and says whether none is left.
+    /// Gives the words due to a buffer, as many as it has room for, and says whether none is left.
     fn give(&mut self, read: &mut ReadBuf) -> bool
         requires going { self.old.registers.stop ≡ None }
         ensures none_left { IsTrue result ↔ NoWordDue self.new }
@@ -228,7 +228,7 @@ impl Device {
         ensures quiet { OfPast self.old (λ p. history_of (p.bytes ++ between piece.now at.old at.new) ≡ history_of p.bytes) }
     {
         let count = 4 * self.cutter.nop_count(&piece[*at..]);
-        let left = self.registers.tick(&self.part, count);
+        let left = self.registers.take_bytes(&self.part, count);
         *at += count - left;
         self.taken += (count - left) as u64;
         self.fed = self.fed.saturating_add((count - left) as u64);
@@ -274,8 +274,8 @@ impl Device {
         true
     }
 
-    /// Takes a write of one word at once, where one comes next that lies whole in the piece and no byte moves the
-    /// clock, or else as `take_next` does.
+    /// Takes one turn: the write of one word that comes next, where it lies whole in the piece and no byte moves the
+    /// clock, or else what `take_next` takes. Moves `at` past it, and says whether the piece is used up.
     #[inline(always)]
     fn turn(&mut self, piece: &[u8], at: &mut usize) -> bool
         requires { MayTake self.old piece.now at.old }
@@ -309,19 +309,19 @@ impl Device {
         ensures part { self.new.part ≡ self.old.part }
         ensures taken { self.new.taken ≡ self.old.taken + taken_in (length piece.now) result }
         ensures fed { fed_of self.new ≡ fed_more self.old (taken_in (length piece.now) result) }
-        ensures stands { TakesJust self.old self.new (part_taken piece.now result) }
-        ensures answer { AnswersFor self.old self.new (part_taken piece.now result) read.new result }
-        ensures reads { GivesWordsNext self.old self.new (part_taken piece.now result) read.old read.new }
+        ensures stands { TakesJust self.old self.new (prefix_taken piece.now result) }
+        ensures answer { AnswersFor self.old self.new (prefix_taken piece.now result) read.new result }
+        ensures reads { GivesWordsNext self.old self.new (prefix_taken piece.now result) read.old read.new }
         ensures within_most { HoldsWithinMost read.new.most read.new.words }
-        ensures first { OfPast self.old (λ p. RoomBefore p piece.now (taken_in (length piece.now) result) (reads_given_at self.old p) read.old) }
+        ensures room { OfPast self.old (λ p. RoomBefore p piece.now (taken_in (length piece.now) result) (reads_given_at self.old p) read.old) }
         ensures stopped { OfPast self.old (λ p. IsSome (stop_at p) → (self.new ≡ self.old) × (read.new ≡ read.old) × (taken_in (length piece.now) result ≡ 0)) }
-        ensures stays { (why : Stop) → self.old.registers.stop ≡ Some why → (self.new ≡ self.old) × (read.new ≡ read.old) × (result ≡ fed_by why 0) }
+        ensures stays { (why : StopCause) → self.old.registers.stop ≡ Some why → (self.new ≡ self.old) × (read.new ≡ read.old) × (result ≡ answer_at_stop why 0) }
     {
-        read.holds_few();
+        read.holds_within_most();
         let mut at = 0;
         'runs: loop {
             if let Some(stop) = self.stop() {
-                return stopped(stop, at);
+                return answer_at_stop(stop, at);
             }
             if !self.give(read) {
                 return Fed::ReadFull(at);
@@ -374,7 +374,7 @@ impl Device {
     pub fn end(&self) -> End
         ensures { OfPast self.now (λ p. result ≡ (state_at p).end) }
     {
-        end_of(
+        end_by(
             self.registers.stop(),
             self.cutter.is_synced(),
             self.registers.value(&self.part, Reg::Wbstar),
@@ -394,7 +394,7 @@ impl Device {
         ensures { OfPast self.now (λ p. result ≡ stop_fault (why_of (stop_at p))) }
     {
         match self.registers.stop() {
-            Some(Stop::Fault(fault)) => Some(fault),
+            Some(StopCause::Fault(fault)) => Some(fault),
             _ => None,
         }
     }

@@ -30,7 +30,7 @@ pub const ON_THE_BENCH: Kept = Kept {
 };
 
 /// Whether an attempt is a fallback, which has no watchdog and ignores IPROG.
-pub fn is_a_fallback(kind: Kind) -> bool
+pub fn is_fallback(kind: Kind) -> bool
     ensures { result ≡ is_fallback kind }
 {
     match kind {

@@ -8,13 +8,13 @@ ghost use Rattle.x7_part.specs.Part.{PartData};
 ghost use Rattle.x7_regs.specs.declared.register.Reg.TheVariants.{Crc, Idcode};
 ghost use Rattle.x7_startup.specs.Startup.{Begun, IsPhaseOf};
 ghost use Rattle.x7_crc.specs.RunningCheck.{running_check};
-ghost use Rattle.x7_engine.specs.Checked.{HasStarted};
+ghost use Rattle.x7_engine.specs.Checked.{HasStartAndDesync};
 ghost use Rattle.x7_engine.specs.Kept.{AreFallbacks, is_fallback, on_the_bench, without_kept};
 ghost use Rattle.x7_engine.specs.FirstStop.{IsFirstStop, why_at_byte};
 ghost use Rattle.x7_flow.specs.Controls.{masked_register, same_idcode};
 ghost use Rattle.x7_flow.specs.Standing.{word_to};
 ghost use Rattle.x7_engine.specs.Registers.{HasMaskedBits, cor0_held, has_ghigh, clears_check, is_pending, takes_shutdown};
-ghost use Rattle.x7_engine.specs.Past.{HasStoppedBefore, IsAttempt, OfPast, Past, StandsBefore, cause_in, due_at, history_at, later, memory_at, reads_at, state_at, stop_at, taken_at, reads_given_at};
+ghost use Rattle.x7_engine.specs.Past.{HasStoppedBefore, IsBootAttempt, OfPast, Past, StandsBefore, cause_in, due_at, history_at, later, memory_at, reads_at, state_at, stop_at, taken_at, reads_given_at};
 ghost use Rattle.x7_engine.specs.Rest.{AtRest, LastGapGoesOn};
 ghost use Rattle.x7_engine.specs.Sequence.{Begins, HasGhigh, IsPending};
 ghost use Rattle.x7_engine.specs.Standing.{DeviceState, NoWordDue};
@@ -78,7 +78,7 @@ pub fn watchdog_fires()
 /// Startup has begun only where START was executed on a matched device and DESYNC after it, and each check and each
 /// idcode written before the stop was right.
 pub fn checks_before_startup()
-    ensures started { (p : Past) → AreBytes p.bytes → 0 < (state_at p).phase → HasStarted p.part.idcode (history_at p) (taken_at p) }
+    ensures started { (p : Past) → AreBytes p.bytes → 0 < (state_at p).phase → HasStartAndDesync p.part.idcode (history_at p) (taken_at p) }
     ensures checks { (p : Past) (w place : ℕ) (older : History) → StandsBefore p (word_to Crc w) place older → w ≡ running_check older }
     ensures idcodes { (p : Past) (w place : ℕ) (older : History) → StandsBefore p (word_to Idcode w) place older → IsTrue (same_idcode p.part.idcode w) }
     ensures none { (p : Past) (access : Access) (place : ℕ) (older : History) → StandsBefore p access place older → why_at p.part p.kept older access ≡ None }
@@ -106,7 +106,7 @@ pub fn reads_grow()
 /// ended the attempt of a boot, by the wrap bit.
 pub fn wraps_show_in_bootsts()
     ensures alone { (part : PartData) (kept : Kept) (bytes : List ℕ) → state_of part kept true bytes ≡ record (state_of part kept false bytes) { bootsts = (state_of part kept true bytes).bootsts } }
-    ensures bit { (part : PartData) (kept : Kept) (bytes : List ℕ) → IsAttempt kept → cause_in part kept bytes ≡ None
+    ensures bit { (part : PartData) (kept : Kept) (bytes : List ℕ) → IsBootAttempt kept → cause_in part kept bytes ≡ None
         → bootsts_in part kept true bytes ≡ bootsts_in part kept false bytes + 2 ^ 6 }
 {}
 

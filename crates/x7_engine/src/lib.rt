@@ -25,7 +25,7 @@ pub use device::{Device, Undo, flash_may_end};
 pub use due::Due;
 pub use fault::Fault;
 pub use fed::Fed;
-pub use kept::{Kept, ON_THE_BENCH, is_a_fallback};
+pub use kept::{Kept, ON_THE_BENCH, is_fallback};
 pub use laws::{
     alike_bytes_do_alike, checks_before_startup, controls_take_masked_bits, fallbacks_do_alike,
     fallbacks_wait_for_the_sync_word, phases_are_the_greatest_begun, reads_are_given_or_due,
@@ -34,5 +34,5 @@ pub use laws::{
 };
 pub use read_buffer::ReadBuf;
 pub use regs::{End, Regs};
-pub use stop::Stop;
+pub use stop::StopCause;
 pub use until_started::UntilStarted;

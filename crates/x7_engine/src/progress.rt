@@ -1,4 +1,4 @@
-//! The running check, and what is known of all accesses so far.
+//! The running check, and the flags that written words set and clear.
 ghost use Rattle.std.specs.Prelude.{◌≡◌, ◌<◌, false, ◌||◌, ◌&&◌, ℕ, ◌∷◌, [], length, ◌%◌};
 ghost use Rattle.x7_packets.specs.History.{entry, History, Write};
 ghost use Rattle.x7_crc.specs.RunningCheck.{executed_after};
@@ -6,9 +6,10 @@ ghost use Rattle.x7_regs.specs.Command.{code_of};
 ghost use Rattle.x7_flow.specs.Controls.{names_part, same_idcode};
 ghost use Rattle.x7_flow.specs.Standing.{word_to, written_to};
 ghost use Rattle.x7_engine.specs.Entering.{words_entered};
-ghost use Rattle.x7_engine.specs.Registers.{clears_by, ghigh_after, is_controlling, pending_after, takes_shutdown, writes_check, writes_command};
+ghost use Rattle.x7_engine.specs.Registers.{clears_by, has_ghigh_after, is_controlling, is_pending_after, takes_shutdown, writes_check, writes_command};
 
 use crate::target::PlainNumber;
+use crate::words::COMMAND_BITS;
 use x7_crc::{check_after_write, fold, fold_slice, is_command};
 use x7_regs::{Command, Reg};
 
@@ -23,7 +24,7 @@ pub(crate) fn is_same_idcode(idcode: u32, word: u32) -> bool
 }
 
 /// Whether a written word is the running check, written to CRC.
-fn is_check(check: u32, reg: Reg, word: u32) -> bool
+fn writes_check(check: u32, reg: Reg, word: u32) -> bool
     ensures { result ≡ writes_check check (word_to reg word) }
 {
     match reg {
@@ -33,22 +34,22 @@ fn is_check(check: u32, reg: Reg, word: u32) -> bool
 }
 
 /// Whether a written word finds the check right: RCRC is executed, or the word is the running check.
-fn clears(executed: Option<u8>, check: u32, reg: Reg, word: u32) -> bool
+fn clears_by(executed: Option<u8>, check: u32, reg: Reg, word: u32) -> bool
     ensures { result ≡ clears_by executed check (word_to reg word) }
 {
-    is_command(Command::Rcrc, executed) || is_check(check, reg, word)
+    is_command(Command::Rcrc, executed) || writes_check(check, reg, word)
 }
 
 /// Whether a shutdown is pending after a written word.
 fn is_pending_after(pending: bool, executed: Option<u8>, cleared: bool) -> bool
-    ensures { result ≡ pending_after executed cleared pending }
+    ensures { result ≡ is_pending_after executed cleared pending }
 {
     !cleared && (is_command(Command::Shutdown, executed) || pending)
 }
 
 /// GHIGH_B after a written word.
-fn is_ghigh_after(ghigh: bool, executed: Option<u8>, taken: bool) -> bool
-    ensures { result ≡ ghigh_after executed taken ghigh }
+fn has_ghigh_after(ghigh: bool, executed: Option<u8>, taken: bool) -> bool
+    ensures { result ≡ has_ghigh_after executed taken ghigh }
 {
     is_command(Command::Lfrm, executed) || ghigh && !is_command(Command::Aghigh, executed) && !taken
 }
@@ -75,25 +76,29 @@ fn wrote_iprog_after(wrote: bool, reg: Reg, word: u32) -> bool
     ensures { result ≡ (writes_command (code_of Command.Iprog) (word_to reg word) || wrote) }
 {
     match reg {
-        Reg::Cmd => word & 31 == Command::Iprog.code() || wrote,
+        Reg::Cmd => word & COMMAND_BITS == Command::Iprog.code() || wrote,
         _ => wrote,
     }
 }
 
-/// What is known of all accesses so far.
+/// The running check and the flags after all accesses so far.
 #[derive(Clone, Copy)]
 pub(crate) struct Progress {
     pub(crate) check: u32,
+    // the part's idcode was written to IDCODE
     pub(crate) matched: bool,
+    // a shutdown is pending
     pub(crate) pending: bool,
+    // GHIGH_B is 1
     pub(crate) ghigh: bool,
+    // an IPROG command was written
     pub(crate) iprog: bool,
 }
 
 impl Progress {
     ghost use Rattle.x7_engine.specs.Standing.{IsProgress, progress_in};
 
-    /// What is known of no accesses: the check is 0, and no flag is set.
+    /// The check and the flags of a device that took nothing: the check is 0, and no flag is set.
     pub(crate) fn new() -> Progress
         ensures { (idcode : ℕ) → IsProgress idcode (progress_in result) [] }
     {
@@ -106,7 +111,7 @@ impl Progress {
         }
     }
 
-    /// Takes a word written to a register in which it stays, and is folded.
+    /// Takes a word written to a register in which it stays, and is folded into the check.
     pub(crate) fn pass(&mut self, plain: PlainNumber, word: u32)
         ensures { (idcode : ℕ) (h : History) (place : ℕ) → IsProgress idcode (progress_in self.old) h → IsProgress idcode (progress_in self.new) (entry (Write plain.register word) place ∷ h) }
     {
@@ -119,13 +124,13 @@ impl Progress {
             → IsProgress idcode (progress_in self.new) (written_to reg word place ∷ h) }
         ensures takes { (h : History) → executed ≡ executed_after h reg word → IsProgress idcode (progress_in self.old) h → result ≡ takes_shutdown h (word_to reg word) }
     {
-        let cleared = clears(executed, self.check, reg, word);
+        let cleared = clears_by(executed, self.check, reg, word);
         let taken = both(cleared, self.pending);
         *self = Progress {
             check: check_after_write(self.check, reg, word, executed),
             matched: is_matched_after(self.matched, idcode, reg, word),
             pending: is_pending_after(self.pending, executed, cleared),
-            ghigh: is_ghigh_after(self.ghigh, executed, taken),
+            ghigh: has_ghigh_after(self.ghigh, executed, taken),
             iprog: wrote_iprog_after(self.iprog, reg, word),
         };
         taken

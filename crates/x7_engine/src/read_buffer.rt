@@ -1,6 +1,6 @@
 //! Words read out of a device.
 ghost use Rattle.std.specs.Prelude.{◌≡◌, ◌≤◌, ◌<◌, ◌-◌, ◌∷◌, [], false, length, replicate, ◌==◌, ℕ, List, IfOk, IsTrue, Some, None};
-ghost use Rattle.x7_engine.specs.ReadBuffer.{HoldsWithinMost, IsFull, no_room, with_words};
+ghost use Rattle.x7_engine.specs.ReadBuffer.{HoldsWithinMost, IsFull, dropping, no_room, with_words};
 
 use std::alloc::Global;
 use std::marker::Model;
@@ -8,13 +8,13 @@ use x7_words::NoMemory;
 
 /// Room for one word, in place, which needs no memory.
 #[derive(Drop)]
-pub(crate) struct OneWord {
+pub(crate) struct RoomForOne {
     words: [u32; 1],
     // how many words the room has, 0 or 1
     count: usize,
 }
 
-impl Model for OneWord {
+impl Model for RoomForOne {
     ghost use Rattle.std.specs.Prelude.{◌≤◌, ℕ, List, take};
 
     ghost Value = { List ℕ };
@@ -24,12 +24,12 @@ impl Model for OneWord {
     ghost invariant = { λ s. s.count ≤ 1 };
 }
 
-impl OneWord {
+impl RoomForOne {
     /// Room without a word.
-    fn new() -> OneWord
+    fn new() -> RoomForOne
         ensures { result ≡ [] }
     {
-        OneWord {
+        RoomForOne {
             words: [0],
             count: 0,
         }
@@ -73,7 +73,7 @@ pub(crate) enum Room {
     /// Nowhere: the buffer has room for no word.
     Full,
     /// In place, for one word.
-    One(OneWord),
+    One(RoomForOne),
     /// In a vector, for the number of words given second.
     Many(Vec<u32>, usize),
 }
@@ -110,7 +110,7 @@ impl ReadBuf {
 
     /// A buffer that drops each word, and is never full.
     pub fn dropping() -> ReadBuf
-        ensures { result ≡ record { most = None; words = [] } }
+        ensures { result ≡ dropping }
     {
         ReadBuf {
             room: Room::Nothing,
@@ -129,7 +129,7 @@ impl ReadBuf {
         ensures { result ≡ record { most = Some 1; words = [] } }
     {
         ReadBuf {
-            room: Room::One(OneWord::new()),
+            room: Room::One(RoomForOne::new()),
         }
     }
 
@@ -157,16 +157,16 @@ impl ReadBuf {
     }
 
     /// A buffer never holds more words than its most. The call is for proofs alone, and does nothing.
-    pub(crate) fn holds_few(&self)
+    pub(crate) fn holds_within_most(&self)
         ensures { HoldsWithinMost self.now.most self.now.words }
     {
         // the words are what it rests on
         let _words = self.words();
     }
 
-    /// Takes a word as often as there is room, and at most `count` times. Says how often not.
-    pub(crate) fn take(&mut self, word: u32, count: u32) -> u32
-        ensures rest { result ≤ count }
+    /// Takes a word `count` times, as far as there is room. Says how often not.
+    pub(crate) fn push_times(&mut self, word: u32, count: u32) -> u32
+        ensures within { result ≤ count }
         ensures words { self.new ≡ with_words self.old (replicate (count - result) word) }
         ensures full { 0 < result → IsFull self.new }
     {
@@ -181,12 +181,12 @@ impl ReadBuf {
                 count - 1
             }
             Room::Many(words, most) => {
-                let some = (*most - words.len()).min(count as usize);
-                match words.resize(words.len() + some, word) {
+                let fitting = (*most - words.len()).min(count as usize);
+                match words.resize(words.len() + fitting, word) {
                     Ok(()) => (),
                     Err(_) => unreachable!(),
                 }
-                count - some as u32
+                count - fitting as u32
             }
         }
     }

@@ -4,9 +4,9 @@ ghost use Rattle.x7_packets.specs.History.{History};
 ghost use Rattle.x7_flow.specs.Standing.{FramesFit, FramesStandFor, HaveDue, read_entry, words_due};
 ghost use Rattle.x7_engine.specs.Readout.{GaveWordsDue, GotAllBut, MayGive};
 ghost use Rattle.x7_engine.specs.ReadBuffer.{HoldsWithinMost, IsFull};
-ghost use Rattle.x7_engine.specs.Ready.{AreReady, RestsAtStop};
+ghost use Rattle.x7_engine.specs.Ready.{AreReady, HasNoneDueAtStop};
 ghost use Rattle.x7_engine.specs.Standing.{due_count};
-ghost use Rattle.x7_engine.specs.Entering.{AreAnswer, EntersAt, OfHistory, change_of, read_entered};
+ghost use Rattle.x7_engine.specs.Entering.{AreReadBy, EntersAt, OfHistory, change_of, read_entered};
 
 use crate::due::Due;
 use crate::read_buffer::ReadBuf;
@@ -15,7 +15,7 @@ use x7_flow::{Frames, reads_frames};
 use x7_part::Part;
 
 /// How many words are due.
-pub(crate) fn count_of(due: Due) -> u32
+pub(crate) fn due_count(due: Due) -> u32
     ensures { result ≡ due_count due }
 {
     match due {
@@ -55,10 +55,10 @@ impl Registers {
     pub(crate) fn read(&mut self, part: &Part, register: u8, count: u32)
         requires ready { AreReady part.now self.old }
         requires some { 0 < count }
-        ensures rests { RestsAtStop part.now self.new }
+        ensures none_due_at_stop { HasNoneDueAtStop part.now self.new }
         ensures counts { (n : ℕ) → counted_in self.new.stop n ≡ n }
         ensures stands { EntersAt (change_of part.now self.old self.new) (read_entered register count) }
-        ensures reads { OfHistory part.now (registers_in self.old) (λ kept h place. AreAnswer part.now kept h (read_entry register count place) self.new.due) }
+        ensures reads { OfHistory part.now (registers_in self.old) (λ kept h place. AreReadBy part.now kept h (read_entry register count place) self.new.due) }
     {
         if !reads_frames(self.settings(), register, count) {
             self.due = Due::Same(self.read_value(part, register), count);
@@ -78,7 +78,7 @@ impl Registers {
         match self.due {
             Due::Nothing => (),
             Due::Same(word, count) => {
-                let left = read.take(word, count);
+                let left = read.push_times(word, count);
                 self.due = Due::Same(word, left);
             }
             Due::Frames(count) => {
@@ -96,7 +96,7 @@ impl Registers {
         ensures gave { GaveWordsDue (change_of part.now self.old self.new) read.old read.new }
     {
         self.give_due(part, read);
-        read.holds_few();
-        count_of(self.due) == 0
+        read.holds_within_most();
+        due_count(self.due) == 0
     }
 }

@@ -9,24 +9,24 @@ ghost use Rattle.x7_flow.specs.Settings.{AreSettingsAfter};
 ghost use Rattle.x7_flow.specs.Standing.{FramesFit, FramesStandFor, word_to};
 ghost use Rattle.x7_flow.specs.Words.{TakesWords, count_taken};
 ghost use Rattle.x7_crc.specs.RunningCheck.{executed_after};
-ghost use Rattle.x7_engine.specs.Ready.{AreReady, LeavesBytes, LeavesDue, RestsAtStop};
+ghost use Rattle.x7_engine.specs.Ready.{AreReady, LeavesBytes, LeavesDue, HasNoneDueAtStop};
 ghost use Rattle.x7_engine.specs.Standing.{counted_in, due_count};
 ghost use Rattle.x7_engine.specs.State.{last_counted};
-ghost use Rattle.x7_engine.specs.Stop.{why_by_access, why_by_frames, stop_by};
+ghost use Rattle.x7_engine.specs.Stop.{why_by_access, why_by_frames, stop_of_refused};
 ghost use Rattle.x7_engine.specs.declared.kept.Kept.{Kept as KeptData};
 ghost use Rattle.x7_engine.specs.Taken.{TookFirst, TookWords, TookWrite};
 ghost use Rattle.x7_engine.specs.Targets.{target_number};
 ghost use Rattle.x7_engine.specs.Entering.{AreRead, change_of, Enters, EntersAt, EntersIf, OfHistory, ReadsIf, RunEnters, RunReads, step_entered, up_to_stop, word_entered};
 
 use crate::clock::Clock;
-use crate::controls::{Controls, masked};
+use crate::controls::{Controls, masked_word};
 use crate::due::Due;
 use crate::fault::Fault;
-use crate::kept::{Kept, is_a_fallback};
+use crate::kept::{Kept, is_fallback};
 use crate::progress::{Progress, is_same_idcode};
-use crate::stop::Stop;
+use crate::stop::StopCause;
 use crate::target::{PlainNumber, Target};
-use crate::words::Words;
+use crate::words::{COMMAND_BITS, Words};
 use x7_crc::{executed, is_command};
 use x7_flow::{FrameSettings, Frames};
 use x7_packets::{Cut, Step};
@@ -35,19 +35,20 @@ use x7_pipeline::RunFault;
 use x7_regs::{Attempt, Command, Kind, Reg, has_dec};
 use x7_words::word_of;
 
-/// How many of the bytes taken end words that count, after a stop or none.
-fn counted(stop: Option<Stop>, taken: usize) -> usize
+/// The last byte whose access counts, where `taken` bytes are taken: all do but one at which the watchdog fires, whose
+/// word isn't executed.
+fn counted_in(stop: Option<StopCause>, taken: usize) -> usize
     ensures value { result ≡ counted_in stop taken }
     ensures within { result ≤ taken }
 {
     match stop {
-        Some(Stop::Fault(Fault::Watchdog)) => taken.saturating_sub(1),
+        Some(StopCause::Fault(Fault::Watchdog)) => taken.saturating_sub(1),
         _ => taken,
     }
 }
 
 /// How many of the words looked at were taken: not the last one, where it is refused.
-fn taken_of(count: usize, refused: Option<RunFault>) -> usize
+fn words_before(count: usize, refused: Option<RunFault>) -> usize
     ensures value { result ≡ count_taken count refused }
     ensures within { result ≤ count }
 {
@@ -58,19 +59,19 @@ fn taken_of(count: usize, refused: Option<RunFault>) -> usize
 }
 
 /// The stop by a refused word, copy or read of frame data.
-pub(crate) fn stop_of_refused(fault: RunFault) -> Stop
-    ensures value { result ≡ stop_by fault }
+pub(crate) fn stop_of_refused(fault: RunFault) -> StopCause
+    ensures value { result ≡ stop_of_refused fault }
     ensures counts { (n : ℕ) → last_counted result n ≡ n }
 {
     match fault {
-        RunFault::Address(far) => Stop::Fault(Fault::Address(far)),
-        RunFault::Overrun => Stop::Fault(Fault::Overrun),
-        RunFault::Multi => Stop::Fault(Fault::Multi),
+        RunFault::Address(far) => StopCause::Fault(Fault::Address(far)),
+        RunFault::Overrun => StopCause::Fault(Fault::Overrun),
+        RunFault::Multi => StopCause::Fault(Fault::Multi),
     }
 }
 
 /// Why a written word stops the device: by its register, or else because the frames refuse it.
-fn first_of(why: Option<Stop>, refused: Option<RunFault>) -> Option<Stop>
+fn first_cause(why: Option<StopCause>, refused: Option<RunFault>) -> Option<StopCause>
     ensures value { result ≡ option_or why (why_by_frames refused) }
     ensures counts { (n : ℕ) → counted_in why n ≡ n → counted_in result n ≡ n }
 {
@@ -81,17 +82,19 @@ fn first_of(why: Option<Stop>, refused: Option<RunFault>) -> Option<Stop>
     }
 }
 
-/// The registers of a device, its clock, what stopped it, its frames, and the words
-/// of a read that are still to be read out.
+/// The registers of a device, its clock, what stopped it, its frames, and the words of the last read that are still to
+/// be given.
 #[derive(Drop)]
 pub(crate) struct Registers {
     pub(crate) words: Words,
     pub(crate) controls: Controls,
     pub(crate) progress: Progress,
+    // what began the present boot attempt
     pub(crate) kind: Kind,
+    // the boot attempt before, if there was one
     pub(crate) before: Option<Attempt>,
     pub(crate) clock: Clock,
-    pub(crate) stop: Option<Stop>,
+    pub(crate) stop: Option<StopCause>,
     pub(crate) due: Due,
     pub(crate) frames: Frames,
 }
@@ -112,7 +115,7 @@ impl Registers {
             progress: Progress::new(),
             kind: kept.kind,
             before: kept.before,
-            clock: Clock::new(kept.timer, is_a_fallback(kept.kind)),
+            clock: Clock::new(kept.timer, is_fallback(kept.kind)),
             stop: None,
             due: Due::Nothing,
             frames,
@@ -131,14 +134,14 @@ impl Registers {
         self.progress = Progress::new();
         self.kind = kept.kind;
         self.before = kept.before;
-        self.clock = Clock::new(kept.timer, is_a_fallback(kept.kind));
+        self.clock = Clock::new(kept.timer, is_fallback(kept.kind));
         self.stop = None;
         self.due = Due::Nothing;
         self.frames.reset();
     }
 
     /// What stopped the device.
-    pub(crate) fn stop(&self) -> Option<Stop>
+    pub(crate) fn stop(&self) -> Option<StopCause>
         ensures { result ≡ self.now.stop }
     {
         self.stop
@@ -148,7 +151,7 @@ impl Registers {
     pub(crate) fn command(&self) -> u8
         ensures { (part : PartData) (kept : KeptData) (h : History) (n : ℕ) → RegistersStandFor part kept (registers_in self.now) h n → result ≡ command_held h }
     {
-        (self.words.held(Reg::Cmd) & 31) as u8
+        (self.words.held(Reg::Cmd) & COMMAND_BITS) as u8
     }
 
     /// What decides whether an access concerns frames.
@@ -164,31 +167,38 @@ impl Registers {
     }
 
     /// Why a written word, which executes a command or none, stops the device by its register alone.
-    fn why_of_write(&self, part: &Part, reg: Reg, word: u32, executed: Option<u8>) -> Option<Stop>
+    fn why_by_write(
+        &self,
+        part: &Part,
+        reg: Reg,
+        word: u32,
+        executed: Option<u8>,
+    ) -> Option<StopCause>
         ensures value { OfHistory part.now (registers_in self.now) (λ kept h n. executed ≡ executed_after h reg word → result ≡ why_by_access part.now kept h (word_to reg word)) }
         ensures counts { (n : ℕ) → counted_in result n ≡ n }
     {
         let idcode = part.idcode();
         let Progress { check, matched, .. } = self.progress;
-        let unmatched = Some(Stop::Fault(Fault::Id {
+        let unmatched = Some(StopCause::Fault(Fault::Id {
             want: idcode,
             got: 0,
         }));
         match reg {
-            Reg::Crc if word != check => Some(Stop::Fault(Fault::Crc {
+            Reg::Crc if word != check => Some(StopCause::Fault(Fault::Crc {
                 want: check,
                 got: word,
             })),
             Reg::Far | Reg::Cmd if is_command(Command::Start, executed) && !matched => unmatched,
             Reg::Fdri if !matched => unmatched,
             Reg::Mfwr if !matched => unmatched,
-            Reg::Cmd if is_command(Command::Iprog, executed) && !is_a_fallback(self.kind) => Some(
-                Stop::Iprog,
+            Reg::Cmd if is_command(Command::Iprog, executed) && !is_fallback(self.kind) => Some(
+                StopCause::Iprog,
             ),
-            Reg::Ctl0 if has_dec(masked(self.controls.ctl0, self.words.held(Reg::Mask), word)) =>
-                Some(Stop::Fault(Fault::Encrypted)),
-            Reg::Cbc => Some(Stop::Fault(Fault::Encrypted)),
-            Reg::Idcode if !is_same_idcode(idcode, word) => Some(Stop::Fault(Fault::Id {
+            Reg::Ctl0
+                if has_dec(masked_word(self.controls.ctl0, self.words.held(Reg::Mask), word)) =>
+                Some(StopCause::Fault(Fault::Encrypted)),
+            Reg::Cbc => Some(StopCause::Fault(Fault::Encrypted)),
+            Reg::Idcode if !is_same_idcode(idcode, word) => Some(StopCause::Fault(Fault::Id {
                 want: idcode,
                 got: word,
             })),
@@ -204,7 +214,7 @@ impl Registers {
         let idcode = part.idcode();
         let settings = self.settings();
         let executed = executed(settings.command_code, reg, word);
-        let why = self.why_of_write(part, reg, word, executed);
+        let why = self.why_by_write(part, reg, word, executed);
         let mask = self.words.held(Reg::Mask);
         let cor0 = self.words.held(Reg::Cor0);
         let taken = self.progress.write(idcode, reg, word, executed);
@@ -212,7 +222,7 @@ impl Registers {
         self.words.write(reg.number(), word);
         self.clock.write(executed, taken, cor0, reg, word);
         let refused = self.frames.write(settings, reg, word, part);
-        self.stop = first_of(why, refused);
+        self.stop = first_cause(why, refused);
     }
 
     /// Takes a word written to a register in which it stays, and is folded.
@@ -234,14 +244,14 @@ impl Registers {
         }
     }
 
-    /// Takes bytes before the word that they complete, up to the one at which
-    /// the watchdog fires. Says how many are left.
+    /// Takes bytes as startup and the watchdog count them, before the word that they complete: up to the one at which the
+    /// watchdog fires. Says how many are left.
     #[inline(always)]
-    pub(crate) fn tick(&mut self, part: &Part, count: usize) -> usize
+    pub(crate) fn take_bytes(&mut self, part: &Part, count: usize) -> usize
         requires going { self.old.stop ≡ None }
         ensures left { LeavesBytes count result self.new }
         ensures some { 0 < count → result < count }
-        ensures fired { (why : Stop) → self.new.stop ≡ Some why → (why ≡ Stop.Fault Fault.Watchdog) × (result < count) }
+        ensures fired { (why : StopCause) → self.new.stop ≡ Some why → (why ≡ StopCause.Fault Fault.Watchdog) × (result < count) }
         ensures due { self.new.due ≡ self.old.due }
         ensures frames { self.new.frames ≡ self.old.frames }
         ensures stands { Enters (change_of part.now self.old self.new) (λ n h. h) (count - result) }
@@ -249,7 +259,7 @@ impl Registers {
         let Some(taken) = self.clock.bytes(part, count) else {
             return 0;
         };
-        self.stop = Some(Stop::Fault(Fault::Watchdog));
+        self.stop = Some(StopCause::Fault(Fault::Watchdog));
         count - taken
     }
 
@@ -262,7 +272,7 @@ impl Registers {
         ensures stands { EntersIf (0 < count) (change_of part.now self.old self.new)
             (up_to_stop (registers_in self.new) (word_entered (target_number target) word count) (count - result)) (count - result) }
     {
-        let left = self.tick(part, count);
+        let left = self.take_bytes(part, count);
         if self.stop.is_some() {
             return left;
         }
@@ -277,9 +287,9 @@ impl Registers {
         requires whole { length bytes.now % 4 ≡ 0 }
         ensures { TookWords (change_of part.now self.old self.new) plain.register bytes.now result }
     {
-        let left = self.tick(part, bytes.len());
+        let left = self.take_bytes(part, bytes.len());
         let taken = bytes.len() - left;
-        let whole = counted(self.stop, taken) / 4 * 4;
+        let whole = counted_in(self.stop, taken) / 4 * 4;
         let prefix = &bytes[..whole];
         self.progress.pass_all(plain.register, prefix);
         self.words.pass_all(plain.register, prefix);
@@ -299,7 +309,7 @@ impl Registers {
         let (count, refused) = self
             .frames
             .write_bytes(settings, reg, &bytes[..before], part);
-        let taken = taken_of(count, refused) * 4;
+        let taken = words_before(count, refused) * 4;
         let prefix = &bytes[..taken];
         // No firing: the bytes before one are all that was looked at.
         let _ = self.clock.bytes(part, taken);
@@ -309,7 +319,7 @@ impl Registers {
     }
 
     /// Takes those of a payload's words that can be taken at once, and says how many bytes these are.
-    fn at_once(&mut self, part: &Part, reg: Reg, bytes: &[u8]) -> usize
+    fn words_at_once(&mut self, part: &Part, reg: Reg, bytes: &[u8]) -> usize
         requires ready { AreReady part.now self.old }
         ensures { TookFirst (change_of part.now self.old self.new) (number_of reg) bytes.now result }
     {
@@ -320,7 +330,7 @@ impl Registers {
     }
 
     /// Takes payload words one by one up to a byte that stops the device, and says how many bytes these are.
-    fn each(&mut self, part: &Part, reg: Reg, bytes: &[u8]) -> usize
+    fn words_one_by_one(&mut self, part: &Part, reg: Reg, bytes: &[u8]) -> usize
         requires ready { AreReady part.now self.old }
         requires whole { length bytes.now % 4 ≡ 0 }
         ensures { TookWords (change_of part.now self.old self.new) (number_of reg) bytes.now result }
@@ -346,25 +356,25 @@ impl Registers {
     {
         match target {
             Target::Effective(reg) => {
-                let taken = self.at_once(part, reg, bytes);
-                taken + self.each(part, reg, &bytes[taken..])
+                let taken = self.words_at_once(part, reg, bytes);
+                taken + self.words_one_by_one(part, reg, &bytes[taken..])
             }
             Target::Plain(plain) => self.pass_all(part, plain, bytes),
         }
     }
 
     /// Takes a word in a header's place.
-    fn head(&mut self, part: &Part, step: Step)
+    fn take_step(&mut self, part: &Part, step: Step)
         requires ready { AreReady part.now self.old }
         requires header { IsHeaderStep step }
-        ensures rests { RestsAtStop part.now self.new }
+        ensures none_due_at_stop { HasNoneDueAtStop part.now self.new }
         ensures counts { (n : ℕ) → counted_in self.new.stop n ≡ n }
         ensures stands { EntersAt (change_of part.now self.old self.new) (λ place h. entered place step h) }
         ensures reads { OfHistory part.now (registers_in self.old) (λ kept h place. AreRead part.now kept h (entered place step h) self.new.due) }
     {
         match step {
             Step::Read(register, count) if count > 0 => self.read(part, register, count),
-            Step::Bad(word) => self.stop = Some(Stop::Fault(Fault::Packet(word))),
+            Step::Bad(word) => self.stop = Some(StopCause::Fault(Fault::Packet(word))),
             _ => (),
         }
     }
@@ -375,16 +385,16 @@ impl Registers {
         requires ready { AreReady part.now self.old }
         requires header { IsHeaderStep step }
         ensures left { LeavesBytes count result self.new }
-        ensures rests { RestsAtStop part.now self.new }
+        ensures none_due_at_stop { HasNoneDueAtStop part.now self.new }
         ensures stands { EntersIf (0 < count) (change_of part.now self.old self.new)
             (up_to_stop (registers_in self.new) (step_entered step count) (count - result)) (count - result) }
         ensures reads { ReadsIf (0 < count) (change_of part.now self.old self.new) (up_to_stop (registers_in self.new) (step_entered step count) (count - result)) }
     {
-        let left = self.tick(part, count);
+        let left = self.take_bytes(part, count);
         if self.stop.is_some() {
             return left;
         }
-        self.head(part, step);
+        self.take_step(part, step);
         0
     }
 
@@ -397,14 +407,14 @@ impl Registers {
         requires holds { HoldsRun run count }
         ensures left { LeavesBytes count result self.new }
         ensures quiet { HasNoWord run.entry → due_count self.new.due ≡ 0 }
-        ensures rests { RestsAtStop part.now self.new }
+        ensures none_due_at_stop { HasNoneDueAtStop part.now self.new }
         ensures stands { RunEnters run.entry count (change_of part.now self.old self.new) (count - result) }
         ensures reads { RunReads run.entry count (change_of part.now self.old self.new) (count - result) }
     {
         match run {
-            Cut::Need => self.tick(part, count),
-            Cut::Skip(_) => self.tick(part, count),
-            Cut::Sync => self.tick(part, count),
+            Cut::Need => self.take_bytes(part, count),
+            Cut::Skip(_) => self.take_bytes(part, count),
+            Cut::Sync => self.take_bytes(part, count),
             Cut::Head(_, step) => self.header(part, step, count),
             Cut::Word(register, word) => self.word(part, Target::numbered(register), word, count),
             Cut::Body(register, bytes) => bytes.len()

@@ -21,12 +21,15 @@ pub enum End {
 pub struct Regs {
     /// The bytes taken since the reset.
     pub taken: u64,
+    /// Where the bytes taken end.
     pub end: End,
     /// The phase of startup, 0 to 7.
     pub phase: u8,
+    /// The lines DONE, GTS and GWE.
     pub lines: Lines,
     /// The running check; at a fault `Crc` the one that was wanted.
     pub crc: u32,
+    /// FAR as it is read; while words of frame data are due, that of the words given so far.
     pub far: u32,
     /// The low five bits of the last word written to CMD.
     pub cmd: u32,

@@ -6,7 +6,7 @@ ghost use Rattle.x7_flow.specs.Saved.{FramesBack};
 ghost use Rattle.x7_flow.specs.Standing.{FramesFit, FramesStandFor, FramesState};
 ghost use Rattle.x7_engine.specs.Kept.{on_the_bench};
 ghost use Rattle.x7_engine.specs.Standing.{RegistersStandFor, RegistersState};
-ghost use Rattle.x7_engine.specs.Undo.{registers_with, values_in, values_of};
+ghost use Rattle.x7_engine.specs.Undo.{registers_with, saved_registers_in, without_frames};
 
 use crate::clock::Clock;
 use crate::controls::Controls;
@@ -14,7 +14,7 @@ use crate::due::Due;
 use crate::kept::ON_THE_BENCH;
 use crate::progress::Progress;
 use crate::registers::Registers;
-use crate::stop::Stop;
+use crate::stop::StopCause;
 use crate::words::Words;
 use x7_part::Part;
 use x7_pipeline::Saved;
@@ -26,17 +26,19 @@ pub(crate) struct SavedRegisters {
     pub(crate) words: Words,
     pub(crate) controls: Controls,
     pub(crate) progress: Progress,
+    // what began the boot attempt
     pub(crate) kind: Kind,
+    // the boot attempt before, if there was one
     pub(crate) before: Option<Attempt>,
     pub(crate) clock: Clock,
-    pub(crate) stop: Option<Stop>,
+    pub(crate) stop: Option<StopCause>,
     pub(crate) due: Due,
 }
 
 impl SavedRegisters {
     /// The stored values of a device on the bench that took nothing.
     pub(crate) fn new() -> SavedRegisters
-        ensures stands { (part : PartData) (f : FramesState) → FramesStandFor part f [] 0 → RegistersStandFor part on_the_bench (registers_with (values_in result) f) [] 0 }
+        ensures stands { (part : PartData) (f : FramesState) → FramesStandFor part f [] 0 → RegistersStandFor part on_the_bench (registers_with (saved_registers_in result) f) [] 0 }
         ensures no_word_due { result.due ≡ Due.Nothing }
         ensures going { result.stop ≡ None }
     {
@@ -58,7 +60,7 @@ impl Registers {
 
     /// A copy of all that the registers store, except their frames.
     pub(crate) fn values(&self) -> SavedRegisters
-        ensures { values_in result ≡ values_of (registers_in self.now) }
+        ensures { saved_registers_in result ≡ without_frames (registers_in self.now) }
     {
         SavedRegisters {
             words: self.words,
@@ -76,7 +78,7 @@ impl Registers {
     pub(crate) fn restore(&mut self, part: &Part, values: &SavedRegisters, frames: &Saved)
         requires frames { FramesFit part.now self.old.frames }
         requires saved { IsSavedOf part.now frames.now }
-        ensures back { (kept : RegistersState) → values_in values.now ≡ values_of kept → FramesBack part.now frames.now self.old.frames kept.frames → registers_in self.new ≡ kept }
+        ensures back { (kept : RegistersState) → saved_registers_in values.now ≡ without_frames kept → FramesBack part.now frames.now self.old.frames kept.frames → registers_in self.new ≡ kept }
         ensures frames { FramesFit part.now self.new.frames }
     {
         self.words = values.words;

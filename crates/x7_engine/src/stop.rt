@@ -4,7 +4,7 @@ use crate::fault::Fault;
 
 /// What stopped a device.
 #[derive(Clone, Copy)]
-pub enum Stop {
+pub enum StopCause {
     /// A fault.
     Fault(Fault),
     /// An IPROG command that is obeyed.

@@ -16,48 +16,49 @@ ghost use Rattle.x7_engine.specs.declared.kept.Kept.{Kept};
 
 use crate::fault::Fault;
 use crate::registers::Registers;
-use crate::stop::Stop;
+use crate::stop::StopCause;
+use crate::words::COMMAND_BITS;
 use x7_part::Part;
 use x7_regs::{Attempt, Cause, Kind, Reg, StatParts, boot_word, reg_of, stat_word};
 
 /// Whether the stop is the fault `Crc`.
-fn is_crc(stop: Option<Stop>) -> bool
+fn is_crc_fault(stop: Option<StopCause>) -> bool
     ensures { result ≡ is_crc_fault (stop_fault stop) }
 {
     match stop {
-        Some(Stop::Fault(Fault::Crc { .. })) => true,
+        Some(StopCause::Fault(Fault::Crc { .. })) => true,
         _ => false,
     }
 }
 
 /// Whether the stop is the fault `Id`.
-fn is_id(stop: Option<Stop>) -> bool
+fn is_id_fault(stop: Option<StopCause>) -> bool
     ensures { result ≡ is_id_fault (stop_fault stop) }
 {
     match stop {
-        Some(Stop::Fault(Fault::Id { .. })) => true,
+        Some(StopCause::Fault(Fault::Id { .. })) => true,
         _ => false,
     }
 }
 
 /// What an attempt with this stop failed by, if it did.
-fn cause_in(stop: Option<Stop>) -> Option<Cause>
+fn failure_in(stop: Option<StopCause>) -> Option<Cause>
     ensures { result ≡ failure_of (stop_fault stop) false }
 {
     match stop {
-        Some(Stop::Fault(Fault::Id { .. })) => Some(Cause::Id),
-        Some(Stop::Fault(Fault::Crc { .. })) => Some(Cause::Crc),
-        Some(Stop::Fault(Fault::Watchdog)) => Some(Cause::Watchdog),
+        Some(StopCause::Fault(Fault::Id { .. })) => Some(Cause::Id),
+        Some(StopCause::Fault(Fault::Crc { .. })) => Some(Cause::Crc),
+        Some(StopCause::Fault(Fault::Watchdog)) => Some(Cause::Watchdog),
         _ => None,
     }
 }
 
 /// Whether an attempt ignored an IPROG, where one was written: a fallback does.
-fn is_ignored(kind: Kind, wrote: bool) -> bool
-    ensures { result ≡ (is_fallback kind && wrote) }
+fn ignores_iprog(kind: Kind, wrote_iprog: bool) -> bool
+    ensures { result ≡ (is_fallback kind && wrote_iprog) }
 {
     match kind {
-        Kind::Fallback => wrote,
+        Kind::Fallback => wrote_iprog,
         _ => false,
     }
 }
@@ -67,11 +68,11 @@ impl Registers {
     ghost use Rattle.x7_engine.specs.Entering.{OfHistory};
 
     /// The running check; at a fault `Crc` the one that was wanted.
-    fn check(&self) -> u32
+    fn check_shown(&self) -> u32
         ensures { (part : PartData) (kept : Kept) (h : History) (n : ℕ) → RegistersStandFor part kept (registers_in self.now) h n → result ≡ check_shown (stop_fault self.now.stop) h }
     {
         match self.stop {
-            Some(Stop::Fault(Fault::Crc { want, .. })) => want,
+            Some(StopCause::Fault(Fault::Crc { want, .. })) => want,
             _ => self.progress.check,
         }
     }
@@ -80,7 +81,7 @@ impl Registers {
     fn stat(&self, part: &Part) -> u32
         ensures { OfHistory part.now (registers_in self.now) (λ kept h n. result ≡ status_of (stat_parts part.now (stop_fault self.now.stop) (startup_progress h n) (has_ghigh h))) }
     {
-        let crc_error = is_crc(self.stop);
+        let crc_error = is_crc_fault(self.stop);
         let lines = self.clock.lines();
         stat_word(&StatParts {
             crc_error,
@@ -93,7 +94,7 @@ impl Registers {
             mode: part.mode(),
             init_b: !crc_error,
             done: lines.done,
-            id_error: is_id(self.stop),
+            id_error: is_id_fault(self.stop),
             phase: self.clock.phase(),
             bus_width: part.bus_width(),
         })
@@ -105,8 +106,8 @@ impl Registers {
     {
         Attempt {
             kind: self.kind,
-            cause: cause_in(self.stop),
-            ignored: is_ignored(self.kind, self.progress.iprog),
+            cause: failure_in(self.stop),
+            ignored: ignores_iprog(self.kind, self.progress.iprog),
         }
     }
 
@@ -123,11 +124,11 @@ impl Registers {
         ensures { OfHistory part.now (registers_in self.now) (λ kept h n. result ≡ value_owing (course_at part.now kept h n) (stop_fault self.now.stop) (frames_due self.now.due) reg) }
     {
         match reg {
-            Reg::Crc     => self.check(),
+            Reg::Crc     => self.check_shown(),
             Reg::Far     => self.far(part),
             Reg::Fdri    => 0,
             Reg::Fdro    => 0,
-            Reg::Cmd     => self.words.held(Reg::Cmd) & 31,
+            Reg::Cmd     => self.words.held(Reg::Cmd) & COMMAND_BITS,
             Reg::Ctl0    => self.controls.ctl0,
             Reg::Mask    => self.words.held(Reg::Mask),
             Reg::Stat    => self.stat(part),

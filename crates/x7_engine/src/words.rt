@@ -11,6 +11,18 @@ use crate::kept::Kept;
 use x7_regs::Reg;
 use x7_words::word_of;
 
+/// The bits of a word of CMD that are the command, bits 4 to 0 (UG470, command register).
+pub(crate) const COMMAND_BITS: u32 = 0x1F;
+
+/// The number of WBSTAR, which a reset keeps.
+const WBSTAR: usize = 16;
+
+/// The number of TIMER, which a reset keeps.
+const TIMER: usize = 17;
+
+/// The number of BSPI, which a reset keeps.
+const BSPI: usize = 31;
+
 /// The last word written to each register number; where none was, what the reset kept, or 0.
 #[derive(Clone, Copy)]
 pub(crate) struct Words {
@@ -32,14 +44,13 @@ impl Words {
         ensures { AreLastWords kept.now result.last [] }
     {
         let mut words = Words::zero();
-        // BSPI, TIMER and WBSTAR by their numbers.
-        words.last[31] = kept.bspi;
-        words.last[17] = kept.timer;
-        words.last[16] = kept.wbstar;
+        words.last[BSPI] = kept.bspi;
+        words.last[TIMER] = kept.timer;
+        words.last[WBSTAR] = kept.wbstar;
         words
     }
 
-    /// Stores a written word.
+    /// Stores a word written to a register.
     pub(crate) fn write(&mut self, register: u8, word: u32)
         requires { register < 32 }
         ensures { (kept : KeptData) (h : History) (place : ℕ) → AreLastWords kept self.old.last h → AreLastWords kept self.new.last (entry (Write register word) place ∷ h) }
@@ -54,7 +65,7 @@ impl Words {
         self.last[reg.number() as usize]
     }
 
-    /// Stores the last of written words.
+    /// Stores the last of the words written to a register, four bytes each.
     pub(crate) fn pass_all(&mut self, register: u8, bytes: &[u8])
         requires register { register < 32 }
         requires whole { length bytes.now % 4 ≡ 0 }

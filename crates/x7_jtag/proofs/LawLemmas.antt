@@ -5,10 +5,10 @@ use Rattle.std.proofs.lemmas.List.{length-take-le}
 use Rattle.std.specs.Option.{IsSome, is_some}
 use Rattle.x7_words.specs.Word.{AreBytes}
 use Rattle.x7_part.specs.Part.{PartData}
-use Rattle.x7_engine.specs.declared.stop.Stop.{Stop}
+use Rattle.x7_engine.specs.declared.stop.StopCause.{StopCause}
 use Rattle.x7_engine.specs.Kept.{on_the_bench}
 use Rattle.x7_packets.specs.History.{History}
-use Rattle.x7_engine.specs.Standing.{DeviceStandsFor, DeviceState, due_count, frames_among, frames_due, words_left}
+use Rattle.x7_engine.specs.Standing.{DeviceStandsFor, DeviceState, due_count, frames_among, frames_due, words_still_due}
 use Rattle.x7_engine.specs.State.{history_taken, reads_of, state_owing, stop_in, taken_by, taken_of}
 use Rattle.x7_engine.specs.Stop.{Stopped, stopped_at}
 use Rattle.x7_engine.proofs.FrameLemmas.{length_left}
@@ -20,7 +20,7 @@ use Rattle.x7_jtag.specs.Queue.{queue_of}
 use Rattle.x7_jtag.specs.Tap.{QueueHolds, TapStandsFor, TapState, TookOfGiven, words_taken, QueueState, QueueStandsFor}
 use Rattle.x7_jtag.proofs.TookLemmas.{reads_took}
 
-place_of : (n : ℕ) (line : Option Stop) (s : Stopped) → stopped_at n line ≡ Some s → s.place ≡ n
+place_of : (n : ℕ) (line : Option StopCause) (s : Stopped) → stopped_at n line ≡ Some s → s.place ≡ n
 place_of n None s e = absurd (let b : false ≡ true = ap is_some e in cc)
 place_of n (Some line) s e = let P : Option Stopped → ℕ = λ o. elim o as (λ x. ℕ) [ None ↦ n | Some t ↦ t.place ] in sym (ap P e)
 
@@ -53,7 +53,7 @@ due_by : (part : PartData) (k : QueueState) (d : DeviceState) (given held : List
 due_by part k d given held out s =
     let h : QueueHolds part k d (queue_of given held out) = s.holds in
     let reads : List ℕ = reads_of part on_the_bench h.bytes in
-    let left : List ℕ = words_left part (history_taken part on_the_bench h.bytes) d.registers.due in
+    let left : List ℕ = words_still_due part (history_taken part on_the_bench h.bytes) d.registers.due in
     let count : length reads ≡ length h.device.due_are.given + due_count d.registers.due = ap length h.device.due_are.all ∙ length-append h.device.due_are.given left ∙ ap (λ n. length h.device.due_are.given + n) (length_left part (history_taken part on_the_bench h.bytes) d.registers.due) in
     let whole : length (words_read_out part given) ≡ length reads = ap length (reads_took part given h.bytes h.took) in
     let taken : length (words_taken part d h.bytes) ≡ length reads - due_count d.registers.due = length-take-le (length reads - due_count d.registers.due) reads (omega arith) in

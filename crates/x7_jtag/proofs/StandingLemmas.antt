@@ -12,7 +12,7 @@ use Rattle.x7_engine.specs.Kept.{on_the_bench}
 use Rattle.x7_engine.specs.ReadBuffer.{HoldsWithinMost, IsFull, IsFullBy, ReadBufState}
 use Rattle.x7_engine.specs.ReadBuffer.{with_words as read_with}
 use Rattle.x7_engine.specs.Past.{Answers, past_of}
-use Rattle.x7_engine.specs.Standing.{DeviceStandsFor, DeviceState, NoWordDue, due_count, taken_in, words_left}
+use Rattle.x7_engine.specs.Standing.{DeviceStandsFor, DeviceState, NoWordDue, due_count, taken_in, words_still_due}
 use Rattle.x7_engine.specs.State.{history_taken, reads_of, stop_in}
 use Rattle.x7_engine.proofs.FrameLemmas.{length_left}
 use Rattle.x7_jtag.specs.Port.{words_read_out}
@@ -283,7 +283,7 @@ reads_none part = refl
 pub resets : (part : PartData) (n : QueueState) (d e : DeviceState) (part_was : PartData) → DeviceStandsFor part_was on_the_bench false e [] → part_was ≡ part → n.held ≡ [] → n.left ≡ 0 → QueueStandsFor part n e empty
 resets part n d e part_was s p h z =
     let t : DeviceStandsFor part on_the_bench false e [] = subst (λ (q : PartData). DeviceStandsFor q on_the_bench false e []) p s in
-    let due : due_count e.registers.due ≡ 0 = omega (arith, sym (length_left part (history_taken part on_the_bench []) e.registers.due), ap length t.due_are.all, length-append t.due_are.given (words_left part (history_taken part on_the_bench []) e.registers.due), ap length (reads_none part)) in
+    let due : due_count e.registers.due ≡ 0 = omega (arith, sym (length_left part (history_taken part on_the_bench []) e.registers.due), ap length t.due_are.all, length-append t.due_are.given (words_still_due part (history_taken part on_the_bench []) e.registers.due), ap length (reads_none part)) in
     record {
       holds = record {
         bytes = [];

@@ -11,7 +11,7 @@ use Rattle.x7_engine.specs.declared.fed.Fed.TheVariants as fed
 use Rattle.x7_engine.specs.Kept.{on_the_bench}
 use Rattle.x7_engine.specs.ReadBuffer.{ReadBufState}
 use Rattle.x7_engine.specs.Past.{Answers, past_of}
-use Rattle.x7_engine.specs.Standing.{DeviceState, DeviceStandsFor, NoWordDue, taken_in, reads_given, words_left}
+use Rattle.x7_engine.specs.Standing.{DeviceState, DeviceStandsFor, NoWordDue, taken_in, reads_given, words_still_due}
 use Rattle.x7_engine.specs.State.{history_taken, reads_of, stop_in}
 use Rattle.x7_engine.specs.Stop.{Stopped}
 use Rattle.x7_engine.proofs.FeedLemmas.{given_all}
@@ -146,7 +146,7 @@ pub new_plays : (part : PartData) (d : DeviceState) (reads : List ℕ) → Devic
 new_plays part d reads s e =
     let h = history_taken part on_the_bench [] in
     let none : length (reads_of part on_the_bench []) ≡ 0 = refl in
-    let due : NoWordDue d = omega (arith, none, ap length s.due_are.all, length-append s.due_are.given (words_left part h d.registers.due), length_left part h d.registers.due) in (
+    let due : NoWordDue d = omega (arith, none, ap length s.due_are.all, length-append s.due_are.given (words_still_due part h d.registers.due), length_left part h d.registers.due) in (
       record {
         taken = [];
         left = [];

@@ -18,8 +18,8 @@ use Rattle.x7_memory.specs.Plan.{IsPlanFor, PlanData}
 use Rattle.x7_planner.specs.FullStream.{full_stream}
 use Rattle.x7_engine.specs.State.{state_of, stop_in, why_of}
 use Rattle.x7_engine.specs.declared.kept.Kept.{Kept}
-use Rattle.x7_engine.specs.declared.stop.Stop.{Stop}
-use Rattle.x7_engine.specs.declared.stop.Stop.TheVariants as stop
+use Rattle.x7_engine.specs.declared.stop.StopCause.{StopCause}
+use Rattle.x7_engine.specs.declared.stop.StopCause.TheVariants as stop
 use Rattle.x7_engine.specs.Value.{failure_of}
 use Rattle.x7_regs.specs.declared.boot_status.Cause.{Cause}
 use Rattle.x7_effects.specs.Played.{PlaysFull, resting_after}
@@ -68,12 +68,12 @@ fails_not : (o : Option Cause) → failed_by o ≡ Some ending.Started → ⊥
 fails_not None e = absurd (cc)
 fails_not (Some c) e = absurd (cc)
 
-stops_not : (o : Option Stop) → ending_by o ≡ Some ending.Started → ⊥
+stops_not : (o : Option StopCause) → ending_by o ≡ Some ending.Started → ⊥
 stops_not None e = fails_not (failure_of None false) e
 stops_not (Some stop.Iprog) e = absurd (cc)
 stops_not (Some (stop.Fault f)) e = fails_not (failure_of (Some f) false) e
 
-seven : (b : Bool) (o : Option Stop) → (if b then Some ending.Started else ending_by o) ≡ Some ending.Started → b ≡ true
+seven : (b : Bool) (o : Option StopCause) → (if b then Some ending.Started else ending_by o) ≡ Some ending.Started → b ≡ true
 seven true o e = refl
 seven false o e = absurd (stops_not o e)
 

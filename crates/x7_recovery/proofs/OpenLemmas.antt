@@ -26,7 +26,7 @@ use Rattle.x7_engine.specs.State.{history_by, kept_after, why_of, stop_in}
 use Rattle.x7_engine.specs.Stop.{Stopped, stop_fault, why_at, stop_of, stopped_at}
 use Rattle.x7_engine.specs.Value.{failure_of}
 use Rattle.x7_engine.specs.declared.kept.Kept.{Kept}
-use Rattle.x7_engine.specs.declared.stop.Stop.TheVariants as stop
+use Rattle.x7_engine.specs.declared.stop.StopCause.TheVariants as stop
 use Rattle.x7_engine.proofs.ClockLemmas.{stop_of_access}
 use Rattle.x7_engine.proofs.FallbackLemmas.{fallback_off}
 use Rattle.x7_engine.proofs.RestLemmas.{history_on, rest_on}

@@ -9,7 +9,7 @@ use Rattle.x7_part.specs.Part.{PartData}
 use Rattle.x7_memory.specs.FrameMap.{AreSame, FrameMap}
 use Rattle.x7_memory.specs.Frames.{frame_at}
 use Rattle.x7_engine.specs.declared.regs.Regs.{Regs}
-use Rattle.x7_report.specs.Frames.{frames_text, frame_text_if, lines_text, addresses_shown}
+use Rattle.x7_report.specs.Frames.{frames_text, frame_text_if, frame_lines_text, addresses_shown}
 use Rattle.x7_report.specs.Reads.{reads_text}
 use Rattle.x7_report.specs.Reports.{report_text}
 use Rattle.x7_report.specs.State.{state_text}
@@ -19,26 +19,26 @@ use Rattle.x7_report.proofs.ReportLemmas.{frames_same}
 pub record Sent (first now : Option (List ℕ)) (memory : FrameMap) (fars rest : List ℕ) : Type 0 where
   pub done : List ℕ
   pub put : now ≡ appended first done
-  pub lines : lines_text memory fars ≡ done ++ lines_text memory rest
+  pub lines : frame_lines_text memory fars ≡ done ++ frame_lines_text memory rest
 
 pub none_sent : (first : Option (List ℕ)) (memory : FrameMap) (fars : List ℕ) → Sent first first memory fars fars
 none_sent first memory fars = record { done = []; put = sym (appended_nil first); lines = refl }
 
-parted : (memory : FrameMap) (k : ℕ) (rest group more : List ℕ) → group ≡ take k rest → more ≡ drop k rest → lines_text memory rest ≡ lines_text memory group ++ lines_text memory more
+parted : (memory : FrameMap) (k : ℕ) (rest group more : List ℕ) → group ≡ take k rest → more ≡ drop k rest → frame_lines_text memory rest ≡ frame_lines_text memory group ++ frame_lines_text memory more
 parted memory k rest group more e f =
-    ap (lines_text memory) (sym (take-append-drop k rest)) ∙ flat_map-append (λ far. frame_text_if far (memory far)) (take k rest) (drop k rest)
-    ∙ ap (λ t. lines_text memory t ++ lines_text memory (drop k rest)) (sym e) ∙ ap (λ t. lines_text memory group ++ lines_text memory t) (sym f)
+    ap (frame_lines_text memory) (sym (take-append-drop k rest)) ∙ flat_map-append (λ far. frame_text_if far (memory far)) (take k rest) (drop k rest)
+    ∙ ap (λ t. frame_lines_text memory t ++ frame_lines_text memory (drop k rest)) (sym e) ∙ ap (λ t. frame_lines_text memory group ++ frame_lines_text memory t) (sym f)
 
 module _ (first now : Option (List ℕ)) (memory : FrameMap) (fars rest group more : List ℕ) (k : ℕ) (g : Sent first now memory fars rest) (e : group ≡ take k rest) (f : more ≡ drop k rest) where
-  pub more_sent : (next : Option (List ℕ)) → next ≡ appended now (lines_text memory group) → Sent first next memory fars more
+  pub more_sent : (next : Option (List ℕ)) → next ≡ appended now (frame_lines_text memory group) → Sent first next memory fars more
   more_sent next p = record {
-    done = g.done ++ lines_text memory group;
-    put = p ∙ ap (λ t. appended t (lines_text memory group)) g.put ∙ appended_appended first g.done (lines_text memory group);
-    lines = g.lines ∙ ap (λ t. g.done ++ t) (parted memory k rest group more e f) ∙ sym (append_assoc g.done (lines_text memory group) (lines_text memory more));
+    done = g.done ++ frame_lines_text memory group;
+    put = p ∙ ap (λ t. appended t (frame_lines_text memory group)) g.put ∙ appended_appended first g.done (frame_lines_text memory group);
+    lines = g.lines ∙ ap (λ t. g.done ++ t) (parted memory k rest group more e f) ∙ sym (append_assoc g.done (frame_lines_text memory group) (frame_lines_text memory more));
   }
 
-  pub group_failed : (next : Option (List ℕ)) → PutsPrefix now (lines_text memory group) next → PutsPrefix first (lines_text memory fars) next
-  group_failed next p = rw (g.lines, parted memory k rest group more e f) (prefix_more first now next g.done (lines_text memory group) (lines_text memory more) g.put p)
+  pub group_failed : (next : Option (List ℕ)) → PutsPrefix now (frame_lines_text memory group) next → PutsPrefix first (frame_lines_text memory fars) next
+  group_failed next p = rw (g.lines, parted memory k rest group more e f) (prefix_more first now next g.done (frame_lines_text memory group) (frame_lines_text memory more) g.put p)
 
 -- a text that was put after a head
 pub after_head : (first mid new : Option (List ℕ)) (head lines : List ℕ) → mid ≡ appended first head → new ≡ appended mid lines → new ≡ appended first (head ++ lines)
@@ -64,35 +64,35 @@ after prefix a b c d =
     ap (λ t. t ++ c ++ d) (append_assoc prefix a b) ∙ ap (λ t. t ++ d) (append_assoc prefix (a ++ b) c) ∙ append_assoc prefix (a ++ b ++ c) d
 
 pub play_is : (p q : PartData) (state : Regs) (reads : List ℕ) (frames : List (List ℕ)) (n : FrameMap) (head fars : List ℕ) → p ≡ q → AreSame (frame_at q frames) n → fars ≡ addresses_shown (frame_at p frames) (addresses_in p) →
-    head ≡ state_text q.name state ++ reads_text reads ++ codes "frames " ++ decimal (length fars) ++ codes "\n" → head ++ lines_text (frame_at p frames) fars ≡ report_text q state reads n
+    head ≡ state_text q.name state ++ reads_text reads ++ codes "frames " ++ decimal (length fars) ++ codes "\n" → head ++ frame_lines_text (frame_at p frames) fars ≡ report_text q state reads n
 unfolding report_text frames_text
 play_is p q state reads frames n head fars d same e h =
     let prefix = state_text q.name state ++ reads_text reads in
     let m = frame_at p frames in
-    ap (λ (t : List ℕ). t ++ lines_text m fars) h
-    ∙ after prefix (codes "frames ") (decimal (length fars)) (codes "\n") (lines_text m fars)
-    ∙ ap (λ (t : List ℕ). prefix ++ (codes "frames " ++ decimal (length t) ++ codes "\n" ++ lines_text m t)) e
+    ap (λ (t : List ℕ). t ++ frame_lines_text m fars) h
+    ∙ after prefix (codes "frames ") (decimal (length fars)) (codes "\n") (frame_lines_text m fars)
+    ∙ ap (λ (t : List ℕ). prefix ++ (codes "frames " ++ decimal (length t) ++ codes "\n" ++ frame_lines_text m t)) e
     ∙ ap (λ (x : PartData). prefix ++ frames_text (frame_at x frames) (addresses_in x)) d
     ∙ ap (λ (t : List ℕ). prefix ++ t) (frames_same (frame_at q frames) n (addresses_in q) same)
 
 -- ---- a report that is written
 
 joined : (p q : PartData) (frames memory : List (List ℕ)) (head kept fars places : List ℕ) → p ≡ q → frames ≡ memory → head ≡ kept → fars ≡ places →
-    head ++ lines_text (frame_at p frames) fars ≡ kept ++ lines_text (frame_at q memory) places
+    head ++ frame_lines_text (frame_at p frames) fars ≡ kept ++ frame_lines_text (frame_at q memory) places
 joined p q frames memory head kept fars places a b e f =
-    ap (λ (t : List ℕ). t ++ lines_text (frame_at p frames) fars) e ∙ ap (λ (x : PartData). kept ++ lines_text (frame_at x frames) fars) a
-    ∙ ap (λ (x : List (List ℕ)). kept ++ lines_text (frame_at q x) fars) b ∙ ap (λ (x : List ℕ). kept ++ lines_text (frame_at q memory) x) f
+    ap (λ (t : List ℕ). t ++ frame_lines_text (frame_at p frames) fars) e ∙ ap (λ (x : PartData). kept ++ frame_lines_text (frame_at x frames) fars) a
+    ∙ ap (λ (x : List (List ℕ)). kept ++ frame_lines_text (frame_at q x) fars) b ∙ ap (λ (x : List ℕ). kept ++ frame_lines_text (frame_at q memory) x) f
 
 pub report_failed : (first mid new : Option (List ℕ)) (p q : PartData) (frames memory : List (List ℕ)) (head kept fars places text : List ℕ) → p ≡ q → frames ≡ memory → head ≡ kept → fars ≡ places →
-    kept ++ lines_text (frame_at q memory) places ≡ text → mid ≡ appended first head → PutsPrefix mid (lines_text (frame_at p frames) fars) new → PutsPrefix first text new
+    kept ++ frame_lines_text (frame_at q memory) places ≡ text → mid ≡ appended first head → PutsPrefix mid (frame_lines_text (frame_at p frames) fars) new → PutsPrefix first text new
 report_failed first mid new p q frames memory head kept fars places text a b e f t put failed =
-    let whole : head ++ lines_text (frame_at p frames) fars ≡ text = joined p q frames memory head kept fars places a b e f ∙ t in
-    rw (← whole) (lines_failed first mid new head (lines_text (frame_at p frames) fars) put failed)
+    let whole : head ++ frame_lines_text (frame_at p frames) fars ≡ text = joined p q frames memory head kept fars places a b e f ∙ t in
+    rw (← whole) (lines_failed first mid new head (frame_lines_text (frame_at p frames) fars) put failed)
 
 pub report_whole : (first mid new : Option (List ℕ)) (p q : PartData) (frames memory : List (List ℕ)) (head kept fars places text : List ℕ) → p ≡ q → frames ≡ memory → head ≡ kept → fars ≡ places →
-    kept ++ lines_text (frame_at q memory) places ≡ text → mid ≡ appended first head → new ≡ appended mid (lines_text (frame_at p frames) fars) → new ≡ appended first text
+    kept ++ frame_lines_text (frame_at q memory) places ≡ text → mid ≡ appended first head → new ≡ appended mid (frame_lines_text (frame_at p frames) fars) → new ≡ appended first text
 report_whole first mid new p q frames memory head kept fars places text a b e f t put lines =
-    after_head first mid new head (lines_text (frame_at p frames) fars) put lines ∙ ap (appended first) (joined p q frames memory head kept fars places a b e f ∙ t)
+    after_head first mid new head (frame_lines_text (frame_at p frames) fars) put lines ∙ ap (appended first) (joined p q frames memory head kept fars places a b e f ∙ t)
 
 -- a text that was put whole was put as a prefix
 pub whole_put : (first new : Option (List ℕ)) (text : List ℕ) → new ≡ appended first text → PutsPrefix first text new

@@ -33,15 +33,15 @@ abbrev pub addresses_shown : FrameMap → List ℕ → List ℕ
 addresses_shown memory [] = []
 addresses_shown memory (far ∷ fars) = if is_shown (memory far) then far ∷ addresses_shown memory fars else addresses_shown memory fars
 
--- the line of the frame at an address
+-- the line of the frame at an address, and nothing where there is no frame
 abbrev pub frame_text_if : ℕ → Option (List ℕ) → List ℕ
 frame_text_if far None = []
 frame_text_if far (Some words) = frame_text far words
 
 -- the lines of the frames at these addresses
-abbrev pub lines_text : FrameMap → List ℕ → List ℕ
-lines_text memory fars = flat_map (λ far. frame_text_if far (memory far)) fars
+abbrev pub frame_lines_text : FrameMap → List ℕ → List ℕ
+frame_lines_text memory fars = flat_map (λ far. frame_text_if far (memory far)) fars
 
 -- the number of the frames shown at these addresses, and their lines in the addresses' order
 unfoldable pub frames_text : FrameMap → List ℕ → List ℕ
-frames_text memory fars = codes "frames " ++ decimal (length (addresses_shown memory fars)) ++ codes "\n" ++ flat_map (λ far. frame_text_if far (memory far)) (addresses_shown memory fars)
+frames_text memory fars = codes "frames " ++ decimal (length (addresses_shown memory fars)) ++ codes "\n" ++ frame_lines_text memory (addresses_shown memory fars)

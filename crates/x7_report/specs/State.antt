@@ -1,4 +1,5 @@
--- The state of a device as a report gives it (this project's choice). Words are eight hexadecimal digits.
+-- The state of a device as a report gives it (this project's choice). Words are eight upper-case hexadecimal
+-- digits.
 use Rattle.std.specs.Prelude.{ℕ, ◌+◌, Bool, if◌then◌else◌, List, [], ◌∷◌, ◌++◌, codes, decimal}
 use Rattle.std.specs.List.{flat_map}
 use Rattle.x7_regs.specs.Register.{number_of, reg_name}
@@ -26,11 +27,11 @@ fault_text fault.Watchdog = codes "Watchdog"
 abbrev pub fault_room : ℕ
 fault_room = 21
 
--- the most bytes of where the bytes taken end
+-- the most bytes of the words that say where the bytes taken end: `fault `, and a fault's kind and words
 abbrev pub end_room : ℕ
 end_room = 6 + fault_room
 
--- where the bytes taken end
+-- the words that say where the bytes taken end
 unfoldable pub end_text : End → List ℕ
 end_text at_end.Searching = codes "searching"
 end_text at_end.Synced = codes "synced"
@@ -41,7 +42,7 @@ end_text (at_end.Fault f) = codes "fault " ++ fault_text f
 abbrev pub line_digit : Bool → List ℕ
 line_digit b = if b then codes "1" else codes "0"
 
--- the most bytes of the line of startup, whatever number its phase is
+-- the most bytes of the line of startup, with 20 digits for its phase, as a number of 64 bits may have
 abbrev pub phase_room : ℕ
 phase_room = 46
 

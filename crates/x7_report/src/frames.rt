@@ -6,7 +6,7 @@ ghost use Rattle.x7_text.specs.Digits.{hex_word};
 ghost use Rattle.x7_words.specs.Word.{bytes_of_word};
 ghost use Rattle.x7_part.specs.AddressOrder.{addresses_in};
 ghost use Rattle.x7_memory.specs.Frames.{AreFramesOf, frame_at};
-ghost use Rattle.x7_report.specs.Frames.{frame_text, frames_text, is_shown, frame_text_if, addresses_shown};
+ghost use Rattle.x7_report.specs.Frames.{frame_text, frames_text, is_shown, frame_lines_text, frame_text_if, addresses_shown};
 
 use std::alloc::Global;
 use std::simd::prelude::*;
@@ -16,16 +16,16 @@ use x7_text::{hex_of_block, hex_of_word, make_room, put, put_number, put_text};
 use x7_words::NoMemory;
 
 /// Appends the digits of a word.
-fn put_word(out: &mut Vec<u8>, word: u32)
+fn put_word_digits(out: &mut Vec<u8>, word: u32)
     requires { HasSpareRoom out.old 8 }
     ensures appends { Appends out.old out.new (hex_word word) 8 }
 {
     put(out, &hex_of_word(word));
 }
 
-/// The bytes of eight words, the highest of each first.
+/// The bytes of eight words, the highest of each word first.
 #[inline(always)]
-fn turned(words: u32x8) -> u8x32
+fn big_endian_bytes(words: u32x8) -> u8x32
     requires { length words ≡ 8 }
     ensures { result ≡ flat_map bytes_of_word words }
 {
@@ -40,7 +40,7 @@ fn turned(words: u32x8) -> u8x32
 fn bytes_of_words(words: &[u32; 8]) -> [u8; 32]
     ensures { result ≡ flat_map bytes_of_word words.now }
 {
-    turned(u32x8::from_array(*words)).to_array()
+    big_endian_bytes(u32x8::from_array(*words)).to_array()
 }
 
 /// Appends the digits of eight words.
@@ -53,12 +53,12 @@ fn put_eight(out: &mut Vec<u8>, words: &[u32; 8])
 }
 
 /// Appends the digits of words one by one.
-fn put_each(out: &mut Vec<u8>, words: &[u32])
+fn put_digits_one_by_one(out: &mut Vec<u8>, words: &[u32])
     requires { HasSpareRoom out.old (8 * length words.now) }
     ensures appends { Appends out.old out.new (flat_map hex_word words.now) (8 * length words.now) }
 {
     for word in words {
-        put_word(out, *word);
+        put_word_digits(out, *word);
     }
 }
 
@@ -79,7 +79,7 @@ fn put_digits(out: &mut Vec<u8>, words: &[u32])
 {
     let (blocks, rest) = words.as_chunks::<8>();
     put_blocks(out, blocks);
-    put_each(out, rest);
+    put_digits_one_by_one(out, rest);
 }
 
 /// Appends the line of a frame, as `frame_line`, where there is room for it, and so takes no memory.
@@ -89,7 +89,7 @@ pub fn put_frame(out: &mut Vec<u8>, far: u32, words: &[u32])
     ensures appends { Appends out.old out.new (frame_text far words.now) (16 + 8 * length words.now) }
 {
     put(out, b"frame ");
-    put_word(out, far);
+    put_word_digits(out, far);
     put(out, b" ");
     put_digits(out, words);
     put(out, b"\n");
@@ -172,7 +172,7 @@ fn put_frame_lines(
     fars: &[u32],
 ) -> Result<(), NoMemory>
     requires { AreFramesOf part.now memory.now }
-    ensures { OnOk result (text.new.items ≡ text.old.items ++ flat_map (λ far. frame_text_if far (frame_at part.now memory.now far)) fars.now) }
+    ensures { OnOk result (text.new.items ≡ text.old.items ++ frame_lines_text (frame_at part.now memory.now) fars.now) }
 {
     for far in fars {
         push_frame_at(text, part, memory, *far)?;

@@ -6,13 +6,16 @@ ghost use Rattle.x7_report.specs.Reads.{reads_text};
 use x7_text::{make_room, put_close, put_number, put_text, put_word};
 use x7_words::NoMemory;
 
+/// The most bytes that a word takes in a `data` line: those of `data`, a blank, eight digits and a line end.
+const WORD_ROOM: usize = 14;
+
 /// Appends words in `data` lines of eight.
 fn put_data(text: &mut Vec<u8>, words: &[u32]) -> Result<(), NoMemory>
     ensures { OnOk result (text.new.items ≡ text.old.items ++ data_text words.now) }
 {
     let mut in_line = 0;
     for word in words {
-        make_room(text, 14)?;
+        make_room(text, WORD_ROOM)?;
         in_line = put_word(text, in_line, *word);
     }
     make_room(text, 1)?;

@@ -10,11 +10,17 @@ use x7_regs::{Reg, name_of};
 use x7_text::{hex_of_word, make_room, put, put_decimal, put_number, put_text};
 use x7_words::NoMemory;
 
-/// The most bytes of where the bytes taken end: `fault `, and a fault's kind and words.
+/// The most bytes of the words that say where the bytes taken end: `fault `, and a fault's kind and words.
 const END_ROOM: usize = 27;
 
-/// The most bytes of the line of startup.
+/// The most bytes of the line of startup, with 20 digits for its phase: it is written as a number of 64 bits.
 const PHASE_ROOM: usize = 46;
+
+/// How many registers have a line.
+const REG_LINES: usize = 15;
+
+/// The most bytes that the line of a register takes: those of `reg BOOTSTS`, a blank, eight digits and a line end.
+const REG_LINE_ROOM: usize = 21;
 
 /// Appends a name and the digits of a word.
 fn put_named_word(out: &mut Vec<u8>, name: &[u8], word: u32)
@@ -53,7 +59,7 @@ fn put_fault(out: &mut Vec<u8>, fault: Fault)
     }
 }
 
-/// Appends where the bytes taken end.
+/// Appends the words that say where the bytes taken end.
 #[tactic(auto, unfolding(crate::specs::State::end_text))]
 fn put_end(out: &mut Vec<u8>, end: End)
     requires { HasSpareRoom out.old end_room }
@@ -140,13 +146,7 @@ fn rows_of(r: &Regs) -> [(Reg, u32); REG_LINES]
     ]
 }
 
-/// How many registers have a line.
-const REG_LINES: usize = 15;
-
-/// The most bytes that the line of a register takes: those of `reg BOOTSTS`, a blank, eight digits and a line end.
-const REG_LINE_ROOM: usize = 21;
-
-/// Appends the line of a register.
+/// Appends the line of a register: its name and its word.
 fn put_row(out: &mut Vec<u8>, row: (Reg, u32))
     requires { HasSpareRoom out.old reg_line_room }
     ensures appends { Appends out.old out.new (reg_line row) reg_line_room }

@@ -5,7 +5,7 @@ ghost use Rattle.x7_text.specs.Appends.{Appends, HasSpareRoom};
 ghost use Rattle.x7_memory.specs.Frames.{AreFramesOf, frame_at};
 ghost use Rattle.x7_engine.specs.Past.{OfPast, memory_at, state_at};
 ghost use Rattle.x7_engine.specs.Standing.{NoWordDue};
-ghost use Rattle.x7_report.specs.Frames.{frame_line_room, frame_text_if, group_room, lines_text};
+ghost use Rattle.x7_report.specs.Frames.{frame_line_room, frame_text_if, group_room, frame_lines_text};
 ghost use Rattle.x7_report.specs.Reports.{report_text, state_reported};
 
 use crate::frames::{put_frame, shown_frames};
@@ -45,7 +45,7 @@ fn put_frame_at(text: &mut Vec<u8>, part: &Part, memory: &Memory, far: u32)
 fn put_lines(text: &mut Vec<u8>, part: &Part, memory: &Memory, fars: &[u32])
     requires memory { AreFramesOf part.now memory.now }
     requires room { HasSpareRoom text.old (frame_line_room * length fars.now) }
-    ensures appends { Appends text.old text.new (lines_text (frame_at part.now memory.now) fars.now) (frame_line_room * length fars.now) }
+    ensures appends { Appends text.old text.new (frame_lines_text (frame_at part.now memory.now) fars.now) (frame_line_room * length fars.now) }
 {
     for far in fars {
         put_frame_at(text, part, memory, *far);
@@ -58,22 +58,22 @@ fn write_lines<S: Sink>(
     part: &Part,
     memory: &Memory,
     fars: &[u32],
-    block: &mut Vec<u8>,
+    buffer: &mut Vec<u8>,
 ) -> Result<(), Failed>
     requires memory { AreFramesOf part.now memory.now }
-    requires room { group_room ≤ vec_capacity block.old }
-    ensures whole { OnOk result (PutsAll (S.state out.old) (lines_text (frame_at part.now memory.now) fars.now) (S.state out.new)) }
-    ensures prefix { PutsSome (S.state out.old) (lines_text (frame_at part.now memory.now) fars.now) (S.state out.new) }
+    requires room { group_room ≤ vec_capacity buffer.old }
+    ensures whole { OnOk result (PutsAll (S.state out.old) (frame_lines_text (frame_at part.now memory.now) fars.now) (S.state out.new)) }
+    ensures prefix { PutsSome (S.state out.old) (frame_lines_text (frame_at part.now memory.now) fars.now) (S.state out.new) }
     ensures failed { OnErr result (SinkFails (S.state out.old) (S.state out.new)) }
     ensures counts { SinkFaultsRise (S.state out.old) (S.state out.new) }
-    ensures room { group_room ≤ vec_capacity block.new }
+    ensures room { group_room ≤ vec_capacity buffer.new }
 {
     let mut rest = fars;
     while rest.len() > 0 {
         let (group, more) = rest.split_at(rest.len().min(GROUP_LINES));
-        block.clear();
-        put_lines(block, part, memory, group);
-        write_all(out, block)?;
+        buffer.clear();
+        put_lines(buffer, part, memory, group);
+        write_all(out, buffer)?;
         rest = more;
     }
     Ok(())
@@ -87,20 +87,20 @@ pub struct PlayText {
     device: Device,
     head: Vec<u8>,
     fars: Vec<u32>,
-    block: Vec<u8>,
+    buffer: Vec<u8>,
 }
 
 impl Model for PlayText {
     ghost use Rattle.std.specs.Prelude.{◌++◌, ◌≤◌, vec_capacity};
     ghost use Rattle.x7_memory.specs.Frames.{frame_at};
-    ghost use Rattle.x7_report.specs.Frames.{group_room, lines_text};
+    ghost use Rattle.x7_report.specs.Frames.{group_room, frame_lines_text};
     ghost use Rattle.x7_report.specs.Reports.{PlayTextState};
 
     ghost Value = { PlayTextState };
 
-    ghost view = { λ t. record { stopped = t.stopped; text = t.head.items ++ lines_text (frame_at t.device.part t.device.registers.frames.memory) t.fars.items } };
+    ghost view = { λ t. record { stopped = t.stopped; text = t.head.items ++ frame_lines_text (frame_at t.device.part t.device.registers.frames.memory) t.fars.items } };
 
-    ghost invariant = { λ t. group_room ≤ vec_capacity t.block };
+    ghost invariant = { λ t. group_room ≤ vec_capacity t.buffer };
 }
 
 impl PlayText {
@@ -118,7 +118,7 @@ impl PlayText {
     {
         let fars = shown_frames(alloc, device.part(), device.memory())?;
         let head = report_head(alloc, &device, reads, fars.len())?;
-        let Ok(block) = Vec::with_capacity(alloc, GROUP_ROOM) else {
+        let Ok(buffer) = Vec::with_capacity(alloc, GROUP_ROOM) else {
             return Err(NoMemory);
         };
         Ok(PlayText {
@@ -126,7 +126,7 @@ impl PlayText {
             device,
             head,
             fars,
-            block,
+            buffer,
         })
     }
 
@@ -141,7 +141,7 @@ impl PlayText {
             device: self.device,
             head,
             fars: self.fars,
-            block: self.block,
+            buffer: self.buffer,
         })
     }
 
@@ -165,7 +165,7 @@ impl PlayText {
             self.device.part(),
             self.device.memory(),
             &self.fars,
-            &mut self.block,
+            &mut self.buffer,
         )?;
         Ok(())
     }

@@ -3,7 +3,7 @@ ghost use Rattle.std.specs.Prelude.{◌≡◌, Bool, []};
 ghost use Rattle.x7_part.specs.Part.{PartData};
 ghost use Rattle.x7_engine.specs.Standing.{DeviceState, DeviceStandsFor, MayWrap, NoWordDue};
 ghost use Rattle.x7_engine.specs.declared.kept.Kept.{Kept as KeptData};
-ghost use Rattle.x7_engine.specs.declared.stop.Stop.TheVariants as stop;
+ghost use Rattle.x7_engine.specs.declared.stop.StopCause.TheVariants as stop;
 ghost use Rattle.x7_engine.specs.Past.{BootGoesOn, OfPast, state_at};
 
 use super::Device;

@@ -2,21 +2,21 @@
 ghost use Rattle.std.specs.Prelude.{◌≡◌, ◌≤◌, ◌<◌, ◌+◌, ◌-◌, ◌^◌, ◌⊎◌, false, if◌then◌else◌, length, take, is_some, IsSome, IsTrue};
 ghost use Rattle.x7_packets.specs.Cutter.{between};
 ghost use Rattle.x7_engine.specs.UntilRead.{RoomBefore};
-ghost use Rattle.x7_engine.specs.Phases.{soonest};
+ghost use Rattle.x7_engine.specs.SoonestEnd.{soonest_end};
 ghost use Rattle.x7_engine.specs.Standing.{HasBegun, HasStopped, NoWordDue, fed_more, fed_of};
 ghost use Rattle.x7_engine.specs.Turns.{MayTake, TookTurn};
 ghost use Rattle.x7_engine.specs.UntilStarted.{HasNotBegun, NoneBegun, NoneStarted, says_started, taken_until};
 ghost use Rattle.x7_engine.specs.declared.until_started.UntilStarted.TheVariants as until;
-ghost use Rattle.x7_engine.specs.Past.{AnswersUntilFor, OfPast, TakesJust, GivesWordsNext, later, part_until, started_at, state_at, stop_at, reads_given_at};
+ghost use Rattle.x7_engine.specs.Past.{AnswersUntilFor, OfPast, TakesJust, GivesWordsNext, later, prefix_taken_until, started_at, state_at, stop_at, reads_given_at};
 
-use super::{Device, stopped};
+use super::{Device, answer_at_stop};
 use crate::fed::Fed;
 use crate::read_buffer::ReadBuf;
 use crate::until_started::UntilStarted;
 
 /// How many bytes a device in this phase can be given, so that startup ends at the last of them at the soonest.
-fn soonest(phase: u8) -> usize
-    ensures { result ≡ soonest phase }
+fn soonest_end(phase: u8) -> usize
+    ensures { result ≡ soonest_end phase }
 {
     4 * 6usize.saturating_sub(phase as usize) + 1
 }
@@ -40,10 +40,10 @@ impl Device {
         ensures within { result ≤ length }
         ensures forward { (result ≡ length) ⊎ (at < result) }
         ensures order { at ≤ result }
-        ensures soonest { OfPast self.now (λ p. HasNotBegun p.part p.kept p.bytes ⊎ (result ≤ at + soonest (state_at p).phase)) }
+        ensures soonest { OfPast self.now (λ p. HasNotBegun p.part p.kept p.bytes ⊎ (result ≤ at + soonest_end (state_at p).phase)) }
     {
         if self.registers.clock.startup.has_begun() {
-            return at + soonest(self.phase()).min(length - at);
+            return at + soonest_end(self.phase()).min(length - at);
         }
         length
     }
@@ -69,11 +69,11 @@ impl Device {
         ensures part { self.new.part ≡ self.old.part }
         ensures taken { self.new.taken ≡ self.old.taken + taken_until (length piece.now) result }
         ensures fed { fed_of self.new ≡ fed_more self.old (taken_until (length piece.now) result) }
-        ensures stands { TakesJust self.old self.new (part_until piece.now result) }
+        ensures stands { TakesJust self.old self.new (prefix_taken_until piece.now result) }
         ensures first { OfPast self.old (λ p. NoneStarted p.part p.kept p.bytes piece.now (taken_until (length piece.now) result)) }
-        ensures started { OfPast self.old (λ p. NoWordDue self.new → says_started result ≡ started_at (later p (part_until piece.now result))) }
-        ensures answer { AnswersUntilFor self.old self.new (part_until piece.now result) read.new result }
-        ensures reads { GivesWordsNext self.old self.new (part_until piece.now result) read.old read.new }
+        ensures started { OfPast self.old (λ p. NoWordDue self.new → says_started result ≡ started_at (later p (prefix_taken_until piece.now result))) }
+        ensures answer { AnswersUntilFor self.old self.new (prefix_taken_until piece.now result) read.new result }
+        ensures reads { GivesWordsNext self.old self.new (prefix_taken_until piece.now result) read.old read.new }
         ensures room { OfPast self.old (λ p. RoomBefore p piece.now (taken_until (length piece.now) result) (reads_given_at self.old p) read.old) }
         ensures stopped { OfPast self.old (λ p. IsSome (stop_at p) → (self.new ≡ self.old) × (read.new ≡ read.old) × (taken_until (length piece.now) result ≡ 0)) }
         ensures stays { HasStopped self.old → (self.new ≡ self.old) × (read.new ≡ read.old) × (taken_until (length piece.now) result ≡ 0) }
@@ -81,7 +81,7 @@ impl Device {
         let mut at = 0;
         'runs: loop {
             if let Some(stop) = self.stop() {
-                return answer(self.started(), at, stopped(stop, at));
+                return answer(self.started(), at, answer_at_stop(stop, at));
             }
             if !self.give(read) {
                 return UntilStarted::Fed(Fed::ReadFull(at));
@@ -98,7 +98,7 @@ impl Device {
     /// Whether startup has begun since the last shutdown taken.
     fn has_begun(&self) -> bool
         ensures now { result ≡ is_some self.now.registers.clock.startup.begun }
-        ensures not { OfPast self.now (λ p. result ≡ false → HasNotBegun p.part p.kept p.bytes) }
+        ensures not_begun { OfPast self.now (λ p. result ≡ false → HasNotBegun p.part p.kept p.bytes) }
     {
         self.registers.clock.startup.has_begun()
     }

@@ -2,10 +2,11 @@
 ghost use Rattle.std.specs.Prelude.{◌≡◌, ◌≤◌, ◌+◌, ◌^◌, ℕ, List, [], false, length, IfOk, IsSome, Some};
 ghost use Rattle.x7_flow.specs.Standing.{FramesFit};
 ghost use Rattle.x7_engine.specs.Kept.{on_the_bench};
-ghost use Rattle.x7_engine.specs.Standing.{DeviceState, DeviceStandsFor, NoWordDue, fed_by, fed_more, fed_of, taken_in};
-ghost use Rattle.x7_engine.specs.Undo.{AreEqual, Back, IsUndoOf, KeepsDevice, TookFewSince, device_kept, dropping};
-ghost use Rattle.x7_engine.specs.declared.stop.Stop.{Stop};
-ghost use Rattle.x7_engine.specs.Past.{AnswersFor, OfPast, TakesJust, part_taken, stop_at, HasPast, Past, later};
+ghost use Rattle.x7_engine.specs.ReadBuffer.{dropping};
+ghost use Rattle.x7_engine.specs.Standing.{DeviceState, DeviceStandsFor, NoWordDue, answer_at_stop, fed_more, fed_of, taken_in};
+ghost use Rattle.x7_engine.specs.Undo.{AreEqual, Back, IsUndoOf, KeepsDevice, TookFewSince, device_kept};
+ghost use Rattle.x7_engine.specs.declared.stop.StopCause.{StopCause};
+ghost use Rattle.x7_engine.specs.Past.{AnswersFor, OfPast, TakesJust, prefix_taken, stop_at, HasPast, Past, later};
 
 use super::Device;
 use crate::fed::Fed;
@@ -29,11 +30,11 @@ pub struct Undo {
 }
 
 impl Model for Undo {
-    ghost use Rattle.x7_engine.specs.Undo.{UndoState, values_in};
+    ghost use Rattle.x7_engine.specs.Undo.{UndoState, saved_registers_in};
 
     ghost Value = { UndoState };
 
-    ghost view = { λ u. record { cutter = u.cutter; values = values_in u.registers; frames = u.frames; wrapped = u.wrapped; taken = u.taken } };
+    ghost view = { λ u. record { cutter = u.cutter; values = saved_registers_in u.registers; frames = u.frames; wrapped = u.wrapped; taken = u.taken } };
 }
 
 impl Undo {
@@ -90,12 +91,12 @@ impl Device {
         requires no_word_due { NoWordDue self.old }
         requires undo { IsUndoOf self.old.part undo.old }
         ensures within { taken_in (length piece.now) result ≤ length piece.now }
-        ensures stands { TakesJust self.old self.new (part_taken piece.now result) }
-        ensures answer { AnswersFor self.old self.new (part_taken piece.now result) dropping result }
+        ensures stands { TakesJust self.old self.new (prefix_taken piece.now result) }
+        ensures answer { AnswersFor self.old self.new (prefix_taken piece.now result) dropping result }
         ensures part { self.new.part ≡ self.old.part }
         ensures taken { self.new.taken ≡ self.old.taken + taken_in (length piece.now) result }
         ensures fed { fed_of self.new ≡ fed_more self.old (taken_in (length piece.now) result) }
-        ensures stays { (why : Stop) → self.old.registers.stop ≡ Some why → (self.new ≡ self.old) × (result ≡ fed_by why 0) }
+        ensures stays { (why : StopCause) → self.old.registers.stop ≡ Some why → (self.new ≡ self.old) × (result ≡ answer_at_stop why 0) }
         ensures keeps { KeepsDevice undo.new self.old }
         ensures back { OfPast self.old (λ p. Back undo.new self.new self.old) }
         ensures stopped { OfPast self.old (λ p. IsSome (stop_at p) → (self.new ≡ self.old) × (taken_in (length piece.now) result ≡ 0)) }

@@ -1,6 +1,6 @@
 use Rattle.std.proofs.Common.{◌<◌, refl, arith}
 use Rattle.x7_debug.specs.Journal.{records_of}
-use Rattle.x7_debug.specs.Kept.{session_of}
+use Rattle.x7_debug.specs.SessionFields.{session_of}
 use Rattle.x7_debug.proofs.JournalLemmas.{goes_nowhere, goes_recorded, oldest_within}
 use Rattle.x7_debug.proofs.moving.move_to.Goals as goal
 

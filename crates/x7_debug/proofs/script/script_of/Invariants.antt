@@ -4,8 +4,8 @@ use Rattle.x7_debug.proofs.script.script_of.Given as goal
 
 abbrev pub invariant-loop-orders : goal.invariant-loop-orders
 invariant-loop-orders l = record {
-  goes : Goes l.text l.rest l.orders.items l.count;
-  short : l.count + length l.rest ≤ length l.text;
+  goes : Goes l.text l.rest l.orders.items l.line_number;
+  short : l.line_number + length l.rest ≤ length l.text;
 }
 
 abbrev pub decreases-loop-orders : goal.decreases-loop-orders

@@ -4,7 +4,7 @@ use Rattle.x7_words.proofs.ListLemmas.{all_from_places}
 use Rattle.x7_debug.specs.declared.order.Stop.{Stop}
 use Rattle.x7_debug.specs.declared.order.Stop.TheVariants as to
 use Rattle.x7_debug.specs.Journal.{ComesToPosition, records_of}
-use Rattle.x7_debug.specs.Kept.{session_of}
+use Rattle.x7_debug.specs.SessionFields.{session_of}
 use Rattle.x7_debug.specs.Position.{until_of}
 use Rattle.x7_debug.proofs.JournalLemmas.{goes_nowhere, goes_recorded, oldest_within}
 use Rattle.x7_debug.proofs.LeastLemmas.{until_stopped}

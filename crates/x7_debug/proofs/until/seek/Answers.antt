@@ -15,23 +15,23 @@ loop-stop-init c = record {
   none = λ k h j. absurd (omega (arith, h, j));
 }
 
-pub returns-then-holds-clause-found : goal.returns-then-holds-clause-found
-returns-then-holds-clause-found c = λ q.
+pub returns-then-holds_in-clause-found : goal.returns-then-holds_in-clause-found
+returns-then-holds_in-clause-found c = λ q.
     let part : PartData = c.args.device.now.part in
     let stream = c.args.stream.now in
     let n : ℕ = c.loop-stop.device.taken in
     let there : StandsAtPosition part stream c.loop-stop.device n = stands_of c.loop-stop.device.part part stream c.loop-stop.device c.args.journal.now c.loop-stop.invariant.comes.there.part c.loop-stop.invariant.comes.there.on in
-    holds_is part stream c.args.stop n c.end.result c.phase.result c.holds.result (c.end.ensures part on_the_bench false (take n stream) there.stands) (c.phase.ensures part on_the_bench false (take n stream) there.stands) c.holds.ensures ∙ c.if-holds.true
+    holds_is part stream c.args.stop n c.end.result c.phase.result c.holds_in.result (c.end.ensures part on_the_bench false (take n stream) there.stands) (c.phase.ensures part on_the_bench false (take n stream) there.stands) c.holds_in.ensures ∙ c.if-holds.true
 
-pub returns-then-at-end-clause-none_at_end : goal.returns-then-at-end-clause-none_at_end
-returns-then-at-end-clause-none_at_end c = λ q.
+pub returns-then-at-bound-clause-none_at_end : goal.returns-then-at-bound-clause-none_at_end
+returns-then-at-bound-clause-none_at_end c = λ q.
     let part : PartData = c.args.device.now.part in
     let stream = c.args.stream.now in
     let n : ℕ = c.loop-stop.device.taken in
     let there : StandsAtPosition part stream c.loop-stop.device n = stands_of c.loop-stop.device.part part stream c.loop-stop.device c.args.journal.now c.loop-stop.invariant.comes.there.part c.loop-stop.invariant.comes.there.on in
     let here : holds_at part stream c.args.stop n ≡ false =
-    holds_is part stream c.args.stop n c.end.result c.phase.result c.holds.result (c.end.ensures part on_the_bench false (take n stream) there.stands) (c.phase.ensures part on_the_bench false (take n stream) there.stands) c.holds.ensures ∙ c.if-holds.false in
-    let same : n ≡ c.args.end = omega (arith, c.if-at-end.true, c.taken-at.ensures.now, c.loop-stop.invariant.within) in
+    holds_is part stream c.args.stop n c.end.result c.phase.result c.holds_in.result (c.end.ensures part on_the_bench false (take n stream) there.stands) (c.phase.ensures part on_the_bench false (take n stream) there.stands) c.holds_in.ensures ∙ c.if-holds.false in
+    let same : n ≡ c.args.bound = omega (arith, c.if-at-bound.true, c.taken-at.ensures.now, c.loop-stop.invariant.within) in
     subst (λ (k : ℕ). holds_at part stream c.args.stop k ≡ false) same here
 
 pub loop-stop-preserved : goal.loop-stop-preserved
@@ -41,10 +41,10 @@ loop-stop-preserved c =
     let n : ℕ = c.loop-stop.device.taken in
     let there : StandsAtPosition part stream c.loop-stop.device n = stands_of c.loop-stop.device.part part stream c.loop-stop.device c.args.journal.now c.loop-stop.invariant.comes.there.part c.loop-stop.invariant.comes.there.on in
     let here : holds_at part stream c.args.stop n ≡ false =
-    holds_is part stream c.args.stop n c.end.result c.phase.result c.holds.result (c.end.ensures part on_the_bench false (take n stream) there.stands) (c.phase.ensures part on_the_bench false (take n stream) there.stands) c.holds.ensures ∙ c.if-holds.false in
+    holds_is part stream c.args.stop n c.end.result c.phase.result c.holds_in.result (c.end.ensures part on_the_bench false (take n stream) there.stands) (c.phase.ensures part on_the_bench false (take n stream) there.stands) c.holds_in.ensures ∙ c.if-holds.false in
     let at : c.taken-at.result ≡ n = c.taken-at.ensures.now in
     let next : c.feed_to.new.device.taken ≡ n + 1 = omega (arith, at, c.feed_to.ensures.stands.taken) in
-    let less : n < c.args.end = omega (arith, at, c.if-at-end.false) in
+    let less : n < c.args.bound = omega (arith, at, c.if-at-bound.false) in
     record {
       comes = record {
         there = record {
@@ -60,8 +60,8 @@ loop-stop-preserved c =
       none = none_there (holds_at part stream c.args.stop) c.args.device.now.taken n c.feed_to.new.device.taken next c.loop-stop.invariant.none here;
     }
 
-pub returns-then-holds-clause-at_position : goal.returns-then-holds-clause-at_position
-returns-then-holds-clause-at_position c = c.loop-stop.invariant.comes
+pub returns-then-holds_in-clause-at_position : goal.returns-then-holds_in-clause-at_position
+returns-then-holds_in-clause-at_position c = c.loop-stop.invariant.comes
 
-pub returns-then-at-end-clause-at_position : goal.returns-then-at-end-clause-at_position
-returns-then-at-end-clause-at_position c = c.loop-stop.invariant.comes
+pub returns-then-at-bound-clause-at_position : goal.returns-then-at-bound-clause-at_position
+returns-then-at-bound-clause-at_position c = c.loop-stop.invariant.comes

@@ -1,7 +1,7 @@
 use Rattle.std.proofs.Common.{◌≡◌, ◌++◌, List, ℕ, ap, arith, ◌∙◌}
 use Rattle.x7_words.proofs.SinkLemmas.{counts_at, counts_on}
 use Rattle.x7_memory.specs.Frames.{frame_at}
-use Rattle.x7_report.specs.Frames.{lines_text}
+use Rattle.x7_report.specs.Frames.{frame_lines_text}
 use Rattle.x7_report.proofs.LinesLemmas.{none_sent, more_sent, group_failed}
 use Rattle.x7_report.proofs.streamed.write_lines.Goals as goal
 
@@ -14,7 +14,7 @@ pub returns-in_err-write_all-clause-prefix : goal.returns-in_err-write_all-claus
 returns-in_err-write_all-clause-prefix g c =
     let s = g.S.Sink in
     let m = frame_at c.args.part.now c.args.memory.now in
-    let block : c.deref.result.now ≡ lines_text m c.split_at.result.0.now = c.deref.ensures.value ∙ c.put_lines.ensures.appends.items ∙ ap (λ (t : List ℕ). t ++ lines_text m c.split_at.result.0.now) c.clear.ensures.items in
+    let block : c.deref.result.now ≡ frame_lines_text m c.split_at.result.0.now = c.deref.ensures.value ∙ c.put_lines.ensures.appends.items ∙ ap (λ (t : List ℕ). t ++ frame_lines_text m c.split_at.result.0.now) c.clear.ensures.items in
     group_failed (s.state c.args.out.now).written (s.state c.loop-rest.out).written m c.args.fars.now c.loop-rest.rest.now c.split_at.result.0.now c.split_at.result.1.now c.min.result
     c.loop-rest.invariant.sent c.split_at.ensures.front c.split_at.ensures.back (s.state c.write_all.new.sink).written (rw (← block) c.in_err-write_all.ensures.prefix)
 
@@ -22,7 +22,7 @@ pub loop-rest-preserved : goal.loop-rest-preserved
 loop-rest-preserved g c =
     let s = g.S.Sink in
     let m = frame_at c.args.part.now c.args.memory.now in
-    let block : c.deref.result.now ≡ lines_text m c.split_at.result.0.now = c.deref.ensures.value ∙ c.put_lines.ensures.appends.items ∙ ap (λ (t : List ℕ). t ++ lines_text m c.split_at.result.0.now) c.clear.ensures.items in
+    let block : c.deref.result.now ≡ frame_lines_text m c.split_at.result.0.now = c.deref.ensures.value ∙ c.put_lines.ensures.appends.items ∙ ap (λ (t : List ℕ). t ++ frame_lines_text m c.split_at.result.0.now) c.clear.ensures.items in
     record {
       sent = more_sent (s.state c.args.out.now).written (s.state c.loop-rest.out).written m c.args.fars.now c.loop-rest.rest.now c.split_at.result.0.now c.split_at.result.1.now c.min.result
           c.loop-rest.invariant.sent c.split_at.ensures.front c.split_at.ensures.back (s.state c.write_all.new.sink).written (rw (← block) c.in_ok-write_all.ensures.ok);

@@ -10,7 +10,7 @@ invariant-loop-rest g l =
     let s = g.S.Sink in
     record {
       sent : Sent (s.state l.fn.out).written (s.state l.out).written (frame_at l.part l.memory) l.fars l.rest;
-      room : group_room ≤ vec_capacity l.block;
+      room : group_room ≤ vec_capacity l.buffer;
       counts : SinkFaultsRise (s.state l.fn.out) (s.state l.out);
     }
 

@@ -4,7 +4,7 @@ use Rattle.circular_buffer.specs.Buffer.{Buffer}
 use Rattle.x7_words.proofs.ListLemmas.{all_append}
 use Rattle.x7_engine.specs.Kept.{on_the_bench}
 use Rattle.x7_engine.specs.Undo.{IsUndoOf, UndoState}
-use Rattle.x7_debug.specs.Journal.{IsOn, JournalState, LeadBack, oldest_by, records_of}
+use Rattle.x7_debug.specs.Journal.{IsOnStream, JournalState, LeadBack, oldest_by, records_of}
 use Rattle.x7_debug.proofs.JournalLemmas.{first_of, keep_all, on_less, records_less, took_few}
 use Rattle.x7_debug.proofs.journal.Journal.back.Goals as goal
 
@@ -58,8 +58,8 @@ all_fit c =
     let parts : AllByRecursion P (c.in-Some.undo ∷ drop 1 c.self.inside.records.items) = subst (AllByRecursion P) (first_is c) before in
     subst (AllByRecursion P) (sym (all_is c)) (all_append P (drop 1 c.self.inside.records.items) (c.in-Some.undo ∷ []) parts.1 (parts.0, tt))
 
-went : (c : goal.After-self-1) (stream : List ℕ) → IsOn c.args.device.now.part stream c.args.device.now c.args.self.now
-    → IsOn c.undo.new.self.part stream c.undo.new.self (after c) × (c.undo.new.self.taken ≡ c.in-Some.undo.taken) × (c.in-Some.undo.taken ≤ c.args.device.now.taken) × (c.args.device.now.taken ≤ c.in-Some.undo.taken + 4)
+went : (c : goal.After-self-1) (stream : List ℕ) → IsOnStream c.args.device.now.part stream c.args.device.now c.args.self.now
+    → IsOnStream c.undo.new.self.part stream c.undo.new.self (after c) × (c.undo.new.self.taken ≡ c.in-Some.undo.taken) × (c.in-Some.undo.taken ≤ c.args.device.now.taken) × (c.args.device.now.taken ≤ c.in-Some.undo.taken + 4)
 went c stream o =
     on_less c.args.device.now.part stream c.args.device.now c.undo.new.self c.args.self.now (after c) c.in-Some.undo o (records_are c) (all_fit c)
     (λ more old k none few s t. c.undo.ensures.after_more (record { part = c.args.device.now.part; kept = on_the_bench; wrapped = false; bytes = take c.in-Some.undo.taken stream }) more old k none few s t)

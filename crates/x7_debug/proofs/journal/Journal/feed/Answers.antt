@@ -3,7 +3,8 @@ use Rattle.std.specs.List.{AllByRecursion}
 use Rattle.circular_buffer.specs.Buffer.{Buffer}
 use Rattle.x7_words.specs.Word.{AreBytes}
 use Rattle.x7_words.proofs.ListLemmas.{all_append, all_from_places}
-use Rattle.x7_engine.specs.Undo.{IsUndoOf, UndoState, dropping}
+use Rattle.x7_engine.specs.ReadBuffer.{dropping}
+use Rattle.x7_engine.specs.Undo.{IsUndoOf, UndoState}
 use Rattle.x7_debug.specs.Journal.{JournalState, records_of}
 use Rattle.x7_debug.proofs.FeedLemmas.{fed_none_due, fed_stands}
 use Rattle.x7_debug.proofs.JournalLemmas.{get_all, records_more}

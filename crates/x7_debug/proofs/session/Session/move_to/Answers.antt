@@ -1,6 +1,6 @@
 use Rattle.std.proofs.Common.{◌≤◌, List, ℕ, ap, subst, sym, ◌∙◌}
 use Rattle.x7_debug.specs.Journal.{MoveCosts}
-use Rattle.x7_debug.specs.Kept.{session_of}
+use Rattle.x7_debug.specs.SessionFields.{session_of}
 use Rattle.x7_debug.specs.Moving.{MayMove}
 use Rattle.x7_debug.specs.Position.{last_of}
 use Rattle.x7_debug.specs.Session.{SessionState}

@@ -4,4 +4,4 @@ use Rattle.x7_engine.proofs.clock.Clock.before_firing.Goals as goal
 
 pub returns-in-Some-clause-none : goal.returns-in-Some-clause-none
 returns-in-Some-clause-none c = λ kept h n l s.
-    firing_first c.args.part.now kept (clock_in c.bytes.new.self) h n c.args.count c.in-Some.firing (c.in-Some.ensures.ticks kept h n l s)
+    firing_first c.args.part.now kept (clock_in c.bytes.new.self) h n c.args.count c.in-Some.firing (c.in-Some.ensures.takes kept h n l s)

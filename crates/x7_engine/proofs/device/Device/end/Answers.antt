@@ -4,8 +4,8 @@ use Rattle.x7_packets.specs.History.{History}
 use Rattle.x7_packets.specs.Reading.{is_synced}
 use Rattle.x7_packets.proofs.ByHandLemmas.{reading_is}
 use Rattle.x7_part.specs.Part.{PartData}
-use Rattle.x7_engine.specs.declared.stop.Stop.{Stop}
-use Rattle.x7_engine.specs.declared.stop.Stop.TheVariants as stop
+use Rattle.x7_engine.specs.declared.stop.StopCause.{StopCause}
+use Rattle.x7_engine.specs.declared.stop.StopCause.TheVariants as stop
 use Rattle.x7_engine.specs.Registers.{word_held}
 use Rattle.x7_engine.specs.Standing.{DeviceStandsFor, DeviceState, IsCutterOf, registers_in}
 use Rattle.x7_engine.specs.State.{end_by, history_taken, why_of, stop_in}
@@ -13,7 +13,7 @@ use Rattle.x7_engine.proofs.StateLemmas.{why_is}
 use Rattle.x7_engine.proofs.device.Device.end.Goals as goal
 
 -- the session counts only where there is no stop
-same_end : (d : Option Stop) (b c : Bool) (w : ℕ) → (d ≡ None → b ≡ c) → end_by d b w ≡ end_by d c w
+same_end : (d : Option StopCause) (b c : Bool) (w : ℕ) → (d ≡ None → b ≡ c) → end_by d b w ≡ end_by d c w
 same_end None b c w f = ap (λ x. end_by None x w) (f refl)
 same_end (Some (stop.Fault g)) b c w f = refl
 same_end (Some stop.Iprog) b c w f = refl
@@ -29,9 +29,9 @@ returns c = λ given kept wrapped bytes s.
     let session : (d : c.self.inside.registers.stop ≡ None) → c.is_synced.result ≡ is_synced (reading_of bytes).place = λ d.
     let cutter : IsCutterOf c.self.inside.cutter bytes = stands.cutter_is d in
     c.is_synced.ensures.synced bytes cutter.sessions cutter.place cutter.stands ∙ ap is_synced (reading_is bytes cutter.sessions cutter.place cutter.stands.reading).1 in
-    c.end_of.ensures
-    ∙ ap (λ (o : Option Stop). end_by o c.is_synced.result c.value.result) c.stop.ensures
+    c.end_by.ensures
+    ∙ ap (λ (o : Option StopCause). end_by o c.is_synced.result c.value.result) c.stop.ensures
     ∙ same_end c.self.inside.registers.stop c.is_synced.result (is_synced (reading_of bytes).place) c.value.result session
     ∙ ap (end_by c.self.inside.registers.stop (is_synced (reading_of bytes).place)) (c.value.ensures kept h (length bytes) stands.registers_are)
-    ∙ ap (λ (o : Option Stop). end_by o (is_synced (reading_of bytes).place) (word_held kept 16 h)) (sym (why_is part kept wrapped fields bytes stands))
+    ∙ ap (λ (o : Option StopCause). end_by o (is_synced (reading_of bytes).place) (word_held kept 16 h)) (sym (why_is part kept wrapped fields bytes stands))
     ∙ ap (λ (p : PartData). end_by (why_of (stop_in p kept bytes)) (is_synced (reading_of bytes).place) (word_held kept 16 (history_taken p kept bytes))) here

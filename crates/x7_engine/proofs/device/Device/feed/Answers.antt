@@ -2,10 +2,10 @@ use Rattle.std.proofs.Common.{◌≡◌, ◌++◌, ℕ, true, false, Option, Lis
 use Rattle.std.specs.Option.{is_some}
 use Rattle.x7_engine.specs.UntilRead.{RoomBefore}
 use Rattle.x7_engine.specs.declared.fed.Fed.{Fed}
-use Rattle.x7_engine.specs.declared.stop.Stop.{Stop}
+use Rattle.x7_engine.specs.declared.stop.StopCause.{StopCause}
 use Rattle.x7_engine.specs.ReadBuffer.{with_words}
 use Rattle.x7_engine.specs.Past.{Answers, past_of}
-use Rattle.x7_engine.specs.Standing.{DeviceStandsFor, DeviceState, NoWordDue, fed_by, taken_in, reads_given}
+use Rattle.x7_engine.specs.Standing.{DeviceStandsFor, DeviceState, NoWordDue, answer_at_stop, taken_in, reads_given}
 use Rattle.x7_engine.specs.Stop.{stopped_at}
 use Rattle.x7_engine.proofs.FeedLemmas.{answers_stop, now_given, read_here, stands_on, taken_by_stop, words_none}
 use Rattle.x7_engine.proofs.UntilReadLemmas.{room_read_on}
@@ -20,36 +20,36 @@ runs-init c = record {
   fits = omega (arith, c.requires);
   stands = λ part kept wrapped bytes s. subst (λ (b : List ℕ). DeviceStandsFor part kept wrapped c.args.self.now b) (sym (append-nil bytes)) s;
   reads = λ part kept wrapped bytes s. ([], words_none c.args.read.now, ap (reads_given part kept c.args.self.now) (append-nil bytes) ∙ sym (append-nil (reads_given part kept c.args.self.now bytes)));
-  first = λ part kept wrapped bytes s k l. absurd (omega (arith, l));
-  few = c.holds_few.ensures;
+  room = λ part kept wrapped bytes s k l. absurd (omega (arith, l));
+  few = c.holds_within_most.ensures;
   stopped = λ e. (refl, refl, refl);
 }
 
 pub returns-in-Some-clause-answer : goal.returns-in-Some-clause-answer
 returns-in-Some-clause-answer c = λ part kept wrapped bytes s.
     let piece : List ℕ = c.args.piece.now in
-    subst (λ (r : Fed). Answers (past_of part kept wrapped (bytes ++ take (taken_in (length piece) r) piece)) c.runs.self c.runs.read r) (sym c.stopped.ensures)
-    (subst (λ (k : ℕ). Answers (past_of part kept wrapped (bytes ++ take k piece)) c.runs.self c.runs.read (fed_by c.in-Some.stop c.runs.at)) (sym (taken_by_stop c.in-Some.stop (length piece) c.runs.at))
+    subst (λ (r : Fed). Answers (past_of part kept wrapped (bytes ++ take (taken_in (length piece) r) piece)) c.runs.self c.runs.read r) (sym c.answer_at_stop.ensures)
+    (subst (λ (k : ℕ). Answers (past_of part kept wrapped (bytes ++ take k piece)) c.runs.self c.runs.read (answer_at_stop c.in-Some.stop c.runs.at)) (sym (taken_by_stop c.in-Some.stop (length piece) c.runs.at))
     (answers_stop part kept wrapped c.runs.self (bytes ++ take c.runs.at piece) c.runs.read c.in-Some.stop c.runs.at (c.runs.invariant.stands part kept wrapped bytes s) c.in-Some.ensures))
 
 pub returns-in-Some-clause-stands : goal.returns-in-Some-clause-stands
 returns-in-Some-clause-stands c = λ part kept wrapped bytes s.
     let piece : List ℕ = c.args.piece.now in
-    let count : taken_in (length piece) c.stopped.result ≡ c.runs.at = ap (taken_in (length piece)) c.stopped.ensures ∙ taken_by_stop c.in-Some.stop (length piece) c.runs.at in
+    let count : taken_in (length piece) c.answer_at_stop.result ≡ c.runs.at = ap (taken_in (length piece)) c.answer_at_stop.ensures ∙ taken_by_stop c.in-Some.stop (length piece) c.runs.at in
     subst (λ (k : ℕ). DeviceStandsFor part kept wrapped c.runs.self (bytes ++ take k piece)) (sym count) (c.runs.invariant.stands part kept wrapped bytes s)
 
 pub returns-in-Some-clause-reads : goal.returns-in-Some-clause-reads
 returns-in-Some-clause-reads c = λ part kept wrapped bytes s.
     let piece : List ℕ = c.args.piece.now in
-    let count : taken_in (length piece) c.stopped.result ≡ c.runs.at = ap (taken_in (length piece)) c.stopped.ensures ∙ taken_by_stop c.in-Some.stop (length piece) c.runs.at in
+    let count : taken_in (length piece) c.answer_at_stop.result ≡ c.runs.at = ap (taken_in (length piece)) c.answer_at_stop.ensures ∙ taken_by_stop c.in-Some.stop (length piece) c.runs.at in
     let known = c.runs.invariant.reads part kept wrapped bytes s in
     (known.0, known.1, ap (λ (k : ℕ). reads_given part kept c.runs.self (bytes ++ take k piece)) count ∙ known.2)
 
-pub returns-in-Some-clause-first : goal.returns-in-Some-clause-first
-returns-in-Some-clause-first c = λ part kept wrapped bytes s.
+pub returns-in-Some-clause-room : goal.returns-in-Some-clause-room
+returns-in-Some-clause-room c = λ part kept wrapped bytes s.
     let piece : List ℕ = c.args.piece.now in
-    let count : taken_in (length piece) c.stopped.result ≡ c.runs.at = ap (taken_in (length piece)) c.stopped.ensures ∙ taken_by_stop c.in-Some.stop (length piece) c.runs.at in
-    subst (λ (k : ℕ). RoomBefore (record { part = part; kept = kept; wrapped = wrapped; bytes = bytes }) piece k (reads_given part kept c.args.self.now bytes) c.args.read.now) (sym count) (c.runs.invariant.first part kept wrapped bytes s)
+    let count : taken_in (length piece) c.answer_at_stop.result ≡ c.runs.at = ap (taken_in (length piece)) c.answer_at_stop.ensures ∙ taken_by_stop c.in-Some.stop (length piece) c.runs.at in
+    subst (λ (k : ℕ). RoomBefore (record { part = part; kept = kept; wrapped = wrapped; bytes = bytes }) piece k (reads_given part kept c.args.self.now bytes) c.args.read.now) (sym count) (c.runs.invariant.room part kept wrapped bytes s)
 
 pub returns-then-not-give-clause-stands : goal.returns-then-not-give-clause-stands
 returns-then-not-give-clause-stands c = λ part kept wrapped bytes s.
@@ -61,8 +61,8 @@ returns-then-not-give-clause-reads c = λ part kept wrapped bytes s.
     now_given part kept wrapped c.runs.self c.give.new.self c.args.read.now c.runs.read c.give.new.read taken (reads_given part kept c.args.self.now bytes)
     (c.give.ensures.given part kept wrapped taken (c.runs.invariant.stands part kept wrapped bytes s)) (c.runs.invariant.reads part kept wrapped bytes s)
 
-pub returns-then-turn-clause-first : goal.returns-then-turn-clause-first
-returns-then-turn-clause-first c = λ part kept wrapped bytes s.
+pub returns-then-turn-clause-room : goal.returns-then-turn-clause-room
+returns-then-turn-clause-room c = λ part kept wrapped bytes s.
     subst (λ (k : ℕ). RoomBefore (record { part = part; kept = kept; wrapped = wrapped; bytes = bytes }) c.args.piece.now k (reads_given part kept c.args.self.now bytes) c.args.read.now) (c.turn.ensures.used_up c.if-turn.true).all (
     let taken : List ℕ = bytes ++ take c.runs.at c.args.piece.now in
     let gives = c.give.ensures.given part kept wrapped taken (c.runs.invariant.stands part kept wrapped bytes s) in
@@ -70,7 +70,7 @@ returns-then-turn-clause-first c = λ part kept wrapped bytes s.
     room_read_on part kept wrapped c.give.new.self c.turn.new.self c.args.read.now c.give.new.read bytes c.args.piece.now (reads_given part kept c.args.self.now bytes) c.runs.at c.turn.new.at c.turn.ensures.turned.forward c.turn.ensures.turned.within
     c.give.ensures.going due gives.stands (c.turn.ensures.turned.turn.stands part kept wrapped taken gives.stands) (c.turn.ensures.turned.turn.commands part kept wrapped taken gives.stands) c.give.ensures.within_most
     (now_given part kept wrapped c.runs.self c.give.new.self c.args.read.now c.runs.read c.give.new.read taken (reads_given part kept c.args.self.now bytes) gives (c.runs.invariant.reads part kept wrapped bytes s))
-    (c.runs.invariant.first part kept wrapped bytes s))
+    (c.runs.invariant.room part kept wrapped bytes s))
 
 pub returns-then-turn-clause-stands : goal.returns-then-turn-clause-stands
 returns-then-turn-clause-stands c = λ part kept wrapped bytes s.
@@ -112,14 +112,14 @@ runs-preserved c =
       reads = λ part kept wrapped bytes s.
           read_here part kept wrapped c.runs.self c.give.new.self c.turn.new.self c.args.read.now c.runs.read c.give.new.read bytes piece (reads_given part kept c.args.self.now bytes) c.runs.at c.turn.new.at
           (c.give.ensures.given part kept wrapped (bytes ++ take c.runs.at piece) (c.runs.invariant.stands part kept wrapped bytes s)) c.turn.ensures.turned.forward (c.turn.ensures.turned.turn.silent part kept wrapped) (c.runs.invariant.reads part kept wrapped bytes s);
-      first = λ part kept wrapped bytes s. (
+      room = λ part kept wrapped bytes s. (
           let taken : List ℕ = bytes ++ take c.runs.at c.args.piece.now in
           let gives = c.give.ensures.given part kept wrapped taken (c.runs.invariant.stands part kept wrapped bytes s) in
           let due : NoWordDue c.give.new.self = c.give.ensures.none_left.0 c.if-not-give.false in
           room_read_on part kept wrapped c.give.new.self c.turn.new.self c.args.read.now c.give.new.read bytes c.args.piece.now (reads_given part kept c.args.self.now bytes) c.runs.at c.turn.new.at c.turn.ensures.turned.forward c.turn.ensures.turned.within
           c.give.ensures.going due gives.stands (c.turn.ensures.turned.turn.stands part kept wrapped taken gives.stands) (c.turn.ensures.turned.turn.commands part kept wrapped taken gives.stands) c.give.ensures.within_most
           (now_given part kept wrapped c.runs.self c.give.new.self c.args.read.now c.runs.read c.give.new.read taken (reads_given part kept c.args.self.now bytes) gives (c.runs.invariant.reads part kept wrapped bytes s))
-          (c.runs.invariant.first part kept wrapped bytes s));
+          (c.runs.invariant.room part kept wrapped bytes s));
       few = c.give.ensures.within_most;
-      stopped = λ e. absurd (let none : true ≡ false = sym e ∙ ap (λ (d : DeviceState). is_some d.registers.stop) (sym (c.runs.invariant.stopped e).0) ∙ sym (ap (λ (o : Option Stop). is_some o) c.in_default.ensures) in cc);
+      stopped = λ e. absurd (let none : true ≡ false = sym e ∙ ap (λ (d : DeviceState). is_some d.registers.stop) (sym (c.runs.invariant.stopped e).0) ∙ sym (ap (λ (o : Option StopCause). is_some o) c.in_default.ensures) in cc);
     }

@@ -18,7 +18,7 @@ invariant-runs l = record {
   stands : (part : PartData) (kept : Kept) (wrapped : Bool) (bytes : List ℕ) → DeviceStandsFor part kept wrapped l.initial.self bytes → DeviceStandsFor part kept wrapped l.self (bytes ++ take l.at l.piece);
   reads : (part : PartData) (kept : Kept) (wrapped : Bool) (bytes : List ℕ) → DeviceStandsFor part kept wrapped l.initial.self bytes
       → (more : List ℕ) × (l.read ≡ with_words l.initial.read more) × (reads_given part kept l.self (bytes ++ take l.at l.piece) ≡ reads_given part kept l.initial.self bytes ++ more);
-  first : (part : PartData) (kept : Kept) (wrapped : Bool) (bytes : List ℕ) → DeviceStandsFor part kept wrapped l.initial.self bytes
+  room : (part : PartData) (kept : Kept) (wrapped : Bool) (bytes : List ℕ) → DeviceStandsFor part kept wrapped l.initial.self bytes
       → RoomBefore (record { part = part; kept = kept; wrapped = wrapped; bytes = bytes }) l.piece l.at (reads_given part kept l.initial.self bytes) l.initial.read;
   few : HoldsWithinMost l.read.most l.read.words;
   stopped : is_some l.initial.self.registers.stop ≡ true → (l.self ≡ l.initial.self) × (l.read ≡ l.initial.read) × (l.at ≡ 0);

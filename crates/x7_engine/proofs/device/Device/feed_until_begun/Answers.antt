@@ -1,6 +1,6 @@
 use Rattle.std.proofs.Common.{◌≡◌, ◌<◌, ◌++◌, ℕ, zero, suc, true, false, inr, List, length, take, Option, None, Some, sym, ap, subst, ◌∙◌, append-nil, refl, arith}
 use Rattle.std.specs.Option.{is_some}
-use Rattle.x7_engine.specs.declared.stop.Stop.{Stop}
+use Rattle.x7_engine.specs.declared.stop.StopCause.{StopCause}
 use Rattle.x7_engine.specs.ReadBuffer.{IsFull, IsFullBy, ReadBufState}
 use Rattle.x7_engine.specs.Standing.{DeviceStandsFor, NoWordDue}
 use Rattle.x7_engine.proofs.FeedLemmas.{stands_on}
@@ -20,13 +20,13 @@ runs-init c = record {
 }
 
 -- a stop
-by_stop : (o : Option Stop) (P : Type 0) → is_some o ≡ true → ((why : Stop) → o ≡ Some why → P) → P
+by_stop : (o : Option StopCause) (P : Type 0) → is_some o ≡ true → ((why : StopCause) → o ≡ Some why → P) → P
 by_stop None P e f = absurd cc
 by_stop (Some why) P e f = f why refl
 
 pub returns-then-is_some-clause-no_word_due : goal.returns-then-is_some-clause-no_word_due
 returns-then-is_some-clause-no_word_due c = λ part kept wrapped bytes s.
-    by_stop c.stop.result (NoWordDue c.runs.self) (sym c.is_some.ensures ∙ c.if-is_some.true) (λ why e. (c.runs.invariant.stands part kept wrapped bytes s).at_rest why (sym c.stop.ensures ∙ e))
+    by_stop c.stop.result (NoWordDue c.runs.self) (sym c.is_some.ensures ∙ c.if-is_some.true) (λ why e. (c.runs.invariant.stands part kept wrapped bytes s).none_due_at_stop why (sym c.stop.ensures ∙ e))
 
 -- the buffer is never full
 none_full : (n : ℕ) (b : ReadBufState) → b.most ≡ None → (0 < n → IsFull b) → n ≡ 0
@@ -68,7 +68,7 @@ returns-then-turn-clause-first c = λ part kept wrapped bytes s.
     let given : DeviceStandsFor part kept wrapped c.give.new.self taken = (c.give.ensures.given part kept wrapped taken (c.runs.invariant.stands part kept wrapped bytes s)).stands in
     unbegun_on part kept wrapped c.give.new.self c.turn.new.self bytes c.args.piece.now c.runs.at c.turn.new.at c.turn.ensures.turned.forward c.turn.ensures.turned.within c.give.ensures.going given
     (c.turn.ensures.turned.turn.stands part kept wrapped taken given) (c.turn.ensures.turned.turn.commands part kept wrapped taken given)
-    (c.has_begun.ensures.not part kept wrapped taken given c.if-has_begun.false) (c.runs.invariant.first part kept wrapped bytes s)
+    (c.has_begun.ensures.not_begun part kept wrapped taken given c.if-has_begun.false) (c.runs.invariant.first part kept wrapped bytes s)
 
 pub runs-preserved : goal.runs-preserved
 runs-preserved c =
@@ -92,5 +92,5 @@ runs-preserved c =
           let given : DeviceStandsFor part kept wrapped c.give.new.self taken = (c.give.ensures.given part kept wrapped taken (c.runs.invariant.stands part kept wrapped bytes s)).stands in
           unbegun_on part kept wrapped c.give.new.self c.turn.new.self bytes piece c.runs.at at c.turn.ensures.turned.forward c.turn.ensures.turned.within c.give.ensures.going given
           (c.turn.ensures.turned.turn.stands part kept wrapped taken given) (c.turn.ensures.turned.turn.commands part kept wrapped taken given)
-          (c.has_begun.ensures.not part kept wrapped taken given c.if-has_begun.false) (c.runs.invariant.first part kept wrapped bytes s);
+          (c.has_begun.ensures.not_begun part kept wrapped taken given c.if-has_begun.false) (c.runs.invariant.first part kept wrapped bytes s);
     }

@@ -2,7 +2,7 @@ use Rattle.std.proofs.Common.{◌≡◌, ◌++◌, ℕ, true, false, Option, Lis
 use Rattle.std.specs.Option.{is_some}
 use Rattle.x7_engine.specs.UntilRead.{RoomBefore}
 use Rattle.x7_engine.specs.declared.fed.Fed.TheVariants as fed
-use Rattle.x7_engine.specs.declared.stop.Stop.{Stop}
+use Rattle.x7_engine.specs.declared.stop.StopCause.{StopCause}
 use Rattle.x7_engine.specs.ReadBuffer.{with_words}
 use Rattle.x7_engine.specs.Past.{Answers, AnswersUntil, past_of}
 use Rattle.x7_engine.specs.Standing.{DeviceStandsFor, DeviceState, NoWordDue, taken_in, reads_given}
@@ -31,8 +31,8 @@ runs-init c = record {
 
 stop_count : (c : goal.After-answer) → taken_until (length c.args.piece.now) c.answer.result ≡ c.runs.at
 stop_count c =
-    count_is c.answer.result c.started.result c.stopped.result (length c.args.piece.now) c.runs.at c.answer.ensures
-    (ap (taken_in (length c.args.piece.now)) c.stopped.ensures ∙ taken_by_stop c.in-Some.stop (length c.args.piece.now) c.runs.at)
+    count_is c.answer.result c.started.result c.answer_at_stop.result (length c.args.piece.now) c.runs.at c.answer.ensures
+    (ap (taken_in (length c.args.piece.now)) c.answer_at_stop.ensures ∙ taken_by_stop c.in-Some.stop (length c.args.piece.now) c.runs.at)
 
 pub returns-in-Some-clause-stands : goal.returns-in-Some-clause-stands
 returns-in-Some-clause-stands c = λ part kept wrapped bytes s.
@@ -43,7 +43,7 @@ returns-in-Some-clause-first c = λ part kept wrapped bytes s. subst (NoneStarte
 
 pub returns-in-Some-clause-started : goal.returns-in-Some-clause-started
 returns-in-Some-clause-started c = λ part kept wrapped bytes s due.
-    ap says_started c.answer.ensures ∙ says_answer c.started.result c.stopped.result c.runs.at
+    ap says_started c.answer.ensures ∙ says_answer c.started.result c.answer_at_stop.result c.runs.at
     ∙ c.started.ensures part kept wrapped (bytes ++ take c.runs.at c.args.piece.now) (c.runs.invariant.stands part kept wrapped bytes s)
     ∙ ap (λ (k : ℕ). has_started part kept (bytes ++ take k c.args.piece.now)) (sym (stop_count c))
 
@@ -51,11 +51,11 @@ pub returns-in-Some-clause-answer : goal.returns-in-Some-clause-answer
 returns-in-Some-clause-answer c = λ part kept wrapped bytes s.
     let piece : List ℕ = c.args.piece.now in
     let here : DeviceStandsFor part kept wrapped c.runs.self (bytes ++ take c.runs.at piece) = c.runs.invariant.stands part kept wrapped bytes s in
-    let answers : Answers (past_of part kept wrapped (bytes ++ take c.runs.at piece)) c.runs.self c.runs.read c.stopped.result =
-    subst (Answers (past_of part kept wrapped (bytes ++ take c.runs.at piece)) c.runs.self c.runs.read) (sym c.stopped.ensures) (answers_stop part kept wrapped c.runs.self (bytes ++ take c.runs.at piece) c.runs.read c.in-Some.stop c.runs.at here c.in-Some.ensures) in
+    let answers : Answers (past_of part kept wrapped (bytes ++ take c.runs.at piece)) c.runs.self c.runs.read c.answer_at_stop.result =
+    subst (Answers (past_of part kept wrapped (bytes ++ take c.runs.at piece)) c.runs.self c.runs.read) (sym c.answer_at_stop.ensures) (answers_stop part kept wrapped c.runs.self (bytes ++ take c.runs.at piece) c.runs.read c.in-Some.stop c.runs.at here c.in-Some.ensures) in
     subst (λ (k : ℕ). AnswersUntil (past_of part kept wrapped (bytes ++ take k piece)) c.runs.self c.runs.read c.answer.result) (sym (stop_count c))
     (subst (AnswersUntil (past_of part kept wrapped (bytes ++ take c.runs.at piece)) c.runs.self c.runs.read) (sym c.answer.ensures)
-    (answers_until (past_of part kept wrapped (bytes ++ take c.runs.at piece)) c.runs.self c.runs.read c.started.result c.stopped.result c.runs.at (here.at_rest c.in-Some.stop (sym c.in-Some.ensures)) answers))
+    (answers_until (past_of part kept wrapped (bytes ++ take c.runs.at piece)) c.runs.self c.runs.read c.started.result c.answer_at_stop.result c.runs.at (here.none_due_at_stop c.in-Some.stop (sym c.in-Some.ensures)) answers))
 
 pub returns-in-Some-clause-reads : goal.returns-in-Some-clause-reads
 returns-in-Some-clause-reads c = λ part kept wrapped bytes s.
@@ -205,5 +205,5 @@ runs-preserved c =
           c.give.ensures.going due gives.stands (c.turn_until_started.ensures.took.turned.turn.stands part kept wrapped taken gives.stands) (c.turn_until_started.ensures.took.turned.turn.commands part kept wrapped taken gives.stands) c.give.ensures.within_most
           (now_given part kept wrapped c.runs.self c.give.new.self c.args.read.now c.runs.read c.give.new.read taken (reads_given part kept c.args.self.now bytes) gives (c.runs.invariant.reads part kept wrapped bytes s))
           (c.runs.invariant.room part kept wrapped bytes s));
-      stopped = λ e. absurd (let none : true ≡ false = sym e ∙ ap (λ (d : DeviceState). is_some d.registers.stop) (sym (c.runs.invariant.stopped e).0) ∙ sym (ap (λ (o : Option Stop). is_some o) c.in_default.ensures) in cc);
+      stopped = λ e. absurd (let none : true ≡ false = sym e ∙ ap (λ (d : DeviceState). is_some d.registers.stop) (sym (c.runs.invariant.stopped e).0) ∙ sym (ap (λ (o : Option StopCause). is_some o) c.in_default.ensures) in cc);
     }

@@ -5,7 +5,7 @@ use Rattle.x7_flow.specs.Standing.{FramesFit}
 use Rattle.x7_engine.specs.declared.due.Due.{Due}
 use Rattle.x7_engine.specs.Kept.{on_the_bench}
 use Rattle.x7_engine.specs.Past.{past_of}
-use Rattle.x7_engine.specs.Standing.{DeviceStandsFor, due_count, registers_in, words_left}
+use Rattle.x7_engine.specs.Standing.{DeviceStandsFor, due_count, registers_in, words_still_due}
 use Rattle.x7_engine.specs.Stop.{stopped_at}
 use Rattle.x7_engine.proofs.device.Device.new.Goals as goal
 
@@ -19,8 +19,8 @@ first c = record {
   stop_is = sym (ap (stopped_at 0) c.new-3.ensures.going);
   registers_are = c.new-3.ensures.stands c.args.part.now c.in_ok-frames.ensures.stands;
   cutter_is = λ _. record { sessions = []; place = Searching []; stands = c.new-2.ensures };
-  due_are = record { given = []; all = sym (ap (λ (d : Due). words_left c.args.part.now [] d) c.new-3.ensures.no_word_due) };
-  at_rest = λ why q. ap due_count c.new-3.ensures.no_word_due;
+  due_are = record { given = []; all = sym (ap (λ (d : Due). words_still_due c.args.part.now [] d) c.new-3.ensures.no_word_due) };
+  none_due_at_stop = λ why q. ap due_count c.new-3.ensures.no_word_due;
 }
 
 pub invariant_of-result : goal.invariant_of-result

@@ -7,7 +7,7 @@ use Rattle.x7_part.specs.Part.{PartData}
 use Rattle.x7_flow.specs.Standing.{FramesFit}
 use Rattle.x7_engine.specs.declared.kept.Kept.{Kept}
 use Rattle.x7_engine.specs.Standing.{DeviceStandsFor, DeviceState, due_count, registers_in}
-use Rattle.x7_engine.specs.Past.{GivesNone, HasSomePast, OfPast, TakesJust}
+use Rattle.x7_engine.specs.Past.{GivesNoWord, HasSomePast, OfPast, TakesJust}
 use Rattle.x7_engine.specs.State.{reads_of}
 use Rattle.x7_engine.proofs.DeviceLemmas.{between_prefix, length_between}
 use Rattle.x7_engine.proofs.PassLemmas.{passed, given_same}
@@ -23,23 +23,23 @@ abbrev device_after : goal.After-self-2-1 → DeviceState
 device_after c = record {
   part = c.self.inside.part;
   cutter = c.self.inside.cutter;
-  registers = registers_in c.tick-left.new.self;
+  registers = registers_in c.take_bytes-left.new.self;
   wrapped = c.self.inside.wrapped;
-  taken = c.self.inside.taken + ((4 * c.nop_count-count.result) - c.tick-left.result);
+  taken = c.self.inside.taken + ((4 * c.nop_count-count.result) - c.take_bytes-left.result);
   fed = c.saturating_add-self-inside.result;
 }
 
 passed_here : (c : goal.After-self-2-1) (kept : Kept) (wrapped : Bool) (bytes : List ℕ) → (let part : PartData = c.self.inside.part in DeviceStandsFor part kept wrapped c.args.self.now bytes
-    → (let more : List ℕ = between c.args.piece.now c.args.at.now (c.args.at.now + ((4 * c.nop_count-count.result) - c.tick-left.result)) in
+    → (let more : List ℕ = between c.args.piece.now c.args.at.now (c.args.at.now + ((4 * c.nop_count-count.result) - c.take_bytes-left.result)) in
     DeviceStandsFor part kept wrapped (device_after c) (bytes ++ more) × (reads_of part kept (bytes ++ more) ≡ reads_of part kept bytes) × (history_of (bytes ++ more) ≡ history_of bytes)))
 passed_here c kept wrapped bytes s =
     let piece : List ℕ = c.args.piece.now in
     let from : ℕ = c.args.at.now in
     let count : ℕ = 4 * c.nop_count-count.result in
-    let left : ℕ = c.tick-left.result in
+    let left : ℕ = c.take_bytes-left.result in
     let cut : List ℕ = between piece from (from + count) in
     let more : List ℕ = between piece from (from + (count - left)) in
-    let few : left ≤ count = c.tick-left.ensures.left.within in
+    let few : left ≤ count = c.take_bytes-left.ensures.left.within in
     let rest_is : length (take (length piece - from) (drop from piece)) ≡ length piece - from = ap length (take_rest piece from) ∙ length-drop from piece in
     let room : count ≤ length piece - from = omega (arith, c.nop_count-count.ensures.within, rest_is) in
     let within : from + count ≤ length piece = omega (arith, room, c.requires.within) in
@@ -55,35 +55,35 @@ passed_here c kept wrapped bytes s =
     (ap (λ (d : DeviceState). d.registers.stop) c.self.view_is ∙ c.requires.going)
     (ap (λ (d : DeviceState). due_count d.registers.due) c.self.view_is ∙ c.requires.no_word_due)
     (λ sessions place i. subst (λ (b : List ℕ). Idles c.self.inside.cutter (bytes ++ b) sessions place) prefix (c.nop_count-count.ensures.idles bytes sessions place i))
-    (c.tick-left.ensures.stands kept) (sym all) split (length-drop (from + count - left - from) cut ∙ omega (arith, all, few))
-    c.tick-left.ensures.left.goes_on c.tick-left.ensures.fired refl refl refl (omega (arith, taken))
-    (ap due_count c.tick-left.ensures.due ∙ ap (λ (d : DeviceState). due_count d.registers.due) c.self.view_is ∙ c.requires.no_word_due)
+    (c.take_bytes-left.ensures.stands kept) (sym all) split (length-drop (from + count - left - from) cut ∙ omega (arith, all, few))
+    c.take_bytes-left.ensures.left.goes_on c.take_bytes-left.ensures.fired refl refl refl (omega (arith, taken))
+    (ap due_count c.take_bytes-left.ensures.due ∙ ap (λ (d : DeviceState). due_count d.registers.due) c.self.view_is ∙ c.requires.no_word_due)
 
-stands_after : (c : goal.After-self-2-1) → TakesJust c.args.self.now (device_after c) (between c.args.piece.now c.args.at.now (c.args.at.now + ((4 * c.nop_count-count.result) - c.tick-left.result)))
+stands_after : (c : goal.After-self-2-1) → TakesJust c.args.self.now (device_after c) (between c.args.piece.now c.args.at.now (c.args.at.now + ((4 * c.nop_count-count.result) - c.take_bytes-left.result)))
 stands_after c = λ part kept wrapped bytes s.
     let here : c.self.inside.part ≡ part = ap (λ (d : DeviceState). d.part) c.self.view_is ∙ s.part_is in
-    let more : List ℕ = between c.args.piece.now c.args.at.now (c.args.at.now + ((4 * c.nop_count-count.result) - c.tick-left.result)) in
+    let more : List ℕ = between c.args.piece.now c.args.at.now (c.args.at.now + ((4 * c.nop_count-count.result) - c.take_bytes-left.result)) in
     subst (λ (p : PartData). DeviceStandsFor p kept wrapped (device_after c) (bytes ++ more)) here
     (passed_here c kept wrapped bytes (subst (λ (p : PartData). DeviceStandsFor p kept wrapped c.args.self.now bytes) (sym here) s)).0
 
-silent_after : (c : goal.After-self-2-1) → GivesNone c.args.self.now (device_after c) (between c.args.piece.now c.args.at.now (c.args.at.now + ((4 * c.nop_count-count.result) - c.tick-left.result)))
+silent_after : (c : goal.After-self-2-1) → GivesNoWord c.args.self.now (device_after c) (between c.args.piece.now c.args.at.now (c.args.at.now + ((4 * c.nop_count-count.result) - c.take_bytes-left.result)))
 silent_after c = λ part kept wrapped bytes s.
     let here : c.self.inside.part ≡ part = ap (λ (d : DeviceState). d.part) c.self.view_is ∙ s.part_is in
-    let more : List ℕ = between c.args.piece.now c.args.at.now (c.args.at.now + ((4 * c.nop_count-count.result) - c.tick-left.result)) in
+    let more : List ℕ = between c.args.piece.now c.args.at.now (c.args.at.now + ((4 * c.nop_count-count.result) - c.take_bytes-left.result)) in
     given_same part kept c.args.self.now (device_after c) bytes (bytes ++ more) c.requires.no_word_due
-    (ap due_count c.tick-left.ensures.due ∙ ap (λ (d : DeviceState). due_count d.registers.due) c.self.view_is ∙ c.requires.no_word_due)
+    (ap due_count c.take_bytes-left.ensures.due ∙ ap (λ (d : DeviceState). due_count d.registers.due) c.self.view_is ∙ c.requires.no_word_due)
     (subst (λ (p : PartData). reads_of p kept (bytes ++ more) ≡ reads_of p kept bytes) here
     (passed_here c kept wrapped bytes (subst (λ (p : PartData). DeviceStandsFor p kept wrapped c.args.self.now bytes) (sym here) s)).1)
 
-quiet_after : (c : goal.After-self-2-1) → OfPast c.args.self.now (λ p. history_of (p.bytes ++ between c.args.piece.now c.args.at.now (c.args.at.now + ((4 * c.nop_count-count.result) - c.tick-left.result))) ≡ history_of p.bytes)
+quiet_after : (c : goal.After-self-2-1) → OfPast c.args.self.now (λ p. history_of (p.bytes ++ between c.args.piece.now c.args.at.now (c.args.at.now + ((4 * c.nop_count-count.result) - c.take_bytes-left.result))) ≡ history_of p.bytes)
 quiet_after c = λ part kept wrapped bytes s.
     let here : c.self.inside.part ≡ part = ap (λ (d : DeviceState). d.part) c.self.view_is ∙ s.part_is in
     (passed_here c kept wrapped bytes (subst (λ (p : PartData). DeviceStandsFor p kept wrapped c.args.self.now bytes) (sym here) s)).2
 
 pub invariant_of-self : goal.invariant_of-self
 invariant_of-self c = record {
-  frames = subst (FramesFit c.self.inside.part) (sym c.tick-left.ensures.frames) c.self.invariant.frames;
-  past = past_later c.args.self.now (device_after c) (between c.args.piece.now c.args.at.now (c.args.at.now + ((4 * c.nop_count-count.result) - c.tick-left.result))) (stands_after c) (subst HasSomePast c.self.view_is c.self.invariant.past);
+  frames = subst (FramesFit c.self.inside.part) (sym c.take_bytes-left.ensures.frames) c.self.invariant.frames;
+  past = past_later c.args.self.now (device_after c) (between c.args.piece.now c.args.at.now (c.args.at.now + ((4 * c.nop_count-count.result) - c.take_bytes-left.result))) (stands_after c) (subst HasSomePast c.self.view_is c.self.invariant.past);
 }
 
 pub returns-clause-quiet : goal.returns-clause-quiet
@@ -100,6 +100,6 @@ returns-clause-turned c = record {
     stands = stands_after c;
     silent = silent_after c;
     commands = λ part kept wrapped bytes s.
-        quiet_commands bytes (between c.args.piece.now c.args.at.now (c.args.at.now + ((4 * c.nop_count-count.result) - c.tick-left.result))) (stands_after c part kept wrapped bytes s).fits (quiet_after c part kept wrapped bytes s);
+        quiet_commands bytes (between c.args.piece.now c.args.at.now (c.args.at.now + ((4 * c.nop_count-count.result) - c.take_bytes-left.result))) (stands_after c part kept wrapped bytes s).fits (quiet_after c part kept wrapped bytes s);
   };
 }

@@ -4,7 +4,7 @@ use Rattle.x7_part.specs.Part.{PartData}
 use Rattle.x7_flow.specs.Standing.{FramesFit}
 use Rattle.x7_engine.specs.declared.due.Due.{Due}
 use Rattle.x7_engine.specs.Past.{past_of}
-use Rattle.x7_engine.specs.Standing.{DeviceStandsFor, DeviceState, due_count, registers_in, words_left}
+use Rattle.x7_engine.specs.Standing.{DeviceStandsFor, DeviceState, due_count, registers_in, words_still_due}
 use Rattle.x7_engine.specs.Stop.{stopped_at}
 use Rattle.x7_engine.proofs.device.Device.reset.Goals as goal
 
@@ -20,8 +20,8 @@ first c =
       stop_is = sym (ap (stopped_at 0) c.reset.ensures.going);
       registers_are = c.reset.ensures.stands c.args.self.now.part fit;
       cutter_is = λ _. record { sessions = []; place = Searching []; stands = c.new-self-inside.ensures };
-      due_are = record { given = []; all = sym (ap (λ (d : Due). words_left c.args.self.now.part [] d) c.reset.ensures.no_word_due) };
-      at_rest = λ why q. ap due_count c.reset.ensures.no_word_due;
+      due_are = record { given = []; all = sym (ap (λ (d : Due). words_still_due c.args.self.now.part [] d) c.reset.ensures.no_word_due) };
+      none_due_at_stop = λ why q. ap due_count c.reset.ensures.no_word_due;
     }
 
 pub invariant_of-self : goal.invariant_of-self

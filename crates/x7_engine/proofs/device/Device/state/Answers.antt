@@ -4,7 +4,7 @@ use Rattle.x7_part.specs.Part.{PartData}
 use Rattle.x7_regs.specs.declared.register.Reg.{Reg}
 use Rattle.x7_regs.specs.declared.register.Reg.TheVariants as reg
 use Rattle.x7_engine.specs.Course.{Course, course_at}
-use Rattle.x7_engine.specs.declared.stop.Stop.{Stop}
+use Rattle.x7_engine.specs.declared.stop.StopCause.{StopCause}
 use Rattle.x7_flow.specs.Flow.{far_in, flow_of}
 use Rattle.x7_flow.specs.Standing.{without_due}
 use Rattle.x7_engine.specs.Standing.{DeviceStandsFor, DeviceState, RegistersStandFor, frames_due, registers_in}
@@ -32,7 +32,7 @@ returns-clause-owing c = λ given kept wrapped bytes s.
     let all_taken : length bytes ≡ n = sym (taken_is part kept wrapped (fields_of c) bytes stands) in
     let regs : RegistersStandFor part kept (registers_in c.self.inside.registers) h n = subst (λ (k : ℕ). RegistersStandFor part kept (registers_in c.self.inside.registers) h k) all_taken stands.registers_are in
     let shown : (r : Reg) → register_value course false (stop_fault c.self.inside.registers.stop) r ≡ register_value course false (stop_fault (why_of (stop_in part kept bytes))) r =
-    λ r. ap (λ (o : Option Stop). register_value course false (stop_fault o) r) (sym (why_is part kept wrapped (fields_of c) bytes stands)) in
+    λ r. ap (λ (o : Option StopCause). register_value course false (stop_fault o) r) (sym (why_is part kept wrapped (fields_of c) bytes stands)) in
     let taken : c.self.inside.taken ≡ n = stands.taken_is ∙ sym (taken_is part kept wrapped (fields_of c) bytes stands) in
     let phase : c.phase.result ≡ phase_by part (startup_progress h n) = c.phase.ensures.value part h n regs.clock.startup in
     let lines : c.lines.result ≡ lines_by part (startup_progress h n) = c.lines.ensures part h n regs.clock.startup in

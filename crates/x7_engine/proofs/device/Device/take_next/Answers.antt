@@ -1,7 +1,7 @@
 use Rattle.std.proofs.Common.{◌≡◌, ◌-◌, ◌++◌, ℕ, true, false, List, length, Option, sym, ap, subst, ◌∙◌, append_assoc, arith, rules}
 use Rattle.std.specs.Option.{is_some}
 use Rattle.x7_packets.specs.Cutter.{CutterState, between, calls_left}
-use Rattle.x7_engine.specs.declared.stop.Stop.{Stop}
+use Rattle.x7_engine.specs.declared.stop.StopCause.{StopCause}
 use Rattle.x7_engine.specs.Standing.{DeviceStandsFor, reads_given}
 use Rattle.x7_engine.specs.Turns.{TakesTurn}
 use Rattle.x7_engine.specs.UntilStarted.{CommandsLast}
@@ -38,7 +38,7 @@ pub returns-then-has_stopped : goal.returns-then-has_stopped
 returns-then-has_stopped c = record {
   turned = c.pass_nops.ensures.turned;
   used_up = λ e. absurd cc;
-  goes_on = λ e f. absurd (let both : true ≡ false = sym c.if-has_stopped.true ∙ c.has_stopped.ensures ∙ ap (λ (o : Option Stop). is_some o) f in cc);
+  goes_on = λ e f. absurd (let both : true ≡ false = sym c.if-has_stopped.true ∙ c.has_stopped.ensures ∙ ap (λ (o : Option StopCause). is_some o) f in cc);
 }
 
 pub returns : goal.returns

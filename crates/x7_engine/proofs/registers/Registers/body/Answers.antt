@@ -19,24 +19,24 @@ returns-in-Effective c =
     let part : PartData = c.args.part.now in
     let bytes : List ℕ = c.args.bytes.now in
     let register : ℕ = number_of c.in-Effective.reg in
-    let k : ℕ = c.at_once-taken.result in
-    let r : ℕ = c.each.result in
+    let k : ℕ = c.words_at_once-taken.result in
+    let r : ℕ = c.words_one_by_one.result in
     let size : length (take (length bytes - k) (drop k bytes)) ≡ length bytes - k = ap length (take_rest bytes k) ∙ length-drop k bytes in
     rw c.in-Effective.is record {
       takes = record {
-        within = omega (arith, size, c.at_once-taken.ensures.within, c.each.ensures.takes.within);
-        some = λ l. some_taken k r (length bytes) (λ l. c.each.ensures.takes.some (omega (arith, l, size))) l;
-        goes_on = λ e. omega (arith, size, c.at_once-taken.ensures.within, c.each.ensures.takes.goes_on e);
+        within = omega (arith, size, c.words_at_once-taken.ensures.within, c.words_one_by_one.ensures.takes.within);
+        some = λ l. some_taken k r (length bytes) (λ l. c.words_one_by_one.ensures.takes.some (omega (arith, l, size))) l;
+        goes_on = λ e. omega (arith, size, c.words_at_once-taken.ensures.within, c.words_one_by_one.ensures.takes.goes_on e);
       };
-      leaves = record { due = c.each.ensures.leaves.due ∙ c.at_once-taken.ensures.leaves.due; frames = c.each.ensures.leaves.frames };
+      leaves = record { due = c.words_one_by_one.ensures.leaves.due ∙ c.words_at_once-taken.ensures.leaves.due; frames = c.words_one_by_one.ensures.leaves.frames };
       stands = λ kept h n s. (
           let prefix : History = entered_all n (payload_steps register (words_of_bytes (take k bytes))) h in
-          let one : RegistersStandFor part kept (registers_in c.at_once-taken.new.self) prefix (n + k) = c.at_once-taken.ensures.stands kept h n s in
-          let rest = c.each.ensures.stands kept prefix (n + k) one in
-          let same : entered_all (n + k) (payload_steps register (words_of_bytes (take (length bytes - k) (drop k bytes)))) prefix ≡ entered_all n (payload_steps register (words_of_bytes bytes)) h = rest_entered register n k bytes h c.at_once-taken.ensures.whole c.at_once-taken.ensures.within in
+          let one : RegistersStandFor part kept (registers_in c.words_at_once-taken.new.self) prefix (n + k) = c.words_at_once-taken.ensures.stands kept h n s in
+          let rest = c.words_one_by_one.ensures.stands kept prefix (n + k) one in
+          let same : entered_all (n + k) (payload_steps register (words_of_bytes (take (length bytes - k) (drop k bytes)))) prefix ≡ entered_all n (payload_steps register (words_of_bytes bytes)) h = rest_entered register n k bytes h c.words_at_once-taken.ensures.whole c.words_at_once-taken.ensures.within in
           let sum : n + k + r ≡ n + (k + r) = omega arith in
-          subst (λ (x : ℕ). RegistersStandFor part kept (registers_in c.each.new.self) (until (counted_in c.each.new.self.stop x) (entered_all n (payload_steps register (words_of_bytes bytes)) h)) x) sum
-          (subst (λ (t : History). RegistersStandFor part kept (registers_in c.each.new.self) (until (counted_in c.each.new.self.stop (n + k + r)) t) (n + k + r)) same rest));
+          subst (λ (x : ℕ). RegistersStandFor part kept (registers_in c.words_one_by_one.new.self) (until (counted_in c.words_one_by_one.new.self.stop x) (entered_all n (payload_steps register (words_of_bytes bytes)) h)) x) sum
+          (subst (λ (t : History). RegistersStandFor part kept (registers_in c.words_one_by_one.new.self) (until (counted_in c.words_one_by_one.new.self.stop (n + k + r)) t) (n + k + r)) same rest));
     }
 
 pub returns-in-Plain : goal.returns-in-Plain

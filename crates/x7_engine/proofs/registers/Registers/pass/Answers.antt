@@ -1,7 +1,7 @@
 use Rattle.std.proofs.Common.{◌≡◌, ◌∷◌, Option, None, refl, sym, ap, ◌∙◌, arith}
 use Rattle.x7_packets.specs.History.{Write, entry}
 use Rattle.x7_flow.proofs.TakenLemmas.{other_access}
-use Rattle.x7_engine.specs.declared.stop.Stop.{Stop}
+use Rattle.x7_engine.specs.declared.stop.StopCause.{StopCause}
 use Rattle.x7_engine.specs.Standing.{counted_in, registers_in}
 use Rattle.x7_engine.specs.Stop.{stop_of, stopped_at}
 use Rattle.x7_engine.proofs.ClockLemmas.{stop_of_access}
@@ -28,6 +28,6 @@ returns c = λ part ready. record {
             (other_access part c.args.self.now.frames h (entry (Write c.args.plain.register c.args.word) place) (plain_asks part.idcode h c.args.plain.register c.args.word p) (standing_frames part c.args.self.now.frames c.args.self.now.stop h c.args.self.now.due ready.going ready.no_word_due s.frames));
         due_kind = none_among c.args.self.now.due (entry (Write c.args.plain.register c.args.word) place ∷ h) ready.no_word_due;
       });
-  counts = λ n. ap (λ (o : Option Stop). counted_in o n) ready.going;
+  counts = λ n. ap (λ (o : Option StopCause). counted_in o n) ready.going;
   leaves = record { due = refl; frames = ready.frames };
 }

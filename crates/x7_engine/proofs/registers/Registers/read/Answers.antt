@@ -9,10 +9,10 @@ use Rattle.x7_flow.specs.Standing.{FramesStandFor, frames_read}
 use Rattle.x7_flow.proofs.StandingLemmas.{other_read}
 use Rattle.x7_engine.specs.Course.{course_at}
 use Rattle.x7_engine.specs.declared.kept.Kept.{Kept}
-use Rattle.x7_engine.specs.declared.stop.Stop.{Stop}
+use Rattle.x7_engine.specs.declared.stop.StopCause.{StopCause}
 use Rattle.x7_engine.specs.Standing.{FramesAre, frames_due, registers_in}
-use Rattle.x7_engine.specs.Stop.{why_by_frames, why_at, stop_by, stop_of, stopped_at}
-use Rattle.x7_engine.specs.Value.{answer_of, read_value, words_answered}
+use Rattle.x7_engine.specs.Stop.{why_by_frames, why_at, stop_of_refused, stop_of, stopped_at}
+use Rattle.x7_engine.specs.Value.{words_read_by, read_value, words_of_read}
 use Rattle.x7_engine.proofs.ClockLemmas.{stop_of_access}
 use Rattle.x7_engine.proofs.FrameLemmas.{frames_at, goes_on, none_among, none_frames, none_left, refused, standing_frames}
 use Rattle.x7_engine.proofs.PlainLemmas.{clock_other}
@@ -21,8 +21,8 @@ use Rattle.x7_engine.proofs.registers.Registers.read.Goals as goal
 read_why : (part : PartData) (kept : Kept) (h : History) (register count : ℕ) (result : Option RunFault) → frame_fault part h (Read register count) ≡ result → why_at part kept h (Read register count) ≡ why_by_frames result
 read_why part kept h register count result e = ap why_by_frames e
 
-answered : (part : PartData) (kept : Kept) (h : History) (register count place : ℕ) (why : Option Stop) → why_at part kept h (Read register count) ≡ why → answer_of part kept h (Read register count) place ≡ (if is_some why then [] else words_answered (course_at part kept h place) register count)
-answered part kept h register count place why e = ap (λ (o : Option Stop). if is_some o then [] else words_answered (course_at part kept h place) register count) e
+answered : (part : PartData) (kept : Kept) (h : History) (register count place : ℕ) (why : Option StopCause) → why_at part kept h (Read register count) ≡ why → words_read_by part kept h (Read register count) place ≡ (if is_some why then [] else words_of_read (course_at part kept h place) register count)
+answered part kept h register count place why e = ap (λ (o : Option StopCause). if is_some o then [] else words_of_read (course_at part kept h place) register count) e
 
 pub returns-then-not-reads_frames-clause-stands : goal.returns-then-not-reads_frames-clause-stands
 returns-then-not-reads_frames-clause-stands c = λ kept h place next s.
@@ -61,7 +61,7 @@ returns-in-Some-clause-stands c = λ kept h place next s.
     let frames : reads_frame_data h (Read c.args.register c.args.count) ≡ true = sym (c.reads_frames.ensures part.idcode h (c.settings.ensures.after part kept h place s)) ∙ c.if-not-reads_frames.false in
     let are : FramesStandFor part c.args.self.now.frames h 0 = standing_frames part c.args.self.now.frames c.args.self.now.stop h c.args.self.now.due c.requires.ready.going c.requires.ready.no_word_due s.frames in
     let refusal : frame_fault part h (Read c.args.register c.args.count) ≡ Some c.in-Some.fault = c.in-Some.ensures h c.args.register c.args.count place frames are in
-    let why : c.stop_of_refused.result ≡ stop_by c.in-Some.fault = c.stop_of_refused.ensures.value in
+    let why : c.stop_of_refused.result ≡ stop_of_refused c.in-Some.fault = c.stop_of_refused.ensures.value in
     record {
       places = (next.0, omega arith, next.1);
       words = record { each = s.words.each };
@@ -71,8 +71,8 @@ returns-in-Some-clause-stands c = λ kept h place next s.
       before = s.before;
       clock = clock_other part kept (registers_in c.args.self.now).clock h (Read c.args.register c.args.count) place refl refl s.clock;
       stop = stop_of_access part kept h (Read c.args.register c.args.count) place going ∙ ap (stopped_at place) (read_why part kept h c.args.register c.args.count (Some c.in-Some.fault) refusal ∙ ap Some (sym why));
-      frames = subst (λ (l : Stop). FramesAre part c.args.self.now.frames (Some l) (entry (Read c.args.register c.args.count) place ∷ h) (frames_due c.args.self.now.due)) (sym why)
-          (subst (λ (n : ℕ). FramesAre part c.args.self.now.frames (Some (stop_by c.in-Some.fault)) (entry (Read c.args.register c.args.count) place ∷ h) n) (sym (none_frames c.args.self.now.due c.requires.ready.no_word_due))
+      frames = subst (λ (l : StopCause). FramesAre part c.args.self.now.frames (Some l) (entry (Read c.args.register c.args.count) place ∷ h) (frames_due c.args.self.now.due)) (sym why)
+          (subst (λ (n : ℕ). FramesAre part c.args.self.now.frames (Some (stop_of_refused c.in-Some.fault)) (entry (Read c.args.register c.args.count) place ∷ h) n) (sym (none_frames c.args.self.now.due c.requires.ready.no_word_due))
           (refused part c.args.self.now.frames h (entry (Read c.args.register c.args.count) place) c.in-Some.fault refusal are));
       due_kind = none_among c.args.self.now.due (entry (Read c.args.register c.args.count) place ∷ h) c.requires.ready.no_word_due;
     }
@@ -83,7 +83,7 @@ returns-in-Some-clause-reads c = λ kept h place s.
     let frames : reads_frame_data h (Read c.args.register c.args.count) ≡ true = sym (c.reads_frames.ensures part.idcode h (c.settings.ensures.after part kept h place s)) ∙ c.if-not-reads_frames.false in
     let are : FramesStandFor part c.args.self.now.frames h 0 = standing_frames part c.args.self.now.frames c.args.self.now.stop h c.args.self.now.due c.requires.ready.going c.requires.ready.no_word_due s.frames in
     let refusal : frame_fault part h (Read c.args.register c.args.count) ≡ Some c.in-Some.fault = c.in-Some.ensures h c.args.register c.args.count place frames are in
-    answered part kept h c.args.register c.args.count place (Some (stop_by c.in-Some.fault)) (read_why part kept h c.args.register c.args.count (Some c.in-Some.fault) refusal)
+    answered part kept h c.args.register c.args.count place (Some (stop_of_refused c.in-Some.fault)) (read_why part kept h c.args.register c.args.count (Some c.in-Some.fault) refusal)
     ∙ sym (none_left part (entry (Read c.args.register c.args.count) place ∷ h) c.args.self.now.due c.requires.ready.no_word_due)
 
 pub returns-in-None-clause-stands : goal.returns-in-None-clause-stands

@@ -13,33 +13,33 @@ use Rattle.x7_engine.proofs.registers.Registers.run.Goals as goal
 
 pub returns-in-Need-clause-stands : goal.returns-in-Need-clause-stands
 returns-in-Need-clause-stands c = λ kept h from n e s.
-    rw c.in-Need.is (subst (λ (t : History). RegistersStandFor c.args.part.now kept (registers_in c.tick.new.self) t (n + (c.args.count - c.tick.result)))
-    (sym (quiet_until c.tick.new.self.stop n c.args.count c.tick.result h c.tick.ensures.fired s.places)) (c.tick.ensures.stands kept h n s))
+    rw c.in-Need.is (subst (λ (t : History). RegistersStandFor c.args.part.now kept (registers_in c.take_bytes.new.self) t (n + (c.args.count - c.take_bytes.result)))
+    (sym (quiet_until c.take_bytes.new.self.stop n c.args.count c.take_bytes.result h c.take_bytes.ensures.fired s.places)) (c.take_bytes.ensures.stands kept h n s))
 
 pub returns-in-Need-clause-reads : goal.returns-in-Need-clause-reads
 returns-in-Need-clause-reads c = λ kept h from n e s.
-    rw c.in-Need.is (ap (read_out c.args.part.now kept) (quiet_until c.tick.new.self.stop n c.args.count c.tick.result h c.tick.ensures.fired s.places)
-    ∙ no_word_due (read_out c.args.part.now kept h) c.args.part.now _ c.tick.new.self.due (ap due_count c.tick.ensures.due ∙ c.requires.ready.no_word_due))
+    rw c.in-Need.is (ap (read_out c.args.part.now kept) (quiet_until c.take_bytes.new.self.stop n c.args.count c.take_bytes.result h c.take_bytes.ensures.fired s.places)
+    ∙ no_word_due (read_out c.args.part.now kept h) c.args.part.now _ c.take_bytes.new.self.due (ap due_count c.take_bytes.ensures.due ∙ c.requires.ready.no_word_due))
 
 pub returns-in-Skip-clause-stands : goal.returns-in-Skip-clause-stands
 returns-in-Skip-clause-stands c = λ kept h from n e s.
-    rw c.in-Skip.is (subst (λ (t : History). RegistersStandFor c.args.part.now kept (registers_in c.tick-in-Skip.new.self) t (n + (c.args.count - c.tick-in-Skip.result)))
-    (sym (quiet_until c.tick-in-Skip.new.self.stop n c.args.count c.tick-in-Skip.result h c.tick-in-Skip.ensures.fired s.places)) (c.tick-in-Skip.ensures.stands kept h n s))
+    rw c.in-Skip.is (subst (λ (t : History). RegistersStandFor c.args.part.now kept (registers_in c.take_bytes-in-Skip.new.self) t (n + (c.args.count - c.take_bytes-in-Skip.result)))
+    (sym (quiet_until c.take_bytes-in-Skip.new.self.stop n c.args.count c.take_bytes-in-Skip.result h c.take_bytes-in-Skip.ensures.fired s.places)) (c.take_bytes-in-Skip.ensures.stands kept h n s))
 
 pub returns-in-Skip-clause-reads : goal.returns-in-Skip-clause-reads
 returns-in-Skip-clause-reads c = λ kept h from n e s.
-    rw c.in-Skip.is (ap (read_out c.args.part.now kept) (quiet_until c.tick-in-Skip.new.self.stop n c.args.count c.tick-in-Skip.result h c.tick-in-Skip.ensures.fired s.places)
-    ∙ no_word_due (read_out c.args.part.now kept h) c.args.part.now _ c.tick-in-Skip.new.self.due (ap due_count c.tick-in-Skip.ensures.due ∙ c.requires.ready.no_word_due))
+    rw c.in-Skip.is (ap (read_out c.args.part.now kept) (quiet_until c.take_bytes-in-Skip.new.self.stop n c.args.count c.take_bytes-in-Skip.result h c.take_bytes-in-Skip.ensures.fired s.places)
+    ∙ no_word_due (read_out c.args.part.now kept h) c.args.part.now _ c.take_bytes-in-Skip.new.self.due (ap due_count c.take_bytes-in-Skip.ensures.due ∙ c.requires.ready.no_word_due))
 
 pub returns-in-Sync-clause-stands : goal.returns-in-Sync-clause-stands
 returns-in-Sync-clause-stands c = λ kept h from n e s.
-    rw c.in-Sync.is (subst (λ (t : History). RegistersStandFor c.args.part.now kept (registers_in c.tick-in-Sync.new.self) t (n + (c.args.count - c.tick-in-Sync.result)))
-    (sym (quiet_until c.tick-in-Sync.new.self.stop n c.args.count c.tick-in-Sync.result h c.tick-in-Sync.ensures.fired s.places)) (c.tick-in-Sync.ensures.stands kept h n s))
+    rw c.in-Sync.is (subst (λ (t : History). RegistersStandFor c.args.part.now kept (registers_in c.take_bytes-in-Sync.new.self) t (n + (c.args.count - c.take_bytes-in-Sync.result)))
+    (sym (quiet_until c.take_bytes-in-Sync.new.self.stop n c.args.count c.take_bytes-in-Sync.result h c.take_bytes-in-Sync.ensures.fired s.places)) (c.take_bytes-in-Sync.ensures.stands kept h n s))
 
 pub returns-in-Sync-clause-reads : goal.returns-in-Sync-clause-reads
 returns-in-Sync-clause-reads c = λ kept h from n e s.
-    rw c.in-Sync.is (ap (read_out c.args.part.now kept) (quiet_until c.tick-in-Sync.new.self.stop n c.args.count c.tick-in-Sync.result h c.tick-in-Sync.ensures.fired s.places)
-    ∙ no_word_due (read_out c.args.part.now kept h) c.args.part.now _ c.tick-in-Sync.new.self.due (ap due_count c.tick-in-Sync.ensures.due ∙ c.requires.ready.no_word_due))
+    rw c.in-Sync.is (ap (read_out c.args.part.now kept) (quiet_until c.take_bytes-in-Sync.new.self.stop n c.args.count c.take_bytes-in-Sync.result h c.take_bytes-in-Sync.ensures.fired s.places)
+    ∙ no_word_due (read_out c.args.part.now kept h) c.args.part.now _ c.take_bytes-in-Sync.new.self.due (ap due_count c.take_bytes-in-Sync.ensures.due ∙ c.requires.ready.no_word_due))
 
 pub returns-in-Word-clause-stands : goal.returns-in-Word-clause-stands
 returns-in-Word-clause-stands c = λ kept h from n e s.

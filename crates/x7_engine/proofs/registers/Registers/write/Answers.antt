@@ -23,7 +23,7 @@ returns c = record {
       let going : stop_of part kept h place ≡ None = s.stop ∙ ap (stopped_at place) c.requires.ready.going in
       let are : FramesStandFor part c.args.self.now.frames h 0 = standing_frames part c.args.self.now.frames c.args.self.now.stop h c.args.self.now.due c.requires.ready.going c.requires.ready.no_word_due s.frames in
       let refused = c.write-refused.ensures.fault h (c.settings-settings.ensures.after part kept h place s) are in
-      let why = c.why_of_write-why.ensures.value kept h place s command in
+      let why = c.why_by_write-why.ensures.value kept h place s command in
       let after = c.write-refused.ensures.stands h (c.settings-settings.ensures.after part kept h place s) are place in
       record {
         places = (next.0, omega arith, next.1);
@@ -33,11 +33,11 @@ returns c = record {
         kind = s.kind;
         before = s.before;
         clock = c.write-3.ensures place part kept h (record { executed_is = command; taken_is = taken; cor0_is = cor0 }) s.clock;
-        stop = stop_of_access part kept h access place going ∙ ap (stopped_at place) (sym (why_is part kept h access c.why_of_write-why.result c.first_of-self.result c.write-refused.result refused why c.first_of-self.ensures.value));
-        frames = subst (λ (n : ℕ). FramesAre part c.write-refused.new.self c.first_of-self.result (entry access place ∷ h) n) (sym (none_frames c.args.self.now.due c.requires.ready.no_word_due))
-            (access_frames part kept c.args.self.now.frames c.write-refused.new.self h (entry access place) c.why_of_write-why.result c.first_of-self.result c.write-refused.result are after refused why c.first_of-self.ensures.value);
+        stop = stop_of_access part kept h access place going ∙ ap (stopped_at place) (sym (why_is part kept h access c.why_by_write-why.result c.first_cause-self.result c.write-refused.result refused why c.first_cause-self.ensures.value));
+        frames = subst (λ (n : ℕ). FramesAre part c.write-refused.new.self c.first_cause-self.result (entry access place ∷ h) n) (sym (none_frames c.args.self.now.due c.requires.ready.no_word_due))
+            (access_frames part kept c.args.self.now.frames c.write-refused.new.self h (entry access place) c.why_by_write-why.result c.first_cause-self.result c.write-refused.result are after refused why c.first_cause-self.ensures.value);
         due_kind = none_among c.args.self.now.due (entry access place ∷ h) c.requires.ready.no_word_due;
       });
-  counts = λ n. c.first_of-self.ensures.counts n (c.why_of_write-why.ensures.counts n);
+  counts = λ n. c.first_cause-self.ensures.counts n (c.why_by_write-why.ensures.counts n);
   leaves = record { due = refl; frames = c.write-refused.ensures.part };
 }

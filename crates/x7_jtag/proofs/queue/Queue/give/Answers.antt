@@ -27,5 +27,5 @@ returns-clause-stands c = λ part q s.
     (omega (arith, c.if-self-gt0.false, ap (λ (q : QueueState). q.left) c.self.view_is)) fits c.feed-fed.ensures.within
     (c.feed-fed.ensures.stands part on_the_bench false bytes device) (c.feed-fed.ensures.answer part on_the_bench false bytes device) silent
     (subst (λ (b : ReadBufState). RoomBefore (record { part = part; kept = on_the_bench; wrapped = false; bytes = bytes }) piece (taken_in (length piece) c.feed-fed.result) (words_taken part c.args.device.now bytes) b) c.full.ensures
-    (c.feed-fed.ensures.first part on_the_bench false bytes device)) (λ stop. (let all = c.feed-fed.ensures.stopped part on_the_bench false bytes device stop in (all.0, all.2))) c.given_of-count.ensures
+    (c.feed-fed.ensures.room part on_the_bench false bytes device)) (λ stop. (let all = c.feed-fed.ensures.stopped part on_the_bench false bytes device stop in (all.0, all.2))) c.given_of-count.ensures
     (λ given held out t. c.feed.ensures.stands part (queue_of given held out) t (λ l. absurd (omega (arith, l))))

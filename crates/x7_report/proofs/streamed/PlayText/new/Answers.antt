@@ -6,7 +6,7 @@ use Rattle.x7_engine.specs.declared.regs.Regs.{Regs}
 use Rattle.x7_engine.specs.Standing.{DeviceStandsFor, frames_due}
 use Rattle.x7_engine.specs.State.{memory_in, state_of, state_owing}
 use Rattle.x7_report.specs.Reports.{PlayTextState}
-use Rattle.x7_report.specs.Frames.{lines_text}
+use Rattle.x7_report.specs.Frames.{frame_lines_text}
 use Rattle.x7_report.specs.Reads.{reads_text}
 use Rattle.x7_report.specs.Reports.{report_text}
 use Rattle.x7_report.specs.State.{state_text}
@@ -19,7 +19,7 @@ answer_with stopped text = record { stopped = stopped; text = text }
 -- the report of this state
 shows : (c : goal.In-Ok) (part : PartData) (kept : Kept) (wrapped : Bool) (bytes : List ℕ) (state : Regs) → DeviceStandsFor part kept wrapped c.args.device bytes
     → c.in_ok-head.head.items ≡ state_text part.name state ++ reads_text c.args.reads.now ++ codes "frames " ++ decimal c.len.result ++ codes "\n"
-    → answer_with c.args.stopped (c.in_ok-head.head.items ++ lines_text (frame_at c.args.device.part c.args.device.registers.frames.memory) c.in_ok-fars.fars.items)
+    → answer_with c.args.stopped (c.in_ok-head.head.items ++ frame_lines_text (frame_at c.args.device.part c.args.device.registers.frames.memory) c.in_ok-fars.fars.items)
     ≡ answer_with c.args.stopped (report_text part state c.args.reads.now (memory_in part kept bytes))
 shows c part kept wrapped bytes state s is =
     let p = c.part.result.now in
@@ -31,8 +31,8 @@ shows c part kept wrapped bytes state s is =
     let begun = is ∙ ap (λ (n : ℕ). state_text part.name state ++ reads_text reads ++ codes "frames " ++ decimal n ++ codes "\n") count in
     let whole = play_is p part state reads m (memory_in part kept bytes) head fars (c.part.ensures.value part kept wrapped bytes s) (c.memory.ensures.shows part kept wrapped bytes s) c.in_ok-fars.ensures begun in
     ap (answer_with c.args.stopped)
-    (ap (λ (x : PartData). head ++ lines_text (frame_at x c.args.device.registers.frames.memory) fars) (sym c.part.ensures.now)
-    ∙ ap (λ (x : List (List ℕ)). head ++ lines_text (frame_at p x) fars) (sym c.memory.ensures.now)
+    (ap (λ (x : PartData). head ++ frame_lines_text (frame_at x c.args.device.registers.frames.memory) fars) (sym c.part.ensures.now)
+    ∙ ap (λ (x : List (List ℕ)). head ++ frame_lines_text (frame_at p x) fars) (sym c.memory.ensures.now)
     ∙ whole)
 
 pub returns : goal.returns

@@ -1,6 +1,6 @@
 use Rattle.std.proofs.Common.{ap}
 use Rattle.x7_memory.specs.Frames.{frame_at}
-use Rattle.x7_report.specs.Frames.{lines_text}
+use Rattle.x7_report.specs.Frames.{frame_lines_text}
 use Rattle.x7_report.specs.Reports.{PlayTextState}
 use Rattle.x7_report.proofs.LinesLemmas.{report_began, report_failed, report_whole, whole_put}
 use Rattle.x7_report.proofs.streamed.PlayText.write.Goals as goal
@@ -9,7 +9,7 @@ pub returns-in_err-write_all-clause-prefix : goal.returns-in_err-write_all-claus
 returns-in_err-write_all-clause-prefix g c =
     let s = g.S.Sink in
     report_began (s.state c.args.out.now).written (s.state c.write_all.new.sink).written c.deref.result.now c.self.inside.head.items
-    (lines_text (frame_at c.self.inside.device.part c.self.inside.device.registers.frames.memory) c.self.inside.fars.items) c.args.self.now.text c.deref.ensures.value (ap (λ (a : PlayTextState). a.text) c.self.view_is) c.in_err-write_all.ensures.prefix
+    (frame_lines_text (frame_at c.self.inside.device.part c.self.inside.device.registers.frames.memory) c.self.inside.fars.items) c.args.self.now.text c.deref.ensures.value (ap (λ (a : PlayTextState). a.text) c.self.view_is) c.in_err-write_all.ensures.prefix
 
 pub returns-in_err-write_lines-clause-prefix : goal.returns-in_err-write_lines-clause-prefix
 returns-in_err-write_lines-clause-prefix g c =

@@ -5,10 +5,10 @@ use Rattle.x7_engine.specs.Startup.{has_ended}
 use Rattle.x7_engine.specs.Kept.{is_fallback}
 use Rattle.x7_engine.specs.Watching.{watch_calls}
 use Rattle.x7_engine.proofs.ClockLemmas.{alike_fires, alike_quiet, calls_alike, startup_bytes}
-use Rattle.x7_engine.proofs.clock.Clock.alike.Goals as goal
+use Rattle.x7_engine.proofs.clock.Clock.bytes_alike.Goals as goal
 
-pub returns-in_default-clause-ticks : goal.returns-in_default-clause-ticks
-returns-in_default-clause-ticks c = λ kept h n a.
+pub returns-in_default-clause-takes : goal.returns-in_default-clause-takes
+returns-in_default-clause-takes c = λ kept h n a.
     let l : newest_place h ≤ n = a.newest in
     let f : (i : ℕ) → i < c.args.count → has_ended c.args.part.now h (n + i + 1) ≡ c.args.eos = a.each in
     let q = c.in_default.ensures.quiet (is_fallback kept.kind) kept.timer (watch_calls c.args.part.now h n) a.stands.watchdog in (
@@ -19,8 +19,8 @@ returns-in_default-clause-ticks c = λ kept h n a.
       alike_quiet c.args.part.now kept h n c.args.count c.args.eos l f q.1,
     )
 
-pub returns-clause-ticks : goal.returns-clause-ticks
-returns-clause-ticks c = λ kept h n a.
+pub returns-clause-takes : goal.returns-clause-takes
+returns-clause-takes c = λ kept h n a.
     let l : newest_place h ≤ n = a.newest in
     let f : (i : ℕ) → i < c.args.count → has_ended c.args.part.now h (n + i + 1) ≡ c.args.eos = a.each in
     let q = c.in-Some.ensures.fires (is_fallback kept.kind) kept.timer (watch_calls c.args.part.now h n) a.stands.watchdog in

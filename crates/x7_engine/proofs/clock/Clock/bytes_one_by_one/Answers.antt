@@ -1,7 +1,7 @@
 use Rattle.std.proofs.Common.{◌≡◌, ◌+◌, ◌<◌, ◌≤◌, ℕ, sym, subst, ◌∙◌, arith, refl}
 use Rattle.x7_engine.specs.Clock.{newest_place, IsClock, clock_in}
 use Rattle.x7_engine.proofs.ClockLemmas.{first_is, none_more}
-use Rattle.x7_engine.proofs.clock.Clock.each.Goals as goal
+use Rattle.x7_engine.proofs.clock.Clock.bytes_one_by_one.Goals as goal
 
 pub loop-i-init : goal.loop-i-init
 loop-i-init c = record {
@@ -12,7 +12,7 @@ loop-i-init c = record {
 pub returns-then-byte : goal.returns-then-byte
 returns-then-byte c = record {
   within = let few : c.loop-i.i < c.args.count = c.loop-i-test.true in (omega arith, omega (arith, few));
-  ticks = λ kept h n l s. (
+  takes = λ kept h n l s. (
       let before = c.loop-i.invariant.clock kept h n l s in
       let sum : n + c.loop-i.i + 1 ≡ n + (c.loop-i.i + 1) = omega arith in
       let within : newest_place h ≤ n + c.loop-i.i = omega (arith, l) in
@@ -38,12 +38,12 @@ loop-i-preserved c = record {
 
 pub returns-then-has_ended : goal.returns-then-has_ended
 returns-then-has_ended c = record {
-  within = c.go_on.ensures.within;
-  ticks = λ kept h n l s. (
+  within = c.bytes_after_end.ensures.within;
+  takes = λ kept h n l s. (
       let before = c.loop-i.invariant.clock kept h n l s in
       let sum : n + c.loop-i.i + 1 ≡ n + (c.loop-i.i + 1) = omega arith in
       let within : newest_place h ≤ n + c.loop-i.i = omega (arith, l) in
       let clock = subst (λ (k : ℕ). IsClock c.args.part.now kept (clock_in c.byte.new.self) h k) sum (c.byte.ensures.stands kept h (n + c.loop-i.i) within before.0) in
       let none = none_more c.args.part.now kept h n c.loop-i.i before.1 (sym (c.byte.ensures.fires kept h (n + c.loop-i.i) within before.0) ∙ c.if-byte.false) in
-      c.go_on.ensures.ticks kept h n (record { newest = l; quiet = none; ended = sym (c.has_ended.ensures.value c.args.part.now h (n + (c.loop-i.i + 1)) clock.startup) ∙ c.if-has_ended.true; stands = clock }));
+      c.bytes_after_end.ensures.takes kept h n (record { newest = l; quiet = none; ended = sym (c.has_ended.ensures.value c.args.part.now h (n + (c.loop-i.i + 1)) clock.startup) ∙ c.if-has_ended.true; stands = clock }));
 }

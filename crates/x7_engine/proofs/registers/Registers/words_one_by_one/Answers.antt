@@ -3,10 +3,10 @@ use Rattle.std.specs.Option.{is_some}
 use Rattle.x7_words.specs.Word.{words_of_bytes}
 use Rattle.x7_engine.specs.Standing.{RegistersStandFor, registers_in}
 use Rattle.x7_regs.specs.Register.{number_of}
-use Rattle.x7_engine.specs.declared.stop.Stop.{Stop}
+use Rattle.x7_engine.specs.declared.stop.StopCause.{StopCause}
 use Rattle.x7_engine.proofs.BodyLemmas.{chunk_word, chunks_are, length_of_words, word_after, word_on, words_all}
 use Rattle.x7_engine.proofs.TurnLemmas.{none_there}
-use Rattle.x7_engine.proofs.registers.Registers.each.Goals as goal
+use Rattle.x7_engine.proofs.registers.Registers.words_one_by_one.Goals as goal
 
 pub loop-word-init : goal.loop-word-init
 loop-word-init c = record {
@@ -24,7 +24,7 @@ returns-then-is_some c = record {
         let all : length (words_of_bytes c.args.bytes.now) ≡ length c.as_chunks.result.0.now = chunks_are c.args.bytes.now c.as_chunks.result.0.now c.as_chunks.ensures.front in
         omega (arith, all, length_of_words c.args.bytes.now, c.loop-word-test.true, c.loop-word.invariant.count));
     some = λ l. let some : c.word-left.result < 4 = c.word-left.ensures.some (omega arith) in omega (arith, some);
-    goes_on = λ e. absurd (let both : true ≡ false = sym c.if-is_some.true ∙ c.is_some.ensures ∙ ap (λ (o : Option Stop). is_some o) e in cc);
+    goes_on = λ e. absurd (let both : true ≡ false = sym c.if-is_some.true ∙ c.is_some.ensures ∙ ap (λ (o : Option StopCause). is_some o) e in cc);
   };
   leaves = record { due = c.word-left.ensures.leaves.due ∙ c.loop-word.invariant.due; frames = c.word-left.ensures.leaves.frames };
   stands = λ kept h n s. (

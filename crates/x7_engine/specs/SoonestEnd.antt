@@ -2,5 +2,5 @@
 use Rattle.std.specs.Prelude.{ℕ, ◌+◌, ◌*◌, ◌-◌}
 
 -- the least number of bytes more after which phase 7 may have come
-abbrev pub soonest : ℕ → ℕ
-soonest phase = 4 * (6 - phase) + 1
+abbrev pub soonest_end : ℕ → ℕ
+soonest_end phase = 4 * (6 - phase) + 1

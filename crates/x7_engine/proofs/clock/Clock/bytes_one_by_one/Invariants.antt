@@ -3,7 +3,7 @@ use Rattle.x7_packets.specs.History.{History}
 use Rattle.x7_engine.specs.Clock.{newest_place, IsClock, clock_in}
 use Rattle.x7_engine.specs.Watching.{first_firing}
 use Rattle.x7_engine.specs.declared.kept.Kept.{Kept}
-use Rattle.x7_engine.proofs.clock.Clock.each.Given as goal
+use Rattle.x7_engine.proofs.clock.Clock.bytes_one_by_one.Given as goal
 
 abbrev pub invariant-loop-i : goal.invariant-loop-i
 invariant-loop-i l = record {

@@ -2,7 +2,7 @@ use Rattle.std.proofs.Common.{◌<◌, arith}
 use Rattle.x7_words.specs.Word.{AreBytes}
 use Rattle.x7_words.proofs.ListLemmas.{all_append, all_from_places}
 use Rattle.x7_debug.proofs.FeedLemmas.{drops, fed_none_due, fed_stands}
-use Rattle.x7_debug.proofs.moving.take.Goals as goal
+use Rattle.x7_debug.proofs.moving.feed_piece.Goals as goal
 
 pub returns-clause-stands : goal.returns-clause-stands
 returns-clause-stands c = λ part kept wrapped bytes s.
