@@ -1,6 +1,6 @@
 use Rattle.std.proofs.Common.{◌≡◌, ◌≤◌, length}
 use Rattle.x7_svf.specs.Words.{number_from}
-use Rattle.x7_svf.proofs.words.number.Given as goal
+use Rattle.x7_svf.proofs.words.number_within.Given as goal
 
 abbrev pub invariant-loop-rest : goal.invariant-loop-rest
 invariant-loop-rest l = record {
