@@ -98,7 +98,7 @@ fn first_words(words: &[u32], count: u32) -> &[u32]
     &words[..count as usize]
 }
 
-/// A frame of zeros.
+/// This many words of zeros, those of a frame.
 pub(crate) fn zeros(count: u32) -> &'static [u32]
     requires { count ≤ most_frame_words }
     ensures words { result.now ≡ replicate count 0 }
@@ -155,7 +155,7 @@ pub enum NextPiece {
     Check,
     /// The end of frame data, and the start of the device.
     Start,
-    /// The check after that.
+    /// The check after the start of the device.
     LastCheck,
     /// The end of the session.
     Desync,
@@ -169,7 +169,7 @@ pub struct FullStream<'p> {
     part: &'p Part,
     plan: &'p Plan,
     next: NextPiece,
-    /// The check of what was written.
+    /// The running check of what was written.
     checker: PieceChecker,
 }
 
@@ -204,9 +204,8 @@ impl<'p> FullStream<'p> {
         })
     }
 
-    /// Appends the next piece, of 160 frames at most, and says whether there was
-    /// one; after the last there is none for good.
-    /// After an error nothing was appended, and the same piece is next.
+    /// Appends the next piece, of 160 frames at most, and says whether there was one; after the last there is none for
+    /// good. After an error nothing was appended, and the same piece is next.
     pub fn put_next(&mut self, out: &mut Vec<u8>) -> Result<bool, NoMemory>
         ensures more { (given : List ℕ) → HasGiven self.old given → IfOk result (λ more. more ≡ true → AppendsNext self.new given out.old.items out.new.items) }
         ensures fewer { IfOk result (λ more. more ≡ true → puts_left self.new < puts_left self.old) }
