@@ -3,6 +3,7 @@
 use Rattle.std.specs.Prelude.{◌≡◌, ◌≢◌, ℕ, ◌-◌, ◌<◌, ◌≤◌, List, length, map, slice_index_or, All, Contains}
 use Rattle.x7_memory.specs.Plan.{PlanRow}
 use Rattle.x7_planner.specs.PartialStream.{with_content}
+use Rattle.x7_planner.specs.declared.content.ByContent.{ByContent}
 use Rattle.x7_planner.specs.declared.content.PlannedFrame.{PlannedFrame}
 
 -- the row of a planned frame
@@ -53,15 +54,15 @@ pub record AreStarts (rows grouped : List PlanRow) (starts : List ℕ) : Type 0 
 
 -- a plan's frames by content: equal ones stand together, and it is known where the content of each frame, and of each row
 -- of the plan, begins
-pub record AreByContent (rows : List PlanRow) (grouped : List PlannedFrame) (places row_places : List ℕ) : Type 0 where
-  pub frames : AreGrouped rows grouped
-  pub firsts : AreFirsts (planned_rows grouped) places
-  pub starts : AreStarts rows (planned_rows grouped) row_places
+pub record AreByContent (rows : List PlanRow) (b : ByContent) : Type 0 where
+  pub grouped : AreGrouped rows b.frames.now
+  pub firsts : AreFirsts (planned_rows b.frames.now) b.firsts.now
+  pub starts : AreStarts rows (planned_rows b.frames.now) b.starts.now
 
 -- frames with these words begin at `start`, among frames of which equal ones stand together and for each of which the
 -- first that is equal to it is known
-pub record BeginsAt (frames : List PlannedFrame) (places : List ℕ) (words : List ℕ) (start : ℕ) : Type 0 where
-  pub together : AreTogether (planned_rows frames)
-  pub firsts : AreFirsts (planned_rows frames) places
-  pub first : IsFirst (planned_rows frames) words start
-  pub inside : start < length frames
+pub record BeginsAt (b : ByContent) (words : List ℕ) (start : ℕ) : Type 0 where
+  pub together : AreTogether (planned_rows b.frames.now)
+  pub firsts : AreFirsts (planned_rows b.frames.now) b.firsts.now
+  pub first : IsFirst (planned_rows b.frames.now) words start
+  pub inside : start < length b.frames.now

@@ -15,6 +15,17 @@ pub(crate) struct PlannedFrame<'p> {
     pub(crate) row: usize,
 }
 
+/// A plan's frames by content.
+#[derive(Clone, Copy)]
+pub(crate) struct ByContent<'p> {
+    /// All frames, equal ones together.
+    pub(crate) frames: &'p [PlannedFrame<'p>],
+    /// For each of these frames the place of the first that is equal to it.
+    pub(crate) firsts: &'p [usize],
+    /// For each row of the plan the place of the first of these frames that is equal to the row's.
+    pub(crate) starts: &'p [usize],
+}
+
 /// Whether two frames have the same words.
 pub(crate) fn have_same_words(a: &[u32], b: &[u32]) -> bool
     ensures { result ≡ same_words a.now b.now }

@@ -6,7 +6,7 @@ ghost use Rattle.x7_planner.specs.Content.{AreByContent, BeginsAt, planned_rows}
 ghost use Rattle.x7_planner.specs.PartialStream.{are_shared, copy_words, groups_led, others, section_words, with_content, Copies};
 ghost use Rattle.x7_planner.specs.Writer.{with_piece, Words};
 
-use crate::content::PlannedFrame;
+use crate::content::{ByContent, PlannedFrame};
 use crate::writer::Writer;
 use std::alloc::{AllocError, Global};
 use x7_memory::Plan;
@@ -19,49 +19,45 @@ use x7_words::NoMemory;
 const GROUP_LEAST: usize = 3;
 
 /// Whether the content that begins at `start` stands at three addresses or more.
-fn are_shared(frames: &[PlannedFrame], firsts: &[usize], start: usize, _words: &[u32]) -> bool
-    requires { BeginsAt frames.now firsts.now _words.now start }
-    ensures { result ≡ are_shared (planned_rows frames.now) _words.now }
+fn are_shared(by_content: &ByContent<'_>, start: usize, _words: &[u32]) -> bool
+    requires { BeginsAt by_content.now _words.now start }
+    ensures { result ≡ are_shared (planned_rows by_content.now.frames.now) _words.now }
 {
-    if frames.len() - start < GROUP_LEAST {
+    if by_content.frames.len() - start < GROUP_LEAST {
         return false;
     }
-    firsts[start + (GROUP_LEAST - 1)] == start
+    by_content.firsts[start + (GROUP_LEAST - 1)] == start
 }
 
 /// Whether the row at an address is the first of three or more with its content, which begins at `start`.
-fn leads_group(
-    frames: &[PlannedFrame],
-    firsts: &[usize],
-    start: usize,
-    far: u32,
-    words: &[u32],
-) -> bool
-    requires { BeginsAt frames.now firsts.now words.now start }
-    ensures { result ≡ (are_shared (planned_rows frames.now) words.now && (slice_index (planned_addresses (with_content words.now (planned_rows frames.now))) 0 == far)) }
+fn leads_group(by_content: &ByContent<'_>, start: usize, far: u32, words: &[u32]) -> bool
+    requires { BeginsAt by_content.now words.now start }
+    ensures { result ≡ (are_shared (planned_rows by_content.now.frames.now) words.now && (slice_index (planned_addresses (with_content words.now (planned_rows by_content.now.frames.now))) 0 == far)) }
 {
-    if !are_shared(frames, firsts, start, words) {
+    if !are_shared(by_content, start, words) {
         return false;
     }
-    frames[start].far == far
+    by_content.frames[start].far == far
 }
 
 /// Copies the frame that was written to each address of its content, which begins at `start`.
 fn put_copies(
     writer: &mut Writer,
-    frames: &[PlannedFrame],
-    firsts: &[usize],
+    by_content: &ByContent<'_>,
     start: usize,
     _words: &[u32],
 ) -> Result<(), NoMemory>
-    requires { BeginsAt frames.now firsts.now _words.now start }
-    ensures { OnOk result (writer.new ≡ with_piece writer.old (Words (flat_map copy_words (planned_addresses (with_content _words.now (planned_rows frames.now)))))) }
+    requires { BeginsAt by_content.now _words.now start }
+    ensures { OnOk result (writer.new ≡ with_piece writer.old (Words (flat_map copy_words (planned_addresses (with_content _words.now (planned_rows by_content.now.frames.now)))))) }
 {
-    for k in start..frames.len() {
-        if firsts[k] != start {
+    for k in start..by_content.frames.len() {
+        if by_content.firsts[k] != start {
             return Ok(());
         }
-        writer.packets(&[write_one(Reg::Far, frames[k].far), write_one(Reg::Mfwr, 0)])?;
+        writer.packets(&[
+            write_one(Reg::Far, by_content.frames[k].far),
+            write_one(Reg::Mfwr, 0),
+        ])?;
     }
     Ok(())
 }
@@ -70,15 +66,14 @@ fn put_copies(
 fn put_group(
     writer: &mut Writer,
     part: &Part,
-    frames: &[PlannedFrame],
-    firsts: &[usize],
+    by_content: &ByContent<'_>,
     start: usize,
     words: &[u32],
 ) -> Result<(), NoMemory>
-    requires { BeginsAt frames.now firsts.now words.now start }
-    ensures { OnOk result (writer.new ≡ with_piece writer.old (Words (section_words part.now (Copies words.now (planned_addresses (with_content words.now (planned_rows frames.now))))))) }
+    requires { BeginsAt by_content.now words.now start }
+    ensures { OnOk result (writer.new ≡ with_piece writer.old (Words (section_words part.now (Copies words.now (planned_addresses (with_content words.now (planned_rows by_content.now.frames.now))))))) }
 {
-    let far = frames[start].far;
+    let far = by_content.frames[start].far;
     writer.packets(&[
         command(Command::Wcfg),
         write_one(Reg::Far, far),
@@ -86,7 +81,7 @@ fn put_group(
     ])?;
     writer.words(words)?;
     writer.words(&command(Command::Mfw))?;
-    put_copies(writer, frames, firsts, start, words)?;
+    put_copies(writer, by_content, start, words)?;
     Ok(())
 }
 
@@ -94,19 +89,18 @@ fn put_group(
 fn put_led_group(
     writer: &mut Writer,
     part: &Part,
-    frames: &[PlannedFrame],
-    firsts: &[usize],
+    by_content: &ByContent<'_>,
     start: usize,
     far: u32,
     words: &[u32],
 ) -> Result<(), NoMemory>
-    requires { BeginsAt frames.now firsts.now words.now start }
-    ensures { OnOk result (writer.new ≡ with_piece writer.old (Words (flat_map (section_words part.now) (groups_led (planned_rows frames.now) (record { far = far; words = words.now } ∷ []))))) }
+    requires { BeginsAt by_content.now words.now start }
+    ensures { OnOk result (writer.new ≡ with_piece writer.old (Words (flat_map (section_words part.now) (groups_led (planned_rows by_content.now.frames.now) (record { far = far; words = words.now } ∷ []))))) }
 {
-    if !leads_group(frames, firsts, start, far, words) {
+    if !leads_group(by_content, start, far, words) {
         return Ok(());
     }
-    put_group(writer, part, frames, firsts, start, words)?;
+    put_group(writer, part, by_content, start, words)?;
     Ok(())
 }
 
@@ -115,18 +109,16 @@ pub(crate) fn put_groups(
     writer: &mut Writer,
     part: &Part,
     plan: &Plan,
-    frames: &[PlannedFrame],
-    firsts: &[usize],
-    starts: &[usize],
+    by_content: &ByContent<'_>,
 ) -> Result<(), NoMemory>
-    requires { AreByContent plan.now.rows frames.now firsts.now starts.now }
+    requires { AreByContent plan.now.rows by_content.now }
     ensures { OnOk result (writer.new ≡ with_piece writer.old (Words (flat_map (section_words part.now) (groups_led plan.now.rows plan.now.rows)))) }
 {
     for i in 0..plan.len() {
         let Some((far, words)) = plan.row(i) else {
             unreachable!()
         };
-        put_led_group(writer, part, frames, firsts, starts[i], far, words)?;
+        put_led_group(writer, part, by_content, by_content.starts[i], far, words)?;
     }
     Ok(())
 }
@@ -149,11 +141,9 @@ fn add_alone<'p>(
 pub(crate) fn others_of<'p>(
     alloc: Global,
     plan: &'p Plan,
-    frames: &[PlannedFrame],
-    firsts: &[usize],
-    starts: &[usize],
+    by_content: &ByContent<'_>,
 ) -> Result<Vec<PlannedFrame<'p>>, AllocError>
-    requires { AreByContent plan.now.rows frames.now firsts.now starts.now }
+    requires { AreByContent plan.now.rows by_content.now }
     ensures { IfOk result (λ alone. planned_rows alone.items ≡ others plan.now.rows plan.now.rows) }
 {
     let mut alone = Vec::with_capacity(alloc, plan.len())?;
@@ -161,7 +151,7 @@ pub(crate) fn others_of<'p>(
         let Some((far, words)) = plan.row(row) else {
             unreachable!()
         };
-        let is_shared = are_shared(frames, firsts, starts[row], words);
+        let is_shared = are_shared(by_content, by_content.starts[row], words);
         add_alone(&mut alone, is_shared, PlannedFrame { far, words, row })?;
     }
     Ok(alone)

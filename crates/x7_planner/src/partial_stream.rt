@@ -10,7 +10,7 @@ ghost use Rattle.x7_planner.specs.Writer.{with_piece, Words};
 ghost use Rattle.x7_planner.specs.declared.fault.PlanFault.{PlanFault};
 
 use crate::address::first_foreign;
-use crate::content::{PlannedFrame, firsts_of, frames_by_content, starts_of};
+use crate::content::{ByContent, PlannedFrame, firsts_of, frames_by_content, starts_of};
 use crate::fault::PlanFault;
 use crate::group::{others_of, put_groups};
 use crate::run::put_runs;
@@ -42,7 +42,12 @@ fn grouping_of(alloc: Global, plan: &Plan) -> Result<Grouping<'_>, AllocError>
     let frames = frames_by_content(alloc, plan)?;
     let firsts = firsts_of(alloc, &frames)?;
     let starts = starts_of(alloc, plan, &frames, &firsts)?;
-    let alone = others_of(alloc, plan, &frames, &firsts, &starts)?;
+    let by_content = ByContent {
+        frames: &frames,
+        firsts: &firsts,
+        starts: &starts,
+    };
+    let alone = others_of(alloc, plan, &by_content)?;
     Ok(Grouping {
         frames,
         firsts,
@@ -76,14 +81,12 @@ fn put_sections(
     // For the proof alone: the part is in range and the plan in order, so its rows are few.
     let _frames = part.frames();
     let _rows = plan.len();
-    put_groups(
-        writer,
-        part,
-        plan,
-        &grouping.frames,
-        &grouping.firsts,
-        &grouping.starts,
-    )?;
+    let by_content = ByContent {
+        frames: &grouping.frames,
+        firsts: &grouping.firsts,
+        starts: &grouping.starts,
+    };
+    put_groups(writer, part, plan, &by_content)?;
     put_runs(writer, part, &grouping.alone)?;
     Ok(())
 }

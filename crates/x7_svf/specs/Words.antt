@@ -1,8 +1,9 @@
 -- What a statement of words alone says (this project's profile of SVF).
-use Rattle.std.specs.Prelude.{ℕ, ◌+◌, ◌-◌, ◌*◌, ◌==◌, ◌||◌, ◌&&◌, not, nat_le, nat_lt, Bool, true, if◌then◌else◌, List, [], ◌∷◌, Option, Some, None, codes, map, length}
+use Rattle.std.specs.Prelude.{ℕ, ◌==◌, ◌||◌, ◌&&◌, not, nat_le, nat_lt, Bool, true, if◌then◌else◌, List, [], ◌∷◌, Option, Some, None, codes, map, length}
 use Rattle.std.specs.List.{list_all}
 use Rattle.std.specs.Borrow.{Bor}
 use Rattle.std.specs.Str.{str_eq_ignore_ascii_case}
+use Rattle.std.specs.Str.Parse.{digits_value}
 use Rattle.x7_svf.specs.Token.{Token, Word, Open, Close, End}
 use Rattle.x7_svf.specs.declared.statement.Statement.{Statement}
 use Rattle.x7_svf.specs.declared.statement.Statement.TheVariants as statement
@@ -15,17 +16,9 @@ is_keyword word key = str_eq_ignore_ascii_case word key
 abbrev pub is_digit : ℕ → Bool
 is_digit c = nat_le 48 c && nat_le c 57
 
--- the number of decimal digits, leading zeros allowed, where it is within a
--- limit; the first so many are read as `so_far`
-abbrev pub number_from : ℕ → ℕ → List ℕ → Option ℕ
-number_from limit so_far [] = Some so_far
-number_from limit so_far (c ∷ cs) =
-    if is_digit c && nat_le (so_far * 10 + (c - 48)) limit then number_from limit (so_far * 10 + (c - 48)) cs else None
-
--- the number of a word of decimal digits, within a limit
+-- the number of a word of decimal digits, one at least and leading zeros allowed, where it is within a limit
 abbrev pub number_within : ℕ → List ℕ → Option ℕ
-number_within limit [] = None
-number_within limit (c ∷ cs) = number_from limit 0 (c ∷ cs)
+number_within limit w = if nat_lt 0 (length w) && list_all is_digit w && nat_le (digits_value 10 w) limit then Some (digits_value 10 w) else None
 
 -- the most clocks of a run: 2^24
 abbrev pub most_clocks : ℕ
