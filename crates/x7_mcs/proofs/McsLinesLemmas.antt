@@ -51,7 +51,7 @@ module _ (b : McsLinesState) (lines : List (List ℕ)) (n : ℕ) (m : n ≡ leng
       in_turn (map without_return lines) 1 of_no_line ts ∙ ap (λ r. and_then r (λ s. after_lines (1 + length (map without_return lines)) s ts)) t.came
       ∙ ap (λ (j : ℕ). after_lines j (reading_of b.base b.ended t.records) ts) k
 
-  pub line_read : (d : McsLinesState) (line : List ℕ) → TookRecords (after_line n (reading_of b.base b.ended t.records) (without_return line)) d.base d.ended d.bytes d.marks → HasReadRecords d (lines ++ line ∷ [])
+  pub line_read : (d : McsLinesState) (line : List ℕ) → TookRecords (after_line n (reading_of b.base b.ended t.records) (without_return line)) d → HasReadRecords d (lines ++ line ∷ [])
   line_read d line w = record {
     records = w.records;
     came = ap (after_lines 1 of_no_line) (map_push without_return lines line) ∙ read_after (without_return line ∷ []) ∙ then_ok (after_line n (reading_of b.base b.ended t.records) (without_return line)) ∙ w.came;
@@ -66,9 +66,9 @@ module _ (b : McsLinesState) (lines : List (List ℕ)) (n : ℕ) (m : n ≡ leng
       ))
 
   pub line_came : {A : Type 0} (r : Result A McsFault) (d : McsLinesState) (line bare : List ℕ) → bare ≡ without_return line
-      → MatchResult r (λ _. TookRecords (after_line n (reading_of b.base b.ended t.records) bare) d.base d.ended d.bytes d.marks) (λ f. FailsAsReading (after_line n (reading_of b.base b.ended t.records) bare) f)
+      → MatchResult r (λ _. TookRecords (after_line n (reading_of b.base b.ended t.records) bare) d) (λ f. FailsAsReading (after_line n (reading_of b.base b.ended t.records) bare) f)
       → MatchResult r (λ _. HasReadRecords d (lines ++ line ∷ [])) (λ f. (more : List ℕ) → HasMcsFault f (lines ++ line ∷ split more))
-  line_came (Ok _) d line bare e w = line_read d line (subst (λ l. TookRecords (after_line n (reading_of b.base b.ended t.records) l) d.base d.ended d.bytes d.marks) e w)
+  line_came (Ok _) d line bare e w = line_read d line (subst (λ l. TookRecords (after_line n (reading_of b.base b.ended t.records) l) d) e w)
   line_came (Err f) d line bare e w = λ more. line_fails f line more (subst (λ l. FailsAsReading (after_line n (reading_of b.base b.ended t.records) l) f) e w)
 
   -- memory is wanting at a good line
@@ -78,7 +78,7 @@ module _ (b : McsLinesState) (lines : List (List ℕ)) (n : ℕ) (m : n ≡ leng
   line_wants f line (inr h) want = absurd (reported_one (without_return line) n (reading_of b.base b.ended t.records) (h ∙ ap Err want))
 
   pub line_wanted : {A : Type 0} (r : Result A McsFault) (d : McsLinesState) (line bare : List ℕ) → bare ≡ without_return line
-      → MatchResult r (λ _. TookRecords (after_line n (reading_of b.base b.ended t.records) bare) d.base d.ended d.bytes d.marks) (λ f. FailsAsReading (after_line n (reading_of b.base b.ended t.records) bare) f)
+      → MatchResult r (λ _. TookRecords (after_line n (reading_of b.base b.ended t.records) bare) d) (λ f. FailsAsReading (after_line n (reading_of b.base b.ended t.records) bare) f)
       → IfErr r (λ f. f ≡ fault.NoMemory → AreGoodWith lines line)
   line_wanted (Ok _) d line bare e w = tt
   line_wanted (Err f) d line bare e w = line_wants f line (subst (λ l. FailsAsReading (after_line n (reading_of b.base b.ended t.records) l) f) e w)
@@ -90,14 +90,14 @@ module _ (b : McsLinesState) (lines : List (List ℕ)) (n : ℕ) (m : n ≡ leng
         ap (after_lines 1 of_no_line) (bare_after lines (line ∷ []) (some_after line []))
         ∙ read_after (line ∷ []) ∙ then_ok (after_line n (reading_of b.base b.ended t.records) line)
 
-    last_took : (d : McsLinesState) → TookRecords (after_line n (reading_of b.base b.ended t.records) line) d.base d.ended d.bytes d.marks → TookRecords (after_lines 1 of_no_line (bare (lines ++ line ∷ []))) d.base d.ended d.bytes d.marks
+    last_took : (d : McsLinesState) → TookRecords (after_line n (reading_of b.base b.ended t.records) line) d → TookRecords (after_lines 1 of_no_line (bare (lines ++ line ∷ []))) d.base d.ended d.bytes d.marks
     last_took d w = record { records = w.records; came = last_is ∙ w.came; holds = w.holds }
 
-    pub last_bytes : (d : McsLinesState) → TookRecords (after_line n (reading_of b.base b.ended t.records) line) d.base d.ended d.bytes d.marks → d.ended ≡ true → flash_of_lines (lines ++ line ∷ []) ≡ Ok d.bytes
-    last_bytes d w e = gives_bytes (lines ++ line ∷ []) d.base d.ended d.bytes d.marks (last_took d w) e
+    pub last_bytes : (d : McsLinesState) → TookRecords (after_line n (reading_of b.base b.ended t.records) line) d → d.ended ≡ true → flash_of_lines (lines ++ line ∷ []) ≡ Ok d.bytes
+    last_bytes d w e = gives_bytes (lines ++ line ∷ []) d (last_took d w) e
 
-    pub last_no_end : (d : McsLinesState) → TookRecords (after_line n (reading_of b.base b.ended t.records) line) d.base d.ended d.bytes d.marks → d.ended ≡ false → HasMcsFault fault.NoEnd (lines ++ line ∷ [])
-    last_no_end d w e = inr (gives_no_end (lines ++ line ∷ []) d.base d.ended d.bytes d.marks (last_took d w) e)
+    pub last_no_end : (d : McsLinesState) → TookRecords (after_line n (reading_of b.base b.ended t.records) line) d → d.ended ≡ false → HasMcsFault fault.NoEnd (lines ++ line ∷ [])
+    last_no_end d w e = inr (gives_no_end (lines ++ line ∷ []) d (last_took d w) e)
 
     pub last_fault : (f : McsFault) → FailsAsReading (after_line n (reading_of b.base b.ended t.records) line) f → HasMcsFault f (lines ++ line ∷ [])
     last_fault f (inl none) = inl none.0

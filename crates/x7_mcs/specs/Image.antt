@@ -76,10 +76,10 @@ pub record McsLinesState : Type 0 where
   pub marks : List ℕ
 
 -- a reading came to this base, whether a record 01 stood, and records that these bytes and marks stand for
-pub record TookRecords (reading : Result FlashReading McsFault) (base : ℕ) (ended : Bool) (bytes marks : List ℕ) : Type 0 where
+pub record TookRecords (reading : Result FlashReading McsFault) (s : McsLinesState) : Type 0 where
   pub records : List DataRecord
-  pub came : reading ≡ Ok (record { base = base; ended = ended; records = records })
-  pub holds : HoldsRecords records bytes marks
+  pub came : reading ≡ Ok (record { base = s.base; ended = s.ended; records = records })
+  pub holds : HoldsRecords records s.bytes s.marks
 
 -- the reading of the lines so far, by its base, whether a record 01 stood, and its records
 abbrev pub reading_of : ℕ → Bool → List DataRecord → FlashReading

@@ -13,9 +13,9 @@ use Rattle.x7_mcs.specs.declared.fault.McsFault.TheVariants as fault
 abbrev pub mcs_lines_state : McsLines → McsLinesState
 mcs_lines_state b = record { base = b.context.base; ended = b.context.ended; bytes = b.image.bytes.items; marks = b.image.marks.items }
 
--- lines that have their end gave this
+-- lines that have their end gave this base, whether a record 01 stood, and these bytes and marks
 abbrev pub HasReadRecords : McsLinesState → List (List ℕ) → Type 0
-HasReadRecords b lines = TookRecords (after_lines 1 of_no_line (map without_return lines)) b.base b.ended b.bytes b.marks
+HasReadRecords s lines = TookRecords (after_lines 1 of_no_line (map without_return lines)) s
 
 -- the flash bytes of a text of these lines, or its fault
 abbrev pub flash_of_lines : List (List ℕ) → Result (List ℕ) McsFault

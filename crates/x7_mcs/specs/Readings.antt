@@ -39,7 +39,7 @@ after_record n context records bytes = after_meaning n (flash_reading_at context
 
 -- a reading came to this context, and the image has its records
 abbrev pub CameTo : Result FlashReading McsFault → Context → Image → Type 0
-CameTo reading context image = TookRecords reading context.base context.ended image.bytes.items image.marks.items
+CameTo reading context image = TookRecords reading (record { base = context.base; ended = context.ended; bytes = image.bytes.items; marks = image.marks.items })
 
 -- a call came to what this reading comes to, and the image has its records; or it gave the reading's fault
 abbrev pub CallComesTo : Result Context McsFault → Result FlashReading McsFault → Image → Type 0

@@ -17,7 +17,7 @@ returns-clause-read c = λ lines m t.
     record {
       line = row_line row.address row.content;
       cut = row_cut c.args.text.now c.in-Some.rest.now row.address row.content c.in-Some.ensures.line;
-      read = line_read b lines c.args.n m t d (row_line row.address row.content) (subst (λ r. TookRecords r d.base d.ended d.bytes d.marks) is (c.in_ok-take_row.ensures t.records t.holds));
+      read = line_read b lines c.args.n m t d (row_line row.address row.content) (subst (λ r. TookRecords r d) is (c.in_ok-take_row.ensures t.records t.holds));
     }
 
 pub returns-in_err-take_row-clause-read : goal.returns-in_err-take_row-clause-read
@@ -48,7 +48,7 @@ returns-2-clause-read c = λ lines m t.
       line = line;
       cut = (at_some c.args.text.now line c.first_line.result.1 c.in-Some-more.rest c.in-Some-more.is c.first_line.ensures).0;
       read = line_read b lines c.args.n m t d line
-          (subst (λ l. TookRecords (after_line c.args.n (reading_of b.base b.ended t.records) l) d.base d.ended d.bytes d.marks) c.without_return.ensures (c.in_ok-put_bare_line.ensures t.records t.holds));
+          (subst (λ l. TookRecords (after_line c.args.n (reading_of b.base b.ended t.records) l) d) c.without_return.ensures (c.in_ok-put_bare_line.ensures t.records t.holds));
     }
 
 pub returns-in_err-put_bare_line-clause-read : goal.returns-in_err-put_bare_line-clause-read
