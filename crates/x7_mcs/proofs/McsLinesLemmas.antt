@@ -90,7 +90,7 @@ module _ (b : McsLinesState) (lines : List (List ℕ)) (n : ℕ) (m : n ≡ leng
         ap (after_lines 1 of_no_line) (bare_after lines (line ∷ []) (some_after line []))
         ∙ read_after (line ∷ []) ∙ then_ok (after_line n (reading_of b.base b.ended t.records) line)
 
-    last_took : (d : McsLinesState) → TookRecords (after_line n (reading_of b.base b.ended t.records) line) d → TookRecords (after_lines 1 of_no_line (bare (lines ++ line ∷ []))) d.base d.ended d.bytes d.marks
+    last_took : (d : McsLinesState) → TookRecords (after_line n (reading_of b.base b.ended t.records) line) d → TookRecords (after_lines 1 of_no_line (bare (lines ++ line ∷ []))) d
     last_took d w = record { records = w.records; came = last_is ∙ w.came; holds = w.holds }
 
     pub last_bytes : (d : McsLinesState) → TookRecords (after_line n (reading_of b.base b.ended t.records) line) d → d.ended ≡ true → flash_of_lines (lines ++ line ∷ []) ≡ Ok d.bytes

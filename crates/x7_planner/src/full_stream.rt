@@ -29,13 +29,16 @@ use x7_words::NoMemory;
 /// How many words a full stream has beside its frame data.
 const WORDS_BESIDE_FRAMES: usize = 55;
 
-/// How many slots are written at once.
+/// How many slots a piece of the frame data has at most.
 const PIECE_SLOTS: u64 = 160;
 
-/// A frame of zeros, of the most words that a frame may have.
-static ZEROS: [u32; 255] = [0; 255];
+/// The most words that a frame may have.
+const MOST_FRAME_WORDS: usize = 255;
 
-/// The least address.
+/// A frame of zeros, of the most words that a frame may have.
+static ZEROS: [u32; MOST_FRAME_WORDS] = [0; MOST_FRAME_WORDS];
+
+/// The part's least address.
 fn first_address(part: &Part) -> u32
     ensures first { result ≡ slice_index (addresses_in part.now) 0 }
     ensures address { Contains (addresses_in part.now) result }
@@ -49,7 +52,7 @@ fn first_address(part: &Part) -> u32
     first
 }
 
-/// The number of all slots.
+/// How many slots the part has, those of pads among them.
 fn slot_count(part: &Part) -> u64
     ensures count { result ≡ length (slots_in part.now) }
     ensures limit { result ≤ most_slots }
