@@ -1,6 +1,6 @@
 //! Statements of words alone.
 ghost use Rattle.std.specs.Prelude.{◌≡◌, ◌<◌, ◌&&◌, ◌≤◌, ◌∷◌, ◌++◌, ℕ, [], List, length, codes, IfSome, IfNone, Option, Some, None};
-ghost use Rattle.x7_svf.specs.Words.{end_state_statement, is_digit, is_free_word, is_free_byte, is_keyword, is_time, is_time_byte, most_clocks, number_within, trst_statement, run_by, run_if, runtest_statement, some_if, state_statement, statement_of_words, word_list, chain_statement};
+ghost use Rattle.x7_svf.specs.Words.{chain_statement, end_state_statement, is_digit, is_free_byte, is_free_word, is_keyword, is_time, is_time_byte, most_clocks, number_within, run_by, run_if, runtest_statement, some_if, state_statement, statement_of_words, trst_statement, word_list};
 ghost use Rattle.x7_svf.specs.Span.{AreWordsWithin, bytes_in, span_end, words_kept};
 ghost use Rattle.x7_svf.specs.Stored.{IsStored};
 ghost use Rattle.x7_svf.specs.declared.statement.Statement.{Statement as StatementData};
