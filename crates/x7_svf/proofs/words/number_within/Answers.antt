@@ -1,4 +1,4 @@
-use Rattle.std.proofs.Common.{arith, length, ◌<◌}
+use Rattle.std.proofs.Common.{arith}
 use Rattle.x7_svf.proofs.NumberLemmas.{number_is}
 use Rattle.x7_svf.proofs.words.number_within.Goals as goal
 
