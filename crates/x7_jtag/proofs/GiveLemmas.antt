@@ -24,24 +24,24 @@ use Rattle.x7_jtag.proofs.TookLemmas.{reads_took, taken_all, took_more}
 -- ---- bytes offered while no word waits
 
 offered_given : (reads : List ℕ → List ℕ) (given held : List ℕ) (out x : ℕ) → waits reads given out ≡ false
-    → offered reads (record { given = given; held = held; bits_out = out }) x ≡ record { given = given ++ x ∷ []; held = held; bits_out = out }
+    → offered reads (record { given = given; held = held; out = out }) x ≡ record { given = given ++ x ∷ []; held = held; out = out }
 offered_given reads given held out x e =
-    let q : Queue = record { given = given; held = held; bits_out = out } in
+    let q : Queue = record { given = given; held = held; out = out } in
     let there : queue_with_room reads q ≡ q = ap (λ (b : Bool). if b && length held == most_bytes_held then dropped reads q else q) e in
-    ap (λ (r : Queue). in_turn reads r x) there ∙ ap (λ (b : Bool). if b then record { given = given; held = held ++ x ∷ []; bits_out = out } else record { given = given ++ x ∷ []; held = held; bits_out = out }) e
+    ap (λ (r : Queue). in_turn reads r x) there ∙ ap (λ (b : Bool). if b then record { given = given; held = held ++ x ∷ []; out = out } else record { given = given ++ x ∷ []; held = held; out = out }) e
 
 fold_given : (reads : List ℕ → List ℕ) (given held xs : List ℕ) (out : ℕ) → ((k : ℕ) → k < length xs → waits reads (given ++ take k xs) out ≡ false)
-    → fold (offered reads) (record { given = given; held = held; bits_out = out }) xs ≡ record { given = given ++ xs; held = held; bits_out = out }
-fold_given reads given held [] out f = ap (λ (g : List ℕ). record { given = g; held = held; bits_out = out }) (sym (append-nil given))
+    → fold (offered reads) (record { given = given; held = held; out = out }) xs ≡ record { given = given ++ xs; held = held; out = out }
+fold_given reads given held [] out f = ap (λ (g : List ℕ). record { given = g; held = held; out = out }) (sym (append-nil given))
 fold_given reads given held (x ∷ xs) out f =
     let now : waits reads given out ≡ false = ap (λ (g : List ℕ). waits reads g out) (sym (append-nil given)) ∙ f 0 (omega arith) in
     ap (λ (q : Queue). fold (offered reads) q xs) (offered_given reads given held out x now)
     ∙ fold_given reads (given ++ x ∷ []) held xs out (λ k l. ap (λ (g : List ℕ). waits reads g out) (append_assoc given (x ∷ []) (take k xs)) ∙ f (suc k) (omega (arith, l)))
-    ∙ ap (λ (g : List ℕ). record { given = g; held = held; bits_out = out }) (append_assoc given (x ∷ []) xs)
+    ∙ ap (λ (g : List ℕ). record { given = g; held = held; out = out }) (append_assoc given (x ∷ []) xs)
 
-fold_stands : (part : PartData) (n : QueueState) (e : DeviceState) (q : Queue) (xs : List ℕ) → ((k : ℕ) → k < length xs → waits (words_read_out part) (q.given ++ take k xs) q.bits_out ≡ false) → QueueStandsFor part n e (queue_of (q.given ++ xs) q.held q.bits_out)
+fold_stands : (part : PartData) (n : QueueState) (e : DeviceState) (q : Queue) (xs : List ℕ) → ((k : ℕ) → k < length xs → waits (words_read_out part) (q.given ++ take k xs) q.out ≡ false) → QueueStandsFor part n e (queue_of (q.given ++ xs) q.held q.out)
     → QueueStandsFor part n e (fold (offered (words_read_out part)) q xs)
-fold_stands part n e q xs f s = subst (QueueStandsFor part n e) (sym (fold_given (words_read_out part) q.given q.held xs q.bits_out f)) s
+fold_stands part n e q xs f s = subst (QueueStandsFor part n e) (sym (fold_given (words_read_out part) q.given q.held xs q.out f)) s
 
 none_waits_by : (reads : List ℕ → List ℕ) (given : List ℕ) (out count : ℕ) → length (reads given) ≤ count → out ≡ 32 * count → waits reads given out ≡ false
 none_waits_by reads given out count l e = grind (arith, l, e)
@@ -109,8 +109,8 @@ given_is part given bytes n t z l = by t.over
 
 -- what is to be shown of a piece of which this many bytes are given
 record Given (part : PartData) (k : QueueState) (d e : DeviceState) (q : Queue) (piece : List ℕ) (count : ℕ) : Type 0 where
-  pub holds : QueueHolds part k e (queue_of (q.given ++ take count piece) q.held q.bits_out)
-  pub quiet : (i : ℕ) → i < length (take count piece) → waits (words_read_out part) (q.given ++ take i (take count piece)) q.bits_out ≡ false
+  pub holds : QueueHolds part k e (queue_of (q.given ++ take count piece) q.held q.out)
+  pub quiet : (i : ℕ) → i < length (take count piece) → waits (words_read_out part) (q.given ++ take i (take count piece)) q.out ≡ false
 
 module _ (part : PartData) (k : QueueState) (d e : DeviceState) (q : Queue) (piece : List ℕ) where
   given_whole : (t : ℕ) → (s : QueueStandsFor part k d q) → k.bits_left ≡ 0 → AreBytes piece → t ≤ length piece → DeviceStandsFor part on_the_bench false e (s.holds.bytes ++ take t piece)
@@ -120,8 +120,8 @@ module _ (part : PartData) (k : QueueState) (d e : DeviceState) (q : Queue) (pie
       let h : QueueHolds part k d q = s.holds in
       let took : TookOfGiven part (q.given ++ take (length piece) piece) (h.bytes ++ take t piece) = took_piece part q.given h.bytes piece t (length piece) f l (omega arith) h.took stopped over in
       record {
-        holds = holds_piece part q.given h.bytes piece t k d e q.held q.bits_out (length piece) h refl z took stands same;
-        quiet = λ i m. none_waits_by (words_read_out part) (q.given ++ take i (take (length piece) piece)) q.bits_out (length (words_taken part d h.bytes))
+        holds = holds_piece part q.given h.bytes piece t k d e q.held q.out (length piece) h refl z took stands same;
+        quiet = λ i m. none_waits_by (words_read_out part) (q.given ++ take i (take (length piece) piece)) q.out (length (words_taken part d h.bytes))
             (quiet_whole part e q.given (h.bytes ++ take t piece) (take (length piece) piece) (words_taken part d h.bytes) took due same i) (omega (arith, h.out_is, z));
       }
 
@@ -133,10 +133,10 @@ module _ (part : PartData) (k : QueueState) (d e : DeviceState) (q : Queue) (pie
       let took : TookOfGiven part (q.given ++ take n piece) (h.bytes ++ take n piece) = took_piece part q.given h.bytes piece n n f (omega arith) l h.took stopped (inr refl) in
       let long : length (take n piece) ≡ n = length-take-le n piece l in
       record {
-        holds = holds_piece part q.given h.bytes piece n k d e q.held q.bits_out n h refl z took stands same;
+        holds = holds_piece part q.given h.bytes piece n k d e q.held q.out n h refl z took stands same;
         quiet = λ i m.
             let inside : i < n = omega (arith, m, long) in
-            none_waits_by (words_read_out part) (q.given ++ take i (take n piece)) q.bits_out (length (words_taken part d h.bytes))
+            none_waits_by (words_read_out part) (q.given ++ take i (take n piece)) q.out (length (words_taken part d h.bytes))
             (quiet_before part q.given h.bytes piece (words_taken part d h.bytes) n l (given_is part q.given h.bytes n h.took stopped (omega (arith, inside))) before i inside) (omega (arith, h.out_is, z));
       }
 
@@ -170,7 +170,7 @@ pub gives : (part : PartData) (k n : QueueState) (d e g : DeviceState) (q : Queu
 gives part k n d e g q piece read f count s z b l stands a same before stopped is next =
     let m : ℕ = given_by f (length piece) in
     let given : Given part k d e q piece m = given_by_is part k d e q piece f read s z b l stands a same before (λ x. (stopped x).1) in
-    let all : QueueStandsFor part n g (queue_of (q.given ++ take m piece) q.held q.bits_out) = subst (λ (x : List ℕ). QueueStandsFor part n g (queue_of x q.held q.bits_out)) (append-nil (q.given ++ take m piece)) (next (q.given ++ take m piece) q.held q.bits_out given.holds) in
+    let all : QueueStandsFor part n g (queue_of (q.given ++ take m piece) q.held q.out) = subst (λ (x : List ℕ). QueueStandsFor part n g (queue_of x q.held q.out)) (append-nil (q.given ++ take m piece)) (next (q.given ++ take m piece) q.held q.out given.holds) in
     subst (λ (c : ℕ). QueueStandsFor part n g (fold (offered (words_read_out part)) q (take c piece))) (sym is) (fold_stands part n g q (take m piece) given.quiet all)
 
 -- no more bytes are given than the device took and the piece has

@@ -65,8 +65,8 @@ due_by part k d given held out s =
     by (suc m) z count whole taken = omega (arith, z, count, whole, taken, s.holds.out_is, s.holds.bits_left_is)
 
 pub due_is : (part : PartData) (t : TapState) (d : DeviceState) (cs : List Clock) → TapStandsFor part t d cs
-    → due_count d.registers.due ≡ length (words_read_out part (port_after part cs).queue.given) - ((port_after part cs).queue.bits_out / 32 + 1)
-due_is part t d cs s = due_by part t.queue d (port_after part cs).queue.given (port_after part cs).queue.held (port_after part cs).queue.bits_out s.queue_is
+    → due_count d.registers.due ≡ length (words_read_out part (port_after part cs).queue.given) - ((port_after part cs).queue.out / 32 + 1)
+due_is part t d cs s = due_by part t.queue d (port_after part cs).queue.given (port_after part cs).queue.held (port_after part cs).queue.out s.queue_is
 
 -- what a device shows is what the clocks' port says
 pub shows_is : (part : PartData) (t : TapState) (d : DeviceState) (cs : List Clock) → TapStandsFor part t d cs

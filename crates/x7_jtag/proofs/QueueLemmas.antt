@@ -37,36 +37,36 @@ is_below m n h = grind (arith, h)
 
 -- held bytes are given one by one until a word waits
 abbrev pub given_on : (List ℕ → List ℕ) → List ℕ → List ℕ → ℕ → Queue
-given_on reads given [] bits_out = record { given = given; held = []; bits_out = out }
-given_on reads given (h ∷ hs) bits_out = if waits reads given out then record { given = given; held = h ∷ hs; bits_out = out } else given_on reads (given ++ h ∷ []) hs out
+given_on reads given [] out = record { given = given; held = []; out = out }
+given_on reads given (h ∷ hs) out = if waits reads given out then record { given = given; held = h ∷ hs; out = out } else given_on reads (given ++ h ∷ []) hs out
 
-held_waits : (reads : List ℕ → List ℕ) (given hs : List ℕ) (out : ℕ) → waits reads given out ≡ true → given_on reads given hs out ≡ record { given = given; held = hs; bits_out = out }
+held_waits : (reads : List ℕ → List ℕ) (given hs : List ℕ) (out : ℕ) → waits reads given out ≡ true → given_on reads given hs out ≡ record { given = given; held = hs; out = out }
 held_waits reads given [] out e = refl
-held_waits reads given (h ∷ hs) out e = ap (λ (b : Bool). if b then record { given = given; held = h ∷ hs; bits_out = out } else given_on reads (given ++ h ∷ []) hs out) e
+held_waits reads given (h ∷ hs) out e = ap (λ (b : Bool). if b then record { given = given; held = h ∷ hs; out = out } else given_on reads (given ++ h ∷ []) hs out) e
 
-pub turns_wait : (reads : List ℕ → List ℕ) (given held hs : List ℕ) (out : ℕ) → waits reads given out ≡ true → fold (in_turn reads) (record { given = given; held = held; bits_out = out }) hs ≡ record { given = given; held = held ++ hs; bits_out = out }
-turns_wait reads given held [] out e = ap (λ (t : List ℕ). record { given = given; held = t; bits_out = out }) (sym (append-nil held))
+pub turns_wait : (reads : List ℕ → List ℕ) (given held hs : List ℕ) (out : ℕ) → waits reads given out ≡ true → fold (in_turn reads) (record { given = given; held = held; out = out }) hs ≡ record { given = given; held = held ++ hs; out = out }
+turns_wait reads given held [] out e = ap (λ (t : List ℕ). record { given = given; held = t; out = out }) (sym (append-nil held))
 turns_wait reads given held (h ∷ hs) out e =
-    ap (λ (b : Bool). fold (in_turn reads) (if b then record { given = given; held = held ++ h ∷ []; bits_out = out } else record { given = given ++ h ∷ []; held = held; bits_out = out }) hs) e
+    ap (λ (b : Bool). fold (in_turn reads) (if b then record { given = given; held = held ++ h ∷ []; out = out } else record { given = given ++ h ∷ []; held = held; out = out }) hs) e
     ∙ turns_wait reads given (held ++ h ∷ []) hs out e
-    ∙ ap (λ (t : List ℕ). record { given = given; held = t; bits_out = out }) (append_assoc held (h ∷ []) hs)
+    ∙ ap (λ (t : List ℕ). record { given = given; held = t; out = out }) (append_assoc held (h ∷ []) hs)
 
 turns_by : (reads : List ℕ → List ℕ) (given : List ℕ) (h : ℕ) (hs : List ℕ) (out : ℕ) (b : Bool) → waits reads given out ≡ b
-    → (waits reads given out ≡ false → given_on reads (given ++ h ∷ []) hs out ≡ fold (in_turn reads) (record { given = given ++ h ∷ []; held = []; bits_out = out }) hs)
-    → given_on reads given (h ∷ hs) out ≡ fold (in_turn reads) (record { given = given; held = []; bits_out = out }) (h ∷ hs)
+    → (waits reads given out ≡ false → given_on reads (given ++ h ∷ []) hs out ≡ fold (in_turn reads) (record { given = given ++ h ∷ []; held = []; out = out }) hs)
+    → given_on reads given (h ∷ hs) out ≡ fold (in_turn reads) (record { given = given; held = []; out = out }) (h ∷ hs)
 turns_by reads given h hs out true e next = held_waits reads given (h ∷ hs) out e ∙ sym (turns_wait reads given [] (h ∷ hs) out e)
 turns_by reads given h hs out false e next =
-    ap (λ (b : Bool). if b then record { given = given; held = h ∷ hs; bits_out = out } else given_on reads (given ++ h ∷ []) hs out) e
+    ap (λ (b : Bool). if b then record { given = given; held = h ∷ hs; out = out } else given_on reads (given ++ h ∷ []) hs out) e
     ∙ next e
-    ∙ sym (ap (λ (b : Bool). fold (in_turn reads) (if b then record { given = given; held = h ∷ []; bits_out = out } else record { given = given ++ h ∷ []; held = []; bits_out = out }) hs) e)
+    ∙ sym (ap (λ (b : Bool). fold (in_turn reads) (if b then record { given = given; held = h ∷ []; out = out } else record { given = given ++ h ∷ []; held = []; out = out }) hs) e)
 
-pub in_turns : (reads : List ℕ → List ℕ) (given hs : List ℕ) (out : ℕ) → given_on reads given hs out ≡ fold (in_turn reads) (record { given = given; held = []; bits_out = out }) hs
-in_turns reads given [] bits_out = refl
-in_turns reads given (h ∷ hs) bits_out = turns_by reads given h hs out (waits reads given out) refl (λ e. in_turns reads (given ++ h ∷ []) hs out)
+pub in_turns : (reads : List ℕ → List ℕ) (given hs : List ℕ) (out : ℕ) → given_on reads given hs out ≡ fold (in_turn reads) (record { given = given; held = []; out = out }) hs
+in_turns reads given [] out = refl
+in_turns reads given (h ∷ hs) out = turns_by reads given h hs out (waits reads given out) refl (λ e. in_turns reads (given ++ h ∷ []) hs out)
 
 given_on_by : (reads : List ℕ → List ℕ) (given : List ℕ) (h : ℕ) (hs : List ℕ) (out : ℕ) (next : Queue) (b : Bool) → waits reads given out ≡ b
     → length (h ∷ hs) ≤ 64 → out ≤ bits_read reads given → AreBytes (given ++ h ∷ hs) → QueueIsSound reads next
-    → QueueIsSound reads (if b then record { given = given; held = h ∷ hs; bits_out = out } else next)
+    → QueueIsSound reads (if b then record { given = given; held = h ∷ hs; out = out } else next)
 given_on_by reads given h hs out next true e r w f s = record { within = w; room = r; waiting = λ p. e; fits = f }
 given_on_by reads given h hs out next false e r w f s = s
 
@@ -81,9 +81,9 @@ given_on_sound reads g given (h ∷ hs) out r w f =
 -- with room for a byte that should be held
 record Roomy (reads : List ℕ → List ℕ) (q : Queue) : Type 0 where
   pub sound : QueueIsSound reads q
-  pub free : waits reads q.given q.bits_out ≡ true → length q.held < 64
+  pub free : waits reads q.given q.out ≡ true → length q.held < 64
 
-room_by : (reads : List ℕ → List ℕ) (q : Queue) (b : Bool) → (waits reads q.given q.bits_out && length q.held == most_bytes_held) ≡ b → QueueIsSound reads q → Roomy reads (if b then dropped reads q else q)
+room_by : (reads : List ℕ → List ℕ) (q : Queue) (b : Bool) → (waits reads q.given q.out && length q.held == most_bytes_held) ≡ b → QueueIsSound reads q → Roomy reads (if b then dropped reads q else q)
 room_by reads q true e s = record {
   sound = record { within = omega arith; room = omega arith; waiting = λ p. absurd (omega (arith, p)); fits = subst AreBytes (sym (append-nil (q.given ++ q.held))) s.fits };
   free = λ w. omega arith;
@@ -94,15 +94,15 @@ room_by reads q false e s = record {
 }
 
 -- nothing is held where no word waits
-none_held : (reads : List ℕ → List ℕ) (q : Queue) → QueueIsSound reads q → waits reads q.given q.bits_out ≡ false → q.held ≡ []
+none_held : (reads : List ℕ → List ℕ) (q : Queue) → QueueIsSound reads q → waits reads q.given q.out ≡ false → q.held ≡ []
 none_held reads q s e = by q.held s.waiting
   where
-    by : (held : List ℕ) → (0 < length held → waits reads q.given q.bits_out ≡ true) → held ≡ []
+    by : (held : List ℕ) → (0 < length held → waits reads q.given q.out ≡ true) → held ≡ []
     by [] w = refl
     by (h ∷ hs) w = absurd (let f : true ≡ false = sym (w (omega arith)) ∙ e in cc)
 
-turn_by : (reads : List ℕ → List ℕ) → Grows reads → (q : Queue) (x : ℕ) (b : Bool) → x < 256 → waits reads q.given q.bits_out ≡ b → Roomy reads q
-    → QueueIsSound reads (if b then record { given = q.given; held = q.held ++ x ∷ []; bits_out = q.bits_out } else record { given = q.given ++ x ∷ []; held = q.held; bits_out = q.bits_out })
+turn_by : (reads : List ℕ → List ℕ) → Grows reads → (q : Queue) (x : ℕ) (b : Bool) → x < 256 → waits reads q.given q.out ≡ b → Roomy reads q
+    → QueueIsSound reads (if b then record { given = q.given; held = q.held ++ x ∷ []; out = q.out } else record { given = q.given ++ x ∷ []; held = q.held; out = q.out })
 turn_by reads g q x true l e s = record {
   within = s.sound.within;
   room = omega (arith, s.free e, length-append q.held (x ∷ []));
@@ -120,9 +120,9 @@ turn_by reads g q x false l e s =
       fits = subst (λ (h : List ℕ). AreBytes ((q.given ++ x ∷ []) ++ h)) (sym held) (subst AreBytes (sym (append-nil (q.given ++ x ∷ []))) more);
     }
 
-shifted_by : (reads : List ℕ → List ℕ) → Grows reads → (q : Queue) (b : Bool) → waits reads q.given q.bits_out ≡ b → QueueIsSound reads q
-    → QueueIsSound reads (if b then give_held reads (record q { bits_out = q.bits_out + 1 }) else q)
-shifted_by reads g q true e s = subst (QueueIsSound reads) (in_turns reads q.given q.held (q.bits_out + 1)) (given_on_sound reads g q.given q.held (q.bits_out + 1) s.room (omega (arith, is_below q.bits_out (bits_read reads q.given) e)) s.fits)
+shifted_by : (reads : List ℕ → List ℕ) → Grows reads → (q : Queue) (b : Bool) → waits reads q.given q.out ≡ b → QueueIsSound reads q
+    → QueueIsSound reads (if b then give_held reads (record q { out = q.out + 1 }) else q)
+shifted_by reads g q true e s = subst (QueueIsSound reads) (in_turns reads q.given q.held (q.out + 1)) (given_on_sound reads g q.given q.held (q.out + 1) s.room (omega (arith, is_below q.out (bits_read reads q.given) e)) s.fits)
 shifted_by reads g q false e s = s
 
 empty_sound : (reads : List ℕ → List ℕ) → QueueIsSound reads empty_queue
@@ -141,9 +141,9 @@ AreByteEvents (e ∷ es) = IsByteEvent e × AreByteEvents es
 
 step_sound : (reads : List ℕ → List ℕ) → Grows reads → (q : Queue) (e : QueueEvent) → IsByteEvent e → QueueIsSound reads q → QueueIsSound reads (by_event reads q e)
 step_sound reads g q (Byte x) l s =
-    let r : Roomy reads (queue_with_room reads q) = room_by reads q (waits reads q.given q.bits_out && length q.held == most_bytes_held) refl s in
-    turn_by reads g (queue_with_room reads q) x (waits reads (queue_with_room reads q).given (queue_with_room reads q).bits_out) l refl r
-step_sound reads g q Bit l s = shifted_by reads g q (waits reads q.given q.bits_out) refl s
+    let r : Roomy reads (queue_with_room reads q) = room_by reads q (waits reads q.given q.out && length q.held == most_bytes_held) refl s in
+    turn_by reads g (queue_with_room reads q) x (waits reads (queue_with_room reads q).given (queue_with_room reads q).out) l refl r
+step_sound reads g q Bit l s = shifted_by reads g q (waits reads q.given q.out) refl s
 step_sound reads g q Program l s = empty_sound reads
 
 fold_sound : (reads : List ℕ → List ℕ) → Grows reads → (q : Queue) (es : List QueueEvent) → AreByteEvents es → QueueIsSound reads q → QueueIsSound reads (fold (by_event reads) q es)

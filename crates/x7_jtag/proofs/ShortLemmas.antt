@@ -18,17 +18,17 @@ abbrev size : Queue → ℕ
 size q = length q.given + length q.held
 
 held_size : (reads : List ℕ → List ℕ) (given hs : List ℕ) (out : ℕ) → size (given_on reads given hs out) ≡ length given + length hs
-held_size reads given [] bits_out = refl
-held_size reads given (h ∷ hs) bits_out = by (waits reads given out) (held_size reads (given ++ h ∷ []) hs out)
+held_size reads given [] out = refl
+held_size reads given (h ∷ hs) out = by (waits reads given out) (held_size reads (given ++ h ∷ []) hs out)
   where
-    by : (b : Bool) → size (given_on reads (given ++ h ∷ []) hs out) ≡ length (given ++ h ∷ []) + length hs → size (if b then record { given = given; held = h ∷ hs; bits_out = out } else given_on reads (given ++ h ∷ []) hs out) ≡ length given + length (h ∷ hs)
+    by : (b : Bool) → size (given_on reads (given ++ h ∷ []) hs out) ≡ length (given ++ h ∷ []) + length hs → size (if b then record { given = given; held = h ∷ hs; out = out } else given_on reads (given ++ h ∷ []) hs out) ≡ length given + length (h ∷ hs)
     by true e = refl
     by false e = omega (arith, e, length-append given (h ∷ []))
 
 turn_size : (reads : List ℕ → List ℕ) (q : Queue) (x : ℕ) → size (in_turn reads q x) ≡ size q + 1
-turn_size reads q x = by (waits reads q.given q.bits_out)
+turn_size reads q x = by (waits reads q.given q.out)
   where
-    by : (b : Bool) → size (if b then record { given = q.given; held = q.held ++ x ∷ []; bits_out = q.bits_out } else record { given = q.given ++ x ∷ []; held = q.held; bits_out = q.bits_out }) ≡ size q + 1
+    by : (b : Bool) → size (if b then record { given = q.given; held = q.held ++ x ∷ []; out = q.out } else record { given = q.given ++ x ∷ []; held = q.held; out = q.out }) ≡ size q + 1
     by true = omega (arith, length-append q.held (x ∷ []))
     by false = omega (arith, length-append q.given (x ∷ []))
 
@@ -37,13 +37,13 @@ room_size reads q true = omega (arith, length-append q.given q.held)
 room_size reads q false = refl
 
 offered_size : (reads : List ℕ → List ℕ) (q : Queue) (x : ℕ) → size (offered reads q x) ≤ size q + 1
-offered_size reads q x = omega (arith, turn_size reads (queue_with_room reads q) x, room_size reads q (waits reads q.given q.bits_out && length q.held == most_bytes_held))
+offered_size reads q x = omega (arith, turn_size reads (queue_with_room reads q) x, room_size reads q (waits reads q.given q.out && length q.held == most_bytes_held))
 
 shifted_size : (reads : List ℕ → List ℕ) (q : Queue) → size (shifted_out reads q) ≤ size q + 1
-shifted_size reads q = by (waits reads q.given q.bits_out)
+shifted_size reads q = by (waits reads q.given q.out)
   where
-    by : (b : Bool) → size (if b then give_held reads (record q { bits_out = q.bits_out + 1 }) else q) ≤ size q + 1
-    by true = omega (arith, held_size reads q.given q.held (q.bits_out + 1), ap size (in_turns reads q.given q.held (q.bits_out + 1)))
+    by : (b : Bool) → size (if b then give_held reads (record q { out = q.out + 1 }) else q) ≤ size q + 1
+    by true = omega (arith, held_size reads q.given q.held (q.out + 1), ap size (in_turns reads q.given q.held (q.out + 1)))
     by false = omega arith
 
 if_size : (a q : Queue) (b : Bool) → size a ≤ size q + 1 → size (if b then a else q) ≤ size q + 1

@@ -108,17 +108,17 @@ held_apart part k n d given held out e s =
 
 -- ---- a byte in its turn
 
-turn_by : (part : PartData) (k : QueueState) (d : DeviceState) (q : Queue) (x : ℕ) (b : Bool) → waits (words_read_out part) q.given q.bits_out ≡ b
-    → QueueStandsFor part k d (if b then record { given = q.given; held = q.held ++ x ∷ []; bits_out = q.bits_out } else record { given = q.given ++ x ∷ []; held = q.held; bits_out = q.bits_out })
+turn_by : (part : PartData) (k : QueueState) (d : DeviceState) (q : Queue) (x : ℕ) (b : Bool) → waits (words_read_out part) q.given q.out ≡ b
+    → QueueStandsFor part k d (if b then record { given = q.given; held = q.held ++ x ∷ []; out = q.out } else record { given = q.given ++ x ∷ []; held = q.held; out = q.out })
     → QueueStandsFor part k d (in_turn (words_read_out part) q x)
 turn_by part k d q x b e s =
-    subst (λ (c : Bool). QueueStandsFor part k d (if c then record { given = q.given; held = q.held ++ x ∷ []; bits_out = q.bits_out } else record { given = q.given ++ x ∷ []; held = q.held; bits_out = q.bits_out })) (sym e) s
+    subst (λ (c : Bool). QueueStandsFor part k d (if c then record { given = q.given; held = q.held ++ x ∷ []; out = q.out } else record { given = q.given ++ x ∷ []; held = q.held; out = q.out })) (sym e) s
 
 pub turn_held : (part : PartData) (k n : QueueState) (d : DeviceState) (q : Queue) (x : ℕ) → x < 256 → 0 < k.bits_left → n ≡ record k { held = k.held ++ x ∷ [] } → QueueStandsFor part k d q → QueueStandsFor part n d (in_turn (words_read_out part) q x)
-turn_held part k n d q x f l e s = turn_by part n d q x true (one_waits part k d q.given q.held q.bits_out s.holds l) (held_more part k n d q.given q.held q.bits_out x f e s)
+turn_held part k n d q x f l e s = turn_by part n d q x true (one_waits part k d q.given q.held q.out s.holds l) (held_more part k n d q.given q.held q.out x f e s)
 
-pub turn_given : (part : PartData) (k n : QueueState) (d e : DeviceState) (q : Queue) (x : ℕ) → k.bits_left ≡ 0 → QueueStandsFor part k d q → QueueStandsFor part n e (queue_of (q.given ++ x ∷ []) q.held q.bits_out) → QueueStandsFor part n e (in_turn (words_read_out part) q x)
-turn_given part k n d e q x z s t = turn_by part n e q x false (none_waits part k d q.given q.held q.bits_out s z) t
+pub turn_given : (part : PartData) (k n : QueueState) (d e : DeviceState) (q : Queue) (x : ℕ) → k.bits_left ≡ 0 → QueueStandsFor part k d q → QueueStandsFor part n e (queue_of (q.given ++ x ∷ []) q.held q.out) → QueueStandsFor part n e (in_turn (words_read_out part) q x)
+turn_given part k n d e q x z s t = turn_by part n e q x false (none_waits part k d q.given q.held q.out s z) t
 
 -- ---- what the device was fed
 
@@ -218,54 +218,54 @@ all_dropped part k n d e given held piece out old read f s there stands a reads 
 
 -- ---- a bit that is shifted out
 
-shown_by : (reads : List ℕ → List ℕ) (q : Queue) (b : Bool) → waits reads q.given q.bits_out ≡ b → bit_shown reads q ≡ (if b then word_bit (reads q.given) q.bits_out else false)
-shown_by reads q b e = ap (λ (c : Bool). if c then word_bit (reads q.given) q.bits_out else false) e
+shown_by : (reads : List ℕ → List ℕ) (q : Queue) (b : Bool) → waits reads q.given q.out ≡ b → bit_shown reads q ≡ (if b then word_bit (reads q.given) q.out else false)
+shown_by reads q b e = ap (λ (c : Bool). if c then word_bit (reads q.given) q.out else false) e
 
 pub shows_none : (part : PartData) (k : QueueState) (d : DeviceState) (q : Queue) → QueueStandsFor part k d q → k.bits_left ≡ 0 → false ≡ bit_shown (words_read_out part) q
-shows_none part k d q s z = sym (shown_by (words_read_out part) q false (none_waits part k d q.given q.held q.bits_out s z))
+shows_none part k d q s z = sym (shown_by (words_read_out part) q false (none_waits part k d q.given q.held q.out s z))
 
 pub shows_bit : (part : PartData) (k : QueueState) (d : DeviceState) (q : Queue) (b : Bool) → QueueStandsFor part k d q → 0 < k.bits_left → b ≡ (k.word / 2 ^ (k.bits_left - 1) % 2 == 1) → b ≡ bit_shown (words_read_out part) q
-shows_bit part k d q b s l e = e ∙ sym (bit_is part k d q.given q.held q.bits_out s.holds l) ∙ sym (shown_by (words_read_out part) q true (one_waits part k d q.given q.held q.bits_out s.holds l))
+shows_bit part k d q b s l e = e ∙ sym (bit_is part k d q.given q.held q.out s.holds l) ∙ sym (shown_by (words_read_out part) q true (one_waits part k d q.given q.held q.out s.holds l))
 
 pub shifts_none : (part : PartData) (k : QueueState) (d : DeviceState) (q : Queue) → QueueStandsFor part k d q → k.bits_left ≡ 0 → QueueStandsFor part k d (shifted_out (words_read_out part) q)
 shifts_none part k d q s z =
-    subst (λ (b : Bool). QueueStandsFor part k d (if b then give_held (words_read_out part) (record q { bits_out = q.bits_out + 1 }) else q)) (sym (none_waits part k d q.given q.held q.bits_out s z)) s
+    subst (λ (b : Bool). QueueStandsFor part k d (if b then give_held (words_read_out part) (record q { out = q.out + 1 }) else q)) (sym (none_waits part k d q.given q.held q.out s z)) s
 
-shifts : (part : PartData) (k n : QueueState) (d e : DeviceState) (q : Queue) → QueueStandsFor part k d q → 0 < k.bits_left → QueueStandsFor part n e (give_held (words_read_out part) (record q { bits_out = q.bits_out + 1 })) → QueueStandsFor part n e (shifted_out (words_read_out part) q)
+shifts : (part : PartData) (k n : QueueState) (d e : DeviceState) (q : Queue) → QueueStandsFor part k d q → 0 < k.bits_left → QueueStandsFor part n e (give_held (words_read_out part) (record q { out = q.out + 1 })) → QueueStandsFor part n e (shifted_out (words_read_out part) q)
 shifts part k n d e q s l t =
-    subst (λ (b : Bool). QueueStandsFor part n e (if b then give_held (words_read_out part) (record q { bits_out = q.bits_out + 1 }) else q)) (sym (one_waits part k d q.given q.held q.bits_out s.holds l)) t
+    subst (λ (b : Bool). QueueStandsFor part n e (if b then give_held (words_read_out part) (record q { out = q.out + 1 }) else q)) (sym (one_waits part k d q.given q.held q.out s.holds l)) t
 
 pub shifts_last : (part : PartData) (k m n : QueueState) (d e : DeviceState) (q : Queue) → QueueStandsFor part k d q → 0 < k.bits_left → m ≡ record k { bits_left = k.bits_left - 1 }
-    → (QueueHolds part m d (queue_of q.given q.held (q.bits_out + 1)) → QueueStandsFor part n e (give_held (words_read_out part) (record q { bits_out = q.bits_out + 1 }))) → QueueStandsFor part n e (shifted_out (words_read_out part) q)
+    → (QueueHolds part m d (queue_of q.given q.held (q.out + 1)) → QueueStandsFor part n e (give_held (words_read_out part) (record q { out = q.out + 1 }))) → QueueStandsFor part n e (shifted_out (words_read_out part) q)
 shifts_last part k m n d e q s l with next =
-    let P : QueueState → Type 0 = λ t. QueueHolds part t d (queue_of q.given q.held (q.bits_out + 1)) in
-    shifts part k n d e q s l (next (subst P (sym with) (bit_out part k d q.given q.held q.bits_out s.holds l)))
+    let P : QueueState → Type 0 = λ t. QueueHolds part t d (queue_of q.given q.held (q.out + 1)) in
+    shifts part k n d e q s l (next (subst P (sym with) (bit_out part k d q.given q.held q.out s.holds l)))
 
 pub shifts_inside : (part : PartData) (k n : QueueState) (d : DeviceState) (q : Queue) → QueueStandsFor part k d q → 0 < n.bits_left → n ≡ record k { bits_left = k.bits_left - 1 } → QueueStandsFor part n d (shifted_out (words_read_out part) q)
 shifts_inside part k n d q s l with =
-    let P : QueueState → Type 0 = λ t. QueueHolds part t d (queue_of q.given q.held (q.bits_out + 1)) in
+    let P : QueueState → Type 0 = λ t. QueueHolds part t d (queue_of q.given q.held (q.out + 1)) in
     let some : 0 < k.bits_left = omega (arith, l, ap (λ (t : QueueState). t.bits_left) with) in
-    let h : QueueHolds part n d (queue_of q.given q.held (q.bits_out + 1)) = subst P (sym with) (bit_out part k d q.given q.held q.bits_out s.holds some) in
-    let t : QueueStandsFor part n d (queue_of q.given q.held (q.bits_out + 1)) = record { holds = h; no_word_due = λ z. absurd (omega (arith, z, l)) } in
-    shifts part k n d d q s some (subst (QueueStandsFor part n d) (sym (turns_wait (words_read_out part) q.given [] q.held (q.bits_out + 1) (one_waits part n d q.given q.held (q.bits_out + 1) h l))) t)
+    let h : QueueHolds part n d (queue_of q.given q.held (q.out + 1)) = subst P (sym with) (bit_out part k d q.given q.held q.out s.holds some) in
+    let t : QueueStandsFor part n d (queue_of q.given q.held (q.out + 1)) = record { holds = h; no_word_due = λ z. absurd (omega (arith, z, l)) } in
+    shifts part k n d d q s some (subst (QueueStandsFor part n d) (sym (turns_wait (words_read_out part) q.given [] q.held (q.out + 1) (one_waits part n d q.given q.held (q.out + 1) h l))) t)
 
 -- ---- room for a byte
 
-room_by : (part : PartData) (n : QueueState) (e : DeviceState) (q : Queue) (b : Bool) → (waits (words_read_out part) q.given q.bits_out && length q.held == most_bytes_held) ≡ b
+room_by : (part : PartData) (n : QueueState) (e : DeviceState) (q : Queue) (b : Bool) → (waits (words_read_out part) q.given q.out && length q.held == most_bytes_held) ≡ b
     → QueueStandsFor part n e (if b then dropped (words_read_out part) q else q) → QueueStandsFor part n e (queue_with_room (words_read_out part) q)
 room_by part n e q b is s = subst (λ (c : Bool). QueueStandsFor part n e (if c then dropped (words_read_out part) q else q)) (sym is) s
 
-overflow_is : (part : PartData) (k : QueueState) (d : DeviceState) (q : Queue) (b : Bool) → QueueStandsFor part k d q → b ≡ (nat_lt 0 k.bits_left && length k.held == 64) → (waits (words_read_out part) q.given q.bits_out && length q.held == most_bytes_held) ≡ b
+overflow_is : (part : PartData) (k : QueueState) (d : DeviceState) (q : Queue) (b : Bool) → QueueStandsFor part k d q → b ≡ (nat_lt 0 k.bits_left && length k.held == 64) → (waits (words_read_out part) q.given q.out && length q.held == most_bytes_held) ≡ b
 overflow_is part k d q b s e = by k.bits_left refl
   where
     count : length k.held ≡ length q.held
     count = ap length s.holds.held_is
 
-    by : (left : ℕ) → k.bits_left ≡ left → (waits (words_read_out part) q.given q.bits_out && length q.held == most_bytes_held) ≡ b
-    by zero z = let w : waits (words_read_out part) q.given q.bits_out ≡ false = none_waits part k d q.given q.held q.bits_out s z in grind (arith, w, e, z, count)
+    by : (left : ℕ) → k.bits_left ≡ left → (waits (words_read_out part) q.given q.out && length q.held == most_bytes_held) ≡ b
+    by zero z = let w : waits (words_read_out part) q.given q.out ≡ false = none_waits part k d q.given q.held q.out s z in grind (arith, w, e, z, count)
     by (suc m) z =
         let l : 0 < k.bits_left = omega (arith, z) in
-        let w : waits (words_read_out part) q.given q.bits_out ≡ true = one_waits part k d q.given q.held q.bits_out s.holds l in
+        let w : waits (words_read_out part) q.given q.out ≡ true = one_waits part k d q.given q.held q.out s.holds l in
         grind (arith, w, e, l, count)
 
 pub room_made : (part : PartData) (k n : QueueState) (d e : DeviceState) (q : Queue) (b : Bool) → QueueStandsFor part k d q → b ≡ (nat_lt 0 k.bits_left && length k.held == 64) → b ≡ true
@@ -327,7 +327,7 @@ pub turns_end : (part : PartData) (k l n : QueueState) (d e : DeviceState) (give
     → ((m : Queue) → QueueStandsFor part l d m → (p : Queue) × QueueStandsFor part n e p × (fold (in_turn (words_read_out part)) m all ≡ fold (in_turn (words_read_out part)) p rest))
     → QueueStandsFor part n e (give_held (words_read_out part) (queue_of given held out))
 turns_end part k l n d e given held all rest out s apart whole none turns =
-    let first : Queue = record { given = given; held = []; bits_out = out } in
+    let first : Queue = record { given = given; held = []; out = out } in
     let b = turns first (held_apart part k l d given held out apart s) in
     let end : b.0 ≡ give_held (words_read_out part) (queue_of given held out) =
     sym (ap (fold (in_turn (words_read_out part)) b.0) (none_of rest none)) ∙ sym b.2 ∙ ap (fold (in_turn (words_read_out part)) first) (whole ∙ s.holds.held_is) in

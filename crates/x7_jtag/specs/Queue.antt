@@ -13,15 +13,15 @@ pub data QueueEvent : Type 0 where
 pub record Queue : Type 0 where
   pub given : List ℕ
   pub held : List ℕ
-  pub bits_out : ℕ
+  pub out : ℕ
 
 -- a queue of these bytes given, these held, and this count of bits
 abbrev pub queue_of : List ℕ → List ℕ → ℕ → Queue
-queue_of given held bits_out = record { given = given; held = held; bits_out = out }
+queue_of given held out = record { given = given; held = held; out = out }
 
 -- a queue of which the device was given these bytes more
 abbrev pub with_given : Queue → List ℕ → Queue
-with_given q more = record { given = q.given ++ more; held = q.held; bits_out = q.bits_out }
+with_given q more = record { given = q.given ++ more; held = q.held; out = q.out }
 
 -- the number of all bits of the words read out; here and below `reads` gives the words that a device reads out of the
 -- bytes given to it
@@ -30,7 +30,7 @@ bits_read reads given = 32 * length (reads given)
 
 -- a word read out, or a part of one, waits: fewer bits are out than were read out
 abbrev pub waits : (List ℕ → List ℕ) → List ℕ → ℕ → Bool
-waits reads given bits_out = nat_lt out (bits_read reads given)
+waits reads given out = nat_lt out (bits_read reads given)
 
 -- the most bytes held
 abbrev pub most_bytes_held : ℕ
@@ -39,9 +39,9 @@ most_bytes_held = 64
 -- a queue after a byte in its turn: given where no word waits, else held
 abbrev pub in_turn : (List ℕ → List ℕ) → Queue → ℕ → Queue
 in_turn reads q x =
-    if waits reads q.given q.bits_out
-    then record { given = q.given; held = q.held ++ x ∷ []; bits_out = q.bits_out }
-    else record { given = q.given ++ x ∷ []; held = q.held; bits_out = q.bits_out }
+    if waits reads q.given q.out
+    then record { given = q.given; held = q.held ++ x ∷ []; out = q.out }
+    else record { given = q.given ++ x ∷ []; held = q.held; out = q.out }
 
 -- held bytes come in their turn again: they go to the device in order until a word waits
 abbrev pub give_held : (List ℕ → List ℕ) → Queue → Queue
@@ -49,11 +49,11 @@ give_held reads q = fold (in_turn reads) (record q { held = [] }) q.held
 
 -- what waits is dropped, the held bytes are given, and what they read out is dropped
 abbrev pub dropped : (List ℕ → List ℕ) → Queue → Queue
-dropped reads q = record { given = q.given ++ q.held; held = []; bits_out = bits_read reads (q.given ++ q.held) }
+dropped reads q = record { given = q.given ++ q.held; held = []; out = bits_read reads (q.given ++ q.held) }
 
 -- a queue with room for a byte that should be held, where the most bytes were
 abbrev pub queue_with_room : (List ℕ → List ℕ) → Queue → Queue
-queue_with_room reads q = if waits reads q.given q.bits_out && length q.held == most_bytes_held then dropped reads q else q
+queue_with_room reads q = if waits reads q.given q.out && length q.held == most_bytes_held then dropped reads q else q
 
 -- a queue after a byte is offered
 abbrev pub offered : (List ℕ → List ℕ) → Queue → ℕ → Queue
@@ -61,7 +61,7 @@ offered reads q x = in_turn reads (queue_with_room reads q) x
 
 -- one bit more is out; where it was the last that waited, held bytes go to the device
 abbrev pub shifted_out : (List ℕ → List ℕ) → Queue → Queue
-shifted_out reads q = if waits reads q.given q.bits_out then give_held reads (record q { bits_out = q.bits_out + 1 }) else q
+shifted_out reads q = if waits reads q.given q.out then give_held reads (record q { out = q.out + 1 }) else q
 
 -- a bit of words, highest bits first
 abbrev pub word_bit : List ℕ → ℕ → Bool
@@ -69,11 +69,11 @@ word_bit words n = slice_index words (n / 32) / 2 ^ (31 - n % 32) % 2 == 1
 
 -- the bit that a clock shows: the one after those that are out, and 0 where none waits
 abbrev pub bit_shown : (List ℕ → List ℕ) → Queue → Bool
-bit_shown reads q = if waits reads q.given q.bits_out then word_bit (reads q.given) q.bits_out else false
+bit_shown reads q = if waits reads q.given q.out then word_bit (reads q.given) q.out else false
 
 -- the queue of a new port
 abbrev pub empty_queue : Queue
-empty_queue = record { given = []; held = []; bits_out = 0 }
+empty_queue = record { given = []; held = []; out = 0 }
 
 -- a queue after an event
 abbrev pub by_event : (List ℕ → List ℕ) → Queue → QueueEvent → Queue
@@ -88,7 +88,7 @@ queue_after reads es = fold (by_event reads) empty_queue es
 -- what holds of a port's queue: no more bits are out than were read out, no more bytes are held than may be, these only
 -- while a word waits, and all are bytes
 pub record QueueIsSound (reads : List ℕ → List ℕ) (q : Queue) : Type 0 where
-  pub within : q.bits_out ≤ bits_read reads q.given
+  pub within : q.out ≤ bits_read reads q.given
   pub room : length q.held ≤ most_bytes_held
-  pub waiting : 0 < length q.held → waits reads q.given q.bits_out ≡ true
+  pub waiting : 0 < length q.held → waits reads q.given q.out ≡ true
   pub fits : AreBytes (q.given ++ q.held)

@@ -16,7 +16,7 @@ bytes_taken part p = take (taken_of part on_the_bench p.queue.given) p.queue.giv
 
 -- the number of words that are due: those after the one whose bits go out
 abbrev pub port_words_due : PartData → Port → ℕ
-port_words_due part p = length (words_read_out part p.queue.given) - (p.queue.bits_out / 32 + 1)
+port_words_due part p = length (words_read_out part p.queue.given) - (p.queue.out / 32 + 1)
 
 -- the device's registers and the rest of its state, where `due` words of frame data are due
 abbrev pub state_with : PartData → Port → ℕ → Regs

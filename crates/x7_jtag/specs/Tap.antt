@@ -80,7 +80,7 @@ pub record QueueHolds (part : PartData) (k : QueueState) (d : DeviceState) (q : 
   pub device : DeviceStandsFor part on_the_bench false d bytes
   pub held_is : k.held ≡ q.held
   pub held_fits : AreBytes q.held
-  pub out_is : q.bits_out + k.bits_left ≡ 32 * length (words_taken part d bytes)
+  pub out_is : q.out + k.bits_left ≡ 32 * length (words_taken part d bytes)
   pub bits_left_is : k.bits_left ≤ 32
   pub prefix : List ℕ
   pub word_is : 0 < k.bits_left → words_taken part d bytes ≡ prefix ++ k.word ∷ []
