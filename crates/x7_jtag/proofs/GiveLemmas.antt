@@ -65,7 +65,7 @@ module _ (part : PartData) (given bytes piece : List ℕ) (t : ℕ) where
       ] in
       subst (λ (x : List ℕ). TookOfGiven part (given ++ prefix) (bytes ++ x)) same (took_more part given bytes prefix t (prefix_bytes count piece f) took z ends)
 
-  holds_piece : (k : QueueState) (d e : DeviceState) (held : List ℕ) (out count : ℕ) → (h : QueueHolds part k d (queue_of given held out)) → h.bytes ≡ bytes → k.left ≡ 0 → TookOfGiven part (given ++ take count piece) (bytes ++ take t piece)
+  holds_piece : (k : QueueState) (d e : DeviceState) (held : List ℕ) (out count : ℕ) → (h : QueueHolds part k d (queue_of given held out)) → h.bytes ≡ bytes → k.bits_left ≡ 0 → TookOfGiven part (given ++ take count piece) (bytes ++ take t piece)
       → DeviceStandsFor part on_the_bench false e (bytes ++ take t piece) → words_taken part e (bytes ++ take t piece) ≡ words_taken part d bytes → QueueHolds part k e (queue_of (given ++ take count piece) held out)
   holds_piece k d e held out count h is z took stands same = record {
     bytes = bytes ++ take t piece;
@@ -74,7 +74,7 @@ module _ (part : PartData) (given bytes piece : List ℕ) (t : ℕ) where
     held_is = h.held_is;
     held_fits = h.held_fits;
     out_is = omega (arith, h.out_is, ap length same, ap (λ (b : List ℕ). length (words_taken part d b)) is);
-    left_is = h.left_is;
+    bits_left_is = h.bits_left_is;
     prefix = [];
     word_is = λ m. absurd (omega (arith, m, z));
   }
@@ -113,7 +113,7 @@ record Given (part : PartData) (k : QueueState) (d e : DeviceState) (q : Queue) 
   pub quiet : (i : ℕ) → i < length (take count piece) → waits (words_read_out part) (q.given ++ take i (take count piece)) q.out ≡ false
 
 module _ (part : PartData) (k : QueueState) (d e : DeviceState) (q : Queue) (piece : List ℕ) where
-  given_whole : (t : ℕ) → (s : QueueStandsFor part k d q) → k.left ≡ 0 → AreBytes piece → t ≤ length piece → DeviceStandsFor part on_the_bench false e (s.holds.bytes ++ take t piece)
+  given_whole : (t : ℕ) → (s : QueueStandsFor part k d q) → k.bits_left ≡ 0 → AreBytes piece → t ≤ length piece → DeviceStandsFor part on_the_bench false e (s.holds.bytes ++ take t piece)
       → NoWordDue e → IsSome (stop_in part on_the_bench (s.holds.bytes ++ take t piece)) ⊎ (t ≡ length piece)
       → words_taken part e (s.holds.bytes ++ take t piece) ≡ words_taken part d s.holds.bytes → (IsSome (stop_in part on_the_bench s.holds.bytes) → t ≡ 0) → Given part k d e q piece (length piece)
   given_whole t s z f l stands due over same stopped =
@@ -125,7 +125,7 @@ module _ (part : PartData) (k : QueueState) (d e : DeviceState) (q : Queue) (pie
             (quiet_whole part e q.given (h.bytes ++ take t piece) (take (length piece) piece) (words_taken part d h.bytes) took due same i) (omega (arith, h.out_is, z));
       }
 
-  given_prefix : (n : ℕ) → (s : QueueStandsFor part k d q) → k.left ≡ 0 → AreBytes piece → n ≤ length piece → DeviceStandsFor part on_the_bench false e (s.holds.bytes ++ take n piece)
+  given_prefix : (n : ℕ) → (s : QueueStandsFor part k d q) → k.bits_left ≡ 0 → AreBytes piece → n ≤ length piece → DeviceStandsFor part on_the_bench false e (s.holds.bytes ++ take n piece)
       → words_taken part e (s.holds.bytes ++ take n piece) ≡ words_taken part d s.holds.bytes → (IsSome (stop_in part on_the_bench s.holds.bytes) → n ≡ 0)
       → RoomBefore (record { part = part; kept = on_the_bench; wrapped = false; bytes = s.holds.bytes }) piece n (words_taken part d s.holds.bytes) no_room → Given part k d e q piece n
   given_prefix n s z f l stands same stopped before =
@@ -140,7 +140,7 @@ module _ (part : PartData) (k : QueueState) (d e : DeviceState) (q : Queue) (pie
             (quiet_before part q.given h.bytes piece (words_taken part d h.bytes) n l (given_is part q.given h.bytes n h.took stopped (omega (arith, inside))) before i inside) (omega (arith, h.out_is, z));
       }
 
-  given_by_is : (f : Fed) (read : ReadBufState) → (s : QueueStandsFor part k d q) → k.left ≡ 0 → AreBytes piece → taken_in (length piece) f ≤ length piece
+  given_by_is : (f : Fed) (read : ReadBufState) → (s : QueueStandsFor part k d q) → k.bits_left ≡ 0 → AreBytes piece → taken_in (length piece) f ≤ length piece
       → DeviceStandsFor part on_the_bench false e (s.holds.bytes ++ take (taken_in (length piece) f) piece)
       → Answers (past_of part on_the_bench false (s.holds.bytes ++ take (taken_in (length piece) f) piece)) e read f
       → words_taken part e (s.holds.bytes ++ take (taken_in (length piece) f) piece) ≡ words_taken part d s.holds.bytes
@@ -159,7 +159,7 @@ none_got (w ∷ words) read e f =
     absurd (omega (arith, few))
 
 -- a piece is given, and then the word that it reads out is taken
-pub gives : (part : PartData) (k n : QueueState) (d e g : DeviceState) (q : Queue) (piece : List ℕ) (read : ReadBufState) (f : Fed) (count : ℕ) → (s : QueueStandsFor part k d q) → k.left ≡ 0 → AreBytes piece → taken_in (length piece) f ≤ length piece
+pub gives : (part : PartData) (k n : QueueState) (d e g : DeviceState) (q : Queue) (piece : List ℕ) (read : ReadBufState) (f : Fed) (count : ℕ) → (s : QueueStandsFor part k d q) → k.bits_left ≡ 0 → AreBytes piece → taken_in (length piece) f ≤ length piece
     → DeviceStandsFor part on_the_bench false e (s.holds.bytes ++ take (taken_in (length piece) f) piece)
     → Answers (past_of part on_the_bench false (s.holds.bytes ++ take (taken_in (length piece) f) piece)) e read f
     → words_taken part e (s.holds.bytes ++ take (taken_in (length piece) f) piece) ≡ words_taken part d s.holds.bytes

@@ -57,12 +57,12 @@ due_by part k d given held out s =
     let count : length reads ≡ length h.device.due_are.given + due_count d.registers.due = ap length h.device.due_are.all ∙ length-append h.device.due_are.given left ∙ ap (λ n. length h.device.due_are.given + n) (length_left part (history_taken part on_the_bench h.bytes) d.registers.due) in
     let whole : length (words_read_out part given) ≡ length reads = ap length (reads_took part given h.bytes h.took) in
     let taken : length (words_taken part d h.bytes) ≡ length reads - due_count d.registers.due = length-take-le (length reads - due_count d.registers.due) reads (omega arith) in
-    by k.left refl count whole taken
+    by k.bits_left refl count whole taken
   where
-    by : (left : ℕ) → k.left ≡ left → length (reads_of part on_the_bench s.holds.bytes) ≡ length s.holds.device.due_are.given + due_count d.registers.due → length (words_read_out part given) ≡ length (reads_of part on_the_bench s.holds.bytes)
+    by : (left : ℕ) → k.bits_left ≡ left → length (reads_of part on_the_bench s.holds.bytes) ≡ length s.holds.device.due_are.given + due_count d.registers.due → length (words_read_out part given) ≡ length (reads_of part on_the_bench s.holds.bytes)
         → length (words_taken part d s.holds.bytes) ≡ length (reads_of part on_the_bench s.holds.bytes) - due_count d.registers.due → due_count d.registers.due ≡ length (words_read_out part given) - (out / 32 + 1)
     by zero z count whole taken = omega (arith, z, count, whole, taken, s.holds.out_is, s.no_word_due z)
-    by (suc m) z count whole taken = omega (arith, z, count, whole, taken, s.holds.out_is, s.holds.left_is)
+    by (suc m) z count whole taken = omega (arith, z, count, whole, taken, s.holds.out_is, s.holds.bits_left_is)
 
 pub due_is : (part : PartData) (t : TapState) (d : DeviceState) (cs : List Clock) → TapStandsFor part t d cs
     → due_count d.registers.due ≡ length (words_read_out part (port_after part cs).queue.given) - ((port_after part cs).queue.out / 32 + 1)

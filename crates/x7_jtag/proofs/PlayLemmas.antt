@@ -16,17 +16,16 @@ use Rattle.x7_svf.specs.declared.statement.Statement.{Statement}
 use Rattle.x7_svf.specs.declared.statement.Statement.TheVariants as statement
 use Rattle.x7_jtag.specs.Clocks.{clock, clocks, clocks_of, from_exit, from_reset, inner_clocks, shift_clocks, to_shift}
 use Rattle.x7_svf.specs.Bits.{bytes_bits}
-use Rattle.x7_jtag.specs.Play.{MayClock, after_clocks, bit_at, difference, difference_from, differs_at, first_by, first_from, found_more, is_apart, least, tdo_at, walk_clocks}
+use Rattle.x7_jtag.specs.Play.{MayClock, after_clocks, bit_at, difference, difference_from, differs_at, first_by, first_from, first_found, differs_from_wanted, least, tdo_at, walk_clocks}
 use Rattle.x7_jtag.specs.Port.{Port, clocked, new_port, port_after, tdo_of}
-use Rattle.x7_jtag.specs.Queue.{most_bytes_held}
 use Rattle.x7_jtag.specs.State.{Clock, moved_by, state_after, test_logic_reset}
-use Rattle.x7_jtag.specs.Tap.{CanBeGiven, TapStandsFor, TapState}
+use Rattle.x7_jtag.specs.Tap.{CanAllBeOffered, CanBeOffered, TapStandsFor, TapState}
 use Rattle.x7_jtag.proofs.ShiftLemmas.{inner_append}
 use Rattle.x7_jtag.proofs.ShortLemmas.{held_short, taken_short}
 
 -- ---- one clock
 
-pub ready_fits : (t : TapState) (d : DeviceState) (more : ℕ) → MayClock t d more → 0 < more → CanBeGiven d (most_bytes_held + 1)
+pub ready_fits : (t : TapState) (d : DeviceState) (more : ℕ) → MayClock t d more → 0 < more → CanBeOffered d
 ready_fits t d more r l = omega (arith, taken_short r.part t d r.before r.stands, r.few, l)
 
 pub ready_less : (t : TapState) (d : DeviceState) (more less : ℕ) → less ≤ more → MayClock t d more → MayClock t d less
@@ -157,7 +156,7 @@ pub ready_bytes : (t u : TapState) (d e : DeviceState) (more later : ℕ) (bytes
     → 8 * length bytes + later ≤ more → MayClock u e later
 ready_bytes t u d e more later bytes r s l = ready_on t u d e more later r (inner_clocks (bytes_bits bytes)) (s r.part r.before r.stands) (omega (arith, l, inner_length (bytes_bits bytes), bits_count bytes))
 
-pub ready_holds : (t : TapState) (d : DeviceState) (more count : ℕ) → MayClock t d more → count ≤ 2 ^ 32 → CanBeGiven d (length t.queue.held + count + (most_bytes_held + 1))
+pub ready_holds : (t : TapState) (d : DeviceState) (more count : ℕ) → MayClock t d more → count ≤ 2 ^ 32 → CanAllBeOffered t.queue d count
 ready_holds t d more count r l = omega (arith, held_short r.part t d r.before r.stands, r.few, l)
 
 least_none : (holds : ℕ → Bool) → ((i : ℕ) → holds i ≡ false) → (from n : ℕ) → least holds from n ≡ None
@@ -169,7 +168,7 @@ pub found_first : (part : PartData) (p : Port) (s : Scan) (first : ℕ) → (0 <
 found_first part p s zero none l = refl
 found_first part p s (suc n) none l =
     let e : s.tdo ≡ None = none (omega arith) in
-    let f : (i : ℕ) → differs_at part p s i ≡ false = λ i. ap (λ (o : Option (List Bool)). is_apart o s.mask i (tdo_at part p s.tdi i)) e in
+    let f : (i : ℕ) → differs_at part p s i ≡ false = λ i. ap (λ (o : Option (List Bool)). differs_from_wanted o s.mask i (tdo_at part p s.tdi i)) e in
     least_none (differs_at part p s) f 0 (length s.tdi - 0) ∙ sym (least_none (differs_at part p s) f (suc n) (length s.tdi - suc n))
 
 -- the first place found, or a later one
@@ -177,17 +176,17 @@ abbrev pub found_or : Option ℕ → Option ℕ → Option ℕ
 found_or None later = later
 found_or (Some first) later = Some first
 
-found_by : (found : Option ℕ) (b : Bool) (i : ℕ) (later : Option ℕ) → found_or found (if b then Some i else later) ≡ found_or (found_more found b i) later
+found_by : (found : Option ℕ) (b : Bool) (i : ℕ) (later : Option ℕ) → found_or found (if b then Some i else later) ≡ found_or (first_found found b i) later
 found_by None true i later = refl
 found_by None false i later = refl
 found_by (Some first) b i later = refl
 
-pub found_on : (holds : ℕ → Bool) (found new : Option ℕ) (n i m : ℕ) (b : Bool) (all : Option ℕ) → i < n → m ≡ suc i → all ≡ found_or found (least holds i (n - i)) → b ≡ holds i → new ≡ found_more found b i → all ≡ found_or new (least holds m (n - m))
+pub found_on : (holds : ℕ → Bool) (found new : Option ℕ) (n i m : ℕ) (b : Bool) (all : Option ℕ) → i < n → m ≡ suc i → all ≡ found_or found (least holds i (n - i)) → b ≡ holds i → new ≡ first_found found b i → all ≡ found_or new (least holds m (n - m))
 found_on holds found new n i m b all l is e h f =
     let count : n - i ≡ suc (n - m) = omega (arith, l, is) in
     let next : i + 1 ≡ m = omega (arith, is) in
     e ∙ ap (λ k. found_or found (least holds i k)) count ∙ found_by found (holds i) i (least holds (i + 1) (n - m))
-    ∙ ap₂ (λ (x : Bool) (k : ℕ). found_or (found_more found x i) (least holds k (n - m))) (sym h) next
+    ∙ ap₂ (λ (x : Bool) (k : ℕ). found_or (first_found found x i) (least holds k (n - m))) (sym h) next
     ∙ ap (λ o. found_or o (least holds m (n - m))) (sym f)
 
 found_none : (found : Option ℕ) → found_or found None ≡ found
@@ -200,8 +199,8 @@ found_ends holds found n i all l e =
     sym (e ∙ ap (λ k. found_or found (least holds i k)) count ∙ found_none found)
 
 -- what TDO shows at a shift clock
-pub shown_is : (part : PartData) (cs : List Clock) (s : Scan) (i : ℕ) (shown b : Bool) → shown ≡ tdo_of part (port_after part (cs ++ take i (shift_clocks s.tdi))) → b ≡ is_apart s.tdo s.mask i shown → b ≡ differs_at part (port_after part cs) s i
-shown_is part cs s i shown b e f = f ∙ ap (is_apart s.tdo s.mask i) (e ∙ ap (tdo_of part) (after part cs (take i (shift_clocks s.tdi))))
+pub shown_is : (part : PartData) (cs : List Clock) (s : Scan) (i : ℕ) (shown b : Bool) → shown ≡ tdo_of part (port_after part (cs ++ take i (shift_clocks s.tdi))) → b ≡ differs_from_wanted s.tdo s.mask i shown → b ≡ differs_at part (port_after part cs) s i
+shown_is part cs s i shown b e f = f ∙ ap (differs_from_wanted s.tdo s.mask i) (e ∙ ap (tdo_of part) (after part cs (take i (shift_clocks s.tdi))))
 
 -- ---- lengths of walks
 

@@ -11,27 +11,27 @@ use Rattle.x7_jtag.specs.declared.instruction.Instruction.TheVariants as instruc
 use Rattle.x7_jtag.specs.declared.state.State.{State}
 use Rattle.x7_jtag.specs.declared.state.State.TheVariants as state
 use Rattle.x7_jtag.specs.Instruction.{instruction_of}
-use Rattle.x7_jtag.specs.Port.{Port, acted, captured, clocked, data_shifted, idled, new_port, port_after, queue_at_update, words_read_out, status, ir_status, data_shown, register_shifted, shown_in, tdo_of, updated, with_bit}
-use Rattle.x7_jtag.specs.Queue.{Queue, empty, offered, shifted_out}
+use Rattle.x7_jtag.specs.Port.{Port, acted, captured, clocked, data_shifted, idled, new_port, port_after, queue_at_update, words_read_out, ir_status_with, ir_status, data_shown, register_shifted, shown_in, tdo_of, updated, with_bit}
+use Rattle.x7_jtag.specs.Queue.{Queue, empty_queue, offered, shifted_out}
 use Rattle.x7_jtag.specs.State.{Clock, next_of}
 use Rattle.x7_jtag.specs.Tap.{QueueStandsFor, QueueState, StandsForPort, TapState, TapStandsFor, TookOfGiven}
 use Rattle.x7_jtag.proofs.StandingLemmas.{resets}
 use Rattle.x7_jtag.proofs.TookLemmas.{state_took}
 
 -- what a device shows, whatever words of it are due
-pub status_is : (part : PartData) (given bytes : List ℕ) (regs : Regs) (due n : ℕ) → TookOfGiven part given bytes → regs ≡ state_owing part on_the_bench false bytes due → n ≡ status regs.lines.done (regs.stat / 2 ^ 12 % 2 == 1) → n ≡ ir_status part given
+pub status_is : (part : PartData) (given bytes : List ℕ) (regs : Regs) (due n : ℕ) → TookOfGiven part given bytes → regs ≡ state_owing part on_the_bench false bytes due → n ≡ ir_status_with regs.lines.done (regs.stat / 2 ^ 12 % 2 == 1) → n ≡ ir_status part given
 status_is part given bytes regs due n t e f =
-    f ∙ ap (λ (r : Regs). status r.lines.done (r.stat / 2 ^ 12 % 2 == 1)) e ∙ ap (λ (r : Regs). status r.lines.done (r.stat / 2 ^ 12 % 2 == 1)) (sym (state_took part given bytes t))
+    f ∙ ap (λ (r : Regs). ir_status_with r.lines.done (r.stat / 2 ^ 12 % 2 == 1)) e ∙ ap (λ (r : Regs). ir_status_with r.lines.done (r.stat / 2 ^ 12 % 2 == 1)) (sym (state_took part given bytes t))
 
 -- a new tap
-pub begins : (part : PartData) (t : TapState) (d : DeviceState) → DeviceStandsFor part on_the_bench false d [] → t ≡ record { state = state.TestLogicReset; instruction = instruction.Idcode; register = 0; count = 0; queue = t.queue } → t.queue ≡ record { held = []; word = 0; left = 0 }
+pub begins : (part : PartData) (t : TapState) (d : DeviceState) → DeviceStandsFor part on_the_bench false d [] → t ≡ record { state = state.TestLogicReset; instruction = instruction.Idcode; register = 0; count = 0; queue = t.queue } → t.queue ≡ record { held = []; word = 0; bits_left = 0 }
     → StandsForPort part t d new_port
 begins part t d s e q = record {
   state_is = ap (λ (x : TapState). x.state) e;
   instruction_is = ap (λ (x : TapState). x.instruction) e;
   register_is = ap (λ (x : TapState). x.register) e;
   count_is = ap (λ (x : TapState). x.count) e;
-  queue_is = resets part t.queue d d part s refl (ap (λ (x : QueueState). x.held) q) (ap (λ (x : QueueState). x.left) q);
+  queue_is = resets part t.queue d d part s refl (ap (λ (x : QueueState). x.held) q) (ap (λ (x : QueueState). x.bits_left) q);
 }
 
 -- a byte that is due where eight are counted
@@ -64,7 +64,7 @@ completes part k n d e p tdi byte s is seven with q =
 
 -- JPROGRAM
 pub programs : (part : PartData) (k n : TapState) (d e : DeviceState) (p : Port) (i : Instruction) → StandsForPort part k d p → i ≡ instruction_of k.register → i ≡ instruction.Jprogram → n ≡ record k { instruction = i; count = 0; queue = n.queue }
-    → QueueStandsFor part n.queue e empty → StandsForPort part n e (updated p)
+    → QueueStandsFor part n.queue e empty_queue → StandsForPort part n e (updated p)
 programs part k n d e p i s is named with q =
     let all : i ≡ instruction_of p.register = is ∙ ap instruction_of s.register_is in
     record {

@@ -13,7 +13,7 @@ use Rattle.x7_jtag.specs.declared.state.State.TheVariants as state
 use Rattle.x7_jtag.specs.Events.{byte_at_eight, data_events, events_in, events_of, idle_events, update_events}
 use Rattle.x7_jtag.specs.Instruction.{instruction_of}
 use Rattle.x7_jtag.specs.Port.{Port, clocked, new_port, number_of_bit, port_after, with_bit, words_read_out}
-use Rattle.x7_jtag.specs.Queue.{QueueEvent, Byte, Bit, Program, Queue, bits_read, dropped, in_turn, waits, give_held, empty, by_event, most_bytes_held, Sound, queue_with_room}
+use Rattle.x7_jtag.specs.Queue.{QueueEvent, Byte, Bit, Program, Queue, bits_read, dropped, in_turn, waits, give_held, empty_queue, by_event, most_bytes_held, QueueIsSound, queue_with_room}
 use Rattle.x7_jtag.specs.State.{Clock}
 use Rattle.x7_jtag.proofs.EventLemmas.{queue_events}
 
@@ -65,12 +65,12 @@ in_turns reads given [] out = refl
 in_turns reads given (h ∷ hs) out = turns_by reads given h hs out (waits reads given out) refl (λ e. in_turns reads (given ++ h ∷ []) hs out)
 
 given_on_by : (reads : List ℕ → List ℕ) (given : List ℕ) (h : ℕ) (hs : List ℕ) (out : ℕ) (next : Queue) (b : Bool) → waits reads given out ≡ b
-    → length (h ∷ hs) ≤ 64 → out ≤ bits_read reads given → AreBytes (given ++ h ∷ hs) → Sound reads next
-    → Sound reads (if b then record { given = given; held = h ∷ hs; out = out } else next)
+    → length (h ∷ hs) ≤ 64 → out ≤ bits_read reads given → AreBytes (given ++ h ∷ hs) → QueueIsSound reads next
+    → QueueIsSound reads (if b then record { given = given; held = h ∷ hs; out = out } else next)
 given_on_by reads given h hs out next true e r w f s = record { within = w; room = r; waiting = λ p. e; fits = f }
 given_on_by reads given h hs out next false e r w f s = s
 
-given_on_sound : (reads : List ℕ → List ℕ) → Grows reads → (given hs : List ℕ) (out : ℕ) → length hs ≤ 64 → out ≤ bits_read reads given → AreBytes (given ++ hs) → Sound reads (given_on reads given hs out)
+given_on_sound : (reads : List ℕ → List ℕ) → Grows reads → (given hs : List ℕ) (out : ℕ) → length hs ≤ 64 → out ≤ bits_read reads given → AreBytes (given ++ hs) → QueueIsSound reads (given_on reads given hs out)
 given_on_sound reads g given [] out r w f = record { within = w; room = r; waiting = λ p. absurd (omega (arith, p)); fits = f }
 given_on_sound reads g given (h ∷ hs) out r w f =
     let all : AreBytes ((given ++ h ∷ []) ++ hs) = subst AreBytes (sym (append_assoc given (h ∷ []) hs)) f in
@@ -80,10 +80,10 @@ given_on_sound reads g given (h ∷ hs) out r w f =
 
 -- with room for a byte that should be held
 record Roomy (reads : List ℕ → List ℕ) (q : Queue) : Type 0 where
-  pub sound : Sound reads q
+  pub sound : QueueIsSound reads q
   pub free : waits reads q.given q.out ≡ true → length q.held < 64
 
-room_by : (reads : List ℕ → List ℕ) (q : Queue) (b : Bool) → (waits reads q.given q.out && length q.held == most_bytes_held) ≡ b → Sound reads q → Roomy reads (if b then dropped reads q else q)
+room_by : (reads : List ℕ → List ℕ) (q : Queue) (b : Bool) → (waits reads q.given q.out && length q.held == most_bytes_held) ≡ b → QueueIsSound reads q → Roomy reads (if b then dropped reads q else q)
 room_by reads q true e s = record {
   sound = record { within = omega arith; room = omega arith; waiting = λ p. absurd (omega (arith, p)); fits = subst AreBytes (sym (append-nil (q.given ++ q.held))) s.fits };
   free = λ w. omega arith;
@@ -94,7 +94,7 @@ room_by reads q false e s = record {
 }
 
 -- nothing is held where no word waits
-none_held : (reads : List ℕ → List ℕ) (q : Queue) → Sound reads q → waits reads q.given q.out ≡ false → q.held ≡ []
+none_held : (reads : List ℕ → List ℕ) (q : Queue) → QueueIsSound reads q → waits reads q.given q.out ≡ false → q.held ≡ []
 none_held reads q s e = by q.held s.waiting
   where
     by : (held : List ℕ) → (0 < length held → waits reads q.given q.out ≡ true) → held ≡ []
@@ -102,7 +102,7 @@ none_held reads q s e = by q.held s.waiting
     by (h ∷ hs) w = absurd (let f : true ≡ false = sym (w (omega arith)) ∙ e in cc)
 
 turn_by : (reads : List ℕ → List ℕ) → Grows reads → (q : Queue) (x : ℕ) (b : Bool) → x < 256 → waits reads q.given q.out ≡ b → Roomy reads q
-    → Sound reads (if b then record { given = q.given; held = q.held ++ x ∷ []; out = q.out } else record { given = q.given ++ x ∷ []; held = q.held; out = q.out })
+    → QueueIsSound reads (if b then record { given = q.given; held = q.held ++ x ∷ []; out = q.out } else record { given = q.given ++ x ∷ []; held = q.held; out = q.out })
 turn_by reads g q x true l e s = record {
   within = s.sound.within;
   room = omega (arith, s.free e, length-append q.held (x ∷ []));
@@ -120,12 +120,12 @@ turn_by reads g q x false l e s =
       fits = subst (λ (h : List ℕ). AreBytes ((q.given ++ x ∷ []) ++ h)) (sym held) (subst AreBytes (sym (append-nil (q.given ++ x ∷ []))) more);
     }
 
-shifted_by : (reads : List ℕ → List ℕ) → Grows reads → (q : Queue) (b : Bool) → waits reads q.given q.out ≡ b → Sound reads q
-    → Sound reads (if b then give_held reads (record q { out = q.out + 1 }) else q)
-shifted_by reads g q true e s = subst (Sound reads) (in_turns reads q.given q.held (q.out + 1)) (given_on_sound reads g q.given q.held (q.out + 1) s.room (omega (arith, is_below q.out (bits_read reads q.given) e)) s.fits)
+shifted_by : (reads : List ℕ → List ℕ) → Grows reads → (q : Queue) (b : Bool) → waits reads q.given q.out ≡ b → QueueIsSound reads q
+    → QueueIsSound reads (if b then give_held reads (record q { out = q.out + 1 }) else q)
+shifted_by reads g q true e s = subst (QueueIsSound reads) (in_turns reads q.given q.held (q.out + 1)) (given_on_sound reads g q.given q.held (q.out + 1) s.room (omega (arith, is_below q.out (bits_read reads q.given) e)) s.fits)
 shifted_by reads g q false e s = s
 
-empty_sound : (reads : List ℕ → List ℕ) → Sound reads empty
+empty_sound : (reads : List ℕ → List ℕ) → QueueIsSound reads empty_queue
 empty_sound reads = record { within = omega arith; room = omega arith; waiting = λ p. absurd (omega (arith, p)); fits = tt }
 
 -- ---- events
@@ -139,14 +139,14 @@ abbrev AreByteEvents : List QueueEvent → Type 0
 AreByteEvents [] = Unit {0}
 AreByteEvents (e ∷ es) = IsByteEvent e × AreByteEvents es
 
-step_sound : (reads : List ℕ → List ℕ) → Grows reads → (q : Queue) (e : QueueEvent) → IsByteEvent e → Sound reads q → Sound reads (by_event reads q e)
+step_sound : (reads : List ℕ → List ℕ) → Grows reads → (q : Queue) (e : QueueEvent) → IsByteEvent e → QueueIsSound reads q → QueueIsSound reads (by_event reads q e)
 step_sound reads g q (Byte x) l s =
     let r : Roomy reads (queue_with_room reads q) = room_by reads q (waits reads q.given q.out && length q.held == most_bytes_held) refl s in
     turn_by reads g (queue_with_room reads q) x (waits reads (queue_with_room reads q).given (queue_with_room reads q).out) l refl r
 step_sound reads g q Bit l s = shifted_by reads g q (waits reads q.given q.out) refl s
 step_sound reads g q Program l s = empty_sound reads
 
-fold_sound : (reads : List ℕ → List ℕ) → Grows reads → (q : Queue) (es : List QueueEvent) → AreByteEvents es → Sound reads q → Sound reads (fold (by_event reads) q es)
+fold_sound : (reads : List ℕ → List ℕ) → Grows reads → (q : Queue) (es : List QueueEvent) → AreByteEvents es → QueueIsSound reads q → QueueIsSound reads (fold (by_event reads) q es)
 fold_sound reads g q [] f s = s
 fold_sound reads g q (e ∷ es) f s = fold_sound reads g (by_event reads q e) es f.1 (step_sound reads g q e f.0 s)
 
@@ -222,6 +222,6 @@ clocks_bytes : (part : PartData) (p : Port) (cs : List Clock) → AreByteEvents 
 clocks_bytes part p [] = tt
 clocks_bytes part p (c ∷ cs) = join_events (events_in p.state p c.tdi) (events_of part (clocked part p c) cs) (clock_bytes p.state p c.tdi) (clocks_bytes part (clocked part p c) cs)
 
-pub port_sound : (part : PartData) (cs : List Clock) → Sound (words_read_out part) (port_after part cs).queue
+pub port_sound : (part : PartData) (cs : List Clock) → QueueIsSound (words_read_out part) (port_after part cs).queue
 port_sound part cs =
-    subst (Sound (words_read_out part)) (sym (queue_events part cs)) (fold_sound (words_read_out part) (reads_grow part on_the_bench) empty (events_of part new_port cs) (clocks_bytes part new_port cs) (empty_sound (words_read_out part)))
+    subst (QueueIsSound (words_read_out part)) (sym (queue_events part cs)) (fold_sound (words_read_out part) (reads_grow part on_the_bench) empty_queue (events_of part new_port cs) (clocks_bytes part new_port cs) (empty_sound (words_read_out part)))

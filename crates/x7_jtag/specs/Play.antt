@@ -1,5 +1,5 @@
--- Playing statements: their clocks, up to the first scan whose TDO differs from the
--- wanted bits (this project's profile of SVF).
+-- Playing statements: their clocks, up to the first scan whose TDO differs from the wanted bits (this project's profile
+-- of SVF).
 use Rattle.std.specs.Prelude.{ℕ, zero, suc, ◌+◌, ◌-◌, ◌&&◌, not, Bool, true, false, if◌then◌else◌, List, [], ◌∷◌, ◌++◌, length, take, map, fold, Option, Some, None, ◌≡◌, ◌≤◌, ◌^◌}
 use Rattle.std.specs.List.{slice_get}
 use Rattle.x7_part.specs.Part.{PartData}
@@ -13,7 +13,7 @@ use Rattle.x7_engine.specs.Standing.{DeviceState}
 use Rattle.x7_jtag.specs.State.{Clock, test_logic_reset}
 use Rattle.x7_jtag.specs.Tap.{TapStandsFor, TapState}
 
--- bit i, and 0 past the last
+-- a bit, and 0 where there is none
 abbrev pub bit_or_0 : Option Bool → Bool
 bit_or_0 None = false
 bit_or_0 (Some b) = b
@@ -28,9 +28,9 @@ counts None i = true
 counts (Some mask) i = bit_at mask i
 
 -- two bits differ
-abbrev pub are_apart : Bool → Bool → Bool
-are_apart true b = not b
-are_apart false b = b
+abbrev pub bits_differ : Bool → Bool → Bool
+bits_differ true b = not b
+bits_differ false b = b
 
 -- the port after clocks
 abbrev pub after_clocks : PartData → Port → List Clock → Port
@@ -41,14 +41,14 @@ abbrev pub tdo_at : PartData → Port → List Bool → ℕ → Bool
 tdo_at part p tdi i = tdo_of part (after_clocks part p (take i (shift_clocks tdi)))
 
 -- whether the bit that is shown differs from the wanted one, where bits are wanted and bit i counts
-abbrev pub is_apart : Option (List Bool) → Option (List Bool) → ℕ → Bool → Bool
-is_apart None mask i shown = false
-is_apart (Some tdo) mask i shown = counts mask i && are_apart (bit_at tdo i) shown
+abbrev pub differs_from_wanted : Option (List Bool) → Option (List Bool) → ℕ → Bool → Bool
+differs_from_wanted None mask i shown = false
+differs_from_wanted (Some tdo) mask i shown = counts mask i && bits_differ (bit_at tdo i) shown
 
--- the first place found: `i`, if something differs there, where no place was found before
-abbrev pub found_more : Option ℕ → Bool → ℕ → Option ℕ
-found_more None differs i = if differs then Some i else None
-found_more (Some first) differs i = Some first
+-- the first bit found that differs: bit i, if it differs, where none was found before
+abbrev pub first_found : Option ℕ → Bool → ℕ → Option ℕ
+first_found None differs i = if differs then Some i else None
+first_found (Some first) differs i = Some first
 
 -- the least of this many places from `from` on at which something holds
 abbrev pub least : (ℕ → Bool) → ℕ → ℕ → Option ℕ
@@ -57,7 +57,7 @@ least holds from (suc n) = if holds from then Some from else least holds (from +
 
 -- whether TDO differs at shift clock i from what is wanted
 abbrev pub differs_at : PartData → Port → Scan → ℕ → Bool
-differs_at part p s i = is_apart s.tdo s.mask i (tdo_at part p s.tdi i)
+differs_at part p s i = differs_from_wanted s.tdo s.mask i (tdo_at part p s.tdi i)
 
 -- the least bit from `first` on at which a scan differs
 abbrev pub difference_from : PartData → Port → Scan → ℕ → Option ℕ
@@ -91,7 +91,7 @@ statements_played ss (Some differ) = take differ.statement ss
 abbrev pub clocks_played : List Statement → Option Differ → List Clock
 clocks_played ss result = clocks test_logic_reset (statements_played ss result)
 
--- the port after them
+-- the port after the clocks of the statements that are played
 abbrev pub port_played : PartData → List Statement → Port
 port_played part ss = port_after part (clocks_played ss (first_difference part ss))
 
@@ -109,8 +109,8 @@ MakesClocks t d u e made = (part : PartData) (cs : List Clock) → TapStandsFor 
 abbrev pub FindsBy : TapState → DeviceState → (PartData → Port → Option ℕ) → Option ℕ → Type 0
 FindsBy t d sought found = (part : PartData) (cs : List Clock) → TapStandsFor part t d cs → found ≡ sought part (port_after part cs)
 
--- what holds of the clocks before the last ones, of each list of clocks that a tap and its
--- device may have made which ends with these
+-- what holds of the clocks before `made`, for each list of clocks that a tap and its device may have made and that ends
+-- with `made`
 abbrev pub AfterClocks : TapState → DeviceState → List Clock → (PartData → List Clock → Type 0) → Type 0
 AfterClocks t d made Fact = (part : PartData) (cs : List Clock) → TapStandsFor part t d (cs ++ made) → Fact part cs
 
@@ -128,8 +128,8 @@ count_limit = 2 ^ 32
 abbrev pub statement_limit : ℕ
 statement_limit = 2 ^ 33
 
--- This many clocks more may come of a tap and a device that were new before
--- others: a device takes at most a byte a clock.
+-- a tap and its device, which were new before some clocks, may make this many more: a device takes at most a byte a
+-- clock, and so never more bytes than it can count
 pub record MayClock (t : TapState) (d : DeviceState) (more : ℕ) : Type 0 where
   pub part : PartData
   pub before : List Clock

@@ -1,5 +1,5 @@
--- A test access port as a function of its clocks (IEEE 1149.1 and UG470, JTAG; what
--- these leave free is this project's choice).
+-- A test access port as a function of its clocks (IEEE 1149.1 and UG470, JTAG; what these leave free is this project's
+-- choice).
 use Rattle.std.specs.Prelude.{ℕ, ◌+◌, ◌*◌, ◌/◌, ◌%◌, ◌^◌, ◌==◌, Bool, true, false, if◌then◌else◌, List, fold}
 use Rattle.x7_part.specs.Part.{PartData}
 use Rattle.x7_engine.specs.Kept.{on_the_bench}
@@ -9,11 +9,11 @@ use Rattle.x7_jtag.specs.declared.instruction.Instruction.TheVariants as instruc
 use Rattle.x7_jtag.specs.declared.state.State.{State}
 use Rattle.x7_jtag.specs.declared.state.State.TheVariants as state
 use Rattle.x7_jtag.specs.Instruction.{instruction_of}
-use Rattle.x7_jtag.specs.Queue.{Queue, bit_shown, empty, offered, shifted_out}
+use Rattle.x7_jtag.specs.Queue.{Queue, bit_shown, empty_queue, offered, shifted_out}
 use Rattle.x7_jtag.specs.State.{Clock, next_of, test_logic_reset}
 
--- the state, the instruction, the register between TDI and TDO, how many of eight
--- bits or clocks there were, and the queue
+-- the state, the instruction, the register between TDI and TDO, how many there were of the eight bits of a byte or of
+-- eight clocks of startup, and the queue
 pub record Port : Type 0 where
   pub state : State
   pub instruction : Instruction
@@ -31,24 +31,29 @@ number_of_bit false = 0
 number_of_bit true = 1
 
 -- the lowest bit of a register
-abbrev pub lowest : ℕ → Bool
-lowest register = register % 2 == 1
+abbrev pub lowest_bit : ℕ → Bool
+lowest_bit register = register % 2 == 1
 
 -- one shift: the lowest bit goes out, and TDI comes in as the highest, which is worth `top`
 abbrev pub register_shifted : ℕ → ℕ → Bool → ℕ
 register_shifted top register tdi = register / 2 + top * number_of_bit tdi
 
+-- what the highest bit of the instruction register, which has six, is worth
+abbrev pub top_of_instruction : ℕ
+top_of_instruction = 32
+
 -- a byte whose first bit is the highest: TDI comes in as the lowest
 abbrev pub with_bit : ℕ → Bool → ℕ
 with_bit byte tdi = byte % 128 * 2 + number_of_bit tdi
 
--- Capture-IR: DONE, INIT_B (bit 12 of STAT), 00 and 01, highest first (bits 5 to 2 are this project's choice)
-abbrev pub status : Bool → Bool → ℕ
-status done init = 32 * number_of_bit done + 16 * number_of_bit init + 1
+-- what Capture-IR loads for these values of DONE and INIT_B: DONE, INIT_B, 00 and 01, the highest bit first (bits 5 to
+-- 2 are this project's choice)
+abbrev pub ir_status_with : Bool → Bool → ℕ
+ir_status_with done init = 32 * number_of_bit done + 16 * number_of_bit init + 1
 
--- what Capture-IR loads for a device of the part to which these bytes were given
+-- what Capture-IR loads for a device of the part to which these bytes were given; INIT_B is bit 12 of STAT
 abbrev pub ir_status : PartData → List ℕ → ℕ
-ir_status part given = status (state_of part on_the_bench false given).lines.done ((state_of part on_the_bench false given).stat / 2 ^ 12 % 2 == 1)
+ir_status part given = ir_status_with (state_of part on_the_bench false given).lines.done ((state_of part on_the_bench false given).stat / 2 ^ 12 % 2 == 1)
 
 -- ---- the actions of the states
 
@@ -86,7 +91,7 @@ data_shifted part _ p tdi = record p { register = register_shifted 1 p.register 
 
 -- what an instruction does as it comes: JPROGRAM resets the device
 abbrev pub queue_at_update : Instruction → Queue → Queue
-queue_at_update instruction.Jprogram q = empty
+queue_at_update instruction.Jprogram q = empty_queue
 queue_at_update _ q = q
 
 -- Update-IR: the register becomes the instruction
@@ -100,7 +105,7 @@ acted part state.RunTestIdle p tdi = idled part p.instruction p
 acted part state.CaptureDr p tdi = captured part p.instruction p
 acted part state.ShiftDr p tdi = data_shifted part p.instruction p tdi
 acted part state.CaptureIr p tdi = record p { register = ir_status part p.queue.given }
-acted part state.ShiftIr p tdi = record p { register = register_shifted 32 p.register tdi }
+acted part state.ShiftIr p tdi = record p { register = register_shifted top_of_instruction p.register tdi }
 acted part state.UpdateIr p tdi = updated p
 acted part _ p tdi = p
 
@@ -110,12 +115,12 @@ acted part _ p tdi = p
 abbrev pub data_shown : PartData → Instruction → Port → Bool
 data_shown part instruction.CfgIn p = false
 data_shown part instruction.CfgOut p = bit_shown (words_read_out part) p.queue
-data_shown part _ p = lowest p.register
+data_shown part _ p = lowest_bit p.register
 
 -- TDO in a state
 abbrev pub shown_in : PartData → State → Port → Bool
 shown_in part state.ShiftDr p = data_shown part p.instruction p
-shown_in part state.ShiftIr p = lowest p.register
+shown_in part state.ShiftIr p = lowest_bit p.register
 shown_in part _ p = false
 
 -- TDO of a clock
@@ -130,7 +135,7 @@ clocked part p c = record (acted part p.state p c.tdi) { state = next_of p.state
 
 -- a new port
 abbrev pub new_port : Port
-new_port = record { state = test_logic_reset; instruction = instruction.Idcode; register = 0; count = 0; queue = empty }
+new_port = record { state = test_logic_reset; instruction = instruction.Idcode; register = 0; count = 0; queue = empty_queue }
 
 -- the port after clocks
 abbrev pub port_after : PartData → List Clock → Port

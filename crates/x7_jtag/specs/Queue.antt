@@ -19,7 +19,7 @@ pub record Queue : Type 0 where
 abbrev pub queue_of : List ℕ → List ℕ → ℕ → Queue
 queue_of given held out = record { given = given; held = held; out = out }
 
--- a queue from which more bytes are given
+-- a queue of which the device was given these bytes more
 abbrev pub with_given : Queue → List ℕ → Queue
 with_given q more = record { given = q.given ++ more; held = q.held; out = q.out }
 
@@ -28,7 +28,7 @@ with_given q more = record { given = q.given ++ more; held = q.held; out = q.out
 abbrev pub bits_read : (List ℕ → List ℕ) → List ℕ → ℕ
 bits_read reads given = 32 * length (reads given)
 
--- a word or a part of a word waits
+-- a word read out, or a part of one, waits: fewer bits are out than were read out
 abbrev pub waits : (List ℕ → List ℕ) → List ℕ → ℕ → Bool
 waits reads given out = nat_lt out (bits_read reads given)
 
@@ -36,7 +36,7 @@ waits reads given out = nat_lt out (bits_read reads given)
 abbrev pub most_bytes_held : ℕ
 most_bytes_held = 64
 
--- a byte in its turn: given where no word waits, else held
+-- a queue after a byte in its turn: given where no word waits, else held
 abbrev pub in_turn : (List ℕ → List ℕ) → Queue → ℕ → Queue
 in_turn reads q x =
     if waits reads q.given q.out
@@ -51,11 +51,11 @@ give_held reads q = fold (in_turn reads) (record q { held = [] }) q.held
 abbrev pub dropped : (List ℕ → List ℕ) → Queue → Queue
 dropped reads q = record { given = q.given ++ q.held; held = []; out = bits_read reads (q.given ++ q.held) }
 
--- room for a byte that should be held, where the most are
+-- a queue with room for a byte that should be held, where the most bytes were
 abbrev pub queue_with_room : (List ℕ → List ℕ) → Queue → Queue
 queue_with_room reads q = if waits reads q.given q.out && length q.held == most_bytes_held then dropped reads q else q
 
--- a byte offered
+-- a queue after a byte is offered
 abbrev pub offered : (List ℕ → List ℕ) → Queue → ℕ → Queue
 offered reads q x = in_turn reads (queue_with_room reads q) x
 
@@ -72,22 +72,22 @@ abbrev pub bit_shown : (List ℕ → List ℕ) → Queue → Bool
 bit_shown reads q = if waits reads q.given q.out then word_bit (reads q.given) q.out else false
 
 -- the queue of a new port
-abbrev pub empty : Queue
-empty = record { given = []; held = []; out = 0 }
+abbrev pub empty_queue : Queue
+empty_queue = record { given = []; held = []; out = 0 }
 
 -- a queue after an event
 abbrev pub by_event : (List ℕ → List ℕ) → Queue → QueueEvent → Queue
 by_event reads q (Byte x) = offered reads q x
 by_event reads q Bit = shifted_out reads q
-by_event reads q Program = empty
+by_event reads q Program = empty_queue
 
 -- the queue of a new port after events
 abbrev pub queue_after : (List ℕ → List ℕ) → List QueueEvent → Queue
-queue_after reads es = fold (by_event reads) empty es
+queue_after reads es = fold (by_event reads) empty_queue es
 
--- what holds of a queue: no more bits are out than were read out, at most the most bytes are held, these
--- only while a word waits, and all are bytes
-pub record Sound (reads : List ℕ → List ℕ) (q : Queue) : Type 0 where
+-- what holds of a port's queue: no more bits are out than were read out, no more bytes are held than may be, these only
+-- while a word waits, and all are bytes
+pub record QueueIsSound (reads : List ℕ → List ℕ) (q : Queue) : Type 0 where
   pub within : q.out ≤ bits_read reads q.given
   pub room : length q.held ≤ most_bytes_held
   pub waiting : 0 < length q.held → waits reads q.given q.out ≡ true

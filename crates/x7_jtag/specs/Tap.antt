@@ -13,20 +13,20 @@ use Rattle.x7_jtag.specs.declared.instruction.Instruction.TheVariants as instruc
 use Rattle.x7_jtag.specs.declared.state.State.{State}
 use Rattle.x7_jtag.specs.declared.state.State.TheVariants as state
 use Rattle.x7_jtag.specs.Port.{Port, port_after}
-use Rattle.x7_jtag.specs.Queue.{Queue}
+use Rattle.x7_jtag.specs.Queue.{Queue, most_bytes_held}
 use Rattle.x7_jtag.specs.State.{Clock}
 
--- the stored values of a queue: the bytes held, the latest word taken of the device, and
--- how many of its bits are still to go out
+-- the stored values of a queue: the bytes held, the latest word taken of the device, and how many of its bits are still
+-- to go out
 pub record QueueState : Type 0 where
   pub held : List ℕ
   pub word : ℕ
-  pub left : ℕ
+  pub bits_left : ℕ
 
 -- the next word taken, where the device gave one
 abbrev pub with_word_taken : QueueState → List ℕ → QueueState
 with_word_taken k [] = k
-with_word_taken k (w ∷ ws) = record { held = k.held; word = w; left = 32 }
+with_word_taken k (w ∷ ws) = record { held = k.held; word = w; bits_left = 32 }
 
 -- the stored values of a tap
 pub record TapState : Type 0 where
@@ -43,8 +43,8 @@ pub record TookOfGiven (part : PartData) (given bytes : List ℕ) : Type 0 where
   pub parts : given ≡ bytes ++ rest
   pub over : (rest ≡ []) ⊎ IsSome (stop_in part on_the_bench bytes)
 
--- how many of a piece's bytes count as given, by what a feed of the piece answers and
--- how many it has: after a stop all of them
+-- how many of a piece's bytes count as given, by what a feed of the piece answers and how many it has: after a stop all
+-- of them
 abbrev pub given_by : Fed → ℕ → ℕ
 given_by (fed.ReadFull n) count = n
 given_by _ count = count
@@ -59,6 +59,14 @@ words_taken part d bytes = reads_given part on_the_bench d bytes
 abbrev pub CanBeGiven : DeviceState → ℕ → Type 0
 CanBeGiven d count = d.taken + count ≤ 2 ^ 63
 
+-- a byte can be offered: the device can be given it, and the most that are held before it
+abbrev pub CanBeOffered : DeviceState → Type 0
+CanBeOffered d = CanBeGiven d (most_bytes_held + 1)
+
+-- this many bytes can be offered, one after another, beside those that the queue holds
+abbrev pub CanAllBeOffered : QueueState → DeviceState → ℕ → Type 0
+CanAllBeOffered k d count = CanBeGiven d (length k.held + count + (most_bytes_held + 1))
+
 -- the bytes that a queue holds and its device took are at most this many more than before
 abbrev pub AreGivenAtMost : QueueState → DeviceState → QueueState → DeviceState → ℕ → Type 0
 AreGivenAtMost k d n e count = e.taken + length n.held ≤ d.taken + length k.held + count
@@ -72,15 +80,15 @@ pub record QueueHolds (part : PartData) (k : QueueState) (d : DeviceState) (q : 
   pub device : DeviceStandsFor part on_the_bench false d bytes
   pub held_is : k.held ≡ q.held
   pub held_fits : AreBytes q.held
-  pub out_is : q.out + k.left ≡ 32 * length (words_taken part d bytes)
-  pub left_is : k.left ≤ 32
+  pub out_is : q.out + k.bits_left ≡ 32 * length (words_taken part d bytes)
+  pub bits_left_is : k.bits_left ≤ 32
   pub prefix : List ℕ
-  pub word_is : 0 < k.left → words_taken part d bytes ≡ prefix ++ k.word ∷ []
+  pub word_is : 0 < k.bits_left → words_taken part d bytes ≡ prefix ++ k.word ∷ []
 
 -- the next word is taken of the device as soon as the last bit of the one before has gone out
 pub record QueueStandsFor (part : PartData) (k : QueueState) (d : DeviceState) (q : Queue) : Type 0 where
   pub holds : QueueHolds part k d q
-  pub no_word_due : k.left ≡ 0 → NoWordDue d
+  pub no_word_due : k.bits_left ≡ 0 → NoWordDue d
 
 -- a step on a queue and its device does this to the queue of a port that they stand for
 abbrev pub QueueBecomes : QueueState → DeviceState → QueueState → DeviceState → (PartData → Queue → Queue) → Type 0
@@ -112,7 +120,7 @@ pub record TakesBytes (t : TapState) : Type 0 where
   pub under : t.instruction ≡ instruction.CfgIn
   pub at_first : t.count ≡ 0
 
--- the last of bytes, or the one before them
+-- the last of bytes, or what was there before them where there is none
 abbrev pub last_or : ℕ → List ℕ → ℕ
 last_or before [] = before
 last_or before (b ∷ bs) = last_or b bs

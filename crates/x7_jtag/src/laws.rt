@@ -5,15 +5,15 @@ ghost use Rattle.x7_engine.specs.Kept.{on_the_bench};
 ghost use Rattle.x7_engine.specs.Standing.{DeviceStandsFor, due_count, frames_due};
 ghost use Rattle.x7_jtag.specs.Events.{events_of};
 ghost use Rattle.x7_jtag.specs.Port.{new_port, port_after, words_read_out};
-ghost use Rattle.x7_jtag.specs.Queue.{Sound, queue_after};
+ghost use Rattle.x7_jtag.specs.Queue.{QueueIsSound, queue_after};
 ghost use Rattle.x7_jtag.specs.Shown.{bytes_taken, state_shown, state_with, port_words_due};
 ghost use Rattle.x7_jtag.specs.Tap.{OfEachPort};
-ghost use Rattle.x7_jtag.specs.State.{Clock, state_after, one, test_logic_reset};
+ghost use Rattle.x7_jtag.specs.State.{Clock, state_after, test_logic_reset, tms_one};
 ghost use Rattle.x7_jtag.specs.declared.state.State.{State};
 
 /// Five clocks of TMS 1 reach Test-Logic-Reset from every state.
 pub fn five_ones_reset()
-    ensures { (s : State) (a b c d e : Bool) → state_after s (one a ∷ one b ∷ one c ∷ one d ∷ one e ∷ []) ≡ test_logic_reset }
+    ensures { (s : State) (a b c d e : Bool) → state_after s (tms_one a ∷ tms_one b ∷ tms_one c ∷ tms_one d ∷ tms_one e ∷ []) ≡ test_logic_reset }
 {}
 
 /// The device of a tap took the bytes that its port gives, or those up to its stop; the words due are those after the
@@ -25,10 +25,10 @@ pub fn devices_take_what_is_given()
     ensures shows { OfEachPort (λ part d p. state_with part p (frames_due d.registers.due) ≡ state_shown part p) }
 {}
 
-/// After any clocks a port has no more bits out than were read out, holds at most 64
-/// bytes, and holds them only while a word waits.
+/// After any clocks a port has no more bits out than were read out, holds at most 64 bytes, and holds them only while a
+/// word waits.
 pub fn queues_are_sound()
-    ensures { (part : PartData) (cs : List Clock) → Sound (words_read_out part) (port_after part cs).queue }
+    ensures { (part : PartData) (cs : List Clock) → QueueIsSound (words_read_out part) (port_after part cs).queue }
 {}
 
 /// The queue of a port is that of the events of its clocks: bytes offered, bits shifted out, and resets of the device.

@@ -3,7 +3,7 @@ ghost use Rattle.std.specs.Prelude.{◌≡◌, ◌≤◌, ◌<◌, ◌+◌, ◌-
 ghost use Rattle.std.specs.List.{slice_get};
 ghost use Rattle.x7_part.specs.Part.{PartData};
 ghost use Rattle.x7_jtag.specs.Clocks.{clock as clock_of, clocks_of, from_reset, shift_clocks, to_shift as to_shift_clocks};
-ghost use Rattle.x7_jtag.specs.Play.{AreNew, FindsBy, AfterClocks, MakesClocks, MayClock, are_apart as apart, bit_at, clocks_played, count_limit, counts as counts_at, difference, difference_from, first_difference, found_more, is_apart, statement_limit, walk_clocks};
+ghost use Rattle.x7_jtag.specs.Play.{AreNew, FindsBy, AfterClocks, MakesClocks, MayClock, bits_differ, bit_at, clocks_played, count_limit, counts as counts_at, difference, difference_from, first_difference, first_found, differs_from_wanted, statement_limit, walk_clocks};
 ghost use Rattle.x7_jtag.specs.Port.{port_after};
 ghost use Rattle.x7_jtag.specs.Tap.{TapStandsFor};
 ghost use Rattle.x7_jtag.specs.declared.state.State.{State as StateData};
@@ -23,7 +23,7 @@ pub struct Differ {
     pub bit: u32,
 }
 
-/// Clocks with these values of TMS, and TDI 0.
+/// Walks from state to state by clocks with these values of TMS, and TDI 0.
 fn walk(tap: &mut Tap, device: &mut Device, path: &[bool])
     requires { MayClock tap.old device.old (length path.now) }
     ensures { MakesClocks tap.old device.old tap.new device.new (λ p. walk_clocks path.now) }
@@ -69,7 +69,7 @@ fn to_shift(tap: &mut Tap, device: &mut Device, register: ScannedRegister)
 }
 
 /// Bit i, and 0 past the last.
-fn bit_of(bits: &Bits<'_>, i: u32) -> bool
+fn bit_at(bits: &Bits<'_>, i: u32) -> bool
     ensures { result ≡ bit_at bits.now i }
 {
     match bits.bit(i) {
@@ -78,36 +78,36 @@ fn bit_of(bits: &Bits<'_>, i: u32) -> bool
     }
 }
 
-/// Whether bit i counts.
+/// Whether bit i counts: all do where there is no mask.
 fn counts(mask: &Option<Bits<'_>>, i: u32) -> bool
     ensures { result ≡ counts_at mask.now i }
 {
     match mask {
-        Some(mask) => bit_of(mask, i),
+        Some(mask) => bit_at(mask, i),
         None => true,
     }
 }
 
 /// Whether two bits differ.
-fn are_apart(wanted: bool, shown: bool) -> bool
-    ensures { result ≡ apart wanted shown }
+fn bits_differ(wanted: bool, shown: bool) -> bool
+    ensures { result ≡ bits_differ wanted shown }
 {
     if wanted { !shown } else { shown }
 }
 
-/// Whether TDO differs at bit i from what is wanted.
-fn differs(scan: &Scan<'_>, i: u32, shown: bool) -> bool
-    ensures { result ≡ is_apart scan.now.tdo scan.now.mask i shown }
+/// Whether the bit that is shown differs from the wanted one, where bits are wanted and bit i counts.
+fn differs_from_wanted(scan: &Scan<'_>, i: u32, shown: bool) -> bool
+    ensures { result ≡ differs_from_wanted scan.now.tdo scan.now.mask i shown }
 {
     match &scan.tdo {
-        Some(tdo) => counts(&scan.mask, i) && are_apart(bit_of(tdo, i), shown),
+        Some(tdo) => counts(&scan.mask, i) && bits_differ(bit_at(tdo, i), shown),
         None => false,
     }
 }
 
-/// The first place, and this one where there is none yet.
-fn first_of(found: Option<u32>, differs: bool, i: u32) -> Option<u32>
-    ensures { result ≡ found_more found differs i }
+/// The first bit found that differs: bit i, if it differs, where none was found before.
+fn first_found(found: Option<u32>, differs: bool, i: u32) -> Option<u32>
+    ensures { result ≡ first_found found differs i }
 {
     match found {
         Some(first) => Some(first),
@@ -142,8 +142,8 @@ fn shift_bytes(tap: &mut Tap, device: &mut Device, scan: &Scan<'_>) -> u32
     at
 }
 
-/// Shifts the bits of a scan from this one on, with TMS 1 at the last, and finds the least of them
-/// at which TDO differs from what is wanted.
+/// Shifts the bits of a scan from this one on, with TMS 1 at the last, and finds the least of them at which TDO differs
+/// from what is wanted.
 fn shift_from(tap: &mut Tap, device: &mut Device, scan: &Scan<'_>, first: u32) -> Option<u32>
     requires ready { MayClock tap.old device.old (count_limit - first) }
     requires within { first ≤ length scan.now.tdi }
@@ -155,8 +155,8 @@ fn shift_from(tap: &mut Tap, device: &mut Device, scan: &Scan<'_>, first: u32) -
     let mut found = None;
     let count = tdi.len();
     for i in first..count {
-        let shown = tap.clock(i == count - 1, bit_of(tdi, i), device);
-        found = first_of(found, differs(scan, i, shown), i);
+        let shown = tap.clock(i == count - 1, bit_at(tdi, i), device);
+        found = first_found(found, differs_from_wanted(scan, i, shown), i);
     }
     found
 }

@@ -4,8 +4,8 @@ ghost use Rattle.std.specs.List.{fold};
 ghost use Rattle.x7_part.specs.Part.{PartData};
 ghost use Rattle.x7_engine.specs.Standing.{NoWordDue};
 ghost use Rattle.x7_jtag.specs.Port.{words_read_out};
-ghost use Rattle.x7_jtag.specs.Queue.{Queue as QueueData, bit_shown, dropped, empty, in_turn, most_bytes_held, offered, give_held as give_held_by, shifted_out, with_given, queue_with_room};
-ghost use Rattle.x7_jtag.specs.Tap.{AreGivenAtMost, CanBeGiven, QueueBecomes, QueueHolds, QueueStandsFor, given_by, with_word_taken};
+ghost use Rattle.x7_jtag.specs.Queue.{Queue as QueueData, bit_shown, dropped, empty_queue, in_turn, most_bytes_held, offered, give_held as give_held_by, shifted_out, with_given, queue_with_room};
+ghost use Rattle.x7_jtag.specs.Tap.{AreGivenAtMost, CanAllBeOffered, CanBeGiven, CanBeOffered, QueueBecomes, QueueHolds, QueueStandsFor, given_by, with_word_taken};
 
 use arrayvec::ArrayVec;
 use std::marker::Model;
@@ -20,7 +20,7 @@ const MOST_BYTES_HELD: usize = 64;
 pub(crate) struct Queue {
     held: ArrayVec<u8, MOST_BYTES_HELD>,
     word: u32,
-    left: u32,
+    bits_left: u32,
 }
 
 impl Model for Queue {
@@ -29,9 +29,9 @@ impl Model for Queue {
 
     ghost Value = { QueueState };
 
-    ghost view = { λ q. record { held = q.held.items; word = q.word; left = q.left } };
+    ghost view = { λ q. record { held = q.held.items; word = q.word; bits_left = q.bits_left } };
 
-    ghost invariant = { λ q. q.left ≤ 32 };
+    ghost invariant = { λ q. q.bits_left ≤ 32 };
 }
 
 /// How many of a piece's `length` bytes count as given, by what a feed of the piece answers: after a stop all of them.
@@ -47,12 +47,12 @@ fn given_of(fed: Fed, length: usize) -> usize
 impl Queue {
     /// An empty queue.
     pub(crate) fn new() -> Queue
-        ensures { result ≡ record { held = []; word = 0; left = 0 } }
+        ensures { result ≡ record { held = []; word = 0; bits_left = 0 } }
     {
         Queue {
             held: ArrayVec::new(),
             word: 0,
-            left: 0,
+            bits_left: 0,
         }
     }
 
@@ -62,14 +62,14 @@ impl Queue {
     {
         if let [word, ..] = words {
             self.word = *word;
-            self.left = 32;
+            self.bits_left = 32;
         }
     }
 
     /// Gives a piece of at most one byte to the device, and takes the word that is then the next, where there is one.
     fn feed(&mut self, piece: &[u8], device: &mut Device)
         requires at_most_one { length piece.now ≤ 1 }
-        requires none_waits { self.old.left ≡ 0 }
+        requires none_waits { self.old.bits_left ≡ 0 }
         requires fits { CanBeGiven device.old (length piece.now) }
         ensures taken { device.new.taken ≤ device.old.taken + length piece.now }
         ensures held { self.new.held ≡ self.old.held }
@@ -83,48 +83,48 @@ impl Queue {
 
     /// Takes a byte in its turn.
     fn take(&mut self, byte: u8, device: &mut Device)
-        requires room { 0 < self.old.left → length self.old.held < most_bytes_held }
+        requires room { 0 < self.old.bits_left → length self.old.held < most_bytes_held }
         requires fits { CanBeGiven device.old 1 }
         ensures taken { device.new.taken ≤ device.old.taken + 1 }
         ensures held { length self.new.held ≤ length self.old.held + 1 }
         ensures at_most { AreGivenAtMost self.old device.old self.new device.new 1 }
         ensures stands { QueueBecomes self.old device.old self.new device.new (λ part q. in_turn (words_read_out part) q byte) }
     {
-        if self.left > 0 {
+        if self.bits_left > 0 {
             self.held.push(byte);
         } else {
             self.feed(&[byte], device);
         }
     }
 
-    /// Drops what waits, gives the held bytes, and drops what they say.
+    /// Drops what waits, gives the held bytes, and drops what they read out.
     fn drop_all(&mut self, device: &mut Device)
         requires fits { CanBeGiven device.old most_bytes_held }
         ensures taken { device.new.taken ≤ device.old.taken + length self.old.held }
         ensures held { self.new.held ≡ [] }
-        ensures none_waits { self.new.left ≡ 0 }
+        ensures none_waits { self.new.bits_left ≡ 0 }
         ensures stands { QueueBecomes self.old device.old self.new device.new (λ part q. dropped (words_read_out part) q) }
     {
         let mut read = ReadBuf::dropping();
         device.feed(self.held.as_slice(), &mut read);
         self.held.clear();
-        self.left = 0;
+        self.bits_left = 0;
     }
 
-    /// Whether a byte has no room that should be held.
+    /// Whether the queue has no room for a byte that should be held.
     fn overflows(&self) -> bool
-        ensures value { result ≡ (nat_lt 0 self.now.left && length self.now.held == most_bytes_held) }
-        ensures room { result ≡ false → 0 < self.now.left → length self.now.held < most_bytes_held }
+        ensures value { result ≡ (nat_lt 0 self.now.bits_left && length self.now.held == most_bytes_held) }
+        ensures room { result ≡ false → 0 < self.now.bits_left → length self.now.held < most_bytes_held }
     {
-        self.left > 0 && self.held.is_full()
+        self.bits_left > 0 && self.held.is_full()
     }
 
-    /// Makes room for a byte, where it should be held and the most are.
+    /// Makes room for a byte that should be held, where the most bytes are.
     fn make_room(&mut self, device: &mut Device)
         requires fits { CanBeGiven device.old most_bytes_held }
         ensures at_most { AreGivenAtMost self.old device.old self.new device.new 0 }
         ensures taken { device.new.taken ≤ device.old.taken + most_bytes_held }
-        ensures room { 0 < self.new.left → length self.new.held < most_bytes_held }
+        ensures room { 0 < self.new.bits_left → length self.new.held < most_bytes_held }
         ensures stands { QueueBecomes self.old device.old self.new device.new (λ part q. queue_with_room (words_read_out part) q) }
     {
         if self.overflows() {
@@ -134,7 +134,7 @@ impl Queue {
 
     /// Takes a byte that is offered.
     pub(crate) fn offer(&mut self, byte: u8, device: &mut Device)
-        requires fits { CanBeGiven device.old (most_bytes_held + 1) }
+        requires fits { CanBeOffered device.old }
         ensures at_most { AreGivenAtMost self.old device.old self.new device.new 1 }
         ensures stands { QueueBecomes self.old device.old self.new device.new (λ part q. offered (words_read_out part) q byte) }
     {
@@ -149,7 +149,7 @@ impl Queue {
         ensures at_most { AreGivenAtMost self.old device.old self.new device.new result }
         ensures stands { QueueBecomes self.old device.old self.new device.new (λ part q. fold (offered (words_read_out part)) q (take result bytes.now)) }
     {
-        if self.left > 0 {
+        if self.bits_left > 0 {
             return 0;
         }
         let fed = device.feed(bytes, &mut ReadBuf::full());
@@ -161,7 +161,7 @@ impl Queue {
     /// Takes the first of bytes that are offered, as many as go at once. Says how many.
     fn offer_some(&mut self, bytes: &[u8], device: &mut Device) -> usize
         requires some { 0 < length bytes.now }
-        requires fits { CanBeGiven device.old (length self.old.held + length bytes.now + (most_bytes_held + 1)) }
+        requires fits { CanAllBeOffered self.old device.old (length bytes.now) }
         ensures some { 0 < result }
         ensures within { result ≤ length bytes.now }
         ensures at_most { AreGivenAtMost self.old device.old self.new device.new result }
@@ -177,7 +177,7 @@ impl Queue {
 
     /// Takes bytes that are offered, one after another.
     pub(crate) fn offer_all(&mut self, bytes: &[u8], device: &mut Device)
-        requires fits { CanBeGiven device.old (length self.old.held + length bytes.now + (most_bytes_held + 1)) }
+        requires fits { CanAllBeOffered self.old device.old (length bytes.now) }
         ensures stands { QueueBecomes self.old device.old self.new device.new (λ part q. fold (offered (words_read_out part)) q bytes.now) }
     {
         let mut rest = bytes;
@@ -202,17 +202,17 @@ impl Queue {
 
     /// The next bit of the word, which is then out.
     fn next_bit(&mut self) -> bool
-        requires { 0 < self.old.left }
-        ensures new { self.new ≡ record self.old { left = self.old.left - 1 } }
-        ensures bit { result ≡ (self.old.word / 2 ^ (self.old.left - 1) % 2 == 1) }
+        requires { 0 < self.old.bits_left }
+        ensures new { self.new ≡ record self.old { bits_left = self.old.bits_left - 1 } }
+        ensures bit { result ≡ (self.old.word / 2 ^ (self.old.bits_left - 1) % 2 == 1) }
     {
-        self.left -= 1;
-        (self.word >> self.left) % 2 == 1
+        self.bits_left -= 1;
+        (self.word >> self.bits_left) % 2 == 1
     }
 
     /// Takes the next word as soon as the last bit of the one before is out; where there is none, held bytes go on.
     fn refill(&mut self, device: &mut Device)
-        requires none_waits { self.old.left ≡ 0 }
+        requires none_waits { self.old.bits_left ≡ 0 }
         requires fits { CanBeGiven device.old most_bytes_held }
         ensures stands { (part : PartData) (q : QueueData) → QueueHolds part self.old device.old q
             → QueueStandsFor part self.new device.new (give_held_by (words_read_out part) q) }
@@ -227,22 +227,22 @@ impl Queue {
         ensures stands { QueueBecomes self.old device.old self.new device.new (λ part q. shifted_out (words_read_out part) q) }
         ensures bit { (part : PartData) (q : QueueData) → QueueStandsFor part self.old device.old q → result ≡ bit_shown (words_read_out part) q }
     {
-        if self.left == 0 {
+        if self.bits_left == 0 {
             return false;
         }
         let bit = self.next_bit();
-        if self.left == 0 {
+        if self.bits_left == 0 {
             self.refill(device);
         }
         bit
     }
 
-    /// Resets the device and forgets all.
+    /// Resets the device, and empties the queue.
     pub(crate) fn program(&mut self, device: &mut Device)
-        ensures { QueueBecomes self.old device.old self.new device.new (λ part q. empty) }
+        ensures { QueueBecomes self.old device.old self.new device.new (λ part q. empty_queue) }
     {
         device.reset(ON_THE_BENCH);
         self.held.clear();
-        self.left = 0;
+        self.bits_left = 0;
     }
 }

@@ -3,11 +3,10 @@ ghost use Rattle.std.specs.Prelude.{◌≡◌, ◌≤◌, ◌<◌, ◌+◌, ◌*
 ghost use Rattle.x7_part.specs.Part.{PartData};
 ghost use Rattle.x7_engine.specs.Kept.{on_the_bench};
 ghost use Rattle.x7_engine.specs.Standing.{DeviceStandsFor, DeviceState};
-ghost use Rattle.x7_jtag.specs.Port.{Port, acted, captured, data_shifted, data_shown, idled, lowest, number_of_bit, port_after, register_shifted as shifted_in, status as status_by, ir_status, tdo_of, updated, with_bit as with_bit_in};
-ghost use Rattle.x7_jtag.specs.Queue.{most_bytes_held};
+ghost use Rattle.x7_jtag.specs.Port.{Port, acted, captured, data_shifted, data_shown, idled, lowest_bit, number_of_bit, port_after, register_shifted as shifted_in, ir_status, ir_status_with, tdo_of, updated, with_bit as with_bit_in};
 ghost use Rattle.x7_jtag.specs.State.{Clock};
 ghost use Rattle.x7_jtag.specs.declared.instruction.Instruction.TheVariants.{CfgIn};
-ghost use Rattle.x7_jtag.specs.Tap.{CanBeGiven, PortBecomes, StandsForPort, TakesBytes, TapStandsFor, TookOfGiven, last_or};
+ghost use Rattle.x7_jtag.specs.Tap.{CanAllBeOffered, CanBeOffered, PortBecomes, StandsForPort, TakesBytes, TapStandsFor, TookOfGiven, last_or};
 ghost use Rattle.x7_svf.specs.Bits.{bytes_bits};
 ghost use Rattle.x7_jtag.specs.Clocks.{inner_clocks};
 
@@ -23,6 +22,8 @@ const STARTUP_BYTE: u8 = 0xFF;
 const USER_CODE: u32 = 0xFFFF_FFFF;
 /// What the highest bit of a register of 32 bits is worth.
 const TOP_OF_32: u32 = 1 << 31;
+/// What the highest bit of the instruction register, which has six, is worth.
+const TOP_OF_INSTRUCTION: u32 = 1 << 5;
 
 /// A test access port (IEEE 1149.1), clock by clock. It takes no memory.
 #[derive(Drop)]
@@ -31,7 +32,7 @@ pub struct Tap {
     instruction: Instruction,
     // the register between TDI and TDO
     register: u32,
-    // how many of eight bits of a byte, or of eight clocks of startup, there were
+    // how many there were of the eight bits of a byte, or of eight clocks of startup
     count: u32,
     queue: Queue,
 }
@@ -55,9 +56,9 @@ fn number_of_bit(bit: bool) -> u32
     if bit { 1 } else { 0 }
 }
 
-/// The lowest bit.
-fn is_odd(register: u32) -> bool
-    ensures { result ≡ lowest register }
+/// The lowest bit of a register.
+fn lowest_bit(register: u32) -> bool
+    ensures { result ≡ lowest_bit register }
 {
     register % 2 == 1
 }
@@ -78,23 +79,23 @@ fn with_bit(byte: u32, tdi: bool) -> u8
     (byte % 128 * 2 + number_of_bit(tdi)) as u8
 }
 
-/// What Capture-IR loads where these are DONE and STAT.
-fn status_with(done: bool, stat: u32) -> u32
-    ensures { result ≡ status_by done (stat / 2 ^ 12 % 2 == 1) }
+/// What Capture-IR loads for these values of DONE and STAT.
+fn ir_status_with(done: bool, stat: u32) -> u32
+    ensures { result ≡ ir_status_with done (stat / 2 ^ 12 % 2 == 1) }
 {
     32 * number_of_bit(done) + 16 * number_of_bit((stat >> 12) % 2 == 1) + 1
 }
 
 /// What Capture-IR loads.
-fn status(device: &Device) -> u32
+fn ir_status(device: &Device) -> u32
     ensures { (part : PartData) (given bytes : List ℕ) → DeviceStandsFor part on_the_bench false device.now bytes → TookOfGiven part given bytes → result ≡ ir_status part given }
 {
     let state = device.state();
-    status_with(state.lines.done, state.stat)
+    ir_status_with(state.lines.done, state.stat)
 }
 
-/// The last of bytes, or what was there before them.
-fn last_of(bytes: &[u8], before: u32) -> u32
+/// The last of bytes, or what was there before them where there is none.
+fn last_or(bytes: &[u8], before: u32) -> u32
     ensures { result ≡ last_or before bytes.now }
 {
     if bytes.is_empty() {
@@ -143,7 +144,7 @@ impl Tap {
 
     /// Run-Test/Idle: under JSTART each eighth clock offers a byte FF.
     fn idle(&mut self, device: &mut Device)
-        requires { CanBeGiven device.old (most_bytes_held + 1) }
+        requires { CanBeOffered device.old }
         ensures stands { PortBecomes self.old device.old self.new device.new (λ part p. idled part p.instruction p) }
     {
         match self.instruction {
@@ -156,7 +157,7 @@ impl Tap {
         }
     }
 
-    /// Capture-DR.
+    /// Capture-DR: the register takes the idcode, the user code, or 0.
     fn capture(&mut self, device: &Device)
         ensures stands { PortBecomes self.old device.now self.new device.now (λ part p. captured part p.instruction p) }
     {
@@ -173,7 +174,7 @@ impl Tap {
 
     /// Shift-DR under CFG_IN: each eighth bit completes a byte, which is offered.
     fn shift_byte(&mut self, tdi: bool, device: &mut Device)
-        requires { CanBeGiven device.old (most_bytes_held + 1) }
+        requires { CanBeOffered device.old }
         ensures stands { PortBecomes self.old device.old self.new device.new (λ part p. data_shifted part CfgIn p tdi) }
     {
         let byte = with_bit(self.register, tdi);
@@ -187,9 +188,9 @@ impl Tap {
     fn shift_register(&mut self, top: u32, tdi: bool) -> bool
         requires { top ≤ 2 ^ 31 }
         ensures new { self.new ≡ record self.old { register = shifted_in top self.old.register tdi } }
-        ensures out { result ≡ lowest self.old.register }
+        ensures out { result ≡ lowest_bit self.old.register }
     {
-        let out = is_odd(self.register);
+        let out = lowest_bit(self.register);
         self.register = register_shifted(top, self.register, tdi);
         out
     }
@@ -207,17 +208,17 @@ impl Tap {
     /// The clocks of TMS 0 that shift the bits of these bytes, each from its highest bit.
     pub(crate) fn shift_bytes(&mut self, bytes: &[u8], device: &mut Device)
         requires takes { TakesBytes self.old }
-        requires fits { CanBeGiven device.old (length self.old.queue.held + length bytes.now + (most_bytes_held + 1)) }
+        requires fits { CanAllBeOffered self.old.queue device.old (length bytes.now) }
         ensures takes { TakesBytes self.new }
         ensures stands { (part : PartData) (cs : List Clock) → TapStandsFor part self.old device.old cs → TapStandsFor part self.new device.new (cs ++ inner_clocks (bytes_bits bytes.now)) }
     {
         self.queue.offer_all(bytes, device);
-        self.register = last_of(bytes, self.register);
+        self.register = last_or(bytes, self.register);
     }
 
-    /// Shift-DR.
+    /// Shift-DR: one bit through what the instruction selects. Gives TDO.
     fn shift(&mut self, tdi: bool, device: &mut Device) -> bool
-        requires { CanBeGiven device.old (most_bytes_held + 1) }
+        requires { CanBeOffered device.old }
         ensures stands { PortBecomes self.old device.old self.new device.new (λ part p. data_shifted part p.instruction p tdi) }
         ensures tdo { (part : PartData) (p : Port) → StandsForPort part self.old device.old p → result ≡ data_shown part p.instruction p }
     {
@@ -247,7 +248,7 @@ impl Tap {
 
     /// Does the action of the present state, and gives TDO.
     fn act(&mut self, tdi: bool, device: &mut Device) -> bool
-        requires { CanBeGiven device.old (most_bytes_held + 1) }
+        requires { CanBeOffered device.old }
         ensures stands { PortBecomes self.old device.old self.new device.new (λ part p. acted part p.state p tdi) }
         ensures tdo { (part : PartData) (p : Port) → StandsForPort part self.old device.old p → result ≡ tdo_of part p }
     {
@@ -266,10 +267,10 @@ impl Tap {
             }
             State::ShiftDr => self.shift(tdi, device),
             State::CaptureIr => {
-                self.register = status(device);
+                self.register = ir_status(device);
                 false
             }
-            State::ShiftIr => self.shift_register(32, tdi),
+            State::ShiftIr => self.shift_register(TOP_OF_INSTRUCTION, tdi),
             State::UpdateIr => {
                 self.update(device);
                 false
@@ -282,7 +283,7 @@ impl Tap {
     ///
     /// The tap is new, or was clocked with this device alone since the device was new.
     pub fn clock(&mut self, tms: bool, tdi: bool, device: &mut Device) -> bool
-        requires { CanBeGiven device.old (most_bytes_held + 1) }
+        requires { CanBeOffered device.old }
         ensures stands { (part : PartData) (cs : List Clock) → TapStandsFor part self.old device.old cs → TapStandsFor part self.new device.new (cs ++ record { tms = tms; tdi = tdi } ∷ []) }
         ensures tdo { (part : PartData) (cs : List Clock) → TapStandsFor part self.old device.old cs → result ≡ tdo_of part (port_after part cs) }
     {

@@ -42,7 +42,7 @@ abbrev pub HaveNoOverlap : List DataRecord → Type 0
 HaveNoOverlap [] = Unit {0}
 HaveNoOverlap (x ∷ xs) = ((p : ℕ) → covers x p ≡ true → covered xs p ≡ false) × HaveNoOverlap xs
 
--- the least of n places from here on that a record covers
+-- the least of n places from place p on that a record covers
 abbrev pub overlap : List DataRecord → ℕ → ℕ → Option ℕ
 overlap xs p zero = None
 overlap xs p (suc n) = if covered xs p then Some p else overlap xs (p + 1) n

@@ -1,5 +1,5 @@
 -- What the bytes and marks of a text that is being read stand for (this project's choice).
-use Rattle.std.specs.Prelude.{◌≡◌, ℕ, ◌+◌, ◌/◌, ◌%◌, ◌==◌, ◌-◌, ◌&&◌, ◌<◌, ◌≤◌, nat_le, nat_lt, max, Bool, true, false, if◌then◌else◌, Result, Ok, Err, ◌⊎◌, List, length, get_or}
+use Rattle.std.specs.Prelude.{◌≡◌, ℕ, ◌+◌, ◌*◌, ◌/◌, ◌%◌, ◌==◌, ◌-◌, ◌&&◌, ◌<◌, ◌≤◌, nat_le, nat_lt, max, Bool, true, false, if◌then◌else◌, Result, Ok, Err, ◌⊎◌, List, length, get_or}
 use Rattle.std.specs.Int.{bit_at}
 use Rattle.x7_words.specs.Flash.{erased_byte}
 use Rattle.x7_mcs.specs.DataRecords.{byte_at, covered, extent, DataRecord}
@@ -45,6 +45,14 @@ pub record IsFirstMarked (marks : List ℕ) (from to q : ℕ) : Type 0 where
   pub marked : is_marked marks q ≡ true
   pub before : AreFree marks from q
 
+-- the new marks have one for each place before an end, and all the old ones
+abbrev pub HasMarksUpTo : ℕ → List ℕ → List ℕ → Type 0
+HasMarksUpTo end old new = (end ≤ places_a_mark * length new) × ((k : ℕ) → get_or new k 0 ≡ get_or old k 0)
+
+-- the new bytes are the old ones, and after them FF up to n bytes where these are fewer
+abbrev pub IsGrownTo : ℕ → List ℕ → List ℕ → Type 0
+IsGrownTo n old new = (length new ≡ max (length old) n) × ((p : ℕ) → get_or new p erased_byte ≡ get_or old p erased_byte)
+
 -- the byte at p after a content is written from a place on over the old bytes; FF where neither has one
 abbrev pub written_byte : ℕ → List ℕ → List ℕ → ℕ → ℕ
 written_byte place content old p = if nat_le place p && nat_lt p (place + length content) then get_or content (p - place) erased_byte else get_or old p erased_byte
@@ -67,15 +75,15 @@ pub record McsLinesState : Type 0 where
   pub bytes : List ℕ
   pub marks : List ℕ
 
--- a reading came to this base, end and records
-pub record TookRecords (reading : Result FlashReading McsFault) (base : ℕ) (ended : Bool) (bytes marks : List ℕ) : Type 0 where
+-- a reading came to this base, whether a record 01 stood, and records that these bytes and marks stand for
+pub record TookRecords (reading : Result FlashReading McsFault) (s : McsLinesState) : Type 0 where
   pub records : List DataRecord
-  pub came : reading ≡ Ok (record { base = base; ended = ended; records = records })
-  pub holds : HoldsRecords records bytes marks
+  pub came : reading ≡ Ok (record { base = s.base; ended = s.ended; records = records })
+  pub holds : HoldsRecords records s.bytes s.marks
 
--- the reading of a text up to a line: the base that stands, whether a record 01 stood, and the records
-abbrev pub at_base : ℕ → Bool → List DataRecord → FlashReading
-at_base base ended records = record { base = base; ended = ended; records = records }
+-- the reading of the lines so far, by its base, whether a record 01 stood, and its records
+abbrev pub reading_of : ℕ → Bool → List DataRecord → FlashReading
+reading_of base ended records = record { base = base; ended = ended; records = records }
 
 -- a reading has no fault
 abbrev pub HasNoFault : Result FlashReading McsFault → Type 0

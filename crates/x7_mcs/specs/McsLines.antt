@@ -13,9 +13,9 @@ use Rattle.x7_mcs.specs.declared.fault.McsFault.TheVariants as fault
 abbrev pub mcs_lines_state : McsLines → McsLinesState
 mcs_lines_state b = record { base = b.context.base; ended = b.context.ended; bytes = b.image.bytes.items; marks = b.image.marks.items }
 
--- lines that have their end gave this
+-- lines that have their end gave this base, whether a record 01 stood, and these bytes and marks
 abbrev pub HasReadRecords : McsLinesState → List (List ℕ) → Type 0
-HasReadRecords b lines = TookRecords (after_lines 1 of_no_line (map without_return lines)) b.base b.ended b.bytes b.marks
+HasReadRecords s lines = TookRecords (after_lines 1 of_no_line (map without_return lines)) s
 
 -- the flash bytes of a text of these lines, or its fault
 abbrev pub flash_of_lines : List (List ℕ) → Result (List ℕ) McsFault
@@ -30,16 +30,17 @@ AreGoodWith lines line = HasNoFault (after_lines 1 of_no_line (map without_retur
 abbrev pub HasMcsFault : McsFault → List (List ℕ) → Type 0
 HasMcsFault f lines = (f ≡ fault.NoMemory) ⊎ (flash_of_lines lines ≡ Err f)
 
--- a call came to what this reading comes to, or gave the reading's fault
-abbrev pub ReachesIn : {A : Type 0} → Result A McsFault → Result FlashReading McsFault → McsLines → Type 0
-ReachesIn result reading new = MatchResult result (λ _. CameTo reading new.context new.image) (λ f. FailsAsReading reading f)
+-- a call on lines that are taken one by one came to what this reading comes to, or gave the reading's fault
+abbrev pub LinesComeTo : {A : Type 0} → Result A McsFault → Result FlashReading McsFault → McsLines → Type 0
+LinesComeTo result reading new = MatchResult result (λ _. CameTo reading new.context new.image) (λ f. FailsAsReading reading f)
 
--- the first line of a text was taken after these, and this is left
+-- the first line of a text was taken after these lines, and this is left of the text
 pub record TakesFirstLine (lines : List (List ℕ)) (text rest : List ℕ) (new : McsLines) : Type 0 where
   pub line : List ℕ
   pub cut : split text ≡ line ∷ split rest
   pub read : HasReadRecords (mcs_lines_state new) (lines ++ line ∷ [])
 
--- the first line of a text was taken after these, and a rest is left; or no line of it has its end, and none was taken
+-- the first line of a text was taken after these lines, and a rest is left; or no line of it has its end, and none was
+-- taken
 abbrev pub TakesIfEnded : {R : Type 0} → (R → List ℕ) → List (List ℕ) → List ℕ → Option R → McsLines → Type 0
 TakesIfEnded bytes lines text found new = MatchOption found (HasReadRecords (mcs_lines_state new) lines) (λ rest. TakesFirstLine lines text (bytes rest) new)

@@ -1,5 +1,5 @@
 -- What a record says: count, address, type, data and sum byte (Intel HEX).
-use Rattle.std.specs.Prelude.{ℕ, ◌+◌, ◌*◌, ◌-◌, ◌%◌, ◌==◌, ◌&&◌, ◌||◌, nat_le, not, Bool, if◌then◌else◌, List, length, take, drop, get_or, Result, Ok, Err}
+use Rattle.std.specs.Prelude.{◌≡◌, ℕ, ◌+◌, ◌*◌, ◌-◌, ◌%◌, ◌==◌, ◌&&◌, ◌||◌, nat_le, not, Bool, if◌then◌else◌, List, length, take, drop, get_or, Result, Ok, Err}
 use Rattle.std.specs.List.{sum}
 pub use Rattle.x7_text.specs.EitherCase.{byte_of, number_of_digit, byte_before, bytes_of_pairs}
 use Rattle.x7_mcs.specs.declared.fault.McsFault.{McsFault}
@@ -17,17 +17,49 @@ byte_values = 256
 abbrev pub bytes_beside : ℕ
 bytes_beside = 5
 
--- how many bytes of data a record says that it has
-abbrev pub record_count : List ℕ → ℕ
-record_count bs = get_or bs 0 0
+-- ---- the types of records
 
--- a record's address: 16 bits, the high byte first
-abbrev pub record_address : List ℕ → ℕ
-record_address bs = 256 * get_or bs 1 0 + get_or bs 2 0
+-- data
+abbrev pub data_type : ℕ
+data_type = 0
+
+-- the end of the file
+abbrev pub end_type : ℕ
+end_type = 1
+
+-- the base of the addresses that follow, by 16 (an extended segment address)
+abbrev pub segment_base_type : ℕ
+segment_base_type = 2
+
+-- where a program starts, as a segment and an offset
+abbrev pub segment_start_type : ℕ
+segment_start_type = 3
+
+-- the base of the addresses that follow, by 65,536 (an extended linear address)
+abbrev pub linear_base_type : ℕ
+linear_base_type = 4
+
+-- where a program starts, as one address
+abbrev pub linear_start_type : ℕ
+linear_start_type = 5
+
+-- ---- the parts of a record
 
 -- a record's type, by which its data mean what they do
 abbrev pub record_type : List ℕ → ℕ
 record_type bs = get_or bs 3 0
+
+-- how many bytes of data a record says that it has
+abbrev pub record_count : List ℕ → ℕ
+record_count bs = get_or bs 0 0
+
+-- a record has as many bytes as its count says, and those beside its data
+abbrev pub IsOfItsCount : List ℕ → Type 0
+IsOfItsCount bs = record_count bs + bytes_beside ≡ length bs
+
+-- a record's address: 16 bits, the high byte first
+abbrev pub record_address : List ℕ → ℕ
+record_address bs = 256 * get_or bs 1 0 + get_or bs 2 0
 
 -- the number in the two data bytes of a record that gives a base
 abbrev pub base_value : List ℕ → ℕ
@@ -60,15 +92,15 @@ pub data Meaning : Type 0 where
   -- the base of the addresses that follow
   Base : ℕ → Meaning
 
--- by type, count and address: 00 data, which end within 65,536 (this project's choice); 01 the end; 02 the base by 16;
--- 04 the base by 65,536; 03 and 05 a start address, without effect
+-- what the bytes of line n say by type, count and address. Data end within 65,536 (this project's choice), and a start
+-- has no effect
 abbrev pub meaning_by_type : ℕ → List ℕ → Result Meaning McsFault
 meaning_by_type n bs =
-    if record_type bs == 0 && nat_le (record_address bs + record_count bs) block_size then Ok (Meaning.Data (record_address bs))
-    else if record_type bs == 1 && record_count bs == 0 then Ok Meaning.End
-    else if record_type bs == 2 && record_count bs == 2 then Ok (Meaning.Base (16 * base_value bs))
-    else if record_type bs == 4 && record_count bs == 2 then Ok (Meaning.Base (block_size * base_value bs))
-    else if (record_type bs == 3 || record_type bs == 5) && record_count bs == 4 then Ok Meaning.Start
+    if record_type bs == data_type && nat_le (record_address bs + record_count bs) block_size then Ok (Meaning.Data (record_address bs))
+    else if record_type bs == end_type && record_count bs == 0 then Ok Meaning.End
+    else if record_type bs == segment_base_type && record_count bs == 2 then Ok (Meaning.Base (16 * base_value bs))
+    else if record_type bs == linear_base_type && record_count bs == 2 then Ok (Meaning.Base (block_size * base_value bs))
+    else if (record_type bs == segment_start_type || record_type bs == linear_start_type) && record_count bs == 4 then Ok Meaning.Start
     else Err (fault.Line n)
 
 -- what the bytes of line n say, where a record 01 stood before or not

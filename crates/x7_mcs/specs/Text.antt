@@ -3,7 +3,7 @@ use Rattle.std.specs.Prelude.{ℕ, ◌+◌, ◌*◌, ◌/◌, ◌%◌, ◌==◌,
 use Rattle.std.specs.List.{flat_map}
 use Rattle.x7_text.specs.Digits.{hex_byte}
 use Rattle.x7_text.specs.Row.{rows}
-use Rattle.x7_mcs.specs.Record.{block_size, byte_values, sum_byte}
+use Rattle.x7_mcs.specs.Record.{block_size, byte_values, data_type, linear_base_type, sum_byte}
 
 -- how many bytes of a flash a row has, each but the last
 abbrev pub row_size : ℕ
@@ -17,12 +17,12 @@ base_line_size = 16
 abbrev pub row_line_size : ℕ
 row_line_size = 44
 
--- the bytes that the text of n bytes of rows takes at most, those of one block begun: four
--- for each byte, a record 04 and a row's line
+-- room for the lines of rows that have n bytes: four bytes of text for each, which is more than whole rows and the records
+-- 04 of whole blocks take, and a record 04 and a row's line more, for the block and the row that are begun
 abbrev pub rows_room : ℕ → ℕ
 rows_room n = 4 * n + (base_line_size + row_line_size)
 
--- the bytes that the text of a block takes at most
+-- room for the lines of a block
 abbrev pub block_room : ℕ
 block_room = rows_room block_size
 
@@ -32,15 +32,15 @@ record_line bs = 58 ∷ (flat_map hex_byte (bs ++ sum_byte bs ∷ []) ++ 10 ∷ 
 
 -- the record 04 of a block of 65,536 bytes
 abbrev pub base_line : ℕ → List ℕ
-base_line block = record_line (2 ∷ 0 ∷ 0 ∷ 4 ∷ block / 256 ∷ block % 256 ∷ [])
+base_line block = record_line (2 ∷ 0 ∷ 0 ∷ linear_base_type ∷ block / byte_values ∷ block % byte_values ∷ [])
 
 -- the data record of bytes at an address
 abbrev pub data_line : ℕ → List ℕ → List ℕ
-data_line address bs = record_line (length bs ∷ address / 256 ∷ address % 256 ∷ 0 ∷ bs)
+data_line address bs = record_line (length bs ∷ address / byte_values ∷ address % byte_values ∷ data_type ∷ bs)
 
 -- the fields of the data record of a whole row at an address: its count, the address, the high byte first, and its type
 abbrev pub row_fields : ℕ → List ℕ
-row_fields address = row_size ∷ address / byte_values ∷ address % byte_values ∷ 0 ∷ []
+row_fields address = row_size ∷ address / byte_values ∷ address % byte_values ∷ data_type ∷ []
 
 -- where a block of 65,536 bytes begins, its record 04
 abbrev pub block_start : ℕ → List ℕ

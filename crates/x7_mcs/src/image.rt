@@ -1,14 +1,15 @@
 //! The bytes of a flash that is being read, and the places that its records gave.
-ghost use Rattle.std.specs.Prelude.{◌≡◌, ℕ, true, ◌≤◌, ◌<◌, ◌+◌, ◌-◌, ◌*◌, ◌/◌, ◌%◌, ◌^◌, ◌==◌, ◌&&◌, nat_le, nat_lt, max, if◌then◌else◌, List, [], length, get_or, MatchResult, MatchOption};
+ghost use Rattle.std.specs.Prelude.{◌≡◌, ℕ, true, ◌≤◌, ◌<◌, ◌+◌, ◌-◌, ◌*◌, ◌/◌, ◌%◌, ◌^◌, ◌==◌, ◌&&◌, nat_le, nat_lt, if◌then◌else◌, List, [], length, get_or, MatchResult, MatchOption};
 ghost use Rattle.std.specs.Int.{bit_at};
 ghost use Rattle.x7_words.specs.Flash.{erased_byte};
 ghost use Rattle.x7_mcs.specs.DataRecords.{DataRecord, overlap};
-ghost use Rattle.x7_mcs.specs.Readings.{HoldsIn, HoldsMore, IsRecordRefused, data_at};
+ghost use Rattle.x7_mcs.specs.Readings.{ImageHolds, IsRecordTaken, IsRecordRefused, data_at};
 ghost use Rattle.x7_mcs.specs.Record.{byte_values};
-ghost use Rattle.x7_mcs.specs.Image.{AreFree, AreMarked, IsFirstMarked, IsWrittenFrom, places_a_mark, written_byte};
+ghost use Rattle.x7_mcs.specs.Image.{AreFree, AreMarked, HasMarksUpTo, IsFirstMarked, IsGrownTo, IsWrittenFrom, places_a_mark, written_byte};
 
 use crate::fault::McsFault;
 use std::alloc::{AllocError, Global};
+use x7_words::ERASED_BYTE;
 
 /// How many places a flash has at most.
 pub const FLASH_LIMIT: usize = x7_words::FLASH_LIMIT as usize;
@@ -19,7 +20,7 @@ const PLACES_A_MARK: usize = 16;
 /// A mark with all its places.
 const FULL_MARK: u16 = 0xFFFF;
 
-/// How many marks more than are needed are made at once.
+/// How many marks are made at once beside those that a record needs.
 const SPARE_MARKS: usize = 4096;
 
 /// The bytes from place 0 on, and a bit for each place that a record gave: sixteen places a mark, the first in bit 0.
@@ -43,15 +44,15 @@ pub(crate) fn empty_image(alloc: Global) -> Image
 /// Lengthens bytes by FF to `n` of them, where there are fewer.
 #[inline(always)]
 fn grow_bytes(bytes: &mut Vec<u8>, n: usize) -> Result<(), AllocError>
-    ensures { MatchResult result (λ _. (length bytes.new.items ≡ max (length bytes.old.items) n) × ((p : ℕ) → get_or bytes.new.items p erased_byte ≡ get_or bytes.old.items p erased_byte)) (λ _. Unit {0}) }
+    ensures { MatchResult result (λ _. IsGrownTo n bytes.old.items bytes.new.items) (λ _. Unit {0}) }
 {
     if n <= bytes.len() {
         return Ok(());
     }
-    bytes.resize(n, 255)
+    bytes.resize(n, ERASED_BYTE)
 }
 
-/// Writes a content over the bytes from a place on.
+/// Writes a content over the bytes from a place on, as many as it has.
 fn set_bytes(bytes: &mut Vec<u8>, place: usize, content: &[u8])
     requires { place + length content.now ≤ length bytes.old.items }
     ensures long { length bytes.new.items ≡ length bytes.old.items }
@@ -60,7 +61,7 @@ fn set_bytes(bytes: &mut Vec<u8>, place: usize, content: &[u8])
     bytes[place..place + content.len()].copy_from_slice(content);
 }
 
-/// Appends a content.
+/// Appends a content to the bytes.
 #[inline(always)]
 fn append_bytes(bytes: &mut Vec<u8>, content: &[u8]) -> Result<(), AllocError>
     ensures { MatchResult result (λ _. IsWrittenFrom (length bytes.old.items) content.now bytes.old.items bytes.new.items) (λ _. Unit {0}) }
@@ -87,7 +88,7 @@ fn put_bytes(bytes: &mut Vec<u8>, place: usize, content: &[u8]) -> Result<(), Al
 #[inline(always)]
 fn grow_marks(marks: &mut Vec<u16>, end: usize) -> Result<(), AllocError>
     requires { end < 2 ^ 34 }
-    ensures { MatchResult result (λ _. (end ≤ places_a_mark * length marks.new.items) × ((k : ℕ) → get_or marks.new.items k 0 ≡ get_or marks.old.items k 0)) (λ _. Unit {0}) }
+    ensures { MatchResult result (λ _. HasMarksUpTo end marks.old.items marks.new.items) (λ _. Unit {0}) }
 {
     let n = end / PLACES_A_MARK + 1;
     if n <= marks.len() {
@@ -176,9 +177,9 @@ fn first_marked(marks: &[u16], place: usize, count: usize) -> Option<usize>
 
 /// The least of `count` places from one on that a record gave.
 #[inline(always)]
-fn taken_place(image: &Image, place: usize, count: usize) -> Option<usize>
+fn overlap(image: &Image, place: usize, count: usize) -> Option<usize>
     requires { place + count < 2 ^ 34 }
-    ensures least { (xs : List DataRecord) → HoldsIn image.now xs → result ≡ overlap xs place count }
+    ensures least { (xs : List DataRecord) → ImageHolds image.now xs → result ≡ overlap xs place count }
     ensures within { MatchOption result (Unit {0}) (λ q. q < place + count) }
 {
     if place >= image.bytes.len() {
@@ -195,9 +196,10 @@ pub(crate) fn put_content(
     place: usize,
     content: &[u8],
 ) -> Result<(), McsFault>
-    requires { (place < 2 ^ 33) × (length content.now < byte_values) }
-    ensures { (xs : List DataRecord) → HoldsIn image.old xs
-        → MatchResult result (λ _. HoldsMore image.new n xs (data_at place content.now)) (λ fault. IsRecordRefused n xs (data_at place content.now) fault) }
+    requires place { place < 2 ^ 33 }
+    requires content { length content.now < byte_values }
+    ensures { (xs : List DataRecord) → ImageHolds image.old xs
+        → MatchResult result (λ _. IsRecordTaken image.new n xs (data_at place content.now)) (λ fault. IsRecordRefused n xs (data_at place content.now) fault) }
 {
     if content.len() == 0 {
         return Ok(());
@@ -206,8 +208,8 @@ pub(crate) fn put_content(
     if end > FLASH_LIMIT {
         return Err(McsFault::TooLarge(n));
     }
-    if let Some(taken) = taken_place(image, place, content.len()) {
-        return Err(McsFault::Overlap(taken as u32));
+    if let Some(covered) = overlap(image, place, content.len()) {
+        return Err(McsFault::Overlap(covered as u32));
     }
     let Ok(()) = grow_marks(&mut image.marks, end) else {
         return Err(McsFault::NoMemory);

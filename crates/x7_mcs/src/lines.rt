@@ -6,9 +6,9 @@ ghost use Rattle.x7_mcs.specs.Lines.{without_return};
 pub(crate) fn without_return(line: &[u8]) -> &[u8]
     ensures { result.now ≡ without_return line.now }
 {
-    let long = line.len();
-    if long > 0 && line[long - 1] == 13 {
-        &line[..long - 1]
+    let length = line.len();
+    if length > 0 && line[length - 1] == b'\r' {
+        &line[..length - 1]
     } else {
         line
     }

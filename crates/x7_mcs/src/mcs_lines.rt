@@ -3,25 +3,26 @@ ghost use Rattle.std.specs.Prelude.{◌≡◌, ◌+◌, ◌<◌, ◌++◌, ◌�
 ghost use Rattle.x7_text.specs.LineReader.{FailsAfter, WantsAt};
 ghost use Rattle.x7_text.specs.Lines.{split};
 ghost use Rattle.x7_mcs.specs.Flash.{after_data, after_line};
-ghost use Rattle.x7_mcs.specs.Readings.{HoldsIn, flash_reading_at};
+ghost use Rattle.x7_mcs.specs.Readings.{ImageHolds, flash_reading_at};
 ghost use Rattle.x7_mcs.specs.DataRecords.{DataRecord};
 ghost use Rattle.x7_mcs.specs.Text.{row_size};
-ghost use Rattle.x7_mcs.specs.McsLines.{AreGoodWith, HasMcsFault, HasReadRecords, ReachesIn, TakesIfEnded, mcs_lines_state, flash_of_lines};
+ghost use Rattle.x7_mcs.specs.McsLines.{AreGoodWith, HasMcsFault, HasReadRecords, LinesComeTo, TakesIfEnded, mcs_lines_state, flash_of_lines};
 ghost use Rattle.x7_mcs.specs.declared.mcs_lines.McsLines.{McsLines};
 ghost use Rattle.x7_mcs.specs.declared.fault.McsFault.{McsFault};
 
 use crate::fault::McsFault;
 use crate::image::{Image, empty_image};
 use crate::lines::without_return;
-use crate::row::{Row, first_row};
+use crate::record::BLOCK_SIZE;
+use crate::row::{ROW_SIZE, Row, first_row};
 use crate::step::{Context, put_data, put_line};
 use std::alloc::Global;
 use x7_text::{TakesLines, first_line};
 
-/// The last address at which a row ends within its block.
-const LAST_ROW: u16 = 65_520;
+/// The last address at which a row begins that ends within its block.
+const LAST_ROW_ADDRESS: u16 = (BLOCK_SIZE as usize - ROW_SIZE) as u16;
 
-/// The image that the lines of a flash text gave so far, and what stands for the lines that come.
+/// The image that the lines of a flash text gave so far, and the base and end that stand for the lines that come.
 #[derive(Drop)]
 pub struct McsLines {
     image: Image,
@@ -42,21 +43,21 @@ impl McsLines {
         }
     }
 
-    /// Takes line `n`, that of a row as it is written here.
+    /// Takes line `n`, which is that of this row in the form in which one is written here.
     #[inline(always)]
-    fn put_row(&mut self, n: u64, row: &Row) -> Result<(), McsFault>
+    fn take_row(&mut self, n: u64, row: &Row) -> Result<(), McsFault>
         requires { length row.now.content ≡ row_size }
-        ensures { (xs : List DataRecord) → HoldsIn self.old.image xs
-            → ReachesIn result (after_data n (flash_reading_at self.old.context xs) row.now.address row.now.content) self.new }
+        ensures { (xs : List DataRecord) → ImageHolds self.old.image xs
+            → LinesComeTo result (after_data n (flash_reading_at self.old.context xs) row.now.address row.now.content) self.new }
     {
         let address = u32::from(row.address);
         self.context = put_data(&mut self.image, n, self.context, address, &row.content)?;
         Ok(())
     }
 
-    /// Takes line `n`, which has no end here.
-    fn put_one(&mut self, n: u64, line: &[u8]) -> Result<(), McsFault>
-        ensures { (xs : List DataRecord) → HoldsIn self.old.image xs → ReachesIn result (after_line n (flash_reading_at self.old.context xs) line.now) self.new }
+    /// Takes line `n`, given without its end.
+    fn put_bare_line(&mut self, n: u64, line: &[u8]) -> Result<(), McsFault>
+        ensures { (xs : List DataRecord) → ImageHolds self.old.image xs → LinesComeTo result (after_line n (flash_reading_at self.old.context xs) line.now) self.new }
     {
         self.context = put_line(&mut self.image, n, self.context, line)?;
         Ok(())
@@ -73,16 +74,16 @@ impl McsLines {
     {
         if !self.context.ended
             && let Some((row, rest)) = first_row(text)
-            && row.address <= LAST_ROW
+            && row.address <= LAST_ROW_ADDRESS
         {
-            self.put_row(n, &row)?;
+            self.take_row(n, &row)?;
             return Ok(Some(rest));
         }
         let (line, more) = first_line(text);
         let Some(rest) = more else {
             return Ok(None);
         };
-        self.put_one(n, without_return(line))?;
+        self.put_bare_line(n, without_return(line))?;
         Ok(Some(rest))
     }
 }
@@ -109,7 +110,7 @@ impl TakesLines for McsLines {
     }
 
     fn put_line(&mut self, n: u64, line: &[u8]) -> Result<(), McsFault> {
-        self.put_one(n, without_return(line))
+        self.put_bare_line(n, without_return(line))
     }
 
     fn put_lines<'t>(&mut self, n: u64, text: &'t [u8]) -> Result<(&'t [u8], u64), McsFault> {
@@ -127,7 +128,7 @@ impl TakesLines for McsLines {
 
     fn put_last(self, n: u64, line: &[u8]) -> Result<Vec<u8>, McsFault> {
         let mut last = self;
-        last.put_one(n, line)?;
+        last.put_bare_line(n, line)?;
         if !last.context.ended {
             return Err(McsFault::NoEnd);
         }

@@ -1,7 +1,7 @@
 //! What the bytes of one record say.
-ghost use Rattle.std.specs.Prelude.{◌≡◌, ◌<◌, ◌+◌, ◌%◌, ◌++◌, get_or, length, MatchResult};
+ghost use Rattle.std.specs.Prelude.{◌≡◌, ◌<◌, ◌%◌, ◌++◌, length, MatchResult};
 ghost use Rattle.std.specs.List.{sum};
-ghost use Rattle.x7_mcs.specs.Record.{base_value, record_data, meaning_by_type, meaning_of, sum_byte, byte_values, bytes_beside};
+ghost use Rattle.x7_mcs.specs.Record.{IsOfItsCount, base_value, record_data, meaning_by_type, meaning_of, sum_byte, byte_values, bytes_beside};
 ghost use Rattle.x7_mcs.specs.Image.{SaysMeaning};
 
 use crate::fault::McsFault;
@@ -11,6 +11,24 @@ pub(crate) const BLOCK_SIZE: u32 = 65_536;
 
 /// How many bytes a record has beside its data: its count, the two of its address, its type and its sum byte.
 pub(crate) const BYTES_BESIDE: usize = 5;
+
+/// The type of a record of data (Intel HEX).
+pub(crate) const DATA_TYPE: u8 = 0x00;
+
+/// The type of the record that ends a file.
+const END_TYPE: u8 = 0x01;
+
+/// The type of a record that gives the base of the addresses that follow, by 16 (an extended segment address).
+const SEGMENT_BASE_TYPE: u8 = 0x02;
+
+/// The type of a record that says where a program starts, as a segment and an offset.
+const SEGMENT_START_TYPE: u8 = 0x03;
+
+/// The type of a record that gives the base of the addresses that follow, by 65,536 (an extended linear address).
+pub(crate) const LINEAR_BASE_TYPE: u8 = 0x04;
+
+/// The type of a record that says where a program starts, as one address.
+const LINEAR_START_TYPE: u8 = 0x05;
 
 /// What a record says.
 #[derive(Clone, Copy)]
@@ -55,17 +73,17 @@ fn base_value(bytes: &[u8]) -> u32
 
 /// What the record of line `n` says by its type, its count and its address.
 fn meaning_by_type(n: u64, bytes: &[u8]) -> Result<Meaning, McsFault>
-    requires { get_or bytes.now 0 0 + bytes_beside ≡ length bytes.now }
+    requires { IsOfItsCount bytes.now }
     ensures { SaysMeaning result (meaning_by_type n bytes.now) }
 {
     let count = u32::from(bytes[0]);
     let address = 256 * u32::from(bytes[1]) + u32::from(bytes[2]);
     match (bytes[3], count) {
-        (0, _) if address + count <= BLOCK_SIZE => Ok(Meaning::Data(address)),
-        (1, 0) => Ok(Meaning::End),
-        (2, 2) => Ok(Meaning::Base(16 * base_value(bytes))),
-        (4, 2) => Ok(Meaning::Base(BLOCK_SIZE * base_value(bytes))),
-        (3 | 5, 4) => Ok(Meaning::Start),
+        (DATA_TYPE, _) if address + count <= BLOCK_SIZE => Ok(Meaning::Data(address)),
+        (END_TYPE, 0) => Ok(Meaning::End),
+        (SEGMENT_BASE_TYPE, 2) => Ok(Meaning::Base(16 * base_value(bytes))),
+        (LINEAR_BASE_TYPE, 2) => Ok(Meaning::Base(BLOCK_SIZE * base_value(bytes))),
+        (SEGMENT_START_TYPE | LINEAR_START_TYPE, 4) => Ok(Meaning::Start),
         _ => Err(McsFault::Line(n)),
     }
 }
@@ -73,7 +91,7 @@ fn meaning_by_type(n: u64, bytes: &[u8]) -> Result<Meaning, McsFault>
 /// What the bytes of line `n` say, where a record 01 stood before or not.
 pub(crate) fn meaning_of(n: u64, ended: bool, bytes: &[u8]) -> Result<Meaning, McsFault>
     ensures meaning { SaysMeaning result (meaning_of n ended bytes.now) }
-    ensures long { MatchResult result (λ _. get_or bytes.now 0 0 + bytes_beside ≡ length bytes.now) (λ _. Unit {0}) }
+    ensures counted { MatchResult result (λ _. IsOfItsCount bytes.now) (λ _. Unit {0}) }
 {
     if bytes.len() == 0 || usize::from(bytes[0]) + BYTES_BESIDE != bytes.len() {
         return Err(McsFault::Line(n));
@@ -91,7 +109,7 @@ pub(crate) fn meaning_of(n: u64, ended: bool, bytes: &[u8]) -> Result<Meaning, M
 
 /// The data of a record, as many bytes as its count says.
 pub(crate) fn record_data(bytes: &[u8]) -> &[u8]
-    requires { get_or bytes.now 0 0 + bytes_beside ≡ length bytes.now }
+    requires { IsOfItsCount bytes.now }
     ensures content { result.now ≡ record_data bytes.now }
     ensures long { length result.now < byte_values }
 {

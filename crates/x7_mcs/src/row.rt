@@ -1,16 +1,19 @@
-//! The usual line, a data record of sixteen bytes: written at once, and read by a
-//! guess that is written again and compared.
+//! The usual line, a data record of sixteen bytes: written at once, and read by a guess that is written again and
+//! compared.
 ghost use Rattle.std.specs.Prelude.{◌≡◌, ◌<◌, ◌≤◌, ◌+◌, ◌%◌, ◌++◌, length, map, IsTrue, MatchOption};
 ghost use Rattle.std.specs.List.{flat_map, sum};
 ghost use Rattle.std.specs.Simd.Lanes.{Each1, chunk};
 ghost use Rattle.x7_text.specs.Digits.{hex_byte, hex_digit};
 ghost use Rattle.x7_words.specs.Word.{AreBytes};
 ghost use Rattle.x7_mcs.specs.Record.{sum_byte, byte_values};
-ghost use Rattle.x7_mcs.specs.Text.{data_line, row_size, row_fields};
+ghost use Rattle.x7_mcs.specs.Text.{data_line, row_fields, row_line_size, row_size};
 
-use crate::record::sum_of;
+use crate::record::{DATA_TYPE, sum_of};
 use std::simd::prelude::*;
 use x7_text::hex_of_byte;
+
+/// How many bytes of a flash a row has, each but the last.
+pub(crate) const ROW_SIZE: usize = 16;
 
 /// How many bytes of text the data record of a whole row has, with its line end.
 pub(crate) const ROW_LINE_SIZE: usize = 44;
@@ -57,7 +60,12 @@ fn sum_of_content(content: &[u8; 16]) -> u8
 fn sum_byte_of_row(address: u16, content: &[u8; 16]) -> u8
     ensures { result ≡ sum_byte (row_fields address ++ content.now) }
 {
-    let fields = [16, (address / 256) as u8, (address % 256) as u8, 0];
+    let fields = [
+        ROW_SIZE as u8,
+        (address / 256) as u8,
+        (address % 256) as u8,
+        DATA_TYPE,
+    ];
     0u8.wrapping_sub(sum_of(&fields).wrapping_add(sum_of_content(content)))
 }
 
@@ -98,7 +106,7 @@ fn fields_in(line: &[u8; ROW_LINE_SIZE]) -> [u8; 8]
 /// Sixteen bytes of a line from a place on.
 #[inline(always)]
 fn sixteen_in(line: &[u8; ROW_LINE_SIZE], at: usize) -> [u8; 16]
-    requires { at + 16 ≤ 44 }
+    requires { at + 16 ≤ row_line_size }
     ensures { result ≡ chunk at 16 line.now }
 {
     u8x16::from_slice(&line[at..]).to_array()
@@ -177,7 +185,8 @@ fn is_row_line(line: &[u8; ROW_LINE_SIZE], address: u16, content: &[u8; 16]) -> 
     [line[41], line[42]] == hex_of_byte(sum_byte_of_row(address, content))
 }
 
-/// The row whose line a text begins with, as it is written here, and the text after it. None says nothing of the text.
+/// The row whose line a text begins with, in the form in which one is written here, and the text after that line. None
+/// says nothing of the text.
 #[inline(always)]
 pub(crate) fn first_row(text: &[u8]) -> Option<(Row, &[u8])>
     ensures line { MatchOption result (Unit {0}) (λ r. text.now ≡ data_line r.0.address r.0.content ++ r.1.now) }

@@ -3,7 +3,7 @@ ghost use Rattle.std.specs.Prelude.{◌<◌, ◌^◌, List, length};
 ghost use Rattle.x7_mcs.specs.Record.{byte_values};
 ghost use Rattle.x7_mcs.specs.DataRecords.{DataRecord};
 ghost use Rattle.x7_mcs.specs.Flash.{after_data, after_line};
-ghost use Rattle.x7_mcs.specs.Readings.{CallComesTo, HoldsIn, after_record, flash_reading_at};
+ghost use Rattle.x7_mcs.specs.Readings.{CallComesTo, ImageHolds, after_record, flash_reading_at};
 
 use crate::fault::McsFault;
 use crate::image::{Image, put_content};
@@ -31,7 +31,7 @@ pub(crate) fn put_data(
 ) -> Result<Context, McsFault>
     requires content { length content.now < byte_values }
     requires address { address < 2 ^ 16 }
-    ensures { (xs : List DataRecord) → HoldsIn image.old xs → CallComesTo result (after_data n (flash_reading_at context xs) address content.now) image.new }
+    ensures { (xs : List DataRecord) → ImageHolds image.old xs → CallComesTo result (after_data n (flash_reading_at context xs) address content.now) image.new }
 {
     put_content(image, n, context.base as usize + address as usize, content)?;
     Ok(context)
@@ -44,7 +44,7 @@ fn put_record(
     context: Context,
     bytes: &[u8],
 ) -> Result<Context, McsFault>
-    ensures { (xs : List DataRecord) → HoldsIn image.old xs → CallComesTo result (after_record n context xs bytes.now) image.new }
+    ensures { (xs : List DataRecord) → ImageHolds image.old xs → CallComesTo result (after_record n context xs bytes.now) image.new }
 {
     match meaning_of(n, context.ended, bytes)? {
         Meaning::Start => Ok(context),
@@ -67,7 +67,7 @@ pub(crate) fn put_line(
     context: Context,
     line: &[u8],
 ) -> Result<Context, McsFault>
-    ensures { (xs : List DataRecord) → HoldsIn image.old xs → CallComesTo result (after_line n (flash_reading_at context xs) line.now) image.new }
+    ensures { (xs : List DataRecord) → ImageHolds image.old xs → CallComesTo result (after_line n (flash_reading_at context xs) line.now) image.new }
 {
     if line.len() == 0 {
         return Ok(context);

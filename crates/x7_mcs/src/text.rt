@@ -10,8 +10,8 @@ ghost use Rattle.x7_words.specs.Flash.{flash_limit};
 ghost use Rattle.x7_mcs.specs.Record.{block_size};
 ghost use Rattle.x7_mcs.specs.Text.{block_start, data_line, mcs_text, record_line, row_lines, row_size, base_line_size, row_line_size, rows_room};
 
-use crate::record::{BLOCK_SIZE, sum_byte};
-use crate::row::{ROW_LINE_SIZE, row_line};
+use crate::record::{BLOCK_SIZE, DATA_TYPE, LINEAR_BASE_TYPE, sum_byte};
+use crate::row::{ROW_LINE_SIZE, ROW_SIZE, row_line};
 use std::alloc::Global;
 use x7_text::{hex_of_byte, put};
 use x7_words::NoMemory;
@@ -33,7 +33,7 @@ fn put_digits(out: &mut Vec<u8>, bytes: &[u8])
 }
 
 /// Appends the line of a record's bytes, those of its fields and its data.
-fn put_record(out: &mut Vec<u8>, fields: &[u8], content: &[u8])
+fn put_record_line(out: &mut Vec<u8>, fields: &[u8], content: &[u8])
     requires { HasSpareRoom out.old (2 * length fields.now + 2 * length content.now + 4) }
     ensures { Appends out.old out.new (record_line (fields.now ++ content.now)) (2 * length fields.now + 2 * length content.now + 4) }
 {
@@ -53,9 +53,16 @@ fn put_block_start(out: &mut Vec<u8>, place: u32)
 {
     if place % BLOCK_SIZE == 0 {
         let block = place / BLOCK_SIZE;
-        put_record(
+        put_record_line(
             out,
-            &[2, 0, 0, 4, (block / 256) as u8, (block % 256) as u8],
+            &[
+                2,
+                0,
+                0,
+                LINEAR_BASE_TYPE,
+                (block / 256) as u8,
+                (block % 256) as u8,
+            ],
             &[],
         );
     }
@@ -63,25 +70,25 @@ fn put_block_start(out: &mut Vec<u8>, place: u32)
 
 /// Appends the data record of a row.
 #[inline(always)]
-fn put_data(out: &mut Vec<u8>, address: u16, row: &[u8])
+fn put_data_line(out: &mut Vec<u8>, address: u16, row: &[u8])
     requires room { HasSpareRoom out.old row_line_size }
     requires row { length row.now ≤ row_size }
     ensures { Appends out.old out.new (data_line address row.now) row_line_size }
 {
-    let Some(whole) = row.first_chunk::<16>() else {
+    let Some(whole) = row.first_chunk::<ROW_SIZE>() else {
         let fields = [
             row.len() as u8,
             (address / 256) as u8,
             (address % 256) as u8,
-            0,
+            DATA_TYPE,
         ];
-        put_record(out, &fields, row);
+        put_record_line(out, &fields, row);
         return;
     };
     put(out, &row_line(address, whole));
 }
 
-/// Appends the lines of a row.
+/// Appends the data record of a row, after the record 04 where a block begins.
 #[inline(always)]
 fn put_row(out: &mut Vec<u8>, place: u32, row: &[u8])
     requires room { HasSpareRoom out.old (base_line_size + row_line_size) }
@@ -90,7 +97,7 @@ fn put_row(out: &mut Vec<u8>, place: u32, row: &[u8])
     ensures { Appends out.old out.new (block_start place ++ data_line (place % block_size) row.now) (base_line_size + row_line_size) }
 {
     put_block_start(out, place);
-    put_data(out, (place % BLOCK_SIZE) as u16, row);
+    put_data_line(out, (place % BLOCK_SIZE) as u16, row);
 }
 
 /// Appends the lines of rows of 16 bytes, the first of which stands at a place where a row begins. It takes no memory.
@@ -104,15 +111,15 @@ pub fn put_rows(text: &mut Vec<u8>, place: u32, bytes: &[u8])
     let mut at = place;
     let mut rest = bytes;
     while rest.len() > 0 {
-        let (row, more) = rest.split_at(rest.len().min(16));
+        let (row, more) = rest.split_at(rest.len().min(ROW_SIZE));
         put_row(text, at, row);
         at += row.len() as u32;
         rest = more;
     }
 }
 
-/// The text of a flash's bytes: a record 04 for each block of 65,536 bytes begun,
-/// data records of 16 bytes, and a record 01.
+/// The text of a flash's bytes: a record 04 for each block of 65,536 bytes begun, data records of 16 bytes, and a
+/// record 01.
 pub fn mcs_text(alloc: Global, flash: &[u8]) -> Result<Vec<u8>, NoMemory>
     requires { length flash.now ≤ flash_limit }
     ensures text { IfOk result (λ text. text.items ≡ mcs_text flash.now) }

@@ -13,9 +13,9 @@ use Rattle.std.proofs.lemmas.List.{get_or-take, get_or-drop, get_or-map, get_or_
 use Rattle.std.proofs.lemmas.List.Elements.{Contains-get_or}
 use Rattle.std.proofs.lemmas.List.Sorted.{sorted_far, ranks_by, All-permutation, Contains-permutation, IsPermutation-map}
 use Rattle.x7_memory.specs.Plan.{PlanRow}
-use Rattle.x7_planner.specs.Content.{AreFirsts, AreGrouped, AreStarts, AreTogether, IsBegun, IsFirst, IsPlaced, content_row, content_rows}
+use Rattle.x7_planner.specs.Content.{AreFirsts, AreGrouped, AreStarts, AreTogether, IsStartBefore, IsFirst, IsPlaced, planned_row, planned_rows}
 use Rattle.x7_planner.specs.PartialStream.{same_words, with_content}
-use Rattle.x7_planner.specs.declared.content.Content.{Content}
+use Rattle.x7_planner.specs.declared.content.PlannedFrame.{PlannedFrame}
 
 -- ---- the same words
 
@@ -132,14 +132,14 @@ first_of rows words a d t f = from_first rows words a t f ∙ step_in rows words
 
 -- ---- rows of contents
 
-pub row_at : (contents : List Content) (i : ℕ) (d : PlanRow) (e : Content) → i < length contents → get_or (content_rows contents) i d ≡ content_row (get_or contents i e)
+pub row_at : (frames : List PlannedFrame) (i : ℕ) (d : PlanRow) (e : PlannedFrame) → i < length frames → get_or (planned_rows frames) i d ≡ planned_row (get_or frames i e)
 row_at [] i d e l = absurd (omega (arith, l))
-row_at (c ∷ contents) zero d e l = refl
-row_at (c ∷ contents) (suc i) d e l = row_at contents i d e (omega (arith, l))
+row_at (c ∷ frames) zero d e l = refl
+row_at (c ∷ frames) (suc i) d e l = row_at frames i d e (omega (arith, l))
 
 -- ---- the order of contents
 
-abbrev pub by_words : Content → Content → Bool
+abbrev pub by_words : PlannedFrame → PlannedFrame → Bool
 by_words x y = is_lt (slice_cmp nat_cmp x.words.now y.words.now)
 
 equal_is_same : (xs ys : List ℕ) (o : Ordering) → o ≡ slice_cmp nat_cmp xs ys → is_eq o ≡ same_words xs ys
@@ -156,7 +156,7 @@ tied xs ys f g =
     by Greater Equal f g e = absurd (cc)
     by Greater Greater f g e = absurd (cc)
 
-ties_same : (x y : Content) → ties by_words x y ≡ same_words y.words.now x.words.now
+ties_same : (x y : PlannedFrame) → ties by_words x y ≡ same_words y.words.now x.words.now
 ties_same x y =
     by (slice_cmp nat_cmp x.words.now y.words.now) (slice_cmp nat_cmp y.words.now x.words.now) (nat_list_cmp_total.antisymm x.words.now y.words.now)
     ∙ equal_is_same y.words.now x.words.now (slice_cmp nat_cmp y.words.now x.words.now) refl
@@ -172,52 +172,52 @@ ties_same x y =
     by Greater Equal e = absurd (cc)
     by Greater Greater e = absurd (cc)
 
-content_is_filter : (c : Content) (contents : List Content) → with_content c.words.now (content_rows contents) ≡ content_rows (filter (ties by_words c) contents)
+content_is_filter : (c : PlannedFrame) (frames : List PlannedFrame) → with_content c.words.now (planned_rows frames) ≡ planned_rows (filter (ties by_words c) frames)
 content_is_filter c [] = refl
-content_is_filter c (x ∷ contents) = rw (ties_same c x) (by (same_words x.words.now c.words.now) (content_is_filter c contents))
+content_is_filter c (x ∷ frames) = rw (ties_same c x) (by (same_words x.words.now c.words.now) (content_is_filter c frames))
   where
-    by : (b : Bool) → with_content c.words.now (content_rows contents) ≡ content_rows (filter (ties by_words c) contents)
-        → (if b then content_row x ∷ with_content c.words.now (content_rows contents) else with_content c.words.now (content_rows contents)) ≡ content_rows (cond b (x ∷ filter (ties by_words c) contents) (filter (ties by_words c) contents))
-    by true ih = ap (λ t. content_row x ∷ t) ih
+    by : (b : Bool) → with_content c.words.now (planned_rows frames) ≡ planned_rows (filter (ties by_words c) frames)
+        → (if b then planned_row x ∷ with_content c.words.now (planned_rows frames) else with_content c.words.now (planned_rows frames)) ≡ planned_rows (cond b (x ∷ filter (ties by_words c) frames) (filter (ties by_words c) frames))
+    by true ih = ap (λ t. planned_row x ∷ t) ih
     by false ih = ih
 
 pub words_order : IsStrictWeakOrder by_words
-words_order = ranks_by nat_list_cmp_total (λ (x : Content). x.words.now)
+words_order = ranks_by nat_list_cmp_total (λ (x : PlannedFrame). x.words.now)
 
-sorted_together : (contents : List Content) → IsSortedBy by_words contents → AreTogether (content_rows contents)
+sorted_together : (frames : List PlannedFrame) → IsSortedBy by_words frames → AreTogether (planned_rows frames)
 sorted_together [] s i k j d l m h e = absurd (omega (arith, h))
-sorted_together (c ∷ contents) s i k j d l m h e =
-    let all : List Content = c ∷ contents in
-    let inside : j < length all = omega (arith, h, length-map all content_row) in
-    let first : get_or (content_rows all) i d ≡ content_row (get_or all i c) = row_at all i d c (omega (arith, l, m, inside)) in
-    let middle : get_or (content_rows all) k d ≡ content_row (get_or all k c) = row_at all k d c (omega (arith, m, inside)) in
-    let last : get_or (content_rows all) j d ≡ content_row (get_or all j c) = row_at all j d c inside in
+sorted_together (c ∷ frames) s i k j d l m h e =
+    let all : List PlannedFrame = c ∷ frames in
+    let inside : j < length all = omega (arith, h, length-map all planned_row) in
+    let first : get_or (planned_rows all) i d ≡ planned_row (get_or all i c) = row_at all i d c (omega (arith, l, m, inside)) in
+    let middle : get_or (planned_rows all) k d ≡ planned_row (get_or all k c) = row_at all k d c (omega (arith, m, inside)) in
+    let last : get_or (planned_rows all) j d ≡ planned_row (get_or all j c) = row_at all j d c inside in
     let same : (get_or all i c).words.now ≡ (get_or all j c).words.now = ap (λ (r : PlanRow). r.words) (sym first) ∙ e ∙ ap (λ (r : PlanRow). r.words) last in
     let up : by_words (get_or all k c) (get_or all i c) ≡ false = sorted_far by_words words_order all s i k c l (omega (arith, m, inside)) in
     let over : by_words (get_or all j c) (get_or all k c) ≡ false = sorted_far by_words words_order all s k j c m inside in
     let back : is_lt (slice_cmp nat_cmp (get_or all i c).words.now (get_or all k c).words.now) ≡ false = ap (λ t. is_lt (slice_cmp nat_cmp t (get_or all k c).words.now)) same ∙ over in
     ap (λ (r : PlanRow). r.words) middle ∙ tied (get_or all k c).words.now (get_or all i c).words.now up back ∙ ap (λ (r : PlanRow). r.words) (sym first)
 
-row_there : (contents : List Content) (i : ℕ) → ((k : ℕ) (d : Content) → k < length contents → (get_or contents k d).row ≡ k) → i < length contents → Contains (map (λ (c : Content). c.row) contents) i
+row_there : (frames : List PlannedFrame) (i : ℕ) → ((k : ℕ) (d : PlannedFrame) → k < length frames → (get_or frames k d).row ≡ k) → i < length frames → Contains (map (λ (c : PlannedFrame). c.row) frames) i
 row_there [] i p l = absurd (omega (arith, l))
-row_there (c ∷ contents) i p l =
-    subst (Contains (map (λ (c : Content). c.row) (c ∷ contents))) (get_or-map (λ (c : Content). c.row) (c ∷ contents) i c 0 l ∙ p i c l)
-    (Contains-get_or (map (λ (c : Content). c.row) (c ∷ contents)) i 0 (omega (arith, l, length-map (c ∷ contents) (λ (c : Content). c.row))))
+row_there (c ∷ frames) i p l =
+    subst (Contains (map (λ (c : PlannedFrame). c.row) (c ∷ frames))) (get_or-map (λ (c : PlannedFrame). c.row) (c ∷ frames) i c 0 l ∙ p i c l)
+    (Contains-get_or (map (λ (c : PlannedFrame). c.row) (c ∷ frames)) i 0 (omega (arith, l, length-map (c ∷ frames) (λ (c : PlannedFrame). c.row))))
 
-pub grouped_is : (rows : List PlanRow) (old new : List Content) → content_rows old ≡ rows → ((k : ℕ) (d : Content) → k < length old → (get_or old k d).row ≡ k) → IsPermutation old new → IsSortedBy by_words new → IsStableBy by_words old new
+pub grouped_is : (rows : List PlanRow) (old new : List PlannedFrame) → planned_rows old ≡ rows → ((k : ℕ) (d : PlannedFrame) → k < length old → (get_or old k d).row ≡ k) → IsPermutation old new → IsSortedBy by_words new → IsStableBy by_words old new
     → AreGrouped rows new
 grouped_is rows old new e p m s t =
-    let long : length rows ≡ length old = ap length (sym e) ∙ length-map old content_row in
+    let long : length rows ≡ length old = ap length (sym e) ∙ length-map old planned_row in
     record {
       together = sorted_together new s;
-      same = (λ k d l. content_is_filter (get_or new k d) new ∙ ap content_rows (t (get_or new k d)) ∙ sym (content_is_filter (get_or new k d) old) ∙ ap (with_content (get_or new k d).words.now) e);
+      same = (λ k d l. content_is_filter (get_or new k d) new ∙ ap planned_rows (t (get_or new k d)) ∙ sym (content_is_filter (get_or new k d) old) ∙ ap (with_content (get_or new k d).words.now) e);
       placed = All-permutation (IsPlaced rows) old new m (λ k d l. (omega (arith, p k d l, l, long), (λ f. ap (λ (n : ℕ). get_or rows n f) (p k d l) ∙ ap (λ t. get_or t k f) (sym e) ∙ row_at old k f d l)));
-      each = (λ i l. Contains-permutation (map (λ (c : Content). c.row) old) (map (λ (c : Content). c.row) new) i (IsPermutation-map (λ (c : Content). c.row) old new m) (row_there old i p (omega (arith, l, long))));
+      each = (λ i l. Contains-permutation (map (λ (c : PlannedFrame). c.row) old) (map (λ (c : PlannedFrame). c.row) new) i (IsPermutation-map (λ (c : PlannedFrame). c.row) old new m) (row_there old i p (omega (arith, l, long))));
     }
 
 -- ---- where contents begin
 
-pub begun_same : (rows : List PlanRow) (start k : ℕ) (d : PlanRow) → IsBegun rows start k → k < length rows → (get_or rows k d).words ≡ (get_or rows start d).words → IsFirst rows (get_or rows k d).words start
+pub begun_same : (rows : List PlanRow) (start k : ℕ) (d : PlanRow) → IsStartBefore rows start k → k < length rows → (get_or rows k d).words ≡ (get_or rows start d).words → IsFirst rows (get_or rows k d).words start
 begun_same rows start zero d b l e = record {
   inside = omega (arith, l, b.none refl);
   has = (λ f. ap (λ (r : PlanRow). r.words) (get_or_default rows start f d (omega (arith, l, b.none refl))) ∙ sym e);
@@ -227,30 +227,30 @@ begun_same rows start (suc k) d b l e =
     let f = b.first d (omega arith) in
     subst (λ t. IsFirst rows t start) (sym (f.has d) ∙ sym e) f
 
-pub begun_new : (rows : List PlanRow) (start k : ℕ) (d : PlanRow) → IsBegun rows start k → k < length rows → (get_or rows k d).words ≢ (get_or rows start d).words → IsFirst rows (get_or rows k d).words k
+pub begun_new : (rows : List PlanRow) (start k : ℕ) (d : PlanRow) → IsStartBefore rows start k → k < length rows → (get_or rows k d).words ≢ (get_or rows start d).words → IsFirst rows (get_or rows k d).words k
 begun_new rows start k d b l n = record {
   inside = l;
   has = (λ f. ap (λ (r : PlanRow). r.words) (get_or_default rows k f d l));
   before = (λ f h e. let g = b.first f h in n (sym e ∙ sym (g.has d)));
 }
 
-pub start_same : (contents : List Content) (start k : ℕ) (e : Content) → IsBegun (content_rows contents) start k → k < length contents → same_words (get_or contents k e).words.now (get_or contents start e).words.now ≡ true
-    → (d : PlanRow) → IsFirst (content_rows contents) (get_or (content_rows contents) k d).words start
-start_same contents start k e b l t d =
-    begun_same (content_rows contents) start k d b (omega (arith, l, length-map contents content_row))
-    (ap (λ (r : PlanRow). r.words) (row_at contents k d e l) ∙ same_words_true (get_or contents k e).words.now (get_or contents start e).words.now t
-    ∙ ap (λ (r : PlanRow). r.words) (sym (row_at contents start d e (let h = b.no_later in omega (arith, h, l)))))
+pub start_same : (frames : List PlannedFrame) (start k : ℕ) (e : PlannedFrame) → IsStartBefore (planned_rows frames) start k → k < length frames → same_words (get_or frames k e).words.now (get_or frames start e).words.now ≡ true
+    → (d : PlanRow) → IsFirst (planned_rows frames) (get_or (planned_rows frames) k d).words start
+start_same frames start k e b l t d =
+    begun_same (planned_rows frames) start k d b (omega (arith, l, length-map frames planned_row))
+    (ap (λ (r : PlanRow). r.words) (row_at frames k d e l) ∙ same_words_true (get_or frames k e).words.now (get_or frames start e).words.now t
+    ∙ ap (λ (r : PlanRow). r.words) (sym (row_at frames start d e (let h = b.no_later in omega (arith, h, l)))))
 
-pub start_new : (contents : List Content) (start k : ℕ) (e : Content) → IsBegun (content_rows contents) start k → k < length contents → same_words (get_or contents k e).words.now (get_or contents start e).words.now ≡ false
-    → (d : PlanRow) → IsFirst (content_rows contents) (get_or (content_rows contents) k d).words k
-start_new contents start k e b l t d =
-    begun_new (content_rows contents) start k d b (omega (arith, l, length-map contents content_row)) (λ s.
-    same_words_false (get_or contents k e).words.now (get_or contents start e).words.now t
-    (ap (λ (r : PlanRow). r.words) (sym (row_at contents k d e l)) ∙ s ∙ ap (λ (r : PlanRow). r.words) (row_at contents start d e (let h = b.no_later in omega (arith, h, l)))))
+pub start_new : (frames : List PlannedFrame) (start k : ℕ) (e : PlannedFrame) → IsStartBefore (planned_rows frames) start k → k < length frames → same_words (get_or frames k e).words.now (get_or frames start e).words.now ≡ false
+    → (d : PlanRow) → IsFirst (planned_rows frames) (get_or (planned_rows frames) k d).words k
+start_new frames start k e b l t d =
+    begun_new (planned_rows frames) start k d b (omega (arith, l, length-map frames planned_row)) (λ s.
+    same_words_false (get_or frames k e).words.now (get_or frames start e).words.now t
+    (ap (λ (r : PlanRow). r.words) (sym (row_at frames k d e l)) ∙ s ∙ ap (λ (r : PlanRow). r.words) (row_at frames start d e (let h = b.no_later in omega (arith, h, l)))))
 
 -- places up to k know where their content begins
 pub record FirstsUpTo (rows : List PlanRow) (firsts : List ℕ) (start k : ℕ) : Type 0 where
-  pub begun : IsBegun rows start k
+  pub begun : IsStartBefore rows start k
   pub count : length firsts ≡ k
   pub each : (j : ℕ) (d : PlanRow) → j < k → IsFirst rows (get_or rows j d).words (get_or firsts j 0)
 
@@ -303,53 +303,53 @@ place_other rows words firsts a k d t m f l n e =
     n (same_first rows words (get_or firsts k 0) a t (subst (λ (ws : List ℕ). IsFirst rows ws (get_or firsts k 0)) e (m.each k d l)) f)
 
 -- places up to k are marked
-pub record StartsUpTo (rows : List PlanRow) (contents : List Content) (starts : List ℕ) (k : ℕ) : Type 0 where
-  pub done : (j : ℕ) (d : Content) (e : PlanRow) → j < k → IsFirst (content_rows contents) (get_or rows (get_or contents j d).row e).words (get_or starts (get_or contents j d).row 0)
+pub record StartsUpTo (rows : List PlanRow) (frames : List PlannedFrame) (starts : List ℕ) (k : ℕ) : Type 0 where
+  pub done : (j : ℕ) (d : PlannedFrame) (e : PlanRow) → j < k → IsFirst (planned_rows frames) (get_or rows (get_or frames j d).row e).words (get_or starts (get_or frames j d).row 0)
 
-pub starts_more : (rows : List PlanRow) (contents : List Content) (starts : List ℕ) (k s : ℕ) (c : Content) → AreGrouped rows contents → StartsUpTo rows contents starts k → length starts ≡ length rows → k < length contents
-    → c ≡ get_or contents k c → ((d : PlanRow) → IsFirst (content_rows contents) (get_or (content_rows contents) k d).words s) → StartsUpTo rows contents (set starts c.row s) (k + 1)
-starts_more rows contents starts k s c g u n l r f = record {
+pub starts_more : (rows : List PlanRow) (frames : List PlannedFrame) (starts : List ℕ) (k s : ℕ) (c : PlannedFrame) → AreGrouped rows frames → StartsUpTo rows frames starts k → length starts ≡ length rows → k < length frames
+    → c ≡ get_or frames k c → ((d : PlanRow) → IsFirst (planned_rows frames) (get_or (planned_rows frames) k d).words s) → StartsUpTo rows frames (set starts c.row s) (k + 1)
+starts_more rows frames starts k s c g u n l r f = record {
   done = (λ j d e h. at j d e h (cases_eq j k));
 }
   where
-    here : (e : PlanRow) → IsFirst (content_rows contents) (get_or rows c.row e).words (get_or (set starts c.row s) c.row 0)
+    here : (e : PlanRow) → IsFirst (planned_rows frames) (get_or rows c.row e).words (get_or (set starts c.row s) c.row 0)
     here e =
         let placed : IsPlaced rows c = subst (IsPlaced rows) (sym r) (g.placed k c l) in
-        let words : (get_or (content_rows contents) k e).words ≡ (get_or rows c.row e).words = ap (λ (r : PlanRow). r.words) (row_at contents k e c l ∙ ap content_row (sym r) ∙ sym (placed.1 e)) in
-        rw (get_or-set_same starts c.row s 0 (omega (arith, placed.0, n))) (subst (λ t. IsFirst (content_rows contents) t s) words (f e))
+        let words : (get_or (planned_rows frames) k e).words ≡ (get_or rows c.row e).words = ap (λ (r : PlanRow). r.words) (row_at frames k e c l ∙ ap planned_row (sym r) ∙ sym (placed.1 e)) in
+        rw (get_or-set_same starts c.row s 0 (omega (arith, placed.0, n))) (subst (λ t. IsFirst (planned_rows frames) t s) words (f e))
 
-    at : (j : ℕ) (d : Content) (e : PlanRow) → j < k + 1 → (j ≡ k) ⊎ (j ≢ k) → IsFirst (content_rows contents) (get_or rows (get_or contents j d).row e).words (get_or (set starts c.row s) (get_or contents j d).row 0)
+    at : (j : ℕ) (d : PlannedFrame) (e : PlanRow) → j < k + 1 → (j ≡ k) ⊎ (j ≢ k) → IsFirst (planned_rows frames) (get_or rows (get_or frames j d).row e).words (get_or (set starts c.row s) (get_or frames j d).row 0)
     at j d e h (inl same) =
-        subst (λ (x : Content). IsFirst (content_rows contents) (get_or rows x.row e).words (get_or (set starts c.row s) x.row 0)) (r ∙ get_or_default contents k c d l ∙ ap (λ (i : ℕ). get_or contents i d) (sym same)) (here e)
-    at j d e h (inr other) = elim (cases_eq (get_or contents j d).row c.row) [
-      | inl same ↦ subst (λ (x : ℕ). IsFirst (content_rows contents) (get_or rows x e).words (get_or (set starts c.row s) x 0)) (sym same) (here e)
-      | inr differs ↦ rw (get_or-set_other starts c.row (get_or contents j d).row s 0 differs) (u.done j d e (omega (arith, h, other)))
+        subst (λ (x : PlannedFrame). IsFirst (planned_rows frames) (get_or rows x.row e).words (get_or (set starts c.row s) x.row 0)) (r ∙ get_or_default frames k c d l ∙ ap (λ (i : ℕ). get_or frames i d) (sym same)) (here e)
+    at j d e h (inr other) = elim (cases_eq (get_or frames j d).row c.row) [
+      | inl same ↦ subst (λ (x : ℕ). IsFirst (planned_rows frames) (get_or rows x e).words (get_or (set starts c.row s) x 0)) (sym same) (here e)
+      | inr differs ↦ rw (get_or-set_other starts c.row (get_or frames j d).row s 0 differs) (u.done j d e (omega (arith, h, other)))
     ]
 
-pub starts_step : (rows : List PlanRow) (contents : List Content) (starts firsts : List ℕ) (k x : ℕ) (e : Content) → AreGrouped rows contents → AreFirsts (content_rows contents) firsts → StartsUpTo rows contents starts k → length starts ≡ length rows → k < length contents
-    → StartsUpTo rows contents (set starts (get_or contents k e).row (get_or firsts k x)) (k + 1)
-starts_step rows contents starts firsts k x e g m u n l =
-    let inside : k < length (content_rows contents) = omega (arith, l, length-map contents content_row) in
+pub starts_step : (rows : List PlanRow) (frames : List PlannedFrame) (starts firsts : List ℕ) (k x : ℕ) (e : PlannedFrame) → AreGrouped rows frames → AreFirsts (planned_rows frames) firsts → StartsUpTo rows frames starts k → length starts ≡ length rows → k < length frames
+    → StartsUpTo rows frames (set starts (get_or frames k e).row (get_or firsts k x)) (k + 1)
+starts_step rows frames starts firsts k x e g m u n l =
+    let inside : k < length (planned_rows frames) = omega (arith, l, length-map frames planned_row) in
     let known : get_or firsts k 0 ≡ get_or firsts k x = get_or_default firsts k 0 x (omega (arith, inside, m.count)) in
-    starts_more rows contents starts k (get_or firsts k x) (get_or contents k e) g u n l (get_or_default contents k e (get_or contents k e) l)
-    (λ d. subst (λ (i : ℕ). IsFirst (content_rows contents) (get_or (content_rows contents) k d).words i) known (m.each k d inside))
+    starts_more rows frames starts k (get_or firsts k x) (get_or frames k e) g u n l (get_or_default frames k e (get_or frames k e) l)
+    (λ d. subst (λ (i : ℕ). IsFirst (planned_rows frames) (get_or (planned_rows frames) k d).words i) known (m.each k d inside))
 
-pub starts_all : (rows : List PlanRow) (contents : List Content) (starts : List ℕ) (k : ℕ) → AreGrouped rows contents → StartsUpTo rows contents starts k → length starts ≡ length rows → length contents ≤ k → AreStarts rows (content_rows contents) starts
-starts_all rows contents starts k g u n l = record {
+pub starts_all : (rows : List PlanRow) (frames : List PlannedFrame) (starts : List ℕ) (k : ℕ) → AreGrouped rows frames → StartsUpTo rows frames starts k → length starts ≡ length rows → length frames ≤ k → AreStarts rows (planned_rows frames) starts
+starts_all rows frames starts k g u n l = record {
   count = n;
   each = (λ i d h. at i d (g.each i h));
 }
   where
-    some : (j : ℕ) → j < length contents → Content
-    some j h = first contents h
+    some : (j : ℕ) → j < length frames → PlannedFrame
+    some j h = first frames h
       where
-        first : (cs : List Content) → j < length cs → Content
+        first : (cs : List PlannedFrame) → j < length cs → PlannedFrame
         first [] h = absurd (omega (arith, h))
         first (c ∷ cs) h = c
 
-    at : (i : ℕ) (d : PlanRow) → Contains (map (λ (c : Content). c.row) contents) i → IsFirst (content_rows contents) (get_or rows i d).words (get_or starts i 0)
+    at : (i : ℕ) (d : PlanRow) → Contains (map (λ (c : PlannedFrame). c.row) frames) i → IsFirst (planned_rows frames) (get_or rows i d).words (get_or starts i 0)
     at i d (j, low, e) =
-        let inside : j < length contents = omega (arith, low, length-map contents (λ (c : Content). c.row)) in
-        let c : Content = some j inside in
-        let is : (get_or contents j c).row ≡ i = sym (get_or-map (λ (c : Content). c.row) contents j c i inside) ∙ e in
-        subst (λ (x : ℕ). IsFirst (content_rows contents) (get_or rows x d).words (get_or starts x 0)) is (u.done j c d (omega (arith, inside, l)))
+        let inside : j < length frames = omega (arith, low, length-map frames (λ (c : PlannedFrame). c.row)) in
+        let c : PlannedFrame = some j inside in
+        let is : (get_or frames j c).row ≡ i = sym (get_or-map (λ (c : PlannedFrame). c.row) frames j c i inside) ∙ e in
+        subst (λ (x : ℕ). IsFirst (planned_rows frames) (get_or rows x d).words (get_or starts x 0)) is (u.done j c d (omega (arith, inside, l)))

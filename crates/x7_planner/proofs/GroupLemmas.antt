@@ -10,85 +10,85 @@ use Rattle.x7_part.specs.Part.{PartData, frame_words}
 use Rattle.x7_regs.specs.declared.command.Command.TheVariants.{Mfw, Wcfg}
 use Rattle.x7_regs.specs.declared.register.Reg.TheVariants.{Far}
 use Rattle.x7_packets.specs.PacketWords.{command, frame_data, write_one}
-use Rattle.x7_planner.specs.Content.{AreFirsts, AreGrouped, AreStarts, AreTogether, IsFirst, content_row, content_rows}
+use Rattle.x7_planner.specs.Content.{AreFirsts, AreGrouped, AreStarts, AreTogether, IsFirst, planned_row, planned_rows}
 use Rattle.x7_planner.specs.PartialStream.{Copies, copy_words, groups_led, is_shared, leads_group, others, section_words, with_content}
 use Rattle.x7_planner.specs.Writer.{bytes_of_words}
-use Rattle.x7_planner.specs.declared.content.Content.{Content}
+use Rattle.x7_planner.specs.declared.content.PlannedFrame.{PlannedFrame}
 use Rattle.x7_planner.proofs.ContentLemmas.{content_append, content_same, first_of, is_group, no_group, no_group_short, none_before, place_other, place_same, row_at, up_to}
 use Rattle.x7_planner.proofs.SlotLemmas.{written_on}
 
 -- ---- contents of a plan's rows
 
-content_grown : (rows : List PlanRow) (contents : List Content) (n : ℕ) (c : Content) (d : PlanRow) → content_rows contents ≡ take n rows → length contents ≡ n → ((i : ℕ) (e : Content) → i < length contents → (get_or contents i e).row ≡ i)
-    → n < length rows → get_or rows n d ≡ content_row c → c.row ≡ n
-    → (content_rows (contents ++ c ∷ []) ≡ take (n + 1) rows) × (length (contents ++ c ∷ []) ≡ n + 1) × ((i : ℕ) (e : Content) → i < length (contents ++ c ∷ []) → (get_or (contents ++ c ∷ []) i e).row ≡ i)
-content_grown rows contents n c d e l p h at r = (
-  map-append content_row contents (c ∷ []) ∙ ap (λ t. t ++ content_row c ∷ []) e ∙ ap (λ (x : PlanRow). take n rows ++ x ∷ []) (sym at) ∙ sym (take_more rows n d h),
-  omega (arith, length_push contents c, l),
-  (λ i f m. by i f (cases_less i (omega (arith, m, length_push contents c, l)))),
+content_grown : (rows : List PlanRow) (frames : List PlannedFrame) (n : ℕ) (c : PlannedFrame) (d : PlanRow) → planned_rows frames ≡ take n rows → length frames ≡ n → ((i : ℕ) (e : PlannedFrame) → i < length frames → (get_or frames i e).row ≡ i)
+    → n < length rows → get_or rows n d ≡ planned_row c → c.row ≡ n
+    → (planned_rows (frames ++ c ∷ []) ≡ take (n + 1) rows) × (length (frames ++ c ∷ []) ≡ n + 1) × ((i : ℕ) (e : PlannedFrame) → i < length (frames ++ c ∷ []) → (get_or (frames ++ c ∷ []) i e).row ≡ i)
+content_grown rows frames n c d e l p h at r = (
+  map-append planned_row frames (c ∷ []) ∙ ap (λ t. t ++ planned_row c ∷ []) e ∙ ap (λ (x : PlanRow). take n rows ++ x ∷ []) (sym at) ∙ sym (take_more rows n d h),
+  omega (arith, length_push frames c, l),
+  (λ i f m. by i f (cases_less i (omega (arith, m, length_push frames c, l)))),
 )
   where
     cases_less : (i : ℕ) → i < n + 1 → (i < n) ⊎ (i ≡ n)
     cases_less i m = elim (cases_eq i n) [ inl e ↦ inr e | inr x ↦ inl (omega (arith, m, x)) ]
 
-    by : (i : ℕ) (f : Content) → (i < n) ⊎ (i ≡ n) → (get_or (contents ++ c ∷ []) i f).row ≡ i
-    by i f (inl m) = ap (λ (x : Content). x.row) (get_or_append_left contents (c ∷ []) f i (omega (arith, m, l))) ∙ p i f (omega (arith, m, l))
-    by i f (inr m) = ap (λ (x : Content). x.row) (get_or_push contents c f i (l ∙ sym m)) ∙ r ∙ sym m
+    by : (i : ℕ) (f : PlannedFrame) → (i < n) ⊎ (i ≡ n) → (get_or (frames ++ c ∷ []) i f).row ≡ i
+    by i f (inl m) = ap (λ (x : PlannedFrame). x.row) (get_or_append_left frames (c ∷ []) f i (omega (arith, m, l))) ∙ p i f (omega (arith, m, l))
+    by i f (inr m) = ap (λ (x : PlannedFrame). x.row) (get_or_push frames c f i (l ∙ sym m)) ∙ r ∙ sym m
 
-pub content_pushed : (rows : List PlanRow) (old new : List Content) (n : ℕ) (c : Content) (d : PlanRow) → content_rows old ≡ take n rows → length old ≡ n → ((i : ℕ) (e : Content) → i < length old → (get_or old i e).row ≡ i)
-    → n < length rows → get_or rows n d ≡ content_row c → c.row ≡ n → new ≡ old ++ c ∷ []
-    → (content_rows new ≡ take (n + 1) rows) × (length new ≡ n + 1) × ((i : ℕ) (e : Content) → i < length new → (get_or new i e).row ≡ i)
+pub content_pushed : (rows : List PlanRow) (old new : List PlannedFrame) (n : ℕ) (c : PlannedFrame) (d : PlanRow) → planned_rows old ≡ take n rows → length old ≡ n → ((i : ℕ) (e : PlannedFrame) → i < length old → (get_or old i e).row ≡ i)
+    → n < length rows → get_or rows n d ≡ planned_row c → c.row ≡ n → new ≡ old ++ c ∷ []
+    → (planned_rows new ≡ take (n + 1) rows) × (length new ≡ n + 1) × ((i : ℕ) (e : PlannedFrame) → i < length new → (get_or new i e).row ≡ i)
 content_pushed rows old new n c d e l p h at r m =
-    subst (λ (t : List Content). (content_rows t ≡ take (n + 1) rows) × (length t ≡ n + 1) × ((i : ℕ) (e : Content) → i < length t → (get_or t i e).row ≡ i)) (sym m) (content_grown rows old n c d e l p h at r)
+    subst (λ (t : List PlannedFrame). (planned_rows t ≡ take (n + 1) rows) × (length t ≡ n + 1) × ((i : ℕ) (e : PlannedFrame) → i < length t → (get_or t i e).row ≡ i)) (sym m) (content_grown rows old n c d e l p h at r)
 
 -- ---- whether a content stands at three addresses or more
 
-pub short_group : (contents : List Content) (words : List ℕ) (a : ℕ) → AreTogether (content_rows contents) → IsFirst (content_rows contents) words a → length contents - a < 3 → false ≡ nat_le 3 (length (with_content words (content_rows contents)))
-short_group contents words a t f l = sym (no_group_short (content_rows contents) words a t f (omega (arith, l, length-map contents content_row)))
+pub short_group : (frames : List PlannedFrame) (words : List ℕ) (a : ℕ) → AreTogether (planned_rows frames) → IsFirst (planned_rows frames) words a → length frames - a < 3 → false ≡ nat_le 3 (length (with_content words (planned_rows frames)))
+short_group frames words a t f l = sym (no_group_short (planned_rows frames) words a t f (omega (arith, l, length-map frames planned_row)))
 
-pub group_by : (contents : List Content) (words firsts : List ℕ) (a x : ℕ) → AreTogether (content_rows contents) → AreFirsts (content_rows contents) firsts → IsFirst (content_rows contents) words a → a + 2 < length contents
-    → (get_or firsts (a + 2) x == a) ≡ nat_le 3 (length (with_content words (content_rows contents)))
-group_by contents words firsts a x t m f l = by (get_or firsts (a + 2) 0 == a) refl
+pub group_by : (frames : List PlannedFrame) (words firsts : List ℕ) (a x : ℕ) → AreTogether (planned_rows frames) → AreFirsts (planned_rows frames) firsts → IsFirst (planned_rows frames) words a → a + 2 < length frames
+    → (get_or firsts (a + 2) x == a) ≡ nat_le 3 (length (with_content words (planned_rows frames)))
+group_by frames words firsts a x t m f l = by (get_or firsts (a + 2) 0 == a) refl
   where
-    inside : a + 2 < length (content_rows contents)
-    inside = omega (arith, l, length-map contents content_row)
+    inside : a + 2 < length (planned_rows frames)
+    inside = omega (arith, l, length-map frames planned_row)
 
     known : get_or firsts (a + 2) x ≡ get_or firsts (a + 2) 0
     known = get_or_default firsts (a + 2) x 0 (omega (arith, inside, m.count))
 
-    by : (b : Bool) → (get_or firsts (a + 2) 0 == a) ≡ b → (get_or firsts (a + 2) x == a) ≡ nat_le 3 (length (with_content words (content_rows contents)))
+    by : (b : Bool) → (get_or firsts (a + 2) 0 == a) ≡ b → (get_or firsts (a + 2) x == a) ≡ nat_le 3 (length (with_content words (planned_rows frames)))
     by true e =
         let d : PlanRow = record { far = 0; words = [] } in
-        ap (λ (i : ℕ). i == a) known ∙ e ∙ sym (is_group (content_rows contents) words a d t f inside (place_same (content_rows contents) words firsts a (a + 2) d m f inside (eqb-true (get_or firsts (a + 2) 0) a e)))
+        ap (λ (i : ℕ). i == a) known ∙ e ∙ sym (is_group (planned_rows frames) words a d t f inside (place_same (planned_rows frames) words firsts a (a + 2) d m f inside (eqb-true (get_or firsts (a + 2) 0) a e)))
     by false e =
         ap (λ (i : ℕ). i == a) known ∙ e
-        ∙ sym (no_group (content_rows contents) words a t f inside (λ d. place_other (content_rows contents) words firsts a (a + 2) d t m f inside (λ h. false≢true (sym e ∙ eq-eqb (get_or firsts (a + 2) 0) a h))))
+        ∙ sym (no_group (planned_rows frames) words a t f inside (λ d. place_other (planned_rows frames) words firsts a (a + 2) d t m f inside (λ h. false≢true (sym e ∙ eq-eqb (get_or firsts (a + 2) 0) a h))))
 
 -- a content's first address
-pub first_far : (contents : List Content) (words : List ℕ) (a : ℕ) (e : Content) → AreTogether (content_rows contents) → IsFirst (content_rows contents) words a → get_or (planned_addresses (with_content words (content_rows contents))) 0 0 ≡ (get_or contents a e).far
-first_far contents words a e t f =
-    let l : a < length contents = (let i = f.inside in omega (arith, i, length-map contents content_row)) in
-    ap (λ (rows : List PlanRow). get_or (planned_addresses rows) 0 0) (first_of (content_rows contents) words a (content_row e) t f) ∙ ap (λ (r : PlanRow). r.far) (row_at contents a (content_row e) e l)
+pub first_far : (frames : List PlannedFrame) (words : List ℕ) (a : ℕ) (e : PlannedFrame) → AreTogether (planned_rows frames) → IsFirst (planned_rows frames) words a → get_or (planned_addresses (with_content words (planned_rows frames))) 0 0 ≡ (get_or frames a e).far
+first_far frames words a e t f =
+    let l : a < length frames = (let i = f.inside in omega (arith, i, length-map frames planned_row)) in
+    ap (λ (rows : List PlanRow). get_or (planned_addresses rows) 0 0) (first_of (planned_rows frames) words a (planned_row e) t f) ∙ ap (λ (r : PlanRow). r.far) (row_at frames a (planned_row e) e l)
 
-pub leads_by : (contents : List Content) (words : List ℕ) (a far : ℕ) (e : Content) (b : Bool) → AreTogether (content_rows contents) → IsFirst (content_rows contents) words a → b ≡ nat_le 3 (length (with_content words (content_rows contents))) → b ≡ true
-    → ((get_or contents a e).far == far) ≡ (nat_le 3 (length (with_content words (content_rows contents))) && (get_or (planned_addresses (with_content words (content_rows contents))) 0 0 == far))
-leads_by contents words a far e b t f n y = rw (sym n ∙ y) (ap (λ (x : ℕ). x == far) (sym (first_far contents words a e t f)))
+pub leads_by : (frames : List PlannedFrame) (words : List ℕ) (a far : ℕ) (e : PlannedFrame) (b : Bool) → AreTogether (planned_rows frames) → IsFirst (planned_rows frames) words a → b ≡ nat_le 3 (length (with_content words (planned_rows frames))) → b ≡ true
+    → ((get_or frames a e).far == far) ≡ (nat_le 3 (length (with_content words (planned_rows frames))) && (get_or (planned_addresses (with_content words (planned_rows frames))) 0 0 == far))
+leads_by frames words a far e b t f n y = rw (sym n ∙ y) (ap (λ (x : ℕ). x == far) (sym (first_far frames words a e t f)))
 
 -- ---- a row's content
 
-pub first_at : (rows : List PlanRow) (contents : List Content) (starts : List ℕ) (i : ℕ) (d : PlanRow) (e : ℕ) (r : PlanRow) → AreStarts rows (content_rows contents) starts → i < length rows → get_or rows i d ≡ r → IsFirst (content_rows contents) r.words (get_or starts i e)
-first_at rows contents starts i d e r s l at =
-    subst (λ (x : ℕ). IsFirst (content_rows contents) r.words x) (get_or_default starts i 0 e (let n = s.count in omega (arith, l, n))) (subst (λ (x : PlanRow). IsFirst (content_rows contents) x.words (get_or starts i 0)) at (s.each i d l))
+pub first_at : (rows : List PlanRow) (frames : List PlannedFrame) (starts : List ℕ) (i : ℕ) (d : PlanRow) (e : ℕ) (r : PlanRow) → AreStarts rows (planned_rows frames) starts → i < length rows → get_or rows i d ≡ r → IsFirst (planned_rows frames) r.words (get_or starts i e)
+first_at rows frames starts i d e r s l at =
+    subst (λ (x : ℕ). IsFirst (planned_rows frames) r.words x) (get_or_default starts i 0 e (let n = s.count in omega (arith, l, n))) (subst (λ (x : PlanRow). IsFirst (planned_rows frames) x.words (get_or starts i 0)) at (s.each i d l))
 
-pub inside_at : (contents : List Content) (words : List ℕ) (a : ℕ) → IsFirst (content_rows contents) words a → a < length contents
-inside_at contents words a f = let i = f.inside in omega (arith, i, length-map contents content_row)
+pub inside_at : (frames : List PlannedFrame) (words : List ℕ) (a : ℕ) → IsFirst (planned_rows frames) words a → a < length frames
+inside_at frames words a f = let i = f.inside in omega (arith, i, length-map frames planned_row)
 
-pub same_content : (rows : List PlanRow) (contents : List Content) (words : List ℕ) (a : ℕ) → AreGrouped rows contents → IsFirst (content_rows contents) words a → with_content words (content_rows contents) ≡ with_content words rows
+pub same_content : (rows : List PlanRow) (frames : List PlannedFrame) (words : List ℕ) (a : ℕ) → AreGrouped rows frames → IsFirst (planned_rows frames) words a → with_content words (planned_rows frames) ≡ with_content words rows
 same_content rows [] words a g f = absurd (let i = f.inside in omega (arith, i))
-same_content rows (c ∷ contents) words a g f =
-    let l : a < length (c ∷ contents) = inside_at (c ∷ contents) words a f in
-    let is : (get_or (c ∷ contents) a c).words.now ≡ words = ap (λ (r : PlanRow). r.words) (sym (row_at (c ∷ contents) a (content_row c) c l)) ∙ f.has (content_row c) in
-    subst (λ t. with_content t (content_rows (c ∷ contents)) ≡ with_content t rows) is (g.same a c l)
+same_content rows (c ∷ frames) words a g f =
+    let l : a < length (c ∷ frames) = inside_at (c ∷ frames) words a f in
+    let is : (get_or (c ∷ frames) a c).words.now ≡ words = ap (λ (r : PlanRow). r.words) (sym (row_at (c ∷ frames) a (planned_row c) c l)) ∙ f.has (planned_row c) in
+    subst (λ t. with_content t (planned_rows (c ∷ frames)) ≡ with_content t rows) is (g.same a c l)
 
 -- ---- the other rows
 
@@ -100,15 +100,15 @@ others_append all (x ∷ xs) ys = by (is_shared all x) (others_append all xs ys)
     by true ih = ih
     by false ih = ap (λ t. x ∷ t) ih
 
-pub other_more : (rows : List PlanRow) (contents old new : List Content) (a n : ℕ) (c : Content) (d : PlanRow) (b : Bool) → AreGrouped rows contents → IsFirst (content_rows contents) c.words.now a → n < length rows → get_or rows n d ≡ content_row c
-    → b ≡ nat_le 3 (length (with_content c.words.now (content_rows contents))) → content_rows old ≡ others rows (take n rows) → new ≡ (if b then old else old ++ c ∷ []) → content_rows new ≡ others rows (take (n + 1) rows)
-other_more rows contents old new a n c d b g f l at e h m =
-    ap content_rows m ∙ by b (e ∙ ap (λ t. nat_le 3 (length t)) (same_content rows contents c.words.now a g f))
-    ∙ sym (ap (others rows) (take_more rows n d l ∙ ap (λ (x : PlanRow). take n rows ++ x ∷ []) at) ∙ others_append rows (take n rows) (content_row c ∷ []))
+pub other_more : (rows : List PlanRow) (frames old new : List PlannedFrame) (a n : ℕ) (c : PlannedFrame) (d : PlanRow) (b : Bool) → AreGrouped rows frames → IsFirst (planned_rows frames) c.words.now a → n < length rows → get_or rows n d ≡ planned_row c
+    → b ≡ nat_le 3 (length (with_content c.words.now (planned_rows frames))) → planned_rows old ≡ others rows (take n rows) → new ≡ (if b then old else old ++ c ∷ []) → planned_rows new ≡ others rows (take (n + 1) rows)
+other_more rows frames old new a n c d b g f l at e h m =
+    ap planned_rows m ∙ by b (e ∙ ap (λ t. nat_le 3 (length t)) (same_content rows frames c.words.now a g f))
+    ∙ sym (ap (others rows) (take_more rows n d l ∙ ap (λ (x : PlanRow). take n rows ++ x ∷ []) at) ∙ others_append rows (take n rows) (planned_row c ∷ []))
   where
-    by : (b : Bool) → b ≡ is_shared rows (content_row c) → content_rows (if b then old else old ++ c ∷ []) ≡ others rows (take n rows) ++ others rows (content_row c ∷ [])
+    by : (b : Bool) → b ≡ is_shared rows (planned_row c) → planned_rows (if b then old else old ++ c ∷ []) ≡ others rows (take n rows) ++ others rows (planned_row c ∷ [])
     by true e = h ∙ sym (append-nil (others rows (take n rows))) ∙ ap (λ t. others rows (take n rows) ++ t) (rw (sym e) refl)
-    by false e = map-append content_row old (c ∷ []) ∙ ap (λ t. t ++ content_row c ∷ []) h ∙ ap (λ t. others rows (take n rows) ++ t) (rw (sym e) refl)
+    by false e = map-append planned_row old (c ∷ []) ∙ ap (λ t. t ++ planned_row c ∷ []) h ∙ ap (λ t. others rows (take n rows) ++ t) (rw (sym e) refl)
 
 -- ---- the groups
 
@@ -126,33 +126,33 @@ pub same_led : (rows others : List PlanRow) (r : PlanRow) → with_content r.wor
 same_led rows others r e =
     ap (λ t. if nat_le 3 (length t) && (get_or (planned_addresses t) 0 0 == r.far) then Copies r.words (planned_addresses t) ∷ [] else []) e
 
-pub group_more : (part : PartData) (rows : List PlanRow) (contents : List Content) (old mid new : List ℕ) (a n : ℕ) (r : PlanRow) (d : PlanRow) → AreGrouped rows contents → IsFirst (content_rows contents) r.words a → n < length rows → get_or rows n d ≡ r
-    → mid ≡ old ++ bytes_of_words (flat_map (section_words part) (groups_led rows (take n rows))) → new ≡ mid ++ bytes_of_words (flat_map (section_words part) (groups_led (content_rows contents) (r ∷ [])))
+pub group_more : (part : PartData) (rows : List PlanRow) (frames : List PlannedFrame) (old mid new : List ℕ) (a n : ℕ) (r : PlanRow) (d : PlanRow) → AreGrouped rows frames → IsFirst (planned_rows frames) r.words a → n < length rows → get_or rows n d ≡ r
+    → mid ≡ old ++ bytes_of_words (flat_map (section_words part) (groups_led rows (take n rows))) → new ≡ mid ++ bytes_of_words (flat_map (section_words part) (groups_led (planned_rows frames) (r ∷ [])))
     → new ≡ old ++ bytes_of_words (flat_map (section_words part) (groups_led rows (take (n + 1) rows)))
-group_more part rows contents old mid new a n r d g f l at e h =
-    written_on old mid new (flat_map (section_words part) (groups_led rows (take n rows))) (flat_map (section_words part) (groups_led (content_rows contents) (r ∷ []))) e h
-    ∙ ap (λ t. old ++ bytes_of_words (flat_map (section_words part) (groups_led rows (take n rows)) ++ flat_map (section_words part) t)) (same_led rows (content_rows contents) r (same_content rows contents r.words a g f))
+group_more part rows frames old mid new a n r d g f l at e h =
+    written_on old mid new (flat_map (section_words part) (groups_led rows (take n rows))) (flat_map (section_words part) (groups_led (planned_rows frames) (r ∷ []))) e h
+    ∙ ap (λ t. old ++ bytes_of_words (flat_map (section_words part) (groups_led rows (take n rows)) ++ flat_map (section_words part) t)) (same_led rows (planned_rows frames) r (same_content rows frames r.words a g f))
     ∙ ap (λ t. old ++ bytes_of_words t) (sym (flat_map-append (section_words part) (groups_led rows (take n rows)) (groups_led rows (r ∷ []))))
     ∙ ap (λ t. old ++ bytes_of_words (flat_map (section_words part) t)) (sym (groups_append rows (take n rows) (r ∷ [])) ∙ ap (groups_led rows) (ap (λ (x : PlanRow). take n rows ++ x ∷ []) (sym at) ∙ sym (take_more rows n d l)))
 
 -- ---- what a group writes
 
-pub copies_begin : (contents : List Content) (words old : List ℕ) (a : ℕ) → AreTogether (content_rows contents) → IsFirst (content_rows contents) words a
-    → old ≡ old ++ bytes_of_words (flat_map copy_words (planned_addresses (with_content words (take a (content_rows contents)))))
-copies_begin contents words old a t f =
-    sym (ap (λ x. old ++ bytes_of_words (flat_map copy_words (planned_addresses x))) (none_before (content_rows contents) words a t f) ∙ append-nil old)
+pub copies_begin : (frames : List PlannedFrame) (words old : List ℕ) (a : ℕ) → AreTogether (planned_rows frames) → IsFirst (planned_rows frames) words a
+    → old ≡ old ++ bytes_of_words (flat_map copy_words (planned_addresses (with_content words (take a (planned_rows frames)))))
+copies_begin frames words old a t f =
+    sym (ap (λ x. old ++ bytes_of_words (flat_map copy_words (planned_addresses x))) (none_before (planned_rows frames) words a t f) ∙ append-nil old)
 
-pub copies_more : (contents : List Content) (words firsts old mid new : List ℕ) (a k x : ℕ) (e : Content) → AreFirsts (content_rows contents) firsts → IsFirst (content_rows contents) words a → k < length contents → get_or firsts k x ≡ a
-    → mid ≡ old ++ bytes_of_words (flat_map copy_words (planned_addresses (with_content words (take k (content_rows contents))))) → new ≡ mid ++ bytes_of_words (copy_words (get_or contents k e).far)
-    → new ≡ old ++ bytes_of_words (flat_map copy_words (planned_addresses (with_content words (take (k + 1) (content_rows contents)))))
-copies_more contents words firsts old mid new a k x e f g l y h m =
-    let rows : List PlanRow = content_rows contents in
-    let r : PlanRow = content_row (get_or contents k e) in
-    let inside : k < length rows = omega (arith, l, length-map contents content_row) in
+pub copies_more : (frames : List PlannedFrame) (words firsts old mid new : List ℕ) (a k x : ℕ) (e : PlannedFrame) → AreFirsts (planned_rows frames) firsts → IsFirst (planned_rows frames) words a → k < length frames → get_or firsts k x ≡ a
+    → mid ≡ old ++ bytes_of_words (flat_map copy_words (planned_addresses (with_content words (take k (planned_rows frames))))) → new ≡ mid ++ bytes_of_words (copy_words (get_or frames k e).far)
+    → new ≡ old ++ bytes_of_words (flat_map copy_words (planned_addresses (with_content words (take (k + 1) (planned_rows frames)))))
+copies_more frames words firsts old mid new a k x e f g l y h m =
+    let rows : List PlanRow = planned_rows frames in
+    let r : PlanRow = planned_row (get_or frames k e) in
+    let inside : k < length rows = omega (arith, l, length-map frames planned_row) in
     let here : get_or firsts k 0 ≡ a = get_or_default firsts k 0 x (omega (arith, inside, f.count)) ∙ y in
-    let has : r.words ≡ words = ap (λ (s : PlanRow). s.words) (sym (row_at contents k r e l)) ∙ place_same rows words firsts a k r f g inside here in
+    let has : r.words ≡ words = ap (λ (s : PlanRow). s.words) (sym (row_at frames k r e l)) ∙ place_same rows words firsts a k r f g inside here in
     let more : with_content words (take (k + 1) rows) ≡ with_content words (take k rows) ++ r ∷ [] =
-    ap (with_content words) (take_more rows k r inside ∙ ap (λ (x : PlanRow). take k rows ++ x ∷ []) (row_at contents k r e l))
+    ap (with_content words) (take_more rows k r inside ∙ ap (λ (x : PlanRow). take k rows ++ x ∷ []) (row_at frames k r e l))
     ∙ content_append words (take k rows) (r ∷ []) ∙ ap (λ t. with_content words (take k rows) ++ t) (content_same words r [] has) in
     let all : flat_map copy_words (planned_addresses (with_content words (take (k + 1) rows))) ≡ flat_map copy_words (planned_addresses (with_content words (take k rows))) ++ copy_words r.far =
     ap (λ t. flat_map copy_words (planned_addresses t)) more ∙ ap (flat_map copy_words) (map-append (λ (x : PlanRow). x.far) (with_content words (take k rows)) (r ∷ []))
@@ -160,14 +160,14 @@ copies_more contents words firsts old mid new a k x e f g l y h m =
     ∙ ap (λ t. flat_map copy_words (planned_addresses (with_content words (take k rows))) ++ t) (append-nil (copy_words r.far)) in
     written_on old mid new (flat_map copy_words (planned_addresses (with_content words (take k rows)))) (copy_words r.far) h m ∙ ap (λ t. old ++ bytes_of_words t) (sym all)
 
-pub copies_end : (contents : List Content) (words firsts old new : List ℕ) (a k x : ℕ) → AreTogether (content_rows contents) → AreFirsts (content_rows contents) firsts → IsFirst (content_rows contents) words a → a ≤ k → k < length contents
-    → (get_or firsts k x ≡ a → ⊥) → new ≡ old ++ bytes_of_words (flat_map copy_words (planned_addresses (with_content words (take k (content_rows contents)))))
-    → new ≡ old ++ bytes_of_words (flat_map copy_words (planned_addresses (with_content words (content_rows contents))))
-copies_end contents words firsts old new a k x t m f l inner n h =
-    let inside : k < length (content_rows contents) = omega (arith, inner, length-map contents content_row) in
+pub copies_end : (frames : List PlannedFrame) (words firsts old new : List ℕ) (a k x : ℕ) → AreTogether (planned_rows frames) → AreFirsts (planned_rows frames) firsts → IsFirst (planned_rows frames) words a → a ≤ k → k < length frames
+    → (get_or firsts k x ≡ a → ⊥) → new ≡ old ++ bytes_of_words (flat_map copy_words (planned_addresses (with_content words (take k (planned_rows frames)))))
+    → new ≡ old ++ bytes_of_words (flat_map copy_words (planned_addresses (with_content words (planned_rows frames))))
+copies_end frames words firsts old new a k x t m f l inner n h =
+    let inside : k < length (planned_rows frames) = omega (arith, inner, length-map frames planned_row) in
     let known : get_or firsts k x ≡ get_or firsts k 0 = get_or_default firsts k x 0 (omega (arith, inside, m.count)) in
     h ∙ ap (λ x. old ++ bytes_of_words (flat_map copy_words (planned_addresses x)))
-    (sym (up_to (content_rows contents) words a k t f l (λ d. place_other (content_rows contents) words firsts a k d t m f inside (λ e. n (known ∙ e)))))
+    (sym (up_to (planned_rows frames) words a k t f l (λ d. place_other (planned_rows frames) words firsts a k d t m f inside (λ e. n (known ∙ e)))))
 
 pub group_written : (part : PartData) (old one two three new words fars : List ℕ) (first width : ℕ) → width ≡ frame_words part → get_or fars 0 0 ≡ first
     → one ≡ old ++ bytes_of_words (command Wcfg ++ (write_one Far first ++ frame_data width)) → two ≡ one ++ bytes_of_words words → three ≡ two ++ bytes_of_words (command Mfw)

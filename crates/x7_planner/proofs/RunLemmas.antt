@@ -15,10 +15,10 @@ use Rattle.x7_part.specs.Part.{PartData, frame_words}
 use Rattle.x7_regs.specs.declared.command.Command.TheVariants.{Wcfg}
 use Rattle.x7_regs.specs.declared.register.Reg.TheVariants.{Far}
 use Rattle.x7_packets.specs.PacketWords.{command, frame_data, write_one}
-use Rattle.x7_planner.specs.Content.{IsRunLength, content_row, content_rows}
-use Rattle.x7_planner.specs.PartialStream.{Rows, follows, frames_words, groups_led, is_shared, others, partial_ending, partial_opening, partial_stream, sections_of, runs_of, runs_words, section_words, with_row}
+use Rattle.x7_planner.specs.Content.{planned_row, planned_rows}
+use Rattle.x7_planner.specs.PartialStream.{IsRunLength, Rows, follows, frames_words, groups_led, is_shared, others, partial_ending, partial_opening, partial_stream, sections_of, runs_of, runs_words, section_words, with_row}
 use Rattle.x7_planner.specs.Writer.{Check, Words, bytes_of_words, with_piece}
-use Rattle.x7_planner.specs.declared.content.Content.{Content}
+use Rattle.x7_planner.specs.declared.content.PlannedFrame.{PlannedFrame}
 use Rattle.x7_planner.proofs.ContentLemmas.{row_at}
 use Rattle.x7_planner.proofs.SlotLemmas.{written_on}
 
@@ -60,37 +60,37 @@ first_run part (r ∷ s ∷ rows) (suc (suc k)) l =
     let joined : follows part r.far s.far ≡ true = l.joined 0 r (omega arith) in
     ap (with_row part r) (first_run part (s ∷ rows) (suc k) rest) ∙ rw joined refl
 
-pub run_found : (part : PartData) (frames : List Content) (k : ℕ) (e : Content) (b : Bool) → 1 ≤ k → k < length frames
-    → ((j : ℕ) (d : PlanRow) → j + 1 < k → follows part (get_or (content_rows frames) j d).far (get_or (content_rows frames) (j + 1) d).far ≡ true)
-    → b ≡ follows part (get_or frames (k - 1) e).far (get_or frames k e).far → b ≡ false → IsRunLength part (content_rows frames) k
+pub run_found : (part : PartData) (frames : List PlannedFrame) (k : ℕ) (e : PlannedFrame) (b : Bool) → 1 ≤ k → k < length frames
+    → ((j : ℕ) (d : PlanRow) → j + 1 < k → follows part (get_or (planned_rows frames) j d).far (get_or (planned_rows frames) (j + 1) d).far ≡ true)
+    → b ≡ follows part (get_or frames (k - 1) e).far (get_or frames k e).far → b ≡ false → IsRunLength part (planned_rows frames) k
 run_found part frames k e b l h j s y = record {
   some = omega (arith, l);
-  inside = omega (arith, h, length-map frames content_row);
+  inside = omega (arith, h, length-map frames planned_row);
   joined = j;
-  ends = (λ d m. ap (λ (r : PlanRow). follows part r.far (get_or (content_rows frames) k d).far) (row_at frames (k - 1) d e (omega (arith, h)))
+  ends = (λ d m. ap (λ (r : PlanRow). follows part r.far (get_or (planned_rows frames) k d).far) (row_at frames (k - 1) d e (omega (arith, h)))
       ∙ ap (λ (r : PlanRow). follows part (get_or frames (k - 1) e).far r.far) (row_at frames k d e h) ∙ sym s ∙ y);
 }
 
-pub run_more : (part : PartData) (frames : List Content) (k : ℕ) (e : Content) (b : Bool) → 1 ≤ k → k < length frames
-    → ((j : ℕ) (d : PlanRow) → j + 1 < k → follows part (get_or (content_rows frames) j d).far (get_or (content_rows frames) (j + 1) d).far ≡ true)
+pub run_more : (part : PartData) (frames : List PlannedFrame) (k : ℕ) (e : PlannedFrame) (b : Bool) → 1 ≤ k → k < length frames
+    → ((j : ℕ) (d : PlanRow) → j + 1 < k → follows part (get_or (planned_rows frames) j d).far (get_or (planned_rows frames) (j + 1) d).far ≡ true)
     → b ≡ follows part (get_or frames (k - 1) e).far (get_or frames k e).far → b ≡ true
-    → ((j : ℕ) (d : PlanRow) → j + 1 < k + 1 → follows part (get_or (content_rows frames) j d).far (get_or (content_rows frames) (j + 1) d).far ≡ true)
+    → ((j : ℕ) (d : PlanRow) → j + 1 < k + 1 → follows part (get_or (planned_rows frames) j d).far (get_or (planned_rows frames) (j + 1) d).far ≡ true)
 run_more part frames k e b l h p s y j d m = elim (cases_eq (j + 1) k) [
-  | inl same ↦ (let at : follows part (get_or (content_rows frames) (k - 1) d).far (get_or (content_rows frames) k d).far ≡ true =
-      ap (λ (r : PlanRow). follows part r.far (get_or (content_rows frames) k d).far) (row_at frames (k - 1) d e (omega (arith, h)))
+  | inl same ↦ (let at : follows part (get_or (planned_rows frames) (k - 1) d).far (get_or (planned_rows frames) k d).far ≡ true =
+      ap (λ (r : PlanRow). follows part r.far (get_or (planned_rows frames) k d).far) (row_at frames (k - 1) d e (omega (arith, h)))
       ∙ ap (λ (r : PlanRow). follows part (get_or frames (k - 1) e).far r.far) (row_at frames k d e h) ∙ sym s ∙ y in
       let back : k - 1 ≡ j = omega (arith, same) in
-      ap (λ (i : ℕ). follows part (get_or (content_rows frames) j d).far (get_or (content_rows frames) i d).far) same ∙ ap (λ (i : ℕ). follows part (get_or (content_rows frames) i d).far (get_or (content_rows frames) k d).far) (sym back) ∙ at)
+      ap (λ (i : ℕ). follows part (get_or (planned_rows frames) j d).far (get_or (planned_rows frames) i d).far) same ∙ ap (λ (i : ℕ). follows part (get_or (planned_rows frames) i d).far (get_or (planned_rows frames) k d).far) (sym back) ∙ at)
   | inr other ↦ p j d (omega (arith, m, other))
 ]
 
-pub run_whole : (part : PartData) (frames : List Content) (k : ℕ) → 0 < length frames → length frames ≤ k → k ≤ length frames
-    → ((j : ℕ) (d : PlanRow) → j + 1 < k → follows part (get_or (content_rows frames) j d).far (get_or (content_rows frames) (j + 1) d).far ≡ true) → IsRunLength part (content_rows frames) (length frames)
+pub run_whole : (part : PartData) (frames : List PlannedFrame) (k : ℕ) → 0 < length frames → length frames ≤ k → k ≤ length frames
+    → ((j : ℕ) (d : PlanRow) → j + 1 < k → follows part (get_or (planned_rows frames) j d).far (get_or (planned_rows frames) (j + 1) d).far ≡ true) → IsRunLength part (planned_rows frames) (length frames)
 run_whole part frames k l h m p = record {
   some = l;
-  inside = omega (arith, length-map frames content_row);
+  inside = omega (arith, length-map frames planned_row);
   joined = (λ j d n. p j d (omega (arith, n, h)));
-  ends = (λ d n. absurd (omega (arith, n, length-map frames content_row)));
+  ends = (λ d n. absurd (omega (arith, n, length-map frames planned_row)));
 }
 
 pub run_written : (part : PartData) (old one two new : List ℕ) (rows : List PlanRow) (first width count : ℕ) → width ≡ frame_words part → get_or (planned_addresses rows) 0 0 ≡ first → count ≡ length rows
@@ -105,43 +105,43 @@ run_written part old one two new rows first width count w f n a b c =
     ∙ ap (λ (x : ℕ). command Wcfg ++ (write_one Far (get_or (planned_addresses rows) 0 0) ++ (frame_data (width * (x + 1)) ++ (frames_words rows ++ replicate width 0)))) n
     ∙ ap (λ (x : ℕ). command Wcfg ++ (write_one Far (get_or (planned_addresses rows) 0 0) ++ (frame_data (x * (length rows + 1)) ++ (frames_words rows ++ replicate x 0)))) w)
 
-pub address_at : (part : PartData) (frames : List Content) (k : ℕ) (e : Content) → All (λ row. Contains (addresses_in part) row.far) (content_rows frames) → k < length frames → Contains (addresses_in part) (get_or frames k e).far
-address_at part frames k e a l = subst (λ (r : PlanRow). Contains (addresses_in part) r.far) (row_at frames k (content_row e) e l) (a k (content_row e) (omega (arith, l, length-map frames content_row)))
+pub address_at : (part : PartData) (frames : List PlannedFrame) (k : ℕ) (e : PlannedFrame) → All (λ row. Contains (addresses_in part) row.far) (planned_rows frames) → k < length frames → Contains (addresses_in part) (get_or frames k e).far
+address_at part frames k e a l = subst (λ (r : PlanRow). Contains (addresses_in part) r.far) (row_at frames k (planned_row e) e l) (a k (planned_row e) (omega (arith, l, length-map frames planned_row)))
 
-pub first_address : (frames : List Content) (e : Content) → 0 < length frames → get_or (planned_addresses (content_rows frames)) 0 0 ≡ (get_or frames 0 e).far
+pub first_address : (frames : List PlannedFrame) (e : PlannedFrame) → 0 < length frames → get_or (planned_addresses (planned_rows frames)) 0 0 ≡ (get_or frames 0 e).far
 first_address [] e l = absurd (omega (arith, l))
 first_address (c ∷ frames) e l = refl
 
-rows_drop : (n : ℕ) (frames : List Content) → content_rows (drop n frames) ≡ drop n (content_rows frames)
+rows_drop : (n : ℕ) (frames : List PlannedFrame) → planned_rows (drop n frames) ≡ drop n (planned_rows frames)
 rows_drop zero frames = refl
 rows_drop (suc n) [] = refl
 rows_drop (suc n) (c ∷ frames) = rows_drop n frames
 
-pub addresses_drop : (part : PartData) (n : ℕ) (frames : List Content) → All (λ row. Contains (addresses_in part) row.far) (content_rows frames) → All (λ row. Contains (addresses_in part) row.far) (content_rows (drop n frames))
-addresses_drop part n frames a = subst (All (λ (row : PlanRow). Contains (addresses_in part) row.far)) (sym (rows_drop n frames)) (All-drop (λ (row : PlanRow). Contains (addresses_in part) row.far) n (content_rows frames) a)
+pub addresses_drop : (part : PartData) (n : ℕ) (frames : List PlannedFrame) → All (λ row. Contains (addresses_in part) row.far) (planned_rows frames) → All (λ row. Contains (addresses_in part) row.far) (planned_rows (drop n frames))
+addresses_drop part n frames a = subst (All (λ (row : PlanRow). Contains (addresses_in part) row.far)) (sym (rows_drop n frames)) (All-drop (λ (row : PlanRow). Contains (addresses_in part) row.far) n (planned_rows frames) a)
 
-pub runs_step : (part : PartData) (frames : List Content) (all mid new : List ℕ) (at count : ℕ) → IsRunLength part (content_rows (drop at frames)) count → mid ++ bytes_of_words (runs_words part (content_rows (drop at frames))) ≡ all
-    → new ≡ mid ++ bytes_of_words (section_words part (Rows (content_rows (take count (drop at frames))))) → new ++ bytes_of_words (runs_words part (content_rows (drop (at + count) frames))) ≡ all
+pub runs_step : (part : PartData) (frames : List PlannedFrame) (all mid new : List ℕ) (at count : ℕ) → IsRunLength part (planned_rows (drop at frames)) count → mid ++ bytes_of_words (runs_words part (planned_rows (drop at frames))) ≡ all
+    → new ≡ mid ++ bytes_of_words (section_words part (Rows (planned_rows (take count (drop at frames))))) → new ++ bytes_of_words (runs_words part (planned_rows (drop (at + count) frames))) ≡ all
 runs_step part frames all mid new at count l e h =
-    let rest : List PlanRow = content_rows (drop at frames) in
-    let cut : runs_words part rest ≡ section_words part (Rows (content_rows (take count (drop at frames)))) ++ runs_words part (content_rows (drop (at + count) frames)) =
+    let rest : List PlanRow = planned_rows (drop at frames) in
+    let cut : runs_words part rest ≡ section_words part (Rows (planned_rows (take count (drop at frames)))) ++ runs_words part (planned_rows (drop (at + count) frames)) =
     ap (λ t. flat_map (section_words part) (map Rows t)) (first_run part rest count l)
-    ∙ ap (λ t. section_words part (Rows t) ++ runs_words part (drop count rest)) (take-map content_row count (drop at frames))
-    ∙ ap (λ t. section_words part (Rows (content_rows (take count (drop at frames)))) ++ runs_words part t) (sym (rows_drop count (drop at frames)) ∙ ap content_rows (drop-drop count at frames)) in
-    ap (λ t. t ++ bytes_of_words (runs_words part (content_rows (drop (at + count) frames)))) h
-    ∙ append_assoc mid (bytes_of_words (section_words part (Rows (content_rows (take count (drop at frames)))))) (bytes_of_words (runs_words part (content_rows (drop (at + count) frames))))
-    ∙ ap (λ t. mid ++ t) (sym (flat_map-append bytes_of_word (section_words part (Rows (content_rows (take count (drop at frames))))) (runs_words part (content_rows (drop (at + count) frames)))) ∙ ap bytes_of_words (sym cut))
+    ∙ ap (λ t. section_words part (Rows t) ++ runs_words part (drop count rest)) (take-map planned_row count (drop at frames))
+    ∙ ap (λ t. section_words part (Rows (planned_rows (take count (drop at frames)))) ++ runs_words part t) (sym (rows_drop count (drop at frames)) ∙ ap planned_rows (drop-drop count at frames)) in
+    ap (λ t. t ++ bytes_of_words (runs_words part (planned_rows (drop (at + count) frames)))) h
+    ∙ append_assoc mid (bytes_of_words (section_words part (Rows (planned_rows (take count (drop at frames)))))) (bytes_of_words (runs_words part (planned_rows (drop (at + count) frames))))
+    ∙ ap (λ t. mid ++ t) (sym (flat_map-append bytes_of_word (section_words part (Rows (planned_rows (take count (drop at frames))))) (runs_words part (planned_rows (drop (at + count) frames)))) ∙ ap bytes_of_words (sym cut))
     ∙ e
 
-pub runs_stepped : (part : PartData) (frames : List Content) (all mid new : List ℕ) (at count : ℕ) → at ≤ length frames → IsRunLength part (content_rows (take (length frames - at) (drop at frames))) count
-    → mid ++ bytes_of_words (runs_words part (content_rows (drop at frames))) ≡ all → new ≡ mid ++ bytes_of_words (section_words part (Rows (content_rows (take (at + count - at) (drop at frames)))))
-    → (at + count ≤ length frames) × (new ++ bytes_of_words (runs_words part (content_rows (drop (at + count) frames))) ≡ all)
+pub runs_stepped : (part : PartData) (frames : List PlannedFrame) (all mid new : List ℕ) (at count : ℕ) → at ≤ length frames → IsRunLength part (planned_rows (take (length frames - at) (drop at frames))) count
+    → mid ++ bytes_of_words (runs_words part (planned_rows (drop at frames))) ≡ all → new ≡ mid ++ bytes_of_words (section_words part (Rows (planned_rows (take (at + count - at) (drop at frames)))))
+    → (at + count ≤ length frames) × (new ++ bytes_of_words (runs_words part (planned_rows (drop (at + count) frames))) ≡ all)
 runs_stepped part frames all mid new at count i l e h =
-    let run : IsRunLength part (content_rows (drop at frames)) count = subst (λ t. IsRunLength part (content_rows t) count) (take_rest frames at) l in
-    let inside : count ≤ length (content_rows (drop at frames)) = run.inside in
+    let run : IsRunLength part (planned_rows (drop at frames)) count = subst (λ t. IsRunLength part (planned_rows t) count) (take_rest frames at) l in
+    let inside : count ≤ length (planned_rows (drop at frames)) = run.inside in
     let same : at + count - at ≡ count = omega arith in (
-      omega (arith, i, inside, length-map (drop at frames) content_row, length-drop at frames),
-      runs_step part frames all mid new at count run e (h ∙ ap (λ (n : ℕ). mid ++ bytes_of_words (section_words part (Rows (content_rows (take n (drop at frames)))))) same),
+      omega (arith, i, inside, length-map (drop at frames) planned_row, length-drop at frames),
+      runs_step part frames all mid new at count run e (h ∙ ap (λ (n : ℕ). mid ++ bytes_of_words (section_words part (Rows (planned_rows (take n (drop at frames)))))) same),
     )
 
 -- ---- the other rows are some of the rows
@@ -166,18 +166,18 @@ pub all_rows : (P : PlanRow → Type 0) (rows : List PlanRow) → AllByRecursion
 all_rows P [] a = All-nil P
 all_rows P (r ∷ rows) a = All-cons P r rows a.0 (all_rows P rows a.1)
 
-pub alone_addressed : (part : PartData) (rows : List PlanRow) (alone : List Content) → All (λ row. Contains (addresses_in part) row.far) rows → content_rows alone ≡ others rows rows → All (λ row. Contains (addresses_in part) row.far) (content_rows alone)
+pub alone_addressed : (part : PartData) (rows : List PlanRow) (alone : List PlannedFrame) → All (λ row. Contains (addresses_in part) row.far) rows → planned_rows alone ≡ others rows rows → All (λ row. Contains (addresses_in part) row.far) (planned_rows alone)
 alone_addressed part rows alone a e =
     subst (All (λ (row : PlanRow). Contains (addresses_in part) row.far)) (sym e)
     (all_rows (λ (row : PlanRow). Contains (addresses_in part) row.far) (others rows rows) (others_all (λ (row : PlanRow). Contains (addresses_in part) row.far) rows rows (by_rows (λ (row : PlanRow). Contains (addresses_in part) row.far) rows a)))
 
-pub alone_few : (part : PartData) (rows : List PlanRow) (alone : List Content) → IsPart part → AreInOrder rows → All (λ row. Contains (addresses_in part) row.far) rows → content_rows alone ≡ others rows rows → length alone ≤ 131072
-alone_few part rows alone is o a e = omega (arith, rows_few part rows is o a, is.few, others_fewer rows rows, ap length e, length-map alone content_row)
+pub alone_few : (part : PartData) (rows : List PlanRow) (alone : List PlannedFrame) → IsPart part → AreInOrder rows → All (λ row. Contains (addresses_in part) row.far) rows → planned_rows alone ≡ others rows rows → length alone ≤ 131072
+alone_few part rows alone is o a e = omega (arith, rows_few part rows is o a, is.few, others_fewer rows rows, ap length e, length-map alone planned_row)
 
-pub sections_written : (part : PartData) (rows : List PlanRow) (alone : List Content) (old mid new : List ℕ) → content_rows alone ≡ others rows rows → mid ≡ old ++ bytes_of_words (flat_map (section_words part) (groups_led rows rows))
-    → new ≡ mid ++ bytes_of_words (runs_words part (content_rows alone)) → new ≡ old ++ bytes_of_words (flat_map (section_words part) (sections_of part rows))
+pub sections_written : (part : PartData) (rows : List PlanRow) (alone : List PlannedFrame) (old mid new : List ℕ) → planned_rows alone ≡ others rows rows → mid ≡ old ++ bytes_of_words (flat_map (section_words part) (groups_led rows rows))
+    → new ≡ mid ++ bytes_of_words (runs_words part (planned_rows alone)) → new ≡ old ++ bytes_of_words (flat_map (section_words part) (sections_of part rows))
 sections_written part rows alone old mid new e g h =
-    written_on old mid new (flat_map (section_words part) (groups_led rows rows)) (runs_words part (content_rows alone)) g h
+    written_on old mid new (flat_map (section_words part) (groups_led rows rows)) (runs_words part (planned_rows alone)) g h
     ∙ ap (λ t. old ++ bytes_of_words (flat_map (section_words part) (groups_led rows rows) ++ runs_words part t)) e
     ∙ ap (λ t. old ++ bytes_of_words t) (sym (flat_map-append (section_words part) (groups_led rows rows) (map Rows (runs_of part (others rows rows)))))
 

@@ -1,42 +1,43 @@
--- The contents of planned frames, equal ones together (this project's choice).
-use Rattle.std.specs.Prelude.{◌≡◌, ◌≢◌, ℕ, ◌+◌, ◌-◌, ◌<◌, ◌≤◌, true, false, List, length, map, slice_index_or, All, Contains}
-use Rattle.x7_part.specs.Part.{PartData}
+-- A plan's frames by content: equal ones together, and where each content begins (this project's choice). A content is
+-- the words of a frame.
+use Rattle.std.specs.Prelude.{◌≡◌, ◌≢◌, ℕ, ◌-◌, ◌<◌, ◌≤◌, List, length, map, slice_index_or, All, Contains}
 use Rattle.x7_memory.specs.Plan.{PlanRow}
-use Rattle.x7_planner.specs.PartialStream.{follows, with_content}
-use Rattle.x7_planner.specs.declared.content.Content.{Content}
+use Rattle.x7_planner.specs.PartialStream.{with_content}
+use Rattle.x7_planner.specs.declared.content.ByContent.{ByContent}
+use Rattle.x7_planner.specs.declared.content.PlannedFrame.{PlannedFrame}
 
--- the planned row of a content
-abbrev pub content_row : Content → PlanRow
-content_row c = record { far = c.far; words = c.words.now }
+-- the row of a planned frame
+abbrev pub planned_row : PlannedFrame → PlanRow
+planned_row c = record { far = c.far; words = c.words.now }
 
--- the planned rows of contents
-abbrev pub content_rows : List Content → List PlanRow
-content_rows contents = map content_row contents
+-- the rows of planned frames
+abbrev pub planned_rows : List PlannedFrame → List PlanRow
+planned_rows frames = map planned_row frames
 
--- equal contents stand together
+-- rows with equal words stand together
 abbrev pub AreTogether : List PlanRow → Type 0
 AreTogether rows = (i k j : ℕ) (d : PlanRow) → i ≤ k → k ≤ j → j < length rows
     → (slice_index_or rows i d).words ≡ (slice_index_or rows j d).words → (slice_index_or rows k d).words ≡ (slice_index_or rows i d).words
 
--- a content knows its row's place in a plan
-abbrev pub IsPlaced : List PlanRow → Content → Type 0
-IsPlaced rows c = (c.row < length rows) × ((d : PlanRow) → slice_index_or rows c.row d ≡ content_row c)
+-- a planned frame has its row's place in a plan
+abbrev pub IsPlaced : List PlanRow → PlannedFrame → Type 0
+IsPlaced rows c = (c.row < length rows) × ((d : PlanRow) → slice_index_or rows c.row d ≡ planned_row c)
 
--- the contents of all rows of a plan, equal ones together and in the plan's order
-pub record AreGrouped (rows : List PlanRow) (contents : List Content) : Type 0 where
-  pub together : AreTogether (content_rows contents)
-  pub same : All (λ c. with_content c.words.now (content_rows contents) ≡ with_content c.words.now rows) contents
-  pub placed : All (IsPlaced rows) contents
-  pub each : (i : ℕ) → i < length rows → Contains (map (λ c. c.row) contents) i
+-- the frames of all rows of a plan: equal ones together, and these in the plan's order
+pub record AreGrouped (rows : List PlanRow) (frames : List PlannedFrame) : Type 0 where
+  pub together : AreTogether (planned_rows frames)
+  pub same : All (λ c. with_content c.words.now (planned_rows frames) ≡ with_content c.words.now rows) frames
+  pub placed : All (IsPlaced rows) frames
+  pub each : (i : ℕ) → i < length rows → Contains (map (λ c. c.row) frames) i
 
--- the first of the rows that have a content
+-- `start` is the place of the first of the rows that have these words, which stand together
 pub record IsFirst (rows : List PlanRow) (words : List ℕ) (start : ℕ) : Type 0 where
   pub inside : start < length rows
   pub has : (d : PlanRow) → (slice_index_or rows start d).words ≡ words
   pub before : (d : PlanRow) → 0 < start → (slice_index_or rows (start - 1) d).words ≢ words
 
--- `start` is the first place with the words of the row before `place`; at place 0 it is 0
-pub record IsBegun (rows : List PlanRow) (start place : ℕ) : Type 0 where
+-- `start` is the first place with the words of the row before `place`, and 0 where `place` is 0
+pub record IsStartBefore (rows : List PlanRow) (start place : ℕ) : Type 0 where
   pub no_later : start ≤ place
   pub none : place ≡ 0 → start ≡ 0
   pub first : (d : PlanRow) → 0 < place → IsFirst rows (slice_index_or rows (place - 1) d).words start
@@ -51,23 +52,17 @@ pub record AreStarts (rows grouped : List PlanRow) (starts : List ℕ) : Type 0 
   pub count : length starts ≡ length rows
   pub each : (i : ℕ) (d : PlanRow) → i < length rows → IsFirst grouped (slice_index_or rows i d).words (slice_index_or starts i 0)
 
--- a plan's rows by content: equal contents stand together, and where each begins is
--- known by its places and by the plan's rows
-pub record AreByContent (rows : List PlanRow) (grouped : List Content) (places row_places : List ℕ) : Type 0 where
-  pub contents : AreGrouped rows grouped
-  pub firsts : AreFirsts (content_rows grouped) places
-  pub starts : AreStarts rows (content_rows grouped) row_places
+-- a plan's frames by content: equal ones stand together, and it is known where the content of each frame, and of each row
+-- of the plan, begins
+pub record AreByContent (rows : List PlanRow) (b : ByContent) : Type 0 where
+  pub grouped : AreGrouped rows b.frames.now
+  pub firsts : AreFirsts (planned_rows b.frames.now) b.firsts.now
+  pub starts : AreStarts rows (planned_rows b.frames.now) b.starts.now
 
--- among contents of which equal ones stand together and each one's first place is known, these words begin at `start`
-pub record BeginsAt (contents : List Content) (places : List ℕ) (words : List ℕ) (start : ℕ) : Type 0 where
-  pub together : AreTogether (content_rows contents)
-  pub firsts : AreFirsts (content_rows contents) places
-  pub first : IsFirst (content_rows contents) words start
-  pub inside : start < length contents
-
--- the longest run at the start of rows has this many: each follows the one before it, and the next one doesn't
-pub record IsRunLength (part : PartData) (rows : List PlanRow) (count : ℕ) : Type 0 where
-  pub some : 0 < count
-  pub inside : count ≤ length rows
-  pub joined : (k : ℕ) (d : PlanRow) → k + 1 < count → follows part (slice_index_or rows k d).far (slice_index_or rows (k + 1) d).far ≡ true
-  pub ends : (d : PlanRow) → count < length rows → follows part (slice_index_or rows (count - 1) d).far (slice_index_or rows count d).far ≡ false
+-- frames with these words begin at `start`, among frames of which equal ones stand together and for each of which the
+-- first that is equal to it is known
+pub record BeginsAt (b : ByContent) (words : List ℕ) (start : ℕ) : Type 0 where
+  pub together : AreTogether (planned_rows b.frames.now)
+  pub firsts : AreFirsts (planned_rows b.frames.now) b.firsts.now
+  pub first : IsFirst (planned_rows b.frames.now) words start
+  pub inside : start < length b.frames.now

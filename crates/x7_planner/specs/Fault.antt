@@ -7,7 +7,7 @@ use Rattle.x7_memory.specs.Plan.{AreAddressed, PlanRow, PlanData}
 use Rattle.x7_planner.specs.declared.fault.PlanFault.{PlanFault}
 use Rattle.x7_planner.specs.declared.fault.PlanFault.TheVariants as fault
 
--- the first row at an address that the part lacks has this one
+-- `address` is that of the first row whose address the part lacks
 pub record IsFirstForeign (part : PartData) (rows : List PlanRow) (address : ℕ) : Type 0 where
   pub before : List PlanRow
   pub row : PlanRow
@@ -23,7 +23,7 @@ pub record CanRead (part : PartData) (address n : ℕ) : Type 0 where
   pub some : 0 < n
   pub within : n ≤ length (from address (slots_in part))
 
--- n slots can't be read from an address
+-- n slots can't be read from an address of the part: n is 0, or more than there are
 abbrev pub IsOutOfRange : PartData → ℕ → ℕ → Type 0
 IsOutOfRange part address n = (n ≡ 0) ⊎ (length (from address (slots_in part)) < n)
 
@@ -38,7 +38,7 @@ IsPartialFault part plan fault.Empty = plan.rows ≡ []
 IsPartialFault part plan (fault.Foreign address) = IsFirstForeign part plan.rows address
 IsPartialFault part plan _ = ⊥
 
--- the faults of a readback
+-- the faults of a read stream
 abbrev pub IsReadFault : PartData → ℕ → ℕ → PlanFault → Type 0
 IsReadFault part address n (fault.Foreign a) = (a ≡ address) × (¬ Contains (addresses_in part) address)
 IsReadFault part address n (fault.Range m) = (m ≡ n) × Contains (addresses_in part) address × IsOutOfRange part address n

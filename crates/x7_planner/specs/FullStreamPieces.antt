@@ -61,7 +61,8 @@ pub record IsFullStream (s : FullStreamState) : Type 0 where
   pub width : s.plan.width ≡ frame_words s.part
   pub inside : slot_next s.next ≤ length (slots_in s.part)
 
--- `given` of the stream was written: it stands before what is next, it was checked, and other bytes are still left
+-- of the stream the bytes `given` were written: they stand before what is next and were taken by the check, and others
+-- are left
 pub record HasGiven (s : FullStreamState) (given : List ℕ) : Type 0 where
   pub before : given ≡ stream_of (pieces_before s.part s.plan s.next)
   pub checked : HasTaken s.check given
@@ -88,7 +89,7 @@ settings_size = 4 * 19
 abbrev pub opening_size : ℕ
 opening_size = 4 * 10 + settings_size
 
--- at most this many bytes were appended; or there was no room for so many, and the old bytes still stand first
+-- at most this many bytes were appended; or there was no room for that many more, and the old bytes still stand first
 pub record AppendsWithin {T : Type 0} (old new : Vec ℕ Global) (result : Result T NoMemory) (most : ℕ) : Type 0 where
   pub within : OnOk result (length new.items ≤ length old.items + most)
   pub failed : OnErr result (take (length old.items) new.items ≡ old.items)
@@ -101,7 +102,7 @@ pub record AppendsNext (s : FullStreamState) (given old new : List ℕ) : Type 0
   pub adds : new ≡ old ++ piece
   pub more : HasGiven s (given ++ piece)
 
--- what is next was appended to bytes, and this is next after it
+-- the piece that is next was appended to bytes, and `after` is next then
 pub record WritesPiece (s : FullStreamState) (old new : List ℕ) (after : NextPiece) : Type 0 where
   pub piece : List ℕ
   pub adds : new ≡ old ++ piece

@@ -1,6 +1,6 @@
 -- The stream of a partial reconfiguration: the planned frames alone, contents at three addresses or more by copies, the
 -- others in runs (this project's choice; UG470, multi-frame write register).
-use Rattle.std.specs.Prelude.{◌≡◌, ℕ, ◌+◌, ◌*◌, ◌==◌, ◌&&◌, nat_le, Bool, true, false, if◌then◌else◌, List, [], ◌∷◌, ◌++◌, length, map, replicate, slice_index, slice_index_or, All, Contains, Some}
+use Rattle.std.specs.Prelude.{◌≡◌, ℕ, ◌+◌, ◌-◌, ◌*◌, ◌<◌, ◌≤◌, ◌==◌, ◌&&◌, nat_le, Bool, true, false, if◌then◌else◌, List, [], ◌∷◌, ◌++◌, length, map, replicate, slice_index, slice_index_or, All, Contains, Some}
 use Rattle.std.specs.List.{flat_map}
 use Rattle.x7_part.specs.Part.{PartData, frame_words}
 use Rattle.x7_part.specs.Slot.{from, slots_in}
@@ -79,6 +79,13 @@ abbrev pub runs_of : PartData → List PlanRow → List (List PlanRow)
 runs_of part [] = []
 runs_of part (r ∷ rows) = with_row part r (runs_of part rows)
 
+-- the longest run that rows begin with has `count` of them: each follows the one before it, and the next one doesn't
+pub record IsRunLength (part : PartData) (rows : List PlanRow) (count : ℕ) : Type 0 where
+  pub some : 0 < count
+  pub inside : count ≤ length rows
+  pub joined : (k : ℕ) (d : PlanRow) → k + 1 < count → follows part (slice_index_or rows k d).far (slice_index_or rows (k + 1) d).far ≡ true
+  pub ends : (d : PlanRow) → count < length rows → follows part (slice_index_or rows (count - 1) d).far (slice_index_or rows count d).far ≡ false
+
 -- the groups, and then the runs
 abbrev pub sections_of : PartData → List PlanRow → List Section
 sections_of part rows = groups_led rows rows ++ map Rows (runs_of part (others rows rows))
@@ -91,15 +98,15 @@ copy_words address = write_one Far address ++ write_one Mfwr 0
 abbrev pub frames_words : List PlanRow → List ℕ
 frames_words rows = flat_map (λ row. row.words) rows
 
--- the words of a section: a content at its first address, and copies of it; or frames
--- from an address on, and a frame of zeros
+-- the words of a section: a content at its first address, and copies of it; or frames from an address on, and a frame
+-- of zeros
 abbrev pub section_words : PartData → Section → List ℕ
 section_words part (Copies words fars) =
     command Wcfg ++ (write_one Far (slice_index fars 0) ++ (frame_data (frame_words part) ++ (words ++ (command Mfw ++ flat_map copy_words fars))))
 section_words part (Rows rows) =
     command Wcfg ++ (write_one Far (slice_index (planned_addresses rows) 0) ++ (frame_data (frame_words part * (length rows + 1)) ++ (frames_words rows ++ zero_frame part)))
 
--- what stands before the groups
+-- what a partial stream begins with, before the groups
 abbrev pub partial_opening : PartData → List ℕ
 partial_opening part = opening_words ++ (command Rcrc ++ (no_op ∷ write_one Idcode part.idcode))
 
@@ -153,7 +160,7 @@ IsRunOfRows part [] = ⊥
 IsRunOfRows part (r ∷ []) = Unit {0}
 IsRunOfRows part (r ∷ s ∷ run) = (follows part r.far s.far ≡ true) × IsRunOfRows part (s ∷ run)
 
--- each is a run, and none follows the one before
+-- each of these is a run, and none follows the one before it
 abbrev pub AreLongest : PartData → List (List PlanRow) → Type 0
 AreLongest part [] = Unit {0}
 AreLongest part (run ∷ []) = IsRunOfRows part run

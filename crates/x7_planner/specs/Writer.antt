@@ -1,5 +1,5 @@
--- What a planner writes: words, and running checks (this project's choice; UG470,
--- configuration sequence, has the packets).
+-- What a planner writes: words, and running checks (this project's choice; UG470, configuration sequence, has the
+-- packets).
 use Rattle.std.specs.Prelude.{ℕ, List, [], ◌∷◌, ◌++◌, fold}
 use Rattle.std.specs.List.{flat_map}
 use Rattle.x7_words.specs.Word.{bytes_of_word}

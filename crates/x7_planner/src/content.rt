@@ -1,18 +1,29 @@
-//! The contents of planned frames, equal ones together.
+//! A plan's frames by content: equal ones together, and where each content begins.
 ghost use Rattle.std.specs.Prelude.{◌≡◌, ℕ, ◌<◌, ◌≤◌, length, slice_index_or, IfOk};
 ghost use Rattle.x7_memory.specs.Plan.{PlanRow};
-ghost use Rattle.x7_planner.specs.Content.{AreFirsts, AreGrouped, AreStarts, IsBegun, IsFirst, content_rows};
+ghost use Rattle.x7_planner.specs.Content.{AreFirsts, AreGrouped, AreStarts, IsStartBefore, IsFirst, planned_rows};
 ghost use Rattle.x7_planner.specs.PartialStream.{same_words};
 
 use std::alloc::{AllocError, Global};
 use x7_memory::Plan;
 
-/// A planned frame, and the place of its row in the plan.
+/// A planned frame with its address, and the place of its row in the plan.
 #[derive(Clone, Copy)]
-pub(crate) struct Content<'p> {
+pub(crate) struct PlannedFrame<'p> {
     pub(crate) far: u32,
     pub(crate) words: &'p [u32],
     pub(crate) row: usize,
+}
+
+/// A plan's frames by content.
+#[derive(Clone, Copy)]
+pub(crate) struct ByContent<'p> {
+    /// All frames, equal ones together.
+    pub(crate) frames: &'p [PlannedFrame<'p>],
+    /// For each of these frames the place of the first that is equal to it.
+    pub(crate) firsts: &'p [usize],
+    /// For each row of the plan the place of the first of these frames that is equal to the row's.
+    pub(crate) starts: &'p [usize],
 }
 
 /// Whether two frames have the same words.
@@ -22,70 +33,74 @@ pub(crate) fn have_same_words(a: &[u32], b: &[u32]) -> bool
     a == b
 }
 
-/// The contents of all rows in the plan's order.
-fn contents_of(alloc: Global, plan: &Plan) -> Result<Vec<Content<'_>>, AllocError>
-    ensures rows { IfOk result (λ contents. content_rows contents.items ≡ plan.now.rows) }
-    ensures places { IfOk result (λ contents. (i : ℕ) (d : Content) → i < length contents.items → (slice_index_or contents.items i d).row ≡ i) }
+/// The frames of all rows, in the plan's order.
+fn frames_of(alloc: Global, plan: &Plan) -> Result<Vec<PlannedFrame<'_>>, AllocError>
+    ensures rows { IfOk result (λ frames. planned_rows frames.items ≡ plan.now.rows) }
+    ensures places { IfOk result (λ frames. (i : ℕ) (d : PlannedFrame) → i < length frames.items → (slice_index_or frames.items i d).row ≡ i) }
 {
-    let mut contents = Vec::with_capacity(alloc, plan.len())?;
+    let mut frames = Vec::with_capacity(alloc, plan.len())?;
     for row in 0..plan.len() {
         let Some((far, words)) = plan.row(row) else {
             unreachable!()
         };
-        contents.push(Content { far, words, row })?;
+        frames.push(PlannedFrame { far, words, row })?;
     }
-    Ok(contents)
+    Ok(frames)
 }
 
-/// The contents of all rows, equal ones together and in the plan's order.
-pub(crate) fn grouped(alloc: Global, plan: &Plan) -> Result<Vec<Content<'_>>, AllocError>
-    ensures { IfOk result (λ contents. AreGrouped plan.now.rows contents.items) }
+/// The frames of all rows: equal ones together, and these in the plan's order.
+pub(crate) fn frames_by_content(
+    alloc: Global,
+    plan: &Plan,
+) -> Result<Vec<PlannedFrame<'_>>, AllocError>
+    ensures { IfOk result (λ frames. AreGrouped plan.now.rows frames.items) }
 {
-    let mut contents = contents_of(alloc, plan)?;
-    contents.sort_by(|a, b| a.words.cmp(b.words))?;
-    Ok(contents)
+    let mut frames = frames_of(alloc, plan)?;
+    frames.sort_by(|a, b| a.words.cmp(b.words))?;
+    Ok(frames)
 }
 
-/// The place where the content at a place begins; where the content at the place before it begins is known.
-fn start_at(contents: &[Content], start: usize, place: usize) -> usize
-    requires begun { IsBegun (content_rows contents.now) start place }
-    requires inside { place < length contents.now }
-    ensures first { (d : PlanRow) → IsFirst (content_rows contents.now) (slice_index_or (content_rows contents.now) place d).words result }
+/// The place of the first frame that is equal to the one at `place`. `start` is that of the frame before it.
+fn start_at(frames: &[PlannedFrame], start: usize, place: usize) -> usize
+    requires start { IsStartBefore (planned_rows frames.now) start place }
+    requires inside { place < length frames.now }
+    ensures first { (d : PlanRow) → IsFirst (planned_rows frames.now) (slice_index_or (planned_rows frames.now) place d).words result }
     ensures no_later { result ≤ place }
 {
-    if have_same_words(contents[place].words, contents[start].words) {
+    if have_same_words(frames[place].words, frames[start].words) {
         return start;
     }
     place
 }
 
-/// The place where the content at each place begins.
-pub(crate) fn firsts_of(alloc: Global, contents: &[Content]) -> Result<Vec<usize>, AllocError>
-    ensures { IfOk result (λ firsts. AreFirsts (content_rows contents.now) firsts.items) }
+/// For each frame the place of the first that is equal to it.
+pub(crate) fn firsts_of(alloc: Global, frames: &[PlannedFrame]) -> Result<Vec<usize>, AllocError>
+    ensures { IfOk result (λ firsts. AreFirsts (planned_rows frames.now) firsts.items) }
 {
-    let mut firsts = Vec::with_capacity(alloc, contents.len())?;
+    let mut firsts = Vec::with_capacity(alloc, frames.len())?;
     let mut start = 0;
-    for place in 0..contents.len() {
-        start = start_at(contents, start, place);
+    for place in 0..frames.len() {
+        start = start_at(frames, start, place);
         firsts.push(start)?;
     }
     Ok(firsts)
 }
 
-/// The place where each row's content begins; where the content at each place begins is known.
+/// For each row of a plan the place of the first frame that is equal to the row's, by `firsts`, which has it for each
+/// frame.
 pub(crate) fn starts_of(
     alloc: Global,
     plan: &Plan,
-    contents: &[Content],
+    frames: &[PlannedFrame],
     firsts: &[usize],
 ) -> Result<Vec<usize>, AllocError>
-    requires contents { AreGrouped plan.now.rows contents.now }
-    requires firsts { AreFirsts (content_rows contents.now) firsts.now }
-    ensures { IfOk result (λ starts. AreStarts plan.now.rows (content_rows contents.now) starts.items) }
+    requires frames { AreGrouped plan.now.rows frames.now }
+    requires firsts { AreFirsts (planned_rows frames.now) firsts.now }
+    ensures { IfOk result (λ starts. AreStarts plan.now.rows (planned_rows frames.now) starts.items) }
 {
     let mut starts = vec![in alloc; 0usize; plan.len()]?;
-    for k in 0..contents.len() {
-        starts[contents[k].row] = firsts[k];
+    for k in 0..frames.len() {
+        starts[frames[k].row] = firsts[k];
     }
     Ok(starts)
 }

@@ -29,13 +29,16 @@ use x7_words::NoMemory;
 /// How many words a full stream has beside its frame data.
 const WORDS_BESIDE_FRAMES: usize = 55;
 
-/// How many slots are written at once.
+/// How many slots a piece of the frame data has at most.
 const PIECE_SLOTS: u64 = 160;
 
-/// A frame of zeros, of the most words that a frame may have.
-static ZEROS: [u32; 255] = [0; 255];
+/// The most words that a frame may have.
+const MOST_FRAME_WORDS: usize = 255;
 
-/// The least address.
+/// A frame of zeros, of the most words that a frame may have.
+static ZEROS: [u32; MOST_FRAME_WORDS] = [0; MOST_FRAME_WORDS];
+
+/// The part's least address.
 fn first_address(part: &Part) -> u32
     ensures first { result ≡ slice_index (addresses_in part.now) 0 }
     ensures address { Contains (addresses_in part.now) result }
@@ -49,7 +52,7 @@ fn first_address(part: &Part) -> u32
     first
 }
 
-/// The number of all slots.
+/// How many slots the part has, those of pads among them.
 fn slot_count(part: &Part) -> u64
     ensures count { result ≡ length (slots_in part.now) }
     ensures limit { result ≤ most_slots }
@@ -98,7 +101,7 @@ fn first_words(words: &[u32], count: u32) -> &[u32]
     &words[..count as usize]
 }
 
-/// A frame of zeros.
+/// This many words of zeros, those of a frame.
 pub(crate) fn zeros(count: u32) -> &'static [u32]
     requires { count ≤ most_frame_words }
     ensures words { result.now ≡ replicate count 0 }
@@ -155,7 +158,7 @@ pub enum NextPiece {
     Check,
     /// The end of frame data, and the start of the device.
     Start,
-    /// The check after that.
+    /// The check after the start of the device.
     LastCheck,
     /// The end of the session.
     Desync,
@@ -169,7 +172,7 @@ pub struct FullStream<'p> {
     part: &'p Part,
     plan: &'p Plan,
     next: NextPiece,
-    /// The check of what was written.
+    /// The running check of what was written.
     checker: PieceChecker,
 }
 
@@ -204,9 +207,8 @@ impl<'p> FullStream<'p> {
         })
     }
 
-    /// Appends the next piece, of 160 frames at most, and says whether there was
-    /// one; after the last there is none for good.
-    /// After an error nothing was appended, and the same piece is next.
+    /// Appends the next piece, of 160 frames at most, and says whether there was one; after the last there is none for
+    /// good. After an error nothing was appended, and the same piece is next.
     pub fn put_next(&mut self, out: &mut Vec<u8>) -> Result<bool, NoMemory>
         ensures more { (given : List ℕ) → HasGiven self.old given → IfOk result (λ more. more ≡ true → AppendsNext self.new given out.old.items out.new.items) }
         ensures fewer { IfOk result (λ more. more ≡ true → puts_left self.new < puts_left self.old) }

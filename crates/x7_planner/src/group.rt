@@ -2,11 +2,11 @@
 ghost use Rattle.std.specs.Prelude.{◌≡◌, ◌==◌, ◌&&◌, ◌<◌, ◌++◌, if◌then◌else◌, [], ◌∷◌, slice_index, IfOk, OnOk};
 ghost use Rattle.std.specs.List.{flat_map};
 ghost use Rattle.x7_memory.specs.Plan.{planned_addresses};
-ghost use Rattle.x7_planner.specs.Content.{AreByContent, BeginsAt, content_rows};
+ghost use Rattle.x7_planner.specs.Content.{AreByContent, BeginsAt, planned_rows};
 ghost use Rattle.x7_planner.specs.PartialStream.{are_shared, copy_words, groups_led, others, section_words, with_content, Copies};
 ghost use Rattle.x7_planner.specs.Writer.{with_piece, Words};
 
-use crate::content::Content;
+use crate::content::{ByContent, PlannedFrame};
 use crate::writer::Writer;
 use std::alloc::{AllocError, Global};
 use x7_memory::Plan;
@@ -18,64 +18,62 @@ use x7_words::NoMemory;
 /// How many addresses a content has at least that is written once and copied.
 const GROUP_LEAST: usize = 3;
 
-/// Whether a content, whose first place is known, stands at three addresses or more.
-fn is_group(contents: &[Content], firsts: &[usize], start: usize, _words: &[u32]) -> bool
-    requires { BeginsAt contents.now firsts.now _words.now start }
-    ensures { result ≡ are_shared (content_rows contents.now) _words.now }
+/// Whether the content that begins at `start` stands at three addresses or more.
+fn are_shared(by_content: &ByContent<'_>, start: usize, _words: &[u32]) -> bool
+    requires { BeginsAt by_content.now _words.now start }
+    ensures { result ≡ are_shared (planned_rows by_content.now.frames.now) _words.now }
 {
-    if contents.len() - start < GROUP_LEAST {
+    if by_content.frames.len() - start < GROUP_LEAST {
         return false;
     }
-    firsts[start + (GROUP_LEAST - 1)] == start
+    by_content.firsts[start + (GROUP_LEAST - 1)] == start
 }
 
-/// Whether the row at an address is the first of three or more with its content.
-fn leads(contents: &[Content], firsts: &[usize], start: usize, far: u32, words: &[u32]) -> bool
-    requires { BeginsAt contents.now firsts.now words.now start }
-    ensures { result ≡ (are_shared (content_rows contents.now) words.now && (slice_index (planned_addresses (with_content words.now (content_rows contents.now))) 0 == far)) }
+/// Whether the row at an address is the first of three or more with its content, which begins at `start`.
+fn leads_group(by_content: &ByContent<'_>, start: usize, far: u32, words: &[u32]) -> bool
+    requires { BeginsAt by_content.now words.now start }
+    ensures { result ≡ (are_shared (planned_rows by_content.now.frames.now) words.now && (slice_index (planned_addresses (with_content words.now (planned_rows by_content.now.frames.now))) 0 == far)) }
 {
-    if !is_group(contents, firsts, start, words) {
+    if !are_shared(by_content, start, words) {
         return false;
     }
-    contents[start].far == far
+    by_content.frames[start].far == far
 }
 
-/// Copies a frame to each address of its content.
+/// Copies the frame that was written to each address of its content, which begins at `start`.
 fn put_copies(
     writer: &mut Writer,
-    contents: &[Content],
-    firsts: &[usize],
+    by_content: &ByContent<'_>,
     start: usize,
     _words: &[u32],
 ) -> Result<(), NoMemory>
-    requires { BeginsAt contents.now firsts.now _words.now start }
-    ensures { OnOk result (writer.new ≡ with_piece writer.old (Words (flat_map copy_words (planned_addresses (with_content _words.now (content_rows contents.now)))))) }
+    requires { BeginsAt by_content.now _words.now start }
+    ensures { OnOk result (writer.new ≡ with_piece writer.old (Words (flat_map copy_words (planned_addresses (with_content _words.now (planned_rows by_content.now.frames.now)))))) }
 {
-    for k in start..contents.len() {
-        if firsts[k] != start {
+    for k in start..by_content.frames.len() {
+        if by_content.firsts[k] != start {
             return Ok(());
         }
         writer.packets(&[
-            write_one(Reg::Far, contents[k].far),
+            write_one(Reg::Far, by_content.frames[k].far),
             write_one(Reg::Mfwr, 0),
         ])?;
     }
     Ok(())
 }
 
-/// Writes a content at its first address, and copies of it.
+/// Writes the content that begins at `start` at its first address, and copies of it.
 fn put_group(
     writer: &mut Writer,
     part: &Part,
-    contents: &[Content],
-    firsts: &[usize],
+    by_content: &ByContent<'_>,
     start: usize,
     words: &[u32],
 ) -> Result<(), NoMemory>
-    requires { BeginsAt contents.now firsts.now words.now start }
-    ensures { OnOk result (writer.new ≡ with_piece writer.old (Words (section_words part.now (Copies words.now (planned_addresses (with_content words.now (content_rows contents.now))))))) }
+    requires { BeginsAt by_content.now words.now start }
+    ensures { OnOk result (writer.new ≡ with_piece writer.old (Words (section_words part.now (Copies words.now (planned_addresses (with_content words.now (planned_rows by_content.now.frames.now))))))) }
 {
-    let far = contents[start].far;
+    let far = by_content.frames[start].far;
     writer.packets(&[
         command(Command::Wcfg),
         write_one(Reg::Far, far),
@@ -83,27 +81,26 @@ fn put_group(
     ])?;
     writer.words(words)?;
     writer.words(&command(Command::Mfw))?;
-    put_copies(writer, contents, firsts, start, words)?;
+    put_copies(writer, by_content, start, words)?;
     Ok(())
 }
 
-/// Writes the group that a row leads, if it leads one.
-fn put_led(
+/// Writes the group that the row at an address leads, if it leads one. The row's content begins at `start`.
+fn put_led_group(
     writer: &mut Writer,
     part: &Part,
-    contents: &[Content],
-    firsts: &[usize],
+    by_content: &ByContent<'_>,
     start: usize,
     far: u32,
     words: &[u32],
 ) -> Result<(), NoMemory>
-    requires { BeginsAt contents.now firsts.now words.now start }
-    ensures { OnOk result (writer.new ≡ with_piece writer.old (Words (flat_map (section_words part.now) (groups_led (content_rows contents.now) (record { far = far; words = words.now } ∷ []))))) }
+    requires { BeginsAt by_content.now words.now start }
+    ensures { OnOk result (writer.new ≡ with_piece writer.old (Words (flat_map (section_words part.now) (groups_led (planned_rows by_content.now.frames.now) (record { far = far; words = words.now } ∷ []))))) }
 {
-    if !leads(contents, firsts, start, far, words) {
+    if !leads_group(by_content, start, far, words) {
         return Ok(());
     }
-    put_group(writer, part, contents, firsts, start, words)?;
+    put_group(writer, part, by_content, start, words)?;
     Ok(())
 }
 
@@ -112,54 +109,50 @@ pub(crate) fn put_groups(
     writer: &mut Writer,
     part: &Part,
     plan: &Plan,
-    contents: &[Content],
-    firsts: &[usize],
-    starts: &[usize],
+    by_content: &ByContent<'_>,
 ) -> Result<(), NoMemory>
-    requires { AreByContent plan.now.rows contents.now firsts.now starts.now }
+    requires { AreByContent plan.now.rows by_content.now }
     ensures { OnOk result (writer.new ≡ with_piece writer.old (Words (flat_map (section_words part.now) (groups_led plan.now.rows plan.now.rows)))) }
 {
     for i in 0..plan.len() {
         let Some((far, words)) = plan.row(i) else {
             unreachable!()
         };
-        put_led(writer, part, contents, firsts, starts[i], far, words)?;
+        put_led_group(writer, part, by_content, by_content.starts[i], far, words)?;
     }
     Ok(())
 }
 
-/// Adds a frame unless a group has it.
-fn add_unless<'p>(
-    alone: &mut Vec<Content<'p>>,
-    shared: bool,
-    content: Content<'p>,
+/// Adds a frame to those that no group has, unless its content is shared.
+fn add_alone<'p>(
+    alone: &mut Vec<PlannedFrame<'p>>,
+    is_shared: bool,
+    frame: PlannedFrame<'p>,
 ) -> Result<(), AllocError>
-    ensures { OnOk result (alone.new.items ≡ (if shared then alone.old.items else alone.old.items ++ content.entry ∷ [])) }
+    ensures { OnOk result (alone.new.items ≡ (if is_shared then alone.old.items else alone.old.items ++ frame.entry ∷ [])) }
 {
-    if shared {
+    if is_shared {
         return Ok(());
     }
-    Ok(alone.push(content)?)
+    Ok(alone.push(frame)?)
 }
 
 /// The frames of a plan that no group has, in order.
 pub(crate) fn others_of<'p>(
     alloc: Global,
     plan: &'p Plan,
-    contents: &[Content],
-    firsts: &[usize],
-    starts: &[usize],
-) -> Result<Vec<Content<'p>>, AllocError>
-    requires { AreByContent plan.now.rows contents.now firsts.now starts.now }
-    ensures { IfOk result (λ alone. content_rows alone.items ≡ others plan.now.rows plan.now.rows) }
+    by_content: &ByContent<'_>,
+) -> Result<Vec<PlannedFrame<'p>>, AllocError>
+    requires { AreByContent plan.now.rows by_content.now }
+    ensures { IfOk result (λ alone. planned_rows alone.items ≡ others plan.now.rows plan.now.rows) }
 {
     let mut alone = Vec::with_capacity(alloc, plan.len())?;
     for row in 0..plan.len() {
         let Some((far, words)) = plan.row(row) else {
             unreachable!()
         };
-        let shared = is_group(contents, firsts, starts[row], words);
-        add_unless(&mut alone, shared, Content { far, words, row })?;
+        let is_shared = are_shared(by_content, by_content.starts[row], words);
+        add_alone(&mut alone, is_shared, PlannedFrame { far, words, row })?;
     }
     Ok(alone)
 }

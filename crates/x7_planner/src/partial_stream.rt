@@ -10,7 +10,7 @@ ghost use Rattle.x7_planner.specs.Writer.{with_piece, Words};
 ghost use Rattle.x7_planner.specs.declared.fault.PlanFault.{PlanFault};
 
 use crate::address::first_foreign;
-use crate::content::{Content, firsts_of, grouped, starts_of};
+use crate::content::{ByContent, PlannedFrame, firsts_of, frames_by_content, starts_of};
 use crate::fault::PlanFault;
 use crate::group::{others_of, put_groups};
 use crate::run::put_runs;
@@ -25,25 +25,31 @@ use x7_words::NoMemory;
 /// For how many words there is room at first: those of a small partial stream. A larger one makes more room.
 const SMALL_STREAM_WORDS: usize = 1024;
 
-/// The frames of a plan by content, and those that no group has.
+/// The frames of a plan, equal ones together, where the content of each of them and of each row begins, and the frames
+/// that no group has, in the plan's order.
 #[derive(Drop)]
 struct Grouping<'p> {
-    contents: Vec<Content<'p>>,
+    frames: Vec<PlannedFrame<'p>>,
     firsts: Vec<usize>,
     starts: Vec<usize>,
-    alone: Vec<Content<'p>>,
+    alone: Vec<PlannedFrame<'p>>,
 }
 
 /// The frames of a plan, equal ones together, and those that no group has.
 fn grouping_of(alloc: Global, plan: &Plan) -> Result<Grouping<'_>, AllocError>
     ensures { IfOk result (λ grouping. IsGrouping plan.now.rows grouping) }
 {
-    let contents = grouped(alloc, plan)?;
-    let firsts = firsts_of(alloc, &contents)?;
-    let starts = starts_of(alloc, plan, &contents, &firsts)?;
-    let alone = others_of(alloc, plan, &contents, &firsts, &starts)?;
+    let frames = frames_by_content(alloc, plan)?;
+    let firsts = firsts_of(alloc, &frames)?;
+    let starts = starts_of(alloc, plan, &frames, &firsts)?;
+    let by_content = ByContent {
+        frames: &frames,
+        firsts: &firsts,
+        starts: &starts,
+    };
+    let alone = others_of(alloc, plan, &by_content)?;
     Ok(Grouping {
-        contents,
+        frames,
         firsts,
         starts,
         alone,
@@ -75,14 +81,12 @@ fn put_sections(
     // For the proof alone: the part is in range and the plan in order, so its rows are few.
     let _frames = part.frames();
     let _rows = plan.len();
-    put_groups(
-        writer,
-        part,
-        plan,
-        &grouping.contents,
-        &grouping.firsts,
-        &grouping.starts,
-    )?;
+    let by_content = ByContent {
+        frames: &grouping.frames,
+        firsts: &grouping.firsts,
+        starts: &grouping.starts,
+    };
+    put_groups(writer, part, plan, &by_content)?;
     put_runs(writer, part, &grouping.alone)?;
     Ok(())
 }

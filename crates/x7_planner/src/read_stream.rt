@@ -34,8 +34,8 @@ fn read_of(alloc: Global, far: u32, words: u32) -> Result<Vec<u8>, NoMemory>
     Ok(writer.finish())
 }
 
-/// The stream that reads back n slots from an address on, after a frame of zeros.
-/// Memory is wanting only where they can be read.
+/// The stream that reads back n slots from an address on, after a frame of zeros. Memory is wanting only where they can
+/// be read.
 pub fn readback(alloc: Global, part: &Part, far: u32, n: u32) -> Result<Vec<u8>, PlanFault>
     ensures stream { IfOk result (λ bytes. bytes.items ≡ read_stream part.now far n) }
     ensures can { IfOk result (λ bytes. CanRead part.now far n) }

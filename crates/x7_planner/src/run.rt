@@ -2,11 +2,11 @@
 ghost use Rattle.std.specs.Prelude.{◌≡◌, ◌+◌, ◌-◌, ◌*◌, ◌<◌, ◌≤◌, false, length, All, Contains, OnOk};
 ghost use Rattle.x7_part.specs.AddressOrder.{addresses_in};
 ghost use Rattle.x7_part.specs.Limits.{most_frames};
-ghost use Rattle.x7_planner.specs.Content.{IsRunLength, content_rows};
-ghost use Rattle.x7_planner.specs.PartialStream.{follows, frames_words, runs_words, section_words, Rows};
+ghost use Rattle.x7_planner.specs.Content.{planned_rows};
+ghost use Rattle.x7_planner.specs.PartialStream.{IsRunLength, follows, frames_words, runs_words, section_words, Rows};
 ghost use Rattle.x7_planner.specs.Writer.{with_piece, Words};
 
-use crate::content::Content;
+use crate::content::PlannedFrame;
 use crate::full_stream::zeros;
 use crate::writer::Writer;
 use x7_packets::{command, frame_data, write_one};
@@ -15,7 +15,7 @@ use x7_regs::{Command, Reg};
 use x7_words::NoMemory;
 
 /// Whether the second address is the next of the first, in the same row.
-fn is_next(part: &Part, far: u32, next: u32) -> bool
+fn follows(part: &Part, far: u32, next: u32) -> bool
     requires { Contains (addresses_in part.now) far }
     ensures { result ≡ follows part.now far next }
 {
@@ -25,23 +25,23 @@ fn is_next(part: &Part, far: u32, next: u32) -> bool
     address == next
 }
 
-/// How many frames the first run has.
-fn run_length(part: &Part, frames: &[Content]) -> usize
+/// How many frames the longest run has that frames begin with.
+fn run_length(part: &Part, frames: &[PlannedFrame]) -> usize
     requires some { 0 < length frames.now }
-    requires addresses { All (λ row. Contains (addresses_in part.now) row.far) (content_rows frames.now) }
-    ensures { IsRunLength part.now (content_rows frames.now) result }
+    requires addresses { All (λ row. Contains (addresses_in part.now) row.far) (planned_rows frames.now) }
+    ensures { IsRunLength part.now (planned_rows frames.now) result }
 {
     for k in 1..frames.len() {
-        if !is_next(part, frames[k - 1].far, frames[k].far) {
+        if !follows(part, frames[k - 1].far, frames[k].far) {
             return k;
         }
     }
     frames.len()
 }
 
-/// Writes frames.
-fn put_frames(writer: &mut Writer, frames: &[Content]) -> Result<(), NoMemory>
-    ensures { OnOk result (writer.new ≡ with_piece writer.old (Words (frames_words (content_rows frames.now)))) }
+/// Writes the words of frames.
+fn put_frames(writer: &mut Writer, frames: &[PlannedFrame]) -> Result<(), NoMemory>
+    ensures { OnOk result (writer.new ≡ with_piece writer.old (Words (frames_words (planned_rows frames.now)))) }
 {
     for frame in frames {
         writer.words(frame.words)?;
@@ -50,10 +50,10 @@ fn put_frames(writer: &mut Writer, frames: &[Content]) -> Result<(), NoMemory>
 }
 
 /// Writes a run: the frames from its first address on, and a frame of zeros.
-fn put_run(writer: &mut Writer, part: &Part, run: &[Content]) -> Result<(), NoMemory>
+fn put_run(writer: &mut Writer, part: &Part, run: &[PlannedFrame]) -> Result<(), NoMemory>
     requires some { 0 < length run.now }
     requires limit { length run.now ≤ most_frames }
-    ensures { OnOk result (writer.new ≡ with_piece writer.old (Words (section_words part.now (Rows (content_rows run.now))))) }
+    ensures { OnOk result (writer.new ≡ with_piece writer.old (Words (section_words part.now (Rows (planned_rows run.now))))) }
 {
     let words = part.words() * (run.len() as u32 + 1);
     writer.packets(&[
@@ -67,10 +67,14 @@ fn put_run(writer: &mut Writer, part: &Part, run: &[Content]) -> Result<(), NoMe
 }
 
 /// Writes the longest runs of frames in order.
-pub(crate) fn put_runs(writer: &mut Writer, part: &Part, frames: &[Content]) -> Result<(), NoMemory>
-    requires addresses { All (λ row. Contains (addresses_in part.now) row.far) (content_rows frames.now) }
+pub(crate) fn put_runs(
+    writer: &mut Writer,
+    part: &Part,
+    frames: &[PlannedFrame],
+) -> Result<(), NoMemory>
+    requires addresses { All (λ row. Contains (addresses_in part.now) row.far) (planned_rows frames.now) }
     requires limit { length frames.now ≤ most_frames }
-    ensures { OnOk result (writer.new ≡ with_piece writer.old (Words (runs_words part.now (content_rows frames.now)))) }
+    ensures { OnOk result (writer.new ≡ with_piece writer.old (Words (runs_words part.now (planned_rows frames.now)))) }
 {
     let mut at = 0;
     while at < frames.len() {

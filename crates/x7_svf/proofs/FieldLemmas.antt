@@ -6,7 +6,7 @@ use Rattle.x7_svf.specs.Fields.{Between, Fields, Inside, Named, Scanning, are_he
 use Rattle.x7_svf.specs.Token.{Token, token_of}
 use Rattle.x7_svf.specs.Span.{AreWithin, StaysKept, at_of, fields_of, scanning_of}
 use Rattle.x7_svf.specs.declared.fields.Field.{Field}
-use Rattle.x7_svf.specs.declared.fields.Given.{Given}
+use Rattle.x7_svf.specs.declared.fields.FieldSpans.{FieldSpans}
 use Rattle.x7_svf.specs.declared.fields.Place.{Place}
 use Rattle.x7_svf.specs.declared.fields.Scanner.{Scanner}
 use Rattle.x7_svf.specs.declared.token.NextToken.{NextToken}
@@ -14,7 +14,7 @@ use Rattle.x7_svf.specs.declared.token.NextToken.TheVariants as next_token
 use Rattle.x7_svf.proofs.SpanLemmas.{more_stays, option_stays}
 
 -- a step as that at this place and of this token
-pub step_at : (kept rest : List ℕ) (g : Given) (p q : Place) (t u : NextToken) → p ≡ q → t ≡ u → scan_step (at_of kept q) (fields_of kept g) (token_of u rest) ≡ scan_step (at_of kept p) (fields_of kept g) (token_of t rest)
+pub step_at : (kept rest : List ℕ) (g : FieldSpans) (p q : Place) (t u : NextToken) → p ≡ q → t ≡ u → scan_step (at_of kept q) (fields_of kept g) (token_of u rest) ≡ scan_step (at_of kept p) (fields_of kept g) (token_of t rest)
 step_at kept rest g p q t u e f = sym (λ i. scan_step (at_of kept (e i)) (fields_of kept g) (token_of (f i) rest))
 
 pub none_between : (f : Fields) (t : NextToken) (rest : List ℕ) → ((n : ℕ) → t ≡ next_token.Word n → ⊥) → None ≡ scan_step Between f (token_of t rest)
@@ -38,7 +38,7 @@ none_inside k ds f next_token.End rest word not = refl
 pub none_holds : {A : Type 0} (o : Option A) (P : A → Type 0) → o ≡ None → IfSome o P
 none_holds o P e = subst (λ x. IfSome x P) (sym e) tt
 
-fields_stay : (a b : List ℕ) → StaysKept a b → (g : Given) → AreWithin (length a) g → fields_of b g ≡ fields_of a g
+fields_stay : (a b : List ℕ) → StaysKept a b → (g : FieldSpans) → AreWithin (length a) g → fields_of b g ≡ fields_of a g
 fields_stay a b f g w = λ i. record {
   tdi = option_stays a b f g.tdi w.0 i;
   tdo = option_stays a b f g.tdo w.1 i;
@@ -46,11 +46,11 @@ fields_stay a b f g w = λ i. record {
   smask = option_stays a b f g.smask w.3 i;
 }
 
-pub fields_more : (n m : ℕ) (g : Given) → n ≤ m → AreWithin n g → AreWithin m g
+pub fields_more : (n m : ℕ) (g : FieldSpans) → n ≤ m → AreWithin n g → AreWithin m g
 fields_more n m g l w = (omega (arith, l, w.0), omega (arith, l, w.1), omega (arith, l, w.2), omega (arith, l, w.3))
 
 -- digits more
-pub digits_more : (kept more : List ℕ) (b : List ℕ) (g : Given) (k : Field) (from : ℕ) → b ≡ kept ++ more → from ≤ length kept → AreWithin (length kept) g → are_hex more ≡ true
+pub digits_more : (kept more : List ℕ) (b : List ℕ) (g : FieldSpans) (k : Field) (from : ℕ) → b ≡ kept ++ more → from ≤ length kept → AreWithin (length kept) g → are_hex more ≡ true
     → ◌≡◌ {A = Option Scanning} (Some (record { at = Inside k (drop from b); fields = fields_of b g })) (if are_hex more then Some (record { at = Inside k (drop from kept ++ more); fields = fields_of kept g }) else None)
 digits_more kept more b g k from e l w h =
     let digits : drop from b ≡ drop from kept ++ more = ap (drop from) e ∙ drop-append-le from kept more l in
@@ -60,7 +60,7 @@ digits_more kept more b g k from e l w h =
     ∙ sym (ap {B = Option Scanning} (λ (test : Bool). if test then Some (record { at = Inside k (drop from kept ++ more); fields = fields_of kept g }) else None) h)
 
 -- the fields of tokens of which the first was taken
-pub scan_on : (a b : List ℕ) (s next : Scanner) (ms left : List Token) (m : Token) (all : Option Fields) → all ≡ scan_from (at_of a s.place) (fields_of a s.given) ms → ms ≡ m ∷ left
-    → scanning_of b (Some next) ≡ scan_step (at_of a s.place) (fields_of a s.given) m → all ≡ scan_from (at_of b next.place) (fields_of b next.given) left
+pub scan_on : (a b : List ℕ) (s next : Scanner) (ms left : List Token) (m : Token) (all : Option Fields) → all ≡ scan_from (at_of a s.place) (fields_of a s.spans) ms → ms ≡ m ∷ left
+    → scanning_of b (Some next) ≡ scan_step (at_of a s.place) (fields_of a s.spans) m → all ≡ scan_from (at_of b next.place) (fields_of b next.spans) left
 scan_on a b s next ms left m all h e is =
-    h ∙ ap (scan_from (at_of a s.place) (fields_of a s.given)) e ∙ sym (ap (λ (o : Option Scanning). fields_after_step o (λ x g. scan_from x g left)) is)
+    h ∙ ap (scan_from (at_of a s.place) (fields_of a s.spans)) e ∙ sym (ap (λ (o : Option Scanning). fields_after_step o (λ x g. scan_from x g left)) is)

@@ -3,6 +3,7 @@ pub mod ByteLemmas
 pub mod DigitLemmas
 pub mod FieldLemmas
 pub mod NextLemmas
+pub mod NumberLemmas
 pub mod OutcomeLemmas
 pub mod TokenLemmas
 pub mod ReadingLemmas

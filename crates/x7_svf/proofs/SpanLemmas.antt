@@ -4,7 +4,7 @@ use Rattle.std.proofs.Common.{◌≡◌, inl, inr, ℕ, ◌+◌, ◌-◌, ◌≤
 use Rattle.std.proofs.lemmas.Bool.{cases_lt}
 use Rattle.std.proofs.lemmas.List.{drop-take, take-append-le, take-take, take_all}
 use Rattle.x7_svf.specs.Bits.{bits_of}
-use Rattle.x7_svf.specs.Fields.{bits_option}
+use Rattle.x7_svf.specs.Fields.{bits_if}
 use Rattle.x7_svf.specs.Span.{AreWordsWithin, StaysKept, bytes_in, digits_if, span_end_if, span_end, words_kept}
 use Rattle.x7_svf.specs.Stored.{AreStoredWithin, IsStored, IsStoredWithin, statement_in, statements_in, stored_if}
 use Rattle.x7_svf.specs.declared.span.Span.{Span}
@@ -55,7 +55,7 @@ module _ (a b : List ℕ) (f : StaysKept a b) where
   statement_stays stored.Idle w = refl
   statement_stays (stored.Run n) w = refl
   statement_stays stored.Nothing w = refl
-  statement_stays (stored.Scan s) w = λ i. statement.Scan (record { register = s.register; tdi = bits_of s.count (bytes_stay s.tdi w.0 i); tdo = bits_option s.count (option_stays s.tdo w.1 i); mask = bits_option s.count (option_stays s.mask w.2 i) })
+  statement_stays (stored.Scan s) w = λ i. statement.Scan (record { register = s.register; tdi = bits_of s.bit_count (bytes_stay s.tdi w.0 i); tdo = bits_if s.bit_count (option_stays s.tdo w.1 i); mask = bits_if s.bit_count (option_stays s.mask w.2 i) })
 
   pub statements_stay : (ss : List Stored) → AreStoredWithin (length a) ss → statements_in b ss ≡ statements_in a ss
   statements_stay [] w = refl

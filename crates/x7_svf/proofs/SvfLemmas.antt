@@ -8,7 +8,7 @@ use Rattle.x7_svf.specs.Token.{TokenOnLine}
 use Rattle.x7_svf.specs.Source.{SourceState, tokens_left}
 use Rattle.x7_svf.specs.Span.{StaysKept}
 use Rattle.x7_svf.specs.Stored.{AreStoredWithin, IsStoredWithin, statement_in, statements_in, stored_if}
-use Rattle.x7_svf.specs.Svf.{BeginWithOne, first_statement, outcome, tokens_after_end}
+use Rattle.x7_svf.specs.Svf.{BeginWithStatement, first_statement, outcome, tokens_after_end}
 use Rattle.x7_svf.proofs.OutcomeLemmas.{after_all, one_on}
 use Rattle.x7_svf.proofs.SpanLemmas.{all_stored_more, prefix_long, statements_stay}
 
@@ -34,6 +34,6 @@ module _ (ps : List TokenOnLine) (before here after : SourceState) (out new : Li
       subst (AreStoredWithin (length after.kept)) (sym e) (all_append (IsStoredWithin (length after.kept)) out (one ∷ []) (all_stored_more (length before.kept) (length after.kept) out few w) (o, tt))
 
   -- tokens begin with a statement, the first of all or this one
-  pub one_begins : (length out ≡ 0) × (tokens_left before ≡ ps) ⊎ BeginWithOne ps → tokens_left before ≡ tokens_left here → stored_if after.kept (Some one) ≡ first_statement (tokens_left here) → BeginWithOne ps
+  pub one_begins : (length out ≡ 0) × (tokens_left before ≡ ps) ⊎ BeginWithStatement ps → tokens_left before ≡ tokens_left here → stored_if after.kept (Some one) ≡ first_statement (tokens_left here) → BeginWithStatement ps
   one_begins (inl z) there is = (statement_in after.kept one, ap first_statement (sym z.1 ∙ there) ∙ sym is)
   one_begins (inr b) there is = b

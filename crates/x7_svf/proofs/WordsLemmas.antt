@@ -3,7 +3,7 @@ use Rattle.std.proofs.Common.{◌≡◌, ℕ, ◌||◌, ◌≤◌, Bool, true, f
 use Rattle.std.specs.List.{list_all}
 use Rattle.x7_svf.specs.Token.{Token, TokenOnLine, token_of}
 use Rattle.x7_svf.specs.Source.{SourceState, left_after}
-use Rattle.x7_svf.specs.Words.{is_free_token, is_key, statement_if_words, statement_of_words, word_before, words_of}
+use Rattle.x7_svf.specs.Words.{is_free_token, is_keyword, statement_if_words, statement_of_words, word_before, words_of}
 use Rattle.x7_svf.specs.Svf.{tokens_before_end}
 use Rattle.x7_svf.specs.declared.token.NextToken.{NextToken}
 use Rattle.x7_svf.specs.declared.token.NextToken.TheVariants as next_token
@@ -20,8 +20,8 @@ none_if false x e = e
 
 five : (k a b c d e : List ℕ) (ws : List (List ℕ)) → statement_of_words k (a ∷ b ∷ c ∷ d ∷ e ∷ ws) ≡ None
 five k a b c d e ws =
-    none_if (is_key k (codes "STATE")) _ (none_if (is_key k (codes "RUNTEST")) _ (none_if (is_key k (codes "ENDIR") || is_key k (codes "ENDDR")) _
-    (none_if (is_key k (codes "HIR") || is_key k (codes "HDR") || is_key k (codes "TIR") || is_key k (codes "TDR")) _ (none_if (is_key k (codes "TRST")) None refl))))
+    none_if (is_keyword k (codes "STATE")) _ (none_if (is_keyword k (codes "RUNTEST")) _ (none_if (is_keyword k (codes "ENDIR") || is_keyword k (codes "ENDDR")) _
+    (none_if (is_keyword k (codes "HIR") || is_keyword k (codes "HDR") || is_keyword k (codes "TIR") || is_keyword k (codes "TDR")) _ (none_if (is_keyword k (codes "TRST")) None refl))))
 
 more_words : (k : List ℕ) (ws : List (List ℕ)) (w : List ℕ) (vs : List (List ℕ)) → 4 ≤ length ws → statement_of_words k (ws ++ w ∷ vs) ≡ None
 more_words k [] w vs l = absurd (omega (arith, l))

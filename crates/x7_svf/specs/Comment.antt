@@ -10,7 +10,7 @@ begins_with d (c ∷ cs) = c == d
 abbrev pub begins_comment : ℕ → List ℕ → Bool
 begins_comment c cs = c == 33 || (c == 47 && begins_with 47 cs)
 
--- the byte is one of a comment; the first argument says so of the byte before
+-- the byte, which these follow, is one of a comment; the first argument says whether the byte before it was one
 abbrev pub is_inside : Bool → ℕ → List ℕ → Bool
 is_inside true c cs = not (c == 10)
 is_inside false c cs = begins_comment c cs

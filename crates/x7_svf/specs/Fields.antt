@@ -1,11 +1,11 @@
 -- The fields of a scan, and what it says (this project's profile of SVF). After the number of bits come the fields, in
--- any order and each at most once: a field's name, `(`, hexadecimal digits, at
--- least one, which blanks may part, and `)`.
+-- any order and each at most once: a field's name, `(`, hexadecimal digits, at least one, which blanks may
+-- part, and `)`.
 use Rattle.std.specs.Prelude.{ℕ, ◌+◌, ◌*◌, ◌^◌, ◌==◌, ◌||◌, ◌&&◌, nat_le, nat_lt, Bool, true, false, if◌then◌else◌, List, [], ◌∷◌, ◌++◌, Option, Some, None, codes, length}
 use Rattle.std.specs.List.{list_all}
 use Rattle.x7_svf.specs.Token.{Token, Word, Open, Close, End}
 use Rattle.x7_svf.specs.Bits.{bits_of, digit_number}
-use Rattle.x7_svf.specs.Words.{is_digit, is_key, number_within}
+use Rattle.x7_svf.specs.Words.{is_digit, is_keyword, number_within}
 use Rattle.x7_svf.specs.declared.statement.ScannedRegister.{ScannedRegister}
 use Rattle.x7_svf.specs.declared.statement.Statement.{Statement}
 use Rattle.x7_svf.specs.declared.statement.Statement.TheVariants as statement
@@ -15,10 +15,10 @@ use Rattle.x7_svf.specs.declared.fields.Field.TheVariants as field
 -- the field of a name, in either case
 abbrev pub field_by_name : List ℕ → Option Field
 field_by_name w =
-    if is_key w (codes "TDI") then Some field.Tdi
-    else (if is_key w (codes "TDO") then Some field.Tdo
-    else (if is_key w (codes "MASK") then Some field.Mask
-    else (if is_key w (codes "SMASK") then Some field.Smask else None)))
+    if is_keyword w (codes "TDI") then Some field.Tdi
+    else (if is_keyword w (codes "TDO") then Some field.Tdo
+    else (if is_keyword w (codes "MASK") then Some field.Mask
+    else (if is_keyword w (codes "SMASK") then Some field.Smask else None)))
 
 -- a hexadecimal digit of either case
 abbrev pub is_hex : ℕ → Bool
@@ -68,32 +68,32 @@ abbrev pub closed_field : Fields → Field → List ℕ → Option Fields
 closed_field f k ds = if nat_lt 0 (length ds) then put_field f k ds else None
 
 -- after the brackets of a field another field may come
-abbrev pub closed_by : Option Fields → Option Scanning
-closed_by None = None
-closed_by (Some f) = Some (record { at = Between; fields = f })
+abbrev pub after_field : Option Fields → Option Scanning
+after_field None = None
+after_field (Some f) = Some (record { at = Between; fields = f })
 
 -- where a reader of a scan stands after one token more, and the fields then; none where no scan goes on so
 abbrev pub scan_step : At → Fields → Token → Option Scanning
 scan_step Between f (Word w) = after_name f (field_by_name w)
 scan_step (Named k) f Open = Some (record { at = Inside k []; fields = f })
 scan_step (Inside k ds) f (Word w) = if are_hex w then Some (record { at = Inside k (ds ++ w); fields = f }) else None
-scan_step (Inside k ds) f Close = closed_by (closed_field f k ds)
+scan_step (Inside k ds) f Close = after_field (closed_field f k ds)
 scan_step _ f _ = None
 
--- the fields, where the tokens end between two of them
-abbrev pub done : At → Fields → Option Fields
-done Between f = Some f
-done (Named k) f = None
-done (Inside k ds) f = None
+-- the fields where a scan's tokens end: between two fields, and not inside one
+abbrev pub fields_at_end : At → Fields → Option Fields
+fields_at_end Between f = Some f
+fields_at_end (Named k) f = None
+fields_at_end (Inside k ds) f = None
 
--- the fields that a reader of a scan comes to who goes on from where it stands
+-- the fields that a reader of a scan comes to from where it stands after a step; none where no scan goes on so
 abbrev pub fields_after_step : Option Scanning → (At → Fields → Option Fields) → Option Fields
 fields_after_step None next = None
 fields_after_step (Some s) next = next s.at s.fields
 
 -- the fields of tokens, by where they begin and the fields before them
 abbrev pub scan_from : At → Fields → List Token → Option Fields
-scan_from at f [] = done at f
+scan_from at f [] = fields_at_end at f
 scan_from at f (t ∷ ts) = fields_after_step (scan_step at f t) (λ a g. scan_from a g ts)
 
 -- no field as yet
@@ -125,28 +125,28 @@ abbrev pub all_fit : ℕ → Fields → Bool
 all_fit n f = fits n f.tdi && fits n f.tdo && fits n f.mask && fits n f.smask
 
 -- the bits of a field that may be left out
-abbrev pub bits_option : ℕ → Option (List ℕ) → Option (List Bool)
-bits_option n None = None
-bits_option n (Some ds) = Some (bits_of n ds)
+abbrev pub bits_if : ℕ → Option (List ℕ) → Option (List Bool)
+bits_if n None = None
+bits_if n (Some ds) = Some (bits_of n ds)
 
 -- the scan of fields by the digits of TDI
 abbrev pub with_tdi : ScannedRegister → ℕ → Fields → Option (List ℕ) → Option Statement
 with_tdi register n f None = None
-with_tdi register n f (Some ds) = Some (statement.Scan (record { register = register; tdi = bits_of n ds; tdo = bits_option n f.tdo; mask = bits_option n f.mask }))
+with_tdi register n f (Some ds) = Some (statement.Scan (record { register = register; tdi = bits_of n ds; tdo = bits_if n f.tdo; mask = bits_if n f.mask }))
 
 -- the scan of fields: TDI is required
 abbrev pub scan_by : ScannedRegister → ℕ → Option Fields → Option Statement
 scan_by register n None = None
 scan_by register n (Some f) = if all_fit n f then with_tdi register n f f.tdi else None
 
--- the most bits of a scan
+-- the most bits of a scan: 2^29
 abbrev pub most_bits : ℕ
 most_bits = 536870912
 
--- a scan's number of bits, which is not 0
-abbrev pub some_bits : Option ℕ → Option ℕ
-some_bits None = None
-some_bits (Some n) = if n == 0 then None else Some n
+-- a number that is not 0: how many bits a scan has
+abbrev pub positive_count : Option ℕ → Option ℕ
+positive_count None = None
+positive_count (Some n) = if n == 0 then None else Some n
 
 -- the scan of this many bits, where that is a number of bits, by the tokens after it
 abbrev pub scan_if : ScannedRegister → Option ℕ → List Token → Option Statement
@@ -156,7 +156,7 @@ scan_if register (Some n) ts = scan_by register n (scan_from Between no_fields t
 -- the scan of the tokens after SIR or SDR
 abbrev pub scan_of : ScannedRegister → List Token → Option Statement
 scan_of register [] = None
-scan_of register (Word n ∷ ts) = scan_if register (some_bits (number_within most_bits n)) ts
+scan_of register (Word n ∷ ts) = scan_if register (positive_count (number_within most_bits n)) ts
 scan_of register (Open ∷ ts) = None
 scan_of register (Close ∷ ts) = None
 scan_of register (End ∷ ts) = None

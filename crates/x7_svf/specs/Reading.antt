@@ -1,4 +1,4 @@
--- What a step of a reader leaves of a text on its way (this project's choice).
+-- What a step of the reader leaves of the text that it reads (this project's choice).
 use Rattle.std.specs.Prelude.{◌≡◌, ◌<◌, ◌≤◌, ℕ, length, drop}
 use Rattle.x7_svf.specs.Token.{token_size}
 use Rattle.x7_svf.specs.Source.{SourceState, tokens_left}

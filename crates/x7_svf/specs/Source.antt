@@ -1,4 +1,4 @@
--- A text on its way (this project's choice).
+-- A text that is read from its first byte on, and the bytes that are kept of it (this project's choice).
 use Rattle.std.specs.Prelude.{ℕ, List, ◌∷◌, drop}
 use Rattle.x7_svf.specs.Token.{TokenOnLine, token_of, tokens, token_size}
 use Rattle.x7_svf.specs.declared.token.NextToken.{NextToken}

@@ -4,7 +4,7 @@ use Rattle.x7_svf.specs.Fields.{At, Between, Named, Inside, Fields, Scanning}
 use Rattle.x7_svf.specs.declared.span.Span.{Span}
 use Rattle.x7_svf.specs.declared.fields.Place.{Place}
 use Rattle.x7_svf.specs.declared.fields.Place.TheVariants as place
-use Rattle.x7_svf.specs.declared.fields.Given.{Given}
+use Rattle.x7_svf.specs.declared.fields.FieldSpans.{FieldSpans}
 use Rattle.x7_svf.specs.declared.fields.Scanner.{Scanner}
 use Rattle.x7_svf.specs.declared.words.Words.{Words}
 use Rattle.x7_svf.specs.declared.words.Words.TheVariants as words
@@ -19,13 +19,13 @@ digits_if kept None = None
 digits_if kept (Some s) = Some (bytes_in kept s)
 
 -- the fields of a scan whose digits are kept
-abbrev pub fields_of : List ℕ → Given → Fields
+abbrev pub fields_of : List ℕ → FieldSpans → Fields
 fields_of kept g = record { tdi = digits_if kept g.tdi; tdo = digits_if kept g.tdo; mask = digits_if kept g.mask; smask = digits_if kept g.smask }
 
 -- the fields of a scan, if they are any
-abbrev pub given_as : List ℕ → Option Given → Option Fields
-given_as kept None = None
-given_as kept (Some g) = Some (fields_of kept g)
+abbrev pub fields_if : List ℕ → Option FieldSpans → Option Fields
+fields_if kept None = None
+fields_if kept (Some g) = Some (fields_of kept g)
 
 -- where a reader of a scan stands; inside brackets after the digits kept from a place on
 abbrev pub at_of : List ℕ → Place → At
@@ -33,18 +33,18 @@ at_of kept place.Between = Between
 at_of kept (place.Named k) = Named k
 at_of kept (place.Inside k from) = Inside k (drop from kept)
 
--- where a reader of a scan stands, and the fields so far
+-- where a reader of a scan stands, and the fields so far, if a scan goes on so
 abbrev pub scanning_of : List ℕ → Option Scanner → Option Scanning
 scanning_of kept None = None
-scanning_of kept (Some s) = Some (record { at = at_of kept s.place; fields = fields_of kept s.given })
+scanning_of kept (Some s) = Some (record { at = at_of kept s.place; fields = fields_of kept s.spans })
 
 -- ---- what is kept stays
 
--- the second begins with the first
+-- the bytes kept later begin with those kept before
 abbrev pub StaysKept : List ℕ → List ℕ → Type 0
 StaysKept prefix all = take (length prefix) all ≡ prefix
 
--- where digits end
+-- where the bytes of a span end among those kept
 abbrev pub span_end : Span → ℕ
 span_end s = s.from + s.count
 
@@ -54,7 +54,7 @@ span_end_if None = 0
 span_end_if (Some s) = span_end s
 
 -- the digits of all fields are among the first n bytes
-abbrev pub AreWithin : ℕ → Given → Type 0
+abbrev pub AreWithin : ℕ → FieldSpans → Type 0
 AreWithin n g = (span_end_if g.tdi ≤ n) × (span_end_if g.tdo ≤ n) × (span_end_if g.mask ≤ n) × (span_end_if g.smask ≤ n)
 
 -- the open field, if there is one, begins among the first n bytes
@@ -65,7 +65,7 @@ IsPlaceWithin n (place.Inside k from) = from ≤ n
 
 -- the digits of all fields, and of the open one, are among the first n bytes
 abbrev pub IsWithin : ℕ → Scanner → Type 0
-IsWithin n s = IsPlaceWithin n s.place × AreWithin n s.given
+IsWithin n s = IsPlaceWithin n s.place × AreWithin n s.spans
 
 -- ---- words
 

@@ -2,7 +2,7 @@
 use Rattle.std.specs.Prelude.{◌≡◌, ℕ, ◌≤◌, ⊤, List, length, map, Option, Some, None, IfSome}
 use Rattle.std.specs.List.{AllByRecursion}
 use Rattle.x7_svf.specs.Bits.{bits_of}
-use Rattle.x7_svf.specs.Fields.{bits_option}
+use Rattle.x7_svf.specs.Fields.{bits_if}
 use Rattle.x7_svf.specs.Span.{digits_if, bytes_in, span_end_if, span_end}
 use Rattle.x7_svf.specs.declared.statement.Statement.{Statement}
 use Rattle.x7_svf.specs.declared.statement.Statement.TheVariants as statement
@@ -10,9 +10,9 @@ use Rattle.x7_svf.specs.declared.stored.StoredScan.{StoredScan}
 use Rattle.x7_svf.specs.declared.stored.Stored.{Stored}
 use Rattle.x7_svf.specs.declared.stored.Stored.TheVariants as stored
 
--- the scan that is stored: the digits of each field, which are among those kept, as the scan's number of bits
+-- the scan that is stored, with the bits of each field, whose digits are among those kept
 abbrev pub scan_in : List ℕ → StoredScan → Statement
-scan_in kept s = statement.Scan (record { register = s.register; tdi = bits_of s.count (bytes_in kept s.tdi); tdo = bits_option s.count (digits_if kept s.tdo); mask = bits_option s.count (digits_if kept s.mask) })
+scan_in kept s = statement.Scan (record { register = s.register; tdi = bits_of s.bit_count (bytes_in kept s.tdi); tdo = bits_if s.bit_count (digits_if kept s.tdo); mask = bits_if s.bit_count (digits_if kept s.mask) })
 
 -- a statement, the digits of whose scan are kept
 abbrev pub statement_in : List ℕ → Stored → Statement

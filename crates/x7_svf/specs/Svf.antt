@@ -1,5 +1,5 @@
--- What a text comes to: its statements, or the line on which the first begins that
--- is none (this project's profile of SVF).
+-- What a text comes to: its statements, or the line on which the first begins that is none (this project's profile of
+-- SVF).
 use Rattle.std.specs.Prelude.{◌≡◌, ℕ, zero, suc, false, List, [], ◌∷◌, length, Option, Some, None, Result, Ok, Err}
 use Rattle.x7_svf.specs.Comment.{clean_text}
 use Rattle.x7_svf.specs.Token.{Token, Word, Open, Close, End, TokenOnLine, tokens}
@@ -28,7 +28,7 @@ tokens_after_end (t ∷ ts) = elim t.token as (λ t. Option (List TokenOnLine)) 
   | End ↦ Some ts
 ]
 
--- a statement counts where its `;` stands
+-- a statement counts only where it has its `;`
 abbrev pub if_ended : Option (List TokenOnLine) → Option Statement → Option Statement
 if_ended None s = None
 if_ended (Some after) s = s
@@ -48,7 +48,7 @@ with_first line None more = Err (fault.Line line)
 with_first line (Some s) (Ok ss) = Ok (s ∷ ss)
 with_first line (Some s) (Err f) = Err f
 
--- what tokens come to, of which at most so many are statements
+-- what tokens come to, at most n statements of which are read
 abbrev pub outcome_by : ℕ → List TokenOnLine → Result (List Statement) SvfFault
 outcome_by n [] = Ok []
 outcome_by zero (t ∷ ts) = Err (fault.Line t.line)
@@ -59,8 +59,8 @@ abbrev pub outcome : List TokenOnLine → Result (List Statement) SvfFault
 outcome ts = outcome_by (length ts) ts
 
 -- the tokens begin with a statement
-abbrev pub BeginWithOne : List TokenOnLine → Type 0
-BeginWithOne ts = (one : Statement) × (first_statement ts ≡ Some one)
+abbrev pub BeginWithStatement : List TokenOnLine → Type 0
+BeginWithStatement ts = (one : Statement) × (first_statement ts ≡ Some one)
 
 -- the tokens of a text with comments
 abbrev pub tokens_of : List ℕ → List TokenOnLine

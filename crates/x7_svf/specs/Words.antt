@@ -1,33 +1,26 @@
 -- What a statement of words alone says (this project's profile of SVF).
-use Rattle.std.specs.Prelude.{ℕ, ◌+◌, ◌-◌, ◌*◌, ◌==◌, ◌||◌, ◌&&◌, not, nat_le, nat_lt, Bool, true, if◌then◌else◌, List, [], ◌∷◌, Option, Some, None, codes, map, length}
+use Rattle.std.specs.Prelude.{ℕ, ◌==◌, ◌||◌, ◌&&◌, not, nat_le, nat_lt, Bool, true, if◌then◌else◌, List, [], ◌∷◌, Option, Some, None, codes, map, length}
 use Rattle.std.specs.List.{list_all}
 use Rattle.std.specs.Borrow.{Bor}
 use Rattle.std.specs.Str.{str_eq_ignore_ascii_case}
+use Rattle.std.specs.Str.Parse.{digits_value}
 use Rattle.x7_svf.specs.Token.{Token, Word, Open, Close, End}
 use Rattle.x7_svf.specs.declared.statement.Statement.{Statement}
 use Rattle.x7_svf.specs.declared.statement.Statement.TheVariants as statement
 
 -- the word is this keyword, in either case
-abbrev pub is_key : List ℕ → List ℕ → Bool
-is_key word key = str_eq_ignore_ascii_case word key
+abbrev pub is_keyword : List ℕ → List ℕ → Bool
+is_keyword word key = str_eq_ignore_ascii_case word key
 
 -- a decimal digit
 abbrev pub is_digit : ℕ → Bool
 is_digit c = nat_le 48 c && nat_le c 57
 
--- the number of decimal digits, leading zeros allowed, where it is within a
--- limit; the first so many are read as `so_far`
-abbrev pub number_from : ℕ → ℕ → List ℕ → Option ℕ
-number_from limit so_far [] = Some so_far
-number_from limit so_far (c ∷ cs) =
-    if is_digit c && nat_le (so_far * 10 + (c - 48)) limit then number_from limit (so_far * 10 + (c - 48)) cs else None
-
--- the number of a word of decimal digits, within a limit
+-- the number of a word of decimal digits, one at least and leading zeros allowed, where it is within a limit
 abbrev pub number_within : ℕ → List ℕ → Option ℕ
-number_within limit [] = None
-number_within limit (c ∷ cs) = number_from limit 0 (c ∷ cs)
+number_within limit w = if nat_lt 0 (length w) && list_all is_digit w && nat_le (digits_value 10 w) limit then Some (digits_value 10 w) else None
 
--- the most clocks of a run
+-- the most clocks of a run: 2^24
 abbrev pub most_clocks : ℕ
 most_clocks = 16777216
 
@@ -44,8 +37,8 @@ abbrev pub is_free_byte : ℕ → Bool
 is_free_byte c = not (c == 13)
 
 -- a word without 0D
-abbrev pub is_free : List ℕ → Bool
-is_free w = list_all is_free_byte w
+abbrev pub is_free_word : List ℕ → Bool
+is_free_word w = list_all is_free_byte w
 
 -- a word before others, if these are words
 abbrev pub word_before : List ℕ → Option (List (List ℕ)) → Option (List (List ℕ))
@@ -60,7 +53,7 @@ words_of (Open ∷ ts) = None
 words_of (Close ∷ ts) = None
 words_of (End ∷ ts) = None
 
--- a statement, where the test holds
+-- this statement, where the test holds
 abbrev pub some_if : Bool → Statement → Option Statement
 some_if b s = if b then Some s else None
 
@@ -74,41 +67,42 @@ abbrev pub run_if : Bool → List ℕ → Option Statement
 run_if b n = if b then run_by (number_within most_clocks n) else None
 
 -- the statement of the words after STATE
-abbrev pub state_words : List (List ℕ) → Option Statement
-state_words (w ∷ []) = if is_key w (codes "RESET") then Some statement.Reset else some_if (is_key w (codes "IDLE")) statement.Idle
-state_words _ = None
+abbrev pub state_statement : List (List ℕ) → Option Statement
+state_statement (w ∷ []) = if is_keyword w (codes "RESET") then Some statement.Reset else some_if (is_keyword w (codes "IDLE")) statement.Idle
+state_statement _ = None
 
 -- the statement of the words after RUNTEST
-abbrev pub run_words : List (List ℕ) → Option Statement
-run_words (n ∷ t ∷ []) =
-    if is_key t (codes "TCK") then run_by (number_within most_clocks n) else some_if (is_key t (codes "SEC") && is_time n) statement.Nothing
-run_words (i ∷ n ∷ t ∷ []) = run_if (is_key i (codes "IDLE") && is_key t (codes "TCK")) n
-run_words (n ∷ t ∷ x ∷ s ∷ []) = run_if (is_key t (codes "TCK") && is_time x && is_key s (codes "SEC")) n
-run_words _ = None
+abbrev pub runtest_statement : List (List ℕ) → Option Statement
+runtest_statement (n ∷ t ∷ []) =
+    if is_keyword t (codes "TCK") then run_by (number_within most_clocks n) else some_if (is_keyword t (codes "SEC") && is_time n) statement.Nothing
+runtest_statement (i ∷ n ∷ t ∷ []) = run_if (is_keyword i (codes "IDLE") && is_keyword t (codes "TCK")) n
+runtest_statement (n ∷ t ∷ x ∷ s ∷ []) = run_if (is_keyword t (codes "TCK") && is_time x && is_keyword s (codes "SEC")) n
+runtest_statement _ = None
 
 -- the statement of the words after ENDIR or ENDDR: IDLE alone
-abbrev pub end_words : List (List ℕ) → Option Statement
-end_words (w ∷ []) = some_if (is_key w (codes "IDLE")) statement.Nothing
-end_words _ = None
+abbrev pub end_state_statement : List (List ℕ) → Option Statement
+end_state_statement (w ∷ []) = some_if (is_keyword w (codes "IDLE")) statement.Nothing
+end_state_statement _ = None
 
--- the statement of the words after HIR, HDR, TIR or TDR: 0 alone, as no other device stands in the chain
-abbrev pub zero_words : List (List ℕ) → Option Statement
-zero_words (w ∷ []) = some_if (is_key w (codes "0")) statement.Nothing
-zero_words _ = None
+-- the statement of the words after HIR, HDR, TIR or TDR, the bits of other devices in the chain: 0 alone, as none
+-- stands in it
+abbrev pub chain_statement : List (List ℕ) → Option Statement
+chain_statement (w ∷ []) = some_if (is_keyword w (codes "0")) statement.Nothing
+chain_statement _ = None
 
 -- the statement of the words after TRST
-abbrev pub reset_words : List (List ℕ) → Option Statement
-reset_words (w ∷ []) = some_if (is_free w) statement.Nothing
-reset_words _ = None
+abbrev pub trst_statement : List (List ℕ) → Option Statement
+trst_statement (w ∷ []) = some_if (is_free_word w) statement.Nothing
+trst_statement _ = None
 
 -- the statement of a keyword and the words after it
 abbrev pub statement_of_words : List ℕ → List (List ℕ) → Option Statement
 statement_of_words k ws =
-    if is_key k (codes "STATE") then state_words ws
-    else (if is_key k (codes "RUNTEST") then run_words ws
-    else (if is_key k (codes "ENDIR") || is_key k (codes "ENDDR") then end_words ws
-    else (if is_key k (codes "HIR") || is_key k (codes "HDR") || is_key k (codes "TIR") || is_key k (codes "TDR") then zero_words ws
-    else (if is_key k (codes "TRST") then reset_words ws else None))))
+    if is_keyword k (codes "STATE") then state_statement ws
+    else (if is_keyword k (codes "RUNTEST") then runtest_statement ws
+    else (if is_keyword k (codes "ENDIR") || is_keyword k (codes "ENDDR") then end_state_statement ws
+    else (if is_keyword k (codes "HIR") || is_keyword k (codes "HDR") || is_keyword k (codes "TIR") || is_keyword k (codes "TDR") then chain_statement ws
+    else (if is_keyword k (codes "TRST") then trst_statement ws else None))))
 
 -- the statement of a keyword and the tokens after it, where these are words
 abbrev pub statement_if_words : List ℕ → Option (List (List ℕ)) → Option Statement
@@ -117,7 +111,7 @@ statement_if_words k (Some ws) = statement_of_words k ws
 
 -- a token that is a bracket, or a word without 0D
 abbrev pub is_free_token : Token → Bool
-is_free_token (Word w) = is_free w
+is_free_token (Word w) = is_free_word w
 is_free_token _ = true
 
 -- words as lists

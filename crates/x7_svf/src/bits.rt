@@ -9,7 +9,7 @@ use std::marker::Model;
 /// The most bytes that a scan gives at once.
 const MOST_BYTES_AT_ONCE: usize = 1024;
 
-/// A number of bits, lowest first. They are lent as the hexadecimal digits that were given.
+/// Some bits, lowest first, lent as the hexadecimal digits that a text gives for them.
 #[derive(Debug, Drop)]
 pub struct Bits<'t> {
     count: u32,
@@ -35,8 +35,8 @@ pub(crate) fn digit_number(digit: u8) -> u8
     digit.saturating_sub(87 - 32 * upper - 7 * decimal)
 }
 
-/// Bit i of digits, whose last is the lowest.
-fn bit_in(digits: &[u8], i: u32) -> bool
+/// Bit i of digits, from 0, the last of which has the lowest; 0 past the first digit.
+fn bit_of(digits: &[u8], i: u32) -> bool
     ensures { result ≡ bit_of digits.now i }
 {
     let place = (i / 4) as usize;
@@ -58,7 +58,7 @@ fn four_bits(digits: &[u8], place: usize) -> u8
 }
 
 /// Four bits, the lowest of which becomes the highest.
-fn mirror(bits: u8) -> u8
+fn mirrored_digit(bits: u8) -> u8
     ensures value { result ≡ mirrored_digit bits }
     ensures small { result < 16 }
 {
@@ -73,7 +73,7 @@ fn byte_from(digits: &[u8], at: u32) -> u8
     let place = (at / 4) as usize;
     let first = four_bits(digits, place);
     let second = four_bits(digits, place + 1);
-    mirror(first) * 16 + mirror(second)
+    mirrored_digit(first) * 16 + mirrored_digit(second)
 }
 
 /// The bytes of the bits of digits from this one on, a multiple of eight: those that end before the last of `count`
@@ -116,12 +116,11 @@ impl<'t> Bits<'t> {
         if i >= self.count {
             return None;
         }
-        Some(bit_in(self.digits, i))
+        Some(bit_of(self.digits, i))
     }
 
-    /// The bytes of the bits from this one on, a multiple of eight: those that
-    /// end before the last bit, and at most 1,024.
-    /// The first of eight bits is the highest of its byte.
+    /// The bytes of the bits from this one on, a multiple of eight: those that end before the last bit, and at most
+    /// 1,024. The first of eight bits is the highest of its byte.
     pub fn bytes_from(&self, from: u32) -> ArrayVec<u8, MOST_BYTES_AT_ONCE>
         requires whole { from % 8 ≡ 0 }
         requires some { from + 8 < length self.now }

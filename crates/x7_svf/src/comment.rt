@@ -12,21 +12,21 @@ fn begins_with(text: &[u8], byte: u8) -> bool
     }
 }
 
-/// Whether a comment begins at a byte, by the bytes after it.
-fn comment_begins(byte: u8, after: &[u8]) -> bool
+/// Whether a comment begins at a byte, by the bytes after it: `!`, or `//`.
+fn begins_comment(byte: u8, after: &[u8]) -> bool
     ensures { result ≡ begins_comment byte after.now }
 {
     byte == b'!' || byte == b'/' && begins_with(after, b'/')
 }
 
-/// Whether a text is inside a comment after a byte.
-fn comment_after(inside: bool, byte: u8, after: &[u8]) -> bool
+/// Whether a byte is one of a comment, by whether the byte before it was one.
+fn is_inside(inside: bool, byte: u8, after: &[u8]) -> bool
     ensures { result ≡ is_inside inside byte after.now }
 {
     if inside {
         byte != b'\n'
     } else {
-        comment_begins(byte, after)
+        begins_comment(byte, after)
     }
 }
 
@@ -50,7 +50,7 @@ pub(crate) fn clean(text: &mut Vec<u8>)
     for at in 0..text.len() {
         let byte = text[at];
         let after = &text[at + 1..];
-        inside = comment_after(inside, byte, after);
+        inside = is_inside(inside, byte, after);
         let shown = stand_in(inside, byte, after);
         text[at] = shown;
     }

@@ -14,30 +14,30 @@ ghost use Rattle.x7_svf.specs.declared.statement.ScannedRegister.{ScannedRegiste
 ghost use Rattle.x7_svf.specs.declared.statement.Statement.{Statement as StatementData};
 
 use crate::bits::digit_number;
-use crate::fields::{Given, fields};
+use crate::fields::{FieldSpans, fields};
 use crate::source::Source;
 use crate::span::Span;
 use crate::statement::ScannedRegister;
 use crate::stored::{Stored, StoredScan};
 use crate::token::{NextToken, next_within, pass_end};
-use crate::words::{Words, is_any_word, is_keyword, number, statement_said, with_one};
+use crate::words::{Words, is_free_word, is_keyword, number_within, statement_of_kept, with_word};
 
 /// The most bits of a scan.
 const MOST_BITS: u32 = 536_870_912;
 
-/// Whether a token that a text begins with may stand among any words.
+/// Whether a token that a text begins with is a bracket, or a word without 0D.
 fn is_free_token(token: NextToken, text: &[u8]) -> bool
     requires { token_size token ≤ length text.now }
     ensures { result ≡ is_free_token (token_of token text.now) }
 {
     match token {
-        NextToken::Word(length) => is_any_word(&text[..length]),
+        NextToken::Word(length) => is_free_word(&text[..length]),
         _ => true,
     }
 }
 
-/// Whether what comes next of a statement may stand among any words; it is passed.
-fn are_free(source: &mut Source) -> bool
+/// Whether the tokens that come next of a statement are brackets and words without 0D alone; they are passed.
+fn are_free_tokens(source: &mut Source) -> bool
     ensures free { result ≡ list_all is_free_token (tokens_before_end (tokens_left source.old)) }
     ensures reads_on { IsTrue result → ReadsOn source.old source.new }
 {
@@ -50,12 +50,12 @@ fn are_free(source: &mut Source) -> bool
     true
 }
 
-/// The statement of any words that come next, which are passed.
+/// The statement of tokens without meaning that come next, which are passed.
 fn free_statement(source: &mut Source) -> Option<Stored>
     ensures says { IsStored source.new.kept result (some_if (list_all is_free_token (tokens_before_end (tokens_left source.old))) StatementData.Nothing) }
     ensures reads_on { IfSome result (λ s. ReadsOn source.old source.new) }
 {
-    if are_free(source) {
+    if are_free_tokens(source) {
         Some(Stored::Nothing)
     } else {
         None
@@ -74,7 +74,7 @@ fn keep_word(source: &mut Source, size: usize) -> Span
     Span::new(from, source.kept().len())
 }
 
-/// What a keyword, which is kept, and the words that come next say. The words are kept too.
+/// The statement of a keyword, which is kept, and of the words that come next, which are kept too.
 fn words_statement(source: &mut Source, key: Span) -> Option<Stored>
     requires key { span_end key ≤ length source.old.kept }
     ensures says { IsStored source.new.kept result (if_words (bytes_in source.old.kept key) (words_of (tokens_before_end (tokens_left source.old)))) }
@@ -86,16 +86,16 @@ fn words_statement(source: &mut Source, key: Span) -> Option<Stored>
             return None;
         };
         let word = keep_word(source, size);
-        match with_one(words, word) {
+        match with_word(words, word) {
             Some(more) => words = more,
             None => return None,
         }
     }
-    statement_said(source.kept(), key, words)
+    statement_of_kept(source.kept(), key, words)
 }
 
-/// How many bits a digit's number has.
-fn digit_bits(digit: u8) -> u64
+/// How many bits the value of a digit has.
+fn digit_width(digit: u8) -> u64
     ensures { result ≡ digit_width digit }
 {
     let value = digit_number(digit);
@@ -112,22 +112,22 @@ fn digit_bits(digit: u8) -> u64
     }
 }
 
-/// How many bits a number has whose first digit has `bits` of them, with `after` digits after it.
+/// How many bits a value has whose first digit that isn't 0 has `bits` of them and has `after` digits after it.
 fn width_with(after: usize, bits: u64) -> u128
     ensures { result ≡ 4 * after + bits }
 {
     4 * after as u128 + u128::from(bits)
 }
 
-/// How many bits the number of digits has.
-fn width_of(digits: &[u8]) -> u128
+/// How many bits the value of digits has.
+fn width(digits: &[u8]) -> u128
     ensures { result ≡ width digits.now }
 {
     let mut rest = digits;
     while let [digit, after @ ..] = rest {
-        let value = digit_bits(*digit);
-        if value > 0 {
-            return width_with(after.len(), value);
+        let bits = digit_width(*digit);
+        if bits > 0 {
+            return width_with(after.len(), bits);
         }
         rest = after;
     }
@@ -135,25 +135,25 @@ fn width_of(digits: &[u8]) -> u128
 }
 
 /// Whether the value of digits, if there are any, fits `count` bits.
-fn does_fit(kept: &[u8], count: u32, digits: Option<Span>) -> bool
+fn fits(kept: &[u8], count: u32, digits: Option<Span>) -> bool
     requires { span_end_if digits ≤ length kept.now }
     ensures { result ≡ fits count (digits_if kept.now digits) }
 {
     match digits {
-        Some(digits) => width_of(digits.of(kept)) <= u128::from(count),
+        Some(digits) => width(digits.bytes_in(kept)) <= u128::from(count),
         None => true,
     }
 }
 
 /// Whether the values of all fields fit `count` bits.
-fn do_all_fit(kept: &[u8], count: u32, given: Given) -> bool
-    requires { AreWithin (length kept.now) given }
-    ensures { result ≡ all_fit count (fields_of kept.now given) }
+fn all_fit(kept: &[u8], count: u32, spans: FieldSpans) -> bool
+    requires { AreWithin (length kept.now) spans }
+    ensures { result ≡ all_fit count (fields_of kept.now spans) }
 {
-    does_fit(kept, count, given.tdi)
-        && does_fit(kept, count, given.tdo)
-        && does_fit(kept, count, given.mask)
-        && does_fit(kept, count, given.smask)
+    fits(kept, count, spans.tdi)
+        && fits(kept, count, spans.tdo)
+        && fits(kept, count, spans.mask)
+        && fits(kept, count, spans.smask)
 }
 
 /// The scan of this many bits with these fields, whose digits are kept.
@@ -161,25 +161,25 @@ fn scan_of_fields(
     kept: &[u8],
     register: ScannedRegister,
     count: u32,
-    given: Given,
+    spans: FieldSpans,
 ) -> Option<Stored>
-    requires { AreWithin (length kept.now) given }
-    ensures { IsStored kept.now result (scan_by register count (Some (fields_of kept.now given))) }
+    requires { AreWithin (length kept.now) spans }
+    ensures { IsStored kept.now result (scan_by register count (Some (fields_of kept.now spans))) }
 {
-    if !do_all_fit(kept, count, given) {
+    if !all_fit(kept, count, spans) {
         return None;
     }
-    let tdi = given.tdi?;
+    let tdi = spans.tdi?;
     Some(Stored::Scan(StoredScan {
         register,
-        count,
+        bit_count: count,
         tdi,
-        tdo: given.tdo,
-        mask: given.mask,
+        tdo: spans.tdo,
+        mask: spans.mask,
     }))
 }
 
-/// How many bits the scan has whose keyword was passed.
+/// How many bits the scan has whose keyword was passed; none where no such number comes next.
 fn scan_count(source: &mut Source) -> Option<u32>
     ensures count { (register : Register) → scan_of register (tokens_before_end (tokens_left source.old)) ≡ scan_if register result (tokens_before_end (tokens_left source.new)) }
     ensures reads_on { IfSome result (λ n. ReadsOn source.old source.new) }
@@ -187,7 +187,7 @@ fn scan_count(source: &mut Source) -> Option<u32>
     let NextToken::Word(length) = next_within(source)? else {
         return None;
     };
-    let count = number(&source.rest()[..length], MOST_BITS)?;
+    let count = number_within(&source.rest()[..length], MOST_BITS)?;
     source.skip(length);
     if count == 0 {
         return None;
@@ -201,17 +201,17 @@ fn scan(source: &mut Source, register: ScannedRegister) -> Option<Stored>
     ensures reads_on { IfSome result (λ s. ReadsOn source.old source.new) }
 {
     let count = scan_count(source)?;
-    let given = fields(source)?;
-    scan_of_fields(source.kept(), register, count, given)
+    let spans = fields(source)?;
+    scan_of_fields(source.kept(), register, count, spans)
 }
 
-/// What a keyword, which is kept, and what comes after it say.
-fn said_by(source: &mut Source, key: Span) -> Option<Stored>
+/// The statement of a keyword, which is kept, and of what comes next.
+fn statement_by(source: &mut Source, key: Span) -> Option<Stored>
     requires key { span_end key ≤ length source.old.kept }
     ensures says { IsStored source.new.kept result (statement_by (bytes_in source.old.kept key) (tokens_before_end (tokens_left source.old))) }
     ensures reads_on { IfSome result (λ s. ReadsOn source.old source.new) }
 {
-    let word = key.of(source.kept());
+    let word = key.bytes_in(source.kept());
     if is_keyword(word, b"SIR") {
         return scan(source, ScannedRegister::Instruction);
     }
@@ -224,8 +224,8 @@ fn said_by(source: &mut Source, key: Span) -> Option<Stored>
     words_statement(source, key)
 }
 
-/// The statement that comes next, up to its `;`. Its keyword, and the digits of
-/// a scan or the words of another, are kept.
+/// The statement that comes next, up to its `;`. Its keyword, and the digits of a scan or the words of another, are
+/// kept.
 fn statement(source: &mut Source) -> Option<Stored>
     ensures says { IsStored source.new.kept result (statement_of (tokens_before_end (tokens_left source.old))) }
     ensures reads_on { IfSome result (λ s. ReadsOn source.old source.new) }
@@ -235,11 +235,11 @@ fn statement(source: &mut Source) -> Option<Stored>
         return None;
     };
     let key = keep_word(source, size);
-    said_by(source, key)
+    statement_by(source, key)
 }
 
 /// The statement that comes next, with its `;`.
-pub(crate) fn ended_statement(source: &mut Source) -> Option<Stored>
+pub(crate) fn first_statement(source: &mut Source) -> Option<Stored>
     ensures says { IsStored source.new.kept result (first_statement (tokens_left source.old)) }
     ensures prefix { IfSome result (λ s. StaysKept source.old.kept source.new.kept) }
     ensures after_end { IfSome result (λ s. tokens_after_end (tokens_left source.old) ≡ Some (tokens_left source.new)) }

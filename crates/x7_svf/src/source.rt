@@ -4,14 +4,15 @@ ghost use Rattle.x7_svf.specs.Token.{line_after};
 
 use std::marker::Model;
 
-/// A text on its way. The bytes that are kept stand where it began, in the place of bytes that were read.
+/// A text that is being read. The bytes that are kept stand at its front, in the place of bytes that were read.
 #[derive(Drop)]
 pub(crate) struct Source {
     text: Vec<u8>,
     // how many bytes are kept
     kept: usize,
-    // where the rest begins, and on which line
+    // how many bytes were read: the rest begins here
     at: usize,
+    // the line on which the rest begins, from 1
     line: u64,
 }
 
@@ -26,8 +27,8 @@ impl Model for Source {
     ghost invariant = { λ s. (s.kept ≤ s.at) × (s.at ≤ length s.text.items) × (length s.text.items ≤ 2 ^ 29) × (s.line ≤ s.at + 1) };
 }
 
-/// The line after a byte that stands on this one.
-fn next_line(byte: u8, line: u64) -> u64
+/// The line of the text after a byte that stands on this line.
+fn line_after(byte: u8, line: u64) -> u64
     requires { line < 2 ^ 63 }
     ensures { result ≡ line_after byte line }
 {
@@ -75,7 +76,7 @@ impl Source {
         requires { 0 < length self.old.rest }
         ensures { self.new ≡ record { kept = self.old.kept; line = line_after (slice_index self.old.rest 0) self.old.line; rest = drop 1 self.old.rest } }
     {
-        self.line = next_line(self.text[self.at], self.line);
+        self.line = line_after(self.text[self.at], self.line);
         self.at += 1;
     }
 

@@ -2,7 +2,7 @@
 ghost use Rattle.std.specs.Prelude.{◌≡◌, ◌≤◌, ◌-◌, ◌^◌, length};
 ghost use Rattle.x7_svf.specs.Span.{bytes_in, span_end};
 
-/// A run of bytes: how many come before it, and how many it has.
+/// Bytes that are kept one after another: how many come before them, and how many they are.
 #[derive(Clone, Copy, Debug)]
 pub(crate) struct Span {
     from: u32,
@@ -10,7 +10,7 @@ pub(crate) struct Span {
 }
 
 impl Span {
-    /// The bytes from here up to there, both at most 2^29.
+    /// The bytes from `from` up to before `end`, which is at most 2^29.
     pub(crate) fn new(from: usize, end: usize) -> Span
         requires order { from ≤ end }
         requires within_limit { end ≤ 2 ^ 29 }
@@ -23,12 +23,12 @@ impl Span {
         }
     }
 
-    /// The bytes of the run.
-    pub(crate) fn of(self, all: &[u8]) -> &[u8]
-        requires { span_end self ≤ length all.now }
-        ensures { result.now ≡ bytes_in all.now self }
+    /// The bytes themselves, among those kept.
+    pub(crate) fn bytes_in(self, kept: &[u8]) -> &[u8]
+        requires { span_end self ≤ length kept.now }
+        ensures { result.now ≡ bytes_in kept.now self }
     {
         let from = self.from as usize;
-        &all[from..from + self.count as usize]
+        &kept[from..from + self.count as usize]
     }
 }

@@ -1,6 +1,6 @@
 //! Statements whose digits are kept apart.
 ghost use Rattle.std.specs.Prelude.{◌≡◌, ◌≤◌, length};
-ghost use Rattle.x7_svf.specs.Fields.{bits_option as bits_if};
+ghost use Rattle.x7_svf.specs.Fields.{bits_if};
 ghost use Rattle.x7_svf.specs.Span.{digits_if, span_end_if};
 ghost use Rattle.x7_svf.specs.Stored.{IsStoredWithin, statement_in};
 
@@ -8,7 +8,7 @@ use crate::bits::Bits;
 use crate::span::Span;
 use crate::statement::{Scan, ScannedRegister, Statement};
 
-/// A statement, small: of 2^29 bytes there may be many. The digits of a scan are kept apart.
+/// A statement in few bytes, as a long text has many statements. The digits of a scan are kept apart.
 #[derive(Clone, Copy, Debug)]
 pub(crate) enum Stored {
     Reset,
@@ -18,23 +18,23 @@ pub(crate) enum Stored {
     Nothing,
 }
 
-/// A scan of this many bits.
+/// A scan: how many bits each of its fields has, and where the digits of each are kept.
 #[derive(Clone, Copy, Debug)]
 pub(crate) struct StoredScan {
     pub(crate) register: ScannedRegister,
-    pub(crate) count: u32,
+    pub(crate) bit_count: u32,
     pub(crate) tdi: Span,
     pub(crate) tdo: Option<Span>,
     pub(crate) mask: Option<Span>,
 }
 
 /// The bits of a field that may be left out.
-fn bits_option(kept: &[u8], count: u32, digits: Option<Span>) -> Option<Bits<'_>>
+fn bits_if(kept: &[u8], count: u32, digits: Option<Span>) -> Option<Bits<'_>>
     requires { span_end_if digits ≤ length kept.now }
     ensures { result ≡ bits_if count (digits_if kept.now digits) }
 {
     match digits {
-        Some(digits) => Some(Bits::new(count, digits.of(kept))),
+        Some(digits) => Some(Bits::new(count, digits.bytes_in(kept))),
         None => None,
     }
 }
@@ -50,9 +50,9 @@ pub(crate) fn statement_of<'t>(stored: &Stored, kept: &'t [u8]) -> Statement<'t>
         Stored::Run(count) => Statement::Run(*count),
         Stored::Scan(scan) => Statement::Scan(Scan {
             register: scan.register,
-            tdi: Bits::new(scan.count, scan.tdi.of(kept)),
-            tdo: bits_option(kept, scan.count, scan.tdo),
-            mask: bits_option(kept, scan.count, scan.mask),
+            tdi: Bits::new(scan.bit_count, scan.tdi.bytes_in(kept)),
+            tdo: bits_if(kept, scan.bit_count, scan.tdo),
+            mask: bits_if(kept, scan.bit_count, scan.mask),
         }),
         Stored::Nothing => Statement::Nothing,
     }

@@ -3,12 +3,12 @@ ghost use Rattle.std.specs.Prelude.{◌≡◌, ◌<◌, ◌≤◌, ◌*◌, ◌^
 ghost use Rattle.std.specs.List.{slice_get};
 ghost use Rattle.x7_svf.specs.Source.{tokens_left};
 ghost use Rattle.x7_svf.specs.Stored.{AreStoredWithin, statements_in};
-ghost use Rattle.x7_svf.specs.Svf.{BeginWithOne, IsSvfOf, outcome, tokens_of};
+ghost use Rattle.x7_svf.specs.Svf.{BeginWithStatement, IsSvfOf, outcome, tokens_of};
 ghost use Rattle.x7_svf.specs.declared.fault.SvfFault.{SvfFault as FaultData};
 
 use crate::comment::clean;
 use crate::fault::SvfFault;
-use crate::reader::ended_statement;
+use crate::reader::first_statement;
 use crate::source::Source;
 use crate::statement::Statement;
 use crate::stored::{Stored, statement_of};
@@ -62,14 +62,14 @@ fn statements(alloc: Global, source: &mut Source) -> Result<Vec<Stored>, SvfFaul
     requires within_limit { length source.old.rest ≤ 2 ^ 29 }
     ensures says { MatchResult result (λ s. outcome (tokens_left source.old) ≡ Ok (statements_in source.new.kept s.items))
         (λ fault. (fault ≡ FaultData.NoMemory) ⊎ (outcome (tokens_left source.old) ≡ Err fault)) }
-    ensures memory { IfErr result (λ fault. fault ≡ FaultData.NoMemory → BeginWithOne (tokens_left source.old)) }
+    ensures memory { IfErr result (λ fault. fault ≡ FaultData.NoMemory → BeginWithStatement (tokens_left source.old)) }
     ensures two_bytes_each { IfOk result (λ s. 2 * length s.items ≤ length source.old.rest) }
     ensures within { IfOk result (λ s. AreStoredWithin (length source.new.kept) s.items) }
 {
     let mut out = Vec::new(alloc);
     while let Some(_) = next(source) {
         let line = source.line();
-        let Some(one) = ended_statement(source) else {
+        let Some(one) = first_statement(source) else {
             return Err(SvfFault::Line(line));
         };
         if out.push(one).is_err() {
@@ -85,7 +85,7 @@ pub fn svf_from(alloc: Global, text: Vec<u8>) -> Result<Svf, SvfFault>
     requires { vec_len text ≤ 2 ^ 29 }
     ensures statements { IfOk result (λ svf. IsSvfOf text.items (Ok svf)) }
     ensures fault { IfErr result (λ fault. (fault ≡ FaultData.NoMemory) ⊎ IsSvfOf text.items (Err fault)) }
-    ensures memory { IfErr result (λ fault. fault ≡ FaultData.NoMemory → BeginWithOne (tokens_of text.items)) }
+    ensures memory { IfErr result (λ fault. fault ≡ FaultData.NoMemory → BeginWithStatement (tokens_of text.items)) }
 {
     let mut text = text;
     clean(&mut text);

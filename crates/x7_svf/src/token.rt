@@ -29,7 +29,7 @@ impl NextToken {
 }
 
 /// Whether a byte may stand in a word.
-fn is_in_word(byte: u8) -> bool
+fn is_word_byte(byte: u8) -> bool
     ensures { result ≡ is_word_byte byte }
 {
     let blank = (byte == b' ') | (byte == b'\t') | (byte == b'\n');
@@ -44,14 +44,14 @@ fn word_length(text: &[u8]) -> usize
     ensures none { result ≡ 0 → 0 < length text.now → is_word_byte (slice_index text.now 0) ≡ false }
 {
     let mut end = 0;
-    while end < text.len() && is_in_word(text[end]) {
+    while end < text.len() && is_word_byte(text[end]) {
         end += 1;
     }
     end
 }
 
-/// Whether a byte is a blank.
-fn is_between(byte: u8) -> bool
+/// Whether a byte is a blank, a tab or a line end.
+fn is_blank_byte(byte: u8) -> bool
     ensures { result ≡ is_blank_byte byte }
 {
     byte == b' ' || byte == b'\t' || byte == b'\n'
@@ -72,7 +72,7 @@ fn bracket_or_end(byte: u8) -> NextToken
 }
 
 /// The token that a text begins with, which begins with no blank.
-fn first(text: &[u8]) -> NextToken
+fn first_token(text: &[u8]) -> NextToken
     requires some { 0 < length text.now }
     requires begins { is_blank_byte (slice_index text.now 0) ≡ false }
     ensures tokens { (line : ℕ) → tokens line text.now ≡ record { line = line; token = token_of result text.now } ∷ tokens line (drop (token_size result) text.now) }
@@ -91,7 +91,7 @@ fn skip_blanks(source: &mut Source)
     ensures blanks { PassesBlanks source.old source.new }
     ensures no_blank { 0 < length source.new.rest → is_blank_byte (slice_index source.new.rest 0) ≡ false }
 {
-    while !source.rest().is_empty() && is_between(source.rest()[0]) {
+    while !source.rest().is_empty() && is_blank_byte(source.rest()[0]) {
         source.pass();
     }
 }
@@ -108,11 +108,11 @@ pub(crate) fn next(source: &mut Source) -> Option<NextToken>
     if rest.is_empty() {
         return None;
     }
-    Some(first(rest))
+    Some(first_token(rest))
 }
 
-/// The word or bracket of a statement that comes next, after blanks, which are passed;
-/// none where the statement, or the text, ends.
+/// The word or bracket of a statement that comes next, after blanks, which are passed; none where the statement, or the
+/// text, ends.
 pub(crate) fn next_within(source: &mut Source) -> Option<NextToken>
     ensures tokens { MatchOption result (tokens_before_end (tokens_left source.old) ≡ [])
         (λ t. tokens_before_end (tokens_left source.old) ≡ token_of t source.new.rest ∷ tokens_before_end (left_after source.new t)) }

@@ -1,6 +1,6 @@
 //! Statements of words alone.
 ghost use Rattle.std.specs.Prelude.{◌≡◌, ◌<◌, ◌&&◌, ◌≤◌, ◌∷◌, ◌++◌, ℕ, [], List, length, codes, IfSome, IfNone, Option, Some, None};
-ghost use Rattle.x7_svf.specs.Words.{end_words, is_digit, is_free, is_free_byte, is_key, is_time, is_time_byte, most_clocks, number_within, reset_words, run_by, run_if as run_clocks, run_words, some_if, state_words, statement_of_words as of_words, word_list, zero_words};
+ghost use Rattle.x7_svf.specs.Words.{chain_statement, end_state_statement, is_digit, is_free_byte, is_free_word, is_keyword, is_time, is_time_byte, most_clocks, number_within, run_by, run_if, runtest_statement, some_if, state_statement, statement_of_words, trst_statement, word_list};
 ghost use Rattle.x7_svf.specs.Span.{AreWordsWithin, bytes_in, span_end, words_kept};
 ghost use Rattle.x7_svf.specs.Stored.{IsStored};
 ghost use Rattle.x7_svf.specs.declared.statement.Statement.{Statement as StatementData};
@@ -9,32 +9,32 @@ ghost use Rattle.std.specs.List.{list_all};
 use crate::span::Span;
 use crate::stored::Stored;
 
-/// The most clocks of a run.
+/// The most clocks of a run: 2^24.
 const MOST_CLOCKS: u32 = 16_777_216;
 
 /// Whether a word is a keyword, in either case.
 pub(crate) fn is_keyword(word: &[u8], key: &[u8]) -> bool
-    ensures { result ≡ is_key word.now key.now }
+    ensures { result ≡ is_keyword word.now key.now }
 {
     word.eq_ignore_ascii_case(key)
 }
 
 /// Whether a byte is a decimal digit.
-fn is_decimal(byte: u8) -> bool
+fn is_digit(byte: u8) -> bool
     ensures { result ≡ is_digit byte }
 {
     b'0' <= byte && byte <= b'9'
 }
 
 /// Whether a byte may stand in a time.
-fn is_of_time(byte: u8) -> bool
+fn is_time_byte(byte: u8) -> bool
     ensures { result ≡ is_time_byte byte }
 {
-    is_decimal(byte) || byte == b'.' || byte == b'E' || byte == b'+' || byte == b'-'
+    is_digit(byte) || byte == b'.' || byte == b'E' || byte == b'+' || byte == b'-'
 }
 
-/// The number of decimal digits, where it is within the limit.
-pub(crate) fn number(word: &[u8], limit: u32) -> Option<u32>
+/// The number of a word of decimal digits, where it is within the limit.
+pub(crate) fn number_within(word: &[u8], limit: u32) -> Option<u32>
     ensures { result ≡ number_within limit word.now }
 {
     if word.is_empty() {
@@ -44,7 +44,7 @@ pub(crate) fn number(word: &[u8], limit: u32) -> Option<u32>
     let mut rest = word;
     while !rest.is_empty() {
         let byte = rest[0];
-        if !is_decimal(byte) {
+        if !is_digit(byte) {
             return None;
         }
         let more = u64::from(value) * 10 + u64::from(byte - b'0');
@@ -58,26 +58,26 @@ pub(crate) fn number(word: &[u8], limit: u32) -> Option<u32>
 }
 
 /// Whether all bytes of a word may stand in a time.
-fn all_of_time(word: &[u8]) -> bool
+fn are_time_bytes(word: &[u8]) -> bool
     ensures { result ≡ list_all is_time_byte word.now }
 {
     word.iter().all(
         |byte|
             ensures { result ≡ is_time_byte byte.now }
-        { is_of_time(*byte) },
+        { is_time_byte(*byte) },
     )
 }
 
 /// Whether a word is a time.
-fn is_any_time(word: &[u8]) -> bool
+fn is_time(word: &[u8]) -> bool
     ensures { result ≡ is_time word.now }
 {
-    !word.is_empty() && all_of_time(word)
+    !word.is_empty() && are_time_bytes(word)
 }
 
 /// Whether a word has no byte 0D.
-pub(crate) fn is_any_word(word: &[u8]) -> bool
-    ensures { result ≡ is_free word.now }
+pub(crate) fn is_free_word(word: &[u8]) -> bool
+    ensures { result ≡ is_free_word word.now }
 {
     word.iter().all(
         |byte|
@@ -87,18 +87,18 @@ pub(crate) fn is_any_word(word: &[u8]) -> bool
 }
 
 /// The run of as many clocks as the digits say.
-fn run(digits: &[u8]) -> Option<Stored>
+fn run_for(digits: &[u8]) -> Option<Stored>
     ensures { IsStored [] result (run_by (number_within most_clocks digits.now)) }
 {
-    let count = number(digits, MOST_CLOCKS)?;
+    let count = number_within(digits, MOST_CLOCKS)?;
     Some(Stored::Run(count))
 }
 
 /// The run of as many clocks as the digits say, where the test holds.
 fn run_if(test: bool, digits: &[u8]) -> Option<Stored>
-    ensures { IsStored [] result (run_clocks test digits.now) }
+    ensures { IsStored [] result (run_if test digits.now) }
 {
-    if test { run(digits) } else { None }
+    if test { run_for(digits) } else { None }
 }
 
 /// A statement that asks for nothing, where the test holds.
@@ -109,8 +109,8 @@ fn nothing_if(test: bool) -> Option<Stored>
 }
 
 /// The statement of the words after STATE.
-fn state(words: &[&[u8]]) -> Option<Stored>
-    ensures { IsStored [] result (state_words (word_list words.now)) }
+fn state_statement(words: &[&[u8]]) -> Option<Stored>
+    ensures { IsStored [] result (state_statement (word_list words.now)) }
 {
     match words {
         [word] => {
@@ -128,28 +128,28 @@ fn state(words: &[&[u8]]) -> Option<Stored>
 
 /// Whether two words are IDLE and TCK.
 fn are_idle_clocks(state: &[u8], unit: &[u8]) -> bool
-    ensures { result ≡ (is_key state.now (codes "IDLE") && is_key unit.now (codes "TCK")) }
+    ensures { result ≡ (is_keyword state.now (codes "IDLE") && is_keyword unit.now (codes "TCK")) }
 {
     is_keyword(state, b"IDLE") && is_keyword(unit, b"TCK")
 }
 
 /// Whether three words are TCK, a time, and SEC.
 fn are_timed_clocks(unit: &[u8], time: &[u8], second: &[u8]) -> bool
-    ensures { result ≡ (is_key unit.now (codes "TCK") && is_time time.now && is_key second.now (codes "SEC")) }
+    ensures { result ≡ (is_keyword unit.now (codes "TCK") && is_time time.now && is_keyword second.now (codes "SEC")) }
 {
-    is_keyword(unit, b"TCK") && is_any_time(time) && is_keyword(second, b"SEC")
+    is_keyword(unit, b"TCK") && is_time(time) && is_keyword(second, b"SEC")
 }
 
 /// The statement of the words after RUNTEST.
-fn run_of(words: &[&[u8]]) -> Option<Stored>
-    ensures { IsStored [] result (run_words (word_list words.now)) }
+fn runtest_statement(words: &[&[u8]]) -> Option<Stored>
+    ensures { IsStored [] result (runtest_statement (word_list words.now)) }
 {
     match words {
         [count, unit] => {
             if is_keyword(unit, b"TCK") {
-                run(count)
+                run_for(count)
             } else {
-                nothing_if(is_keyword(unit, b"SEC") && is_any_time(count))
+                nothing_if(is_keyword(unit, b"SEC") && is_time(count))
             }
         }
         [state, count, unit] => { run_if(are_idle_clocks(state, unit), count) }
@@ -159,8 +159,8 @@ fn run_of(words: &[&[u8]]) -> Option<Stored>
 }
 
 /// The statement of the words after ENDIR or ENDDR: IDLE alone.
-fn end(words: &[&[u8]]) -> Option<Stored>
-    ensures { IsStored [] result (end_words (word_list words.now)) }
+fn end_state_statement(words: &[&[u8]]) -> Option<Stored>
+    ensures { IsStored [] result (end_state_statement (word_list words.now)) }
 {
     match words {
         [word] => nothing_if(is_keyword(word, b"IDLE")),
@@ -168,9 +168,10 @@ fn end(words: &[&[u8]]) -> Option<Stored>
     }
 }
 
-/// The statement of the words after HIR, HDR, TIR or TDR: 0 alone, as no other device stands in the chain.
-fn no_others(words: &[&[u8]]) -> Option<Stored>
-    ensures { IsStored [] result (zero_words (word_list words.now)) }
+/// The statement of the words after HIR, HDR, TIR or TDR, the bits of other devices in the chain: 0 alone, as none
+/// stands in it.
+fn chain_statement(words: &[&[u8]]) -> Option<Stored>
+    ensures { IsStored [] result (chain_statement (word_list words.now)) }
 {
     match words {
         [word] => nothing_if(is_keyword(word, b"0")),
@@ -179,37 +180,37 @@ fn no_others(words: &[&[u8]]) -> Option<Stored>
 }
 
 /// The statement of the words after TRST.
-fn reset_line(words: &[&[u8]]) -> Option<Stored>
-    ensures { IsStored [] result (reset_words (word_list words.now)) }
+fn trst_statement(words: &[&[u8]]) -> Option<Stored>
+    ensures { IsStored [] result (trst_statement (word_list words.now)) }
 {
     match words {
-        [word] => nothing_if(is_any_word(word)),
+        [word] => nothing_if(is_free_word(word)),
         _ => None,
     }
 }
 
 /// The statement of a keyword and the words after it.
 fn statement_of_words(key: &[u8], words: &[&[u8]]) -> Option<Stored>
-    ensures { IsStored [] result (of_words key.now (word_list words.now)) }
+    ensures { IsStored [] result (statement_of_words key.now (word_list words.now)) }
 {
     if is_keyword(key, b"STATE") {
-        return state(words);
+        return state_statement(words);
     }
     if is_keyword(key, b"RUNTEST") {
-        return run_of(words);
+        return runtest_statement(words);
     }
     if is_keyword(key, b"ENDIR") || is_keyword(key, b"ENDDR") {
-        return end(words);
+        return end_state_statement(words);
     }
     if is_keyword(key, b"HIR")
         || is_keyword(key, b"HDR")
         || is_keyword(key, b"TIR")
         || is_keyword(key, b"TDR")
     {
-        return no_others(words);
+        return chain_statement(words);
     }
     if is_keyword(key, b"TRST") {
-        return reset_line(words);
+        return trst_statement(words);
     }
     None
 }
@@ -225,7 +226,7 @@ pub(crate) enum Words {
 }
 
 /// One word more, where there are fewer than four.
-pub(crate) fn with_one(words: Words, word: Span) -> Option<Words>
+pub(crate) fn with_word(words: Words, word: Span) -> Option<Words>
     ensures one_more { (kept : List ℕ) → IfSome result (λ r. words_kept kept r ≡ words_kept kept words ++ bytes_in kept word ∷ []) }
     ensures full_at_four { (kept : List ℕ) → IfNone result (length (words_kept kept words) ≡ 4) }
     ensures within { (n : ℕ) → AreWordsWithin n words → span_end word ≤ n → IfSome result (AreWordsWithin n) }
@@ -240,19 +241,30 @@ pub(crate) fn with_one(words: Words, word: Span) -> Option<Words>
 }
 
 /// The statement of a keyword and the words after it, which are kept.
-pub(crate) fn statement_said(kept: &[u8], key: Span, words: Words) -> Option<Stored>
+pub(crate) fn statement_of_kept(kept: &[u8], key: Span, words: Words) -> Option<Stored>
     requires key { span_end key ≤ length kept.now }
     requires words { AreWordsWithin (length kept.now) words }
-    ensures { IsStored [] result (of_words (bytes_in kept.now key) (words_kept kept.now words)) }
+    ensures { IsStored [] result (statement_of_words (bytes_in kept.now key) (words_kept kept.now words)) }
 {
-    let key = key.of(kept);
+    let key = key.bytes_in(kept);
     match words {
         Words::None => None,
-        Words::One(a) => statement_of_words(key, &[a.of(kept)]),
-        Words::Two(a, b) => statement_of_words(key, &[a.of(kept), b.of(kept)]),
-        Words::Three(a, b, c) => statement_of_words(key, &[a.of(kept), b.of(kept), c.of(kept)]),
+        Words::One(a) => statement_of_words(key, &[a.bytes_in(kept)]),
+        Words::Two(a, b) => statement_of_words(key, &[a.bytes_in(kept), b.bytes_in(kept)]),
+        Words::Three(a, b, c) => statement_of_words(
+            key,
+            &[a.bytes_in(kept), b.bytes_in(kept), c.bytes_in(kept)],
+        ),
         Words::Four(a, b, c, d) => {
-            statement_of_words(key, &[a.of(kept), b.of(kept), c.of(kept), d.of(kept)])
+            statement_of_words(
+                key,
+                &[
+                    a.bytes_in(kept),
+                    b.bytes_in(kept),
+                    c.bytes_in(kept),
+                    d.bytes_in(kept),
+                ],
+            )
         }
     }
 }

@@ -25,7 +25,7 @@ use Rattle.x7_recovery.proofs.AnyBootLemmas.{boots_open, image_boots}
 use Rattle.x7_svf.specs.declared.statement.Statement.{Statement}
 use Rattle.x7_jtag.specs.Play.{clocks_played, first_difference, port_played}
 use Rattle.x7_jtag.specs.Port.{Port, words_read_out}
-use Rattle.x7_jtag.specs.Queue.{Sound}
+use Rattle.x7_jtag.specs.Queue.{QueueIsSound}
 use Rattle.x7_jtag.specs.Shown.{bytes_taken}
 use Rattle.x7_jtag.proofs.QueueLemmas.{port_sound}
 use Rattle.x7_effects.specs.Played.{PlaysFull, PlaysPartial, PlaysRead, resting_after}
@@ -171,7 +171,7 @@ taken_fits : (part : PartData) (statements : List Statement) → AreBytes (bytes
 taken_fits part statements =
     let p : Port = port_played part statements in
     let n : ℕ = taken_of part on_the_bench p.queue.given in
-    let sound : Sound (words_read_out part) p.queue = port_sound part (clocks_played statements (first_difference part statements)) in
+    let sound : QueueIsSound (words_read_out part) p.queue = port_sound part (clocks_played statements (first_difference part statements)) in
     let fits : AreBytes p.queue.given = all_prefix (λ b. b < 256) p.queue.given p.queue.held sound.fits in
     all_prefix (λ b. b < 256) (take n p.queue.given) (drop n p.queue.given) (subst AreBytes (sym (take-append-drop n p.queue.given)) fits)
 

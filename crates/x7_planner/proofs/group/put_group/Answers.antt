@@ -1,6 +1,6 @@
 use Rattle.std.proofs.Common.{◌∙◌, ◌++◌, ap}
 use Rattle.x7_memory.specs.Plan.{planned_addresses}
-use Rattle.x7_planner.specs.Content.{content_rows}
+use Rattle.x7_planner.specs.Content.{planned_rows}
 use Rattle.x7_planner.specs.PartialStream.{with_content}
 use Rattle.x7_planner.specs.Writer.{bytes_of_words}
 use Rattle.x7_planner.proofs.GroupLemmas.{first_far, group_written}
@@ -10,7 +10,7 @@ use Rattle.x7_planner.proofs.group.put_group.Goals as goal
 pub returns : goal.returns
 returns c =
     group_written c.args.part.now c.args.writer.now c.packets.new.self c.words-2.new.self c.words-3.new.self c.put_copies.new.writer c.args.words.now
-    (planned_addresses (with_content c.args.words.now (content_rows c.args.contents.now))) _ c.words.result c.words.ensures.value
-    (first_far c.args.contents.now c.args.words.now c.args.start _ c.requires.together c.requires.first)
+    (planned_addresses (with_content c.args.words.now (planned_rows c.args.by_content.now.frames.now))) _ c.words.result c.words.ensures.value
+    (first_far c.args.by_content.now.frames.now c.args.words.now c.args.start _ c.requires.together c.requires.first)
     (packets_written c.args.writer.now c.packets.new.self (and_packet c.command.ensures (and_packet c.write_one.ensures (last_packet c.frame_data.ensures))) c.in_ok-packets.ensures) c.in_ok-words.ensures
     (c.in_ok-words-2.ensures ∙ ap (λ t. c.words-2.new.self ++ bytes_of_words t) c.command-2.ensures) c.in_ok-put_copies.ensures

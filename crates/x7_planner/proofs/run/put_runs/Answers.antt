@@ -2,14 +2,14 @@ use Rattle.std.proofs.Common.{List, sym, subst}
 use Rattle.std.specs.Prelude.{All, Contains}
 use Rattle.std.proofs.lemmas.List.{take_rest}
 use Rattle.x7_part.specs.AddressOrder.{addresses_in}
-use Rattle.x7_planner.specs.Content.{content_rows}
-use Rattle.x7_planner.specs.declared.content.Content.{Content}
+use Rattle.x7_planner.specs.Content.{planned_rows}
+use Rattle.x7_planner.specs.declared.content.PlannedFrame.{PlannedFrame}
 use Rattle.x7_planner.proofs.RunLemmas.{addresses_drop, runs_stepped}
 use Rattle.x7_planner.proofs.run.put_runs.Goals as goal
 
 pub run_length-count-requires-clause-addresses : goal.run_length-count-requires-clause-addresses
 run_length-count-requires-clause-addresses c =
-    subst (λ (t : List Content). All (λ row. Contains (addresses_in c.args.part.now) row.far) (content_rows t)) (sym (take_rest c.args.frames.now c.loop-at.at)) (addresses_drop c.args.part.now c.loop-at.at c.args.frames.now c.requires.addresses)
+    subst (λ (t : List PlannedFrame). All (λ row. Contains (addresses_in c.args.part.now) row.far) (planned_rows t)) (sym (take_rest c.args.frames.now c.loop-at.at)) (addresses_drop c.args.part.now c.loop-at.at c.args.frames.now c.requires.addresses)
 
 pub loop-at-preserved : goal.loop-at-preserved
 loop-at-preserved c =

@@ -12,16 +12,16 @@ pub loop-token-preserved : goal.loop-token-preserved
 loop-token-preserved c =
     let at = c.loop-token.source in
     let here = c.next_within.new.source in
-    let after = c.step.new.source in
+    let after = c.scan_step.new.source in
     let t = c.in-Some.token in
     let s = c.loop-token.scanner in
     let all : Option Fields = scan_from Between no_fields (tokens_before_end (tokens_left c.args.source.now)) in
-    let before : all ≡ scan_from (at_of here.kept s.place) (fields_of here.kept s.given) (tokens_before_end (tokens_left at)) =
-    c.loop-token.invariant.same ∙ ap (λ (k : List ℕ). scan_from (at_of k s.place) (fields_of k s.given) (tokens_before_end (tokens_left at))) (sym c.in-Some.ensures.blanks.kept) in
+    let before : all ≡ scan_from (at_of here.kept s.place) (fields_of here.kept s.spans) (tokens_before_end (tokens_left at)) =
+    c.loop-token.invariant.same ∙ ap (λ (k : List ℕ). scan_from (at_of k s.place) (fields_of k s.spans) (tokens_before_end (tokens_left at))) (sym c.in-Some.ensures.blanks.kept) in
     let left : tokens_before_end (tokens_left at) ≡ token_of t here.rest ∷ tokens_before_end (tokens_left after) =
-    c.in-Some.ensures.tokens ∙ ap (λ (ps : List TokenOnLine). token_of t here.rest ∷ tokens_before_end ps) (left_stepped here after t c.in-Some-step.ensures.steps) in
+    c.in-Some.ensures.tokens ∙ ap (λ (ps : List TokenOnLine). token_of t here.rest ∷ tokens_before_end ps) (left_stepped here after t c.in-Some-scan_step.ensures.steps) in
     record {
-      same = scan_on here.kept after.kept s c.in-Some-step.next (tokens_before_end (tokens_left at)) (tokens_before_end (tokens_left after)) (token_of t here.rest) all before left c.in-Some-step.ensures.scans;
-      within = c.in-Some-step.ensures.within;
-      reads_on = reads_both c.args.source.now at after c.loop-token.invariant.reads_on (reads_token at here after t c.in-Some.ensures.blanks c.in-Some.ensures.after_end c.in-Some-step.ensures.steps);
+      same = scan_on here.kept after.kept s c.in-Some-scan_step.next (tokens_before_end (tokens_left at)) (tokens_before_end (tokens_left after)) (token_of t here.rest) all before left c.in-Some-scan_step.ensures.scans;
+      within = c.in-Some-scan_step.ensures.within;
+      reads_on = reads_both c.args.source.now at after c.loop-token.invariant.reads_on (reads_token at here after t c.in-Some.ensures.blanks c.in-Some.ensures.after_end c.in-Some-scan_step.ensures.steps);
     }

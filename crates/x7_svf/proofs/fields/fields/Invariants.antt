@@ -8,7 +8,7 @@ use Rattle.x7_svf.proofs.fields.fields.Given as goal
 
 abbrev pub invariant-loop-token : goal.invariant-loop-token
 invariant-loop-token l = record {
-  same : scan_from Between no_fields (tokens_before_end (tokens_left l.fn.source)) ≡ scan_from (at_of l.source.kept l.scanner.place) (fields_of l.source.kept l.scanner.given) (tokens_before_end (tokens_left l.source));
+  same : scan_from Between no_fields (tokens_before_end (tokens_left l.fn.source)) ≡ scan_from (at_of l.source.kept l.scanner.place) (fields_of l.source.kept l.scanner.spans) (tokens_before_end (tokens_left l.source));
   within : IsWithin (length l.source.kept) l.scanner;
   reads_on : ReadsOn l.fn.source l.source;
 }

@@ -16,7 +16,7 @@ returns c =
     let old = c.args.source.now in
     let here = c.next_within.new.source in
     let mid = c.keep_word-key.new.source in
-    let after = c.said_by.new.source in
+    let after = c.statement_by.new.source in
     let n = c.in-Word.size in
     let next = c.in_ok-size.ensures in
     let steps = c.keep_word-key.ensures.steps in
@@ -27,7 +27,7 @@ returns c =
     let said : statement_by (bytes_in mid.kept c.keep_word-key.result) (tokens_before_end (tokens_left mid)) ≡ statement_of (tokens_before_end (tokens_left old)) =
     ap (λ (k : List ℕ). statement_by k (tokens_before_end (tokens_left mid))) c.keep_word-key.ensures.word ∙ sym (ap statement_of tokens) in
     record {
-      says = subst (λ (s : Option Statement). IsStored after.kept c.said_by.result s) said c.said_by.ensures.says;
-      reads_on = reads_if c.said_by.result old mid after (reads_token old here mid (next_token.Word n) next.blanks goes_on steps) c.said_by.ensures.reads_on;
-      passed = passed_if c.said_by.result here mid after n (length old.rest) (subst (λ (t : NextToken). 0 < token_size t) is_word next.comes_next.some) (subst (λ (t : NextToken). token_size t ≤ length here.rest) is_word next.comes_next.within) next.blanks.passed steps c.said_by.ensures.reads_on;
+      says = subst (λ (s : Option Statement). IsStored after.kept c.statement_by.result s) said c.statement_by.ensures.says;
+      reads_on = reads_if c.statement_by.result old mid after (reads_token old here mid (next_token.Word n) next.blanks goes_on steps) c.statement_by.ensures.reads_on;
+      passed = passed_if c.statement_by.result here mid after n (length old.rest) (subst (λ (t : NextToken). 0 < token_size t) is_word next.comes_next.some) (subst (λ (t : NextToken). token_size t ≤ length here.rest) is_word next.comes_next.within) next.blanks.passed steps c.statement_by.ensures.reads_on;
     }

@@ -22,9 +22,9 @@ loop-token-preserved c =
     let stay : words_kept after.kept c.loop-token.words ≡ words_kept at.kept c.loop-token.words = words_stay at.kept after.kept f c.loop-token.words c.loop-token.invariant.within in
     record {
       same = words_on (words_of (tokens_before_end (tokens_left c.args.source.now))) (words_kept at.kept c.loop-token.words) (tokens_before_end (tokens_left at)) here c.in-Some.token c.in-Word.size c.loop-token.invariant.same c.in-Some.ensures.tokens c.in-Word.is
-          (words_kept after.kept c.in-Some-with_one.more) word (tokens_left after) (c.in-Some-with_one.ensures.one_more after.kept ∙ ap (λ (ws : List (List ℕ)). ws ++ word ∷ []) stay) c.keep_word-word.ensures.word
+          (words_kept after.kept c.in-Some-with_word.more) word (tokens_left after) (c.in-Some-with_word.ensures.one_more after.kept ∙ ap (λ (ws : List (List ℕ)). ws ++ word ∷ []) stay) c.keep_word-word.ensures.word
           (λ i. tokens (c.keep_word-word.ensures.steps.line i) (c.keep_word-word.ensures.steps.rest i));
-      within = c.in-Some-with_one.ensures.within (length after.kept) (words_more (length at.kept) (length after.kept) c.loop-token.words long c.loop-token.invariant.within) c.keep_word-word.ensures.within;
+      within = c.in-Some-with_word.ensures.within (length after.kept) (words_more (length at.kept) (length after.kept) c.loop-token.words long c.loop-token.invariant.within) c.keep_word-word.ensures.within;
       reads_on = reads_both c.args.source.now at after c.loop-token.invariant.reads_on (reads_token at here after (next_token.Word c.in-Word.size) c.in-Some.ensures.blanks (c.in-Some.ensures.after_end ∙ ap (λ (t : NextToken). tokens_after_end (left_after here t)) c.in-Word.is) c.keep_word-word.ensures.steps);
     }
 
@@ -35,7 +35,7 @@ returns-clause-says c =
     let here = c.next_within.new.source in
     let f : StaysKept old.kept c.kept.result.now = subst (λ (k : List ℕ). StaysKept old.kept k) (sym c.in_default.ensures.blanks.kept ∙ sym c.kept.ensures.now) c.loop-token.invariant.reads_on.prefix in
     let same : c.kept.result.now ≡ at.kept = c.kept.ensures.now ∙ c.in_default.ensures.blanks.kept in
-    stored_anywhere here.kept c.statement_said.result (statement_if_words (bytes_in old.kept c.args.key) (words_of (tokens_before_end (tokens_left old))))
-    (c.statement_said.ensures.0 ∙ (λ i. statement_of_words (bytes_stay old.kept c.kept.result.now f c.args.key c.requires.key i) (words_kept (same i) c.loop-token.words))
+    stored_anywhere here.kept c.statement_of_kept.result (statement_if_words (bytes_in old.kept c.args.key) (words_of (tokens_before_end (tokens_left old))))
+    (c.statement_of_kept.ensures.0 ∙ (λ i. statement_of_words (bytes_stay old.kept c.kept.result.now f c.args.key c.requires.key i) (words_kept (same i) c.loop-token.words))
     ∙ sym (all_said (bytes_in old.kept c.args.key) (words_of (tokens_before_end (tokens_left old))) (words_kept at.kept c.loop-token.words) (tokens_before_end (tokens_left at)) c.loop-token.invariant.same c.in_default.ensures.tokens))
-    c.statement_said.ensures.1
+    c.statement_of_kept.ensures.1

@@ -24,7 +24,7 @@ returns-clause-stands c = λ part q s.
     let silent : words_taken part c.feed-fed.new.self (bytes ++ take (taken_in (length piece) c.feed-fed.result) piece) ≡ words_taken part c.args.device.now bytes =
     read.2 ∙ ap (λ (words : List ℕ). words_taken part c.args.device.now bytes ++ words) none ∙ append-nil (words_taken part c.args.device.now bytes) in
     gives part c.args.self.now c.feed.new.self c.args.device.now c.feed-fed.new.self c.feed.new.device q piece c.feed-fed.new.read c.feed-fed.result c.given_of-count.result s
-    (omega (arith, c.if-self-gt0.false, ap (λ (q : QueueState). q.left) c.self.view_is)) fits c.feed-fed.ensures.within
+    (omega (arith, c.if-self-gt0.false, ap (λ (q : QueueState). q.bits_left) c.self.view_is)) fits c.feed-fed.ensures.within
     (c.feed-fed.ensures.stands part on_the_bench false bytes device) (c.feed-fed.ensures.answer part on_the_bench false bytes device) silent
     (subst (λ (b : ReadBufState). RoomBefore (record { part = part; kept = on_the_bench; wrapped = false; bytes = bytes }) piece (taken_in (length piece) c.feed-fed.result) (words_taken part c.args.device.now bytes) b) c.full.ensures
     (c.feed-fed.ensures.room part on_the_bench false bytes device)) (λ stop. (let all = c.feed-fed.ensures.stopped part on_the_bench false bytes device stop in (all.0, all.2))) c.given_of-count.ensures

@@ -17,6 +17,6 @@ pub returns : goal.returns
 returns c = record {
   stands = λ part q s.
       turns_end part c.args.self.now _ c.loop-rest.self c.args.device.now c.loop-rest.device q.given q.held c.as_slice-rest.result.now c.loop-rest.rest.now q.out s
-      (ap (λ (h : List ℕ). record { held = h; word = c.self.inside.word; left = c.self.inside.left }) (ap (λ (v : ArrayVec ℕ). v.items) c.replace-held.ensures.after ∙ c.new.ensures) ∙ ap (λ (q : QueueState). record q { held = [] }) c.self.view_is)
+      (ap (λ (h : List ℕ). record { held = h; word = c.self.inside.word; bits_left = c.self.inside.bits_left }) (ap (λ (v : ArrayVec ℕ). v.items) c.replace-held.ensures.after ∙ c.new.ensures) ∙ ap (λ (q : QueueState). record q { held = [] }) c.self.view_is)
       (c.as_slice-rest.ensures.value ∙ ap (λ (v : ArrayVec ℕ). v.items) c.replace-held.ensures.value ∙ ap (λ (q : QueueState). q.held) c.self.view_is) (grind (arith, c.loop-rest-test.false, c.loop-rest-test.ensures)) (c.loop-rest.invariant.turns part);
 }

@@ -1,5 +1,5 @@
 use Rattle.std.proofs.Common.{◌≡◌, ◌^◌, ap, ◌∙◌, refl, sym, subst}
-use Rattle.x7_jtag.specs.Port.{lowest}
+use Rattle.x7_jtag.specs.Port.{lowest_bit}
 use Rattle.x7_jtag.specs.Tap.{QueueStandsFor, TapState}
 use Rattle.x7_jtag.specs.declared.instruction.Instruction.TheVariants as instruction
 use Rattle.x7_jtag.proofs.PortLemmas.{shifts_queue, shifts_register, shifts_under, shown_under}
@@ -33,7 +33,7 @@ returns-in-Idcode c =
       stands = λ part p s.
           shifts_under part c.args.self.now c.shift_register.new.self c.args.device.now c.args.device.now p c.args.tdi instruction.Idcode s is
           (shifts_register part c.args.self.now c.shift_register.new.self c.args.device.now p (2 ^ 31) c.args.tdi s c.shift_register.ensures.new);
-      tdo = λ part p s. shown_under part c.args.self.now c.args.device.now p instruction.Idcode c.shift_register.result s is (c.shift_register.ensures.out ∙ ap lowest s.register_is);
+      tdo = λ part p s. shown_under part c.args.self.now c.args.device.now p instruction.Idcode c.shift_register.result s is (c.shift_register.ensures.out ∙ ap lowest_bit s.register_is);
     }
 
 pub returns-in-Usercode : goal.returns-in-Usercode
@@ -43,5 +43,5 @@ returns-in-Usercode c =
       stands = λ part p s.
           shifts_under part c.args.self.now c.shift_register-in-Usercode.new.self c.args.device.now c.args.device.now p c.args.tdi instruction.Usercode s is
           (shifts_register part c.args.self.now c.shift_register-in-Usercode.new.self c.args.device.now p (2 ^ 31) c.args.tdi s c.shift_register-in-Usercode.ensures.new);
-      tdo = λ part p s. shown_under part c.args.self.now c.args.device.now p instruction.Usercode c.shift_register-in-Usercode.result s is (c.shift_register-in-Usercode.ensures.out ∙ ap lowest s.register_is);
+      tdo = λ part p s. shown_under part c.args.self.now c.args.device.now p instruction.Usercode c.shift_register-in-Usercode.result s is (c.shift_register-in-Usercode.ensures.out ∙ ap lowest_bit s.register_is);
     }

@@ -4,8 +4,8 @@ use Rattle.x7_mcs.proofs.mcs_lines.McsLinesTakesLines.put_line.Goals as goal
 
 pub returns-clause-read : goal.returns-clause-read
 returns-clause-read c = λ first lines m t.
-    line_came (mcs_lines_state c.args.self.now) lines c.args.n m t c.put_one.result (mcs_lines_state c.put_one.new.self) c.args.line.now c.without_return.result.now c.without_return.ensures (c.put_one.ensures t.records t.holds)
+    line_came (mcs_lines_state c.args.self.now) lines c.args.n m t c.put_bare_line.result (mcs_lines_state c.put_bare_line.new.self) c.args.line.now c.without_return.result.now c.without_return.ensures (c.put_bare_line.ensures t.records t.holds)
 
 pub returns-clause-memory : goal.returns-clause-memory
 returns-clause-memory c = λ first lines m t.
-    line_wanted (mcs_lines_state c.args.self.now) lines c.args.n m t c.put_one.result (mcs_lines_state c.put_one.new.self) c.args.line.now c.without_return.result.now c.without_return.ensures (c.put_one.ensures t.records t.holds)
+    line_wanted (mcs_lines_state c.args.self.now) lines c.args.n m t c.put_bare_line.result (mcs_lines_state c.put_bare_line.new.self) c.args.line.now c.without_return.result.now c.without_return.ensures (c.put_bare_line.ensures t.records t.holds)

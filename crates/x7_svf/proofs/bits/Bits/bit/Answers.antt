@@ -8,6 +8,6 @@ returns-then-i-self c = bit_past c.self.inside.digits.now c.self.inside.count c.
 
 pub returns : goal.returns
 returns c =
-    ap (λ (b : Bool). Some b) c.bit_in.ensures
+    ap (λ (b : Bool). Some b) c.bit_of.ensures
     ∙ bit_of_is c.self.inside.digits.now c.self.inside.count c.args.i (omega (arith, c.if-i-self.false))
     ∙ ap (λ (bs : List Bool). slice_get bs c.args.i) c.self.view_is

@@ -4,7 +4,7 @@ use Rattle.x7_svf.specs.Reading.{ReadsOn}
 use Rattle.x7_svf.specs.Source.{tokens_left}
 use Rattle.x7_svf.specs.Words.{is_free_token}
 use Rattle.x7_svf.specs.Svf.{tokens_before_end}
-use Rattle.x7_svf.proofs.reader.are_free.Given as goal
+use Rattle.x7_svf.proofs.reader.are_free_tokens.Given as goal
 
 abbrev pub invariant-loop-token : goal.invariant-loop-token
 invariant-loop-token l = record {

@@ -1,10 +1,11 @@
 use Rattle.std.proofs.Common.{◌≡◌, ◌≤◌, length}
-use Rattle.x7_svf.specs.Words.{number_from}
-use Rattle.x7_svf.proofs.words.number.Given as goal
+use Rattle.x7_svf.specs.Words.{number_within}
+use Rattle.x7_svf.proofs.NumberLemmas.{number_from}
+use Rattle.x7_svf.proofs.words.number_within.Given as goal
 
 abbrev pub invariant-loop-rest : goal.invariant-loop-rest
 invariant-loop-rest l = record {
-  same : number_from l.limit 0 l.word ≡ number_from l.limit l.value l.rest;
+  same : number_within l.limit l.word ≡ number_from l.limit l.value l.rest;
   within : l.value ≤ l.limit;
 }
 

@@ -1,6 +1,6 @@
 use Rattle.std.proofs.Common.{sym, arith}
 use Rattle.x7_mcs.proofs.PlaceLemmas.{least_is_first, past_is_free}
-use Rattle.x7_mcs.proofs.image.taken_place.Goals as goal
+use Rattle.x7_mcs.proofs.image.overlap.Goals as goal
 
 pub returns-then-place-len-clause-least : goal.returns-then-place-len-clause-least
 returns-then-place-len-clause-least c = λ xs h. sym (past_is_free xs c.args.image.now.bytes.items c.args.image.now.marks.items h c.args.place c.args.count (omega arith))

@@ -1,6 +1,6 @@
 use Rattle.std.proofs.Common.{◌≡◌, ◌≤◌, ◌+◌, ◌++◌, ℕ, List, [], true, take, drop, length, length-append, refl, ap, sym, subst, ◌∙◌, Some, arith}
 use Rattle.std.proofs.lemmas.List.{drop_all}
-use Rattle.x7_svf.specs.Fields.{Inside, Named, Scanning, after_name, closed_by, are_hex, closed_field, field_by_name}
+use Rattle.x7_svf.specs.Fields.{Inside, Named, Scanning, after_name, after_field, are_hex, closed_field, field_by_name}
 use Rattle.x7_svf.specs.Token.{token_size}
 use Rattle.x7_svf.specs.Reading.{StepsOver}
 use Rattle.x7_svf.specs.Source.{SourceState}
@@ -13,17 +13,17 @@ use Rattle.x7_svf.specs.declared.token.NextToken.TheVariants as next_token
 use Rattle.x7_svf.proofs.FieldLemmas.{digits_more, fields_more, none_between, none_holds, none_inside, none_named, step_at}
 use Rattle.x7_svf.proofs.ReadingLemmas.{steps_skipped}
 use Rattle.x7_svf.proofs.SpanLemmas.{more_stays}
-use Rattle.x7_svf.proofs.fields.step.Goals as goal
+use Rattle.x7_svf.proofs.fields.scan_step.Goals as goal
 
 pub returns-in_err-field-in-Between-Word : goal.returns-in_err-field-in-Between-Word
 returns-in_err-field-in-Between-Word c =
     let old = c.args.source.now in
-    let given = c.args.scanner.given in
+    let spans = c.args.scanner.spans in
     let n : ℕ = c.in-Between-Word.length in
     record {
       scans = ap (scanning_of old.kept) c.from_residual.ensures
-          ∙ ap (after_name (fields_of old.kept given)) (c.in_err-field-in-Between-Word.ensures ∙ ap (λ (r : List ℕ). field_by_name (take n r)) c.rest.ensures)
-          ∙ step_at old.kept old.rest given c.args.scanner.place place.Between c.args.token (next_token.Word n) c.in-Between-Word.is-0 c.in-Between-Word.is-1;
+          ∙ ap (after_name (fields_of old.kept spans)) (c.in_err-field-in-Between-Word.ensures ∙ ap (λ (r : List ℕ). field_by_name (take n r)) c.rest.ensures)
+          ∙ step_at old.kept old.rest spans c.args.scanner.place place.Between c.args.token (next_token.Word n) c.in-Between-Word.is-0 c.in-Between-Word.is-1;
       within = none_holds c.from_residual.result _ c.from_residual.ensures;
       steps = none_holds c.from_residual.result _ c.from_residual.ensures;
     }
@@ -32,14 +32,14 @@ pub returns-in_ok-field-in-Between-Word : goal.returns-in_ok-field-in-Between-Wo
 returns-in_ok-field-in-Between-Word c =
     let old = c.args.source.now in
     let new = c.skip.new.self in
-    let given = c.args.scanner.given in
+    let spans = c.args.scanner.spans in
     let n : ℕ = c.in-Between-Word.length in
     let same : new.kept ≡ old.kept = ap (λ (s : SourceState). s.kept) c.skip.ensures in
     record {
-      scans = ap (λ (k : List ℕ). Some (record { at = Named c.in_ok-field-in-Between-Word.field; fields = fields_of k given })) same
-          ∙ ap (after_name (fields_of old.kept given)) (c.in_ok-field-in-Between-Word.ensures ∙ ap (λ (r : List ℕ). field_by_name (take n r)) c.rest.ensures)
-          ∙ step_at old.kept old.rest given c.args.scanner.place place.Between c.args.token (next_token.Word n) c.in-Between-Word.is-0 c.in-Between-Word.is-1;
-      within = (tt, subst (λ (k : List ℕ). AreWithin (length k) given) (sym same) c.requires.within.1);
+      scans = ap (λ (k : List ℕ). Some (record { at = Named c.in_ok-field-in-Between-Word.field; fields = fields_of k spans })) same
+          ∙ ap (after_name (fields_of old.kept spans)) (c.in_ok-field-in-Between-Word.ensures ∙ ap (λ (r : List ℕ). field_by_name (take n r)) c.rest.ensures)
+          ∙ step_at old.kept old.rest spans c.args.scanner.place place.Between c.args.token (next_token.Word n) c.in-Between-Word.is-0 c.in-Between-Word.is-1;
+      within = (tt, subst (λ (k : List ℕ). AreWithin (length k) spans) (sym same) c.requires.within.1);
       steps = subst (λ (t : NextToken). StepsOver (token_size t) old new) (sym c.in-Between-Word.is-1) (steps_skipped n old new c.skip.ensures);
     }
 
@@ -47,8 +47,8 @@ pub returns-in_default : goal.returns-in_default
 returns-in_default c =
     let old = c.args.source.now in
     record {
-      scans = none_between (fields_of old.kept c.args.scanner.given) c.args.token old.rest c.in_default.not-Word-1
-          ∙ step_at old.kept old.rest c.args.scanner.given c.args.scanner.place place.Between c.args.token c.args.token c.in_default.is-0 refl;
+      scans = none_between (fields_of old.kept c.args.scanner.spans) c.args.token old.rest c.in_default.not-Word-1
+          ∙ step_at old.kept old.rest c.args.scanner.spans c.args.scanner.place place.Between c.args.token c.args.token c.in_default.is-0 refl;
       within = tt;
       steps = tt;
     }
@@ -57,15 +57,15 @@ pub returns-in-Named-Open : goal.returns-in-Named-Open
 returns-in-Named-Open c =
     let old = c.args.source.now in
     let new = c.skip-in-Named-Open.new.self in
-    let given = c.args.scanner.given in
+    let spans = c.args.scanner.spans in
     let k : Field = c.in-Named-Open.field in
     let same : new.kept ≡ old.kept = ap (λ (s : SourceState). s.kept) c.skip-in-Named-Open.ensures in
     let none : drop (length c.kept.result.now) new.kept ≡ [] = drop_all (length c.kept.result.now) new.kept (omega (arith, ap length c.kept.ensures.now)) in
-    let scanning : ◌≡◌ {A = Scanning} (record { at = Inside k (drop (length c.kept.result.now) new.kept); fields = fields_of new.kept given }) (record { at = Inside k []; fields = fields_of old.kept given }) = λ i. record { at = Inside k (none i); fields = fields_of (same i) given } in
+    let scanning : ◌≡◌ {A = Scanning} (record { at = Inside k (drop (length c.kept.result.now) new.kept); fields = fields_of new.kept spans }) (record { at = Inside k []; fields = fields_of old.kept spans }) = λ i. record { at = Inside k (none i); fields = fields_of (same i) spans } in
     record {
       scans = ap (λ (s : Scanning). Some s) scanning
-          ∙ step_at old.kept old.rest given c.args.scanner.place (place.Named k) c.args.token next_token.Open c.in-Named-Open.is-0 c.in-Named-Open.is-1;
-      within = (omega (arith, ap length c.kept.ensures.now), subst (λ (k : List ℕ). AreWithin (length k) given) (sym same) c.requires.within.1);
+          ∙ step_at old.kept old.rest spans c.args.scanner.place (place.Named k) c.args.token next_token.Open c.in-Named-Open.is-0 c.in-Named-Open.is-1;
+      within = (omega (arith, ap length c.kept.ensures.now), subst (λ (k : List ℕ). AreWithin (length k) spans) (sym same) c.requires.within.1);
       steps = subst (λ (t : NextToken). StepsOver (token_size t) old new) (sym c.in-Named-Open.is-1) (steps_skipped 1 old new c.skip-in-Named-Open.ensures);
     }
 
@@ -73,17 +73,17 @@ pub returns-in_default-2 : goal.returns-in_default-2
 returns-in_default-2 c =
     let old = c.args.source.now in
     record {
-      scans = none_named c.in_default.field-0-0 (fields_of old.kept c.args.scanner.given) c.args.token old.rest c.in_default.not-Open-1
-          ∙ step_at old.kept old.rest c.args.scanner.given c.args.scanner.place (place.Named c.in_default.field-0-0) c.args.token c.args.token c.in_default.is-0 refl;
+      scans = none_named c.in_default.field-0-0 (fields_of old.kept c.args.scanner.spans) c.args.token old.rest c.in_default.not-Open-1
+          ∙ step_at old.kept old.rest c.args.scanner.spans c.args.scanner.place (place.Named c.in_default.field-0-0) c.args.token c.args.token c.in_default.is-0 refl;
       within = tt;
       steps = tt;
     }
 
-pub returns-else-not-are_digits : goal.returns-else-not-are_digits
-returns-else-not-are_digits c =
+pub returns-else-not-are_hex : goal.returns-else-not-are_hex
+returns-else-not-are_hex c =
     let old = c.args.source.now in
     let new = c.keep.new.self in
-    let given = c.args.scanner.given in
+    let spans = c.args.scanner.spans in
     let k : Field = c.in-Inside-Word.field-0-0 in
     let from : ℕ = c.in-Inside-Word.field-1-0 in
     let n : ℕ = c.in-Inside-Word.length in
@@ -91,12 +91,12 @@ returns-else-not-are_digits c =
     let grown : new.kept ≡ old.kept ++ word = ap (λ (s : SourceState). s.kept) c.keep.ensures in
     let long : length new.kept ≡ length old.kept + length word = ap length grown ∙ length-append old.kept word in
     let begun : from ≤ length old.kept = subst (IsPlaceWithin (length old.kept)) c.in-Inside-Word.is-0 c.requires.within.0 in
-    let digits : are_hex word ≡ true = sym (c.are_digits.ensures ∙ ap (λ (r : List ℕ). are_hex (take n r)) c.rest-in-Inside-Word.ensures) ∙ c.if-not-are_digits.false in
+    let digits : are_hex word ≡ true = sym (c.are_hex.ensures ∙ ap (λ (r : List ℕ). are_hex (take n r)) c.rest-in-Inside-Word.ensures) ∙ c.if-not-are_hex.false in
     record {
-      scans = ap (λ (p : Place). Some (record { at = at_of new.kept p; fields = fields_of new.kept given })) c.in-Inside-Word.is-0
-          ∙ digits_more old.kept word new.kept given k from grown begun c.requires.within.1 digits
-          ∙ step_at old.kept old.rest given c.args.scanner.place (place.Inside k from) c.args.token (next_token.Word n) c.in-Inside-Word.is-0 c.in-Inside-Word.is-1;
-      within = (subst (IsPlaceWithin (length new.kept)) (sym c.in-Inside-Word.is-0) (omega (arith, long, begun)), fields_more (length old.kept) (length new.kept) given (omega (arith, long)) c.requires.within.1);
+      scans = ap (λ (p : Place). Some (record { at = at_of new.kept p; fields = fields_of new.kept spans })) c.in-Inside-Word.is-0
+          ∙ digits_more old.kept word new.kept spans k from grown begun c.requires.within.1 digits
+          ∙ step_at old.kept old.rest spans c.args.scanner.place (place.Inside k from) c.args.token (next_token.Word n) c.in-Inside-Word.is-0 c.in-Inside-Word.is-1;
+      within = (subst (IsPlaceWithin (length new.kept)) (sym c.in-Inside-Word.is-0) (omega (arith, long, begun)), fields_more (length old.kept) (length new.kept) spans (omega (arith, long)) c.requires.within.1);
       steps = subst (λ (t : NextToken). StepsOver (token_size t) old new) (sym c.in-Inside-Word.is-1) (record {
         prefix = more_stays old.kept new.kept word grown;
         line = ap (λ (s : SourceState). s.line) c.keep.ensures;
@@ -104,19 +104,19 @@ returns-else-not-are_digits c =
       });
     }
 
-pub returns-in_ok-given-in-Inside-Close : goal.returns-in_ok-given-in-Inside-Close
-returns-in_ok-given-in-Inside-Close c =
+pub returns-in_ok-spans-in-Inside-Close : goal.returns-in_ok-spans-in-Inside-Close
+returns-in_ok-spans-in-Inside-Close c =
     let old = c.args.source.now in
     let new = c.skip-in-Inside-Close.new.self in
-    let given = c.args.scanner.given in
+    let spans = c.args.scanner.spans in
     let k : Field = c.in-Inside-Close.field in
     let from : ℕ = c.in-Inside-Close.from in
     let same : new.kept ≡ old.kept = ap (λ (s : SourceState). s.kept) c.skip-in-Inside-Close.ensures in
-    let closed = c.in_ok-given-in-Inside-Close.ensures in
+    let closed = c.in_ok-spans-in-Inside-Close.ensures in
     record {
-      scans = ap closed_by (closed.fields ∙ ap (λ (kept : List ℕ). closed_field (fields_of kept given) k (drop from kept)) same)
-          ∙ step_at old.kept old.rest given c.args.scanner.place (place.Inside k from) c.args.token next_token.Close c.in-Inside-Close.is-0 c.in-Inside-Close.is-1;
-      within = (tt, closed.within (subst (λ (k : List ℕ). AreWithin (length k) given) (sym same) c.requires.within.1));
+      scans = ap after_field (closed.fields ∙ ap (λ (kept : List ℕ). closed_field (fields_of kept spans) k (drop from kept)) same)
+          ∙ step_at old.kept old.rest spans c.args.scanner.place (place.Inside k from) c.args.token next_token.Close c.in-Inside-Close.is-0 c.in-Inside-Close.is-1;
+      within = (tt, closed.within (subst (λ (k : List ℕ). AreWithin (length k) spans) (sym same) c.requires.within.1));
       steps = subst (λ (t : NextToken). StepsOver (token_size t) old new) (sym c.in-Inside-Close.is-1) (steps_skipped 1 old new c.skip-in-Inside-Close.ensures);
     }
 
@@ -126,8 +126,8 @@ returns-in_default-3 c =
     let k : Field = c.in_default.field-0-0 in
     let from : ℕ = c.in_default.field-1-0 in
     record {
-      scans = none_inside k (drop from old.kept) (fields_of old.kept c.args.scanner.given) c.args.token old.rest c.in_default.not-Word-1 c.in_default.not-Close-1
-          ∙ step_at old.kept old.rest c.args.scanner.given c.args.scanner.place (place.Inside k from) c.args.token c.args.token c.in_default.is-0 refl;
+      scans = none_inside k (drop from old.kept) (fields_of old.kept c.args.scanner.spans) c.args.token old.rest c.in_default.not-Word-1 c.in_default.not-Close-1
+          ∙ step_at old.kept old.rest c.args.scanner.spans c.args.scanner.place (place.Inside k from) c.args.token c.args.token c.in_default.is-0 refl;
       within = tt;
       steps = tt;
     }

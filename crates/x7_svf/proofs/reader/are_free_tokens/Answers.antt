@@ -7,7 +7,7 @@ use Rattle.x7_svf.specs.Svf.{tokens_before_end}
 use Rattle.x7_svf.specs.Words.{is_free_token}
 use Rattle.x7_svf.proofs.ReadingLemmas.{left_stepped, reads_both, reads_token, steps_skipped}
 use Rattle.x7_svf.proofs.WordsLemmas.{free_on}
-use Rattle.x7_svf.proofs.reader.are_free.Goals as goal
+use Rattle.x7_svf.proofs.reader.are_free_tokens.Goals as goal
 
 pub loop-token-preserved : goal.loop-token-preserved
 loop-token-preserved c =
@@ -16,8 +16,8 @@ loop-token-preserved c =
     let after = c.skip.new.self in
     let t = c.in-Some.token in
     let steps = subst (λ (n : ℕ). StepsOver n here after) c.size.ensures (steps_skipped c.size.result here after c.skip.ensures) in
-    let is_free : is_free_token (token_of t here.rest) ≡ true = sym (c.if-not-is_free_token.ensures ∙ ap (λ (r : List ℕ). is_free_token (token_of t r)) c.rest.ensures) in
+    let is_free_word : is_free_token (token_of t here.rest) ≡ true = sym (c.if-not-is_free_token.ensures ∙ ap (λ (r : List ℕ). is_free_token (token_of t r)) c.rest.ensures) in
     record {
-      same = c.loop-token.invariant.same ∙ ap (list_all is_free_token) c.in-Some.ensures.tokens ∙ free_on (token_of t here.rest) (tokens_before_end (left_after here t)) is_free ∙ ap (λ (ps : List TokenOnLine). list_all is_free_token (tokens_before_end ps)) (left_stepped here after t steps);
+      same = c.loop-token.invariant.same ∙ ap (list_all is_free_token) c.in-Some.ensures.tokens ∙ free_on (token_of t here.rest) (tokens_before_end (left_after here t)) is_free_word ∙ ap (λ (ps : List TokenOnLine). list_all is_free_token (tokens_before_end ps)) (left_stepped here after t steps);
       reads_on = reads_both c.args.source.now at after c.loop-token.invariant.reads_on (reads_token at here after t c.in-Some.ensures.blanks c.in-Some.ensures.after_end steps);
     }

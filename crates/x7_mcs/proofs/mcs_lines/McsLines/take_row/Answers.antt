@@ -1,5 +1,5 @@
 use Rattle.std.proofs.lemmas.Result.{err_from_is_err_and}
-use Rattle.x7_mcs.proofs.mcs_lines.McsLines.put_row.Goals as goal
+use Rattle.x7_mcs.proofs.mcs_lines.McsLines.take_row.Goals as goal
 
 pub returns-in_err-self : goal.returns-in_err-self
 returns-in_err-self c =

@@ -1,6 +1,6 @@
 use Rattle.std.proofs.Common.{◌≡◌, length}
 use Rattle.x7_svf.specs.Fields.{width}
-use Rattle.x7_svf.proofs.reader.width_of.Given as goal
+use Rattle.x7_svf.proofs.reader.width.Given as goal
 
 abbrev pub invariant-loop-rest : goal.invariant-loop-rest
 invariant-loop-rest l = width l.digits ≡ width l.rest

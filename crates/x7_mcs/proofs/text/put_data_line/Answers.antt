@@ -1,7 +1,7 @@
 use Rattle.std.proofs.Common.{arith, ◌++◌, ap, ◌∙◌, List, ℕ}
 use Rattle.x7_mcs.specs.Text.{data_line}
 use Rattle.x7_mcs.proofs.RowLemmas.{whole_row}
-use Rattle.x7_mcs.proofs.text.put_data.Goals as goal
+use Rattle.x7_mcs.proofs.text.put_data_line.Goals as goal
 
 pub returns : goal.returns
 returns c =
