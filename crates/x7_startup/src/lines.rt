@@ -2,6 +2,15 @@
 ghost use Rattle.std.specs.Prelude.{◌≡◌, ◌<◌, Some};
 ghost use Rattle.x7_startup.specs.Lines.{done_rise, line_rise, has_risen, done_line, gts_line, gwe_line};
 
+/// The number of DONE_CYCLE's lowest bit of three in COR0.
+const DONE_CYCLE: u32 = 12;
+
+/// The number of GTS_CYCLE's lowest bit of three in COR0.
+const GTS_CYCLE: u32 = 3;
+
+/// The number of GWE_CYCLE's lowest bit of three in COR0.
+const GWE_CYCLE: u32 = 0;
+
 /// The three lines that startup releases.
 #[derive(Clone, Copy, Debug, PartialEq, Eq, Hash)]
 pub struct Lines {
@@ -13,8 +22,8 @@ pub struct Lines {
     pub gwe: bool,
 }
 
-/// The phases in which DONE, and GTS or GWE, rise by their codes (codes 6 and 7 are this project's choice).
-/// `done` is DONE's own phase; a line without a phase never rises.
+/// By a code of COR0 the phase in which DONE rises, and that in which GTS or GWE does (codes 6 and 7 are this project's
+/// choice). `done` is DONE's own phase; a line without a phase never rises.
 #[rattlefmt::skip]
 fn rises_of(code: u32, done: u8) -> (u8, Option<u8>)
     requires code { code < 8 }
@@ -49,9 +58,9 @@ pub(crate) fn lines_in(cor0: u32, phase: u8) -> Lines
     ensures gts { result.gts ≡ gts_line (Some cor0) phase }
     ensures gwe { result.gwe ≡ gwe_line (Some cor0) phase }
 {
-    let (done, _) = rises_of(cor0 >> 12 & 7, 6);
-    let (_, gts) = rises_of(cor0 >> 3 & 7, done);
-    let (_, gwe) = rises_of(cor0 & 7, done);
+    let (done, _) = rises_of(cor0 >> DONE_CYCLE & 7, 6);
+    let (_, gts) = rises_of(cor0 >> GTS_CYCLE & 7, done);
+    let (_, gwe) = rises_of(cor0 >> GWE_CYCLE & 7, done);
     Lines {
         done: is_up(Some(done), phase),
         gts: is_up(gts, phase),
