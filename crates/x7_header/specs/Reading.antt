@@ -18,8 +18,8 @@ abbrev pub ReturnsAs : {X Y : Type 0} → (X → Y) → Result X HeaderFault →
 ReturnsAs view (Ok x) reading = reading ≡ Ok (view x)
 ReturnsAs view (Err e) reading = reading ≡ Err e
 
--- Each reading below is of the bytes that are left of an input, from their first on. `total` is how many bytes the whole
--- input has; the place of a fault counts from the input's first byte.
+-- Each reading below is of the bytes that are left of an input, from their first on. `total` is how many bytes the
+-- whole input has; the place of a fault counts from the input's first byte.
 
 -- the bytes after the letter that is due at the beginning, or the fault that the bytes end there or have another
 abbrev pub after_letter : ℕ → ℕ → List ℕ → Result (List ℕ) HeaderFault
@@ -121,8 +121,8 @@ text_of_letter letter = record { letter = letter; kind = FieldKind.Counted }
 abbrev pub number_of_letter : ℕ → Field
 number_of_letter letter = record { letter = letter; kind = FieldKind.Four }
 
--- how many bytes are lacked from the text of this letter on: of its field, or, where that is whole, what `later` says of
--- the bytes after it
+-- how many bytes are lacked from the text of this letter on: of its field, or, where that is whole, what `later` says
+-- of the bytes after it
 abbrev pub lack_from_text : ℕ → List ℕ → (List ℕ → ℕ) → ℕ
 lack_from_text letter bytes later = lacks_by (text_lacks bytes) (field_at (length bytes) (text_of_letter letter) bytes) later
 

@@ -31,7 +31,7 @@ fn number_lacks(prefix: &[u8]) -> usize
     }
 }
 
-/// The bytes after the field of text of this letter, or how many bytes the field waits for: 0 where its letter is wrong.
+/// The bytes after the field of text of this letter, or how many bytes it waits for: 0 where its letter is wrong.
 fn after_text(bytes: &[u8], letter: u8) -> Result<&[u8], usize>
     ensures whole { IfOk result (λ rest. (text : List ℕ) × ((total : ℕ) (more : List ℕ) →
         field_at total (text_of_letter letter) (bytes.now ++ more) ≡ Ok (text, rest.now ++ more))) }

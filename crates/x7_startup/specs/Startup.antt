@@ -38,8 +38,8 @@ pub data StartupProgress : Type 0 where
   NotBegun : StartupProgress
   Begun : (cor0 bytes : ℕ) → StartupProgress
 
--- how far startup is after calls of which none is a shutdown: the first armed DESYNC begins it, and the bytes after that
--- count. `armed` says whether START came before the calls.
+-- how far startup is after calls of which none is a shutdown: the first armed DESYNC begins it, and the bytes after
+-- that count. `armed` says whether START came before the calls.
 abbrev pub progress_from : Bool → List Call → StartupProgress
 progress_from armed [] = NotBegun
 progress_from armed (Arm ∷ calls) = progress_from true calls

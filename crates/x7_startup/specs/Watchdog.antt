@@ -67,7 +67,7 @@ FiresAfter off first calls count eos = Fires off first (calls ++ bytes_alike cou
 abbrev pub NoneFires : Bool → ℕ → List WatchCall → ℕ → Bool → Type 0
 NoneFires off first calls count eos = (k : ℕ) → k < count → ¬ FiresAfter off first calls k eos
 
--- the count at which the watchdog fires, in bytes: four times TIMER's value, and 0 where TIMER or the attempt has it off
+-- the count of bytes at which the watchdog fires: four times TIMER's value, and 0 where TIMER or the attempt has it off
 abbrev pub full_count : Bool → ℕ → ℕ
 full_count off timer = if (cfg_mon_of timer == 1) && not off then timer_value_of timer * 4 else 0
 

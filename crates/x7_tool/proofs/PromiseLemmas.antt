@@ -28,7 +28,7 @@ use Rattle.x7_jtag.specs.Port.{Port, words_read_out}
 use Rattle.x7_jtag.specs.Queue.{Sound}
 use Rattle.x7_jtag.specs.Shown.{bytes_taken}
 use Rattle.x7_jtag.proofs.QueueLemmas.{port_sound}
-use Rattle.x7_effects.specs.Played.{PlaysFull, PlaysPartial, PlaysRead, resting_after}
+use Rattle.x7_effects.specs.Played.{PlaysFull, PlaysPartial, PlaysRead, device_after}
 use Rattle.x7_effects.proofs.LawLemmas.{full_law, partial_law, read_law}
 use Rattle.x7_forms.specs.declared.bad_input.InputFault.TheVariants as input
 use Rattle.x7_forms.specs.Event.{Event, bad_input, too_many_reads}
@@ -77,7 +77,7 @@ full_promised known part frames (Ok texts) answer e p = record {
   planned = p.2;
   plays = λ kept bytes fits rests.
       let is : IsPart texts.part = part_is known part texts.part (texts_by (part_of known part) (whole_in known text_limit frames) texts e) in
-      subst (λ (stream : List ℕ). PlaysFull (resting_after texts.part kept bytes) stream p.1) (sym p.3)
+      subst (λ (stream : List ℕ). PlaysFull (device_after texts.part kept bytes) stream p.1) (sym p.3)
       (full_law texts.part kept bytes p.1 fits rests is p.2.is_plan p.2.width (All-permutation (λ row. Contains (addresses_in texts.part) row.far) p.2.rows p.1.rows p.2.same p.2.good.addresses));
 }
 
@@ -90,7 +90,7 @@ partial_promised known part frames (Ok texts) answer e p = record {
   planned = p.2;
   plays = λ kept bytes fits rests.
       let is : IsPart texts.part = part_is known part texts.part (texts_by (part_of known part) (whole_in known text_limit frames) texts e) in
-      subst (λ (stream : List ℕ). PlaysPartial (resting_after texts.part kept bytes) stream p.1) (sym p.4)
+      subst (λ (stream : List ℕ). PlaysPartial (device_after texts.part kept bytes) stream p.1) (sym p.4)
       (partial_law texts.part kept bytes p.1 fits rests is p.2.is_plan p.2.width (All-permutation (λ row. Contains (addresses_in texts.part) row.far) p.2.rows p.1.rows p.2.same p.2.good.addresses));
 }
 
@@ -100,7 +100,7 @@ read_promised known part far n (Ok device) answer e p = record {
   device = device;
   read = e;
   plays = λ kept bytes fits rests.
-      subst (λ (stream : List ℕ). PlaysRead (resting_after device kept bytes) stream far n) (sym p.2) (read_law device kept bytes far n fits rests (part_is known part device e) p.1);
+      subst (λ (stream : List ℕ). PlaysRead (device_after device kept bytes) stream far n) (sym p.2) (read_law device kept bytes far n fits rests (part_is known part device e) p.1);
 }
 
 summary_promised : (known : Known) (part : List ℕ) (seed : ℕ) (read : Result PartData Event) (answer : Answer) → part_of known part ≡ read → and_so read (λ p. Ok (gen_answer p seed)) ≡ Ok answer → PromisesSummary known part seed answer.text

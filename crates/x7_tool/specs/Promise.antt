@@ -20,7 +20,7 @@ use Rattle.x7_svf.specs.declared.statement.Statement.{Statement}
 use Rattle.x7_jtag.specs.Play.{port_played}
 use Rattle.x7_jtag.specs.Shown.{bytes_taken, state_shown}
 use Rattle.x7_svf.specs.Svf.{IsSvfOf}
-use Rattle.x7_effects.specs.Played.{PlaysFull, PlaysPartial, PlaysRead, resting_after}
+use Rattle.x7_effects.specs.Played.{PlaysFull, PlaysPartial, PlaysRead, device_after}
 use Rattle.x7_forms.specs.Event.{Event}
 use Rattle.x7_tool.specs.Generate.{generated, planned_summary}
 use Rattle.x7_forms.specs.Form.{AskedForm, Booting, Generating, Imaging, ImagingFor, PlanningFull, PlanningPartial, PlanningRead, Playing, PlayingSvf}
@@ -35,7 +35,7 @@ pub record PromisesFull (known : Known) (part frames stream : List ℕ) : Type 0
   pub plan : PlanData
   pub read : plan_texts known part frames ≡ Ok texts
   pub planned : IsPlanOf texts.part texts.text (Ok plan)
-  pub plays : (kept : Kept) (bytes : List ℕ) → AreBytes bytes → AtRest texts.part kept bytes → PlaysFull (resting_after texts.part kept bytes) stream plan
+  pub plays : (kept : Kept) (bytes : List ℕ) → AreBytes bytes → AtRest texts.part kept bytes → PlaysFull (device_after texts.part kept bytes) stream plan
 
 -- The stream of `plan partial`: after any bytes at rest it overrides just the frames of the plan of the frames text;
 -- the phase stays, and the device is at rest again.
@@ -44,21 +44,21 @@ pub record PromisesPartial (known : Known) (part frames stream : List ℕ) : Typ
   pub plan : PlanData
   pub read : plan_texts known part frames ≡ Ok texts
   pub planned : IsPlanOf texts.part texts.text (Ok plan)
-  pub plays : (kept : Kept) (bytes : List ℕ) → AreBytes bytes → AtRest texts.part kept bytes → PlaysPartial (resting_after texts.part kept bytes) stream plan
+  pub plays : (kept : Kept) (bytes : List ℕ) → AreBytes bytes → AtRest texts.part kept bytes → PlaysPartial (device_after texts.part kept bytes) stream plan
 
 -- The stream of `plan read`: after any bytes at rest it reads out a frame of zeros and the frames along the slots;
 -- memory and phase stay, and the device is at rest again.
 pub record PromisesRead (known : Known) (part : List ℕ) (far n : ℕ) (stream : List ℕ) : Type 0 where
   pub device : PartData
   pub read : part_of known part ≡ Ok device
-  pub plays : (kept : Kept) (bytes : List ℕ) → AreBytes bytes → AtRest device kept bytes → PlaysRead (resting_after device kept bytes) stream far n
+  pub plays : (kept : Kept) (bytes : List ℕ) → AreBytes bytes → AtRest device kept bytes → PlaysRead (device_after device kept bytes) stream far n
 
 -- The text of `gen`: the full stream of the seed's plan, played on a new device, leaves the plan over zeros and ends
 -- startup, and the summary is that of such a play.
 pub record PromisesSummary (known : Known) (part : List ℕ) (seed : ℕ) (text : List ℕ) : Type 0 where
   pub device : PartData
   pub read : part_of known part ≡ Ok device
-  pub plays : PlaysFull (resting_after device on_the_bench []) (full_stream device (generated device seed)) (generated device seed)
+  pub plays : PlaysFull (device_after device on_the_bench []) (full_stream device (generated device seed)) (generated device seed)
   pub played : text ≡ planned_summary device seed
 
 -- The report of `play`: it is that of the streams' data, and startup has begun only where these made their checks.
