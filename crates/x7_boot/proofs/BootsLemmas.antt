@@ -17,7 +17,7 @@ use Rattle.x7_engine.specs.declared.fault.Fault.TheVariants as fault
 use Rattle.x7_engine.specs.declared.kept.Kept.{Kept}
 use Rattle.x7_engine.specs.declared.stop.Stop.{Stop}
 use Rattle.x7_engine.specs.declared.stop.Stop.TheVariants as stop
-use Rattle.x7_boot.specs.Attempt.{IsAttemptOver, NoneBefore, AttemptCourse, ending_at, ending_by, failed_by}
+use Rattle.x7_boot.specs.Attempt.{IsFlashAttempt, NoneBefore, AttemptCourse, ending_at, ending_by, failed_by}
 use Rattle.x7_regs.specs.Control.{forbids_fallback}
 use Rattle.x7_boot.specs.Boot.{BootedState, IsBoot, LeadsToEnd, end_state, next_by, tried}
 use Rattle.x7_boot.specs.Boots.{BootCourse, IsCourse, course_along, course_of}
@@ -93,7 +93,7 @@ never_ends part kept from n none = elim (cases_lt n (suc (length from))) [
       ap (ending_at part kept) same ∙ none (length from) (omega arith))
 ]
 
-pub cause_is : (part : PartData) (flash : List ℕ) (t : AttemptCourse) (cause : Cause) → IsAttemptOver part flash t → t.ending ≡ ending.Failed cause → failure_of (stop_fault (why_of (stop_in part t.kept t.bytes))) t.wrapped ≡ Some cause
+pub cause_is : (part : PartData) (flash : List ℕ) (t : AttemptCourse) (cause : Cause) → IsFlashAttempt part flash t → t.ending ≡ ending.Failed cause → failure_of (stop_fault (why_of (stop_in part t.kept t.bytes))) t.wrapped ≡ Some cause
 cause_is part flash t cause (inl first) e =
     let why : Option Stop = why_of (stop_in part t.kept t.bytes) in
     let ends : ending_by why ≡ Some (ending.Failed cause) = not_started ((state_of part t.kept false t.bytes).phase == 7) (ending_by why) cause (first.ends ∙ ap Some e) in

@@ -28,7 +28,7 @@ use Rattle.x7_engine.specs.declared.kept.Kept.{Kept}
 use Rattle.x7_regs.specs.BootStatus.{boot_status_of}
 use Rattle.x7_regs.specs.declared.boot_status.Attempt.{Attempt}
 use Rattle.x7_regs.specs.declared.boot_status.Cause.{Cause}
-use Rattle.x7_boot.specs.Attempt.{EndsFirst, IsAttemptOver, AttemptCourse, ending_at}
+use Rattle.x7_boot.specs.Attempt.{EndsFirst, IsFlashAttempt, AttemptCourse, ending_at}
 use Rattle.x7_boot.specs.Boot.{at_power, end_state}
 use Rattle.x7_boot.specs.Image.{open_slot}
 use Rattle.x7_boot.specs.declared.attempt.Ending.TheVariants.{Started}
@@ -259,7 +259,7 @@ module _ (o : Opened) (is : IsOpened o) (t : AttemptCourse) (c : StartsClean o.p
               ∙ ap (λ (q : Kept). ending_at o.part q (take k one)) (sym c.starts.kept)
         ]
 
-    pub fallen_is : IsAttemptOver o.part o.flash fallen
+    pub fallen_is : IsFlashAttempt o.part o.flash fallen
     fallen_is =
         let count : length (prefix' ++ s) ≡ length t.bytes = omega (arith, length-append prefix' s, prefix_long, length-drop 65536 t.bytes, long) in
         inl (ends_alike o.part one o.flash t fallen x (record {

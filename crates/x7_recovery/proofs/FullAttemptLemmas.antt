@@ -39,7 +39,7 @@ use Rattle.x7_effects.proofs.PlannerLemmas.{full_same}
 use Rattle.x7_effects.proofs.RestingLemmas.{stream_history}
 use Rattle.x7_effects.proofs.StreamLemmas.{bytes_fit}
 use Rattle.x7_effects.proofs.Streams as items
-use Rattle.x7_boot.specs.Attempt.{IsAttemptOver, NoneBefore, AttemptCourse, ending_at}
+use Rattle.x7_boot.specs.Attempt.{IsFlashAttempt, NoneBefore, AttemptCourse, ending_at}
 use Rattle.x7_boot.specs.Boot.{end_state}
 use Rattle.x7_boot.specs.declared.attempt.Ending.TheVariants.{Started}
 use Rattle.x7_boot.proofs.LeastLemmas.{IsLeast, least_of}
@@ -104,7 +104,7 @@ seven_whole part kept bytes stream k fits d seven =
 -- the attempt has ignored an IPROG, or not
 pub record StartsWith (part : PartData) (kept : Kept) (address : ℕ) (flash : List ℕ) (plan : PlanData) (ignored : Bool) : Type 0 where
   pub course : AttemptCourse
-  pub is : IsAttemptOver part flash course
+  pub is : IsFlashAttempt part flash course
   pub kept_is : course.kept ≡ kept
   pub address_is : course.address ≡ address
   pub ending_is : course.ending ≡ Started

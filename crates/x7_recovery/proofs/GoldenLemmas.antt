@@ -23,7 +23,7 @@ use Rattle.x7_engine.specs.State.{memory_in, state_of}
 use Rattle.x7_engine.proofs.AlikeLemmas.{alike_memory, alike_state}
 use Rattle.x7_engine.proofs.RestLemmas.{history_on, rest_on}
 use Rattle.x7_engine.specs.declared.kept.Kept.{Kept}
-use Rattle.x7_boot.specs.Attempt.{EndsFirst, IsAttemptOver, AttemptCourse}
+use Rattle.x7_boot.specs.Attempt.{EndsFirst, IsFlashAttempt, AttemptCourse}
 use Rattle.x7_boot.specs.Boot.{BootedState, IsBoot, LeadsToEnd, at_power, end_state, next_by}
 use Rattle.x7_boot.specs.Boots.{BootCourse, course_along, course_of}
 use Rattle.x7_boot.specs.declared.attempt.Ending.TheVariants as ending
@@ -79,7 +79,7 @@ starts_after part g h s f r t gaps starts within =
     (subst (AreAlike (take k (g ++ s))) (sym (take-append-le k (h ++ s) r (omega (arith, l, within, as_long)))) (alike_prefixes g h s k gaps)) in
     let enough : length t.bytes ≤ length other = omega (arith, within, as_long, length-append (h ++ s) r) in (
       record {
-        is = subst (λ (n : ℕ). IsAttemptOver part (drop n other) (alike_attempt t other)) (refl {a = 0}) (inl (subst (λ (n : ℕ). EndsFirst part (drop n other) (alike_attempt t other)) (sym starts.address) (alike_ends part one other t x enough alike)));
+        is = subst (λ (n : ℕ). IsFlashAttempt part (drop n other) (alike_attempt t other)) (refl {a = 0}) (inl (subst (λ (n : ℕ). EndsFirst part (drop n other) (alike_attempt t other)) (sym starts.address) (alike_ends part one other t x enough alike)));
         kept = starts.kept;
         address = starts.address;
         started = starts.started;

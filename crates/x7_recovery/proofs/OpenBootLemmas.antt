@@ -20,7 +20,7 @@ use Rattle.x7_engine.specs.Stop.{Stopped, stop_fault}
 use Rattle.x7_engine.specs.Value.{failure_of}
 use Rattle.x7_engine.specs.declared.kept.Kept.{Kept}
 use Rattle.x7_engine.proofs.FallbackLemmas.{kept_memory, kept_state, kept_stop}
-use Rattle.x7_boot.specs.Attempt.{IsAttemptOver, AttemptCourse}
+use Rattle.x7_boot.specs.Attempt.{IsFlashAttempt, AttemptCourse}
 use Rattle.x7_boot.specs.Boot.{LeadsTo, end_state, next_by, tried}
 use Rattle.x7_boot.specs.declared.attempt.Ending.{Ending}
 use Rattle.x7_boot.specs.declared.attempt.Ending.TheVariants as ending
@@ -49,7 +49,7 @@ module _ (o : Opened) (is : IsOpened o) where
   to_place : LeadsTo o.part o.flash (first ∷ []) (Again (kept_at_update o.start) o.place)
   to_place = power_leads o.flash o.slot o.start is.has is.small o.part o.place is.leads
 
-  through : (t : AttemptCourse) (next : Next) → IsAttemptOver o.part o.flash t → t.kept ≡ kept_at_update o.start → t.address ≡ o.place → next ≡ next_by o.part 2 t t.ending → LeadsTo o.part o.flash (t ∷ first ∷ []) next
+  through : (t : AttemptCourse) (next : Next) → IsFlashAttempt o.part o.flash t → t.kept ≡ kept_at_update o.start → t.address ≡ o.place → next ≡ next_by o.part 2 t t.ending → LeadsTo o.part o.flash (t ∷ first ∷ []) next
   through t next tries kept address e =
       let same : Again t.kept t.address ≡ Again (kept_at_update o.start) o.place = ap (λ (k : Kept). Again k t.address) kept ∙ ap (Again (kept_at_update o.start)) address in
       (subst (λ (n : Next). LeadsTo o.part o.flash (first ∷ []) n) (sym same) to_place, tries, e)
@@ -126,7 +126,7 @@ module _ (o : Opened) (is : IsOpened o) where
     pub started : c.end ≡ boot_end.Started
     pub last_is : c.last ≡ l
 
-  pub falls : (c : BootCourse) (t l : AttemptCourse) (cause : Cause) → IsCourse o.part o.flash c → UpdateFails o t cause false → IsAttemptOver o.part o.flash l → l.kept ≡ kept_then t → l.address ≡ 0 → l.ending ≡ ending.Started → Falls c l cause
+  pub falls : (c : BootCourse) (t l : AttemptCourse) (cause : Cause) → IsCourse o.part o.flash c → UpdateFails o t cause false → IsFlashAttempt o.part o.flash l → l.kept ≡ kept_then t → l.address ≡ 0 → l.ending ≡ ending.Started → Falls c l cause
   falls c t l cause course fails l_tries l_kept l_address l_ends =
       let ended : UpdateEnds o t (ending.Failed cause) = fails.ended in
       let next : Again (kept_then t) 0 ≡ next_by o.part 2 t t.ending = sym (ap (next_by o.part 2 t) ended.ends ∙ fallback_next o.part 2 t cause (ap (λ (k : Kept). is_fallback k.kind) ended.kept) fails.forbids) in

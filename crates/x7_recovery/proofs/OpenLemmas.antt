@@ -36,7 +36,7 @@ use Rattle.x7_effects.proofs.CalmLemmas.{IsCalm, IsOff, calm_access, calm_bytes}
 use Rattle.x7_effects.proofs.GoingLemmas.{IsGoing, going_access, going_bytes, going_desync, why_none}
 use Rattle.x7_effects.proofs.RestingLemmas.{rests}
 use Rattle.x7_effects.proofs.StillLemmas.{never_armed}
-use Rattle.x7_boot.specs.Attempt.{IsAttemptOver, NoneBefore, AttemptCourse, ending_at, ending_by}
+use Rattle.x7_boot.specs.Attempt.{IsFlashAttempt, NoneBefore, AttemptCourse, ending_at, ending_by}
 use Rattle.x7_boot.specs.Boot.{LeadsTo, at_power, end_state, start_address}
 use Rattle.x7_boot.specs.Image.{open_slot, slot}
 use Rattle.x7_boot.specs.declared.attempt.Ending.TheVariants as ending
@@ -163,7 +163,7 @@ module _ (flash : List ℕ) (number start : ℕ) (o : HasOpen flash number start
   abbrev pub power : AttemptCourse
   power = record { kept = at_power; address = 0; bytes = taken; wrapped = false; ending = ending.Iprog }
 
-  power_tries : (part : PartData) → IsAttemptOver part flash power
+  power_tries : (part : PartData) → IsFlashAttempt part flash power
   power_tries part = inl (record { rest = left; taken = taken_split; ends = taken_ends part; first = taken_first part; in_flash = refl })
 
   -- what is kept after it

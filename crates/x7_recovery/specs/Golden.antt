@@ -11,7 +11,7 @@ use Rattle.x7_memory.specs.FrameMap.{AreSame}
 use Rattle.x7_memory.specs.Plan.{total}
 use Rattle.x7_planner.specs.FullStream.{full_stream}
 use Rattle.x7_engine.specs.State.{memory_in}
-use Rattle.x7_boot.specs.Attempt.{IsAttemptOver, AttemptCourse}
+use Rattle.x7_boot.specs.Attempt.{IsFlashAttempt, AttemptCourse}
 use Rattle.x7_boot.specs.Boot.{BootedState, IsBoot, at_power, end_state}
 use Rattle.x7_boot.specs.declared.attempt.Ending.TheVariants as ending
 use Rattle.x7_boot.specs.declared.boots.BootEnd.TheVariants as boot_end
@@ -30,7 +30,7 @@ with_erased flash = erased_sector ++ drop sector_bytes flash
 
 -- an attempt at power that starts, over a flash
 pub record StartsAtPower (part : PartData) (flash : List ℕ) (t : AttemptCourse) : Type 0 where
-  pub is : IsAttemptOver part flash t
+  pub is : IsFlashAttempt part flash t
   pub kept : t.kept ≡ at_power
   pub address : t.address ≡ 0
   pub started : t.ending ≡ ending.Started

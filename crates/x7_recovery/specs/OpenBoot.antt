@@ -13,7 +13,7 @@ use Rattle.x7_planner.specs.FullStream.{full_stream}
 use Rattle.x7_engine.specs.State.{attempt_in, memory_in}
 use Rattle.x7_engine.specs.declared.kept.Kept.{Kept}
 use Rattle.x7_engine.specs.Kept.{without_kept}
-use Rattle.x7_boot.specs.Attempt.{IsAttemptOver, AttemptCourse}
+use Rattle.x7_boot.specs.Attempt.{IsFlashAttempt, AttemptCourse}
 use Rattle.x7_regs.specs.Control.{forbids_fallback}
 use Rattle.x7_boot.specs.Boot.{end_state}
 use Rattle.x7_boot.specs.Boots.{BootCourse, IsCourse}
@@ -40,7 +40,7 @@ through_update place e more = record { kind = Power; address = 0; ending = endin
 
 -- an attempt at the place to which the open slot leads ended by `e`
 pub record UpdateEnds (o : Opened) (t : AttemptCourse) (e : Ending) : Type 0 where
-  pub is : IsAttemptOver o.part o.flash t
+  pub is : IsFlashAttempt o.part o.flash t
   pub kept : t.kept ≡ kept_at_update o.start
   pub address : t.address ≡ o.place
   pub ends : t.ending ≡ e
@@ -114,7 +114,7 @@ pub record FallsBackClean (o : Opened) (cause : Cause) (t : AttemptCourse) (c : 
 
 -- the attempt is a fallback over the flash that starts; its device may have kept anything over the reset
 pub record StartsAsFallback (o : Opened) (f : AttemptCourse) : Type 0 where
-  pub is : IsAttemptOver o.part o.flash f
+  pub is : IsFlashAttempt o.part o.flash f
   pub kind : f.kept.kind ≡ Fallback
   pub address : f.address ≡ 0
   pub started : f.ending ≡ ending.Started
