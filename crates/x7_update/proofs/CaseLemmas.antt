@@ -6,7 +6,7 @@ use Rattle.x7_words.specs.Flash.{FlashState, IfKnown}
 use Rattle.x7_update.specs.Layout.{HasLayout, HasSlots, IsOpen, IsFree, IsNextFreeSlot, switch_of, open_switch, free_switch, spent_switch, update_place}
 use Rattle.x7_update.specs.After.{SpendsOpen, already, spends, IsAfter, IsBetween, MayBeLeft, untouched, between, after, switched, with_stream}
 use Rattle.x7_update.specs.Writing.{AtAnyMoment, SpendingSlot, HasWanted, KeepsBelow, OnlySwitch, OpeningSlot, Replaced, ReplacingUpdate}
-use Rattle.x7_update.specs.Slots.{Finds}
+use Rattle.x7_update.specs.Slots.{IsTargetIn}
 use Rattle.x7_update.specs.declared.slots.UpdateTarget.{UpdateTarget}
 use Rattle.x7_update.proofs.StreamLemmas.{length_with_stream, with_stream_below, with_stream_wanted}
 use Rattle.x7_update.proofs.SwitchLemmas.{length_switched, switched_others, switch_switched, switch_other}
@@ -127,7 +127,7 @@ next_free next all spent found has n is_spent keeps =
 
 -- ---- the steps, by the slots that were found
 
-module _ (all : List ℕ) (target : UpdateTarget) (finds : Finds (length all) all target) where
+module _ (all : List ℕ) (target : UpdateTarget) (finds : IsTargetIn (length all) all target) where
   layout : HasLayout all
   layout = record { size = finds.sized; slots = finds.has }
 

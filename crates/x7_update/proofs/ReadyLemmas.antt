@@ -5,7 +5,7 @@ use Rattle.x7_words.specs.Flash.{FlashState, IfKnown, Sees}
 use Rattle.x7_update.specs.After.{IsAfter, IsBetween, with_stream}
 use Rattle.x7_update.specs.Layout.{CanStandAt, HasLayout, HasSize, HasNoOpenSlot, IsNextFreeSlot, IsOpen, open_switch, switch_of, update_place}
 use Rattle.x7_update.specs.ReadBack.{AllReadBack, ReadBack, WasReady}
-use Rattle.x7_update.specs.Slots.{Finds, IsFound, TargetFits}
+use Rattle.x7_update.specs.Slots.{IsTargetIn, HasTarget, TargetFits}
 use Rattle.x7_update.specs.Writing.{CanReadBack, HasWanted, ReadsWanted, ReadsWantedTo, ReplacingUpdate, SeesWanted, wanted_at}
 use Rattle.x7_update.proofs.CaseLemmas.{between_below, between_spent, open_not_free, stream_keeps}
 use Rattle.x7_update.proofs.StreamLemmas.{wanted_inside}
@@ -47,11 +47,11 @@ pub sees_up_to : (update : ℕ) (stream : List ℕ) (from to end : ℕ) (state :
 sees_up_to update stream from to end state within had place l h = had place l (omega (arith, within, h))
 
 -- where an update goes is found as well after reads
-pub still_found : (old new : FlashState) (target : UpdateTarget) → new.attached ≡ old.attached → new.extent ≡ old.extent → new.bytes ≡ old.bytes → IsFound old target → IsFound new target
+pub still_found : (old new : FlashState) (target : UpdateTarget) → new.attached ≡ old.attached → new.extent ≡ old.extent → new.bytes ≡ old.bytes → HasTarget old target → HasTarget new target
 still_found old new target attached size bytes found = record {
   attached = attached ∙ found.attached;
   fits = subst (λ n. TargetFits n target) (sym size) found.fits;
-  finds = subst (λ (o : Option (List ℕ)). IfKnown o (λ all. Finds (length all) all target)) (sym bytes) found.finds;
+  finds = subst (λ (o : Option (List ℕ)). IfKnown o (λ all. IsTargetIn (length all) all target)) (sym bytes) found.finds;
 }
 
 -- what can be read back still can, after reads alone
@@ -77,22 +77,22 @@ was_ready state update stream old new ready size seen same none_open last = reco
 
 -- what was read back of the slots of the flash
 module _ {F : Type 0} (state : F → FlashState) (stream : List ℕ) (old new : FlashState) (target : UpdateTarget) where
-  pub read_back : TargetFits new.extent target → IfKnown old.bytes (λ all. Finds (length all) all target) → WasReady state target.place stream new → ReadBack state stream old new
+  pub read_back : TargetFits new.extent target → IfKnown old.bytes (λ all. IsTargetIn (length all) all target) → WasReady state target.place stream new → ReadBack state stream old new
   read_back fits finds was = record {
-    update = target.place;
+    stream_place = target.place;
     stands = fits.place;
-    place = known_map old.bytes (λ all. Finds (length all) all target) (λ all. target.place ≡ update_place all) (λ all e f. f.update) finds;
+    place = known_map old.bytes (λ all. IsTargetIn (length all) all target) (λ all. target.place ≡ update_place all) (λ all e f. f.update) finds;
     ready = was;
   }
 
-  pub all_back : {E : Type 0} (result : Result (Unit {0}) E) → TargetFits new.extent target → IfKnown old.bytes (λ all. Finds (length all) all target) → OnOk result (WasReady state target.place stream new)
+  pub all_back : {E : Type 0} (result : Result (Unit {0}) E) → TargetFits new.extent target → IfKnown old.bytes (λ all. IsTargetIn (length all) all target) → OnOk result (WasReady state target.place stream new)
       → OnOk result (Sees new (32 * target.slots.next) open_switch) → OnOk result (AllReadBack state stream old new)
   all_back (Err fault) fits finds was seen = tt
   all_back (Ok _) fits finds was seen = record {
     before = read_back fits finds was;
     slot = target.slots.next;
     within = fits.next;
-    next = known_map old.bytes (λ all. Finds (length all) all target) (λ all. IsNextFreeSlot all target.slots.next) (λ all e f. f.next) finds;
+    next = known_map old.bytes (λ all. IsTargetIn (length all) all target) (λ all. IsNextFreeSlot all target.slots.next) (λ all e f. f.next) finds;
     switch = seen;
   }
 

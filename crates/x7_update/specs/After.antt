@@ -3,7 +3,7 @@ use Rattle.std.specs.Prelude.{◌≡◌, ℕ, ◌+◌, ◌-◌, ◌*◌, ◌%◌
 use Rattle.x7_words.specs.Flash.{erased_byte, replaced}
 use Rattle.x7_words.specs.Word.{AreBytes}
 use Rattle.x7_packets.specs.FlashSlot.{sector_bytes, slot_bytes, slot_count}
-use Rattle.x7_update.specs.Layout.{HasLayout, HasNoOpenSlot, IsNextFreeSlot, IsOpen, open_switch, spent_switch, switch_of, update_place}
+use Rattle.x7_update.specs.Layout.{HasLayout, HasNoOpenSlot, IsNextFreeSlot, IsOpen, open_switch, spent_switch, switch_bytes, switch_of, update_place}
 
 -- the flash with this switch word in a slot
 abbrev pub switched : ℕ → List ℕ → List ℕ → List ℕ
@@ -28,11 +28,12 @@ pub record IsAfter (stream flash after : List ℕ) : Type 0 where
   pub fits : update_place flash + length stream ≤ length flash
   pub is : after ≡ switched next open_switch (with_stream (update_place flash) stream spent)
 
--- After the open slot was spent and before the next is opened: no slot is open, all slots lead to U still, each switch
--- word but the open slot's and the next one's stays, the golden stream stands, and from U on there may be anything.
+-- A flash that was left in an update, after its open slot was spent and before the next is opened: no slot is open, all
+-- slots lead to U still, each switch word but the open slot's and the next one's stays, the golden stream stands, and
+-- from U on there may be anything.
 pub record IsBetween (flash found : List ℕ) : Type 0 where
   pub size : length found ≡ length flash
-  pub slots : (i : ℕ) → i < sector_bytes → 4 ≤ i % slot_bytes → get_or found i 0 ≡ get_or flash i 0
+  pub slots : (i : ℕ) → i < sector_bytes → switch_bytes ≤ i % slot_bytes → get_or found i 0 ≡ get_or flash i 0
   pub none_open : HasNoOpenSlot found
   pub switches : (slot : ℕ) → slot < slot_count → (IsOpen flash slot → ⊥) → (IsNextFreeSlot flash slot → ⊥) → switch_of found slot ≡ switch_of flash slot
   pub golden : (i : ℕ) → sector_bytes ≤ i → i < update_place flash → get_or found i 0 ≡ get_or flash i 0
