@@ -39,7 +39,7 @@ use Rattle.x7_recovery.specs.Clean.{StartsClean}
 use Rattle.x7_recovery.specs.Golden.{with_erased}
 use Rattle.x7_boot.specs.Boots.{BootCourse, IsCourse}
 use Rattle.x7_recovery.specs.OpenBoot.{FallsBackClean, UpdateFails}
-use Rattle.x7_recovery.specs.OpenSlot.{HasOpen, IsOpened, Opened}
+use Rattle.x7_recovery.specs.OpenSlot.{HasOpenSlot, IsOpenFlash, OpenFlash}
 use Rattle.x7_effects.proofs.EndLemmas.{memory_all}
 use Rattle.x7_effects.proofs.GoingLemmas.{IsGoing, going_bytes}
 use Rattle.x7_recovery.proofs.SlotLemmas.{slot_long}
@@ -59,7 +59,7 @@ regroup a b c d = simp append_assoc
 regroup_word : (a b p w back more : List ℕ) → (a ++ (b ++ (p ++ (w ++ back)))) ++ more ≡ ((a ++ b) ++ p) ++ (w ++ (back ++ more))
 regroup_word a b p w back more = simp append_assoc
 
-module _ (flash : List ℕ) (number start : ℕ) (o : HasOpen flash number start) (small : start < 2 ^ 32) (s rest : List ℕ) (split : flash ≡ (sector flash number start o small ++ s) ++ rest) (fits : AreBytes (sector flash number start o small ++ s)) where
+module _ (flash : List ℕ) (number start : ℕ) (o : HasOpenSlot flash number start) (small : start < 2 ^ 32) (s rest : List ℕ) (split : flash ≡ (sector flash number start o small ++ s) ++ rest) (fits : AreBytes (sector flash number start o small ++ s)) where
   abbrev first : List ℕ
   first = slots.sector flash number start o small
 
@@ -122,7 +122,7 @@ module _ (flash : List ℕ) (number start : ℕ) (o : HasOpen flash number start
 
 -- ---- the fallback
 
-module _ (o : Opened) (is : IsOpened o) (t : AttemptCourse) (c : StartsClean o.part o.flash t) where
+module _ (o : OpenFlash) (is : IsOpenFlash o) (t : AttemptCourse) (c : StartsClean o.part o.flash t) where
   abbrev s : List ℕ
   s = drop 65536 t.bytes
 

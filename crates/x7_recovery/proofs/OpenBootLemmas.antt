@@ -33,8 +33,8 @@ use Rattle.x7_boot.specs.Boots.{BootCourse, IsCourse, course_along}
 use Rattle.x7_boot.proofs.BootsLemmas.{along, cause_is, fallback_next, stops_next, tried_is}
 use Rattle.x7_boot.proofs.OneBootLemmas.{GoesThrough, goes_through}
 use Rattle.x7_boot.proofs.OverLemmas.{kept_ends, started_first, with_kept}
-use Rattle.x7_recovery.specs.OpenBoot.{EndsAtUpdate, FallsBack, FallsBackAlike, HasFullUpdate, HasPlanned, StartsAsFallback, StartsUpdate, TriesUpdate, UpdateEnds, UpdateFails, kept_at_update}
-use Rattle.x7_recovery.specs.OpenSlot.{IsOpened, Opened}
+use Rattle.x7_recovery.specs.OpenBoot.{EndsAtUpdate, FallsBack, FallsBackAlike, HasFullUpdate, HasFullGolden, StartsAsFallback, StartsUpdate, TriesUpdate, UpdateEnds, UpdateFails, kept_at_update}
+use Rattle.x7_recovery.specs.OpenSlot.{IsOpenFlash, OpenFlash}
 use Rattle.x7_recovery.proofs.FullAttemptLemmas.{StartsWith, full_starts, full_stream_fits, iprog_later}
 use Rattle.x7_recovery.proofs.OpenLemmas.{power, power_leads, sector_never, sector_rests, sector_wrote}
 
@@ -42,7 +42,7 @@ use Rattle.x7_recovery.proofs.OpenLemmas.{power, power_leads, sector_never, sect
 abbrev pub obeyed : Tried
 obeyed = record { kind = Power; address = 0; ending = ending.Iprog }
 
-module _ (o : Opened) (is : IsOpened o) where
+module _ (o : OpenFlash) (is : IsOpenFlash o) where
   abbrev first : AttemptCourse
   first = power o.flash o.slot o.start is.has is.small
 
@@ -143,7 +143,7 @@ module _ (o : Opened) (is : IsOpened o) where
       }
 
   -- to the full stream of a plan
-  planned_starts : (kept : Kept) (golden : PlanData) → HasPlanned o golden → is_fallback kept.kind ≡ true → StartsWith o.part kept 0 o.flash golden true
+  planned_starts : (kept : Kept) (golden : PlanData) → HasFullGolden o golden → is_fallback kept.kind ≡ true → StartsWith o.part kept 0 o.flash golden true
   planned_starts kept golden has e =
       let stream : List ℕ = full_stream o.part golden in
       let prefix : List ℕ = take 65536 o.flash in
@@ -153,7 +153,7 @@ module _ (o : Opened) (is : IsOpened o) where
       full_starts o.part kept prefix golden 0 o.flash has.rest true is.has.fits (sector_rests o.flash o.slot o.start is.has is.small o.part kept e) (sector_never o.flash o.slot o.start is.has is.small) has.is_part has.plan split
       (ap (λ (x : Bool). x && wrote_iprog (history_of (prefix ++ stream))) e ∙ iprog_later prefix stream fits wrote)
 
-  pub falls_back : (c : BootCourse) (t : AttemptCourse) (cause : Cause) (golden : PlanData) → IsCourse o.part o.flash c → HasPlanned o golden → UpdateFails o t cause false → FallsBack o golden cause c
+  pub falls_back : (c : BootCourse) (t : AttemptCourse) (cause : Cause) (golden : PlanData) → IsCourse o.part o.flash c → HasFullGolden o golden → UpdateFails o t cause false → FallsBack o cause golden c
   falls_back c t cause golden course has fails =
       let f : StartsWith o.part (kept_then t) 0 o.flash golden true = planned_starts (kept_then t) golden has refl in
       let a : Falls c f.course cause = falls c t f.course cause course fails f.is f.kept_is f.address_is f.ending_is in

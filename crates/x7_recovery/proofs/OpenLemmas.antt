@@ -44,7 +44,7 @@ use Rattle.x7_boot.specs.declared.next.Next.TheVariants.{Again}
 use Rattle.x7_boot.proofs.StartLemmas.{NeverStarts, prefix_open, never_seven}
 use Rattle.x7_boot.proofs.TookLemmas.{ends_by_stop}
 use Rattle.x7_recovery.specs.OpenBoot.{kept_at_update}
-use Rattle.x7_recovery.specs.OpenSlot.{HasOpen}
+use Rattle.x7_recovery.specs.OpenSlot.{HasOpenSlot}
 use Rattle.x7_recovery.proofs.OpenSlotLemmas.{power_bytes, power_history, slot_history, slot_place, slot_rests}
 use Rattle.x7_recovery.proofs.GoldenLemmas.{word_at}
 use Rattle.x7_recovery.proofs.SlotLemmas.{slot_fits, slot_long}
@@ -70,7 +70,7 @@ iprog_at n start = entry (access.Write 4 15) (n + 24) ∷ wbstar_at n start
 abbrev pub desync_at : ℕ → ℕ → History
 desync_at n start = entry (access.Write 4 13) (n + 32) ∷ iprog_at n start
 
-module _ (flash : List ℕ) (number start : ℕ) (o : HasOpen flash number start) (small : start < 2 ^ 32) where
+module _ (flash : List ℕ) (number start : ℕ) (o : HasOpenSlot flash number start) (small : start < 2 ^ 32) where
   abbrev pub n : ℕ
   n = 32 * number
 

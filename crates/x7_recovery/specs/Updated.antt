@@ -6,7 +6,7 @@ use Rattle.x7_part.specs.Part.{PartData}
 use Rattle.x7_boot.specs.Attempt.{AttemptCourse}
 use Rattle.x7_recovery.specs.Clean.{StartsClean}
 use Rattle.x7_recovery.specs.Golden.{GoldenStarts}
-use Rattle.x7_recovery.specs.OpenSlot.{Opened, slot_of_flash}
+use Rattle.x7_recovery.specs.OpenSlot.{OpenFlash, slot_of_flash}
 use Rattle.x7_update.specs.After.{IsAfter}
 use Rattle.x7_update.specs.Layout.{HasLayout, update_place}
 
@@ -29,5 +29,5 @@ pub record IsUpdated (part : PartData) (flash found : List ℕ) (golden : Attemp
   pub fits : AreBytes (take sector_bytes found)
 
 -- the slot that the last update opened
-abbrev pub opened_by : (part : PartData) (flash found : List ℕ) (golden : AttemptCourse) → IsUpdated part flash found golden → Opened
+abbrev pub opened_by : (part : PartData) (flash found : List ℕ) (golden : AttemptCourse) → IsUpdated part flash found golden → OpenFlash
 opened_by part flash found golden u = slot_of_flash part found u.after.next (update_place flash)

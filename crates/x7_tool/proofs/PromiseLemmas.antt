@@ -19,7 +19,7 @@ use Rattle.x7_boot.specs.declared.boots.BootEnd.TheVariants as boot_end
 use Rattle.x7_boot.specs.Image.{flash_limit, image_of, image_size}
 use Rattle.x7_boot.specs.Boots.{course_along}
 use Rattle.x7_recovery.specs.OpenBoot.{HasStreams}
-use Rattle.x7_recovery.specs.OpenSlot.{Opened}
+use Rattle.x7_recovery.specs.OpenSlot.{OpenFlash}
 use Rattle.x7_boot.proofs.CheckedLemmas.{attempt_checked, checked, last_checked}
 use Rattle.x7_recovery.proofs.AnyBootLemmas.{boots_open, image_boots}
 use Rattle.x7_svf.specs.declared.statement.Statement.{Statement}
@@ -132,7 +132,7 @@ boots_known name part known flash answer e h fits =
 
 -- ---- from a flash with an open slot
 
-opened_known : (known : Known) (name : List ℕ) (part : PartData) (o : Opened) (answer : Answer) → FlashBoots name part (known.flash name) (Ok answer) → HoldsOpen known name part o → BootsFromOpen o answer
+opened_known : (known : Known) (name : List ℕ) (part : PartData) (o : OpenFlash) (answer : Answer) → FlashBoots name part (known.flash name) (Ok answer) → HoldsOpen known name part o → BootsFromOpen o answer
 opened_known known name part o answer h holds =
     let boot : IsBootText part o.flash answer = boots_known name part (known.flash name) o.flash answer holds.held h holds.bytes in
     let here : IsBootText o.part o.flash answer = subst (λ (p : PartData). IsBootText p o.flash answer) (sym holds.part_is) boot in

@@ -15,7 +15,7 @@ use Rattle.x7_boot.specs.Boot.{end_state}
 use Rattle.x7_boot.specs.Checked.{HasChecked}
 use Rattle.x7_boot.specs.Boots.{course_along}
 use Rattle.x7_recovery.specs.OpenBoot.{BootsOpen, HasStreams}
-use Rattle.x7_recovery.specs.OpenSlot.{IsOpened, Opened}
+use Rattle.x7_recovery.specs.OpenSlot.{IsOpenFlash, OpenFlash}
 use Rattle.x7_svf.specs.declared.statement.Statement.{Statement}
 use Rattle.x7_jtag.specs.Play.{port_played}
 use Rattle.x7_jtag.specs.Shown.{bytes_taken, state_shown}
@@ -104,15 +104,15 @@ pub record StartsChecked (part : PartData) (flash : List ℕ) (answer : Answer) 
   pub started : answer.stopped ≡ false → HasChecked part boot.last.kept boot.last.bytes
 
 -- the flash of this name is known, and has an open slot for the part
-pub record HoldsOpen (known : Known) (flash : List ℕ) (part : PartData) (o : Opened) : Type 0 where
+pub record HoldsOpen (known : Known) (flash : List ℕ) (part : PartData) (o : OpenFlash) : Type 0 where
   pub held : known.flash flash ≡ Some (Held o.flash)
   pub bytes : AreBytes o.flash
   pub part_is : o.part ≡ part
-  pub opened : IsOpened o
+  pub opened : IsOpenFlash o
 
 -- the text of a boot from a flash with an open slot, which comes to what such a boot does: the update is tried, and
 -- where it fails the golden stream starts as a fallback
-pub record BootsFromOpen (o : Opened) (answer : Answer) : Type 0 where
+pub record BootsFromOpen (o : OpenFlash) (answer : Answer) : Type 0 where
   pub boot : IsBootText o.part o.flash answer
   pub comes : BootsOpen o (course_along boot.last boot.older boot.end)
 
@@ -123,7 +123,7 @@ pub record PromisesStart (known : Known) (part flash : List ℕ) (answer : Answe
   pub device : PartData
   pub read : part_of known part ≡ Ok device
   pub starts : (all : List ℕ) → known.flash flash ≡ Some (Held all) → AreBytes all → StartsChecked device all answer
-  pub opened : (o : Opened) → HoldsOpen known flash device o → BootsFromOpen o answer
+  pub opened : (o : OpenFlash) → HoldsOpen known flash device o → BootsFromOpen o answer
 
 -- what a whole text of a form promises over what is known
 abbrev pub PromiseOf : Known → AskedForm → Answer → Type 0
