@@ -24,7 +24,8 @@ pub fn starts_are_checked()
 pub fn startup_is_checked()
     ensures state { (part : PartData) (kept : Kept) (wrapped : Bool) (bytes : List ℕ) → AreBytes bytes → 0 < (state_of part kept wrapped bytes).phase → HasChecked part kept bytes }
     ensures attempt { (part : PartData) (flash : List ℕ) (t : AttemptCourse) → AreBytes flash → IsFlashAttempt part flash t → 0 < (end_state part t).phase → HasChecked part t.kept t.bytes }
-    ensures boot { (part : PartData) (flash : List ℕ) (b : BootedState) → AreBytes flash → (is : IsBoot part flash b) → 0 < (end_state part is.last).phase → HasChecked part is.last.kept is.last.bytes }
+    ensures boot { (part : PartData) (flash : List ℕ) (b : BootedState) → AreBytes flash → (is : IsBoot part flash b) → 0 < (end_state part is.last).phase
+        → HasChecked part is.last.kept is.last.bytes }
 {}
 
 /// Every flash leads a boot of a part to an end.

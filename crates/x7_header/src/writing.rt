@@ -9,7 +9,7 @@ use std::alloc::Global;
 use x7_words::{NoMemory, bytes_of};
 
 /// Appends bytes to a header's bytes.
-fn put(out: &mut Vec<u8>, bytes: &[u8]) -> Result<(), NoMemory>
+fn append(out: &mut Vec<u8>, bytes: &[u8]) -> Result<(), NoMemory>
     ensures { OnOk result (out.new.items ≡ out.old.items ++ bytes.now) }
 {
     match out.extend_from_slice(bytes) {
@@ -19,23 +19,23 @@ fn put(out: &mut Vec<u8>, bytes: &[u8]) -> Result<(), NoMemory>
 }
 
 /// Appends a field of text to a header's bytes: its letter, its count in two bytes, and the text.
-fn put_text(out: &mut Vec<u8>, letter: u8, text: &[u8]) -> Result<(), NoMemory>
+fn append_text(out: &mut Vec<u8>, letter: u8, text: &[u8]) -> Result<(), NoMemory>
     requires { length text.now < 2 ^ 16 }
     ensures { OnOk result (out.new.items ≡ out.old.items ++
         field_bytes (record { letter = letter; kind = FieldKind.Counted }) text.now) }
 {
     let count = text.len();
-    put(out, &[letter, (count / 256) as u8, (count % 256) as u8])?;
-    put(out, text)
+    append(out, &[letter, (count / 256) as u8, (count % 256) as u8])?;
+    append(out, text)
 }
 
 /// Appends a field of a number to a header's bytes: its letter, and the number in four bytes.
-fn put_number(out: &mut Vec<u8>, letter: u8, number: u32) -> Result<(), NoMemory>
+fn append_number(out: &mut Vec<u8>, letter: u8, number: u32) -> Result<(), NoMemory>
     ensures { OnOk result (out.new.items ≡ out.old.items ++
         field_bytes (record { letter = letter; kind = FieldKind.Four }) (bytes_of_word number)) }
 {
-    put(out, &[letter])?;
-    put(out, &bytes_of(number))
+    append(out, &[letter])?;
+    append(out, &bytes_of(number))
 }
 
 /// The bytes of the header with what a head holds, field by field.
@@ -44,12 +44,12 @@ fn bytes_of_header(alloc: Global, head: &Head<'_>) -> Result<Vec<u8>, NoMemory>
     ensures { IfOk result (λ out. out.items ≡ header_bytes (contents_of head.now)) }
 {
     let mut out = Vec::new(alloc);
-    put(&mut out, &FIXED_BYTES)?;
-    put_text(&mut out, b'a', head.a)?;
-    put_text(&mut out, b'b', head.b)?;
-    put_text(&mut out, b'c', head.c)?;
-    put_text(&mut out, b'd', head.d)?;
-    put_number(&mut out, b'e', head.length)?;
+    append(&mut out, &FIXED_BYTES)?;
+    append_text(&mut out, b'a', head.a)?;
+    append_text(&mut out, b'b', head.b)?;
+    append_text(&mut out, b'c', head.c)?;
+    append_text(&mut out, b'd', head.d)?;
+    append_number(&mut out, b'e', head.length)?;
     Ok(out)
 }
 

@@ -14,7 +14,7 @@ use Rattle.x7_memory.specs.Plan.{PlanData}
 use Rattle.x7_planner.specs.FullStream.{full_stream}
 use Rattle.x7_boot.specs.Image as image
 use Rattle.x7_boot.specs.Image.{free_slot, free_slots, first_sector, flash_limit, image_of, image_size, open_slot, slot}
-use Rattle.x7_update.specs.After.{IsAfter, IsBetween, spends, switched, with_stream}
+use Rattle.x7_update.specs.After.{IsAfterUpdate, IsBetweenSlots, spends, switched, with_stream}
 use Rattle.x7_update.specs.Layout.{HasLayout, IsOpen, first_slot, four_at, open_switch, spent_switch, switch_of, update_place}
 use Rattle.x7_update.proofs.CaseLemmas.{between_below, between_spent, outside_switch, stream_keeps}
 use Rattle.x7_update.proofs.LawLemmas.{no_sync}
@@ -38,7 +38,7 @@ bytes_back a b c d f = bytes_words (a ∷ b ∷ c ∷ d ∷ []) 1 f refl
 
 -- ---- a flash that has a slot opened in what is between
 
-module _ (flash now found : List ℕ) (number : ℕ) (l : HasLayout flash) (b : IsBetween flash now) (within : number < 2048) (size : length found ≡ length now)
+module _ (flash now found : List ℕ) (number : ℕ) (l : HasLayout flash) (b : IsBetweenSlots flash now) (within : number < 2048) (size : length found ≡ length now)
     (others : (i : ℕ) → (i < 32 * number) ⊎ (32 * number + 4 ≤ i) → get_or found i 0 ≡ get_or now i 0) (is_open : switch_of found number ≡ open_switch) where
   found_long : 131072 ≤ length found
   found_long = omega (arith, size, b.size, l.size.least)
@@ -157,7 +157,7 @@ module _ (flash : List ℕ) (number : ℕ) (l : HasLayout flash) (within : numbe
   room : 32 * number + 4 ≤ length flash
   room = omega (arith, within, l.size.least)
 
-  layout_between : IsBetween flash spent
+  layout_between : IsBetweenSlots flash spent
   layout_between = between_spent flash spent l.slots (spends number within is refl)
 
   pub layout_opened : AreBytes (take 65536 flash) → HasOpenSlot flash number (update_place flash)
@@ -165,14 +165,14 @@ module _ (flash : List ℕ) (number : ℕ) (l : HasLayout flash) (within : numbe
 
 -- ---- a flash after an update
 
-module _ (stream flash found : List ℕ) (l : HasLayout flash) (a : IsAfter stream flash found) where
+module _ (stream flash found : List ℕ) (l : HasLayout flash) (a : IsAfterUpdate stream flash found) where
   abbrev now : List ℕ
   now = with_stream (update_place flash) stream a.spent
 
-  spent_between : IsBetween flash a.spent
+  spent_between : IsBetweenSlots flash a.spent
   spent_between = between_spent flash a.spent l.slots a.is_spent
 
-  now_between : IsBetween flash now
+  now_between : IsBetweenSlots flash now
   now_between = between_below (length flash) flash a.spent now l.slots spent_between (stream_keeps (update_place flash) stream a.spent (omega (arith, a.fits, spent_between.size)))
 
   now_room : 32 * a.next + 4 ≤ length now
@@ -320,7 +320,7 @@ open_is_opened part flash number unit l fits within is =
     let small : update_place flash ≤ 134217728 = place_small flash l in
     record { has = layout_opened flash number l within is fits; small = omega (arith, small); leads = leads_itself part.start_unit (update_place flash) unit small }
 
-pub after_is_opened : (part : PartData) (stream flash found : List ℕ) → part.start_unit ≡ 1 → HasLayout flash → AreBytes (take 65536 found) → (a : IsAfter stream flash found) → IsOpenFlash (slot_of_flash part found a.next (update_place flash))
+pub after_is_opened : (part : PartData) (stream flash found : List ℕ) → part.start_unit ≡ 1 → HasLayout flash → AreBytes (take 65536 found) → (a : IsAfterUpdate stream flash found) → IsOpenFlash (slot_of_flash part found a.next (update_place flash))
 after_is_opened part stream flash found unit l fits a =
     let small : update_place flash ≤ 134217728 = place_small flash l in
     record { has = after_opened stream flash found l a fits; small = omega (arith, small); leads = leads_itself part.start_unit (update_place flash) unit small }

@@ -15,7 +15,7 @@ use Rattle.x7_boot.specs.declared.attempt.Ending.TheVariants as ending
 use Rattle.x7_boot.specs.declared.boots.BootEnd.TheVariants as boot_end
 use Rattle.x7_boot.specs.Boots.{BootCourse, course_of}
 use Rattle.x7_recovery.specs.Recovery.{Updating, power_status, started_at_power}
-use Rattle.x7_update.specs.After.{IsAfter}
+use Rattle.x7_update.specs.After.{IsAfterUpdate}
 use Rattle.x7_update.specs.Layout.{HasLayout, four_at, open_switch, update_place}
 
 -- the first sector leads nowhere: no sync word begins in it, as where none of its slots is open, or where it is erased
@@ -81,4 +81,4 @@ pub record IsPreparedAny (u : UpdatingAny) : Type 0 where
 pub data BootsAlike (u : UpdatingAny) (found : List ℕ) (b : BootedState) : Type 0 where
   as_before : IsBoot u.part u.flash b → BootsAlike u found b
   golden : (boot : IsBoot u.part found b) → StartsAlike u.part u.golden (course_of b boot.last) → BootsAlike u found b
-  as_after : IsAfter u.stream u.flash found → IsBoot u.part found b → BootsAlike u found b
+  as_after : IsAfterUpdate u.stream u.flash found → IsBoot u.part found b → BootsAlike u found b

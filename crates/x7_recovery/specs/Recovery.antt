@@ -17,7 +17,7 @@ use Rattle.x7_recovery.specs.PlannedImage.{golden_image}
 use Rattle.x7_boot.specs.declared.attempt.Ending.TheVariants as ending
 use Rattle.x7_boot.specs.declared.boots.BootEnd.TheVariants as boot_end
 use Rattle.x7_boot.specs.declared.boots.Tried.{Tried}
-use Rattle.x7_update.specs.After.{IsAfter}
+use Rattle.x7_update.specs.After.{IsAfterUpdate}
 use Rattle.x7_update.specs.Layout.{HasLayout, update_place}
 
 -- a flash that is being updated with a stream, the part that boots from it, and the plan of its golden stream
@@ -70,4 +70,4 @@ pub record StartsGolden (part : PartData) (golden : PlanData) (c : BootCourse) :
 pub data BootsAs (u : Updating) (found : List ℕ) (b : BootedState) : Type 0 where
   as_before : IsBoot u.part u.flash b → BootsAs u found b
   golden : (boot : IsBoot u.part found b) → StartsGolden u.part u.golden (course_of b boot.last) → BootsAs u found b
-  as_after : IsAfter u.stream u.flash found → IsBoot u.part found b → BootsAs u found b
+  as_after : IsAfterUpdate u.stream u.flash found → IsBoot u.part found b → BootsAs u found b

@@ -9,7 +9,7 @@ ghost use Rattle.x7_memory.specs.Plan.{PlanData};
 ghost use Rattle.x7_recovery.specs.OpenBoot.{EachBootsOpen};
 ghost use Rattle.x7_recovery.specs.OpenSlot.{BeginsAsImage, IsOpenFlash, OpenFlash, image_of_flash, slot_of_flash};
 ghost use Rattle.x7_recovery.specs.Recovery.{HasGolden};
-ghost use Rattle.x7_update.specs.After.{IsAfter};
+ghost use Rattle.x7_update.specs.After.{IsAfterUpdate};
 ghost use Rattle.x7_update.specs.Layout.{HasLayout, IsOpen, update_place};
 
 /// From a flash with an open slot a boot tries the update at the place to which the slot leads; where it starts the
@@ -29,8 +29,8 @@ pub fn flashes_have_an_open_slot()
     ensures layout { (part : PartData) (flash : List ℕ) (slot : ℕ) → part.start_unit ≡ 1 → HasLayout flash → AreBytes (take sector_bytes flash) → slot < slot_count → IsOpen flash slot
         → IsOpenFlash (slot_of_flash part flash slot (update_place flash)) }
     ensures after { (part : PartData) (stream flash found : List ℕ) → part.start_unit ≡ 1 → HasLayout flash → AreBytes (take sector_bytes found)
-        → (a : IsAfter stream flash found) → IsOpenFlash (slot_of_flash part found a.next (update_place flash)) }
-    ensures golden { (part : PartData) (golden : PlanData) (stream flash found : List ℕ) → HasLayout flash → IsAfter stream flash found → HasGolden part golden flash
+        → (a : IsAfterUpdate stream flash found) → IsOpenFlash (slot_of_flash part found a.next (update_place flash)) }
+    ensures golden { (part : PartData) (golden : PlanData) (stream flash found : List ℕ) → HasLayout flash → IsAfterUpdate stream flash found → HasGolden part golden flash
         → HasGolden part golden found }
-    ensures stream { (stream flash found : List ℕ) → HasLayout flash → IsAfter stream flash found → (rest : List ℕ) × (drop (update_place flash) found ≡ stream ++ rest) }
+    ensures stream { (stream flash found : List ℕ) → HasLayout flash → IsAfterUpdate stream flash found → (rest : List ℕ) × (drop (update_place flash) found ≡ stream ++ rest) }
 {}

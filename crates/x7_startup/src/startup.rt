@@ -46,14 +46,16 @@ impl Startup {
 
     /// START: the next DESYNC begins startup.
     pub fn arm(&mut self)
-        ensures stands { (lock_ticks match_ticks : ℕ) (calls : List Call) → StandsForCalls lock_ticks match_ticks self.old calls → StandsForCalls lock_ticks match_ticks self.new (calls ++ Arm ∷ []) }
+        ensures stands { (lock_ticks match_ticks : ℕ) (calls : List Call) → StandsForCalls lock_ticks match_ticks self.old calls
+            → StandsForCalls lock_ticks match_ticks self.new (calls ++ Arm ∷ []) }
     {
         self.armed = true;
     }
 
     /// DESYNC: begins an armed startup with this COR0, and disarms.
     pub fn desync(&mut self, cor0: u32)
-        ensures stands { (lock_ticks match_ticks : ℕ) (calls : List Call) → StandsForCalls lock_ticks match_ticks self.old calls → StandsForCalls lock_ticks match_ticks self.new (calls ++ Desync cor0 ∷ []) }
+        ensures stands { (lock_ticks match_ticks : ℕ) (calls : List Call) → StandsForCalls lock_ticks match_ticks self.old calls
+            → StandsForCalls lock_ticks match_ticks self.new (calls ++ Desync cor0 ∷ []) }
     {
         self.begun_with = self.begun_with.or(self.armed.then_some(cor0));
         self.armed = false;
@@ -106,7 +108,8 @@ impl Startup {
 
     /// A shutdown was taken: not armed, not begun.
     pub fn drop_back(&mut self)
-        ensures stands { (lock_ticks match_ticks : ℕ) (calls : List Call) → StandsForCalls lock_ticks match_ticks self.old calls → StandsForCalls lock_ticks match_ticks self.new (calls ++ DropBack ∷ []) }
+        ensures stands { (lock_ticks match_ticks : ℕ) (calls : List Call) → StandsForCalls lock_ticks match_ticks self.old calls
+            → StandsForCalls lock_ticks match_ticks self.new (calls ++ DropBack ∷ []) }
     {
         self.armed = false;
         self.begun_with = None;
@@ -126,7 +129,8 @@ impl Startup {
     pub fn phase(&self) -> u8
         ensures now { result ≡ self.now.phase }
         ensures last { result ≤ 7 }
-        ensures stands { (lock_ticks match_ticks : ℕ) (calls : List Call) → StandsForCalls lock_ticks match_ticks self.now calls → IsPhaseOf lock_ticks match_ticks (progress_of calls) result }
+        ensures stands { (lock_ticks match_ticks : ℕ) (calls : List Call) → StandsForCalls lock_ticks match_ticks self.now calls
+            → IsPhaseOf lock_ticks match_ticks (progress_of calls) result }
     {
         self.phase
     }
@@ -134,14 +138,16 @@ impl Startup {
     /// The ticks since startup began, at most 65,535.
     pub fn ticks(&self) -> u16
         ensures now { result ≡ self.now.ticks }
-        ensures stands { (lock_ticks match_ticks : ℕ) (calls : List Call) → StandsForCalls lock_ticks match_ticks self.now calls → result ≡ min (ticks_of (progress_of calls)) tick_limit }
+        ensures stands { (lock_ticks match_ticks : ℕ) (calls : List Call) → StandsForCalls lock_ticks match_ticks self.now calls
+            → result ≡ min (ticks_of (progress_of calls)) tick_limit }
     {
         self.ticks
     }
 
     /// The lines DONE, GTS and GWE, which are 0 until startup has begun.
     pub fn lines(&self) -> Lines
-        ensures stands { (lock_ticks match_ticks : ℕ) (calls : List Call) → StandsForCalls lock_ticks match_ticks self.now calls → AreLines (cor0_of (progress_of calls)) self.now.phase result.done result.gts result.gwe }
+        ensures stands { (lock_ticks match_ticks : ℕ) (calls : List Call) → StandsForCalls lock_ticks match_ticks self.now calls
+            → AreLines (cor0_of (progress_of calls)) self.now.phase result.done result.gts result.gwe }
         ensures done { result.done ≡ done_line self.now.begun_with self.now.phase }
         ensures gts { result.gts ≡ gts_line self.now.begun_with self.now.phase }
         ensures gwe { result.gwe ≡ gwe_line self.now.begun_with self.now.phase }

@@ -2,7 +2,7 @@
 use Rattle.std.proofs.Common.{◌≡◌, ℕ, ◌+◌, ◌-◌, ◌*◌, ◌≤◌, inl, inr, IsTrue, List, length, get_or, Option, Result, Ok, Err, OnOk, ap, sym, subst, ◌∙◌, arith}
 use Rattle.std.proofs.lemmas.Bool.{cases_lt}
 use Rattle.x7_words.specs.Flash.{FlashState, IfKnown, Sees}
-use Rattle.x7_update.specs.After.{IsAfter, IsBetween, with_stream}
+use Rattle.x7_update.specs.After.{IsAfterUpdate, IsBetweenSlots, with_stream}
 use Rattle.x7_update.specs.Layout.{CanStandAt, HasLayout, HasSize, HasNoOpenSlot, IsNextFreeSlot, IsOpen, open_switch, switch_of, update_place}
 use Rattle.x7_update.specs.ReadBack.{AllReadBack, ReadBack, WasReady}
 use Rattle.x7_update.specs.Slots.{IsTargetIn, HasTarget, TargetFits}
@@ -98,14 +98,14 @@ module _ {F : Type 0} (state : F → FlashState) (stream : List ℕ) (old new : 
 
 -- ---- the updated flash has an open slot
 
-module _ (stream flash found : List ℕ) (l : HasLayout flash) (a : IsAfter stream flash found) where
+module _ (stream flash found : List ℕ) (l : HasLayout flash) (a : IsAfterUpdate stream flash found) where
   abbrev now : List ℕ
   now = with_stream (update_place flash) stream a.spent
 
-  is_between : IsBetween flash a.spent
+  is_between : IsBetweenSlots flash a.spent
   is_between = between_spent flash a.spent l.slots a.is_spent
 
-  written : IsBetween flash now
+  written : IsBetweenSlots flash now
   written = between_below (length flash) flash a.spent now l.slots is_between (stream_keeps (update_place flash) stream a.spent (omega (arith, a.fits, is_between.size)))
 
   within : 32 * a.next + 4 ≤ length now
@@ -114,7 +114,7 @@ module _ (stream flash found : List ℕ) (l : HasLayout flash) (a : IsAfter stre
   after_opens : IsOpen found a.next
   after_opens = ap (λ f. switch_of f a.next) a.is ∙ switch_switched a.next 0xAA 0x99 0x55 0x66 now within
 
-  pub after_not_between : IsBetween flash found → ⊥
+  pub after_not_between : IsBetweenSlots flash found → ⊥
   after_not_between b = b.none_open a.next a.is_next.within after_opens
 
   pub after_not_same : found ≡ flash → ⊥

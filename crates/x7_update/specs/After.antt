@@ -20,7 +20,7 @@ pub data SpendsOpen (flash spent : List ℕ) : Type 0 where
 
 -- The flash after an update with a stream: its open slot is spent, the stream stands at U with FF after it, and the
 -- first slot from which on all are free is open.
-pub record IsAfter (stream flash after : List ℕ) : Type 0 where
+pub record IsAfterUpdate (stream flash after : List ℕ) : Type 0 where
   pub spent : List ℕ
   pub is_spent : SpendsOpen flash spent
   pub next : ℕ
@@ -31,7 +31,7 @@ pub record IsAfter (stream flash after : List ℕ) : Type 0 where
 -- A flash that was left in an update, after its open slot was spent and before the next is opened: no slot is open, all
 -- slots lead to U still, each switch word but the open slot's and the next one's stays, the golden stream stands, and
 -- from U on there may be anything.
-pub record IsBetween (flash found : List ℕ) : Type 0 where
+pub record IsBetweenSlots (flash found : List ℕ) : Type 0 where
   pub size : length found ≡ length flash
   pub slots : (i : ℕ) → i < sector_bytes → switch_bytes ≤ i % slot_bytes → get_or found i 0 ≡ get_or flash i 0
   pub none_open : HasNoOpenSlot found
@@ -42,5 +42,5 @@ pub record IsBetween (flash found : List ℕ) : Type 0 where
 -- that are between, or the flash after the update.
 pub data MayBeLeft (stream flash found : List ℕ) : Type 0 where
   untouched : found ≡ flash → MayBeLeft stream flash found
-  between : HasLayout flash → AreBytes found → IsBetween flash found → MayBeLeft stream flash found
-  after : HasLayout flash → IsAfter stream flash found → MayBeLeft stream flash found
+  between : HasLayout flash → AreBytes found → IsBetweenSlots flash found → MayBeLeft stream flash found
+  after : HasLayout flash → IsAfterUpdate stream flash found → MayBeLeft stream flash found

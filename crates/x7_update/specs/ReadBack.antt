@@ -2,7 +2,7 @@
 use Rattle.std.specs.Prelude.{◌≡◌, ℕ, ◌+◌, ◌*◌, ◌<◌, ◌≤◌, List}
 use Rattle.x7_words.specs.Flash.{FlashState, IfKnown, Sees}
 use Rattle.x7_packets.specs.FlashSlot.{slot_bytes, slot_count}
-use Rattle.x7_update.specs.After.{IsAfter}
+use Rattle.x7_update.specs.After.{IsAfterUpdate}
 use Rattle.x7_update.specs.Layout.{CanStandAt, HasLayout, HasNoOpenSlot, IsNextFreeSlot, open_switch, update_place}
 use Rattle.x7_update.specs.Writing.{SeesWanted}
 
@@ -24,7 +24,7 @@ module _ {F : Type 0} (state : F → FlashState) where
 
   -- what is found may be the updated flash only where all was read back before
   abbrev pub OpensReadBack : List ℕ → FlashState → FlashState → List ℕ → List ℕ → Type 0
-  OpensReadBack stream old new flash found = HasLayout flash → IsAfter stream flash found → ReadBack stream old new
+  OpensReadBack stream old new flash found = HasLayout flash → IsAfterUpdate stream flash found → ReadBack stream old new
 
   -- An update with a stream that is done was read back, and then the switch word of the slot that it opened: as that of
   -- an open slot, with no write since.

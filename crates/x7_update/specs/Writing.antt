@@ -3,7 +3,7 @@ use Rattle.std.specs.Prelude.{◌≡◌, ◌≢◌, ℕ, ◌+◌, ◌-◌, ◌*�
 use Rattle.x7_words.specs.Flash.{erased_byte, Elapses, FlashFails, FlashState, IfKnown, OnlyWrites, WriteFails}
 use Rattle.x7_words.specs.Word.{AreBytes}
 use Rattle.x7_packets.specs.FlashSlot.{sector_bytes, slot_bytes, slot_count}
-use Rattle.x7_update.specs.After.{SpendsOpen, IsBetween, switched, with_stream}
+use Rattle.x7_update.specs.After.{SpendsOpen, IsBetweenSlots, switched, with_stream}
 use Rattle.x7_update.specs.Layout.{CanStandAt, HasSize, open_switch, switch_bytes, switch_of}
 use Rattle.x7_update.specs.declared.fault.UpdateFault.{UpdateFault}
 use Rattle.x7_update.specs.declared.fault.UpdateFault.TheVariants.{Differs, Failed, NoLayout, NoMemory, TooLong}
@@ -86,7 +86,7 @@ OpeningSlot slot old found = (found ≡ switched slot open_switch old) ⊎ OnlyS
 
 -- while the update is replaced nothing has changed, or no slot is open
 abbrev pub ReplacingUpdate : List ℕ → List ℕ → Type 0
-ReplacingUpdate old found = (found ≡ old) ⊎ IsBetween old found
+ReplacingUpdate old found = (found ≡ old) ⊎ IsBetweenSlots old found
 
 -- the flash is as it was, but that the stream stands at its place, with FF after it
 abbrev pub StreamStands : ℕ → List ℕ → List ℕ → List ℕ → Type 0

@@ -1,6 +1,6 @@
 //! The layout of a flash that can be updated: its size, the update's place, and the words of a slot.
 ghost use Rattle.std.specs.Prelude.{◌≡◌, ◌↔◌, ◌+◌, ◌≤◌, true, length};
-ghost use Rattle.x7_update.specs.Layout.{CanStandAt, HasSize, first_slot, four_at};
+ghost use Rattle.x7_update.specs.Layout.{CanStandAt, HasSize, first_slot, four_at, start_place};
 
 use x7_packets::{SYNC_BYTES, flash_slot};
 use x7_words::{FLASH_LIMIT, SECTOR_BYTES};
@@ -20,7 +20,7 @@ pub(crate) const SPENT_SWITCH: [u8; 4] = [0; 4];
 /// Where in a slot its start address stands, in bytes from the slot's first.
 pub(crate) const START_PLACE: usize = 12;
 
-/// The four bytes from a place on.
+/// The four bytes of the first sector from a place on.
 pub(crate) fn four_at(first_sector: &[u8], place: usize) -> [u8; 4]
     requires { place + 4 ≤ length first_sector.now }
     ensures { result ≡ four_at first_sector.now place }
@@ -36,7 +36,7 @@ pub(crate) fn four_at(first_sector: &[u8], place: usize) -> [u8; 4]
 /// The bytes that the first slot has to have, and each other one after its switch word, by the first slot's start
 /// address.
 pub(crate) fn first_slot(first_sector: &[u8]) -> [u8; 32]
-    requires { 16 ≤ length first_sector.now }
+    requires { start_place + 4 ≤ length first_sector.now }
     ensures { result ≡ first_slot first_sector.now }
 {
     flash_slot(OPEN_SWITCH, four_at(first_sector, START_PLACE))

@@ -38,10 +38,10 @@ fn slot_difference(first_sector: &[u8], wanted: &[u8; 32], slot: usize) -> Optio
     ensures none { IfNone result (LeadsToUpdate first_sector.now slot) }
     ensures some { IfSome result (λ place. DiffersAt first_sector.now slot place) }
 {
-    let at = SLOT_BYTES as usize * slot;
+    let slot_place = SLOT_BYTES as usize * slot;
     for i in SWITCH_BYTES..SLOT_BYTES as usize {
-        if first_sector[at + i] != wanted[i] {
-            return Some((at + i) as u64);
+        if first_sector[slot_place + i] != wanted[i] {
+            return Some((slot_place + i) as u64);
         }
     }
     None

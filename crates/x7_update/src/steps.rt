@@ -2,7 +2,7 @@
 ghost use Rattle.std.specs.Prelude.{◌≡◌, ◌+◌, ◌*◌, ◌<◌, ◌≤◌, ◌⊎◌, ℕ, List, true, length, IfErr, OnOk, OnErr, option_map};
 ghost use Rattle.x7_words.specs.Flash.{OnlyReads, IfKnown, Sees, WriteFails};
 ghost use Rattle.x7_packets.specs.FlashSlot.{slot_bytes, slot_count};
-ghost use Rattle.x7_update.specs.After.{SpendsOpen, IsAfter, MayBeLeft, switched};
+ghost use Rattle.x7_update.specs.After.{SpendsOpen, IsAfterUpdate, MayBeLeft, switched};
 ghost use Rattle.x7_update.specs.Layout.{HasLayout, HasNoOpenSlot, IsFree, open_switch};
 ghost use Rattle.x7_update.specs.ReadBack.{AllReadBack, OpensReadBack, WasReady};
 ghost use Rattle.x7_update.specs.Fault.{CanBeUpdated, HasCause, IsEarly};
@@ -83,7 +83,7 @@ fn read_back_and_open<F: Flash>(
 /// golden stream stands, or the updated flash.
 pub fn update<F: Flash>(alloc: Global, flash: &mut F, stream: &[u8]) -> Result<(), UpdateFault>
     requires { (F.state flash.old).attached ≡ true }
-    ensures updated { OnOk result (Becomes (F.state flash.old) (F.state flash.new) (IsAfter stream.now)) }
+    ensures updated { OnOk result (Becomes (F.state flash.old) (F.state flash.new) (IsAfterUpdate stream.now)) }
     ensures layout { OnOk result (IfKnown (F.state flash.old).bytes HasLayout) }
     ensures found { (found : List ℕ) → F.found_since flash.new (F.state flash.old).moments found →
         IfKnown (F.state flash.old).bytes (λ all. MayBeLeft stream.now all found) }

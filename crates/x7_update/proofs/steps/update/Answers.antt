@@ -2,7 +2,7 @@ use Rattle.std.proofs.Common.{◌≡◌, ◌+◌, ◌≤◌, ◌⊎◌, ⊎_elim
 use Rattle.x7_words.specs.Count.{HasRisen}
 use Rattle.x7_words.specs.Flash.{IfKnown, WriteFails}
 use Rattle.x7_words.specs.Word.{AreBytes}
-use Rattle.x7_update.specs.After.{IsBetween, MayBeLeft, untouched}
+use Rattle.x7_update.specs.After.{IsBetweenSlots, MayBeLeft, untouched}
 use Rattle.x7_update.specs.Layout.{CanStandAt, HasLayout, HasSize, HasNoOpenSlot, IsFree}
 use Rattle.x7_update.specs.ReadBack.{OpensReadBack, ReadBack, WasReady}
 use Rattle.x7_update.specs.Fault.{CanTake, IsTooLong}
@@ -293,6 +293,6 @@ returns-clause-opens g c =
     (λ all now found e r o l a.
     let long : mid.extent ≡ length all = known_at mid.bytes (λ all. mid.extent ≡ length all) (g.met.F.Flash.counted c.find_target.new.flash) all e in
     let fits : target.place + length stream ≤ length all = omega (arith, long, c.find_target.ensures.only.extent, c.size.ensures.extent, c.in_ok-target.ensures.found.fits.place.most, c.if-stream-size.false) in
-    ⊎_elim (λ same. absurd (after_not_between stream all found l a (subst (IsBetween all) (sym same) (replaced_between all target (known all e) stream now fits r)))) back o)
+    ⊎_elim (λ same. absurd (after_not_between stream all found l a (subst (IsBetweenSlots all) (sym same) (replaced_between all target (known all e) stream now fits r)))) back o)
     (moments_weaker mid then _ _ ReplacingUpdate Opens (λ all found e h l a. absurd (after_not_replacing stream all found l a h)) c.replace.ensures.writes.any_moment)
     (becomes_leaves mid then (Replaced target.place stream) c.in-Ok-replace.ensures.replaced) c.read_back_and_open.ensures.opens)
