@@ -102,8 +102,8 @@ cause_is part flash t cause (inr out) e =
     let from : List ℕ = drop t.address flash in
     let why : Option Stop = why_of (stop_in part t.kept t.bytes) in
     let none : ending_at part t.kept t.bytes ≡ None = ap (ending_at part t.kept) out.taken ∙ never_ends part t.kept from (taken_of part t.kept from) out.none in
-    let open_end : ending_by why ≡ None = not_ended ((state_of part t.kept false t.bytes).phase == 7) (ending_by why) none in
-    ap (failure_of (stop_fault why)) out.past_end ∙ wrapped_by (stop_fault why) (no_cause why open_end) ∙ some_failed Wrap cause (sym out.failed ∙ e)
+    let not_ended : ending_by why ≡ None = not_ended ((state_of part t.kept false t.bytes).phase == 7) (ending_by why) none in
+    ap (failure_of (stop_fault why)) out.past_end ∙ wrapped_by (stop_fault why) (no_cause why not_ended) ∙ some_failed Wrap cause (sym out.failed ∙ e)
 
 -- a fallback follows an attempt that failed, where that is none itself and CTL0 allows it; else the boot stops
 pub fallback_next : (part : PartData) (number : ℕ) (t : AttemptCourse) (cause : Cause) → is_fallback t.kept.kind ≡ false → forbids_fallback (end_state part t).ctl0 ≡ false

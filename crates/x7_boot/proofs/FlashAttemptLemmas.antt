@@ -73,7 +73,7 @@ feeds_first part kept address known d s = record {
   bytes = [];
   stands = s;
   going = refl;
-  open_end = none_at_first part kept;
+  not_ended = none_at_first part kept;
   due = none_due_at_first part kept false d s;
   count = omega arith;
   read = where_all known (λ all. [] ≡ slice_range all address address) (λ all. empty_range all address);
@@ -87,7 +87,7 @@ feeds_ready part kept address known d at more l f = record {
   bytes = f.bytes;
   stands = f.stands;
   going = f.going;
-  open_end = f.open_end;
+  not_ended = f.not_ended;
   fits = let c : address + length f.bytes ≡ at = f.count in omega (arith, l, c);
 }
 
@@ -130,7 +130,7 @@ feeds_on part kept address known d new page at end step sum f knows t goes =
       bytes = f.bytes ++ page;
       stands = subst (λ (b : List ℕ). DeviceStandsFor part kept false new (f.bytes ++ b)) all t.stands;
       going = steps.0;
-      open_end = steps.1;
+      not_ended = steps.1;
       due = t.due;
       count = omega (arith, count, long, sum);
       read = joined_known known f.bytes page address at end (omega (arith, count)) (omega (arith, sum)) f.read knows;
@@ -194,7 +194,7 @@ stop_at_last part kept d bytes stands s e = by d.registers.stop (sym e ∙ stand
 
 none_stopped : (part : PartData) (kept : Kept) (from bytes rest : List ℕ) → from ≡ bytes ++ rest → AreBytes (bytes ++ rest) → IsSome (stop_in part kept bytes) → ending_at part kept bytes ≡ None
     → ((k : ℕ) → k < length bytes → ending_at part kept (take k bytes) ≡ None) → NoneBefore part kept from (suc (length from))
-none_stopped part kept from bytes rest e fits some open_end none k l = elim (cases_lt k (length bytes)) [
+none_stopped part kept from bytes rest e fits some not_ended none k l = elim (cases_lt k (length bytes)) [
   | inl early ↦ none_of part kept from bytes rest e none k early
   | inr late ↦
       let m : ℕ = k - length bytes in
@@ -202,7 +202,7 @@ none_stopped part kept from bytes rest e fits some open_end none k l = elim (cas
       let here : take k from ≡ bytes ++ take m rest = ap (take k) e ∙ sym (ap (λ (n : ℕ). take n (bytes ++ rest)) sum) ∙ take-append-add bytes rest m in
       let cut : bytes ++ rest ≡ (bytes ++ take m rest) ++ drop m rest = ap (λ (x : List ℕ). bytes ++ x) (sym (take-append-drop m rest)) ∙ sym (append_assoc bytes (take m rest) (drop m rest)) in
       let fits' : AreBytes (bytes ++ take m rest) = all_prefix (λ b. b < 256) (bytes ++ take m rest) (drop m rest) (subst AreBytes cut fits) in
-      subst (λ (b : List ℕ). ending_at part kept b ≡ None) (sym here) (stays_open part kept bytes (take m rest) fits' some open_end)
+      subst (λ (b : List ℕ). ending_at part kept b ≡ None) (sym here) (stays_open part kept bytes (take m rest) fits' some not_ended)
 ]
 
 taken_stopped : (part : PartData) (kept : Kept) (d : DeviceState) (from bytes rest : List ℕ) → from ≡ bytes ++ rest → AreBytes (bytes ++ rest) → DeviceStandsFor part kept false d bytes → IsSome (stop_in part kept bytes)
@@ -257,7 +257,7 @@ tries_out part kept address all d wrapped at f past w =
           | inl early ↦ subst (λ (b : List ℕ). ending_at part kept (take k b) ≡ None) whole (f.none k early)
           | inr late ↦
               let same : take k from ≡ f.bytes = sym (ap (take k) whole) ∙ take_all k f.bytes late in
-              subst (λ (b : List ℕ). ending_at part kept b ≡ None) (sym same) f.open_end
+              subst (λ (b : List ℕ). ending_at part kept b ≡ None) (sym same) f.not_ended
         ];
         taken = whole ∙ sym (ap (λ (n : ℕ). take n from) taken ∙ take_all (length from) from (omega arith));
         failed = refl;

@@ -120,7 +120,7 @@ pub record CanTakePage (d : DeviceState) (more : ℕ) : Type 0 where
   pub bytes : List ℕ
   pub stands : DeviceStandsFor part kept false d bytes
   pub going : stop_in part kept bytes ≡ None
-  pub open_end : ending_at part kept bytes ≡ None
+  pub not_ended : ending_at part kept bytes ≡ None
   pub fits : length bytes + more ≤ 2 ^ 63
 
 -- how an attempt begins: its device's part, what the device kept over the reset, and the address in the flash
@@ -142,13 +142,13 @@ pub record AttemptEnds (a : AttemptStart) (flash : List ℕ) (d : DeviceState) (
   pub ending_is : course.ending ≡ ending
   pub device : IsDeviceOf a.part d course
 
--- an attempt that took the bytes of a flash from its address to a place, where
--- these are known, and that nothing has ended
+-- an attempt that nothing has ended took the bytes of a flash from its address up to a place, and left the device `d`;
+-- the bytes are the flash's, where these are known
 pub record IsUnderWay (a : AttemptStart) (known : Option (List ℕ)) (d : DeviceState) (place : ℕ) : Type 0 where
   pub bytes : List ℕ
   pub stands : DeviceStandsFor a.part a.kept false d bytes
   pub going : stop_in a.part a.kept bytes ≡ None
-  pub open_end : ending_at a.part a.kept bytes ≡ None
+  pub not_ended : ending_at a.part a.kept bytes ≡ None
   pub due : NoWordDue d
   pub count : a.address + length bytes ≡ place
   pub read : IfKnown known (λ all. bytes ≡ slice_range all a.address place)

@@ -20,7 +20,7 @@ pages-init g c = record {
 }
 
 pub run_out-requires : goal.run_out-requires
-run_out-requires g c = let f = c.pages.invariant.feeds in ends_here c.args.device.now.part c.args.kept c.pages.device f.bytes c.requires.not_on_bench f.stands f.open_end f.due
+run_out-requires g c = let f = c.pages.invariant.feeds in ends_here c.args.device.now.part c.args.kept c.pages.device f.bytes c.requires.not_on_bench f.stands f.not_ended f.due
 
 pub returns-then-place-size-clause-tried : goal.returns-then-place-size-clause-tried
 returns-then-place-size-clause-tried g c =
@@ -37,7 +37,7 @@ pages-preserved g c =
     let are = pages_of known (g.F.Flash.state c.pages.flash).bytes extent (g.F.Flash.state c.pages.flash).extent c.load.new.self.pages.entries c.pages.invariant.flash.bytes c.pages.invariant.flash.extent c.load.ensures.pages in
     let read = loaded_from known (g.F.Flash.state c.pages.flash).bytes extent (g.F.Flash.state c.pages.flash).extent (c.pages.place / page_size) c.load.new.self.block.items c.in_ok-loaded.loaded c.pages.invariant.flash.bytes c.pages.invariant.flash.extent c.in_ok-loaded.ensures.read in
     let from = c.bytes_from-bytes.ensures known extent below are read in
-    let t = c.take_page.ensures c.args.device.now.part c.args.kept f.bytes f.stands f.going f.open_end in
+    let t = c.take_page.ensures c.args.device.now.part c.args.kept f.bytes f.stands f.going f.not_ended in
     record {
       feeds = feeds_on c.args.device.now.part c.args.kept c.args.address (g.F.Flash.state c.args.flash.now).bytes c.pages.device c.take_page.new.device c.bytes_from-bytes.result.now c.pages.place (c.pages.place + length c.bytes_from-bytes.result.now) c.take_page.result refl f from.bytes_are t c.in-GoesOn.is;
       kept = are;
@@ -55,13 +55,13 @@ returns-in-Ends-clause-tried g c =
     let are = pages_of known (g.F.Flash.state c.pages.flash).bytes extent (g.F.Flash.state c.pages.flash).extent c.load.new.self.pages.entries c.pages.invariant.flash.bytes c.pages.invariant.flash.extent c.load.ensures.pages in
     let read = loaded_from known (g.F.Flash.state c.pages.flash).bytes extent (g.F.Flash.state c.pages.flash).extent (c.pages.place / page_size) c.load.new.self.block.items c.in_ok-loaded.loaded c.pages.invariant.flash.bytes c.pages.invariant.flash.extent c.in_ok-loaded.ensures.read in
     let from = c.bytes_from-bytes.ensures known extent below are read in
-    let t = c.take_page.ensures c.args.device.now.part c.args.kept f.bytes f.stands f.going f.open_end in
+    let t = c.take_page.ensures c.args.device.now.part c.args.kept f.bytes f.stands f.going f.not_ended in
     known_ended c.args.device.now.part c.args.kept c.args.address (g.F.Flash.state c.args.flash.now).bytes c.pages.device c.take_page.new.device c.bytes_from-bytes.result.now c.pages.place c.take_page.result c.in-Ends.ending f from.bytes_are t c.in-Ends.is
 
 pub run_out-requires-in-Stops : goal.run_out-requires-in-Stops
 run_out-requires-in-Stops g c =
     let f = c.pages.invariant.feeds in
-    stops_here c.args.device.now.part c.args.kept c.take_page.new.device f.bytes c.bytes_from-bytes.result.now c.take_page.result c.requires.not_on_bench (c.take_page.ensures c.args.device.now.part c.args.kept f.bytes f.stands f.going f.open_end) c.in-Stops.is
+    stops_here c.args.device.now.part c.args.kept c.take_page.new.device f.bytes c.bytes_from-bytes.result.now c.take_page.result c.requires.not_on_bench (c.take_page.ensures c.args.device.now.part c.args.kept f.bytes f.stands f.going f.not_ended) c.in-Stops.is
 
 pub returns-in-Stops-clause-tried : goal.returns-in-Stops-clause-tried
 returns-in-Stops-clause-tried g c =
@@ -72,7 +72,7 @@ returns-in-Stops-clause-tried g c =
     let are = pages_of known (g.F.Flash.state c.pages.flash).bytes extent (g.F.Flash.state c.pages.flash).extent c.load.new.self.pages.entries c.pages.invariant.flash.bytes c.pages.invariant.flash.extent c.load.ensures.pages in
     let read = loaded_from known (g.F.Flash.state c.pages.flash).bytes extent (g.F.Flash.state c.pages.flash).extent (c.pages.place / page_size) c.load.new.self.block.items c.in_ok-loaded.loaded c.pages.invariant.flash.bytes c.pages.invariant.flash.extent c.in_ok-loaded.ensures.read in
     let from = c.bytes_from-bytes.ensures known extent below are read in
-    let t = c.take_page.ensures c.args.device.now.part c.args.kept f.bytes f.stands f.going f.open_end in
+    let t = c.take_page.ensures c.args.device.now.part c.args.kept f.bytes f.stands f.going f.not_ended in
     known_stopped c.args.device.now.part c.args.kept c.args.address (g.F.Flash.state c.args.flash.now).bytes c.pages.device c.take_page.new.device c.run_out-in-Stops.new.device c.bytes_from-bytes.result.now c.pages.place c.take_page.result c.run_out-in-Stops.result f from.bytes_are t c.in-Stops.is
     (c.run_out-in-Stops.ensures.stands c.args.device.now.part c.args.kept _ t.stands) c.run_out-in-Stops.ensures.ending
 
