@@ -70,7 +70,7 @@ impl PageCache {
         if self.pages.promote(&number) {
             return Ok(Loaded::Kept);
         }
-        let count = self.absent_pages(number, flash.size());
+        let count = self.absent_page_count(number, flash.size());
         read_block(flash, number, count, &mut self.block)?;
         let Ok(()) = self.keep_block(number, count) else {
             return Err(BootFault::NoMemory);
@@ -80,7 +80,7 @@ impl PageCache {
 
     /// How many pages to read at once, from the page of a number on: at most sixteen, none past the flash's end, and
     /// none from the first on that the cache has.
-    fn absent_pages(&self, number: u64, size: u64) -> u64
+    fn absent_page_count(&self, number: u64, size: u64) -> u64
         requires within { number * page_size < size }
         requires limit { size ≤ flash_limit }
         ensures some { 0 < result }

@@ -47,7 +47,7 @@ fn after_text(bytes: &[u8], letter: u8) -> Result<&[u8], usize>
 }
 
 /// Whether the field of a number of this letter is whole, or how many bytes it waits for: 0 where its letter is wrong.
-fn after_number(bytes: &[u8], letter: u8) -> Result<(), usize>
+fn whole_number(bytes: &[u8], letter: u8) -> Result<(), usize>
     ensures waits { IfErr result (λ lack. FieldWaits (number_of_letter letter) bytes.now lack) }
     ensures lacks { MatchResult result
         (λ _. lack_from_number letter bytes.now (λ _. 0) ≡ 0)
@@ -61,7 +61,7 @@ fn after_number(bytes: &[u8], letter: u8) -> Result<(), usize>
 }
 
 /// Whether the fields after the fixed bytes are whole, or how many bytes they wait for: 0 where a letter is wrong.
-fn after_fields(bytes: &[u8]) -> Result<(), usize>
+fn whole_fields(bytes: &[u8]) -> Result<(), usize>
     ensures waits { IfErr result (λ lack. LayoutWaits bytes.now lack) }
     ensures whole { IfOk result (λ _. fields_lack layout bytes.now ≡ 0) }
     ensures lacks { IfErr result (λ lack. fields_lack layout bytes.now ≡ lack) }
@@ -70,7 +70,7 @@ fn after_fields(bytes: &[u8]) -> Result<(), usize>
     let rest = after_text(rest, b'b')?;
     let rest = after_text(rest, b'c')?;
     let rest = after_text(rest, b'd')?;
-    after_number(rest, b'e')
+    whole_number(rest, b'e')
 }
 
 /// How many bytes to read next of an input that begins with these. They complete what is being read of the header: the
@@ -91,7 +91,7 @@ pub fn wanted(bytes: &[u8]) -> usize
     let Ok(fields) = after_fixed_bytes(bytes) else {
         return 1;
     };
-    match after_fields(fields) {
+    match whole_fields(fields) {
         Err(lack) if lack > 0 => lack,
         _ => 1,
     }

@@ -1,6 +1,6 @@
 use Rattle.std.proofs.Common.{Err, length, ap, arith, ◌∙◌}
 use Rattle.x7_header.proofs.WaitLemmas.{number_waits}
-use Rattle.x7_header.proofs.progress.after_number.Goals as goal
+use Rattle.x7_header.proofs.progress.whole_number.Goals as goal
 
 pub returns-in-Err-Cut-clause-waits : goal.returns-in-Err-Cut-clause-waits
 returns-in-Err-Cut-clause-waits c = λ total more h.
