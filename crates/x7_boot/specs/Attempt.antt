@@ -60,7 +60,8 @@ pub record EndsFirst (part : PartData) (from : List ℕ) (t : AttemptCourse) : T
   pub first : NoneBefore part t.kept from (length t.bytes)
   pub in_flash : t.wrapped ≡ false
 
--- nothing ended the attempt up to the flash's end; the device took all bytes, or those up to another fault
+-- nothing ended the attempt up to the flash's end, so it failed by the wrap; the device took all bytes, or those up to
+-- a stop that ends no attempt
 pub record RunsOut (part : PartData) (from : List ℕ) (t : AttemptCourse) : Type 0 where
   pub none : NoneBefore part t.kept from (suc (length from))
   pub taken : t.bytes ≡ take (taken_of part t.kept from) from
@@ -71,7 +72,7 @@ pub record RunsOut (part : PartData) (from : List ℕ) (t : AttemptCourse) : Typ
 abbrev pub IsFlashAttempt : PartData → List ℕ → AttemptCourse → Type 0
 IsFlashAttempt part flash t = EndsFirst part (drop t.address flash) t ⊎ RunsOut part (drop t.address flash) t
 
--- the device is as the attempt left it
+-- a device is as the attempt left it
 abbrev pub IsDeviceOf : PartData → DeviceState → AttemptCourse → Type 0
 IsDeviceOf part d t = DeviceStandsFor part t.kept t.wrapped d t.bytes
 

@@ -5,7 +5,7 @@ use Rattle.x7_words.specs.Word.{AreBytes}
 use Rattle.x7_packets.specs.FlashSlot.{sector_bytes, slot_bytes, slot_count}
 use Rattle.x7_update.specs.Layout.{HasLayout, HasNoOpenSlot, IsNextFreeSlot, IsOpen, open_switch, spent_switch, switch_bytes, switch_of, update_place}
 
--- the flash with this switch word in a slot
+-- the flash with this switch word, four bytes, in a slot
 abbrev pub switched : ℕ → List ℕ → List ℕ → List ℕ
 switched slot word flash = replaced (slot_bytes * slot) word flash
 

@@ -61,15 +61,15 @@ pub record CanStandAt (size place : ℕ) : Type 0 where
   pub least : 2 * sector_bytes ≤ place
   pub most : place ≤ size
 
--- the slot leads to U: after its switch word it has the bytes that the first one has to have
+-- a slot of the flash leads to U: after its switch word it has the bytes that the first one has to have
 abbrev pub LeadsToUpdate : List ℕ → ℕ → Type 0
 LeadsToUpdate flash slot = (i : ℕ) → switch_bytes ≤ i → i < slot_bytes → get_or flash (slot_bytes * slot + i) 0 ≡ get_or (first_slot flash) i 0
 
--- the slot is open
+-- a slot of the flash is open
 abbrev pub IsOpen : List ℕ → ℕ → Type 0
 IsOpen flash slot = switch_of flash slot ≡ open_switch
 
--- the slot is free
+-- a slot of the flash is free
 abbrev pub IsFree : List ℕ → ℕ → Type 0
 IsFree flash slot = switch_of flash slot ≡ free_switch
 
@@ -86,11 +86,11 @@ pub record HasLayout (flash : List ℕ) : Type 0 where
   pub size : HasSize (length flash)
   pub slots : HasSlots (length flash) flash
 
--- no slot is open
+-- no slot of the flash is open
 abbrev pub HasNoOpenSlot : List ℕ → Type 0
 HasNoOpenSlot flash = (slot : ℕ) → slot < slot_count → switch_of flash slot ≢ open_switch
 
--- the first slot from which on all are free
+-- the slot that the next update opens: the first from which on all are free
 pub record IsNextFreeSlot (flash : List ℕ) (next : ℕ) : Type 0 where
   pub within : next < slot_count
   pub free : (slot : ℕ) → next ≤ slot → slot < slot_count → IsFree flash slot
