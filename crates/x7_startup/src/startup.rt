@@ -52,7 +52,7 @@ impl Startup {
         self.armed = true;
     }
 
-    /// DESYNC: begins an armed startup with this COR0, and disarms.
+    /// DESYNC: begins an armed startup with this COR0, unless it has begun already, and disarms.
     pub fn desync(&mut self, cor0: u32)
         ensures stands { (lock_ticks match_ticks : ℕ) (calls : List Call) → StandsForCalls lock_ticks match_ticks self.old calls
             → StandsForCalls lock_ticks match_ticks self.new (calls ++ Desync cor0 ∷ []) }
