@@ -17,7 +17,7 @@ use Rattle.x7_engine.specs.declared.fault.Fault.TheVariants as fault
 use Rattle.x7_engine.specs.declared.kept.Kept.{Kept}
 use Rattle.x7_engine.specs.declared.stop.StopCause.{StopCause}
 use Rattle.x7_engine.specs.declared.stop.StopCause.TheVariants as stop
-use Rattle.x7_boot.specs.Attempt.{IsAttemptOver, NoneBefore, AttemptCourse, ending_at, ending_by, failed_by}
+use Rattle.x7_boot.specs.Attempt.{IsFlashAttempt, NoneBefore, AttemptCourse, ending_at, ending_by, failed_by}
 use Rattle.x7_regs.specs.Control.{forbids_fallback}
 use Rattle.x7_boot.specs.Boot.{BootedState, IsBoot, LeadsToEnd, end_state, next_by, tried}
 use Rattle.x7_boot.specs.Boots.{BootCourse, IsCourse, course_along, course_of}
@@ -93,7 +93,7 @@ never_ends part kept from n none = elim (cases_lt n (suc (length from))) [
       ap (ending_at part kept) same ∙ none (length from) (omega arith))
 ]
 
-pub cause_is : (part : PartData) (flash : List ℕ) (t : AttemptCourse) (cause : Cause) → IsAttemptOver part flash t → t.ending ≡ ending.Failed cause → failure_of (stop_fault (why_of (stop_in part t.kept t.bytes))) t.wrapped ≡ Some cause
+pub cause_is : (part : PartData) (flash : List ℕ) (t : AttemptCourse) (cause : Cause) → IsFlashAttempt part flash t → t.ending ≡ ending.Failed cause → failure_of (stop_fault (why_of (stop_in part t.kept t.bytes))) t.wrapped ≡ Some cause
 cause_is part flash t cause (inl first) e =
     let why : Option StopCause = why_of (stop_in part t.kept t.bytes) in
     let ends : ending_by why ≡ Some (ending.Failed cause) = not_started ((state_of part t.kept false t.bytes).phase == 7) (ending_by why) cause (first.ends ∙ ap Some e) in
@@ -102,8 +102,8 @@ cause_is part flash t cause (inr out) e =
     let from : List ℕ = drop t.address flash in
     let why : Option StopCause = why_of (stop_in part t.kept t.bytes) in
     let none : ending_at part t.kept t.bytes ≡ None = ap (ending_at part t.kept) out.taken ∙ never_ends part t.kept from (taken_of part t.kept from) out.none in
-    let open_end : ending_by why ≡ None = not_ended ((state_of part t.kept false t.bytes).phase == 7) (ending_by why) none in
-    ap (failure_of (stop_fault why)) out.past_end ∙ wrapped_by (stop_fault why) (no_cause why open_end) ∙ some_failed Wrap cause (sym out.failed ∙ e)
+    let not_ended : ending_by why ≡ None = not_ended ((state_of part t.kept false t.bytes).phase == 7) (ending_by why) none in
+    ap (failure_of (stop_fault why)) out.past_end ∙ wrapped_by (stop_fault why) (no_cause why not_ended) ∙ some_failed Wrap cause (sym out.failed ∙ e)
 
 -- a fallback follows an attempt that failed, where that is none itself and CTL0 allows it; else the boot stops
 pub fallback_next : (part : PartData) (number : ℕ) (t : AttemptCourse) (cause : Cause) → is_fallback t.kept.kind ≡ false → forbids_fallback (end_state part t).ctl0 ≡ false

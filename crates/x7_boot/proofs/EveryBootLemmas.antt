@@ -9,7 +9,7 @@ use Rattle.x7_regs.specs.declared.boot_status.Cause.TheVariants.{Wrap}
 use Rattle.x7_engine.specs.Kept.{is_fallback}
 use Rattle.x7_engine.specs.State.{taken_of}
 use Rattle.x7_engine.specs.declared.kept.Kept.{Kept}
-use Rattle.x7_boot.specs.Attempt.{IsAttemptOver, AttemptCourse, ending_at}
+use Rattle.x7_boot.specs.Attempt.{IsFlashAttempt, AttemptCourse, ending_at}
 use Rattle.x7_regs.specs.Control.{forbids_fallback}
 use Rattle.x7_boot.specs.Boot.{HasBoot, LeadsTo, at_power, end_state, next_by}
 use Rattle.x7_boot.specs.declared.attempt.Ending.{Ending}
@@ -37,7 +37,7 @@ some_has (Some x) e = (x, refl)
 -- an attempt with this kept at this address
 record Attempts (part : PartData) (flash : List ℕ) (kept : Kept) (address : ℕ) : Type 0 where
   course : AttemptCourse
-  is : IsAttemptOver part flash course
+  is : IsFlashAttempt part flash course
   kept_is : course.kept ≡ kept
   address_is : course.address ≡ address
 

@@ -19,11 +19,11 @@ use Rattle.x7_engine.specs.Stop.{Stopped, stop_fault, stopped_at}
 use Rattle.x7_engine.specs.Value.{failure_of}
 use Rattle.x7_engine.proofs.BootLemmas.{may_wrap, none_due_at_first}
 use Rattle.x7_engine.proofs.StateLemmas.{stop_is_final_state, stop_is_final_stop}
-use Rattle.x7_boot.specs.Attempt.{Feeds, IsReady, NoneBefore, StepsTo, Took, AttemptCourse, AttemptEnds, attempt_at, ending_at, ending_by, failed_by, past_in_flash}
+use Rattle.x7_boot.specs.Attempt.{IsUnderWay, CanTakePage, NoneBefore, StepsTo, Took, AttemptCourse, AttemptEnds, attempt_at, ending_at, ending_by, failed_by, past_in_flash}
 use Rattle.x7_boot.specs.declared.attempt.Ending.{Ending}
 use Rattle.x7_boot.specs.declared.attempt.Ending.TheVariants.{Started, Iprog, Failed}
 use Rattle.x7_boot.specs.declared.attempt.Step.{Step}
-use Rattle.x7_boot.specs.declared.attempt.Step.TheVariants.{Goes, Ends, Stops}
+use Rattle.x7_boot.specs.declared.attempt.Step.TheVariants.{GoesOn, Ends, Stops}
 use Rattle.x7_boot.proofs.BootedLemmas.{where_all}
 use Rattle.x7_boot.proofs.TookLemmas.{ends_by_stop, ends_started}
 
@@ -68,26 +68,26 @@ none_at_first part kept = refl
 empty_range : (all : List ℕ) (at : ℕ) → [] ≡ slice_range all at at
 empty_range all at = let e : at - at ≡ 0 = omega arith in sym (ap (λ (n : ℕ). take n (drop at all)) e)
 
-pub feeds_first : (part : PartData) (kept : Kept) (address : ℕ) (known : Option (List ℕ)) (d : DeviceState) → DeviceStandsFor part kept false d [] → Feeds (attempt_at part kept address) known d address
+pub feeds_first : (part : PartData) (kept : Kept) (address : ℕ) (known : Option (List ℕ)) (d : DeviceState) → DeviceStandsFor part kept false d [] → IsUnderWay (attempt_at part kept address) known d address
 feeds_first part kept address known d s = record {
   bytes = [];
   stands = s;
   going = refl;
-  open_end = none_at_first part kept;
+  not_ended = none_at_first part kept;
   due = none_due_at_first part kept false d s;
   count = omega arith;
   read = where_all known (λ all. [] ≡ slice_range all address address) (λ all. empty_range all address);
   none = λ k l. absurd (omega (arith, l));
 }
 
-pub feeds_ready : (part : PartData) (kept : Kept) (address : ℕ) (known : Option (List ℕ)) (d : DeviceState) (at more : ℕ) → at + more ≤ 2 ^ 63 → Feeds (attempt_at part kept address) known d at → IsReady d more
+pub feeds_ready : (part : PartData) (kept : Kept) (address : ℕ) (known : Option (List ℕ)) (d : DeviceState) (at more : ℕ) → at + more ≤ 2 ^ 63 → IsUnderWay (attempt_at part kept address) known d at → CanTakePage d more
 feeds_ready part kept address known d at more l f = record {
   part = part;
   kept = kept;
   bytes = f.bytes;
   stands = f.stands;
   going = f.going;
-  open_end = f.open_end;
+  not_ended = f.not_ended;
   fits = let c : address + length f.bytes ≡ at = f.count in omega (arith, l, c);
 }
 
@@ -118,19 +118,19 @@ joined_known : (known : Option (List ℕ)) (bytes page : List ℕ) (a b c : ℕ)
 joined_known None bytes page a b c l m e f = tt
 joined_known (Some all) bytes page a b c l m e f = ap (λ (x : List ℕ). x ++ page) e ∙ ap (λ (x : List ℕ). slice_range all a b ++ x) f ∙ ranges_join all a b c l m
 
-pub feeds_on : (part : PartData) (kept : Kept) (address : ℕ) (known : Option (List ℕ)) (d new : DeviceState) (page : List ℕ) (at end : ℕ) (step : Step) → at + length page ≡ end → (f : Feeds (attempt_at part kept address) known d at)
-    → IfKnown known (λ all. page ≡ slice_range all at end) → Took (past_in_flash part kept f.bytes) new page step → step ≡ Goes → Feeds (attempt_at part kept address) known new end
+pub feeds_on : (part : PartData) (kept : Kept) (address : ℕ) (known : Option (List ℕ)) (d new : DeviceState) (page : List ℕ) (at end : ℕ) (step : Step) → at + length page ≡ end → (f : IsUnderWay (attempt_at part kept address) known d at)
+    → IfKnown known (λ all. page ≡ slice_range all at end) → Took (past_in_flash part kept f.bytes) new page step → step ≡ GoesOn → IsUnderWay (attempt_at part kept address) known new end
 feeds_on part kept address known d new page at end step sum f knows t goes =
     let whole : t.count ≡ length page = t.all goes in
     let all : take t.count page ≡ page = ap (λ (n : ℕ). take n page) whole ∙ take_all (length page) page (omega arith) in
-    let steps : StepsTo part kept (f.bytes ++ page) Goes = subst (λ (s : Step). StepsTo part kept (f.bytes ++ page) s) goes (subst (λ (b : List ℕ). StepsTo part kept (f.bytes ++ b) step) all t.steps) in
+    let steps : StepsTo part kept (f.bytes ++ page) GoesOn = subst (λ (s : Step). StepsTo part kept (f.bytes ++ page) s) goes (subst (λ (b : List ℕ). StepsTo part kept (f.bytes ++ b) step) all t.steps) in
     let count : address + length f.bytes ≡ at = f.count in
     let long : length (f.bytes ++ page) ≡ length f.bytes + length page = length-append f.bytes page in
     record {
       bytes = f.bytes ++ page;
       stands = subst (λ (b : List ℕ). DeviceStandsFor part kept false new (f.bytes ++ b)) all t.stands;
       going = steps.0;
-      open_end = steps.1;
+      not_ended = steps.1;
       due = t.due;
       count = omega (arith, count, long, sum);
       read = joined_known known f.bytes page address at end (omega (arith, count)) (omega (arith, sum)) f.read knows;
@@ -155,7 +155,7 @@ none_of part kept from bytes rest e none k l =
     subst (λ (b : List ℕ). ending_at part kept b ≡ None) (sym (ap (take k) e ∙ take-append-le k bytes rest (omega (arith, l)))) (none k l)
 
 -- the attempt of a page that ends it
-pub tries_ended : (part : PartData) (kept : Kept) (address : ℕ) (all : List ℕ) (d new : DeviceState) (page : List ℕ) (at end : ℕ) (step : Step) (e : Ending) → at ≤ end → (f : Feeds (attempt_at part kept address) (Some all) d at)
+pub tries_ended : (part : PartData) (kept : Kept) (address : ℕ) (all : List ℕ) (d new : DeviceState) (page : List ℕ) (at end : ℕ) (step : Step) (e : Ending) → at ≤ end → (f : IsUnderWay (attempt_at part kept address) (Some all) d at)
     → page ≡ slice_range all at end → Took (past_in_flash part kept f.bytes) new page step → step ≡ Ends e → AttemptEnds (attempt_at part kept address) all new e
 tries_ended part kept address all d new page at end step e order f knows t is =
     let bytes : List ℕ = f.bytes ++ take t.count page in
@@ -194,7 +194,7 @@ stop_at_last part kept d bytes stands s e = by d.registers.stop (sym e ∙ stand
 
 none_stopped : (part : PartData) (kept : Kept) (from bytes rest : List ℕ) → from ≡ bytes ++ rest → AreBytes (bytes ++ rest) → IsSome (stop_in part kept bytes) → ending_at part kept bytes ≡ None
     → ((k : ℕ) → k < length bytes → ending_at part kept (take k bytes) ≡ None) → NoneBefore part kept from (suc (length from))
-none_stopped part kept from bytes rest e fits some open_end none k l = elim (cases_lt k (length bytes)) [
+none_stopped part kept from bytes rest e fits some not_ended none k l = elim (cases_lt k (length bytes)) [
   | inl early ↦ none_of part kept from bytes rest e none k early
   | inr late ↦
       let m : ℕ = k - length bytes in
@@ -202,7 +202,7 @@ none_stopped part kept from bytes rest e fits some open_end none k l = elim (cas
       let here : take k from ≡ bytes ++ take m rest = ap (take k) e ∙ sym (ap (λ (n : ℕ). take n (bytes ++ rest)) sum) ∙ take-append-add bytes rest m in
       let cut : bytes ++ rest ≡ (bytes ++ take m rest) ++ drop m rest = ap (λ (x : List ℕ). bytes ++ x) (sym (take-append-drop m rest)) ∙ sym (append_assoc bytes (take m rest) (drop m rest)) in
       let fits' : AreBytes (bytes ++ take m rest) = all_prefix (λ b. b < 256) (bytes ++ take m rest) (drop m rest) (subst AreBytes cut fits) in
-      subst (λ (b : List ℕ). ending_at part kept b ≡ None) (sym here) (stays_open part kept bytes (take m rest) fits' some open_end)
+      subst (λ (b : List ℕ). ending_at part kept b ≡ None) (sym here) (stays_open part kept bytes (take m rest) fits' some not_ended)
 ]
 
 taken_stopped : (part : PartData) (kept : Kept) (d : DeviceState) (from bytes rest : List ℕ) → from ≡ bytes ++ rest → AreBytes (bytes ++ rest) → DeviceStandsFor part kept false d bytes → IsSome (stop_in part kept bytes)
@@ -217,7 +217,7 @@ taken_stopped part kept d from bytes rest e fits stands some = by (stop_in part 
         sym (ap (λ (n : ℕ). take n from) count ∙ ap (take (length bytes)) e ∙ take-append_seam bytes rest)
 
 -- the attempt of a page in which the device stopped, where the flash has ended for it
-pub tries_stopped : (part : PartData) (kept : Kept) (address : ℕ) (all : List ℕ) (d new wrapped : DeviceState) (page : List ℕ) (at end : ℕ) (step : Step) → AreBytes all → at ≤ end → (f : Feeds (attempt_at part kept address) (Some all) d at)
+pub tries_stopped : (part : PartData) (kept : Kept) (address : ℕ) (all : List ℕ) (d new wrapped : DeviceState) (page : List ℕ) (at end : ℕ) (step : Step) → AreBytes all → at ≤ end → (f : IsUnderWay (attempt_at part kept address) (Some all) d at)
     → page ≡ slice_range all at end → (t : Took (past_in_flash part kept f.bytes) new page step) → step ≡ Stops → DeviceStandsFor part kept true wrapped (f.bytes ++ take t.count page) → AttemptEnds (attempt_at part kept address) all wrapped (Failed Wrap)
 tries_stopped part kept address all d new wrapped page at end step fits order f knows t is w =
     let bytes : List ℕ = f.bytes ++ take t.count page in
@@ -241,7 +241,7 @@ tries_stopped part kept address all d new wrapped page at end step fits order f 
     }
 
 -- the attempt that took all bytes of the flash
-pub tries_out : (part : PartData) (kept : Kept) (address : ℕ) (all : List ℕ) (d wrapped : DeviceState) (at : ℕ) → (f : Feeds (attempt_at part kept address) (Some all) d at) → length all ≤ at
+pub tries_out : (part : PartData) (kept : Kept) (address : ℕ) (all : List ℕ) (d wrapped : DeviceState) (at : ℕ) → (f : IsUnderWay (attempt_at part kept address) (Some all) d at) → length all ≤ at
     → DeviceStandsFor part kept true wrapped f.bytes → AttemptEnds (attempt_at part kept address) all wrapped (Failed Wrap)
 tries_out part kept address all d wrapped at f past w =
     let from : List ℕ = drop address all in
@@ -257,7 +257,7 @@ tries_out part kept address all d wrapped at f past w =
           | inl early ↦ subst (λ (b : List ℕ). ending_at part kept (take k b) ≡ None) whole (f.none k early)
           | inr late ↦
               let same : take k from ≡ f.bytes = sym (ap (take k) whole) ∙ take_all k f.bytes late in
-              subst (λ (b : List ℕ). ending_at part kept b ≡ None) (sym same) f.open_end
+              subst (λ (b : List ℕ). ending_at part kept b ≡ None) (sym same) f.not_ended
         ];
         taken = whole ∙ sym (ap (λ (n : ℕ). take n from) taken ∙ take_all (length from) from (omega arith));
         failed = refl;
@@ -271,18 +271,18 @@ tries_out part kept address all d wrapped at f past w =
 
 -- ---- the same where the bytes of the flash are known or not
 
-pub known_out : (part : PartData) (kept : Kept) (address : ℕ) (known : Option (List ℕ)) (d wrapped : DeviceState) (at size : ℕ) (e : Ending) → (f : Feeds (attempt_at part kept address) known d at) → size ≤ at
+pub known_out : (part : PartData) (kept : Kept) (address : ℕ) (known : Option (List ℕ)) (d wrapped : DeviceState) (at size : ℕ) (e : Ending) → (f : IsUnderWay (attempt_at part kept address) known d at) → size ≤ at
     → IfKnown known (λ all. size ≡ length all) → DeviceStandsFor part kept true wrapped f.bytes → e ≡ Failed Wrap → IfKnown known (λ all. AreBytes all → AttemptEnds (attempt_at part kept address) all wrapped e)
 known_out part kept address None d wrapped at size e f past knows w is = tt
 known_out part kept address (Some all) d wrapped at size e f past knows w is =
     λ fits. subst (λ (x : Ending). AttemptEnds (attempt_at part kept address) all wrapped x) (sym is) (tries_out part kept address all d wrapped at f (omega (arith, past, knows)) w)
 
-pub known_ended : (part : PartData) (kept : Kept) (address : ℕ) (known : Option (List ℕ)) (d new : DeviceState) (page : List ℕ) (at : ℕ) (step : Step) (e : Ending) → (f : Feeds (attempt_at part kept address) known d at)
+pub known_ended : (part : PartData) (kept : Kept) (address : ℕ) (known : Option (List ℕ)) (d new : DeviceState) (page : List ℕ) (at : ℕ) (step : Step) (e : Ending) → (f : IsUnderWay (attempt_at part kept address) known d at)
     → IfKnown known (λ all. page ≡ slice_range all at (at + length page)) → Took (past_in_flash part kept f.bytes) new page step → step ≡ Ends e → IfKnown known (λ all. AreBytes all → AttemptEnds (attempt_at part kept address) all new e)
 known_ended part kept address None d new page at step e f knows t is = tt
 known_ended part kept address (Some all) d new page at step e f knows t is = λ fits. tries_ended part kept address all d new page at (at + length page) step e (omega arith) f knows t is
 
-pub known_stopped : (part : PartData) (kept : Kept) (address : ℕ) (known : Option (List ℕ)) (d new wrapped : DeviceState) (page : List ℕ) (at : ℕ) (step : Step) (e : Ending) → (f : Feeds (attempt_at part kept address) known d at)
+pub known_stopped : (part : PartData) (kept : Kept) (address : ℕ) (known : Option (List ℕ)) (d new wrapped : DeviceState) (page : List ℕ) (at : ℕ) (step : Step) (e : Ending) → (f : IsUnderWay (attempt_at part kept address) known d at)
     → IfKnown known (λ all. page ≡ slice_range all at (at + length page)) → (t : Took (past_in_flash part kept f.bytes) new page step) → step ≡ Stops → DeviceStandsFor part kept true wrapped (f.bytes ++ take t.count page) → e ≡ Failed Wrap
     → IfKnown known (λ all. AreBytes all → AttemptEnds (attempt_at part kept address) all wrapped e)
 known_stopped part kept address None d new wrapped page at step e f knows t is w failed = tt

@@ -5,7 +5,7 @@ use Rattle.std.proofs.Math.Seq.{take-append_seam}
 use Rattle.x7_part.specs.Part.{PartData}
 use Rattle.x7_engine.specs.State.{taken_of}
 use Rattle.x7_engine.specs.declared.kept.Kept.{Kept}
-use Rattle.x7_boot.specs.Attempt.{EndsFirst, IsAttemptOver, NoneBefore, RunsOut, AttemptCourse, ending_at}
+use Rattle.x7_boot.specs.Attempt.{EndsFirst, IsFlashAttempt, NoneBefore, RunsOut, AttemptCourse, ending_at}
 use Rattle.x7_boot.specs.Boot.{BootedState, IsBoot, LeadsTo, LeadsToEnd, next_by, tried}
 use Rattle.x7_boot.specs.declared.attempt.Ending.{Ending}
 use Rattle.x7_boot.specs.declared.boots.BootEnd.{BootEnd}
@@ -72,7 +72,7 @@ one_from part from s t a b (inr x) (inl y) = absurd (ended_and_out part from t s
 one_from part from s t a b (inr x) (inr y) = one_out part from s t a b x y
 
 -- over a flash there is one attempt with this kept at this address
-pub one_attempt : (part : PartData) (flash : List ℕ) (s t : AttemptCourse) → IsAttemptOver part flash s → IsAttemptOver part flash t → s.kept ≡ t.kept → s.address ≡ t.address → s ≡ t
+pub one_attempt : (part : PartData) (flash : List ℕ) (s t : AttemptCourse) → IsFlashAttempt part flash s → IsFlashAttempt part flash t → s.kept ≡ t.kept → s.address ≡ t.address → s ≡ t
 one_attempt part flash s t x y a b =
     one_from part (drop t.address flash) s t a b (subst (λ (n : ℕ). EndsFirst part (drop n flash) s ⊎ RunsOut part (drop n flash) s) b x) y
 
@@ -148,7 +148,7 @@ pub record GoesThrough (part : PartData) (flash : List ℕ) (courses older : Lis
   pub newer : List AttemptCourse
   pub course : AttemptCourse
   pub split : courses ≡ newer ++ course ∷ older
-  pub is : IsAttemptOver part flash course
+  pub is : IsFlashAttempt part flash course
   pub kept_is : course.kept ≡ kept
   pub address_is : course.address ≡ address
 

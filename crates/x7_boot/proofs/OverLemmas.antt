@@ -14,7 +14,7 @@ use Rattle.x7_engine.specs.declared.kept.Kept.{Kept}
 use Rattle.x7_engine.specs.declared.regs.Regs.{Regs}
 use Rattle.x7_engine.proofs.AlikeLemmas.{alike_state, alike_stop}
 use Rattle.x7_engine.proofs.FallbackLemmas.{kept_stop}
-use Rattle.x7_boot.specs.Attempt.{EndsFirst, IsAttemptOver, AttemptCourse, ending_at, ending_by}
+use Rattle.x7_boot.specs.Attempt.{EndsFirst, IsFlashAttempt, AttemptCourse, ending_at, ending_by}
 use Rattle.x7_boot.specs.declared.attempt.Ending.TheVariants.{Started, Failed}
 
 -- each prefix of the bytes that an attempt took, and the same of other bytes, end it and another attempt alike
@@ -44,13 +44,13 @@ ends_alike part from other t u x a =
     }
 
 -- an attempt that started ended in the flash
-pub started_first : (part : PartData) (flash : List ℕ) (t : AttemptCourse) → IsAttemptOver part flash t → t.ending ≡ Started → EndsFirst part (drop t.address flash) t
+pub started_first : (part : PartData) (flash : List ℕ) (t : AttemptCourse) → IsFlashAttempt part flash t → t.ending ≡ Started → EndsFirst part (drop t.address flash) t
 started_first part flash t (inl x) started = x
 started_first part flash t (inr x) started = let no : Failed _ ≡ Started = sym x.failed ∙ started in absurd (cc)
 
 -- ---- over the same bytes
 
-pub attempt_over : (part : PartData) (flash other : List ℕ) (t : AttemptCourse) → IsAttemptOver part flash t → t.wrapped ≡ false → take (t.address + length t.bytes) other ≡ take (t.address + length t.bytes) flash → IsAttemptOver part other t
+pub attempt_over : (part : PartData) (flash other : List ℕ) (t : AttemptCourse) → IsFlashAttempt part flash t → t.wrapped ≡ false → take (t.address + length t.bytes) other ≡ take (t.address + length t.bytes) flash → IsFlashAttempt part other t
 attempt_over part flash other t (inl x) in_flash e =
     let n : ℕ = length t.bytes in
     let here : List ℕ = drop t.address flash in

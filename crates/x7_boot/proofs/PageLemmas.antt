@@ -8,7 +8,7 @@ use Rattle.lru.specs.LruCache.{LruCache, lru_cache, promoted, put_entries}
 use Rattle.lru.proofs.CallerLemmas.{Contains-lookup, Contains-lookup_entry, Contains-promoted, Contains-put_entries, lookup-put_entries}
 use Rattle.x7_words.specs.Flash.{IfKnown}
 use Rattle.x7_boot.specs.Image.{flash_limit}
-use Rattle.x7_boot.specs.Pages.{AreFrom, ArePages, HasPage, IsBlock, IsLoaded, IsRest, Pages, BlockReaches, block_end, page_end, page_size}
+use Rattle.x7_boot.specs.Pages.{AreBytesFrom, ArePages, HasPage, IsBlock, IsLoaded, IsRestOfPage, Pages, BlockReaches, block_end, page_end, page_size}
 use Rattle.x7_boot.specs.declared.cache.Loaded.{Loaded}
 use Rattle.x7_boot.specs.declared.cache.Loaded.TheVariants.{Kept, Read}
 
@@ -24,7 +24,7 @@ same_number : (a b : ℕ) → nat_eq a b ≡ true → b ≡ a
 same_number a b e = grind arith
 
 -- with one more
-pub pages_put : (known : Option (List ℕ)) (extent : ℕ) (cache : LruCache ℕ (Vec ℕ Global)) (number : ℕ) (bytes : Vec ℕ Global) → ArePages known extent cache.entries → IsRest known extent (number * page_size) bytes.items
+pub pages_put : (known : Option (List ℕ)) (extent : ℕ) (cache : LruCache ℕ (Vec ℕ Global)) (number : ℕ) (bytes : Vec ℕ Global) → ArePages known extent cache.entries → IsRestOfPage known extent (number * page_size) bytes.items
     → ArePages known extent (put_entries nat_eq cache number bytes)
 pages_put known extent cache number bytes are here page c = elim (Contains-put_entries nat_eq cache number bytes page c) [
   | inl was ↦ are page was
@@ -33,7 +33,7 @@ pages_put known extent cache number bytes are here page c = elim (Contains-put_e
         | inl e ↦ e
         | inr other ↦ same_number number page.0 other.2
       ] in
-      subst (λ (n : ℕ). IsRest known extent (n * page_size) page.1.items) (sym key) (subst (λ (b : Vec ℕ Global). IsRest known extent (number * page_size) b.items) (sym new.0) here)
+      subst (λ (n : ℕ). IsRestOfPage known extent (n * page_size) page.1.items) (sym key) (subst (λ (b : Vec ℕ Global). IsRestOfPage known extent (number * page_size) b.items) (sym new.0) here)
 ]
 
 -- ---- a block of pages
@@ -68,7 +68,7 @@ end_of_index extent number count index start stop long within e l f m g =
     omega (arith, end, within, e, l, f, m, g)
 
 pub page_of_block : (known : Option (List ℕ)) (extent number count index start stop : ℕ) (block bytes : List ℕ) → IsBlock known extent number count block → index < count → start ≡ index * page_size → start < length block
-    → stop ≡ min (start + page_size) (length block) → bytes ≡ slice_range block start stop → IsRest known extent ((number + index) * page_size) bytes
+    → stop ≡ min (start + page_size) (length block) → bytes ≡ slice_range block start stop → IsRestOfPage known extent ((number + index) * page_size) bytes
 page_of_block known extent number count index start stop block bytes b l f m g e =
     let end : number * page_size + stop ≡ page_end ((number + index) * page_size) extent = end_of_index extent number count index start stop (length block) b.within b.long l f m g in
     let at : number * page_size + start ≡ (number + index) * page_size = omega (arith, f) in
@@ -116,7 +116,7 @@ known_from (Some all) bytes start more at end stop e f l w =
     ∙ ap (take (stop - at)) (drop-drop more start all ∙ ap (λ (n : ℕ). drop n all) e)
 
 -- the rest of a page from a place in it
-pub rest_from : (known : Option (List ℕ)) (extent at : ℕ) (bytes : List ℕ) → at < extent → IsRest known extent (at / page_size * page_size) bytes → IsRest known extent at (drop (at % page_size) bytes)
+pub rest_from : (known : Option (List ℕ)) (extent at : ℕ) (bytes : List ℕ) → at < extent → IsRestOfPage known extent (at / page_size * page_size) bytes → IsRestOfPage known extent at (drop (at % page_size) bytes)
 rest_from known extent at bytes within r =
     let page : ℕ = at / page_size in
     let end : page_end (page * page_size) extent ≡ page_end at extent = ap (λ (n : ℕ). min ((n + 1) * page_size) extent) (start_of page) in
@@ -130,17 +130,17 @@ rest_from known extent at bytes within r =
     }
 
 -- the page of a place, among those that are kept
-pub page_among : (known : Option (List ℕ)) (extent at : ℕ) (pages : Pages) (page : Vec ℕ Global) → ArePages known extent pages → lookup (nat_eq (at / page_size)) pages ≡ Some page → IsRest known extent (at / page_size * page_size) page.items
+pub page_among : (known : Option (List ℕ)) (extent at : ℕ) (pages : Pages) (page : Vec ℕ Global) → ArePages known extent pages → lookup (nat_eq (at / page_size)) pages ≡ Some page → IsRestOfPage known extent (at / page_size * page_size) page.items
 page_among known extent at pages page are e =
     let c = Contains-lookup (nat_eq (at / page_size)) pages page e in
-    subst (λ (n : ℕ). IsRest known extent (n * page_size) page.items) (same_number (at / page_size) c.0 c.2) (are (c.0, page) c.1)
+    subst (λ (n : ℕ). IsRestOfPage known extent (n * page_size) page.items) (same_number (at / page_size) c.0 c.2) (are (c.0, page) c.1)
 
 -- what a look-up gives, as the rest of the place's page
 pub rest_among : (known : Option (List ℕ)) (extent at : ℕ) (pages : Pages) (page : Vec ℕ Global) (bytes : List ℕ) → ArePages known extent pages → at < extent → lookup (nat_eq (at / page_size)) pages ≡ Some page → bytes ≡ page.items
-    → IsRest known extent at (take (length bytes - at % page_size) (drop (at % page_size) bytes))
+    → IsRestOfPage known extent at (take (length bytes - at % page_size) (drop (at % page_size) bytes))
 rest_among known extent at pages page bytes are within e f =
     let whole : take (length bytes - at % page_size) (drop (at % page_size) bytes) ≡ drop (at % page_size) bytes = take_rest bytes (at % page_size) in
-    subst (IsRest known extent at) (sym (whole ∙ ap (drop (at % page_size)) f)) (rest_from known extent at page.items within (page_among known extent at pages page are e))
+    subst (IsRestOfPage known extent at) (sym (whole ∙ ap (drop (at % page_size)) f)) (rest_from known extent at page.items within (page_among known extent at pages page are e))
 
 pub place_in : (at : ℕ) (pages : Pages) (page : Vec ℕ Global) (bytes : List ℕ) → HasPage pages at → lookup (nat_eq (at / page_size)) pages ≡ Some page → bytes ≡ page.items → at % page_size ≤ length bytes
 place_in at pages page bytes has e f =
@@ -155,22 +155,22 @@ place_in at pages page bytes has e f =
 
 pub pages_of : (known known_now : Option (List ℕ)) (extent size : ℕ) (pages : Pages) → known_now ≡ known → size ≡ extent → ArePages known_now size pages → ArePages known extent pages
 pages_of known known_now extent size pages e f are page c =
-    subst (λ (k : Option (List ℕ)). IsRest k extent (page.0 * page_size) page.1.items) e (subst (λ (n : ℕ). IsRest known_now n (page.0 * page_size) page.1.items) f (are page c))
+    subst (λ (k : Option (List ℕ)). IsRestOfPage k extent (page.0 * page_size) page.1.items) e (subst (λ (n : ℕ). IsRestOfPage known_now n (page.0 * page_size) page.1.items) f (are page c))
 
-pub rest_known : (known : Option (List ℕ)) (extent at : ℕ) (page : List ℕ) → at < extent → IsRest known extent at page → IfKnown known (λ all. page ≡ slice_range all at (at + length page))
+pub rest_known : (known : Option (List ℕ)) (extent at : ℕ) (page : List ℕ) → at < extent → IsRestOfPage known extent at page → IfKnown known (λ all. page ≡ slice_range all at (at + length page))
 rest_known known extent at page within r =
     let inside : at < page_end at extent = within_page at extent within in
     let long : length page ≡ page_end at extent - at = r.long in
     let end : page_end at extent ≡ at + length page = omega (arith, long, inside) in
     subst (λ (n : ℕ). IfKnown known (λ all. page ≡ slice_range all at n)) end r.bytes_are
 
-pub rest_goes : (known : Option (List ℕ)) (extent at : ℕ) (page : List ℕ) → at < extent → IsRest known extent at page → 0 < length page
+pub rest_goes : (known : Option (List ℕ)) (extent at : ℕ) (page : List ℕ) → at < extent → IsRestOfPage known extent at page → 0 < length page
 rest_goes known extent at page within r =
     let inside : at < page_end at extent = within_page at extent within in
     let long : length page ≡ page_end at extent - at = r.long in
     omega (arith, long, inside)
 
-pub rest_within : (known : Option (List ℕ)) (extent at : ℕ) (page : List ℕ) → at < extent → IsRest known extent at page → at + length page ≤ extent
+pub rest_within : (known : Option (List ℕ)) (extent at : ℕ) (page : List ℕ) → at < extent → IsRestOfPage known extent at page → at + length page ≤ extent
 rest_within known extent at page within r =
     let inside : at < page_end at extent = within_page at extent within in
     let long : length page ≡ page_end at extent - at = r.long in
@@ -181,7 +181,7 @@ rest_within known extent at page within r =
     end_within at extent = grind arith
 
 -- what is kept of a page, as bytes from a place on
-pub from_rest : (known : Option (List ℕ)) (extent at : ℕ) (page : List ℕ) → at < extent → IsRest known extent at page → AreFrom known extent at page
+pub from_rest : (known : Option (List ℕ)) (extent at : ℕ) (page : List ℕ) → at < extent → IsRestOfPage known extent at page → AreBytesFrom known extent at page
 from_rest known extent at page within r = record { some = rest_goes known extent at page within r; within = rest_within known extent at page within r; bytes_are = rest_known known extent at page within r }
 
 -- a block that begins with the page of a place has the place
@@ -189,7 +189,7 @@ pub place_in_block : (known : Option (List ℕ)) (extent at count : ℕ) (block 
 place_in_block known extent at count block within some b = let long : length block ≡ block_end (at / page_size) count extent - at / page_size * page_size = b.long in omega (arith, long, within, some)
 
 pub from_block : (known : Option (List ℕ)) (extent at count : ℕ) (block lent : List ℕ) → at < extent → 0 < count → IsBlock known extent (at / page_size) count block → lent ≡ block
-    → AreFrom known extent at (take (length lent - at % page_size) (drop (at % page_size) lent))
+    → AreBytesFrom known extent at (take (length lent - at % page_size) (drop (at % page_size) lent))
 from_block known extent at count block lent within some b e =
     let bytes : List ℕ = drop (at % page_size) block in
     let inside : at % page_size < length block = place_in_block known extent at count block within some b in
@@ -197,12 +197,12 @@ from_block known extent at count block lent within some b e =
     let long : length block ≡ block_end (at / page_size) count extent - at / page_size * page_size = b.long in
     let left : length bytes ≡ length block - at % page_size = length-drop (at % page_size) block in
     let end : block_end (at / page_size) count extent ≡ at + length bytes = omega (arith, long, left, inside, sum) in
-    let from : AreFrom known extent at bytes = record {
+    let from : AreBytesFrom known extent at bytes = record {
       some = omega (arith, left, inside);
       within = omega (arith, end);
       bytes_are = known_from known block (at / page_size * page_size) (at % page_size) at (block_end (at / page_size) count extent) (at + length bytes) sum end (omega arith) b.bytes_are;
     } in
-    subst (AreFrom known extent at) (sym (take_rest lent (at % page_size) ∙ ap (drop (at % page_size)) e)) from
+    subst (AreBytesFrom known extent at) (sym (take_rest lent (at % page_size) ∙ ap (drop (at % page_size)) e)) from
 
 -- what was loaded from a flash whose bytes and size are these
 pub loaded_from : (known known_now : Option (List ℕ)) (extent size number : ℕ) (block : List ℕ) (loaded : Loaded) → known_now ≡ known → size ≡ extent → IsLoaded known_now size number block loaded → IsLoaded known extent number block loaded
@@ -215,5 +215,5 @@ reaches known extent at block Kept within read = tt
 reaches known extent at block (Read count) within read = place_in_block known extent at count block within read.0 read.1
 
 -- bytes of a flash that is no larger than one may be
-pub from_limited : (known : Option (List ℕ)) (extent at : ℕ) (bytes : List ℕ) → extent ≤ flash_limit → AreFrom known extent at bytes → at + length bytes ≤ flash_limit
+pub from_limited : (known : Option (List ℕ)) (extent at : ℕ) (bytes : List ℕ) → extent ≤ flash_limit → AreBytesFrom known extent at bytes → at + length bytes ≤ flash_limit
 from_limited known extent at bytes limit from = let within = from.within in omega (arith, limit, within)

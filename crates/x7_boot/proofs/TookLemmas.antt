@@ -19,11 +19,11 @@ use Rattle.x7_engine.specs.Startup.{phase_by, startup_progress}
 use Rattle.x7_engine.specs.Stop.{Stopped, stop_fault}
 use Rattle.x7_engine.specs.UntilStarted.{NoneStarted, has_started, says_started, taken_until}
 use Rattle.x7_engine.proofs.UntilLemmas.{going_before}
-use Rattle.x7_boot.specs.Attempt.{ending_at, ending_by, failed_by, IsReady, step_by, StepsTo, Took, past_in_flash}
+use Rattle.x7_boot.specs.Attempt.{ending_at, ending_by, failed_by, CanTakePage, step_by, StepsTo, Took, past_in_flash}
 use Rattle.x7_boot.specs.declared.attempt.Ending.{Ending}
 use Rattle.x7_boot.specs.declared.attempt.Ending.TheVariants.{Started}
 use Rattle.x7_boot.specs.declared.attempt.Step.{Step}
-use Rattle.x7_boot.specs.declared.attempt.Step.TheVariants.{Goes, Ends}
+use Rattle.x7_boot.specs.declared.attempt.Step.TheVariants.{GoesOn, Ends}
 
 -- ---- what ends an attempt
 
@@ -80,7 +80,7 @@ steps_to part kept d bytes read (fed.Stopped n) None dropping a e f =
     (subst (λ (o : Option Stopped). IsSome o) (sym a.1) refl, ends_by_stop part kept bytes e ∙ ap (λ (o : Option Stopped). ending_by (why_of o)) a.1 ∙ failed_at a.0 None (f ∙ ap (λ (o : Option Stopped). failure_of (stop_fault (why_of o)) false) a.1))
 
 -- an attempt goes on only where all was taken
-goes_all : (part : PartData) (kept : Kept) (d : DeviceState) (bytes : List ℕ) (read : ReadBufState) (answer : Fed) (cause : Option Cause) (length : ℕ) → read.most ≡ None → Answers (past_in_flash part kept bytes) d read answer → step_by answer cause ≡ Goes
+goes_all : (part : PartData) (kept : Kept) (d : DeviceState) (bytes : List ℕ) (read : ReadBufState) (answer : Fed) (cause : Option Cause) (length : ℕ) → read.most ≡ None → Answers (past_in_flash part kept bytes) d read answer → step_by answer cause ≡ GoesOn
     → taken_in length answer ≡ length
 goes_all part kept d bytes read fed.All cause n dropping a e = refl
 goes_all part kept d bytes read (fed.Iprog k) cause n dropping a e = cc
@@ -105,7 +105,7 @@ steps_until part kept d bytes read (until.Started n) cause dropping a e f = ends
 steps_until part kept d bytes read (until.Fed answer) cause dropping a e f = steps_to part kept d bytes read answer cause dropping a (sym e) f
 
 all_until : (part : PartData) (kept : Kept) (d : DeviceState) (bytes : List ℕ) (read : ReadBufState) (answer : UntilStarted) (cause : Option Cause) (length : ℕ) → read.most ≡ None → AnswersUntil (past_in_flash part kept bytes) d read answer
-    → step_until answer cause ≡ Goes → taken_until length answer ≡ length
+    → step_until answer cause ≡ GoesOn → taken_until length answer ≡ length
 all_until part kept d bytes read (until.Started n) cause length dropping a e = absurd (cc)
 all_until part kept d bytes read (until.Fed answer) cause length dropping a e = goes_all part kept d bytes read answer cause length dropping a e
 
@@ -128,5 +128,5 @@ page_took part kept d bytes page read answer cause within s first dropping a sta
     }
 
 -- a device that nothing has stopped is ready for no more than was said
-pub ready_fits : (d : DeviceState) (n : ℕ) → IsReady d n → d.taken + n ≤ 2 ^ 63
+pub ready_fits : (d : DeviceState) (n : ℕ) → CanTakePage d n → d.taken + n ≤ 2 ^ 63
 ready_fits d n r = let t : d.taken ≡ length r.bytes = r.stands.taken_is in let f : length r.bytes + n ≤ 2 ^ 63 = r.fits in omega (arith, t, f)

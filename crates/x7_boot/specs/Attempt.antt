@@ -18,7 +18,7 @@ use Rattle.x7_engine.specs.declared.stop.StopCause.TheVariants as stop
 use Rattle.x7_boot.specs.declared.attempt.Ending.{Ending}
 use Rattle.x7_boot.specs.declared.attempt.Ending.TheVariants.{Started, Iprog, Failed}
 use Rattle.x7_boot.specs.declared.attempt.Step.{Step}
-use Rattle.x7_boot.specs.declared.attempt.Step.TheVariants.{Goes, Ends, Stops}
+use Rattle.x7_boot.specs.declared.attempt.Step.TheVariants.{GoesOn, Ends, Stops}
 
 -- a failure by this cause, if there is a cause
 abbrev pub failed_by : Option Cause → Option Ending
@@ -35,8 +35,8 @@ abbrev pub ending_at : PartData → Kept → List ℕ → Option Ending
 ending_at part kept bytes =
     if (state_of part kept false bytes).phase == 7 then Some Started else ending_by (why_of (stop_in part kept bytes))
 
--- an attempt: what its device kept over the reset, its address, the bytes that the device took, whether
--- the flash ended first, and what ended it
+-- an attempt: what its device kept over the reset, its address in the flash, the bytes that the device took, whether
+-- the flash ended before anything ended the attempt, and how the attempt ended
 pub record AttemptCourse : Type 0 where
   pub kept : Kept
   pub address : ℕ
@@ -48,7 +48,7 @@ pub record AttemptCourse : Type 0 where
 abbrev pub attempt_end : AttemptCourse → ℕ
 attempt_end t = t.address + length t.bytes
 
--- nothing ends an attempt at fewer than n bytes
+-- nothing ends an attempt at fewer than n of the bytes from its address on
 abbrev pub NoneBefore : PartData → Kept → List ℕ → ℕ → Type 0
 NoneBefore part kept from n = (k : ℕ) → k < n → ending_at part kept (take k from) ≡ None
 
@@ -60,7 +60,8 @@ pub record EndsFirst (part : PartData) (from : List ℕ) (t : AttemptCourse) : T
   pub first : NoneBefore part t.kept from (length t.bytes)
   pub in_flash : t.wrapped ≡ false
 
--- nothing ended the attempt up to the flash's end; the device took all bytes, or those up to another fault
+-- nothing ended the attempt up to the flash's end, so it failed by the wrap; the device took all bytes, or those up to
+-- a stop that ends no attempt
 pub record RunsOut (part : PartData) (from : List ℕ) (t : AttemptCourse) : Type 0 where
   pub none : NoneBefore part t.kept from (suc (length from))
   pub taken : t.bytes ≡ take (taken_of part t.kept from) from
@@ -68,36 +69,39 @@ pub record RunsOut (part : PartData) (from : List ℕ) (t : AttemptCourse) : Typ
   pub past_end : t.wrapped ≡ true
 
 -- an attempt over a flash of these bytes; at an address past the flash's end there are no bytes to take
-abbrev pub IsAttemptOver : PartData → List ℕ → AttemptCourse → Type 0
-IsAttemptOver part flash t = EndsFirst part (drop t.address flash) t ⊎ RunsOut part (drop t.address flash) t
+abbrev pub IsFlashAttempt : PartData → List ℕ → AttemptCourse → Type 0
+IsFlashAttempt part flash t = EndsFirst part (drop t.address flash) t ⊎ RunsOut part (drop t.address flash) t
 
--- the device is as the attempt left it
+-- a device is as the attempt left it
 abbrev pub IsDeviceOf : PartData → DeviceState → AttemptCourse → Type 0
 IsDeviceOf part d t = DeviceStandsFor part t.kept t.wrapped d t.bytes
 
--- what a feed does to an attempt in which startup hasn't ended after it, where the device has this cause of a failure
+-- what a feed with this answer does to an attempt in which startup hasn't ended, where the device then has this cause
+-- of a failure, if any
 abbrev pub step_by : Fed → Option Cause → Step
 step_by (fed.Iprog n) cause = Ends Iprog
 step_by (fed.Stopped n) (Some cause) = Ends (Failed cause)
 step_by (fed.Stopped n) None = Stops
-step_by fed.All cause = Goes
-step_by (fed.ReadFull n) cause = Goes
+step_by fed.All cause = GoesOn
+step_by (fed.ReadFull n) cause = GoesOn
 
--- what the bytes taken come to in an attempt that fewer had not ended: it goes on, it ends, or the device stops in it
+-- what the bytes taken do to an attempt that fewer of them hadn't ended: it goes on, it ends, or its device stops,
+-- which ends no attempt before the flash's end
 abbrev pub StepsTo : PartData → Kept → List ℕ → Step → Type 0
-StepsTo part kept bytes Goes = (stop_in part kept bytes ≡ None) × (ending_at part kept bytes ≡ None)
+StepsTo part kept bytes GoesOn = (stop_in part kept bytes ≡ None) × (ending_at part kept bytes ≡ None)
 StepsTo part kept bytes (Ends e) = ending_at part kept bytes ≡ Some e
 StepsTo part kept bytes Stops = IsSome (stop_in part kept bytes) × (ending_at part kept bytes ≡ None)
 
--- the past of a device in an attempt in which the flash has not ended
+-- the past of a device in an attempt whose flash hasn't come to its end
 abbrev pub past_in_flash : PartData → Kept → List ℕ → Past
 past_in_flash part kept bytes = record { part = part; kept = kept; wrapped = false; bytes = bytes }
 
--- a device with this past took bytes of a piece: all of it where the attempt goes on
+-- a device with this past took the first bytes of a piece, up to what ended its attempt or stopped it: all of the piece
+-- where the attempt goes on
 pub record Took (p : Past) (d : DeviceState) (piece : List ℕ) (step : Step) : Type 0 where
   pub count : ℕ
   pub within : count ≤ length piece
-  pub all : step ≡ Goes → count ≡ length piece
+  pub all : step ≡ GoesOn → count ≡ length piece
   pub stands : HasPast d (later p (take count piece))
   pub due : NoWordDue d
   pub steps : StepsTo p.part p.kept (p.bytes ++ take count piece) step
@@ -109,14 +113,15 @@ TakesPage old page step new =
     (part : PartData) (kept : Kept) (bytes : List ℕ) → DeviceStandsFor part kept false old bytes → stop_in part kept bytes ≡ None → ending_at part kept bytes ≡ None
     → Took (past_in_flash part kept bytes) new page step
 
--- a device in an attempt that nothing has ended, whose bytes with `more` further ones are at most 2^63
-pub record IsReady (d : DeviceState) (more : ℕ) : Type 0 where
+-- a device can take `more` bytes of a page: it is in an attempt that nothing has ended, and all its bytes with these
+-- are at most 2^63
+pub record CanTakePage (d : DeviceState) (more : ℕ) : Type 0 where
   pub part : PartData
   pub kept : Kept
   pub bytes : List ℕ
   pub stands : DeviceStandsFor part kept false d bytes
   pub going : stop_in part kept bytes ≡ None
-  pub open_end : ending_at part kept bytes ≡ None
+  pub not_ended : ending_at part kept bytes ≡ None
   pub fits : length bytes + more ≤ 2 ^ 63
 
 -- how an attempt begins: its device's part, what the device kept over the reset, and the address in the flash
@@ -132,20 +137,20 @@ attempt_at part kept address = record { part = part; kept = kept; address = addr
 -- an attempt that began as `a` says, over a flash of these bytes, ended by `ending` and left the device `d`
 pub record AttemptEnds (a : AttemptStart) (flash : List ℕ) (d : DeviceState) (ending : Ending) : Type 0 where
   pub course : AttemptCourse
-  pub is : IsAttemptOver a.part flash course
+  pub is : IsFlashAttempt a.part flash course
   pub kept_is : course.kept ≡ a.kept
   pub address_is : course.address ≡ a.address
   pub ending_is : course.ending ≡ ending
   pub device : IsDeviceOf a.part d course
 
--- an attempt that took the bytes of a flash from its address to a place, where
--- these are known, and that nothing has ended
-pub record Feeds (a : AttemptStart) (known : Option (List ℕ)) (d : DeviceState) (at : ℕ) : Type 0 where
+-- an attempt that nothing has ended took the bytes of a flash from its address up to a place, and left the device `d`;
+-- the bytes are the flash's, where these are known
+pub record IsUnderWay (a : AttemptStart) (known : Option (List ℕ)) (d : DeviceState) (place : ℕ) : Type 0 where
   pub bytes : List ℕ
   pub stands : DeviceStandsFor a.part a.kept false d bytes
   pub going : stop_in a.part a.kept bytes ≡ None
-  pub open_end : ending_at a.part a.kept bytes ≡ None
+  pub not_ended : ending_at a.part a.kept bytes ≡ None
   pub due : NoWordDue d
-  pub count : a.address + length bytes ≡ at
-  pub read : IfKnown known (λ all. bytes ≡ slice_range all a.address at)
+  pub count : a.address + length bytes ≡ place
+  pub read : IfKnown known (λ all. bytes ≡ slice_range all a.address place)
   pub none : (k : ℕ) → k < length bytes → ending_at a.part a.kept (take k bytes) ≡ None

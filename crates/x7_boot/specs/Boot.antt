@@ -4,7 +4,7 @@
 --     the attempt ended by     then
 --     phase 7                  the boot has started
 --     IPROG                    an attempt at the start address in WBSTAR; after 16 attempts that all ended so, a loop
---     a failure                a fallback at address 0; the boot stops where the attempt is one itself, or CTL0 forbids it
+--     a failure                a fallback at address 0; the boot stops where the attempt is one, or CTL0 forbids it
 use Rattle.std.specs.Prelude.{◌≡◌, ℕ, ◌+◌, ◌*◌, ◌==◌, ◌||◌, nat_le, Bool, if◌then◌else◌, List, [], ◌∷◌, length, map, reverse, None}
 use Rattle.x7_words.specs.Word.{field_of}
 use Rattle.x7_part.specs.Part.{PartData}
@@ -15,7 +15,7 @@ use Rattle.x7_engine.specs.Standing.{DeviceState}
 use Rattle.x7_engine.specs.State.{kept_after, state_of}
 use Rattle.x7_engine.specs.declared.kept.Kept.{Kept}
 use Rattle.x7_engine.specs.declared.regs.Regs.{Regs}
-use Rattle.x7_boot.specs.Attempt.{AttemptStart, IsDeviceOf, IsAttemptOver, AttemptCourse}
+use Rattle.x7_boot.specs.Attempt.{AttemptStart, IsDeviceOf, IsFlashAttempt, AttemptCourse}
 use Rattle.x7_boot.specs.declared.attempt.Ending.{Ending}
 use Rattle.x7_boot.specs.declared.attempt.Ending.TheVariants as ending
 use Rattle.x7_boot.specs.declared.boots.BootEnd.{BootEnd}
@@ -24,8 +24,8 @@ use Rattle.x7_boot.specs.declared.boots.Tried.{Tried}
 use Rattle.x7_boot.specs.declared.next.Next.{Next}
 use Rattle.x7_boot.specs.declared.next.Next.TheVariants.{Again, Ends}
 
--- the place in the flash that WBSTAR names: its bits 28:0, or 256 times its bits 23:0
--- where the part counts in steps of 256 bytes
+-- the place in the flash, in bytes, that WBSTAR names, for a part of which one step of the start address stands for
+-- `unit` bytes: the word's bits 28:0, or, where that is 256, 256 times its bits 23:0
 abbrev pub start_address : ℕ → ℕ → ℕ
 start_address unit wbstar = if unit == 256 then 256 * field_of 0 24 wbstar else field_of 0 29 wbstar
 
@@ -37,7 +37,7 @@ end_state part t = state_of part t.kept t.wrapped t.bytes
 abbrev pub most_iprogs : ℕ
 most_iprogs = 16
 
--- the table: what comes after attempt `number`, by its ending
+-- the table: what comes after attempt `number`, from 1, by its ending
 abbrev pub next_by : PartData → ℕ → AttemptCourse → Ending → Next
 next_by part number t ending.Started = Ends boot_end.Started
 next_by part number t ending.Iprog =
@@ -45,14 +45,14 @@ next_by part number t ending.Iprog =
 next_by part number t (ending.Failed cause) =
     if is_fallback t.kept.kind || forbids_fallback (end_state part t).ctl0 then Ends boot_end.Stopped else Again (kept_after part t.kept t.wrapped t.bytes Fallback) 0
 
--- the first attempt begins at address 0 as power comes, and nothing is kept
+-- what the first attempt has kept, which begins as power comes: nothing
 abbrev pub at_power : Kept
 at_power = record { wbstar = 0; timer = 0; bspi = 0; kind = Power; before = None }
 
 -- a flash leads a device through these attempts, the newest first, to what comes next
 abbrev pub LeadsTo : PartData → List ℕ → List AttemptCourse → Next → Type 0
 LeadsTo part flash [] next = next ≡ Again at_power 0
-LeadsTo part flash (t ∷ older) next = LeadsTo part flash older (Again t.kept t.address) × IsAttemptOver part flash t × (next ≡ next_by part (length older + 1) t t.ending)
+LeadsTo part flash (t ∷ older) next = LeadsTo part flash older (Again t.kept t.address) × IsFlashAttempt part flash t × (next ≡ next_by part (length older + 1) t t.ending)
 
 -- a flash leads a device through these attempts, the newest first, to this end
 abbrev pub LeadsToEnd : PartData → List ℕ → List AttemptCourse → BootEnd → Type 0

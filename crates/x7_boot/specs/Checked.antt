@@ -14,5 +14,7 @@ use Rattle.x7_engine.specs.declared.kept.Kept.{Kept}
 -- running check and every write to IDCODE the part's idcode
 pub record HasChecked (part : PartData) (kept : Kept) (bytes : List ℕ) : Type 0 where
   pub started : HasStartAndDesync part.idcode (history_taken part kept bytes) (taken_of part kept bytes)
-  pub checks : (w place : ℕ) (older : History) → StandsIn (history_taken part kept bytes) (Write (number_of Crc) w) place older → place < taken_of part kept bytes → w ≡ running_check older
-  pub idcodes : (w place : ℕ) (older : History) → StandsIn (history_taken part kept bytes) (Write (number_of Idcode) w) place older → place < taken_of part kept bytes → IsTrue (same_idcode part.idcode w)
+  pub checks : (word place : ℕ) (older : History) → StandsIn (history_taken part kept bytes) (Write (number_of Crc) word) place older
+      → place < taken_of part kept bytes → word ≡ running_check older
+  pub idcodes : (word place : ℕ) (older : History) → StandsIn (history_taken part kept bytes) (Write (number_of Idcode) word) place older
+      → place < taken_of part kept bytes → IsTrue (same_idcode part.idcode word)

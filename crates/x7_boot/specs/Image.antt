@@ -19,7 +19,7 @@ pub use Rattle.x7_words.specs.Flash.{flash_limit}
 abbrev pub sector_from : ℕ → ℕ
 sector_from place = (place + (sector_bytes - 1)) / sector_bytes * sector_bytes
 
--- where the update stands, after a golden stream of `golden` bytes
+-- where the update stands in an image, in bytes, after a golden stream of `golden` bytes
 abbrev pub place_after_golden : ℕ → ℕ
 place_after_golden golden = max (2 * sector_bytes) (sector_from (sector_bytes + golden))
 
@@ -27,15 +27,15 @@ place_after_golden golden = max (2 * sector_bytes) (sector_from (sector_bytes + 
 unfoldable pub slot : ℕ → ℕ → List ℕ
 slot switch start = flash_slot (bytes_of_word switch) (bytes_of_word start)
 
--- an open slot begins with the sync word
+-- an open slot with this start address: its switch word is the sync word
 abbrev pub open_slot : ℕ → List ℕ
 open_slot start = slot sync_word start
 
--- a free slot begins with a dummy word
+-- a free slot with this start address: its switch word is a dummy word
 abbrev pub free_slot : ℕ → List ℕ
 free_slot start = slot dummy_word start
 
--- all slots of a sector but the first
+-- the slots of the first sector after its first: they are free, and have this start address
 unfoldable pub free_slots : ℕ → List ℕ
 free_slots start = repeat (slot_count - 1) (free_slot start)
 
@@ -47,7 +47,7 @@ filled_to place bytes = bytes ++ replicate (place - length bytes) erased_byte
 abbrev pub first_sector : ℕ → List ℕ
 first_sector start = open_slot start ++ free_slots start
 
--- the size of the image, by the lengths of both streams
+-- the size of the image in bytes, by those of both streams
 abbrev pub image_size : ℕ → ℕ → ℕ
 image_size golden update = sector_from (place_after_golden golden + update)
 

@@ -1,4 +1,5 @@
--- Pages of a flash (this project's choice).
+-- Pages of a flash, and blocks of pages that are read at once (this project's choice). Of each flash `known` are its
+-- bytes, where these are known, and `extent` is how many it has.
 use Rattle.std.specs.Prelude.{◌≡◌, ℕ, ◌+◌, ◌-◌, ◌*◌, ◌/◌, ◌%◌, ◌<◌, ◌≤◌, min, List, length, slice_range, Option, IsSome, Contains, Vec, nat_eq}
 use Rattle.std.specs.declared.alloc.Global.{Global}
 use Rattle.std.specs.Map.{lookup}
@@ -6,7 +7,7 @@ use Rattle.x7_words.specs.Flash.{IfKnown}
 use Rattle.x7_boot.specs.declared.cache.Loaded.{Loaded}
 use Rattle.x7_boot.specs.declared.cache.Loaded.TheVariants.{Kept, Read}
 
--- the number of bytes of a page, but of a last one that is shorter
+-- how many bytes a page has; a flash's last one may have fewer
 abbrev pub page_size : ℕ
 page_size = 4096
 
@@ -14,14 +15,14 @@ page_size = 4096
 abbrev pub block_pages : ℕ
 block_pages = 16
 
--- where the page of a place ends: where the next page begins, or at the flash's end
+-- where the page ends in which a place lies: where the next page begins, or at the flash's end
 abbrev pub page_end : ℕ → ℕ → ℕ
-page_end at extent = min ((at / page_size + 1) * page_size) extent
+page_end place extent = min ((place / page_size + 1) * page_size) extent
 
--- `bytes` are those of a flash from the place `at` to the end of its page
-pub record IsRest (known : Option (List ℕ)) (extent at : ℕ) (bytes : List ℕ) : Type 0 where
-  pub long : length bytes ≡ page_end at extent - at
-  pub bytes_are : IfKnown known (λ all. bytes ≡ slice_range all at (page_end at extent))
+-- `bytes` are those of a flash from the place `place` to the end of its page
+pub record IsRestOfPage (known : Option (List ℕ)) (extent place : ℕ) (bytes : List ℕ) : Type 0 where
+  pub long : length bytes ≡ page_end place extent - place
+  pub bytes_are : IfKnown known (λ all. bytes ≡ slice_range all place (page_end place extent))
 
 -- where `count` pages from a number on end, or the flash where it ends before
 abbrev pub block_end : ℕ → ℕ → ℕ → ℕ
@@ -39,24 +40,24 @@ abbrev pub IsLoaded : Option (List ℕ) → ℕ → ℕ → List ℕ → Loaded 
 IsLoaded known extent number block Kept = Unit {0}
 IsLoaded known extent number block (Read count) = (0 < count) × IsBlock known extent number count block
 
--- the block, where one was read, is long enough to have the place `at`, which lies in its first page
+-- the block, where one was read, is long enough to have the place `place`, which lies in its first page
 abbrev pub BlockReaches : ℕ → List ℕ → Loaded → Type 0
-BlockReaches at block Kept = Unit {0}
-BlockReaches at block (Read count) = at % page_size < length block
+BlockReaches place block Kept = Unit {0}
+BlockReaches place block (Read count) = place % page_size < length block
 
--- `bytes` are those of a flash from the place `at` on, one at least
-pub record AreFrom (known : Option (List ℕ)) (extent at : ℕ) (bytes : List ℕ) : Type 0 where
+-- `bytes` are those of a flash from the place `place` on, one at least
+pub record AreBytesFrom (known : Option (List ℕ)) (extent place : ℕ) (bytes : List ℕ) : Type 0 where
   pub some : 0 < length bytes
-  pub within : at + length bytes ≤ extent
-  pub bytes_are : IfKnown known (λ all. bytes ≡ slice_range all at (at + length bytes))
+  pub within : place + length bytes ≤ extent
+  pub bytes_are : IfKnown known (λ all. bytes ≡ slice_range all place (place + length bytes))
 
--- pages under their numbers
+-- the pages of a cache, each under its number
 abbrev pub Pages : Type 0
 Pages = List (ℕ × Vec ℕ Global)
 
 -- each of the pages is the whole page of its number
 abbrev pub ArePages : Option (List ℕ) → ℕ → Pages → Type 0
-ArePages known extent pages = (page : ℕ × Vec ℕ Global) → Contains pages page → IsRest known extent (page.0 * page_size) page.1.items
+ArePages known extent pages = (page : ℕ × Vec ℕ Global) → Contains pages page → IsRestOfPage known extent (page.0 * page_size) page.1.items
 
 -- of whatever flash the block is `count` pages from `number` on: where the old
 -- pages are the flash's, the new ones are too
@@ -64,15 +65,15 @@ abbrev pub KeepsPages : List ℕ → ℕ → ℕ → Pages → Pages → Type 0
 KeepsPages block number count old new = (known : Option (List ℕ)) (extent : ℕ) → IsBlock known extent number count block → ArePages known extent old → ArePages known extent new
 
 -- of whatever flash these are pages, and the block the one that was loaded:
--- `bytes` are the flash's from the place `at` on
+-- `bytes` are the flash's from the place `place` on
 abbrev pub HoldsFrom : Pages → List ℕ → ℕ → Loaded → List ℕ → Type 0
-HoldsFrom pages block at loaded bytes =
-    (known : Option (List ℕ)) (extent : ℕ) → at < extent → ArePages known extent pages → IsLoaded known extent (at / page_size) block loaded → AreFrom known extent at bytes
+HoldsFrom pages block place loaded bytes =
+    (known : Option (List ℕ)) (extent : ℕ) → place < extent → ArePages known extent pages → IsLoaded known extent (place / page_size) block loaded → AreBytesFrom known extent place bytes
 
 -- the page of a place of a flash is among pages of it
-pub record HasPage (pages : Pages) (at : ℕ) : Type 0 where
+pub record HasPage (pages : Pages) (place : ℕ) : Type 0 where
   pub known : Option (List ℕ)
   pub extent : ℕ
   pub are : ArePages known extent pages
-  pub within : at < extent
-  pub there : IsSome (lookup (nat_eq (at / page_size)) pages)
+  pub within : place < extent
+  pub there : IsSome (lookup (nat_eq (place / page_size)) pages)

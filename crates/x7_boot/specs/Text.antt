@@ -12,21 +12,21 @@ use Rattle.x7_boot.specs.declared.boots.BootEnd.{BootEnd}
 use Rattle.x7_boot.specs.declared.boots.BootEnd.TheVariants as boot_end
 use Rattle.x7_boot.specs.declared.boots.Tried.{Tried}
 
--- what began an attempt
+-- what began an attempt, in a word
 abbrev pub kind_text : Kind → List ℕ
 kind_text kind.Bench = codes "bench"
 kind_text kind.Power = codes "power"
 kind_text kind.Iprog = codes "iprog"
 kind_text kind.Fallback = codes "fallback"
 
--- what an attempt failed by
+-- what an attempt failed by, in a word
 abbrev pub cause_text : Cause → List ℕ
 cause_text cause.Watchdog = codes "watchdog"
 cause_text cause.Id = codes "id"
 cause_text cause.Crc = codes "crc"
 cause_text cause.Wrap = codes "wrap"
 
--- how an attempt ended
+-- how an attempt ended, in a word
 abbrev pub ending_text : Ending → List ℕ
 ending_text ending.Started = codes "started"
 ending_text ending.Iprog = codes "iprog"
@@ -46,7 +46,7 @@ abbrev pub attempts_text : ℕ → List Tried → List ℕ
 attempts_text before [] = []
 attempts_text before (tried ∷ more) = attempt_text (before + 1) tried ++ attempts_text (before + 1) more
 
--- how a boot ended
+-- how a boot ended, as the last line of its text
 abbrev pub boot_end_text : BootEnd → List ℕ
 boot_end_text boot_end.Started = codes "end started\n"
 boot_end_text boot_end.Stopped = codes "end stopped\n"

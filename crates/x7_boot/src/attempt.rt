@@ -1,7 +1,7 @@
 //! One attempt of a boot.
 ghost use Rattle.std.specs.Prelude.{◌≡◌, false, length, Option, None, Some};
 ghost use Rattle.x7_engine.specs.Value.{failure_of};
-ghost use Rattle.x7_boot.specs.Attempt.{IsReady, step_by, TakesPage};
+ghost use Rattle.x7_boot.specs.Attempt.{CanTakePage, step_by, TakesPage};
 
 use x7_engine::{Device, Fault, Fed, ReadBuf, UntilStarted};
 use x7_regs::Cause;
@@ -21,7 +21,7 @@ pub enum Ending {
 #[derive(Clone, Copy)]
 pub(crate) enum Step {
     /// Nothing: the attempt goes on after the bytes.
-    Goes,
+    GoesOn,
     /// The bytes ended the attempt.
     Ends(Ending),
     /// The device stopped, and takes nothing up to the flash's end.
@@ -42,7 +42,7 @@ fn cause_in(fault: Option<Fault>) -> Option<Cause>
 
 /// What a feed with this answer does to an attempt in which startup has not ended, where the device has this cause of a
 /// failure.
-fn step_of(fed: Fed, cause: Option<Cause>) -> Step
+fn step_by(fed: Fed, cause: Option<Cause>) -> Step
     ensures { result ≡ step_by fed cause }
 {
     match fed {
@@ -51,18 +51,18 @@ fn step_of(fed: Fed, cause: Option<Cause>) -> Step
             Some(cause) => Step::Ends(Ending::Failed(cause)),
             None => Step::Stops,
         },
-        Fed::All | Fed::ReadFull(_) => Step::Goes,
+        Fed::All | Fed::ReadFull(_) => Step::GoesOn,
     }
 }
 
 /// Gives a device bytes of a flash, up to what ends the attempt or stops the device.
 pub(crate) fn take_page(device: &mut Device, page: &[u8]) -> Step
-    requires { IsReady device.old (length page.now) }
+    requires { CanTakePage device.old (length page.now) }
     ensures { TakesPage device.old page.now result device.new }
 {
     let mut read = ReadBuf::dropping();
     match device.feed_until_started(page, &mut read) {
         UntilStarted::Started(_) => Step::Ends(Ending::Started),
-        UntilStarted::Fed(fed) => step_of(fed, cause_in(device.fault())),
+        UntilStarted::Fed(fed) => step_by(fed, cause_in(device.fault())),
     }
 }

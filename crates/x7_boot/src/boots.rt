@@ -10,7 +10,7 @@ use crate::attempt::Ending;
 use crate::cache::PageCache;
 use crate::fault::BootFault;
 use crate::flash_attempt::try_once;
-use crate::next::{Next, next_of};
+use crate::next::{Next, next_by};
 use std::alloc::Global;
 use std::marker::Model;
 use x7_engine::{Device, Kept};
@@ -119,26 +119,26 @@ pub fn boot<F: Flash>(alloc: Global, part: &Part, flash: &mut F) -> Result<Boote
     let Ok(mut pages) = PageCache::new(alloc) else {
         return Err(BootFault::NoMemory);
     };
-    let mut keep = AT_POWER;
+    let mut kept = AT_POWER;
     let mut address = 0;
     let mut number = 0;
     'attempts: loop {
-        let ending = try_once(&mut device, flash, &mut pages, keep, address)?;
+        let ending = try_once(&mut device, flash, &mut pages, kept, address)?;
         let Ok(()) = attempts.push(Tried {
-            kind: keep.kind,
+            kind: kept.kind,
             address,
             ending,
         }) else {
             return Err(BootFault::NoMemory);
         };
         number += 1;
-        match next_of(&device, keep.kind, number, ending) {
+        match next_by(&device, kept.kind, number, ending) {
             Next::Again {
-                kept,
-                address: place,
+                kept: next_kept,
+                address: next_address,
             } => {
-                keep = kept;
-                address = place;
+                kept = next_kept;
+                address = next_address;
             }
             Next::Ends(end) => return Ok(Booted {
                 attempts,

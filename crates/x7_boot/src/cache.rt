@@ -3,7 +3,7 @@ ghost use Rattle.std.specs.Prelude.{◌≡◌, ◌+◌, ◌*◌, ◌/◌, ◌%�
 ghost use Rattle.x7_words.specs.Flash.{FlashFails, OnlyReads};
 ghost use Rattle.std.specs.Map.{lookup};
 ghost use Rattle.x7_boot.specs.Image.{flash_limit};
-ghost use Rattle.x7_boot.specs.Pages.{ArePages, HasPage, HoldsFrom, IsLoaded, IsRest, KeepsPages, BlockReaches, block_pages, page_size};
+ghost use Rattle.x7_boot.specs.Pages.{ArePages, HasPage, HoldsFrom, IsLoaded, IsRestOfPage, KeepsPages, BlockReaches, block_pages, page_size};
 
 use crate::fault::BootFault;
 use crate::pages::{BLOCK_PAGES, PAGE_SIZE, read_block};
@@ -51,8 +51,8 @@ impl PageCache {
         })
     }
 
-    /// Makes the cache have the page of a number, read from the flash where the
-    /// cache has it not, with the pages that follow.
+    /// Puts the page of a number into the cache, where it isn't there: it is read from the flash together with the
+    /// pages after it that the cache hasn't either, up to sixteen in all.
     pub(crate) fn load<F: Flash>(&mut self, flash: &mut F, number: u64) -> Result<Loaded, BootFault>
         requires attached { (F.state flash.old).attached ≡ true }
         requires within { number * page_size < (F.state flash.old).extent }
@@ -70,7 +70,7 @@ impl PageCache {
         if self.pages.promote(&number) {
             return Ok(Loaded::Kept);
         }
-        let count = self.absent_pages(number, flash.size());
+        let count = self.absent_page_count(number, flash.size());
         read_block(flash, number, count, &mut self.block)?;
         let Ok(()) = self.keep_block(number, count) else {
             return Err(BootFault::NoMemory);
@@ -78,9 +78,9 @@ impl PageCache {
         Ok(Loaded::Read(count))
     }
 
-    /// How many pages from a number on a block has: at most sixteen, none past the flash's end, and
-    /// after the first none that the cache has.
-    fn absent_pages(&self, number: u64, size: u64) -> u64
+    /// How many pages to read at once, from the page of a number on: at most sixteen, none past the flash's end, and
+    /// none from the first on that the cache has.
+    fn absent_page_count(&self, number: u64, size: u64) -> u64
         requires within { number * page_size < size }
         requires limit { size ≤ flash_limit }
         ensures some { 0 < result }
@@ -96,7 +96,7 @@ impl PageCache {
         BLOCK_PAGES
     }
 
-    /// Makes the cache have the pages of a block, the first of them as the one used last.
+    /// Puts the `count` pages of the block into the cache, the first of them, page `number`, as the one used last.
     fn keep_block(&mut self, number: u64, count: u64) -> Result<(), NoMemory>
         requires some { 0 < count }
         requires most { count ≤ block_pages }
@@ -114,7 +114,8 @@ impl PageCache {
         Ok(())
     }
 
-    /// Makes the cache have the page at an index of a block, as the one used last.
+    /// Puts one page of the block into the cache, as the one used last: that at an index, from 0, where `number` is the
+    /// number of the block's first page.
     fn keep_page(&mut self, number: u64, index: u64) -> Result<(), NoMemory>
         requires number { number ≤ flash_limit / page_size }
         requires index { index < block_pages }
@@ -142,24 +143,24 @@ impl PageCache {
 
     /// The bytes from a place on, whose page was loaded: to the end of the block
     /// that was read for it, or else of the page.
-    pub(crate) fn bytes_from(&self, at: u64, loaded: Loaded) -> &[u8]
-        requires page { HasPage self.now.pages.entries at }
-        requires block { BlockReaches at self.now.block.items loaded }
-        ensures { HoldsFrom self.now.pages.entries self.now.block.items at loaded result.now }
+    pub(crate) fn bytes_from(&self, place: u64, loaded: Loaded) -> &[u8]
+        requires page { HasPage self.now.pages.entries place }
+        requires block { BlockReaches place self.now.block.items loaded }
+        ensures { HoldsFrom self.now.pages.entries self.now.block.items place loaded result.now }
     {
         match loaded {
-            Loaded::Kept => self.rest_of_page(at),
-            Loaded::Read(_) => &self.block[(at % PAGE_SIZE) as usize..],
+            Loaded::Kept => self.rest_of_page(place),
+            Loaded::Read(_) => &self.block[(place % PAGE_SIZE) as usize..],
         }
     }
 
     /// The bytes from a place to the end of its page, which the cache has.
-    fn rest_of_page(&self, at: u64) -> &[u8]
-        requires { HasPage self.now.pages.entries at }
-        ensures { (known : Option (List ℕ)) (extent : ℕ) → ArePages known extent self.now.pages.entries → at < extent → IsRest known extent at result.now }
+    fn rest_of_page(&self, place: u64) -> &[u8]
+        requires { HasPage self.now.pages.entries place }
+        ensures { (known : Option (List ℕ)) (extent : ℕ) → ArePages known extent self.now.pages.entries → place < extent → IsRestOfPage known extent place result.now }
     {
-        match self.pages.peek(&(at / PAGE_SIZE)) {
-            Some(page) => &page[(at % PAGE_SIZE) as usize..],
+        match self.pages.peek(&(place / PAGE_SIZE)) {
+            Some(page) => &page[(place % PAGE_SIZE) as usize..],
             None => &[],
         }
     }

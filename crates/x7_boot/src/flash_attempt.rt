@@ -1,4 +1,4 @@
-//! An attempt over a flash.
+//! An attempt over a flash: a device takes the flash's bytes, page by page.
 ghost use Rattle.std.specs.Prelude.{◌≡◌, ◌≤◌, ℕ, List, Option, true, false, IfOk, IsErrOf, OnOk};
 ghost use Rattle.x7_regs.specs.declared.boot_status.Kind.TheVariants.{Bench};
 ghost use Rattle.x7_regs.specs.declared.boot_status.Cause.TheVariants.{Wrap};
@@ -7,7 +7,7 @@ ghost use Rattle.x7_words.specs.Word.{AreBytes};
 ghost use Rattle.x7_part.specs.Part.{PartData};
 ghost use Rattle.x7_engine.specs.declared.kept.Kept.{Kept as KeptData};
 ghost use Rattle.x7_engine.specs.Standing.{DeviceStandsFor, MayWrap, NoWordDue, with_wrap};
-ghost use Rattle.x7_boot.specs.Attempt.{Feeds, AttemptEnds, attempt_at};
+ghost use Rattle.x7_boot.specs.Attempt.{IsUnderWay, AttemptEnds, attempt_at};
 ghost use Rattle.x7_boot.specs.Image.{flash_limit};
 ghost use Rattle.x7_boot.specs.Pages.{ArePages};
 ghost use Rattle.x7_boot.specs.declared.attempt.Ending.TheVariants as ending;
@@ -20,7 +20,7 @@ use x7_engine::{Device, Kept};
 use x7_regs::Cause;
 use x7_words::Flash;
 
-/// Ends an attempt in which the flash has ended: by the failure of a wrap.
+/// Ends an attempt whose flash has come to its end: it has failed by the wrap of its address.
 fn run_out(device: &mut Device) -> Ending
     requires { MayWrap device.old }
     ensures ending { result ≡ ending.Failed Wrap }
@@ -33,10 +33,10 @@ fn run_out(device: &mut Device) -> Ending
 }
 
 /// Resets a device for an attempt at this address.
-fn begin(device: &mut Device, keep: Kept, address: u32)
-    ensures { (known : Option (List ℕ)) → Feeds (attempt_at device.old.part keep address) known device.new address }
+fn begin(device: &mut Device, kept: Kept, address: u32)
+    ensures { (known : Option (List ℕ)) → IsUnderWay (attempt_at device.old.part kept address) known device.new address }
 {
-    device.reset(keep);
+    device.reset(kept);
 }
 
 /// Resets a device and gives it the bytes of a flash from an address on, up to what ends the attempt.
@@ -44,15 +44,15 @@ pub(crate) fn try_once<F: Flash>(
     device: &mut Device,
     flash: &mut F,
     pages: &mut PageCache,
-    keep: Kept,
+    kept: Kept,
     address: u32,
 ) -> Result<Ending, BootFault>
     requires attached { (F.state flash.old).attached ≡ true }
     requires limit { (F.state flash.old).extent ≤ flash_limit }
-    requires not_on_bench { keep.kind ≡ Bench → ⊥ }
+    requires not_on_bench { kept.kind ≡ Bench → ⊥ }
     requires pages { ArePages (F.state flash.old).bytes (F.state flash.old).extent pages.old.pages.entries }
     ensures pages { ArePages (F.state flash.old).bytes (F.state flash.old).extent pages.new.pages.entries }
-    ensures tried { IfOk result (λ ending. IfKnown (F.state flash.old).bytes (λ all. AreBytes all → AttemptEnds (attempt_at device.old.part keep address) all device.new ending)) }
+    ensures tried { IfOk result (λ ending. IfKnown (F.state flash.old).bytes (λ all. AreBytes all → AttemptEnds (attempt_at device.old.part kept address) all device.new ending)) }
     ensures part { IfOk result (λ ending. device.new.part ≡ device.old.part) }
     ensures no_word_due { IfOk result (λ ending. NoWordDue device.new) }
     ensures failed { IsErrOf result BootFault.Failed → FlashFails (F.state flash.old) (F.state flash.new) }
@@ -62,16 +62,16 @@ pub(crate) fn try_once<F: Flash>(
     ensures flash { OnlyReads (F.state flash.old) (F.state flash.new) (F.found_since flash.old) (F.found_since flash.new) }
 {
     let size = flash.size();
-    begin(device, keep, address);
-    let mut at = u64::from(address);
+    begin(device, kept, address);
+    let mut place = u64::from(address);
     'pages: loop {
-        if at >= size {
+        if place >= size {
             return Ok(run_out(device));
         }
-        let loaded = pages.load(flash, at / PAGE_SIZE)?;
-        let bytes = pages.bytes_from(at, loaded);
+        let loaded = pages.load(flash, place / PAGE_SIZE)?;
+        let bytes = pages.bytes_from(place, loaded);
         match take_page(device, bytes) {
-            Step::Goes => at += bytes.len() as u64,
+            Step::GoesOn => place += bytes.len() as u64,
             Step::Ends(ending) => return Ok(ending),
             Step::Stops => return Ok(run_out(device)),
         }

@@ -4,7 +4,7 @@ ghost use Rattle.x7_words.specs.Word.{AreBytes};
 ghost use Rattle.x7_part.specs.Part.{PartData};
 ghost use Rattle.x7_engine.specs.State.{state_of};
 ghost use Rattle.x7_engine.specs.declared.kept.Kept.{Kept};
-ghost use Rattle.x7_boot.specs.Attempt.{IsAttemptOver, AttemptCourse, attempt_end};
+ghost use Rattle.x7_boot.specs.Attempt.{IsFlashAttempt, AttemptCourse, attempt_end};
 ghost use Rattle.x7_boot.specs.Boot.{BootedState, HasBoot, IsBoot, LeadsToEnd, end_state};
 ghost use Rattle.x7_boot.specs.Checked.{HasChecked};
 ghost use Rattle.x7_boot.specs.Boots.{BootCourse, IsCourse, course_along, course_of};
@@ -15,7 +15,7 @@ ghost use Rattle.x7_boot.specs.declared.boots.BootEnd.TheVariants as boot_end;
 /// An attempt that started made its checks, and so did the last one of a boot that started: an
 /// image starts only after its checks passed.
 pub fn starts_are_checked()
-    ensures attempt { (part : PartData) (flash : List ℕ) (t : AttemptCourse) → AreBytes flash → IsAttemptOver part flash t → t.ending ≡ ending.Started → HasChecked part t.kept t.bytes }
+    ensures attempt { (part : PartData) (flash : List ℕ) (t : AttemptCourse) → AreBytes flash → IsFlashAttempt part flash t → t.ending ≡ ending.Started → HasChecked part t.kept t.bytes }
     ensures boot { (part : PartData) (flash : List ℕ) (b : BootedState) → AreBytes flash → (is : IsBoot part flash b) → b.end ≡ boot_end.Started → HasChecked part is.last.kept is.last.bytes }
 {}
 
@@ -23,8 +23,9 @@ pub fn starts_are_checked()
 /// of a boot, also of one that didn't start.
 pub fn startup_is_checked()
     ensures state { (part : PartData) (kept : Kept) (wrapped : Bool) (bytes : List ℕ) → AreBytes bytes → 0 < (state_of part kept wrapped bytes).phase → HasChecked part kept bytes }
-    ensures attempt { (part : PartData) (flash : List ℕ) (t : AttemptCourse) → AreBytes flash → IsAttemptOver part flash t → 0 < (end_state part t).phase → HasChecked part t.kept t.bytes }
-    ensures boot { (part : PartData) (flash : List ℕ) (b : BootedState) → AreBytes flash → (is : IsBoot part flash b) → 0 < (end_state part is.last).phase → HasChecked part is.last.kept is.last.bytes }
+    ensures attempt { (part : PartData) (flash : List ℕ) (t : AttemptCourse) → AreBytes flash → IsFlashAttempt part flash t → 0 < (end_state part t).phase → HasChecked part t.kept t.bytes }
+    ensures boot { (part : PartData) (flash : List ℕ) (b : BootedState) → AreBytes flash → (is : IsBoot part flash b) → 0 < (end_state part is.last).phase
+        → HasChecked part is.last.kept is.last.bytes }
 {}
 
 /// Every flash leads a boot of a part to an end.
@@ -34,8 +35,8 @@ pub fn every_flash_boots()
 
 /// An attempt that ended in the flash is one over each flash with the same bytes up to there.
 pub fn only_taken_bytes_count()
-    ensures { (part : PartData) (flash other : List ℕ) (t : AttemptCourse) → IsAttemptOver part flash t → t.wrapped ≡ false
-        → take (attempt_end t) other ≡ take (attempt_end t) flash → IsAttemptOver part other t }
+    ensures { (part : PartData) (flash other : List ℕ) (t : AttemptCourse) → IsFlashAttempt part flash t → t.wrapped ≡ false
+        → take (attempt_end t) other ≡ take (attempt_end t) flash → IsFlashAttempt part other t }
 {}
 
 /// A boot has a course, and attempts through which the flash leads to an end are those of each course over it.
@@ -48,7 +49,7 @@ pub fn one_course()
 /// A flash has one boot of a part: an attempt is determined by what it keeps and its address, and a boot's attempts,
 /// its last one and its end by the bytes.
 pub fn one_boot()
-    ensures attempt { (part : PartData) (flash : List ℕ) (s t : AttemptCourse) → IsAttemptOver part flash s → IsAttemptOver part flash t → s.kept ≡ t.kept → s.address ≡ t.address → s ≡ t }
+    ensures attempt { (part : PartData) (flash : List ℕ) (s t : AttemptCourse) → IsFlashAttempt part flash s → IsFlashAttempt part flash t → s.kept ≡ t.kept → s.address ≡ t.address → s ≡ t }
     ensures boot { (part : PartData) (flash : List ℕ) (a b : BootedState) → IsBoot part flash a → IsBoot part flash b → (a.attempts ≡ b.attempts) × (a.end ≡ b.end) }
     ensures last { (part : PartData) (flash : List ℕ) (a b : BootedState) → (x : IsBoot part flash a) → (y : IsBoot part flash b) → x.last ≡ y.last }
 {}

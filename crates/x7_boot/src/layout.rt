@@ -7,7 +7,7 @@ use crate::fault::ImageFault;
 use std::alloc::Global;
 use x7_packets::{DUMMY_WORD, SLOT_COUNT, SYNC_WORD, flash_slot};
 use x7_part::Part;
-use x7_words::{FLASH_LIMIT, NoMemory, SECTOR_BYTES, bytes_of};
+use x7_words::{ERASED_BYTE, FLASH_LIMIT, NoMemory, SECTOR_BYTES, bytes_of};
 
 /// The first place at or after this one at which a sector begins.
 fn sector_from(place: u64) -> u64
@@ -18,31 +18,31 @@ fn sector_from(place: u64) -> u64
     (place + (SECTOR_BYTES - 1)) / SECTOR_BYTES * SECTOR_BYTES
 }
 
-/// What the lengths of an image's streams fix.
+/// What the lengths of a golden and an update stream fix of their image.
 #[derive(Clone, Copy)]
-struct Places {
+struct ImageShape {
     /// The update's place, in bytes.
-    place: u64,
+    update_place: u64,
     /// The image's size, in bytes.
     size: u64,
 }
 
-/// The update's place and the image's size, by the lengths of both streams; none where the
-/// image would be larger than a flash may be.
-fn places_of(golden: u64, update: u64) -> Option<Places>
-    ensures found { IfSome result (λ it. (it.place ≡ place_after_golden golden) × (it.size ≡ image_size golden update) × (it.size ≤ flash_limit)) }
+/// The update's place and the image's size, by the lengths of both streams in bytes; none where the image would be
+/// larger than a flash may be.
+fn shape_of(golden: u64, update: u64) -> Option<ImageShape>
+    ensures found { IfSome result (λ it. (it.update_place ≡ place_after_golden golden) × (it.size ≡ image_size golden update) × (it.size ≤ flash_limit)) }
     ensures none { IfNone result (flash_limit < image_size golden update) }
 {
     if golden > FLASH_LIMIT - SECTOR_BYTES {
         return None;
     }
-    let place = sector_from(SECTOR_BYTES + golden).max(2 * SECTOR_BYTES);
-    if update > FLASH_LIMIT - place {
+    let update_place = sector_from(SECTOR_BYTES + golden).max(2 * SECTOR_BYTES);
+    if update > FLASH_LIMIT - update_place {
         return None;
     }
-    Some(Places {
-        place,
-        size: sector_from(place + update),
+    Some(ImageShape {
+        update_place,
+        size: sector_from(update_place + update),
     })
 }
 
@@ -54,7 +54,7 @@ fn slot(switch: u32, start: u32) -> [u8; 32]
     flash_slot(bytes_of(switch), bytes_of(start))
 }
 
-/// All slots of a sector but the first, free.
+/// The slots of the first sector after its first, which are free and lead to the start address.
 #[tactic(auto, unfolding(crate::specs::Image::free_slots, crate::specs::Image::slot))]
 fn free_slots(alloc: Global, start: u32) -> Result<Vec<u8>, NoMemory>
     ensures items { IfOk result (λ all. all.items ≡ free_slots start) }
@@ -63,7 +63,7 @@ fn free_slots(alloc: Global, start: u32) -> Result<Vec<u8>, NoMemory>
     Ok(slot(DUMMY_WORD, start).repeat(alloc, SLOT_COUNT as usize - 1)?)
 }
 
-/// Appends the first sector.
+/// Appends the first sector of an image, which leads to the start address.
 fn put_first_sector(alloc: Global, out: &mut Vec<u8>, start: u32) -> Result<(), NoMemory>
     ensures items { OnOk result (out.new.items ≡ out.old.items ++ first_sector start) }
     ensures length { OnOk result (length out.new.items ≡ length out.old.items + sector_bytes) }
@@ -74,13 +74,13 @@ fn put_first_sector(alloc: Global, out: &mut Vec<u8>, start: u32) -> Result<(), 
     Ok(())
 }
 
-/// Appends FF up to a place.
+/// Appends FF up to a place, so many bytes from the first.
 fn fill(out: &mut Vec<u8>, place: u64) -> Result<(), NoMemory>
     requires { length out.old.items ≤ place }
     ensures items { OnOk result (out.new.items ≡ filled_to place out.old.items) }
     ensures length { OnOk result (length out.new.items ≡ place) }
 {
-    out.resize(place as usize, 0xFF)?;
+    out.resize(place as usize, ERASED_BYTE)?;
     Ok(())
 }
 
@@ -90,34 +90,35 @@ fn image_of_size(
     alloc: Global,
     start: u32,
     golden: &[u8],
-    place: u64,
+    update_place: u64,
     update: &[u8],
     size: u64,
 ) -> Result<Vec<u8>, NoMemory>
-    requires golden { length golden.now + sector_bytes ≤ place }
-    requires update { place + length update.now ≤ size }
-    ensures { IfOk result (λ all. all.items ≡ filled_to size (filled_to place (first_sector start ++ golden.now) ++ update.now)) }
+    requires golden { length golden.now + sector_bytes ≤ update_place }
+    requires update { update_place + length update.now ≤ size }
+    ensures { IfOk result (λ all. all.items ≡ filled_to size (filled_to update_place (first_sector start ++ golden.now) ++ update.now)) }
 {
     let mut all = Vec::with_capacity(alloc, size as usize)?;
     put_first_sector(alloc, &mut all, start)?;
     all.extend_from_slice(golden)?;
-    fill(&mut all, place)?;
+    fill(&mut all, update_place)?;
     all.extend_from_slice(update)?;
     fill(&mut all, size)?;
     Ok(all)
 }
 
 /// The image of two streams, for a part of which one step of the start address stands for `unit` bytes.
-fn image_by(alloc: Global, unit: u32, golden: &[u8], update: &[u8]) -> Result<Vec<u8>, ImageFault>
+fn image_of(alloc: Global, unit: u32, golden: &[u8], update: &[u8]) -> Result<Vec<u8>, ImageFault>
     requires { 0 < unit }
     ensures bytes { IfOk result (λ all. all.items ≡ image_of unit golden.now update.now) }
     ensures too_long { (result ≡ Err ImageFault.TooLong) ↔ (flash_limit < image_size (length golden.now) (length update.now)) }
 {
-    let Some(Places { place, size }) = places_of(golden.len() as u64, update.len() as u64) else {
+    let Some(ImageShape { update_place, size }) = shape_of(golden.len() as u64, update.len() as u64)
+    else {
         return Err(ImageFault::TooLong);
     };
-    let start = place as u32 / unit;
-    match image_of_size(alloc, start, golden, place, update, size) {
+    let start = update_place as u32 / unit;
+    match image_of_size(alloc, start, golden, update_place, update, size) {
         Ok(image) => Ok(image),
         Err(NoMemory) => Err(ImageFault::NoMemory),
     }
@@ -130,7 +131,7 @@ pub fn image(alloc: Global, golden: &[u8], update: &[u8]) -> Result<Vec<u8>, Ima
     ensures bytes { IfOk result (λ all. all.items ≡ image_of 1 golden.now update.now) }
     ensures too_long { (result ≡ Err ImageFault.TooLong) ↔ (flash_limit < image_size (length golden.now) (length update.now)) }
 {
-    image_by(alloc, 1, golden, update)
+    image_of(alloc, 1, golden, update)
 }
 
 /// The flash image of a golden and an update stream for a part, by the number of bytes that one
@@ -144,5 +145,5 @@ pub fn image_for(
     ensures bytes { IfOk result (λ all. all.items ≡ image_of part.now.start_unit golden.now update.now) }
     ensures too_long { (result ≡ Err ImageFault.TooLong) ↔ (flash_limit < image_size (length golden.now) (length update.now)) }
 {
-    image_by(alloc, part.start_unit(), golden, update)
+    image_of(alloc, part.start_unit(), golden, update)
 }

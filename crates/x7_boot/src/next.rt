@@ -18,6 +18,15 @@ use x7_regs::{Kind, forbids_fallback};
 /// The most attempts of a boot that may end by IPROG (this project's choice).
 const MOST_IPROGS: u32 = 16;
 
+/// How many bits of WBSTAR, from bit 0 up, are a start address that counts bytes.
+const START_BITS: u32 = 29;
+
+/// How many bytes one step of a start address stands for where the flash's addresses have 32 bits.
+const LARGE_UNIT: u32 = 256;
+
+/// How many bits of WBSTAR, from bit 0 up, are a start address that counts steps of `LARGE_UNIT` bytes.
+const LARGE_START_BITS: u32 = 24;
+
 /// What comes after an attempt of a boot.
 #[derive(Clone, Copy)]
 pub enum Next {
@@ -36,15 +45,15 @@ pub enum Next {
 fn start_address(unit: u32, wbstar: u32) -> u32
     ensures { result ≡ start_address unit wbstar }
 {
-    if unit == 256 {
-        256 * (wbstar % (1 << 24))
+    if unit == LARGE_UNIT {
+        LARGE_UNIT * (wbstar % (1 << LARGE_START_BITS))
     } else {
-        wbstar % (1 << 29)
+        wbstar % (1 << START_BITS)
     }
 }
 
-/// What comes after attempt `number`, from 1, by its kind, its ending and its device.
-pub(crate) fn next_of(device: &Device, kind: Kind, number: u32, ending: Ending) -> Next
+/// What comes after attempt `number`, from 1, by its kind, its ending and the device that it left.
+pub(crate) fn next_by(device: &Device, kind: Kind, number: u32, ending: Ending) -> Next
     ensures table { (part : PartData) (t : AttemptCourse) → IsDeviceOf part device.now t → t.kept.kind ≡ kind → result ≡ next_by part number t ending }
     ensures not_on_bench { (kept : KeptData) (address : ℕ) → result ≡ next.Again kept address → kept.kind ≡ Bench → ⊥ }
     ensures no_second_fallback { (kept : KeptData) (address : ℕ) → result ≡ next.Again kept address → is_fallback kept.kind ≡ true → is_fallback kind ≡ false }
@@ -58,7 +67,7 @@ pub(crate) fn next_of(device: &Device, kind: Kind, number: u32, ending: Ending) 
             }
             let address = start_address(device.part().start_unit(), device.state().wbstar);
             Next::Again {
-                kept: kept_by(device, Kind::Iprog),
+                kept: kept_after(device, Kind::Iprog),
                 address,
             }
         }
@@ -67,15 +76,15 @@ pub(crate) fn next_of(device: &Device, kind: Kind, number: u32, ending: Ending) 
                 return Next::Ends(BootEnd::Stopped);
             }
             Next::Again {
-                kept: kept_by(device, Kind::Fallback),
+                kept: kept_after(device, Kind::Fallback),
                 address: 0,
             }
         }
     }
 }
 
-/// What the next attempt, of this kind, keeps.
-fn kept_by(device: &Device, kind: Kind) -> Kept
+/// What the next attempt, of this kind, keeps over the reset of the device with which this one ended.
+fn kept_after(device: &Device, kind: Kind) -> Kept
     ensures kind { result.kind ≡ kind }
     ensures kept { (part : PartData) (t : AttemptCourse) → IsDeviceOf part device.now t → result ≡ kept_after part t.kept t.wrapped t.bytes kind }
 {

@@ -9,7 +9,7 @@ use x7_text::{hex_of_word, make_room, put, put_decimal, put_text};
 use x7_words::NoMemory;
 
 /// What began an attempt, in a word.
-fn kind_words(kind: Kind) -> &'static [u8]
+fn kind_text(kind: Kind) -> &'static [u8]
     ensures word { result.now ≡ kind_text kind }
     ensures short { length result.now ≤ 8 }
 {
@@ -22,7 +22,7 @@ fn kind_words(kind: Kind) -> &'static [u8]
 }
 
 /// What an attempt failed by, in a word.
-fn cause_words(cause: Cause) -> &'static [u8]
+fn cause_text(cause: Cause) -> &'static [u8]
     ensures word { result.now ≡ cause_text cause }
     ensures short { length result.now ≤ 8 }
 {
@@ -35,19 +35,19 @@ fn cause_words(cause: Cause) -> &'static [u8]
 }
 
 /// How an attempt ended, in a word.
-fn ending_words(ending: Ending) -> &'static [u8]
+fn ending_text(ending: Ending) -> &'static [u8]
     ensures word { result.now ≡ ending_text ending }
     ensures short { length result.now ≤ 8 }
 {
     match ending {
         Ending::Started => b"started",
         Ending::Iprog => b"iprog",
-        Ending::Failed(cause) => cause_words(cause),
+        Ending::Failed(cause) => cause_text(cause),
     }
 }
 
-/// How a boot ended, as a line.
-fn end_line(end: BootEnd) -> &'static [u8]
+/// How a boot ended, as the last line of its text.
+fn boot_end_text(end: BootEnd) -> &'static [u8]
     ensures { result.now ≡ boot_end_text end }
 {
     match end {
@@ -70,11 +70,11 @@ fn put_attempt(text: &mut Vec<u8>, number: u64, tried: &Tried) -> Result<(), NoM
     put(text, b"attempt ");
     put_decimal(text, number);
     put(text, b" ");
-    put(text, kind_words(tried.kind));
+    put(text, kind_text(tried.kind));
     put(text, b" ");
     put(text, &hex_of_word(tried.address));
     put(text, b" ");
-    put(text, ending_words(tried.ending));
+    put(text, ending_text(tried.ending));
     put(text, b"\n");
     Ok(())
 }
@@ -111,7 +111,7 @@ fn put_boot(
     put_text(text, name.as_bytes())?;
     put_text(text, b"\n")?;
     put_attempts(text, attempts)?;
-    put_text(text, end_line(end))?;
+    put_text(text, boot_end_text(end))?;
     Ok(())
 }
 

@@ -34,7 +34,7 @@ use Rattle.x7_effects.proofs.Items as item
 use Rattle.x7_effects.proofs.Items.{WriteLong, Write, item_entered, writes_entered}
 use Rattle.x7_effects.proofs.Checking.{Check, Piece, Put, piece_length, pieces_length}
 use Rattle.x7_effects.proofs.Frames.{frames_at, joined}
-use Rattle.x7_effects.specs.Played.{PlaysFull, resting_after}
+use Rattle.x7_effects.specs.Played.{PlaysFull, device_after}
 use Rattle.x7_effects.proofs.Streams.{command, full_pieces, full_stream, one, stream_of}
 use Rattle.x7_effects.proofs.CalmLemmas.{IsCalm, calm_access, calm_bytes}
 use Rattle.x7_effects.proofs.EndLemmas.{HasPlayed, played, ready_check}
@@ -199,7 +199,7 @@ first_in [] l = absurd (omega arith)
 first_in (far ∷ fars) l = (0, omega arith, refl)
 
 pub full_plays : (part : PartData) (kept : Kept) (bytes : List ℕ) (plan : PlanData) → AreBytes bytes → AtRest part kept bytes → IsPart part → IsPlan plan → plan.width ≡ frame_words part
-    → ((far : ℕ) → Contains (planned_addresses plan.rows) far → Contains (addresses_in part) far) → PlaysFull (resting_after part kept bytes) (full_stream part plan) plan
+    → ((far : ℕ) → Contains (planned_addresses plan.rows) far → Contains (addresses_in part) far) → PlaysFull (device_after part kept bytes) (full_stream part plan) plan
 full_plays part kept bytes plan f r is p e within =
     let h : History = history_of bytes in
     let n : ℕ = length bytes + 36 in

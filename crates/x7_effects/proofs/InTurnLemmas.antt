@@ -17,7 +17,7 @@ use Rattle.x7_planner.specs.Writer.{StreamPiece, Words, Check, bytes_of_words, c
 use Rattle.x7_engine.specs.declared.kept.Kept.{Kept}
 use Rattle.x7_engine.specs.Rest.{AtRest}
 use Rattle.x7_engine.specs.State.{memory_in, reads_of}
-use Rattle.x7_effects.specs.Played.{PlaysBoth, PlaysFull, PlaysPartial, PlaysRead, ReadsBack, resting_after, words_along}
+use Rattle.x7_effects.specs.Played.{PlaysBoth, PlaysFull, PlaysPartial, PlaysRead, ReadsBack, play_after, device_after, words_along}
 use Rattle.x7_effects.proofs.LawLemmas.{full_law, partial_law, read_law}
 use Rattle.x7_effects.proofs.ReadbackLemmas.{along_same}
 use Rattle.x7_effects.proofs.StreamLemmas.{bytes_fit}
@@ -46,9 +46,9 @@ partial_fits part bytes rows f =
 
 -- a read stream after bytes that read nothing out and left this memory
 reads_back : (part : PartData) (kept : Kept) (bytes written : List ℕ) (m : FrameMap) (far n : ℕ) → AreBytes written → AtRest part kept written → IsPart part → CanRead part far n
-    → reads_of part kept written ≡ reads_of part kept bytes → AreSame (memory_in part kept written) m → ReadsBack (resting_after part kept bytes) written m far n
+    → reads_of part kept written ≡ reads_of part kept bytes → AreSame (memory_in part kept written) m → ReadsBack (device_after part kept bytes) written m far n
 reads_back part kept bytes written m far n f r is can none same =
-    let read : PlaysRead (resting_after part kept written) (read_stream part far n) far n = read_law part kept written far n f r is can in
+    let read : PlaysRead (device_after part kept written) (read_stream part far n) far n = read_law part kept written far n f r is can in
     record {
       reads = read.reads
           ∙ ap (λ t. t ++ words_along part (memory_in part kept written) far n) none
@@ -59,23 +59,23 @@ reads_back part kept bytes written m far n f r is can none same =
     }
 
 pub full_reads_back : (part : PartData) (kept : Kept) (bytes : List ℕ) (plan : PlanData) (far n : ℕ) → AreBytes bytes → AtRest part kept bytes → IsPart part → IsPlanFor part plan → CanRead part far n
-    → ReadsBack (resting_after part kept bytes) (bytes ++ full_stream part plan) (total part plan) far n
+    → ReadsBack (device_after part kept bytes) (bytes ++ full_stream part plan) (total part plan) far n
 full_reads_back part kept bytes plan far n f r is p can =
-    let full : PlaysFull (resting_after part kept bytes) (full_stream part plan) plan = full_law part kept bytes plan f r is p.is_plan p.width p.addressed in
+    let full : PlaysFull (device_after part kept bytes) (full_stream part plan) plan = full_law part kept bytes plan f r is p.is_plan p.width p.addressed in
     reads_back part kept bytes (bytes ++ full_stream part plan) (total part plan) far n (full_fits part bytes plan f) full.rests is can full.reads full.memory
 
 pub partial_reads_back : (part : PartData) (kept : Kept) (bytes : List ℕ) (plan : PlanData) (far n : ℕ) → AreBytes bytes → AtRest part kept bytes → IsPart part → IsPlanFor part plan → CanRead part far n
-    → ReadsBack (resting_after part kept bytes) (bytes ++ partial_stream part plan.rows) (override (memory_in part kept bytes) (planned plan.rows)) far n
+    → ReadsBack (device_after part kept bytes) (bytes ++ partial_stream part plan.rows) (override (memory_in part kept bytes) (planned plan.rows)) far n
 partial_reads_back part kept bytes plan far n f r is p can =
-    let partial : PlaysPartial (resting_after part kept bytes) (partial_stream part plan.rows) plan = partial_law part kept bytes plan f r is p.is_plan p.width p.addressed in
+    let partial : PlaysPartial (device_after part kept bytes) (partial_stream part plan.rows) plan = partial_law part kept bytes plan f r is p.is_plan p.width p.addressed in
     reads_back part kept bytes (bytes ++ partial_stream part plan.rows) (override (memory_in part kept bytes) (planned plan.rows)) far n (partial_fits part bytes plan.rows f) partial.rests is can partial.reads partial.memory
 
 pub both_play : (part : PartData) (kept : Kept) (bytes : List ℕ) (plan later : PlanData) → AreBytes bytes → AtRest part kept bytes → IsPart part → IsPlanFor part plan → IsPlanFor part later
-    → PlaysBoth part kept ((bytes ++ full_stream part plan) ++ partial_stream part later.rows) plan later
+    → PlaysBoth (play_after part kept bytes plan) later
 both_play part kept bytes plan later f r is p q =
     let longer : List ℕ = bytes ++ full_stream part plan in
-    let full : PlaysFull (resting_after part kept bytes) (full_stream part plan) plan = full_law part kept bytes plan f r is p.is_plan p.width p.addressed in
-    let partial : PlaysPartial (resting_after part kept longer) (partial_stream part later.rows) later = partial_law part kept longer later (full_fits part bytes plan f) full.rests is q.is_plan q.width q.addressed in
+    let full : PlaysFull (device_after part kept bytes) (full_stream part plan) plan = full_law part kept bytes plan f r is p.is_plan p.width p.addressed in
+    let partial : PlaysPartial (device_after part kept longer) (partial_stream part later.rows) later = partial_law part kept longer later (full_fits part bytes plan f) full.rests is q.is_plan q.width q.addressed in
     record {
       memory = λ far. partial.memory far ∙ ap (λ o. option_or (planned later.rows far) o) (full.memory far);
       phase = λ wrapped. partial.phase wrapped ∙ full.phase wrapped;

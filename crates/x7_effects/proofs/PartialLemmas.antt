@@ -24,7 +24,7 @@ use Rattle.x7_effects.proofs.Items as item
 use Rattle.x7_effects.proofs.Checking.{ArePieces, Check, Piece, Put, pieces_length}
 use Rattle.x7_planner.specs.PartialStream.{sections_of}
 use Rattle.x7_effects.proofs.Groups.{plan_pieces, put_sections}
-use Rattle.x7_effects.specs.Played.{PlaysPartial, resting_after}
+use Rattle.x7_effects.specs.Played.{PlaysPartial, device_after}
 use Rattle.x7_planner.specs.PartialStream.{Section}
 use Rattle.x7_planner.proofs.FewLemmas as few
 use Rattle.x7_effects.proofs.Streams.{HaveWords, command, one, stream_of, sections_pieces}
@@ -71,7 +71,7 @@ partial_fits_plan part plan is p e within =
     (subst (λ (w : ℕ). All (λ row. length row.words ≡ w) plan.rows) e p.width)
 
 pub partial_plays : (part : PartData) (kept : Kept) (bytes : List ℕ) (plan : PlanData) → AreBytes bytes → AtRest part kept bytes → IsPart part → IsPlan plan → plan.width ≡ frame_words part
-    → All (λ row. Contains (addresses_in part) row.far) plan.rows → PlaysPartial (resting_after part kept bytes) (stream_of (plan_pieces part plan.rows) 4) plan
+    → All (λ row. Contains (addresses_in part) row.far) plan.rows → PlaysPartial (device_after part kept bytes) (stream_of (plan_pieces part plan.rows) 4) plan
 partial_plays part kept bytes plan f r is p e within =
     let rows : List PlanRow = plan.rows in
     let h : History = history_of bytes in

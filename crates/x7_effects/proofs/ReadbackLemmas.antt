@@ -37,7 +37,7 @@ use Rattle.x7_engine.specs.Stop.{why_at}
 use Rattle.x7_engine.specs.Value.{words_read_by, read_out, read_value, words_of_read}
 use Rattle.x7_engine.proofs.UntilLemmas.{phase_going}
 use Rattle.x7_effects.proofs.Checking.{Piece, pieces_length}
-use Rattle.x7_effects.specs.Played.{PlaysRead, resting_after, slot_words, words_along}
+use Rattle.x7_effects.specs.Played.{PlaysRead, device_after, slot_words, words_along}
 use Rattle.x7_effects.proofs.Streams.{read_pieces, read_stream, stream_of}
 use Rattle.x7_effects.proofs.EndLemmas.{HasPlayed, lines_going, memory_all, played, reads_all}
 use Rattle.x7_effects.proofs.FormLemmas.{read_clears, read_fits}
@@ -100,7 +100,7 @@ read_room part far n is h l =
 -- ---- played
 
 pub read_plays : (part : PartData) (kept : Kept) (bytes : List ℕ) (far n : ℕ) → AreBytes bytes → AtRest part kept bytes → IsPart part → Contains (addresses_in part) far → n ≤ length (slots_from part far)
-    → PlaysRead (resting_after part kept bytes) (read_stream part far n) far n
+    → PlaysRead (device_after part kept bytes) (read_stream part far n) far n
 read_plays part kept bytes far n f r is has l =
     let h : History = history_of bytes in
     let place : ℕ = length bytes + 36 in

@@ -10,7 +10,7 @@ use Rattle.x7_packets.specs.Reading.{is_synced}
 use Rattle.x7_packets.proofs.EndedLemmas.{has_ended}
 use Rattle.x7_packets.proofs.GrowthLemmas.{placed_of}
 use Rattle.x7_part.specs.Part.{PartData}
-use Rattle.x7_startup.specs.Startup.{NotBegun, StartupProgress, is_armed, since_taking}
+use Rattle.x7_startup.specs.Startup.{NotBegun, StartupProgress, is_armed, since_shutdown}
 use Rattle.x7_startup.specs.Startup as call
 use Rattle.x7_regs.specs.Control.{forbids_reading}
 use Rattle.x7_flow.specs.Controls.{ctl0_held}
@@ -44,8 +44,8 @@ desync_asks h (access.Write r w) e = by (r == 4) (w % 2 ^ 5 == 13) refl refl e
         let thirteen : w % 2 ^ 5 ≡ 13 = grind (arith, nat_tests, g) in
         subst (λ (x : ℕ). startup_call h (access.Write x w) ≡ call.Desync (last_word 9 0 h) ∷ []) (sym four) (desync_call h w thirteen)
 
-not_armed : (h : History) (n : ℕ) → newest_place h ≤ n → HasEnded h → is_armed false (since_taking (startup_calls h n)) ≡ false
-not_armed h n l (inl e) = subst (λ (x : History). is_armed false (since_taking (startup_calls x n)) ≡ false) (sym e) (never_armed n)
+not_armed : (h : History) (n : ℕ) → newest_place h ≤ n → HasEnded h → is_armed false (since_shutdown (startup_calls h n)) ≡ false
+not_armed h n l (inl e) = subst (λ (x : History). is_armed false (since_shutdown (startup_calls x n)) ≡ false) (sym e) (never_armed n)
 not_armed [] n l (inr e) = absurd (cc)
 not_armed (e ∷ h) n l (inr d) = disarmed h e.access e.place n (last_word 9 0 h) (desync_asks h e.access d) l
 

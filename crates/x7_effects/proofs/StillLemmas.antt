@@ -3,7 +3,7 @@ use Rattle.std.proofs.Common.{◌≡◌, ◌/◌, ◌+◌, ◌-◌, ◌≤◌, �
 use Rattle.x7_packets.specs.History.{Access, History, entry}
 use Rattle.x7_part.specs.Part.{PartData}
 use Rattle.x7_startup.specs.Phases.{IsPhase, arrival, wait_of}
-use Rattle.x7_startup.specs.Startup.{Begun, Call, NotBegun, StartupProgress, cor0_of, is_armed, progress_of, since_taking}
+use Rattle.x7_startup.specs.Startup.{Begun, Call, NotBegun, StartupProgress, cor0_of, is_armed, progress_of, since_shutdown}
 use Rattle.x7_startup.specs.Startup as call
 use Rattle.x7_startup.specs.Lines.{done_line, gts_line, gwe_line}
 use Rattle.x7_startup.specs.declared.lines.Lines.{Lines}
@@ -17,14 +17,14 @@ use Rattle.x7_engine.proofs.StartupLemmas.{phase_is}
 
 -- whether startup is armed after n bytes, and how far it is
 pub record HasStartup (h : History) (n : ℕ) (armed : Bool) (progress : StartupProgress) : Type 0 where
-  pub armed_is : is_armed false (since_taking (startup_calls h n)) ≡ armed
+  pub armed_is : is_armed false (since_shutdown (startup_calls h n)) ≡ armed
   pub progress_is : startup_progress h n ≡ progress
 
 pub startup_bytes : (h : History) (n m : ℕ) (armed : Bool) (progress : StartupProgress) → newest_place h ≤ n → n ≤ m → HasStartup h n armed progress → HasStartup h m armed (further (m - n) progress)
 startup_bytes h n m armed progress l k s =
     let sum : n + (m - n) ≡ m = omega (arith, k) in
     subst (λ (x : ℕ). HasStartup h x armed (further (m - n) progress)) sum (record {
-      armed_is = ap (λ (t : List Call). is_armed false (since_taking t)) (startup_more h n (m - n) l) ∙ is_armed_bytes (startup_calls h n) (m - n) ∙ s.armed_is;
+      armed_is = ap (λ (t : List Call). is_armed false (since_shutdown t)) (startup_more h n (m - n) l) ∙ is_armed_bytes (startup_calls h n) (m - n) ∙ s.armed_is;
       progress_is = ap progress_of (startup_more h n (m - n) l) ∙ progress_bytes (startup_calls h n) (m - n) ∙ ap (further (m - n)) s.progress_is;
     })
 
@@ -37,7 +37,7 @@ pub startup_none : (h : History) (access : Access) (place : ℕ) (armed : Bool) 
 startup_none h access place armed progress e s =
     let same : startup_calls (entry access place ∷ h) place ≡ startup_calls h place = entered_by h access place [] e ∙ append-nil (startup_calls h place) in
     record {
-      armed_is = ap (λ (t : List Call). is_armed false (since_taking t)) same ∙ s.armed_is;
+      armed_is = ap (λ (t : List Call). is_armed false (since_shutdown t)) same ∙ s.armed_is;
       progress_is = ap progress_of same ∙ s.progress_is;
     }
 
@@ -46,7 +46,7 @@ pub startup_armed : (h : History) (access : Access) (place : ℕ) (armed : Bool)
 startup_armed h access place armed progress e s =
     let calls : startup_calls (entry access place ∷ h) place ≡ startup_calls h place ++ call.Arm ∷ [] = entered_by h access place (call.Arm ∷ []) e in
     record {
-      armed_is = ap (λ (t : List Call). is_armed false (since_taking t)) calls ∙ is_armed_arm (startup_calls h place);
+      armed_is = ap (λ (t : List Call). is_armed false (since_shutdown t)) calls ∙ is_armed_arm (startup_calls h place);
       progress_is = ap progress_of calls ∙ progress_arm (startup_calls h place) ∙ s.progress_is;
     }
 
@@ -55,7 +55,7 @@ pub startup_dropped : (h : History) (access : Access) (place : ℕ) → startup_
 startup_dropped h access place e =
     let calls : startup_calls (entry access place ∷ h) place ≡ startup_calls h place ++ call.DropBack ∷ [] = entered_by h access place (call.DropBack ∷ []) e in
     record {
-      armed_is = ap (λ (t : List Call). is_armed false (since_taking t)) calls ∙ is_armed_drop (startup_calls h place);
+      armed_is = ap (λ (t : List Call). is_armed false (since_shutdown t)) calls ∙ is_armed_drop (startup_calls h place);
       progress_is = ap progress_of calls ∙ progress_drop (startup_calls h place);
     }
 
@@ -65,20 +65,20 @@ pub startup_desynced : (h : History) (access : Access) (place cor0 : ℕ) (armed
 startup_desynced h access place cor0 armed progress e s =
     let calls : startup_calls (entry access place ∷ h) place ≡ startup_calls h place ++ call.Desync cor0 ∷ [] = entered_by h access place (call.Desync cor0 ∷ []) e in
     record {
-      armed_is = ap (λ (t : List Call). is_armed false (since_taking t)) calls ∙ is_armed_desync (startup_calls h place) cor0;
+      armed_is = ap (λ (t : List Call). is_armed false (since_shutdown t)) calls ∙ is_armed_desync (startup_calls h place) cor0;
       progress_is = ap progress_of calls ∙ progress_desync (startup_calls h place) cor0
-          ∙ ap (λ (p : StartupProgress). first_place p (is_armed false (since_taking (startup_calls h place))) cor0) s.progress_is
+          ∙ ap (λ (p : StartupProgress). first_place p (is_armed false (since_shutdown (startup_calls h place))) cor0) s.progress_is
           ∙ ap (λ (b : Bool). first_place progress b cor0) s.armed_is;
     }
 
 -- DESYNC is the newest access, or there is none: startup isn't armed
-pub never_armed : (n : ℕ) → is_armed false (since_taking (startup_calls [] n)) ≡ false
+pub never_armed : (n : ℕ) → is_armed false (since_shutdown (startup_calls [] n)) ≡ false
 never_armed n = is_armed_bytes [] n
 
-pub disarmed : (h : History) (access : Access) (place n cor0 : ℕ) → startup_call h access ≡ call.Desync cor0 ∷ [] → place ≤ n → is_armed false (since_taking (startup_calls (entry access place ∷ h) n)) ≡ false
+pub disarmed : (h : History) (access : Access) (place n cor0 : ℕ) → startup_call h access ≡ call.Desync cor0 ∷ [] → place ≤ n → is_armed false (since_shutdown (startup_calls (entry access place ∷ h) n)) ≡ false
 disarmed h access place n cor0 e l =
-    let here : HasStartup (entry access place ∷ h) place false (first_place (startup_progress h place) (is_armed false (since_taking (startup_calls h place))) cor0) =
-    startup_desynced h access place cor0 (is_armed false (since_taking (startup_calls h place))) (startup_progress h place) e (record { armed_is = refl; progress_is = refl }) in
+    let here : HasStartup (entry access place ∷ h) place false (first_place (startup_progress h place) (is_armed false (since_shutdown (startup_calls h place))) cor0) =
+    startup_desynced h access place cor0 (is_armed false (since_shutdown (startup_calls h place))) (startup_progress h place) e (record { armed_is = refl; progress_is = refl }) in
     (startup_bytes (entry access place ∷ h) place n false _ (omega arith) l here).armed_is
 
 -- ---- startup that hasn't begun and isn't armed, or has ended, as in a progress: the phase and the COR0 that it began with
@@ -151,7 +151,7 @@ pub still_desynced : (part : PartData) (startup : StartupProgress) (h : History)
 still_desynced part startup h access place cor0 e (inl s) = inl (startup_desynced h access place cor0 false NotBegun e s.0, s.1)
 still_desynced part startup h access place cor0 e (inr s) =
     let calls : startup_calls (entry access place ∷ h) place ≡ startup_calls h place ++ call.Desync cor0 ∷ [] = entered_by h access place (call.Desync cor0 ∷ []) e in
-    let armed : Bool = is_armed false (since_taking (startup_calls h place)) in
+    let armed : Bool = is_armed false (since_shutdown (startup_calls h place)) in
     let progress : startup_progress (entry access place ∷ h) place ≡ startup_progress h place =
     ap progress_of calls ∙ progress_desync (startup_calls h place) cor0 ∙ goes_on part (startup_progress h place) armed cor0 s.seven in
     inr (record { seven = ap (phase_by part) progress ∙ s.seven; before = s.before; same = ap cor0_of progress ∙ s.same })

@@ -18,45 +18,52 @@ use Rattle.x7_planner.specs.FullStream.{full_stream, zero_frame}
 use Rattle.x7_planner.specs.PartialStream.{partial_stream}
 use Rattle.x7_planner.specs.ReadStream.{read_stream}
 
--- a device that a stream is played on: its part, what its reset kept, and the bytes that it took since then
-pub record Resting : Type 0 where
+-- a device after bytes, on which a stream is played: its part, what its reset kept, and the bytes that it took since
+-- then
+pub record DeviceAfter : Type 0 where
   pub part : PartData
   pub kept : Kept
   pub bytes : List ℕ
 
 -- a device of the part, by what its reset kept and the bytes that it took
-abbrev pub resting_after : PartData → Kept → List ℕ → Resting
-resting_after part kept bytes = record { part = part; kept = kept; bytes = bytes }
+abbrev pub device_after : PartData → Kept → List ℕ → DeviceAfter
+device_after part kept bytes = record { part = part; kept = kept; bytes = bytes }
 
--- the device is at rest, its part is one, and what it took is bytes
-pub record Rests (r : Resting) : Type 0 where
-  pub fits : AreBytes r.bytes
-  pub at_rest : AtRest r.part r.kept r.bytes
-  pub is_part : IsPart r.part
+-- the device is at rest after its bytes, which are bytes, and the numbers of its part are in range
+pub record Rests (d : DeviceAfter) : Type 0 where
+  pub fits : AreBytes d.bytes
+  pub at_rest : AtRest d.part d.kept d.bytes
+  pub is_part : IsPart d.part
 
--- a device of a part at rest after these bytes, and a plan whose stream is played on it
-pub record Playing : Type 0 where
-  pub part : PartData
-  pub kept : Kept
-  pub bytes : List ℕ
+-- a plan whose stream is played, and the device on which it is
+pub record PlannedPlay : Type 0 where
+  pub device : DeviceAfter
   pub plan : PlanData
 
--- the device is at rest after these bytes, and the plan is one for its part
-pub record CanPlay (p : Playing) : Type 0 where
-  pub rests : Rests (resting_after p.part p.kept p.bytes)
-  pub plan_is : IsPlanFor p.part p.plan
+-- the play of a plan's stream on a device of the part, by what its reset kept and the bytes that it took
+abbrev pub play_after : PartData → Kept → List ℕ → PlanData → PlannedPlay
+play_after part kept bytes plan = record { device = device_after part kept bytes; plan = plan }
 
--- the bytes, with the full stream of the plan after them
-abbrev pub with_full : Playing → List ℕ
-with_full p = p.bytes ++ full_stream p.part p.plan
+-- the device is at rest, and the plan is one for its part
+pub record CanPlay (p : PlannedPlay) : Type 0 where
+  pub rests : Rests p.device
+  pub plan_is : IsPlanFor p.device.part p.plan
 
--- the bytes, with the partial stream of the plan after them
-abbrev pub with_partial : Playing → List ℕ
-with_partial p = p.bytes ++ partial_stream p.part p.plan.rows
+-- the device's bytes, and the full stream of the plan after them
+abbrev pub bytes_with_full : PlannedPlay → List ℕ
+bytes_with_full p = p.device.bytes ++ full_stream p.device.part p.plan
 
--- the memory before, with the plan over it
-abbrev pub changed_memory : Playing → FrameMap
-changed_memory p = override (memory_in p.part p.kept p.bytes) (planned p.plan.rows)
+-- the device's bytes, and the partial stream of the plan after them
+abbrev pub bytes_with_partial : PlannedPlay → List ℕ
+bytes_with_partial p = p.device.bytes ++ partial_stream p.device.part p.plan.rows
+
+-- the device's bytes, the full stream of the plan, and after it the partial stream of a later plan
+abbrev pub bytes_with_both : PlannedPlay → PlanData → List ℕ
+bytes_with_both p later = bytes_with_full p ++ partial_stream p.device.part later.rows
+
+-- the memory that the device's bytes left, with the plan over it
+abbrev pub memory_with_plan : PlannedPlay → FrameMap
+memory_with_plan p = override (memory_in p.device.part p.device.kept p.device.bytes) (planned p.plan.rows)
 
 -- the words of a memory at a slot: its frame at an address, zeros at a pad
 abbrev pub slot_words : PartData → FrameMap → Slot → List ℕ
@@ -91,50 +98,46 @@ pub record KeepsSettings (old new : Regs) : Type 0 where
 
 -- After a full stream the memory is the plan over zeros, startup has ended, and its lines are 1. It reads nothing out,
 -- there is no stop, and the device is at rest again.
-pub record PlaysFull (r : Resting) (stream : List ℕ) (plan : PlanData) : Type 0 where
-  pub memory : AreSame (memory_in r.part r.kept (r.bytes ++ stream)) (total r.part plan)
-  pub phase : (wrapped : Bool) → (state_of r.part r.kept wrapped (r.bytes ++ stream)).phase ≡ 7
-  pub lines : (wrapped : Bool) → (state_of r.part r.kept wrapped (r.bytes ++ stream)).lines ≡ all_high
-  pub registers : (wrapped : Bool) → KeepsUnwritten (state_of r.part r.kept wrapped r.bytes) (state_of r.part r.kept wrapped (r.bytes ++ stream))
-  pub reads : reads_of r.part r.kept (r.bytes ++ stream) ≡ reads_of r.part r.kept r.bytes
-  pub rests : AtRest r.part r.kept (r.bytes ++ stream)
+pub record PlaysFull (d : DeviceAfter) (stream : List ℕ) (plan : PlanData) : Type 0 where
+  pub memory : AreSame (memory_in d.part d.kept (d.bytes ++ stream)) (total d.part plan)
+  pub phase : (wrapped : Bool) → (state_of d.part d.kept wrapped (d.bytes ++ stream)).phase ≡ 7
+  pub lines : (wrapped : Bool) → (state_of d.part d.kept wrapped (d.bytes ++ stream)).lines ≡ all_high
+  pub registers : (wrapped : Bool) → KeepsUnwritten (state_of d.part d.kept wrapped d.bytes) (state_of d.part d.kept wrapped (d.bytes ++ stream))
+  pub reads : reads_of d.part d.kept (d.bytes ++ stream) ≡ reads_of d.part d.kept d.bytes
+  pub rests : AtRest d.part d.kept (d.bytes ++ stream)
 
 -- After a partial stream the memory is that before it, overridden by the plan, and phase, lines and settings stay. It
 -- reads nothing out, there is no stop, and the device is at rest again.
-pub record PlaysPartial (r : Resting) (stream : List ℕ) (plan : PlanData) : Type 0 where
-  pub memory : AreSame (memory_in r.part r.kept (r.bytes ++ stream)) (override (memory_in r.part r.kept r.bytes) (planned plan.rows))
-  pub phase : (wrapped : Bool) → (state_of r.part r.kept wrapped (r.bytes ++ stream)).phase ≡ (state_of r.part r.kept wrapped r.bytes).phase
-  pub lines : (wrapped : Bool) → (state_of r.part r.kept wrapped (r.bytes ++ stream)).lines ≡ (state_of r.part r.kept wrapped r.bytes).lines
-  pub registers : (wrapped : Bool) → KeepsSettings (state_of r.part r.kept wrapped r.bytes) (state_of r.part r.kept wrapped (r.bytes ++ stream))
-  pub reads : reads_of r.part r.kept (r.bytes ++ stream) ≡ reads_of r.part r.kept r.bytes
-  pub rests : AtRest r.part r.kept (r.bytes ++ stream)
+pub record PlaysPartial (d : DeviceAfter) (stream : List ℕ) (plan : PlanData) : Type 0 where
+  pub memory : AreSame (memory_in d.part d.kept (d.bytes ++ stream)) (override (memory_in d.part d.kept d.bytes) (planned plan.rows))
+  pub phase : (wrapped : Bool) → (state_of d.part d.kept wrapped (d.bytes ++ stream)).phase ≡ (state_of d.part d.kept wrapped d.bytes).phase
+  pub lines : (wrapped : Bool) → (state_of d.part d.kept wrapped (d.bytes ++ stream)).lines ≡ (state_of d.part d.kept wrapped d.bytes).lines
+  pub registers : (wrapped : Bool) → KeepsSettings (state_of d.part d.kept wrapped d.bytes) (state_of d.part d.kept wrapped (d.bytes ++ stream))
+  pub reads : reads_of d.part d.kept (d.bytes ++ stream) ≡ reads_of d.part d.kept d.bytes
+  pub rests : AtRest d.part d.kept (d.bytes ++ stream)
 
 -- A read stream reads out the words of n slots from an address on; memory, phase, lines and settings stay. There is no
 -- stop, and the device is at rest again.
-pub record PlaysRead (r : Resting) (stream : List ℕ) (far n : ℕ) : Type 0 where
-  pub reads : reads_of r.part r.kept (r.bytes ++ stream) ≡ reads_of r.part r.kept r.bytes ++ words_along r.part (memory_in r.part r.kept r.bytes) far n
-  pub memory : AreSame (memory_in r.part r.kept (r.bytes ++ stream)) (memory_in r.part r.kept r.bytes)
-  pub phase : (wrapped : Bool) → (state_of r.part r.kept wrapped (r.bytes ++ stream)).phase ≡ (state_of r.part r.kept wrapped r.bytes).phase
-  pub lines : (wrapped : Bool) → (state_of r.part r.kept wrapped (r.bytes ++ stream)).lines ≡ (state_of r.part r.kept wrapped r.bytes).lines
-  pub registers : (wrapped : Bool) → KeepsSettings (state_of r.part r.kept wrapped r.bytes) (state_of r.part r.kept wrapped (r.bytes ++ stream))
-  pub rests : AtRest r.part r.kept (r.bytes ++ stream)
+pub record PlaysRead (d : DeviceAfter) (stream : List ℕ) (far n : ℕ) : Type 0 where
+  pub reads : reads_of d.part d.kept (d.bytes ++ stream) ≡ reads_of d.part d.kept d.bytes ++ words_along d.part (memory_in d.part d.kept d.bytes) far n
+  pub memory : AreSame (memory_in d.part d.kept (d.bytes ++ stream)) (memory_in d.part d.kept d.bytes)
+  pub phase : (wrapped : Bool) → (state_of d.part d.kept wrapped (d.bytes ++ stream)).phase ≡ (state_of d.part d.kept wrapped d.bytes).phase
+  pub lines : (wrapped : Bool) → (state_of d.part d.kept wrapped (d.bytes ++ stream)).lines ≡ (state_of d.part d.kept wrapped d.bytes).lines
+  pub registers : (wrapped : Bool) → KeepsSettings (state_of d.part d.kept wrapped d.bytes) (state_of d.part d.kept wrapped (d.bytes ++ stream))
+  pub rests : AtRest d.part d.kept (d.bytes ++ stream)
 
 -- ---- streams one after another
 
--- After these bytes, which left this memory and read out no more than the device's own bytes, the read stream of n
--- slots from an address on reads that memory out, and leaves it.
-pub record ReadsBack (r : Resting) (written : List ℕ) (memory : FrameMap) (far n : ℕ) : Type 0 where
-  pub reads : reads_of r.part r.kept (written ++ read_stream r.part far n) ≡ reads_of r.part r.kept r.bytes ++ words_along r.part memory far n
-  pub same : AreSame (memory_in r.part r.kept (written ++ read_stream r.part far n)) memory
-  pub phase : (wrapped : Bool) → (state_of r.part r.kept wrapped (written ++ read_stream r.part far n)).phase ≡ (state_of r.part r.kept wrapped written).phase
-  pub rests : AtRest r.part r.kept (written ++ read_stream r.part far n)
+-- After the bytes `written`, which left this memory and read out no more than the device's own bytes did, the read
+-- stream of n slots from an address on reads that memory out, and leaves it.
+pub record ReadsBack (d : DeviceAfter) (written : List ℕ) (memory : FrameMap) (far n : ℕ) : Type 0 where
+  pub reads : reads_of d.part d.kept (written ++ read_stream d.part far n) ≡ reads_of d.part d.kept d.bytes ++ words_along d.part memory far n
+  pub same : AreSame (memory_in d.part d.kept (written ++ read_stream d.part far n)) memory
+  pub phase : (wrapped : Bool) → (state_of d.part d.kept wrapped (written ++ read_stream d.part far n)).phase ≡ (state_of d.part d.kept wrapped written).phase
+  pub rests : AtRest d.part d.kept (written ++ read_stream d.part far n)
 
--- the read stream reads this memory back after these bytes, on the device that a plan's stream is played on
-abbrev pub ReadsBackAfter : Playing → List ℕ → FrameMap → ℕ → ℕ → Type 0
-ReadsBackAfter p written memory far n = ReadsBack (resting_after p.part p.kept p.bytes) written memory far n
-
--- After a full stream and a partial one the memory is the later plan over the
--- earlier one over zeros, and startup has ended.
-pub record PlaysBoth (part : PartData) (kept : Kept) (bytes : List ℕ) (plan later : PlanData) : Type 0 where
-  pub memory : AreSame (memory_in part kept bytes) (override (total part plan) (planned later.rows))
-  pub phase : (wrapped : Bool) → (state_of part kept wrapped bytes).phase ≡ 7
+-- After the full stream of a plan and the partial stream of a later one the memory is the later plan over the earlier
+-- one over zeros, and startup has ended.
+pub record PlaysBoth (p : PlannedPlay) (later : PlanData) : Type 0 where
+  pub memory : AreSame (memory_in p.device.part p.device.kept (bytes_with_both p later)) (override (total p.device.part p.plan) (planned later.rows))
+  pub phase : (wrapped : Bool) → (state_of p.device.part p.device.kept wrapped (bytes_with_both p later)).phase ≡ 7

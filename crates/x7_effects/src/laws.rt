@@ -1,7 +1,7 @@
 //! What planned streams do on a device at rest. The functions do nothing: their contracts are the laws.
-ghost use Rattle.std.specs.Prelude.{◌≡◌, ◌++◌, ℕ, List, []};
+ghost use Rattle.std.specs.Prelude.{◌≡◌, ℕ, List, []};
 ghost use Rattle.x7_planner.specs.PartialStream.{AreLongest, WritesOnce, joined_runs, pairs_in, partial_stream, runs_of, sections_of};
-ghost use Rattle.x7_effects.specs.Played.{CanPlay, changed_memory, with_full, with_partial, Playing, PlaysBoth, PlaysFull, PlaysPartial, PlaysRead, ReadsBackAfter, Resting, resting_after, Rests};
+ghost use Rattle.x7_effects.specs.Played.{CanPlay, DeviceAfter, PlannedPlay, PlaysBoth, PlaysFull, PlaysPartial, PlaysRead, ReadsBack, Rests, bytes_with_full, bytes_with_partial, device_after, memory_with_plan};
 ghost use Rattle.x7_engine.specs.Kept.{on_the_bench};
 ghost use Rattle.x7_memory.specs.Plan.{AreInOrder, IsPlanFor, PlanData, PlanRow, total};
 ghost use Rattle.x7_part.specs.Part.{PartData};
@@ -14,14 +14,14 @@ ghost use Rattle.x7_planner.specs.Fault.{CanRead};
 /// startup with DONE, GTS and GWE 1, without a stop, and the device is at rest again; the registers that it doesn't
 /// write stay. So also on a new device.
 pub fn full_streams_play()
-    ensures plays { (r : Resting) (plan : PlanData) → Rests r → IsPlanFor r.part plan → PlaysFull r (full_stream r.part plan) plan }
-    ensures new { (part : PartData) (plan : PlanData) → IsPart part → IsPlanFor part plan → PlaysFull (resting_after part on_the_bench []) (full_stream part plan) plan }
+    ensures plays { (d : DeviceAfter) (plan : PlanData) → Rests d → IsPlanFor d.part plan → PlaysFull d (full_stream d.part plan) plan }
+    ensures new { (part : PartData) (plan : PlanData) → IsPart part → IsPlanFor part plan → PlaysFull (device_after part on_the_bench []) (full_stream part plan) plan }
 {}
 
 /// After any bytes at rest the partial stream of a plan at addresses of the part overrides the memory by just the plan;
 /// phase, lines and settings stay, there is no stop, and the device is at rest again.
 pub fn partial_streams_play()
-    ensures { (r : Resting) (plan : PlanData) → Rests r → IsPlanFor r.part plan → PlaysPartial r (partial_stream r.part plan.rows) plan }
+    ensures { (d : DeviceAfter) (plan : PlanData) → Rests d → IsPlanFor d.part plan → PlaysPartial d (partial_stream d.part plan.rows) plan }
 {}
 
 /// The groups and runs of a plan write each of its rows once, with its frame, and no other address. Runs are their rows
@@ -35,15 +35,14 @@ pub fn partial_streams_write_once()
 /// After any bytes at rest the read stream of n slots from an address on reads out a frame of zeros and the frames
 /// along the slots; memory, phase, lines and settings stay, there is no stop, and the device is at rest again.
 pub fn read_streams_play()
-    ensures { (r : Resting) (far n : ℕ) → Rests r → CanRead r.part far n → PlaysRead r (read_stream r.part far n) far n }
+    ensures { (d : DeviceAfter) (far n : ℕ) → Rests d → CanRead d.part far n → PlaysRead d (read_stream d.part far n) far n }
 {}
 
 /// Streams one after another, from a device at rest on: a read stream after a full one reads the plan over zeros back,
 /// and after a partial one the plan over what was there before; a partial stream after a full one leaves the later plan
-/// over the earlier one, and startup stays ended.
+/// over the earlier one over zeros, and startup stays ended.
 pub fn streams_play_in_turn()
-    ensures full { (p : Playing) (far n : ℕ) → CanPlay p → CanRead p.part far n → ReadsBackAfter p (with_full p) (total p.part p.plan) far n }
-    ensures partial { (p : Playing) (far n : ℕ) → CanPlay p → CanRead p.part far n → ReadsBackAfter p (with_partial p) (changed_memory p) far n }
-    ensures both { (p : Playing) (later : PlanData) → CanPlay p → IsPlanFor p.part later
-        → PlaysBoth p.part p.kept (with_full p ++ partial_stream p.part later.rows) p.plan later }
+    ensures full { (p : PlannedPlay) (far n : ℕ) → CanPlay p → CanRead p.device.part far n → ReadsBack p.device (bytes_with_full p) (total p.device.part p.plan) far n }
+    ensures partial { (p : PlannedPlay) (far n : ℕ) → CanPlay p → CanRead p.device.part far n → ReadsBack p.device (bytes_with_partial p) (memory_with_plan p) far n }
+    ensures both { (p : PlannedPlay) (later : PlanData) → CanPlay p → IsPlanFor p.device.part later → PlaysBoth p later }
 {}

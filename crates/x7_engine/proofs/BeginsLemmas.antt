@@ -2,7 +2,7 @@
 use Rattle.std.proofs.Common.{◌≡◌, ◌||◌, ◌+◌, ◌-◌, ◌≤◌, inl, inr, ◌↔◌, IsTrue, ℕ, Bool, true, false, if◌then◌else◌, Option, None, Some, List, [], ◌∷◌, ◌++◌, refl, ap, sym, subst, ◌∙◌, append-nil, arith}
 use Rattle.x7_packets.specs.History.{Entry, History, Placed, executes, last_word}
 use Rattle.x7_packets.proofs.GrowthLemmas.{placed_within}
-use Rattle.x7_startup.specs.Startup.{Begun, Call, NotBegun, StartupProgress, is_armed, progress_of, since_taking}
+use Rattle.x7_startup.specs.Startup.{Begun, Call, NotBegun, StartupProgress, is_armed, progress_of, since_shutdown}
 use Rattle.x7_startup.specs.Startup as call
 use Rattle.x7_startup.proofs.CallLemmas.{first_place, further, is_armed_arm, is_armed_bytes, is_armed_desync, is_armed_drop, progress_arm, progress_bytes, progress_desync, progress_drop}
 use Rattle.x7_engine.specs.Registers.{takes_shutdown}
@@ -66,7 +66,7 @@ further_by (Some b) m n f l =
 
 -- what a call does to both
 record AfterCall (calls : List Call) (armed : Bool) (o : Option Beginning) (n : ℕ) : Type 0 where
-  armed_is : is_armed false (since_taking calls) ≡ armed
+  armed_is : is_armed false (since_shutdown calls) ≡ armed
   progress_is : progress_of calls ≡ progress_by o n
 
 after_call : (h : History) (e : Entry) (a : Bool) (o : Option Beginning) → AfterCall (startup_calls h e.place) a o e.place
@@ -83,8 +83,8 @@ after_call h e a o s = by (executes 5 h e.access) (takes_shutdown h e.access) (e
     same : (a : Bool) (o : Option Beginning) → AfterCall calls a o e.place → AfterCall (calls ++ []) a o e.place
     same a o s = subst (λ (t : List Call). AfterCall t a o e.place) (sym (append-nil calls)) s
 
-    began : (a : Bool) (o : Option Beginning) → AfterCall calls a o e.place → first_place (progress_of calls) (is_armed false (since_taking calls)) now.cor0 ≡ progress_by (or_now o a now) e.place
-    began a o s = ap (λ (p : StartupProgress). first_place p (is_armed false (since_taking calls)) now.cor0) s.progress_is ∙ ap (λ (b : Bool). first_place (progress_by o e.place) b now.cor0) s.armed_is ∙ at_once a o
+    began : (a : Bool) (o : Option Beginning) → AfterCall calls a o e.place → first_place (progress_of calls) (is_armed false (since_shutdown calls)) now.cor0 ≡ progress_by (or_now o a now) e.place
+    began a o s = ap (λ (p : StartupProgress). first_place p (is_armed false (since_shutdown calls)) now.cor0) s.progress_is ∙ ap (λ (b : Bool). first_place (progress_by o e.place) b now.cor0) s.armed_is ∙ at_once a o
       where
         at_once : (a : Bool) (o : Option Beginning) → first_place (progress_by o e.place) a now.cor0 ≡ progress_by (or_now o a now) e.place
         at_once a (Some b) = refl

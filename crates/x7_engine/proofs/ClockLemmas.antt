@@ -341,7 +341,7 @@ idle_quiet part kept w h n k l e s = none_fires part kept h n k (λ i m.
     let no : false ≡ true = (idle_fires (is_fallback kept.kind) kept.timer w (watch_calls part h (n + i)) eos false before (never_counts w eos e) refl).1 f in
     absurd (cc)))
 
-pub idle_ticks : (part : PartData) (kept : Kept) (c : ClockState) (h : History) (n k : ℕ) → newest_place h ≤ n → c.startup.begun ≡ None → c.watchdog.limit ≡ 0 → IsClock part kept c h n → ClockTakes (course_at part kept h n) c k None
+pub idle_ticks : (part : PartData) (kept : Kept) (c : ClockState) (h : History) (n k : ℕ) → newest_place h ≤ n → c.startup.begun_with ≡ None → c.watchdog.limit ≡ 0 → IsClock part kept c h n → ClockTakes (course_at part kept h n) c k None
 idle_ticks part kept c h n k l b e s = (
   record {
     startup = subst (λ (calls : List Call). StandsForCalls part.lock part.matched c.startup calls) (sym (startup_more h n k l)) (idle_stands part.lock part.matched c.startup (startup_calls h n) k b s.startup);

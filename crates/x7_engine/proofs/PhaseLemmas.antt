@@ -7,7 +7,7 @@ use Rattle.x7_packets.specs.History.{Access, History, entry, executes, history_o
 use Rattle.x7_packets.proofs.GrowthLemmas.{byte_enters, placed_of}
 use Rattle.x7_part.specs.Part.{PartData}
 use Rattle.x7_startup.specs.Phases.{arrival, IsPhase, wait_of}
-use Rattle.x7_startup.specs.Startup.{Call, Arm, Byte, Desync, DropBack, StartupProgress, NotBegun, Begun, is_armed, progress_of, since_taking}
+use Rattle.x7_startup.specs.Startup.{Call, Arm, Byte, Desync, DropBack, StartupProgress, NotBegun, Begun, is_armed, progress_of, since_shutdown}
 use Rattle.x7_startup.proofs.CallLemmas.{first_place, further, progress_arm, progress_bytes, progress_desync, progress_drop}
 use Rattle.x7_startup.proofs.PhaseLemmas.{arrival_grows, phase_first}
 use Rattle.x7_engine.specs.Registers.{takes_shutdown}
@@ -40,7 +40,7 @@ called : (p : StartupProgress) (calls : List Call) (k : ℕ) (arms drops desyncs
     → Reaches p (progress_of (calls ++ (if arms then Arm ∷ [] else if drops then DropBack ∷ [] else if desyncs then Desync d ∷ [] else []))) k
 called p calls k true drops desyncs d r = subst (λ (x : StartupProgress). Reaches p x k) (sym (progress_arm calls)) r
 called p calls k false true desyncs d r = inl (progress_drop calls)
-called p calls k false false true d r = subst (λ (x : StartupProgress). Reaches p x k) (sym (progress_desync calls d)) (placed_first p (progress_of calls) k (is_armed false (since_taking calls)) d r)
+called p calls k false false true d r = subst (λ (x : StartupProgress). Reaches p x k) (sym (progress_desync calls d)) (placed_first p (progress_of calls) k (is_armed false (since_shutdown calls)) d r)
 called p calls k false false false d r = subst (λ (t : List Call). Reaches p (progress_of t) k) (sym (append-nil calls)) r
 
 -- ---- a byte more

@@ -11,7 +11,7 @@ use Rattle.x7_pipeline.specs.Runs.{put_over}
 use Rattle.x7_pipeline.proofs.LawLemmas.{far_loaded, no_source}
 use Rattle.x7_regs.specs.Command.{command_by}
 use Rattle.x7_regs.specs.declared.command.Command.{Command}
-use Rattle.x7_startup.specs.Startup.{Call, NotBegun, StartupProgress, is_armed, progress_of, since_taking}
+use Rattle.x7_startup.specs.Startup.{Call, NotBegun, StartupProgress, is_armed, progress_of, since_shutdown}
 use Rattle.x7_startup.specs.Startup as call
 use Rattle.x7_startup.proofs.CallLemmas.{first_place, further, is_armed_arm, is_armed_bytes, is_armed_desync, is_armed_drop, progress_arm, progress_bytes, progress_desync, progress_drop}
 use Rattle.x7_flow.specs.Controls.{ctl0_held, is_matched, mask_held, masked_word, names_part}
@@ -24,14 +24,14 @@ use Rattle.x7_engine.specs.Startup.{startup_call, startup_calls}
 -- ---- startup, by two lists of calls
 
 abbrev pub SameStartup : List Call → List Call → Type 0
-SameStartup a b = (is_armed false (since_taking a) ≡ is_armed false (since_taking b)) × (progress_of a ≡ progress_of b)
+SameStartup a b = (is_armed false (since_shutdown a) ≡ is_armed false (since_shutdown b)) × (progress_of a ≡ progress_of b)
 
 one_more : (x : Call) (a b : List Call) → SameStartup a b → SameStartup (a ++ x ∷ []) (b ++ x ∷ [])
 one_more call.Arm a b s = (is_armed_arm a ∙ sym (is_armed_arm b), progress_arm a ∙ s.1 ∙ sym (progress_arm b))
 one_more (call.Desync d) a b s = (
   is_armed_desync a d ∙ sym (is_armed_desync b d),
   progress_desync a d
-      ∙ ap (λ (p : StartupProgress). first_place p (is_armed false (since_taking a)) d) s.1
+      ∙ ap (λ (p : StartupProgress). first_place p (is_armed false (since_shutdown a)) d) s.1
       ∙ ap (λ (x : Bool). first_place (progress_of b) x d) s.0
       ∙ sym (progress_desync b d),
 )

@@ -332,12 +332,12 @@ unbegun_on part kept wrapped d e bytes piece from to l m going s after f unbegun
 -- ---- what a device keeps of it
 
 -- startup that the device keeps as not begun hasn't begun
-pub unbegun : (part : PartData) (kept : Kept) (wrapped : Bool) (d : DeviceState) (bytes : List ℕ) → DeviceStandsFor part kept wrapped d bytes → is_some d.registers.clock.startup.begun ≡ false → HasNotBegun part kept bytes
+pub unbegun : (part : PartData) (kept : Kept) (wrapped : Bool) (d : DeviceState) (bytes : List ℕ) → DeviceStandsFor part kept wrapped d bytes → is_some d.registers.clock.startup.begun_with ≡ false → HasNotBegun part kept bytes
 unbegun part kept wrapped d bytes s e =
     let n : ℕ = taken_of part kept bytes in
     let stands : StandsForCalls part.lock part.matched d.registers.clock.startup (startup_calls (history_taken part kept bytes) n) =
     subst (λ (k : ℕ). StandsForCalls part.lock part.matched d.registers.clock.startup (startup_calls (history_taken part kept bytes) k)) (sym (taken_is part kept wrapped d bytes s)) s.registers_are.clock.startup in
-    by (startup_progress (history_taken part kept bytes) n) (ap is_some (sym stands.stores.begun_is) ∙ e)
+    by (startup_progress (history_taken part kept bytes) n) (ap is_some (sym stands.stores.begun_with_is) ∙ e)
   where
     by : (p : StartupProgress) → is_some (cor0_of p) ≡ false → p ≡ NotBegun
     by NotBegun f = refl

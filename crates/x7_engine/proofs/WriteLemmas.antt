@@ -69,7 +69,7 @@ written_last bytes more register w count fits placed longer = λ k l.
 
 -- the device after the write of one word
 pub write_taken : (part : PartData) (kept : Kept) (wrapped : Bool) (d e : DeviceState) (bytes rest : List ℕ) (register w : ℕ) → DeviceStandsFor part kept wrapped d bytes → d.registers.stop ≡ None
-    → d.registers.clock.startup.begun ≡ None → d.registers.clock.watchdog.limit ≡ 0 → WritesOne d.cutter e.cutter rest register w
+    → d.registers.clock.startup.begun_with ≡ None → d.registers.clock.watchdog.limit ≡ 0 → WritesOne d.cutter e.cutter rest register w
     → ((h : History) (place : ℕ) → IsNextAccess place h → RegistersStandFor part kept d.registers h place → RegistersStandFor part kept e.registers (entry (Write register w) place ∷ h) place)
     → ((n : ℕ) → counted_in e.registers.stop n ≡ n) → due_count e.registers.due ≡ 0 → e.part ≡ d.part → e.wrapped ≡ d.wrapped → e.taken ≡ d.taken + 8
     → DeviceStandsFor part kept wrapped e (bytes ++ take 8 rest) × (reads_of part kept (bytes ++ take 8 rest) ≡ reads_of part kept bytes) × CommandsLast bytes (take 8 rest)
@@ -112,7 +112,7 @@ write_taken part kept wrapped d e bytes rest register w s going begun limit one 
 
 -- the device after the write of one word at a place of a piece
 pub write_at : (part : PartData) (kept : Kept) (wrapped : Bool) (d e : DeviceState) (bytes piece : List ℕ) (from register w : ℕ) → DeviceStandsFor part kept wrapped d bytes → d.registers.stop ≡ None
-    → d.registers.clock.startup.begun ≡ None → d.registers.clock.watchdog.limit ≡ 0 → WritesOne d.cutter e.cutter (take (length piece - from) (drop from piece)) register w
+    → d.registers.clock.startup.begun_with ≡ None → d.registers.clock.watchdog.limit ≡ 0 → WritesOne d.cutter e.cutter (take (length piece - from) (drop from piece)) register w
     → ((h : History) (place : ℕ) → IsNextAccess place h → RegistersStandFor part kept d.registers h place → RegistersStandFor part kept e.registers (entry (Write register w) place ∷ h) place)
     → ((n : ℕ) → counted_in e.registers.stop n ≡ n) → due_count e.registers.due ≡ 0 → e.part ≡ d.part → e.wrapped ≡ d.wrapped → e.taken ≡ d.taken + 8
     → (let more : List ℕ = between piece from (from + 8) in DeviceStandsFor part kept wrapped e (bytes ++ more) × (reads_of part kept (bytes ++ more) ≡ reads_of part kept bytes) × CommandsLast bytes more)

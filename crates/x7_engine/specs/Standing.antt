@@ -227,7 +227,7 @@ HasStopped d = IsSome d.registers.stop
 
 -- startup has begun, since the last shutdown taken
 abbrev pub HasBegun : DeviceState → Type 0
-HasBegun d = IsSome d.registers.clock.startup.begun
+HasBegun d = IsSome d.registers.clock.startup.begun_with
 
 -- no word that was read out is still to be given
 abbrev pub NoWordDue : DeviceState → Type 0

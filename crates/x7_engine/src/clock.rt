@@ -193,7 +193,7 @@ impl Clock {
     /// Whether bytes leave the clock as it is: startup hasn't begun, and the watchdog doesn't run.
     #[inline(always)]
     pub(crate) fn is_idle(&self) -> bool
-        ensures not_begun { IsTrue result → self.now.startup.begun ≡ None }
+        ensures not_begun { IsTrue result → self.now.startup.begun_with ≡ None }
         ensures no_limit { IsTrue result → self.now.watchdog.limit ≡ 0 }
     {
         if self.startup.has_begun() {

@@ -6,8 +6,8 @@ use Rattle.std.proofs.lemmas.Slice.Eq.{starts_is}
 use Rattle.std.specs.List.{AllByRecursion, starts_with}
 use Rattle.x7_words.specs.Word.{AreBytes}
 use Rattle.x7_words.proofs.ListLemmas.{all_append, all_prefix, all_back}
-use Rattle.x7_header.specs.Header.{fixed_bytes, Kind, Field, layout, Holds, Hold, HasOtherLetterAt, EndsInHeader, bytes_of_count, field_bytes, fields_bytes, Contents, header_bytes}
-use Rattle.x7_header.specs.Reading.{◌>>=◌, letter_at, content_at, field_at, fields_at, contents_from, layout_at, header_at, ReturnsAs}
+use Rattle.x7_header.specs.Header.{fixed_bytes, FieldKind, Field, layout, Holds, Hold, HasOtherLetterAt, EndsInHeader, bytes_of_count, field_bytes, fields_bytes, Contents, header_bytes}
+use Rattle.x7_header.specs.Reading.{◌>>=◌, after_letter, content_at, field_at, fields_at, contents_from, layout_at, header_at, ReturnsAs}
 use Rattle.x7_header.specs.declared.fault.HeaderFault.{HeaderFault}
 use Rattle.x7_header.specs.declared.fault.HeaderFault.TheVariants as fault
 use Rattle.x7_header.proofs.HeaderLemmas.{done, failed, ok_not_err, err_is, bind_err, letter_takes, count_again, two_and, field_takes, from_layout, header_takes, header_again, header_tells, raw_at, cut_at, header_refused, field_at_place}
@@ -36,7 +36,7 @@ bytes_end total count place bytes x true s e = absurd (ok_not_err x (fault.Cut p
 bytes_end total count place bytes x false s e = grind (arith, s)
 
 -- what stands after a field's letter goes on after these bytes
-record GoesOnAfterLetter (kind : Kind) (bytes : List ℕ) : Type 0 where
+record GoesOnAfterLetter (kind : FieldKind) (bytes : List ℕ) : Type 0 where
   pub content : List ℕ
   pub next : ℕ
   pub missing : List ℕ
@@ -45,8 +45,8 @@ record GoesOnAfterLetter (kind : Kind) (bytes : List ℕ) : Type 0 where
   pub goes_on : bytes_of_count kind content ++ content ≡ bytes ++ next ∷ missing
   pub missing_are : AreBytes (next ∷ missing)
 
-content_ends : (total place : ℕ) (kind : Kind) (bytes : List ℕ) → AreBytes bytes → content_at total kind bytes ≡ Err (fault.Cut place) → GoesOnAfterLetter kind bytes
-content_ends total place Kind.Four bytes f e =
+content_ends : (total place : ℕ) (kind : FieldKind) (bytes : List ℕ) → AreBytes bytes → content_at total kind bytes ≡ Err (fault.Cut place) → GoesOnAfterLetter kind bytes
+content_ends total place FieldKind.Four bytes f e =
     let h = bytes_end total 4 place bytes (take 4 bytes, drop 4 bytes) (nat_le 4 (length bytes)) refl e in
     let more = zeros (4 - length bytes - 1) in
     let fits : AreBytes (0 ∷ more) = (omega arith, zeros_fit (4 - length bytes - 1)) in
@@ -59,9 +59,9 @@ content_ends total place Kind.Four bytes f e =
       goes_on = refl;
       missing_are = fits;
     }
-content_ends total place Kind.Counted [] f e =
+content_ends total place FieldKind.Counted [] f e =
     record { content = []; next = 0; missing = 0 ∷ []; holds = omega arith; content_are = tt; goes_on = refl; missing_are = (omega arith, (omega arith, tt)) }
-content_ends total place Kind.Counted (high ∷ []) f e =
+content_ends total place FieldKind.Counted (high ∷ []) f e =
     let more = zeros (high * 256) in
     let n = count_again high 0 (length more) f.0 (omega arith) (omega (arith, zeros_long (high * 256))) in
     record {
@@ -73,7 +73,7 @@ content_ends total place Kind.Counted (high ∷ []) f e =
       goes_on = two_and (length more / 256) (length more % 256) high 0 more more (sym n.0) (sym n.1) refl;
       missing_are = (omega arith, zeros_fit (high * 256));
     }
-content_ends total place Kind.Counted (high ∷ low ∷ bytes) f e =
+content_ends total place FieldKind.Counted (high ∷ low ∷ bytes) f e =
     let count = high * 256 + low in
     let h = bytes_end total count place bytes (take count bytes, drop count bytes) (nat_le count (length bytes)) refl e in
     let more = zeros (count - length bytes - 1) in
@@ -110,13 +110,13 @@ record FieldsGoOn (fields : List Field) (bytes : List ℕ) : Type 0 where
   pub missing_are : AreBytes (next ∷ missing)
 
 -- what a field can hold
-abbrev blank : Kind → List ℕ
-blank Kind.Counted = []
-blank Kind.Four = 0 ∷ 0 ∷ 0 ∷ 0 ∷ []
+abbrev blank : FieldKind → List ℕ
+blank FieldKind.Counted = []
+blank FieldKind.Four = 0 ∷ 0 ∷ 0 ∷ 0 ∷ []
 
-blank_holds : (kind : Kind) → Holds kind (blank kind) × AreBytes (blank kind) × AreBytes (bytes_of_count kind (blank kind) ++ blank kind)
-blank_holds Kind.Counted = (omega arith, tt, (omega arith, (omega arith, tt)))
-blank_holds Kind.Four = let z : 0 < 256 = omega arith in (refl, (z, (z, (z, (z, tt)))), (z, (z, (z, (z, tt)))))
+blank_holds : (kind : FieldKind) → Holds kind (blank kind) × AreBytes (blank kind) × AreBytes (bytes_of_count kind (blank kind) ++ blank kind)
+blank_holds FieldKind.Counted = (omega arith, tt, (omega arith, (omega arith, tt)))
+blank_holds FieldKind.Four = let z : 0 < 256 = omega arith in (refl, (z, (z, (z, (z, tt)))), (z, (z, (z, (z, tt)))))
 
 abbrev HaveLetters : List Field → Type 0
 HaveLetters fields = AllByRecursion (λ (field : Field). field.letter < 256) fields
@@ -144,7 +144,7 @@ letter_no_cut : (bytes : List ℕ) (at place : ℕ) (b : Bool) → cond b (done 
 letter_no_cut bytes at place true e = ok_not_err bytes (fault.Cut place) e
 letter_no_cut bytes at place false e = let same : fault.Field at ≡ fault.Cut place = err_is (List ℕ) (fault.Field at) (fault.Cut place) e in cc
 
-letter_ends : (total place : ℕ) (field : Field) (bytes : List ℕ) → field.letter < 256 → letter_at total field.letter bytes ≡ Err (fault.Cut place) → FieldGoesOn field bytes
+letter_ends : (total place : ℕ) (field : Field) (bytes : List ℕ) → field.letter < 256 → after_letter total field.letter bytes ≡ Err (fault.Cut place) → FieldGoesOn field bytes
 letter_ends total place field [] l e =
     let b = blank_holds field.kind in
     record { content = blank field.kind; next = field.letter; missing = bytes_of_count field.kind (blank field.kind) ++ blank field.kind; holds = b.0; content_are = b.1; goes_on = refl; missing_are = (l, b.2) }
@@ -153,7 +153,7 @@ letter_ends total place field (first ∷ bytes) l e = absurd (letter_no_cut byte
 field_ends : (total place : ℕ) (field : Field) (bytes : List ℕ) → field.letter < 256 → AreBytes bytes → field_at total field bytes ≡ Err (fault.Cut place) → FieldGoesOn field bytes
 unfolding field_at
 field_ends total place field bytes l f e =
-    elim (bind_err (letter_at total field.letter bytes) (content_at total field.kind) (fault.Cut place) e) [
+    elim (bind_err (after_letter total field.letter bytes) (content_at total field.kind) (fault.Cut place) e) [
       | inl letter ↦ letter_ends total place field bytes l letter
       | inr there ↦
           let t = letter_takes total field.letter bytes there.0 there.1 in

@@ -10,8 +10,8 @@ use Rattle.x7_words.specs.Word.{AreBytes, bytes_of_word, word_of_bytes}
 use Rattle.x7_words.proofs.ListLemmas.{all_prefix, all_back}
 use Rattle.x7_words.proofs.WordLemmas.{bytes_words, words_fit}
 use Rattle.x7_words.proofs.WordLemmas.{word_whole}
-use Rattle.x7_header.specs.Header.{fixed_bytes, Kind, Field, layout, Holds, Hold, HasOtherLetter, HasOtherLetterAt, bytes_of_count, field_bytes, fields_bytes, Contents, contents_in_order, HaveHeader, header_bytes}
-use Rattle.x7_header.specs.Reading.{◌>>=◌, letter_at, bytes_at, content_at, field_at, fields_at, contents_from, fixed_at, layout_at, header_at, ReturnsAs}
+use Rattle.x7_header.specs.Header.{fixed_bytes, FieldKind, Field, layout, Holds, Hold, HasOtherLetter, HasOtherLetterAt, bytes_of_count, field_bytes, fields_bytes, Contents, contents_in_order, HaveHeader, header_bytes}
+use Rattle.x7_header.specs.Reading.{◌>>=◌, after_letter, first_bytes, content_at, field_at, fields_at, contents_from, after_fixed_bytes, layout_at, header_at, ReturnsAs}
 use Rattle.x7_header.specs.declared.fault.HeaderFault.{HeaderFault}
 use Rattle.x7_header.specs.declared.fault.HeaderFault.TheVariants as fault
 
@@ -28,19 +28,19 @@ test_ok false d x y e = absurd cc
 -- ---- what is written is read again
 
 -- a letter that is there
-letter_again : (total letter : ℕ) (bytes : List ℕ) → letter_at total letter (letter ∷ bytes) ≡ Ok bytes
+letter_again : (total letter : ℕ) (bytes : List ℕ) → after_letter total letter (letter ∷ bytes) ≡ Ok bytes
 letter_again total letter bytes =
     let same : nat_eq letter letter ≡ true = grind arith in rw same refl
 
-bytes_again : (total count : ℕ) (content rest : List ℕ) → length content ≡ count → bytes_at total count (content ++ rest) ≡ Ok (content, rest)
+bytes_again : (total count : ℕ) (content rest : List ℕ) → length content ≡ count → first_bytes total count (content ++ rest) ≡ Ok (content, rest)
 bytes_again total count content rest e =
     let fits : nat_le count (length (content ++ rest)) ≡ true = le-leb _ _ (omega (arith, e, length-append content rest)) in
     rw (fits, take_at content rest count e, drop_at content rest count e) refl
 
-content_again : (total : ℕ) (kind : Kind) (content rest : List ℕ) → Holds kind content → content_at total kind (bytes_of_count kind content ++ (content ++ rest)) ≡ Ok (content, rest)
-content_again total Kind.Counted content rest h =
+content_again : (total : ℕ) (kind : FieldKind) (content rest : List ℕ) → Holds kind content → content_at total kind (bytes_of_count kind content ++ (content ++ rest)) ≡ Ok (content, rest)
+content_again total FieldKind.Counted content rest h =
     bytes_again total (length content / 256 * 256 + length content % 256) content rest (omega arith)
-content_again total Kind.Four content rest h = bytes_again total 4 content rest h
+content_again total FieldKind.Four content rest h = bytes_again total 4 content rest h
 
 pub field_again : (total : ℕ) (field : Field) (content rest : List ℕ) → Holds field.kind content → field_at total field (field_bytes field content ++ rest) ≡ Ok (content, rest)
 unfolding field_at
@@ -87,19 +87,19 @@ header_same x y p q e = header_tells x y [] [] p q (ap (λ (r : List ℕ). r ++ 
 
 -- ---- what is read is written so
 
-pub letter_takes : (total letter : ℕ) (bytes rest : List ℕ) → letter_at total letter bytes ≡ Ok rest → bytes ≡ letter ∷ rest
+pub letter_takes : (total letter : ℕ) (bytes rest : List ℕ) → after_letter total letter bytes ≡ Ok rest → bytes ≡ letter ∷ rest
 letter_takes total letter [] rest e = absurd cc
 letter_takes total letter (first ∷ bytes) rest e =
     let t = test_ok (nat_eq first letter) (fault.Field (total - length (first ∷ bytes))) bytes rest e in
     rw (eqb-true _ _ t.0, t.1) refl
 
-bytes_take : (total count : ℕ) (bytes : List ℕ) (x : List ℕ × List ℕ) → bytes_at total count bytes ≡ Ok x → (bytes ≡ x.0 ++ x.1) × (length x.0 ≡ count)
+bytes_take : (total count : ℕ) (bytes : List ℕ) (x : List ℕ × List ℕ) → first_bytes total count bytes ≡ Ok x → (bytes ≡ x.0 ++ x.1) × (length x.0 ≡ count)
 bytes_take total count bytes x e =
     let t = test_ok (nat_le count (length bytes)) (fault.Cut total) (take count bytes, drop count bytes) x e in
     subst (λ (y : List ℕ × List ℕ). (bytes ≡ y.0 ++ y.1) × (length y.0 ≡ count)) t.1 (sym (take-append-drop count bytes), length-take-le count bytes (leb-true _ _ t.0))
 
 -- what a field held, and what follows it
-record Takes (kind : Kind) (bytes : List ℕ) (x : List ℕ × List ℕ) : Type 0 where
+record Takes (kind : FieldKind) (bytes : List ℕ) (x : List ℕ × List ℕ) : Type 0 where
   pub parts : bytes ≡ bytes_of_count kind x.0 ++ (x.0 ++ x.1)
   pub holds : Holds kind x.0
 
@@ -109,12 +109,12 @@ count_again high low count h l e = (omega arith, omega arith, omega arith)
 pub two_and : (a b c d : ℕ) (xs ys : List ℕ) → a ≡ c → b ≡ d → xs ≡ ys → a ∷ b ∷ xs ≡ c ∷ d ∷ ys
 two_and a b c d xs ys p q r = rw (p, q, r) refl
 
-content_takes : (total : ℕ) (kind : Kind) (bytes : List ℕ) (x : List ℕ × List ℕ) → AreBytes bytes → content_at total kind bytes ≡ Ok x → Takes kind bytes x
-content_takes total Kind.Four bytes x f e =
+content_takes : (total : ℕ) (kind : FieldKind) (bytes : List ℕ) (x : List ℕ × List ℕ) → AreBytes bytes → content_at total kind bytes ≡ Ok x → Takes kind bytes x
+content_takes total FieldKind.Four bytes x f e =
     let t = bytes_take total 4 bytes x e in record { parts = t.0; holds = t.1 }
-content_takes total Kind.Counted [] x f e = absurd cc
-content_takes total Kind.Counted (high ∷ []) x f e = absurd cc
-content_takes total Kind.Counted (high ∷ low ∷ bytes) x f e =
+content_takes total FieldKind.Counted [] x f e = absurd cc
+content_takes total FieldKind.Counted (high ∷ []) x f e = absurd cc
+content_takes total FieldKind.Counted (high ∷ low ∷ bytes) x f e =
     let t = bytes_take total (high * 256 + low) bytes x e in
     let n = count_again high low (length x.0) f.0 f.1.0 t.1 in
     record { parts = two_and high low _ _ bytes (x.0 ++ x.1) n.0 n.1 t.0; holds = n.2 }
@@ -122,7 +122,7 @@ content_takes total Kind.Counted (high ∷ low ∷ bytes) x f e =
 pub field_takes : (total : ℕ) (field : Field) (bytes : List ℕ) (x : List ℕ × List ℕ) → AreBytes bytes → field_at total field bytes ≡ Ok x → (bytes ≡ field_bytes field x.0 ++ x.1) × Holds field.kind x.0
 unfolding field_at
 field_takes total field bytes x f e =
-    let a = bind_ok (letter_at total field.letter bytes) (content_at total field.kind) x e in
+    let a = bind_ok (after_letter total field.letter bytes) (content_at total field.kind) x e in
     let l = letter_takes total field.letter bytes a.0 a.1 in
     let fits : AreBytes (field.letter ∷ a.0) = subst AreBytes l f in
     let t = content_takes total field.kind a.0 x fits.1 a.2 in
@@ -191,7 +191,7 @@ prefix_of bytes header rest e =
     let n : length bytes - length rest ≡ length header = omega (arith, ap length e, length-append header rest) in
     (n, e ∙ ap (λ (r : List ℕ). header ++ r) (sym (rw (n, e) (drop_at header rest (length header) refl))))
 
-fixed_takes : (bytes rest : List ℕ) → fixed_at bytes ≡ Ok rest → bytes ≡ fixed_bytes ++ rest
+fixed_takes : (bytes rest : List ℕ) → after_fixed_bytes bytes ≡ Ok rest → bytes ≡ fixed_bytes ++ rest
 fixed_takes bytes rest e =
     let t = test_ok (starts_with nat_eq bytes fixed_bytes) fault.Raw (drop 13 bytes) rest e in
     (starts_is Decides-eqb bytes fixed_bytes (starts_with nat_eq bytes fixed_bytes) refl).0 t.0 ∙ ap (λ (r : List ℕ). fixed_bytes ++ r) t.1
@@ -199,7 +199,7 @@ fixed_takes bytes rest e =
 pub header_takes : (bytes : List ℕ) (x : Contents × ℕ) → AreBytes bytes → header_at bytes ≡ Ok x → IsPrefix bytes x
 unfolding header_at layout_at
 header_takes bytes x f e =
-    let a = bind_ok (fixed_at bytes) (layout_at (length bytes)) x e in
+    let a = bind_ok (after_fixed_bytes bytes) (layout_at (length bytes)) x e in
     let p = fixed_takes bytes a.0 a.1 in
     let b = bind_ok (fields_at (length bytes) layout a.0) (λ read. Ok (contents_from read.0, length bytes - length read.1)) x a.2 in
     let t = fields_take (length bytes) layout a.0 b.0 (all_back (λ c. c < 256) fixed_bytes a.0 (subst AreBytes p f)) b.1 in
@@ -259,22 +259,22 @@ cond_inside : {A : Type 0} (total : ℕ) (b : Bool) (x : A) (d : HeaderFault) �
 cond_inside total true x d i = tt
 cond_inside total false x d i = i
 
-letter_inside : (total letter : ℕ) (bytes : List ℕ) → FaultInside total (letter_at total letter bytes)
+letter_inside : (total letter : ℕ) (bytes : List ℕ) → FaultInside total (after_letter total letter bytes)
 letter_inside total letter [] = refl
 letter_inside total letter (first ∷ bytes) = cond_inside total (nat_eq first letter) bytes (fault.Field (total - length (first ∷ bytes))) tt
 
-bytes_inside : (total count : ℕ) (bytes : List ℕ) → FaultInside total (bytes_at total count bytes)
+bytes_inside : (total count : ℕ) (bytes : List ℕ) → FaultInside total (first_bytes total count bytes)
 bytes_inside total count bytes = cond_inside total (nat_le count (length bytes)) (take count bytes, drop count bytes) (fault.Cut total) refl
 
-content_inside : (total : ℕ) (kind : Kind) (bytes : List ℕ) → FaultInside total (content_at total kind bytes)
-content_inside total Kind.Four bytes = bytes_inside total 4 bytes
-content_inside total Kind.Counted [] = refl
-content_inside total Kind.Counted (high ∷ []) = refl
-content_inside total Kind.Counted (high ∷ low ∷ bytes) = bytes_inside total (high * 256 + low) bytes
+content_inside : (total : ℕ) (kind : FieldKind) (bytes : List ℕ) → FaultInside total (content_at total kind bytes)
+content_inside total FieldKind.Four bytes = bytes_inside total 4 bytes
+content_inside total FieldKind.Counted [] = refl
+content_inside total FieldKind.Counted (high ∷ []) = refl
+content_inside total FieldKind.Counted (high ∷ low ∷ bytes) = bytes_inside total (high * 256 + low) bytes
 
 field_inside : (total : ℕ) (field : Field) (bytes : List ℕ) → FaultInside total (field_at total field bytes)
 unfolding field_at
-field_inside total field bytes = bind_inside total (letter_at total field.letter bytes) (content_at total field.kind) (letter_inside total field.letter bytes) (content_inside total field.kind)
+field_inside total field bytes = bind_inside total (after_letter total field.letter bytes) (content_at total field.kind) (letter_inside total field.letter bytes) (content_inside total field.kind)
 
 fields_inside : (total : ℕ) (fields : List Field) (bytes : List ℕ) → FaultInside total (fields_at total fields bytes)
 unfolding fields_at
@@ -338,11 +338,11 @@ bytes_no_field : (total count place : ℕ) (bytes : List ℕ) (b : Bool) → con
 bytes_no_field total count place bytes true e = ok_not_err (take count bytes, drop count bytes) (fault.Field place) e
 bytes_no_field total count place bytes false e = cut_no_field (List ℕ × List ℕ) total place e
 
-content_no_field : (total place : ℕ) (kind : Kind) (bytes : List ℕ) → content_at total kind bytes ≡ Err (fault.Field place) → ⊥
-content_no_field total place Kind.Four bytes e = bytes_no_field total 4 place bytes (nat_le 4 (length bytes)) e
-content_no_field total place Kind.Counted [] e = cut_no_field (List ℕ × List ℕ) total place e
-content_no_field total place Kind.Counted (high ∷ []) e = cut_no_field (List ℕ × List ℕ) total place e
-content_no_field total place Kind.Counted (high ∷ low ∷ bytes) e = bytes_no_field total (high * 256 + low) place bytes (nat_le (high * 256 + low) (length bytes)) e
+content_no_field : (total place : ℕ) (kind : FieldKind) (bytes : List ℕ) → content_at total kind bytes ≡ Err (fault.Field place) → ⊥
+content_no_field total place FieldKind.Four bytes e = bytes_no_field total 4 place bytes (nat_le 4 (length bytes)) e
+content_no_field total place FieldKind.Counted [] e = cut_no_field (List ℕ × List ℕ) total place e
+content_no_field total place FieldKind.Counted (high ∷ []) e = cut_no_field (List ℕ × List ℕ) total place e
+content_no_field total place FieldKind.Counted (high ∷ low ∷ bytes) e = bytes_no_field total (high * 256 + low) place bytes (nat_le (high * 256 + low) (length bytes)) e
 
 field_is : (m n : ℕ) → failed (List ℕ) (fault.Field m) ≡ Err (fault.Field n) → m ≡ n
 field_is m n e = let same : fault.Field m ≡ fault.Field n = err_is (List ℕ) (fault.Field m) (fault.Field n) e in cc
@@ -353,7 +353,7 @@ letter_by total letter place first bytes true t e = absurd (ok_not_err bytes (fa
 letter_by total letter place first bytes false t e =
     ((λ same. false≢true (sym t ∙ (let y : nat_eq first letter ≡ true = grind (arith, same) in y))), sym (field_is (total - length (first ∷ bytes)) place e))
 
-other_first : (total place : ℕ) (field : Field) (fields : List Field) (bytes : List ℕ) → length bytes ≤ total → letter_at total field.letter bytes ≡ Err (fault.Field place) →
+other_first : (total place : ℕ) (field : Field) (fields : List Field) (bytes : List ℕ) → length bytes ≤ total → after_letter total field.letter bytes ≡ Err (fault.Field place) →
     (place ≤ total) × HasOtherLetter (field ∷ fields) bytes (total - place)
 other_first total place field fields [] h e = absurd (cut_no_field (List ℕ) total place e)
 other_first total place field fields (first ∷ bytes) h e =
@@ -369,7 +369,7 @@ unfolding fields_at field_at
 other_letter total place [] bytes f h e = absurd (ok_not_err ([], bytes) (fault.Field place) e)
 other_letter total place (field ∷ fields) bytes f h e =
     elim (bind_err (field_at total field bytes) (λ first. fields_at total fields first.1 >>= λ others. Ok (first.0 ∷ others.0, others.1)) (fault.Field place) e) [
-      | inl here ↦ elim (bind_err (letter_at total field.letter bytes) (content_at total field.kind) (fault.Field place) here) [
+      | inl here ↦ elim (bind_err (after_letter total field.letter bytes) (content_at total field.kind) (fault.Field place) here) [
         | inl letter ↦ other_first total place field fields bytes h letter
         | inr after ↦ absurd (content_no_field total place field.kind after.0 after.2)
       ]
@@ -399,7 +399,7 @@ other_letter total place (field ∷ fields) bytes f h e =
           ]
     ]
 
-letter_refused : (total letter other : ℕ) (rest : List ℕ) → other ≢ letter → letter_at total letter (other ∷ rest) ≡ Err (fault.Field (total - length (other ∷ rest)))
+letter_refused : (total letter other : ℕ) (rest : List ℕ) → other ≢ letter → after_letter total letter (other ∷ rest) ≡ Err (fault.Field (total - length (other ∷ rest)))
 letter_refused total letter other rest n = let f : nat_eq other letter ≡ false = ne_eqb other letter n in rw f refl
 
 first_letter_refused : (total : ℕ) (next : Field) (other : ℕ) (rest : List ℕ) → other ≢ next.letter → field_at total next (other ∷ rest) ≡ Err (fault.Field (total - length (other ∷ rest)))
@@ -451,10 +451,10 @@ is_other {X = X} view (Err d) bytes f g place = (
 )
 
 -- a header is what follows the fixed bytes
-pub header_after : (bytes after : List ℕ) → fixed_at bytes ≡ Ok after → header_at bytes ≡ layout_at (length bytes) after
+pub header_after : (bytes after : List ℕ) → after_fixed_bytes bytes ≡ Ok after → header_at bytes ≡ layout_at (length bytes) after
 unfolding header_at
 header_after bytes after e = rw e refl
 
-pub header_none : (bytes : List ℕ) (d : HeaderFault) → fixed_at bytes ≡ Err d → header_at bytes ≡ Err d
+pub header_none : (bytes : List ℕ) (d : HeaderFault) → after_fixed_bytes bytes ≡ Err d → header_at bytes ≡ Err d
 unfolding header_at
 header_none bytes d e = rw e refl

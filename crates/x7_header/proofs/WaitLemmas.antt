@@ -2,8 +2,8 @@
 use Rattle.std.proofs.Common.{◌≡◌, ℕ, ◌+◌, ◌-◌, ◌*◌, ◌<◌, Bool, true, false, cond, List, [], ◌∷◌, ◌++◌, length, Result, Ok, Err, nat_le, nat_eq, refl, sym, ap, ◌∙◌, append-nil, arith, length-append}
 use Rattle.std.specs.Prelude.{IfErr, IsErr, IsErrAnd}
 use Rattle.x7_words.specs.Word.{AreBytes}
-use Rattle.x7_header.specs.Header.{EndsInHeader, Kind, Field}
-use Rattle.x7_header.specs.Reading.{◌>>=◌, FieldWaits, HeaderWaits, LayoutWaits, bytes_at, content_at, field_at, fixed_at, header_at, number_lacks, text_lacks}
+use Rattle.x7_header.specs.Header.{EndsInHeader, FieldKind, Field}
+use Rattle.x7_header.specs.Reading.{◌>>=◌, FieldWaits, HeaderWaits, LayoutWaits, first_bytes, content_at, field_at, after_fixed_bytes, header_at, number_lacks, text_lacks}
 use Rattle.x7_header.specs.declared.fault.HeaderFault.{HeaderFault}
 use Rattle.x7_header.specs.declared.fault.HeaderFault.TheVariants as fault
 use Rattle.x7_header.proofs.CutLemmas.{header_cut}
@@ -20,12 +20,12 @@ unfolding field_at
 has_letter total place first field bytes e = letter_by (total - length (first ∷ bytes)) place bytes (content_at total field.kind) (nat_eq first field.letter) e
 
 -- after its letter a field is its content
-after_letter : (total first : ℕ) (field : Field) (bytes : List ℕ) → nat_eq first field.letter ≡ true → field_at total field (first ∷ bytes) ≡ content_at total field.kind bytes
+content_follows : (total first : ℕ) (field : Field) (bytes : List ℕ) → nat_eq first field.letter ≡ true → field_at total field (first ∷ bytes) ≡ content_at total field.kind bytes
 unfolding field_at
-after_letter total first field bytes e = rw e refl
+content_follows total first field bytes e = rw e refl
 
 -- this many bytes are not there
-bytes_short : (total count : ℕ) (bytes more : List ℕ) → length more < count - length bytes → bytes_at total count (bytes ++ more) ≡ Err (fault.Cut total)
+bytes_short : (total count : ℕ) (bytes more : List ℕ) → length more < count - length bytes → first_bytes total count (bytes ++ more) ≡ Err (fault.Cut total)
 bytes_short total count bytes more h =
     let f : nat_le count (length (bytes ++ more)) ≡ false = grind (arith, h, length-append bytes more) in rw f refl
 
@@ -34,34 +34,34 @@ unfolding field_at
 none_waits field total [] h = refl
 none_waits field total (x ∷ more) h = absurd (omega arith)
 
-count_waits : (total : ℕ) (more : List ℕ) → length more < 2 → content_at total Kind.Counted more ≡ Err (fault.Cut total)
+count_waits : (total : ℕ) (more : List ℕ) → length more < 2 → content_at total FieldKind.Counted more ≡ Err (fault.Cut total)
 count_waits total [] h = refl
 count_waits total (x ∷ []) h = refl
 count_waits total (x ∷ y ∷ more) h = absurd (omega arith)
 
-low_waits : (total high : ℕ) (more : List ℕ) → length more < 1 → content_at total Kind.Counted (high ∷ more) ≡ Err (fault.Cut total)
+low_waits : (total high : ℕ) (more : List ℕ) → length more < 1 → content_at total FieldKind.Counted (high ∷ more) ≡ Err (fault.Cut total)
 low_waits total high [] h = refl
 low_waits total high (x ∷ more) h = absurd (omega arith)
 
-pub text_waits : (letter total place : ℕ) (bytes : List ℕ) → field_at total (record { letter = letter; kind = Kind.Counted }) bytes ≡ Err (fault.Cut place) →
-    FieldWaits (record { letter = letter; kind = Kind.Counted }) bytes (text_lacks bytes)
-text_waits letter total place [] e = none_waits (record { letter = letter; kind = Kind.Counted })
+pub text_waits : (letter total place : ℕ) (bytes : List ℕ) → field_at total (record { letter = letter; kind = FieldKind.Counted }) bytes ≡ Err (fault.Cut place) →
+    FieldWaits (record { letter = letter; kind = FieldKind.Counted }) bytes (text_lacks bytes)
+text_waits letter total place [] e = none_waits (record { letter = letter; kind = FieldKind.Counted })
 text_waits letter total place (first ∷ []) e = λ all more h.
-    let field : Field = record { letter = letter; kind = Kind.Counted } in
-    after_letter all first field more (has_letter total place first field [] e) ∙ count_waits all more h
+    let field : Field = record { letter = letter; kind = FieldKind.Counted } in
+    content_follows all first field more (has_letter total place first field [] e) ∙ count_waits all more h
 text_waits letter total place (first ∷ high ∷ []) e = λ all more h.
-    let field : Field = record { letter = letter; kind = Kind.Counted } in
-    after_letter all first field (high ∷ more) (has_letter total place first field (high ∷ []) e) ∙ low_waits all high more h
+    let field : Field = record { letter = letter; kind = FieldKind.Counted } in
+    content_follows all first field (high ∷ more) (has_letter total place first field (high ∷ []) e) ∙ low_waits all high more h
 text_waits letter total place (first ∷ high ∷ low ∷ bytes) e = λ all more h.
-    let field : Field = record { letter = letter; kind = Kind.Counted } in
-    after_letter all first field (high ∷ low ∷ (bytes ++ more)) (has_letter total place first field (high ∷ low ∷ bytes) e) ∙ bytes_short all (high * 256 + low) bytes more h
+    let field : Field = record { letter = letter; kind = FieldKind.Counted } in
+    content_follows all first field (high ∷ low ∷ (bytes ++ more)) (has_letter total place first field (high ∷ low ∷ bytes) e) ∙ bytes_short all (high * 256 + low) bytes more h
 
-pub number_waits : (letter total place : ℕ) (bytes : List ℕ) → field_at total (record { letter = letter; kind = Kind.Four }) bytes ≡ Err (fault.Cut place) →
-    FieldWaits (record { letter = letter; kind = Kind.Four }) bytes (number_lacks bytes)
-number_waits letter total place [] e = none_waits (record { letter = letter; kind = Kind.Four })
+pub number_waits : (letter total place : ℕ) (bytes : List ℕ) → field_at total (record { letter = letter; kind = FieldKind.Four }) bytes ≡ Err (fault.Cut place) →
+    FieldWaits (record { letter = letter; kind = FieldKind.Four }) bytes (number_lacks bytes)
+number_waits letter total place [] e = none_waits (record { letter = letter; kind = FieldKind.Four })
 number_waits letter total place (first ∷ bytes) e = λ all more h.
-    let field : Field = record { letter = letter; kind = Kind.Four } in
-    after_letter all first field (bytes ++ more) (has_letter total place first field bytes e) ∙ bytes_short all 4 bytes more h
+    let field : Field = record { letter = letter; kind = FieldKind.Four } in
+    content_follows all first field (bytes ++ more) (has_letter total place first field bytes e) ∙ bytes_short all 4 bytes more h
 
 -- what an error that is handed on has
 pub err_has : {X E : Type 0} (P : E → Type 0) (result : Result X E) (e : E) → IsErr result → IsErrAnd result (λ d. d ≡ e) → P e → IfErr result P
@@ -79,5 +79,5 @@ one_waits bytes f e [] h = ap header_at (append-nil bytes) ∙ header_cut bytes 
 one_waits bytes f e (x ∷ more) h = absurd (omega arith)
 
 -- a header waits for what its fields wait for
-pub fields_wait : (bytes after : List ℕ) (count : ℕ) → ((more : List ℕ) → fixed_at (bytes ++ more) ≡ Ok (after ++ more)) → LayoutWaits after count → HeaderWaits bytes count
+pub fields_wait : (bytes after : List ℕ) (count : ℕ) → ((more : List ℕ) → after_fixed_bytes (bytes ++ more) ≡ Ok (after ++ more)) → LayoutWaits after count → HeaderWaits bytes count
 fields_wait bytes after count g w = λ more h. header_after (bytes ++ more) (after ++ more) (g more) ∙ w (length (bytes ++ more)) more h

@@ -3,7 +3,7 @@ use Rattle.std.specs.Prelude.{◌≡◌, ◌≢◌, ◌≤◌, ◌+◌, ◌*◌,
 use Rattle.x7_words.specs.Word.{AreBytes, bytes_of_word}
 use Rattle.x7_header.specs.declared.header.Head.{Head}
 
--- the bytes before the first field
+-- the bytes before a header's first field
 abbrev pub fixed_bytes : List ℕ
 fixed_bytes = 0x00 ∷ 0x09 ∷ 0x0F ∷ 0xF0 ∷ 0x0F ∷ 0xF0 ∷ 0x0F ∷ 0xF0 ∷ 0x0F ∷ 0xF0 ∷ 0x00 ∷ 0x00 ∷ 0x01 ∷ []
 
@@ -20,48 +20,48 @@ abbrev pub longest_header : ℕ
 longest_header = fixed_size + 4 * (3 + longest_text) + 5
 
 -- what stands after a field's letter
-pub data Kind : Type 0 where
+pub data FieldKind : Type 0 where
   -- the number of the bytes that follow, in two bytes, the highest first, and these bytes
-  Counted : Kind
+  Counted : FieldKind
   -- four bytes
-  Four : Kind
+  Four : FieldKind
 
 -- a field of a header: its letter, and what stands after that
 pub record Field : Type 0 where
   pub letter : ℕ
-  pub kind : Kind
+  pub kind : FieldKind
 
--- design, part, date and time, and the length of the data
+-- the fields of a header in their order: design, part, date and time, and the length of the data
 abbrev pub layout : List Field
 layout =
-    record { letter = 0x61; kind = Kind.Counted }
-    ∷ record { letter = 0x62; kind = Kind.Counted }
-    ∷ record { letter = 0x63; kind = Kind.Counted }
-    ∷ record { letter = 0x64; kind = Kind.Counted }
-    ∷ record { letter = 0x65; kind = Kind.Four }
+    record { letter = 0x61; kind = FieldKind.Counted }
+    ∷ record { letter = 0x62; kind = FieldKind.Counted }
+    ∷ record { letter = 0x63; kind = FieldKind.Counted }
+    ∷ record { letter = 0x64; kind = FieldKind.Counted }
+    ∷ record { letter = 0x65; kind = FieldKind.Four }
     ∷ []
 
--- what a field can hold
-abbrev pub Holds : Kind → List ℕ → Type 0
-Holds Kind.Counted content = length content < 2 ^ 16
-Holds Kind.Four content = length content ≡ 4
+-- a content fits a field of this kind: a text of at most 65,535 bytes, or four bytes
+abbrev pub Holds : FieldKind → List ℕ → Type 0
+Holds FieldKind.Counted content = length content < 2 ^ 16
+Holds FieldKind.Four content = length content ≡ 4
 
--- the bytes between a field's letter and what it holds
-abbrev pub bytes_of_count : Kind → List ℕ → List ℕ
-bytes_of_count Kind.Counted content = length content / 256 ∷ length content % 256 ∷ []
-bytes_of_count Kind.Four content = []
+-- the bytes between a field's letter and its content: the count of a text, none before a number
+abbrev pub bytes_of_count : FieldKind → List ℕ → List ℕ
+bytes_of_count FieldKind.Counted content = length content / 256 ∷ length content % 256 ∷ []
+bytes_of_count FieldKind.Four content = []
 
--- a field with what it holds
+-- the bytes of a field with this content: its letter, the count of a text, and the content
 abbrev pub field_bytes : Field → List ℕ → List ℕ
 field_bytes field content = field.letter ∷ (bytes_of_count field.kind content ++ content)
 
--- fields one after the other, each with what it holds
+-- the bytes of fields one after another, each with its content
 abbrev pub fields_bytes : List Field → List (List ℕ) → List ℕ
 fields_bytes (field ∷ fields) (content ∷ contents) = field_bytes field content ++ fields_bytes fields contents
 fields_bytes (field ∷ fields) [] = []
 fields_bytes [] contents = []
 
--- each field holds what it can hold
+-- there is one content for each of the fields, and it fits the field
 abbrev pub Hold : List Field → List (List ℕ) → Type 0
 Hold (field ∷ fields) (content ∷ contents) = Holds field.kind content × Hold fields contents
 Hold (field ∷ fields) [] = ⊥

@@ -5,19 +5,19 @@
 ghost use Rattle.std.specs.Prelude.{◌≡◌, ◌≤◌, ◌<◌, ◌+◌, ◌++◌, ℕ, List, length, IfOk, IsErrOf, Ok, Err};
 ghost use Rattle.x7_words.specs.Word.{bytes_of_word, word_of_bytes};
 ghost use Rattle.x7_header.specs.Header.{fixed_size};
-ghost use Rattle.x7_header.specs.Reading.{ReturnsAs, letter_at, bytes_at, field_at, fixed_at, number_of_letter, text_of_letter};
+ghost use Rattle.x7_header.specs.Reading.{ReturnsAs, after_letter, first_bytes, field_at, after_fixed_bytes, number_of_letter, text_of_letter};
 
 use crate::fault::HeaderFault;
 use crate::header::FIXED_BYTES;
 use x7_words::word_of;
 
-/// What follows the fixed bytes.
+/// The bytes after the thirteen fixed ones, or `Raw` where the bytes don't begin with these.
 pub fn after_fixed_bytes(bytes: &[u8]) -> Result<&[u8], HeaderFault>
-    ensures value { ReturnsAs (λ rest. rest.now) result (fixed_at bytes.now) }
+    ensures value { ReturnsAs (λ rest. rest.now) result (after_fixed_bytes bytes.now) }
     // Thirteen bytes are judged alike whatever follows.
-    ensures whole { IfOk result (λ x. (rest : List ℕ) → fixed_at (bytes.now ++ rest) ≡ Ok (x.now ++ rest)) }
+    ensures whole { IfOk result (λ x. (rest : List ℕ) → after_fixed_bytes (bytes.now ++ rest) ≡ Ok (x.now ++ rest)) }
     ensures raw { (rest : List ℕ) → fixed_size ≤ length bytes.now → IsErrOf result HeaderFault.Raw →
-        fixed_at (bytes.now ++ rest) ≡ Err HeaderFault.Raw }
+        after_fixed_bytes (bytes.now ++ rest) ≡ Err HeaderFault.Raw }
 {
     if !bytes.starts_with(&FIXED_BYTES) {
         return Err(HeaderFault::Raw);
@@ -25,10 +25,10 @@ pub fn after_fixed_bytes(bytes: &[u8]) -> Result<&[u8], HeaderFault>
     Ok(&bytes[FIXED_BYTES.len()..])
 }
 
-/// What follows the letter that is due.
+/// The bytes after the letter that is due at the beginning; the fault says that the bytes end there, or have another.
 fn after_letter(bytes: &[u8], letter: u8, total: usize) -> Result<&[u8], HeaderFault>
     requires { length bytes.now ≤ total }
-    ensures { ReturnsAs (λ rest. rest.now) result (letter_at total letter bytes.now) }
+    ensures { ReturnsAs (λ rest. rest.now) result (after_letter total letter bytes.now) }
 {
     match bytes {
         [] => Err(HeaderFault::Cut(total)),
@@ -37,9 +37,9 @@ fn after_letter(bytes: &[u8], letter: u8, total: usize) -> Result<&[u8], HeaderF
     }
 }
 
-/// The first `count` bytes, and what follows them.
+/// The first `count` bytes and those after them, or `Cut` where there are fewer.
 fn first_bytes(bytes: &[u8], count: usize, total: usize) -> Result<(&[u8], &[u8]), HeaderFault>
-    ensures { ReturnsAs (λ x. (x.0.now, x.1.now)) result (bytes_at total count bytes.now) }
+    ensures { ReturnsAs (λ x. (x.0.now, x.1.now)) result (first_bytes total count bytes.now) }
 {
     if bytes.len() < count {
         return Err(HeaderFault::Cut(total));
@@ -47,7 +47,7 @@ fn first_bytes(bytes: &[u8], count: usize, total: usize) -> Result<(&[u8], &[u8]
     Ok(bytes.split_at(count))
 }
 
-/// The text of the field of this letter, and what follows it.
+/// The text of the field of this letter, and the bytes after the field.
 #[tactic(auto, unfolding(crate::specs::Reading::field_at))]
 pub fn text_field(bytes: &[u8], letter: u8, total: usize) -> Result<(&[u8], &[u8]), HeaderFault>
     requires { length bytes.now ≤ total }
@@ -71,7 +71,7 @@ pub fn text_field(bytes: &[u8], letter: u8, total: usize) -> Result<(&[u8], &[u8
     }
 }
 
-/// The number of the field of this letter, and what follows it.
+/// The number of the field of this letter, and the bytes after the field.
 #[tactic(auto, unfolding(crate::specs::Reading::field_at))]
 pub fn number_field(bytes: &[u8], letter: u8, total: usize) -> Result<(u32, &[u8]), HeaderFault>
     requires { length bytes.now ≤ total }

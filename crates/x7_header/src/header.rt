@@ -20,7 +20,7 @@ pub struct Head<'b> {
 /// The most bytes of a field of text: its count has two bytes.
 pub const LONGEST_TEXT: usize = 65_535;
 
-/// The bytes before the first field.
+/// The thirteen bytes before a header's first field.
 pub(crate) const FIXED_BYTES: [u8; 13] = [
     0x00, 0x09, 0x0F, 0xF0, 0x0F, 0xF0, 0x0F, 0xF0, 0x0F, 0xF0, 0x00, 0x00, 0x01,
 ];

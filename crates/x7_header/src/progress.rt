@@ -1,14 +1,14 @@
 //! How many bytes to read next of a header, for a caller who reads an input piece by piece.
 ghost use Rattle.std.specs.Prelude.{◌≡◌, ◌<◌, ◌+◌, ◌++◌, ℕ, List, length, IfErr, IfOk, MatchResult, Ok};
 ghost use Rattle.x7_header.specs.Header.{EndsInHeader, fixed_size, layout};
-ghost use Rattle.x7_header.specs.Reading.{FieldWaits, HeaderWaits, LayoutWaits, field_at, fields_lack, header_lacks, number_lacks, number_of_letter, number_wants, text_lacks, text_of_letter, text_wants};
+ghost use Rattle.x7_header.specs.Reading.{FieldWaits, HeaderWaits, LayoutWaits, field_at, fields_lack, wanted, number_lacks, number_of_letter, lack_from_number, text_lacks, text_of_letter, lack_from_text};
 
 use crate::fault::HeaderFault;
 use crate::field::{after_fixed_bytes, number_field, text_field};
 use crate::header::FIXED_BYTES;
 
-/// How many bytes a field of text lacks of its letter, its count or its text, whichever it is in.
-fn text_lack(prefix: &[u8]) -> usize
+/// How many bytes a prefix of a field of text lacks of that in which it ends: the letter, the count, or the text.
+fn text_lacks(prefix: &[u8]) -> usize
     ensures { result ≡ text_lacks prefix.now }
 {
     match prefix {
@@ -21,8 +21,8 @@ fn text_lack(prefix: &[u8]) -> usize
     }
 }
 
-/// How many bytes a field of a number lacks of its letter or its four bytes, whichever it is in.
-fn number_lack(prefix: &[u8]) -> usize
+/// How many bytes a prefix of a field of a number lacks of that in which it ends: the letter, or the four bytes.
+fn number_lacks(prefix: &[u8]) -> usize
     ensures { result ≡ number_lacks prefix.now }
 {
     match prefix {
@@ -31,39 +31,37 @@ fn number_lack(prefix: &[u8]) -> usize
     }
 }
 
-/// What follows the field of text of this letter, or how many bytes it waits for: none where its letter is wrong.
+/// The bytes after the field of text of this letter, or how many bytes it waits for: 0 where its letter is wrong.
 fn after_text(bytes: &[u8], letter: u8) -> Result<&[u8], usize>
     ensures whole { IfOk result (λ rest. (text : List ℕ) × ((total : ℕ) (more : List ℕ) →
         field_at total (text_of_letter letter) (bytes.now ++ more) ≡ Ok (text, rest.now ++ more))) }
     ensures waits { IfErr result (λ lack. FieldWaits (text_of_letter letter) bytes.now lack) }
-    ensures lacks { MatchResult result (λ rest. (later : List ℕ → ℕ) → text_wants letter bytes.now later ≡ later rest.now)
-        (λ lack. (later : List ℕ → ℕ) → text_wants letter bytes.now later ≡ lack) }
+    ensures lacks { MatchResult result (λ rest. (later : List ℕ → ℕ) → lack_from_text letter bytes.now later ≡ later rest.now)
+        (λ lack. (later : List ℕ → ℕ) → lack_from_text letter bytes.now later ≡ lack) }
 {
     match text_field(bytes, letter, bytes.len()) {
         Ok((_, rest)) => Ok(rest),
-        Err(HeaderFault::Cut(_)) => Err(text_lack(bytes)),
+        Err(HeaderFault::Cut(_)) => Err(text_lacks(bytes)),
         Err(_) => Err(0),
     }
 }
 
-/// Nothing where the field of a number of this letter is whole, or how many bytes it
-/// waits for: none where its letter is wrong.
-fn after_number(bytes: &[u8], letter: u8) -> Result<(), usize>
+/// Whether the field of a number of this letter is whole, or how many bytes it waits for: 0 where its letter is wrong.
+fn whole_number(bytes: &[u8], letter: u8) -> Result<(), usize>
     ensures waits { IfErr result (λ lack. FieldWaits (number_of_letter letter) bytes.now lack) }
     ensures lacks { MatchResult result
-        (λ _. number_wants letter bytes.now (λ _. 0) ≡ 0)
-        (λ lack. number_wants letter bytes.now (λ _. 0) ≡ lack) }
+        (λ _. lack_from_number letter bytes.now (λ _. 0) ≡ 0)
+        (λ lack. lack_from_number letter bytes.now (λ _. 0) ≡ lack) }
 {
     match number_field(bytes, letter, bytes.len()) {
         Ok(_) => Ok(()),
-        Err(HeaderFault::Cut(_)) => Err(number_lack(bytes)),
+        Err(HeaderFault::Cut(_)) => Err(number_lacks(bytes)),
         Err(_) => Err(0),
     }
 }
 
-/// Nothing where the fields after the fixed bytes are whole, or how many bytes
-/// they wait for: none where a letter is wrong.
-fn after_fields(bytes: &[u8]) -> Result<(), usize>
+/// Whether the fields after the fixed bytes are whole, or how many bytes they wait for: 0 where a letter is wrong.
+fn whole_fields(bytes: &[u8]) -> Result<(), usize>
     ensures waits { IfErr result (λ lack. LayoutWaits bytes.now lack) }
     ensures whole { IfOk result (λ _. fields_lack layout bytes.now ≡ 0) }
     ensures lacks { IfErr result (λ lack. fields_lack layout bytes.now ≡ lack) }
@@ -72,11 +70,11 @@ fn after_fields(bytes: &[u8]) -> Result<(), usize>
     let rest = after_text(rest, b'b')?;
     let rest = after_text(rest, b'c')?;
     let rest = after_text(rest, b'd')?;
-    after_number(rest, b'e')
+    whole_number(rest, b'e')
 }
 
-/// How many bytes to read next of an input that begins with these, the first bytes of a header. With them the part ends
-/// that is being read: the fixed bytes, or a field's letter, count, text or number.
+/// How many bytes to read next of an input that begins with these. They complete what is being read of the header: the
+/// fixed bytes, or a field's letter, count, text or number. One byte is wanted where nothing is lacked.
 pub fn wanted(bytes: &[u8]) -> usize
     ensures some { 0 < result }
     // At first the fixed bytes.
@@ -85,7 +83,7 @@ pub fn wanted(bytes: &[u8]) -> usize
     // read after it, nor after a wrong letter.
     ensures waits { EndsInHeader bytes.now → HeaderWaits bytes.now result }
     // All that is lacked is wanted at once.
-    ensures lacks { result ≡ header_lacks bytes.now }
+    ensures lacks { result ≡ wanted bytes.now }
 {
     if bytes.len() < FIXED_BYTES.len() {
         return FIXED_BYTES.len() - bytes.len();
@@ -93,7 +91,7 @@ pub fn wanted(bytes: &[u8]) -> usize
     let Ok(fields) = after_fixed_bytes(bytes) else {
         return 1;
     };
-    match after_fields(fields) {
+    match whole_fields(fields) {
         Err(lack) if lack > 0 => lack,
         _ => 1,
     }

@@ -7,9 +7,9 @@ use crate::fault::HeaderFault;
 use crate::field::{after_fixed_bytes, number_field, text_field};
 use crate::header::Head;
 
-/// The fields after the fixed bytes, of an input of `total` bytes.
+/// What a header holds, read from the bytes after its fixed ones, of an input of `total` bytes.
 #[tactic(auto, unfolding(crate::specs::Reading::layout_at, crate::specs::Reading::fields_at))]
-fn fields(bytes: &[u8], total: usize) -> Result<Head<'_>, HeaderFault>
+fn read_layout(bytes: &[u8], total: usize) -> Result<Head<'_>, HeaderFault>
     requires { length bytes.now ≤ total }
     ensures { ReturnsAs (λ head. (contents_of head, head.size)) result (layout_at total bytes.now) }
 {
@@ -35,7 +35,7 @@ pub fn header_of(bytes: &[u8]) -> Result<Head<'_>, HeaderFault>
     // A header has at most 262,170 bytes.
     ensures limit { IfOk result (λ head. head.size ≤ longest_header) }
     // Each header that stands at the beginning is read, whatever follows it.
-    ensures only { (x : Contents) (rest : List ℕ) → HaveHeader x → bytes.now ≡ header_bytes x ++ rest →
+    ensures complete { (x : Contents) (rest : List ℕ) → HaveHeader x → bytes.now ≡ header_bytes x ++ rest →
         IsOkAnd result (λ head. contents_of head ≡ x) }
     // `Raw` comes exactly where the input doesn't begin with the fixed bytes.
     ensures raw { IsErrOf result HeaderFault.Raw ↔ ((rest : List ℕ) → bytes.now ≢ fixed_bytes ++ rest) }
@@ -48,5 +48,5 @@ pub fn header_of(bytes: &[u8]) -> Result<Head<'_>, HeaderFault>
     // Which fault it is, field by field.
     ensures exact { ReturnsAs (λ head. (contents_of head, head.size)) result (header_at bytes.now) }
 {
-    fields(after_fixed_bytes(bytes)?, bytes.len())
+    read_layout(after_fixed_bytes(bytes)?, bytes.len())
 }

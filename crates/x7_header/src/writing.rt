@@ -2,14 +2,14 @@
 ghost use Rattle.std.specs.Prelude.{◌≡◌, ◌<◌, ◌^◌, ◌++◌, length, IfOk, OnOk, Ok, ℕ, List};
 ghost use Rattle.x7_words.specs.Word.{bytes_of_word};
 ghost use Rattle.x7_header.specs.Reading.{header_at};
-ghost use Rattle.x7_header.specs.Header.{Kind, Contents, HaveHeader, contents_of, header_bytes, field_bytes};
+ghost use Rattle.x7_header.specs.Header.{FieldKind, Contents, HaveHeader, contents_of, header_bytes, field_bytes};
 
 use crate::header::{FIXED_BYTES, Head};
 use std::alloc::Global;
 use x7_words::{NoMemory, bytes_of};
 
-/// Puts the bytes at the end.
-fn put(out: &mut Vec<u8>, bytes: &[u8]) -> Result<(), NoMemory>
+/// Appends bytes to a header's bytes.
+fn append(out: &mut Vec<u8>, bytes: &[u8]) -> Result<(), NoMemory>
     ensures { OnOk result (out.new.items ≡ out.old.items ++ bytes.now) }
 {
     match out.extend_from_slice(bytes) {
@@ -18,42 +18,42 @@ fn put(out: &mut Vec<u8>, bytes: &[u8]) -> Result<(), NoMemory>
     }
 }
 
-/// Puts a field of text at the end.
-fn put_text(out: &mut Vec<u8>, letter: u8, text: &[u8]) -> Result<(), NoMemory>
+/// Appends a field of text to a header's bytes: its letter, its count in two bytes, and the text.
+fn append_text(out: &mut Vec<u8>, letter: u8, text: &[u8]) -> Result<(), NoMemory>
     requires { length text.now < 2 ^ 16 }
     ensures { OnOk result (out.new.items ≡ out.old.items ++
-        field_bytes (record { letter = letter; kind = Kind.Counted }) text.now) }
+        field_bytes (record { letter = letter; kind = FieldKind.Counted }) text.now) }
 {
     let count = text.len();
-    put(out, &[letter, (count / 256) as u8, (count % 256) as u8])?;
-    put(out, text)
+    append(out, &[letter, (count / 256) as u8, (count % 256) as u8])?;
+    append(out, text)
 }
 
-/// Puts a field of a number at the end.
-fn put_number(out: &mut Vec<u8>, letter: u8, number: u32) -> Result<(), NoMemory>
+/// Appends a field of a number to a header's bytes: its letter, and the number in four bytes.
+fn append_number(out: &mut Vec<u8>, letter: u8, number: u32) -> Result<(), NoMemory>
     ensures { OnOk result (out.new.items ≡ out.old.items ++
-        field_bytes (record { letter = letter; kind = Kind.Four }) (bytes_of_word number)) }
+        field_bytes (record { letter = letter; kind = FieldKind.Four }) (bytes_of_word number)) }
 {
-    put(out, &[letter])?;
-    put(out, &bytes_of(number))
+    append(out, &[letter])?;
+    append(out, &bytes_of(number))
 }
 
-/// The header's bytes, field by field.
+/// The bytes of the header with what a head holds, field by field.
 fn bytes_of_header(alloc: Global, head: &Head<'_>) -> Result<Vec<u8>, NoMemory>
     requires { HaveHeader (contents_of head.now) }
     ensures { IfOk result (λ out. out.items ≡ header_bytes (contents_of head.now)) }
 {
     let mut out = Vec::new(alloc);
-    put(&mut out, &FIXED_BYTES)?;
-    put_text(&mut out, b'a', head.a)?;
-    put_text(&mut out, b'b', head.b)?;
-    put_text(&mut out, b'c', head.c)?;
-    put_text(&mut out, b'd', head.d)?;
-    put_number(&mut out, b'e', head.length)?;
+    append(&mut out, &FIXED_BYTES)?;
+    append_text(&mut out, b'a', head.a)?;
+    append_text(&mut out, b'b', head.b)?;
+    append_text(&mut out, b'c', head.c)?;
+    append_text(&mut out, b'd', head.d)?;
+    append_number(&mut out, b'e', head.length)?;
     Ok(out)
 }
 
-/// The header's bytes. The size is not looked at.
+/// The bytes of the header with what a head holds, whose `size` is not looked at; an error is want of memory alone.
 pub fn write_header(alloc: Global, head: &Head<'_>) -> Result<Vec<u8>, NoMemory>
     requires { HaveHeader (contents_of head.now) }
     ensures bytes { IfOk result (λ out. out.items ≡ header_bytes (contents_of head.now)) }
@@ -61,7 +61,7 @@ pub fn write_header(alloc: Global, head: &Head<'_>) -> Result<Vec<u8>, NoMemory>
     ensures back { (rest : List ℕ) → header_at (header_bytes (contents_of head.now) ++ rest)
         ≡ Ok (contents_of head.now, length (header_bytes (contents_of head.now))) }
     // No head with other contents has these bytes.
-    ensures alone { (x : Contents) → HaveHeader x →
+    ensures one_head { (x : Contents) → HaveHeader x →
         header_bytes x ≡ header_bytes (contents_of head.now) → x ≡ contents_of head.now }
 {
     bytes_of_header(alloc, head)

@@ -8,7 +8,7 @@ use Rattle.std.proofs.lemmas.Fmt.{length-decimal-le}
 use Rattle.std.proofs.lemmas.Grind.{flat_map-append}
 use Rattle.x7_words.specs.Word.{AreBytes, bytes_of_word}
 use Rattle.x7_words.proofs.ListLemmas.{all_append, all_back, all_prefix}
-use Rattle.x7_header.specs.Header.{Contents, field_bytes, fixed_bytes, HaveHeader, header_bytes, Kind}
+use Rattle.x7_header.specs.Header.{Contents, field_bytes, fixed_bytes, HaveHeader, header_bytes, FieldKind}
 use Rattle.x7_header.specs.Reading.{header_at}
 use Rattle.x7_header.specs.declared.fault.HeaderFault.{HeaderFault}
 use Rattle.x7_header.specs.declared.fault.HeaderFault.TheVariants as fault
@@ -192,7 +192,7 @@ field_short : (bs : List ℕ) → length (field_text bs) ≤ 2 * length bs + 1
 field_short [] = omega arith
 field_short (b ∷ bs) = omega (arith, length_hex_bytes (b ∷ bs))
 
-field_long : (letter : ℕ) (bs rest : List ℕ) → length (field_bytes (record { letter = letter; kind = Kind.Counted }) bs ++ rest) ≡ 3 + length bs + length rest
+field_long : (letter : ℕ) (bs rest : List ℕ) → length (field_bytes (record { letter = letter; kind = FieldKind.Counted }) bs ++ rest) ≡ 3 + length bs + length rest
 field_long letter bs rest = omega (arith, length-append bs rest)
 
 spaced_long : (text rest : List ℕ) → length (text ++ 32 ∷ rest) ≡ length text + 1 + length rest
@@ -200,15 +200,15 @@ spaced_long text rest = omega (arith, length-append text (32 ∷ rest))
 
 bit_short : (x : Contents) → HaveHeader x → length (bit_text x) + 1 ≤ 5 * length (header_bytes x)
 bit_short x h =
-    let e = field_bytes (record { letter = 0x65; kind = Kind.Four }) (bytes_of_word x.data_length) ++ [] in
-    let d = field_bytes (record { letter = 0x64; kind = Kind.Counted }) x.d ++ e in
-    let c = field_bytes (record { letter = 0x63; kind = Kind.Counted }) x.c ++ d in
-    let b = field_bytes (record { letter = 0x62; kind = Kind.Counted }) x.b ++ c in
+    let e = field_bytes (record { letter = 0x65; kind = FieldKind.Four }) (bytes_of_word x.data_length) ++ [] in
+    let d = field_bytes (record { letter = 0x64; kind = FieldKind.Counted }) x.d ++ e in
+    let c = field_bytes (record { letter = 0x63; kind = FieldKind.Counted }) x.c ++ d in
+    let b = field_bytes (record { letter = 0x62; kind = FieldKind.Counted }) x.b ++ c in
     let n : List ℕ = decimal x.data_length in
     let t4 : List ℕ = field_text x.d ++ 32 ∷ n in
     let t3 : List ℕ = field_text x.c ++ 32 ∷ t4 in
     let t2 : List ℕ = field_text x.b ++ 32 ∷ t3 in
-    let all : length (header_bytes x) ≡ 13 + length (field_bytes (record { letter = 0x61; kind = Kind.Counted }) x.a ++ b) = length-append fixed_bytes (field_bytes (record { letter = 0x61; kind = Kind.Counted }) x.a ++ b) in
+    let all : length (header_bytes x) ≡ 13 + length (field_bytes (record { letter = 0x61; kind = FieldKind.Counted }) x.a ++ b) = length-append fixed_bytes (field_bytes (record { letter = 0x61; kind = FieldKind.Counted }) x.a ++ b) in
     let line : length (bit_text x) ≡ 4 + length (field_text x.a ++ 32 ∷ t2) = length-append (codes "bit ") (field_text x.a ++ 32 ∷ t2) in
     omega (
       arith,

@@ -4,7 +4,7 @@ use Rattle.std.specs.Fmt.{decimal}
 use Rattle.std.specs.List.{AllByRecursion}
 use Rattle.x7_words.specs.Word.{AreBytes, bytes_of_word}
 use Rattle.x7_words.proofs.ListLemmas.{all_back, all_prefix}
-use Rattle.x7_header.specs.Header.{Contents, field_bytes, fixed_bytes, HaveHeader, header_bytes, Kind}
+use Rattle.x7_header.specs.Header.{Contents, field_bytes, fixed_bytes, HaveHeader, header_bytes, FieldKind}
 use Rattle.x7_header.specs.Reading.{header_at}
 use Rattle.x7_header.specs.declared.fault.HeaderFault.{HeaderFault}
 use Rattle.x7_header.specs.declared.fault.HeaderFault.TheVariants as fault
@@ -35,18 +35,18 @@ bit_free x h = field_more x.a (field_text x.b ++ 32 ∷ (field_text x.c ++ 32 �
     (field_more x.c (field_text x.d ++ 32 ∷ decimal x.data_length) (field_more x.d (decimal x.data_length) (decimal_free x.data_length (omega (arith, h.data_length))))))
 
 -- the bytes of a header are those of its fields
-first_bytes : (letter : ℕ) (x rest : List ℕ) → AreBytes (field_bytes (record { letter = letter; kind = Kind.Counted }) x ++ rest) → AreBytes x × AreBytes rest
+first_bytes : (letter : ℕ) (x rest : List ℕ) → AreBytes (field_bytes (record { letter = letter; kind = FieldKind.Counted }) x ++ rest) → AreBytes x × AreBytes rest
 first_bytes letter x rest a =
-    let b = all_prefix (λ c. c < 256) (field_bytes (record { letter = letter; kind = Kind.Counted }) x) rest a in
-    (all_back (λ c. c < 256) (letter ∷ length x / 256 ∷ length x % 256 ∷ []) x b, all_back (λ c. c < 256) (field_bytes (record { letter = letter; kind = Kind.Counted }) x) rest a)
+    let b = all_prefix (λ c. c < 256) (field_bytes (record { letter = letter; kind = FieldKind.Counted }) x) rest a in
+    (all_back (λ c. c < 256) (letter ∷ length x / 256 ∷ length x % 256 ∷ []) x b, all_back (λ c. c < 256) (field_bytes (record { letter = letter; kind = FieldKind.Counted }) x) rest a)
 
 pub fitting_header : (x : Contents) → HaveHeader x → AreBytes (header_bytes x) → FitsHeader x
 fitting_header x h all =
-    let e = field_bytes (record { letter = 0x65; kind = Kind.Four }) (bytes_of_word x.data_length) ++ [] in
-    let d = field_bytes (record { letter = 0x64; kind = Kind.Counted }) x.d ++ e in
-    let c = field_bytes (record { letter = 0x63; kind = Kind.Counted }) x.c ++ d in
-    let b = field_bytes (record { letter = 0x62; kind = Kind.Counted }) x.b ++ c in
-    let a = field_bytes (record { letter = 0x61; kind = Kind.Counted }) x.a ++ b in
+    let e = field_bytes (record { letter = 0x65; kind = FieldKind.Four }) (bytes_of_word x.data_length) ++ [] in
+    let d = field_bytes (record { letter = 0x64; kind = FieldKind.Counted }) x.d ++ e in
+    let c = field_bytes (record { letter = 0x63; kind = FieldKind.Counted }) x.c ++ d in
+    let b = field_bytes (record { letter = 0x62; kind = FieldKind.Counted }) x.b ++ c in
+    let a = field_bytes (record { letter = 0x61; kind = FieldKind.Counted }) x.a ++ b in
     let fields : AreBytes a = all_back (λ k. k < 256) fixed_bytes a all in
     let in_a = first_bytes 0x61 x.a b fields in
     let in_b = first_bytes 0x62 x.b c in_a.1 in

@@ -7,14 +7,14 @@ use Rattle.x7_boot.specs.Attempt.{AttemptCourse}
 use Rattle.x7_boot.specs.Image.{flash_limit, image_of, image_size, place_after_golden}
 use Rattle.x7_boot.specs.Boots.{BootCourse, IsCourse}
 use Rattle.x7_recovery.specs.OpenBoot.{BootsOpen, EachBootsOpen, FallsBackClean, HasStreams, UpdateFails}
-use Rattle.x7_recovery.specs.OpenSlot.{BeginsAsImage, IsOpened, Opened, image_of_flash, slot_of_flash}
+use Rattle.x7_recovery.specs.OpenSlot.{BeginsAsImage, IsOpenFlash, OpenFlash, image_of_flash, slot_of_flash}
 use Rattle.x7_recovery.specs.Updated.{IsUpdated, one_more, opened_by}
 use Rattle.x7_recovery.proofs.CleanBootLemmas.{falls_clean}
 use Rattle.x7_recovery.proofs.HasOpenLemmas.{after_is_opened, image_as, image_golden_stands, image_is_opened, image_update_stands}
 use Rattle.x7_recovery.proofs.OpenBootLemmas.{falls_alike, falls_back, full, starts, stops, tries}
 use Rattle.x7_recovery.proofs.StaysLemmas.{clean_later, place_later}
 
-pub boots_open : (o : Opened) → IsOpened o → EachBootsOpen o
+pub boots_open : (o : OpenFlash) → IsOpenFlash o → EachBootsOpen o
 boots_open o is c course = record {
   tries = tries o is c course;
   starts = λ t ended. starts o is c t course ended;
@@ -40,9 +40,9 @@ image_boots part golden update after is fits =
 
 -- ---- after updates
 
-updated_is_opened : (part : PartData) (flash found : List ℕ) (golden : AttemptCourse) → (u : IsUpdated part flash found golden) → IsOpened (opened_by part flash found golden u)
+updated_is_opened : (part : PartData) (flash found : List ℕ) (golden : AttemptCourse) → (u : IsUpdated part flash found golden) → IsOpenFlash (opened_by part flash found golden u)
 updated_is_opened part flash found golden u =
-    subst (λ (place : ℕ). IsOpened (slot_of_flash part found u.after.next place)) (place_later flash u.before u.updates) (after_is_opened part u.stream u.before found u.unit u.layout u.fits u.after)
+    subst (λ (place : ℕ). IsOpenFlash (slot_of_flash part found u.after.next place)) (place_later flash u.before u.updates) (after_is_opened part u.stream u.before found u.unit u.layout u.fits u.after)
 
 pub updated_boots : (part : PartData) (flash found : List ℕ) (golden : AttemptCourse) → (u : IsUpdated part flash found golden) → EachBootsOpen (opened_by part flash found golden u)
 updated_boots part flash found golden u = boots_open (opened_by part flash found golden u) (updated_is_opened part flash found golden u)

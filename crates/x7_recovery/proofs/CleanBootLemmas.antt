@@ -28,7 +28,7 @@ use Rattle.x7_engine.specs.declared.kept.Kept.{Kept}
 use Rattle.x7_regs.specs.BootStatus.{boot_status_of}
 use Rattle.x7_regs.specs.declared.boot_status.Attempt.{Attempt}
 use Rattle.x7_regs.specs.declared.boot_status.Cause.{Cause}
-use Rattle.x7_boot.specs.Attempt.{EndsFirst, IsAttemptOver, AttemptCourse, ending_at}
+use Rattle.x7_boot.specs.Attempt.{EndsFirst, IsFlashAttempt, AttemptCourse, ending_at}
 use Rattle.x7_boot.specs.Boot.{at_power, end_state}
 use Rattle.x7_boot.specs.Image.{open_slot}
 use Rattle.x7_boot.specs.declared.attempt.Ending.TheVariants.{Started}
@@ -39,7 +39,7 @@ use Rattle.x7_recovery.specs.Clean.{StartsClean}
 use Rattle.x7_recovery.specs.Golden.{with_erased}
 use Rattle.x7_boot.specs.Boots.{BootCourse, IsCourse}
 use Rattle.x7_recovery.specs.OpenBoot.{FallsBackClean, UpdateFails}
-use Rattle.x7_recovery.specs.OpenSlot.{HasOpen, IsOpened, Opened}
+use Rattle.x7_recovery.specs.OpenSlot.{HasOpenSlot, IsOpenFlash, OpenFlash}
 use Rattle.x7_effects.proofs.EndLemmas.{memory_all}
 use Rattle.x7_effects.proofs.GoingLemmas.{IsGoing, going_bytes}
 use Rattle.x7_recovery.proofs.SlotLemmas.{slot_long}
@@ -59,7 +59,7 @@ regroup a b c d = simp append_assoc
 regroup_word : (a b p w back more : List ℕ) → (a ++ (b ++ (p ++ (w ++ back)))) ++ more ≡ ((a ++ b) ++ p) ++ (w ++ (back ++ more))
 regroup_word a b p w back more = simp append_assoc
 
-module _ (flash : List ℕ) (number start : ℕ) (o : HasOpen flash number start) (small : start < 2 ^ 32) (s rest : List ℕ) (split : flash ≡ (sector flash number start o small ++ s) ++ rest) (fits : AreBytes (sector flash number start o small ++ s)) where
+module _ (flash : List ℕ) (number start : ℕ) (o : HasOpenSlot flash number start) (small : start < 2 ^ 32) (s rest : List ℕ) (split : flash ≡ (sector flash number start o small ++ s) ++ rest) (fits : AreBytes (sector flash number start o small ++ s)) where
   abbrev first : List ℕ
   first = slots.sector flash number start o small
 
@@ -122,7 +122,7 @@ module _ (flash : List ℕ) (number start : ℕ) (o : HasOpen flash number start
 
 -- ---- the fallback
 
-module _ (o : Opened) (is : IsOpened o) (t : AttemptCourse) (c : StartsClean o.part o.flash t) where
+module _ (o : OpenFlash) (is : IsOpenFlash o) (t : AttemptCourse) (c : StartsClean o.part o.flash t) where
   abbrev s : List ℕ
   s = drop 65536 t.bytes
 
@@ -259,7 +259,7 @@ module _ (o : Opened) (is : IsOpened o) (t : AttemptCourse) (c : StartsClean o.p
               ∙ ap (λ (q : Kept). ending_at o.part q (take k one)) (sym c.starts.kept)
         ]
 
-    pub fallen_is : IsAttemptOver o.part o.flash fallen
+    pub fallen_is : IsFlashAttempt o.part o.flash fallen
     fallen_is =
         let count : length (prefix' ++ s) ≡ length t.bytes = omega (arith, length-append prefix' s, prefix_long, length-drop 65536 t.bytes, long) in
         inl (ends_alike o.part one o.flash t fallen x (record {

@@ -25,12 +25,12 @@ use Rattle.x7_engine.proofs.PassesLemmas.{goes_past, went_past, why_passes}
 use Rattle.x7_engine.proofs.SameLemmas.{IsIdle, IsNear, IsSame, SameStartup, near_clear, near_null, near_shutdown, near_spi, near_write, ordered, same_more}
 use Rattle.x7_effects.proofs.GoingLemmas.{IsGoing, going_bytes, why_none}
 use Rattle.x7_effects.proofs.StillLemmas.{IsStill, never_armed}
-use Rattle.x7_recovery.specs.Clean.{BeginsClean, IsLead, bspi, bspi_read, clear, later, nothing, null, shutdown, timer, wbstar}
+use Rattle.x7_recovery.specs.Clean.{BeginsClean, MayPrecedeRcrc, bspi, bspi_read, clear, later, nothing, null, shutdown, timer, wbstar}
 use Rattle.x7_recovery.proofs.OpenLemmas.{desync_at}
 
 module _ (part : PartData) (kept power : Kept) (low : ℕ) (fell : is_fallback kept.kind ≡ true) where
   module _ (c : History) (near : IsNear part low c []) (calm : (m : ℕ) → low ≤ m → stop_of part kept c m ≡ None) where
-    lead_near : (h : History) → IsLead h → IsNear part low (moved low h ++ c) (moved low h)
+    lead_near : (h : History) → MayPrecedeRcrc h → IsNear part low (moved low h ++ c) (moved low h)
     lead_near _ nothing = near
     lead_near _ (wbstar w place h l) = near_write part low (moved low h ++ c) (moved low h) (lead_near h l) 16 w (low + place) (inl refl) (omega arith)
     lead_near _ (timer w place h l) = near_write part low (moved low h ++ c) (moved low h) (lead_near h l) 17 w (low + place) (inr (inl refl)) (omega arith)
@@ -43,7 +43,7 @@ module _ (part : PartData) (kept power : Kept) (low : ℕ) (fell : is_fallback k
     clean_same _ (clear place h l) = near_clear part low (moved low h ++ c) (moved low h) (lead_near h l) (low + place) (omega arith)
     clean_same _ (later e h b) = same_more part low (moved low h ++ c) (moved low h) (clean_same h b) (entry e.access (low + e.place)) (omega arith)
 
-    lead_stops : (h : History) (m : ℕ) → low ≤ m → IsLead h → stop_of part kept (moved low h ++ c) m ≡ None
+    lead_stops : (h : History) (m : ℕ) → low ≤ m → MayPrecedeRcrc h → stop_of part kept (moved low h ++ c) m ≡ None
     lead_stops _ m k nothing = calm m k
     lead_stops _ m k (wbstar w place h l) = goes_past part kept (moved low h ++ c) (Write 16 w) (low + place) m fell (lead_stops h (low + place) (omega arith) l) (why_none part kept (moved low h ++ c) (Write 16 w) refl refl)
     lead_stops _ m k (timer w place h l) = goes_past part kept (moved low h ++ c) (Write 17 w) (low + place) m fell (lead_stops h (low + place) (omega arith) l) (why_none part kept (moved low h ++ c) (Write 17 w) refl refl)
@@ -60,7 +60,7 @@ module _ (part : PartData) (kept power : Kept) (low : ℕ) (fell : is_fallback k
 
     -- a history that begins clean, or what may stand before
     abbrev pub IsClean : History → Type 0
-    IsClean h = IsLead h ⊎ BeginsClean h
+    IsClean h = MayPrecedeRcrc h ⊎ BeginsClean h
 
     -- what a prefix comes to: no stop, startup as at power, and the same memory
     pub record ComesAlike (h : History) (m : ℕ) : Type 0 where
@@ -77,13 +77,13 @@ not_empty _ e (clear place h l) = absurd (cc)
 not_empty _ e (later x h b) = absurd (cc)
 
 abbrev pub AreClean : History → Type 0
-AreClean h = IsLead h ⊎ BeginsClean h
+AreClean h = MayPrecedeRcrc h ⊎ BeginsClean h
 
 pick : (b : Bool) (x y : History) → AreClean x → AreClean y → AreClean (if b then x else y)
 pick true x y p q = p
 pick false x y p q = q
 
-lead_until : (n : ℕ) (h : History) → IsLead h → AreClean (until n h)
+lead_until : (n : ℕ) (h : History) → MayPrecedeRcrc h → AreClean (until n h)
 lead_until n _ nothing = inl nothing
 lead_until n _ (wbstar w place h l) = pick (nat_lt n place) (until n h) (entry (Write 16 w) place ∷ h) (lead_until n h l) (inl (wbstar w place h l))
 lead_until n _ (timer w place h l) = pick (nat_lt n place) (until n h) (entry (Write 17 w) place ∷ h) (lead_until n h l) (inl (timer w place h l))

@@ -26,7 +26,7 @@ use Rattle.x7_engine.specs.State.{history_by, memory_in, state_of, stop_in, why_
 use Rattle.x7_engine.specs.Stop.{Stopped, stop_fault}
 use Rattle.x7_engine.specs.Value.{attempt_of}
 use Rattle.x7_engine.specs.declared.kept.Kept.{Kept}
-use Rattle.x7_effects.specs.Played.{PlaysFull, resting_after}
+use Rattle.x7_effects.specs.Played.{PlaysFull, device_after}
 use Rattle.x7_effects.proofs.Items.{bus_width_head, closed, writes_entered}
 use Rattle.x7_effects.proofs.Checking.{at_first, pieces_length, with_checks}
 use Rattle.x7_effects.proofs.EndLemmas.{memory_all}
@@ -39,7 +39,7 @@ use Rattle.x7_effects.proofs.PlannerLemmas.{full_same}
 use Rattle.x7_effects.proofs.RestingLemmas.{stream_history}
 use Rattle.x7_effects.proofs.StreamLemmas.{bytes_fit}
 use Rattle.x7_effects.proofs.Streams as items
-use Rattle.x7_boot.specs.Attempt.{IsAttemptOver, NoneBefore, AttemptCourse, ending_at}
+use Rattle.x7_boot.specs.Attempt.{IsFlashAttempt, NoneBefore, AttemptCourse, ending_at}
 use Rattle.x7_boot.specs.Boot.{end_state}
 use Rattle.x7_boot.specs.declared.attempt.Ending.TheVariants.{Started}
 use Rattle.x7_boot.proofs.LeastLemmas.{IsLeast, least_of}
@@ -104,7 +104,7 @@ seven_whole part kept bytes stream k fits d seven =
 -- the attempt has ignored an IPROG, or not
 pub record StartsWith (part : PartData) (kept : Kept) (address : ℕ) (flash : List ℕ) (plan : PlanData) (ignored : Bool) : Type 0 where
   pub course : AttemptCourse
-  pub is : IsAttemptOver part flash course
+  pub is : IsFlashAttempt part flash course
   pub kept_is : course.kept ≡ kept
   pub address_is : course.address ≡ address
   pub ending_is : course.ending ≡ Started
@@ -124,7 +124,7 @@ full_starts part kept bytes plan address flash more ignored fits rest never is f
     let stream : List ℕ = full_stream part plan in
     let all : List ℕ = bytes ++ stream in
     let all_fit : AreBytes all = all_append (λ b. b < 256) bytes stream fits (full_stream_fits part plan is for) in
-    let plays : PlaysFull (resting_after part kept bytes) stream plan = full_law part kept bytes plan fits rest is for.is_plan for.width for.addressed in
+    let plays : PlaysFull (device_after part kept bytes) stream plan = full_law part kept bytes plan fits rest is for.is_plan for.width for.addressed in
     let none : stop_in part kept all ≡ None = plays.rests.no_stop in
     let seven_at : ℕ → Bool = λ k. (state_of part kept false (take k all)).phase == 7 in
     let seven : seven_at (length all) ≡ true = ap (λ (b : List ℕ). (state_of part kept false b).phase == 7) (take-length all) ∙ ap (λ (p : ℕ). p == 7) (plays.phase false) in

@@ -22,7 +22,7 @@ use Rattle.x7_engine.specs.declared.stop.StopCause.{StopCause}
 use Rattle.x7_engine.specs.declared.stop.StopCause.TheVariants as stop
 use Rattle.x7_engine.specs.Value.{failure_of}
 use Rattle.x7_regs.specs.declared.boot_status.Cause.{Cause}
-use Rattle.x7_effects.specs.Played.{PlaysFull, resting_after}
+use Rattle.x7_effects.specs.Played.{PlaysFull, device_after}
 use Rattle.x7_effects.proofs.Items.{writes_entered}
 use Rattle.x7_effects.proofs.Checking.{pieces_length}
 use Rattle.x7_effects.proofs.FormLemmas.{full_clears, full_fits}
@@ -107,7 +107,7 @@ module _ (u : Updating) (p : IsPrepared u) (t : AttemptCourse) (s : StartsAsPlan
 
   none : stop_in u.part at_power short ≡ None
   none =
-      let plays : PlaysFull (resting_after u.part at_power erased_sector) stream u.golden = full_law u.part at_power erased_sector u.golden bytes_erased_sector (rest_erased u.part) p.is_part p.plan.is_plan p.plan.width p.plan.addressed in
+      let plays : PlaysFull (device_after u.part at_power erased_sector) stream u.golden = full_law u.part at_power erased_sector u.golden bytes_erased_sector (rest_erased u.part) p.is_part p.plan.is_plan p.plan.width p.plan.addressed in
       plays.rests.no_stop
 
   at_seven : ((state_of u.part at_power false (take (length t.bytes) short)).phase == 7) ≡ true

@@ -23,7 +23,7 @@ use Rattle.x7_engine.specs.State.{memory_in, state_of}
 use Rattle.x7_engine.proofs.AlikeLemmas.{alike_memory, alike_state}
 use Rattle.x7_engine.proofs.RestLemmas.{history_on, rest_on}
 use Rattle.x7_engine.specs.declared.kept.Kept.{Kept}
-use Rattle.x7_boot.specs.Attempt.{EndsFirst, IsAttemptOver, AttemptCourse}
+use Rattle.x7_boot.specs.Attempt.{EndsFirst, IsFlashAttempt, AttemptCourse}
 use Rattle.x7_boot.specs.Boot.{BootedState, IsBoot, LeadsToEnd, at_power, end_state, next_by}
 use Rattle.x7_boot.specs.Boots.{BootCourse, course_along, course_of}
 use Rattle.x7_boot.specs.declared.attempt.Ending.TheVariants as ending
@@ -33,7 +33,7 @@ use Rattle.x7_boot.proofs.BootsLemmas.{along, boot_course, tried_is}
 use Rattle.x7_boot.proofs.OverLemmas.{alike_ends, alike_attempt, started_first, taken_is, attempt_over}
 use Rattle.x7_boot.proofs.StartLemmas.{NeverStarts}
 use Rattle.x7_update.specs.Layout.{HasLayout, four_at, open_switch, update_place}
-use Rattle.x7_update.specs.After.{IsBetween, MayBeLeft, after, between, untouched}
+use Rattle.x7_update.specs.After.{IsBetweenSlots, MayBeLeft, after, between, untouched}
 use Rattle.x7_update.proofs.LawLemmas.{no_sync}
 use Rattle.x7_recovery.specs.Golden.{BootsAlike, GoldenStarts, HaveSameGolden, IsPreparedAny, LeadsNowhere, StartsAlike, StartsAsPlanned, StartsAtPower, UpdatingAny, as_after, as_before, golden, with_erased}
 use Rattle.x7_recovery.specs.Recovery.{IsPrepared, Updating}
@@ -79,7 +79,7 @@ starts_after part g h s f r t gaps starts within =
     (subst (AreAlike (take k (g ++ s))) (sym (take-append-le k (h ++ s) r (omega (arith, l, within, as_long)))) (alike_prefixes g h s k gaps)) in
     let enough : length t.bytes ≤ length other = omega (arith, within, as_long, length-append (h ++ s) r) in (
       record {
-        is = subst (λ (n : ℕ). IsAttemptOver part (drop n other) (alike_attempt t other)) (refl {a = 0}) (inl (subst (λ (n : ℕ). EndsFirst part (drop n other) (alike_attempt t other)) (sym starts.address) (alike_ends part one other t x enough alike)));
+        is = subst (λ (n : ℕ). IsFlashAttempt part (drop n other) (alike_attempt t other)) (refl {a = 0}) (inl (subst (λ (n : ℕ). EndsFirst part (drop n other) (alike_attempt t other)) (sym starts.address) (alike_ends part one other t x enough alike)));
         kept = starts.kept;
         address = starts.address;
         started = starts.started;
@@ -193,7 +193,7 @@ erased_prefix k l = (prefix_asks_nothing erased_sector [] k (omega (arith, l, le
 
 -- ---- what a power loss leaves
 
-pub golden_stands : (flash found : List ℕ) (n : ℕ) → HasLayout flash → IsBetween flash found → n ≤ update_place flash → take (n - 65536) (drop 65536 found) ≡ take (n - 65536) (drop 65536 flash)
+pub golden_stands : (flash found : List ℕ) (n : ℕ) → HasLayout flash → IsBetweenSlots flash found → n ≤ update_place flash → take (n - 65536) (drop 65536 found) ≡ take (n - 65536) (drop 65536 flash)
 golden_stands flash found n l b most = ext_get_or 0 (take (n - 65536) (drop 65536 found)) (take (n - 65536) (drop 65536 flash)) (found_long ∙ sym flash_long) each
   where
     place : update_place flash ≤ length flash
@@ -214,7 +214,7 @@ golden_stands flash found n l b most = ext_get_or 0 (take (n - 65536) (drop 6553
         ∙ sym (get_or-drop 65536 flash i 0)
         ∙ sym (get_or-take (n - 65536) (drop 65536 flash) i 0 short)
 
-pub between_alike : (part : PartData) (flash found : List ℕ) (t : AttemptCourse) (b : BootedState) → HasLayout flash → IsBetween flash found → GoldenStarts part flash t → AreBytes found → (boot : IsBoot part found b) → StartsAlike part t (course_of b boot.last)
+pub between_alike : (part : PartData) (flash found : List ℕ) (t : AttemptCourse) (b : BootedState) → HasLayout flash → IsBetweenSlots flash found → GoldenStarts part flash t → AreBytes found → (boot : IsBoot part found b) → StartsAlike part t (course_of b boot.last)
 between_alike part flash found t b l left starts fits boot =
     leading_nowhere_alike part (with_erased flash) found t (erased_leads_nowhere (drop 65536 flash)) (no_sync flash found l left) (subst AreBytes (sym (erased_take (drop 65536 flash))) bytes_erased_sector) fits
     (omega (arith, length-append erased_sector (drop 65536 flash), length_erased_sector)) (omega (arith, left.size, l.size.least)) starts.starts

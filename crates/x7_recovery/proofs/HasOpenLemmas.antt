@@ -14,14 +14,14 @@ use Rattle.x7_memory.specs.Plan.{PlanData}
 use Rattle.x7_planner.specs.FullStream.{full_stream}
 use Rattle.x7_boot.specs.Image as image
 use Rattle.x7_boot.specs.Image.{free_slot, free_slots, first_sector, flash_limit, image_of, image_size, open_slot, slot}
-use Rattle.x7_update.specs.After.{IsAfter, IsBetween, spends, switched, with_stream}
+use Rattle.x7_update.specs.After.{IsAfterUpdate, IsBetweenSlots, spends, switched, with_stream}
 use Rattle.x7_update.specs.Layout.{HasLayout, IsOpen, first_slot, four_at, open_switch, spent_switch, switch_of, update_place}
 use Rattle.x7_update.proofs.CaseLemmas.{between_below, between_spent, outside_switch, stream_keeps}
 use Rattle.x7_update.proofs.LawLemmas.{no_sync}
 use Rattle.x7_update.proofs.SwitchLemmas.{length_switched, same_four, switch_switched, switched_others}
 use Rattle.x7_boot.specs.Boot.{start_address}
-use Rattle.x7_recovery.specs.OpenBoot.{HasPlanned}
-use Rattle.x7_recovery.specs.OpenSlot.{BeginsAsImage, HasOpen, IsOpened, image_of_flash, slot_of_flash}
+use Rattle.x7_recovery.specs.OpenBoot.{HasFullGolden}
+use Rattle.x7_recovery.specs.OpenSlot.{BeginsAsImage, HasOpenSlot, IsOpenFlash, image_of_flash, slot_of_flash}
 use Rattle.x7_recovery.specs.PlannedImage.{HasImage, golden_image, place_after}
 use Rattle.x7_recovery.specs.Recovery.{HasGolden}
 use Rattle.x7_recovery.proofs.GoldenLemmas.{golden_stands}
@@ -38,7 +38,7 @@ bytes_back a b c d f = bytes_words (a ∷ b ∷ c ∷ d ∷ []) 1 f refl
 
 -- ---- a flash that has a slot opened in what is between
 
-module _ (flash now found : List ℕ) (number : ℕ) (l : HasLayout flash) (b : IsBetween flash now) (within : number < 2048) (size : length found ≡ length now)
+module _ (flash now found : List ℕ) (number : ℕ) (l : HasLayout flash) (b : IsBetweenSlots flash now) (within : number < 2048) (size : length found ≡ length now)
     (others : (i : ℕ) → (i < 32 * number) ⊎ (32 * number + 4 ≤ i) → get_or found i 0 ≡ get_or now i 0) (is_open : switch_of found number ≡ open_switch) where
   found_long : 131072 ≤ length found
   found_long = omega (arith, size, b.size, l.size.least)
@@ -108,7 +108,7 @@ module _ (flash now found : List ℕ) (number : ℕ) (l : HasLayout flash) (b : 
           let short : i < 32 = omega (arith, h, long) in
           get_or-take 32 (drop (32 * number) found) i 0 short ∙ get_or-drop (32 * number) found i 0 ∙ slot_byte i short
 
-  pub opened : AreBytes (take 65536 found) → HasOpen found number (update_place flash)
+  pub opened : AreBytes (take 65536 found) → HasOpenSlot found number (update_place flash)
   opened fits =
       let long : length (take 65536 found) ≡ 65536 = length-take-le 65536 found (omega (arith, found_long)) in
       let small : (m : ℕ) → 12 ≤ m → m < 16 → get_or (first_slot flash) m 0 < 256 =
@@ -157,22 +157,22 @@ module _ (flash : List ℕ) (number : ℕ) (l : HasLayout flash) (within : numbe
   room : 32 * number + 4 ≤ length flash
   room = omega (arith, within, l.size.least)
 
-  layout_between : IsBetween flash spent
+  layout_between : IsBetweenSlots flash spent
   layout_between = between_spent flash spent l.slots (spends number within is refl)
 
-  pub layout_opened : AreBytes (take 65536 flash) → HasOpen flash number (update_place flash)
+  pub layout_opened : AreBytes (take 65536 flash) → HasOpenSlot flash number (update_place flash)
   layout_opened fits = opened flash spent flash number l layout_between within (sym (length_switched number spent_switch flash refl room)) (λ i h. sym (switched_others number spent_switch flash refl room i h)) is fits
 
 -- ---- a flash after an update
 
-module _ (stream flash found : List ℕ) (l : HasLayout flash) (a : IsAfter stream flash found) where
+module _ (stream flash found : List ℕ) (l : HasLayout flash) (a : IsAfterUpdate stream flash found) where
   abbrev now : List ℕ
   now = with_stream (update_place flash) stream a.spent
 
-  spent_between : IsBetween flash a.spent
+  spent_between : IsBetweenSlots flash a.spent
   spent_between = between_spent flash a.spent l.slots a.is_spent
 
-  now_between : IsBetween flash now
+  now_between : IsBetweenSlots flash now
   now_between = between_below (length flash) flash a.spent now l.slots spent_between (stream_keeps (update_place flash) stream a.spent (omega (arith, a.fits, spent_between.size)))
 
   now_room : 32 * a.next + 4 ≤ length now
@@ -187,7 +187,7 @@ module _ (stream flash found : List ℕ) (l : HasLayout flash) (a : IsAfter stre
   found_open : switch_of found a.next ≡ open_switch
   found_open = ap (λ (x : List ℕ). switch_of x a.next) a.is ∙ switch_switched a.next 0xAA 0x99 0x55 0x66 now now_room
 
-  pub after_opened : AreBytes (take 65536 found) → HasOpen found a.next (update_place flash)
+  pub after_opened : AreBytes (take 65536 found) → HasOpenSlot found a.next (update_place flash)
   after_opened fits = opened flash now found a.next l now_between a.is_next.within found_size found_others found_open fits
 
   pub after_golden : (part : PartData) (golden : PlanData) → HasGolden part golden flash → (rest : List ℕ) × (drop 65536 found ≡ full_stream part golden ++ rest)
@@ -290,7 +290,7 @@ module _ (start : ℕ) (flash more : List ℕ) (whole : start % 256 ≡ 0) (low 
         ]
       ]
 
-  pub image_opened : HasOpen flash 0 start
+  pub image_opened : HasOpenSlot flash 0 start
   image_opened = record {
     within = omega arith;
     stands = image_stands;
@@ -315,17 +315,17 @@ leads_itself unit place e l = ap (λ (u : ℕ). start_address u place) e ∙ ome
 place_small : (flash : List ℕ) → HasLayout flash → update_place flash ≤ 134217728
 place_small flash l = omega (arith, l.slots.place.most, l.size.most)
 
-pub open_is_opened : (part : PartData) (flash : List ℕ) (number : ℕ) → part.start_unit ≡ 1 → HasLayout flash → AreBytes (take 65536 flash) → number < 2048 → IsOpen flash number → IsOpened (slot_of_flash part flash number (update_place flash))
+pub open_is_opened : (part : PartData) (flash : List ℕ) (number : ℕ) → part.start_unit ≡ 1 → HasLayout flash → AreBytes (take 65536 flash) → number < 2048 → IsOpen flash number → IsOpenFlash (slot_of_flash part flash number (update_place flash))
 open_is_opened part flash number unit l fits within is =
     let small : update_place flash ≤ 134217728 = place_small flash l in
     record { has = layout_opened flash number l within is fits; small = omega (arith, small); leads = leads_itself part.start_unit (update_place flash) unit small }
 
-pub after_is_opened : (part : PartData) (stream flash found : List ℕ) → part.start_unit ≡ 1 → HasLayout flash → AreBytes (take 65536 found) → (a : IsAfter stream flash found) → IsOpened (slot_of_flash part found a.next (update_place flash))
+pub after_is_opened : (part : PartData) (stream flash found : List ℕ) → part.start_unit ≡ 1 → HasLayout flash → AreBytes (take 65536 found) → (a : IsAfterUpdate stream flash found) → IsOpenFlash (slot_of_flash part found a.next (update_place flash))
 after_is_opened part stream flash found unit l fits a =
     let small : update_place flash ≤ 134217728 = place_small flash l in
     record { has = after_opened stream flash found l a fits; small = omega (arith, small); leads = leads_itself part.start_unit (update_place flash) unit small }
 
-pub image_is_opened : (part : PartData) (flash : List ℕ) (place : ℕ) → IsPart part → BeginsAsImage part flash place → IsOpened (image_of_flash part flash place)
+pub image_is_opened : (part : PartData) (flash : List ℕ) (place : ℕ) → IsPart part → BeginsAsImage part flash place → IsOpenFlash (image_of_flash part flash place)
 image_is_opened part flash place is b =
     let start : ℕ = place / part.start_unit in
     let whole : start % 256 ≡ 0 = start_whole part.start_unit place is.start_unit b.whole in
@@ -368,7 +368,7 @@ module _ (part : PartData) (golden update after : List ℕ) (is : IsPart part) (
   image_update_stands = image_has part.start_unit golden update after
 
 -- the full stream of a plan
-pub image_planned : (part : PartData) (golden : PlanData) (update after : List ℕ) → HasImage part golden update → HasPlanned (image_of_flash part (golden_image part golden update ++ after) (place_after part golden)) golden
+pub image_planned : (part : PartData) (golden : PlanData) (update after : List ℕ) → HasImage part golden update → HasFullGolden (image_of_flash part (golden_image part golden update ++ after) (place_after part golden)) golden
 image_planned part golden update after has =
     let s : (rest : List ℕ) × (drop 65536 (golden_image part golden update ++ after) ≡ full_stream part golden ++ rest) = image_golden_stands part (full_stream part golden) update after has.is_part has.fits in
     record { is_part = has.is_part; plan = has.plan; rest = s.0; stands = s.1 }

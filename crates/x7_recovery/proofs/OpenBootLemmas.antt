@@ -20,7 +20,7 @@ use Rattle.x7_engine.specs.Stop.{Stopped, stop_fault}
 use Rattle.x7_engine.specs.Value.{failure_of}
 use Rattle.x7_engine.specs.declared.kept.Kept.{Kept}
 use Rattle.x7_engine.proofs.FallbackLemmas.{kept_memory, kept_state, kept_stop}
-use Rattle.x7_boot.specs.Attempt.{IsAttemptOver, AttemptCourse}
+use Rattle.x7_boot.specs.Attempt.{IsFlashAttempt, AttemptCourse}
 use Rattle.x7_boot.specs.Boot.{LeadsTo, end_state, next_by, tried}
 use Rattle.x7_boot.specs.declared.attempt.Ending.{Ending}
 use Rattle.x7_boot.specs.declared.attempt.Ending.TheVariants as ending
@@ -33,8 +33,8 @@ use Rattle.x7_boot.specs.Boots.{BootCourse, IsCourse, course_along}
 use Rattle.x7_boot.proofs.BootsLemmas.{along, cause_is, fallback_next, stops_next, tried_is}
 use Rattle.x7_boot.proofs.OneBootLemmas.{GoesThrough, goes_through}
 use Rattle.x7_boot.proofs.OverLemmas.{kept_ends, started_first, with_kept}
-use Rattle.x7_recovery.specs.OpenBoot.{EndsAtUpdate, FallsBack, FallsBackAlike, HasFullUpdate, HasPlanned, StartsAsFallback, StartsUpdate, TriesUpdate, UpdateEnds, UpdateFails, kept_at_update}
-use Rattle.x7_recovery.specs.OpenSlot.{IsOpened, Opened}
+use Rattle.x7_recovery.specs.OpenBoot.{EndsAtUpdate, FallsBack, FallsBackAlike, HasFullUpdate, HasFullGolden, StartsAsFallback, StartsUpdate, TriesUpdate, UpdateEnds, UpdateFails, kept_at_update}
+use Rattle.x7_recovery.specs.OpenSlot.{IsOpenFlash, OpenFlash}
 use Rattle.x7_recovery.proofs.FullAttemptLemmas.{StartsWith, full_starts, full_stream_fits, iprog_later}
 use Rattle.x7_recovery.proofs.OpenLemmas.{power, power_leads, sector_never, sector_rests, sector_wrote}
 
@@ -42,14 +42,14 @@ use Rattle.x7_recovery.proofs.OpenLemmas.{power, power_leads, sector_never, sect
 abbrev pub obeyed : Tried
 obeyed = record { kind = Power; address = 0; ending = ending.Iprog }
 
-module _ (o : Opened) (is : IsOpened o) where
+module _ (o : OpenFlash) (is : IsOpenFlash o) where
   abbrev first : AttemptCourse
   first = power o.flash o.slot o.start is.has is.small
 
   to_place : LeadsTo o.part o.flash (first ∷ []) (Again (kept_at_update o.start) o.place)
   to_place = power_leads o.flash o.slot o.start is.has is.small o.part o.place is.leads
 
-  through : (t : AttemptCourse) (next : Next) → IsAttemptOver o.part o.flash t → t.kept ≡ kept_at_update o.start → t.address ≡ o.place → next ≡ next_by o.part 2 t t.ending → LeadsTo o.part o.flash (t ∷ first ∷ []) next
+  through : (t : AttemptCourse) (next : Next) → IsFlashAttempt o.part o.flash t → t.kept ≡ kept_at_update o.start → t.address ≡ o.place → next ≡ next_by o.part 2 t t.ending → LeadsTo o.part o.flash (t ∷ first ∷ []) next
   through t next tries kept address e =
       let same : Again t.kept t.address ≡ Again (kept_at_update o.start) o.place = ap (λ (k : Kept). Again k t.address) kept ∙ ap (Again (kept_at_update o.start)) address in
       (subst (λ (n : Next). LeadsTo o.part o.flash (first ∷ []) n) (sym same) to_place, tries, e)
@@ -126,7 +126,7 @@ module _ (o : Opened) (is : IsOpened o) where
     pub started : c.end ≡ boot_end.Started
     pub last_is : c.last ≡ l
 
-  pub falls : (c : BootCourse) (t l : AttemptCourse) (cause : Cause) → IsCourse o.part o.flash c → UpdateFails o t cause false → IsAttemptOver o.part o.flash l → l.kept ≡ kept_then t → l.address ≡ 0 → l.ending ≡ ending.Started → Falls c l cause
+  pub falls : (c : BootCourse) (t l : AttemptCourse) (cause : Cause) → IsCourse o.part o.flash c → UpdateFails o t cause false → IsFlashAttempt o.part o.flash l → l.kept ≡ kept_then t → l.address ≡ 0 → l.ending ≡ ending.Started → Falls c l cause
   falls c t l cause course fails l_tries l_kept l_address l_ends =
       let ended : UpdateEnds o t (ending.Failed cause) = fails.ended in
       let next : Again (kept_then t) 0 ≡ next_by o.part 2 t t.ending = sym (ap (next_by o.part 2 t) ended.ends ∙ fallback_next o.part 2 t cause (ap (λ (k : Kept). is_fallback k.kind) ended.kept) fails.forbids) in
@@ -143,7 +143,7 @@ module _ (o : Opened) (is : IsOpened o) where
       }
 
   -- to the full stream of a plan
-  planned_starts : (kept : Kept) (golden : PlanData) → HasPlanned o golden → is_fallback kept.kind ≡ true → StartsWith o.part kept 0 o.flash golden true
+  planned_starts : (kept : Kept) (golden : PlanData) → HasFullGolden o golden → is_fallback kept.kind ≡ true → StartsWith o.part kept 0 o.flash golden true
   planned_starts kept golden has e =
       let stream : List ℕ = full_stream o.part golden in
       let prefix : List ℕ = take 65536 o.flash in
@@ -153,7 +153,7 @@ module _ (o : Opened) (is : IsOpened o) where
       full_starts o.part kept prefix golden 0 o.flash has.rest true is.has.fits (sector_rests o.flash o.slot o.start is.has is.small o.part kept e) (sector_never o.flash o.slot o.start is.has is.small) has.is_part has.plan split
       (ap (λ (x : Bool). x && wrote_iprog (history_of (prefix ++ stream))) e ∙ iprog_later prefix stream fits wrote)
 
-  pub falls_back : (c : BootCourse) (t : AttemptCourse) (cause : Cause) (golden : PlanData) → IsCourse o.part o.flash c → HasPlanned o golden → UpdateFails o t cause false → FallsBack o golden cause c
+  pub falls_back : (c : BootCourse) (t : AttemptCourse) (cause : Cause) (golden : PlanData) → IsCourse o.part o.flash c → HasFullGolden o golden → UpdateFails o t cause false → FallsBack o cause golden c
   falls_back c t cause golden course has fails =
       let f : StartsWith o.part (kept_then t) 0 o.flash golden true = planned_starts (kept_then t) golden has refl in
       let a : Falls c f.course cause = falls c t f.course cause course fails f.is f.kept_is f.address_is f.ending_is in

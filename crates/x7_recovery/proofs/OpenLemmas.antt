@@ -36,7 +36,7 @@ use Rattle.x7_effects.proofs.CalmLemmas.{IsCalm, IsOff, calm_access, calm_bytes}
 use Rattle.x7_effects.proofs.GoingLemmas.{IsGoing, going_access, going_bytes, going_desync, why_none}
 use Rattle.x7_effects.proofs.RestingLemmas.{rests}
 use Rattle.x7_effects.proofs.StillLemmas.{never_armed}
-use Rattle.x7_boot.specs.Attempt.{IsAttemptOver, NoneBefore, AttemptCourse, ending_at, ending_by}
+use Rattle.x7_boot.specs.Attempt.{IsFlashAttempt, NoneBefore, AttemptCourse, ending_at, ending_by}
 use Rattle.x7_boot.specs.Boot.{LeadsTo, at_power, end_state, start_address}
 use Rattle.x7_boot.specs.Image.{open_slot, slot}
 use Rattle.x7_boot.specs.declared.attempt.Ending.TheVariants as ending
@@ -44,7 +44,7 @@ use Rattle.x7_boot.specs.declared.next.Next.TheVariants.{Again}
 use Rattle.x7_boot.proofs.StartLemmas.{NeverStarts, prefix_open, never_seven}
 use Rattle.x7_boot.proofs.TookLemmas.{ends_by_stop}
 use Rattle.x7_recovery.specs.OpenBoot.{kept_at_update}
-use Rattle.x7_recovery.specs.OpenSlot.{HasOpen}
+use Rattle.x7_recovery.specs.OpenSlot.{HasOpenSlot}
 use Rattle.x7_recovery.proofs.OpenSlotLemmas.{power_bytes, power_history, slot_history, slot_place, slot_rests}
 use Rattle.x7_recovery.proofs.GoldenLemmas.{word_at}
 use Rattle.x7_recovery.proofs.SlotLemmas.{slot_fits, slot_long}
@@ -70,7 +70,7 @@ iprog_at n start = entry (access.Write 4 15) (n + 24) ∷ wbstar_at n start
 abbrev pub desync_at : ℕ → ℕ → History
 desync_at n start = entry (access.Write 4 13) (n + 32) ∷ iprog_at n start
 
-module _ (flash : List ℕ) (number start : ℕ) (o : HasOpen flash number start) (small : start < 2 ^ 32) where
+module _ (flash : List ℕ) (number start : ℕ) (o : HasOpenSlot flash number start) (small : start < 2 ^ 32) where
   abbrev pub n : ℕ
   n = 32 * number
 
@@ -163,7 +163,7 @@ module _ (flash : List ℕ) (number start : ℕ) (o : HasOpen flash number start
   abbrev pub power : AttemptCourse
   power = record { kept = at_power; address = 0; bytes = taken; wrapped = false; ending = ending.Iprog }
 
-  power_tries : (part : PartData) → IsAttemptOver part flash power
+  power_tries : (part : PartData) → IsFlashAttempt part flash power
   power_tries part = inl (record { rest = left; taken = taken_split; ends = taken_ends part; first = taken_first part; in_flash = refl })
 
   -- what is kept after it

@@ -14,20 +14,21 @@ use Rattle.x7_engine.specs.State.{stop_in}
 use Rattle.x7_boot.specs.Attempt.{AttemptCourse}
 use Rattle.x7_recovery.specs.Golden.{StartsAtPower, with_erased}
 
--- what may stand before RCRC: words for WBSTAR, TIMER and BSPI, and the commands NULL, BSPI_READ and SHUTDOWN
-pub data IsLead : History → Type 0 where
-  nothing : IsLead []
-  wbstar : (w place : ℕ) (h : History) → IsLead h → IsLead (entry (Write (number_of reg.Wbstar) w) place ∷ h)
-  timer : (w place : ℕ) (h : History) → IsLead h → IsLead (entry (Write (number_of reg.Timer) w) place ∷ h)
-  bspi : (w place : ℕ) (h : History) → IsLead h → IsLead (entry (Write (number_of reg.Bspi) w) place ∷ h)
-  null : (place : ℕ) (h : History) → IsLead h → IsLead (entry (Write (number_of reg.Cmd) (code_of command.Null)) place ∷ h)
-  bspi_read : (place : ℕ) (h : History) → IsLead h → IsLead (entry (Write (number_of reg.Cmd) (code_of command.BspiRead)) place ∷ h)
-  shutdown : (place : ℕ) (h : History) → IsLead h → IsLead (entry (Write (number_of reg.Cmd) (code_of command.Shutdown)) place ∷ h)
+-- a history of accesses that may stand before RCRC: words for WBSTAR, TIMER and BSPI, and the commands NULL, BSPI_READ
+-- and SHUTDOWN
+pub data MayPrecedeRcrc : History → Type 0 where
+  nothing : MayPrecedeRcrc []
+  wbstar : (w place : ℕ) (h : History) → MayPrecedeRcrc h → MayPrecedeRcrc (entry (Write (number_of reg.Wbstar) w) place ∷ h)
+  timer : (w place : ℕ) (h : History) → MayPrecedeRcrc h → MayPrecedeRcrc (entry (Write (number_of reg.Timer) w) place ∷ h)
+  bspi : (w place : ℕ) (h : History) → MayPrecedeRcrc h → MayPrecedeRcrc (entry (Write (number_of reg.Bspi) w) place ∷ h)
+  null : (place : ℕ) (h : History) → MayPrecedeRcrc h → MayPrecedeRcrc (entry (Write (number_of reg.Cmd) (code_of command.Null)) place ∷ h)
+  bspi_read : (place : ℕ) (h : History) → MayPrecedeRcrc h → MayPrecedeRcrc (entry (Write (number_of reg.Cmd) (code_of command.BspiRead)) place ∷ h)
+  shutdown : (place : ℕ) (h : History) → MayPrecedeRcrc h → MayPrecedeRcrc (entry (Write (number_of reg.Cmd) (code_of command.Shutdown)) place ∷ h)
 
 -- a history with an RCRC before which stand only words for WBSTAR, TIMER and BSPI, and
 -- the commands NULL, BSPI_READ and SHUTDOWN
 pub data BeginsClean : History → Type 0 where
-  clear : (place : ℕ) (h : History) → IsLead h → BeginsClean (entry (Write (number_of reg.Cmd) (code_of command.Rcrc)) place ∷ h)
+  clear : (place : ℕ) (h : History) → MayPrecedeRcrc h → BeginsClean (entry (Write (number_of reg.Cmd) (code_of command.Rcrc)) place ∷ h)
   later : (e : Entry) (h : History) → BeginsClean h → BeginsClean (e ∷ h)
 
 -- With the first sector of the flash erased the attempt at power starts with the golden stream, which begins clean, and

@@ -3,7 +3,7 @@ use Rattle.std.specs.Prelude.{[], ◌∷◌}
 use Rattle.x7_part.specs.Part.{PartData}
 use Rattle.x7_memory.specs.Plan.{PlanData}
 
--- two rows of one column of two frames each
+-- a part of two rows, each with one column of two frames
 abbrev pub tiny : PartData
 tiny = record {
   name = 0x74 ∷ [];

@@ -1,23 +1,21 @@
 -- A golden stream of any kind, as one attempt shows it: a device starts with it where the first sector leads nowhere
 -- (UG470, MultiBoot and fallback; the layout is this project's choice).
-use Rattle.std.specs.Prelude.{◌≡◌, ◌≢◌, ℕ, ◌+◌, ◌<◌, ◌≤◌, List, [], ◌∷◌, ◌++◌, drop, false, length, None, slice_range}
+use Rattle.std.specs.Prelude.{◌≡◌, ◌≢◌, ℕ, ◌+◌, ◌<◌, ◌≤◌, List, ◌++◌, drop, length, slice_range}
 use Rattle.x7_words.specs.Flash.{erased_sector}
 use Rattle.x7_words.specs.Word.{AreBytes}
 use Rattle.x7_packets.specs.FlashSlot.{sector_bytes}
 use Rattle.x7_part.specs.Part.{PartData}
-use Rattle.x7_regs.specs.declared.boot_status.Kind.TheVariants.{Power}
-use Rattle.x7_regs.specs.BootStatus.{boot_status_of}
 use Rattle.x7_memory.specs.FrameMap.{AreSame}
 use Rattle.x7_memory.specs.Plan.{total}
 use Rattle.x7_planner.specs.FullStream.{full_stream}
 use Rattle.x7_engine.specs.State.{memory_in}
-use Rattle.x7_boot.specs.Attempt.{IsAttemptOver, AttemptCourse}
+use Rattle.x7_boot.specs.Attempt.{IsFlashAttempt, AttemptCourse}
 use Rattle.x7_boot.specs.Boot.{BootedState, IsBoot, at_power, end_state}
 use Rattle.x7_boot.specs.declared.attempt.Ending.TheVariants as ending
 use Rattle.x7_boot.specs.declared.boots.BootEnd.TheVariants as boot_end
 use Rattle.x7_boot.specs.Boots.{BootCourse, course_of}
-use Rattle.x7_recovery.specs.Recovery.{Updating}
-use Rattle.x7_update.specs.After.{IsAfter}
+use Rattle.x7_recovery.specs.Recovery.{Updating, power_status, started_at_power}
+use Rattle.x7_update.specs.After.{IsAfterUpdate}
 use Rattle.x7_update.specs.Layout.{HasLayout, four_at, open_switch, update_place}
 
 -- the first sector leads nowhere: no sync word begins in it, as where none of its slots is open, or where it is erased
@@ -28,9 +26,9 @@ LeadsNowhere flash = (place : ℕ) → place < sector_bytes → four_at flash pl
 abbrev pub with_erased : List ℕ → List ℕ
 with_erased flash = erased_sector ++ drop sector_bytes flash
 
--- an attempt at power that starts, over a flash
+-- the attempt at power over a flash, which starts
 pub record StartsAtPower (part : PartData) (flash : List ℕ) (t : AttemptCourse) : Type 0 where
-  pub is : IsAttemptOver part flash t
+  pub is : IsFlashAttempt part flash t
   pub kept : t.kept ≡ at_power
   pub address : t.address ≡ 0
   pub started : t.ending ≡ ending.Started
@@ -52,18 +50,18 @@ pub record GoldenStarts (part : PartData) (flash : List ℕ) (t : AttemptCourse)
 
 -- The boot starts at its one attempt, at power, with the memory and the registers that another attempt ended with.
 pub record StartsAlike (part : PartData) (t : AttemptCourse) (c : BootCourse) : Type 0 where
-  pub attempts_are : c.attempts ≡ record { kind = Power; address = 0; ending = ending.Started } ∷ []
+  pub attempts_are : c.attempts ≡ started_at_power
   pub started : c.end ≡ boot_end.Started
   pub memory : memory_in part c.last.kept c.last.bytes ≡ memory_in part t.kept t.bytes
   pub registers : end_state part c.last ≡ end_state part t
 
--- the golden stream of a flash starts, at its end or before it, with the memory of its plan over
--- zeros, and BOOTSTS shows no other attempt
+-- the golden stream of a flash, the full stream of a plan, starts the device at its last byte or before it, with the
+-- memory of the plan over zeros, and BOOTSTS shows no other attempt
 pub record StartsAsPlanned (u : Updating) (t : AttemptCourse) : Type 0 where
   pub golden : GoldenStarts u.part u.flash t
   pub within : length t.bytes ≤ sector_bytes + length (full_stream u.part u.golden)
   pub memory : AreSame (memory_in u.part t.kept t.bytes) (total u.part u.golden)
-  pub bootsts : (end_state u.part t).bootsts ≡ boot_status_of (record { kind = Power; cause = None; ignored = false }) None
+  pub bootsts : (end_state u.part t).bootsts ≡ power_status
 
 -- a flash that is being updated with a stream, the part that boots from it, and the
 -- attempt with which its golden stream starts
@@ -73,7 +71,7 @@ pub record UpdatingAny : Type 0 where
   pub stream : List ℕ
   pub golden : AttemptCourse
 
--- the flash has a layout, with a golden stream that starts
+-- an update is prepared: the flash has a layout, with a golden stream of any kind that starts by this attempt
 pub record IsPreparedAny (u : UpdatingAny) : Type 0 where
   pub layout : HasLayout u.flash
   pub golden : GoldenStarts u.part u.flash u.golden
@@ -83,4 +81,4 @@ pub record IsPreparedAny (u : UpdatingAny) : Type 0 where
 pub data BootsAlike (u : UpdatingAny) (found : List ℕ) (b : BootedState) : Type 0 where
   as_before : IsBoot u.part u.flash b → BootsAlike u found b
   golden : (boot : IsBoot u.part found b) → StartsAlike u.part u.golden (course_of b boot.last) → BootsAlike u found b
-  as_after : IsAfter u.stream u.flash found → IsBoot u.part found b → BootsAlike u found b
+  as_after : IsAfterUpdate u.stream u.flash found → IsBoot u.part found b → BootsAlike u found b

@@ -1,10 +1,11 @@
 -- What a boot from a flash with an open slot comes to: the attempt at the update, and the fallback where that fails
 -- (UG470, MultiBoot and fallback).
-use Rattle.std.specs.Prelude.{◌≡◌, ℕ, Bool, true, false, List, [], ◌∷◌, ◌++◌, drop, length, None, Some}
+use Rattle.std.specs.Prelude.{◌≡◌, ℕ, Bool, true, false, List, [], ◌∷◌, ◌++◌, drop, length, Option, None, Some}
 use Rattle.x7_packets.specs.FlashSlot.{sector_bytes}
 use Rattle.x7_part.specs.Part.{PartData}
 use Rattle.x7_part.specs.Ranges.{IsPart}
 use Rattle.x7_regs.specs.BootStatus.{boot_status_of}
+use Rattle.x7_regs.specs.declared.boot_status.Attempt.{Attempt}
 use Rattle.x7_regs.specs.declared.boot_status.Cause.{Cause}
 use Rattle.x7_regs.specs.declared.boot_status.Kind.TheVariants.{Power, Iprog, Fallback}
 use Rattle.x7_memory.specs.FrameMap.{AreSame}
@@ -13,7 +14,7 @@ use Rattle.x7_planner.specs.FullStream.{full_stream}
 use Rattle.x7_engine.specs.State.{attempt_in, memory_in}
 use Rattle.x7_engine.specs.declared.kept.Kept.{Kept}
 use Rattle.x7_engine.specs.Kept.{without_kept}
-use Rattle.x7_boot.specs.Attempt.{IsAttemptOver, AttemptCourse}
+use Rattle.x7_boot.specs.Attempt.{IsFlashAttempt, AttemptCourse}
 use Rattle.x7_regs.specs.Control.{forbids_fallback}
 use Rattle.x7_boot.specs.Boot.{end_state}
 use Rattle.x7_boot.specs.Boots.{BootCourse, IsCourse}
@@ -24,59 +25,68 @@ use Rattle.x7_boot.specs.declared.boots.BootEnd.{BootEnd}
 use Rattle.x7_boot.specs.declared.boots.BootEnd.TheVariants as boot_end
 use Rattle.x7_boot.specs.declared.boots.Tried.{Tried}
 use Rattle.x7_recovery.specs.Clean.{StartsClean}
-use Rattle.x7_recovery.specs.OpenSlot.{BeginsAsImage, Opened, image_of_flash}
+use Rattle.x7_recovery.specs.OpenSlot.{BeginsAsImage, OpenFlash, image_of_flash}
+use Rattle.x7_recovery.specs.Recovery.{power_attempt}
 
 -- ---- the attempt at the update
 
 -- what is kept over the reset between the attempt at power, which obeyed an IPROG, and the attempt at the update: the
 -- start address in WBSTAR, and the attempt at power, which did not fail
 abbrev pub kept_at_update : ℕ → Kept
-kept_at_update start = record { wbstar = start; timer = 0; bspi = 0; kind = Iprog; before = Some (record { kind = Power; cause = None; ignored = false }) }
+kept_at_update start = record { wbstar = start; timer = 0; bspi = 0; kind = Iprog; before = Some power_attempt }
 
--- the attempts of a boot in which the attempt at power obeys an IPROG that leads to a place, where
--- the next attempt ends by `e`, and then more
+-- the attempts of a boot in which the attempt at power obeys an IPROG that leads to a place, the attempt there ends by
+-- `e`, and `more` come after it
 abbrev pub through_update : ℕ → Ending → List Tried → List Tried
 through_update place e more = record { kind = Power; address = 0; ending = ending.Iprog } ∷ record { kind = Iprog; address = place; ending = e } ∷ more
 
--- an attempt at the place to which the open slot leads ended by `e`
-pub record UpdateEnds (o : Opened) (t : AttemptCourse) (e : Ending) : Type 0 where
-  pub is : IsAttemptOver o.part o.flash t
+-- an attempt by IPROG, after that at power, at the place to which the open slot leads, ended by `e`
+pub record UpdateEnds (o : OpenFlash) (t : AttemptCourse) (e : Ending) : Type 0 where
+  pub is : IsFlashAttempt o.part o.flash t
   pub kept : t.kept ≡ kept_at_update o.start
   pub address : t.address ≡ o.place
   pub ends : t.ending ≡ e
 
--- the update failed by this cause, and CTL0 forbids a fallback or not
-pub record UpdateFails (o : Opened) (t : AttemptCourse) (cause : Cause) (forbidden : Bool) : Type 0 where
+-- the attempt at the update failed by this cause; `forbidden` is whether CTL0 forbids a fallback at its end
+pub record UpdateFails (o : OpenFlash) (t : AttemptCourse) (cause : Cause) (forbidden : Bool) : Type 0 where
   pub ended : UpdateEnds o t (ending.Failed cause)
   pub forbids : forbids_fallback (end_state o.part t).ctl0 ≡ forbidden
 
 -- the second attempt of a boot is that at the update
-pub record TriesUpdate (o : Opened) (attempts : List Tried) : Type 0 where
+pub record TriesUpdate (o : OpenFlash) (attempts : List Tried) : Type 0 where
   pub course : AttemptCourse
   pub ended : UpdateEnds o course course.ending
   pub more : List Tried
   pub attempts_are : attempts ≡ through_update o.place course.ending more
 
 -- the attempt at the update is the last one, and the boot ends by `by_end`
-pub record EndsAtUpdate (o : Opened) (t : AttemptCourse) (by_end : BootEnd) (c : BootCourse) : Type 0 where
+pub record EndsAtUpdate (o : OpenFlash) (t : AttemptCourse) (by_end : BootEnd) (c : BootCourse) : Type 0 where
   pub attempts_are : c.attempts ≡ through_update o.place t.ending []
   pub end_is : c.end ≡ by_end
   pub last_is : c.last ≡ t
 
--- at the place to which the open slot leads the full stream of a plan stands
-pub record HasFullUpdate (o : Opened) (update : PlanData) : Type 0 where
+-- the full stream of a plan for the part stands at the place to which the open slot leads
+pub record HasFullUpdate (o : OpenFlash) (update : PlanData) : Type 0 where
   pub is_part : IsPart o.part
   pub plan : IsPlanFor o.part update
   pub rest : List ℕ
   pub stands : drop o.place o.flash ≡ full_stream o.part update ++ rest
 
+-- what BOOTSTS shows of an attempt by IPROG, by the cause of its failure if it failed
+abbrev pub iprog_attempt : Option Cause → Attempt
+iprog_attempt cause = record { kind = Iprog; cause = cause; ignored = false }
+
+-- BOOTSTS of an attempt by IPROG that did not fail, after one at power
+abbrev pub update_status : ℕ
+update_status = boot_status_of (iprog_attempt None) (Some power_attempt)
+
 -- The boot starts with the update: with the memory of its plan over zeros, and BOOTSTS shows
 -- an attempt by IPROG, after one at power.
-pub record StartsUpdate (o : Opened) (update : PlanData) (c : BootCourse) : Type 0 where
+pub record StartsUpdate (o : OpenFlash) (update : PlanData) (c : BootCourse) : Type 0 where
   pub attempts_are : c.attempts ≡ through_update o.place ending.Started []
   pub started : c.end ≡ boot_end.Started
   pub memory : AreSame (memory_in o.part c.last.kept c.last.bytes) (total o.part update)
-  pub bootsts : (end_state o.part c.last).bootsts ≡ boot_status_of (record { kind = Iprog; cause = None; ignored = false }) (Some (record { kind = Power; cause = None; ignored = false }))
+  pub bootsts : (end_state o.part c.last).bootsts ≡ update_status
 
 -- ---- the fallback
 
@@ -86,10 +96,10 @@ fell_back place cause = through_update place (ending.Failed cause) (record { kin
 
 -- BOOTSTS of a fallback that ignored an IPROG, after an attempt by IPROG that failed by this cause
 abbrev pub fallback_status : Cause → ℕ
-fallback_status cause = boot_status_of (record { kind = Fallback; cause = None; ignored = true }) (Some (record { kind = Iprog; cause = Some cause; ignored = false }))
+fallback_status cause = boot_status_of (record { kind = Fallback; cause = None; ignored = true }) (Some (iprog_attempt (Some cause)))
 
--- after the first sector the full stream of a plan stands
-pub record HasPlanned (o : Opened) (golden : PlanData) : Type 0 where
+-- the full stream of a plan for the part stands after the first sector
+pub record HasFullGolden (o : OpenFlash) (golden : PlanData) : Type 0 where
   pub is_part : IsPart o.part
   pub plan : IsPlanFor o.part golden
   pub rest : List ℕ
@@ -97,7 +107,7 @@ pub record HasPlanned (o : Opened) (golden : PlanData) : Type 0 where
 
 -- The boot falls back and starts with the memory of the golden plan over zeros, and BOOTSTS
 -- shows the fallback and the update's cause.
-pub record FallsBack (o : Opened) (golden : PlanData) (cause : Cause) (c : BootCourse) : Type 0 where
+pub record FallsBack (o : OpenFlash) (cause : Cause) (golden : PlanData) (c : BootCourse) : Type 0 where
   pub attempts_are : c.attempts ≡ fell_back o.place cause
   pub started : c.end ≡ boot_end.Started
   pub memory : AreSame (memory_in o.part c.last.kept c.last.bytes) (total o.part golden)
@@ -105,7 +115,7 @@ pub record FallsBack (o : Opened) (golden : PlanData) (cause : Cause) (c : BootC
 
 -- The boot falls back and starts as another attempt did: at the same byte, with the same memory, and BOOTSTS shows the
 -- fallback and the update's cause.
-pub record FallsBackClean (o : Opened) (cause : Cause) (t : AttemptCourse) (c : BootCourse) : Type 0 where
+pub record FallsBackClean (o : OpenFlash) (cause : Cause) (t : AttemptCourse) (c : BootCourse) : Type 0 where
   pub attempts_are : c.attempts ≡ fell_back o.place cause
   pub started : c.end ≡ boot_end.Started
   pub taken : length c.last.bytes ≡ length t.bytes
@@ -113,27 +123,27 @@ pub record FallsBackClean (o : Opened) (cause : Cause) (t : AttemptCourse) (c : 
   pub bootsts : (end_state o.part c.last).bootsts ≡ fallback_status cause
 
 -- the attempt is a fallback over the flash that starts; its device may have kept anything over the reset
-pub record StartsAsFallback (o : Opened) (f : AttemptCourse) : Type 0 where
-  pub is : IsAttemptOver o.part o.flash f
+pub record StartsAsFallback (o : OpenFlash) (f : AttemptCourse) : Type 0 where
+  pub is : IsFlashAttempt o.part o.flash f
   pub kind : f.kept.kind ≡ Fallback
   pub address : f.address ≡ 0
   pub started : f.ending ≡ ending.Started
 
 -- The boot falls back and starts as another fallback does: with the same bytes, memory and registers but those kept
 -- over the reset; BOOTSTS shows the fallback, and the update's cause.
-pub record FallsBackAlike (o : Opened) (cause : Cause) (f : AttemptCourse) (c : BootCourse) : Type 0 where
+pub record FallsBackAlike (o : OpenFlash) (cause : Cause) (f : AttemptCourse) (c : BootCourse) : Type 0 where
   pub attempts_are : c.attempts ≡ fell_back o.place cause
   pub started : c.end ≡ boot_end.Started
   pub taken : c.last.bytes ≡ f.bytes
   pub memory : memory_in o.part c.last.kept c.last.bytes ≡ memory_in o.part f.kept f.bytes
   pub registers : without_kept (end_state o.part c.last) ≡ without_kept (end_state o.part f)
-  pub bootsts : (end_state o.part c.last).bootsts ≡ boot_status_of (attempt_in o.part f.kept f.wrapped f.bytes) (Some (record { kind = Iprog; cause = Some cause; ignored = false }))
+  pub bootsts : (end_state o.part c.last).bootsts ≡ boot_status_of (attempt_in o.part f.kept f.wrapped f.bytes) (Some (iprog_attempt (Some cause)))
 
 -- ---- the boot
 
 -- What a boot from a flash with an open slot comes to, by what the attempt at the
 -- update does and by what the golden stream is.
-pub record BootsOpen (o : Opened) (c : BootCourse) : Type 0 where
+pub record BootsOpen (o : OpenFlash) (c : BootCourse) : Type 0 where
   -- the second attempt is that at the update
   pub tries : TriesUpdate o c.attempts
   -- where the attempt at the update starts, the boot has started with the update
@@ -144,7 +154,7 @@ pub record BootsOpen (o : Opened) (c : BootCourse) : Type 0 where
   pub stops : (t : AttemptCourse) (cause : Cause) → UpdateFails o t cause true → EndsAtUpdate o t boot_end.Stopped c
   -- where the update fails and CTL0 allows a fallback, the full stream of a plan starts as
   -- golden stream, with the memory of the plan
-  pub falls_back : (t : AttemptCourse) (cause : Cause) (golden : PlanData) → HasPlanned o golden → UpdateFails o t cause false → FallsBack o golden cause c
+  pub falls_back : (t : AttemptCourse) (cause : Cause) (golden : PlanData) → HasFullGolden o golden → UpdateFails o t cause false → FallsBack o cause golden c
   -- where the update fails and CTL0 allows a fallback, a golden stream of any kind that starts at power after an erased
   -- first sector and begins clean starts as it did there
   pub falls_clean : (t : AttemptCourse) (cause : Cause) (golden : AttemptCourse) → StartsClean o.part o.flash golden → UpdateFails o t cause false → FallsBackClean o cause golden c
@@ -152,8 +162,8 @@ pub record BootsOpen (o : Opened) (c : BootCourse) : Type 0 where
   -- over the flash starts does as that fallback
   pub falls_alike : (t : AttemptCourse) (cause : Cause) (f : AttemptCourse) → StartsAsFallback o f → UpdateFails o t cause false → FallsBackAlike o cause f c
 
--- every boot from the flash comes to what one from a flash with an open slot does
-abbrev pub EachBootsOpen : Opened → Type 0
+-- every boot from the flash comes to what a boot from a flash with an open slot comes to
+abbrev pub EachBootsOpen : OpenFlash → Type 0
 EachBootsOpen o = (c : BootCourse) → IsCourse o.part o.flash c → BootsOpen o c
 
 -- A flash begins with the image of a golden and an update stream for the part: both streams stand in it, and every boot

@@ -8,9 +8,9 @@ use Rattle.x7_boot.specs.Boot.{start_address}
 use Rattle.x7_boot.specs.Image.{first_sector, flash_limit, open_slot}
 use Rattle.x7_update.specs.Layout.{four_at, open_switch}
 
--- One slot of the first sector is open, with the start address `start`: no sync word
--- begins in the sector but that of the slot.
-pub record HasOpen (flash : List ℕ) (slot start : ℕ) : Type 0 where
+-- One slot of the first sector is open, with the start address `start` in the part's unit: no sync word begins in the
+-- sector but that of the slot.
+pub record HasOpenSlot (flash : List ℕ) (slot start : ℕ) : Type 0 where
   pub within : slot < slot_count
   pub stands : take slot_bytes (drop (slot_bytes * slot) flash) ≡ open_slot start
   pub alone : (place : ℕ) → place < sector_bytes → four_at flash place ≡ open_switch → place ≡ slot_bytes * slot
@@ -18,16 +18,16 @@ pub record HasOpen (flash : List ℕ) (slot start : ℕ) : Type 0 where
   pub fits : AreBytes (take sector_bytes flash)
 
 -- a flash, the part that boots from it, its open slot with the start address, and the place to which that leads
-pub record Opened : Type 0 where
+pub record OpenFlash : Type 0 where
   pub part : PartData
   pub flash : List ℕ
   pub slot : ℕ
   pub start : ℕ
   pub place : ℕ
 
--- the flash has the given slot open, which leads to the given place
-pub record IsOpened (o : Opened) : Type 0 where
-  pub has : HasOpen o.flash o.slot o.start
+-- the flash has this slot open, which leads to this place
+pub record IsOpenFlash (o : OpenFlash) : Type 0 where
+  pub has : HasOpenSlot o.flash o.slot o.start
   pub small : o.start < 2 ^ 32
   pub leads : start_address o.part.start_unit o.start ≡ o.place
 
@@ -41,11 +41,11 @@ pub record BeginsAsImage (part : PartData) (flash : List ℕ) (place : ℕ) : Ty
   pub within : place ≤ flash_limit
 
 -- a flash that begins as an image does, with its first slot, which is the open one
-abbrev pub image_of_flash : PartData → List ℕ → ℕ → Opened
+abbrev pub image_of_flash : PartData → List ℕ → ℕ → OpenFlash
 image_of_flash part flash place = record { part = part; flash = flash; slot = 0; start = place / part.start_unit; place = place }
 
 -- ---- a flash with a layout
 
 -- a flash for a part whose start address counts bytes, and one of its slots, which leads to this place
-abbrev pub slot_of_flash : PartData → List ℕ → ℕ → ℕ → Opened
+abbrev pub slot_of_flash : PartData → List ℕ → ℕ → ℕ → OpenFlash
 slot_of_flash part flash slot place = record { part = part; flash = flash; slot = slot; start = place; place = place }

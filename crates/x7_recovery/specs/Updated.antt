@@ -6,14 +6,14 @@ use Rattle.x7_part.specs.Part.{PartData}
 use Rattle.x7_boot.specs.Attempt.{AttemptCourse}
 use Rattle.x7_recovery.specs.Clean.{StartsClean}
 use Rattle.x7_recovery.specs.Golden.{GoldenStarts}
-use Rattle.x7_recovery.specs.OpenSlot.{Opened, slot_of_flash}
-use Rattle.x7_update.specs.After.{IsAfter}
+use Rattle.x7_recovery.specs.OpenSlot.{OpenFlash, slot_of_flash}
+use Rattle.x7_update.specs.After.{IsAfterUpdate}
 use Rattle.x7_update.specs.Layout.{HasLayout, update_place}
 
 -- the flash after updates, one after another; each was one of a flash with a layout
 pub data AfterUpdates (flash : List ℕ) : List ℕ → Type 0 where
   none : AfterUpdates flash flash
-  one_more : (before found stream : List ℕ) → AfterUpdates flash before → HasLayout before → IsAfter stream before found → AfterUpdates flash found
+  one_more : (before found stream : List ℕ) → AfterUpdates flash before → HasLayout before → IsAfterUpdate stream before found → AfterUpdates flash found
 
 -- A flash for a part whose start address counts bytes was updated, and then with a stream; before that a golden stream
 -- of any kind started, and began clean, as one attempt shows.
@@ -25,9 +25,9 @@ pub record IsUpdated (part : PartData) (flash found : List ℕ) (golden : Attemp
   pub updates : AfterUpdates flash before
   pub layout : HasLayout before
   pub stream : List ℕ
-  pub after : IsAfter stream before found
+  pub after : IsAfterUpdate stream before found
   pub fits : AreBytes (take sector_bytes found)
 
 -- the slot that the last update opened
-abbrev pub opened_by : (part : PartData) (flash found : List ℕ) (golden : AttemptCourse) → IsUpdated part flash found golden → Opened
+abbrev pub opened_by : (part : PartData) (flash found : List ℕ) (golden : AttemptCourse) → IsUpdated part flash found golden → OpenFlash
 opened_by part flash found golden u = slot_of_flash part found u.after.next (update_place flash)

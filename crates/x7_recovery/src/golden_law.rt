@@ -8,7 +8,7 @@ ghost use Rattle.x7_recovery.specs.Clean.{StartsClean};
 ghost use Rattle.x7_recovery.specs.Golden.{BootsAlike, HaveSameGolden, IsPreparedAny, LeadsNowhere, StartsAlike, StartsAsPlanned, UpdatingAny, with_erased};
 ghost use Rattle.x7_boot.specs.Boots.{course_of};
 ghost use Rattle.x7_recovery.specs.Recovery.{IsPrepared, Updating};
-ghost use Rattle.x7_update.specs.After.{IsBetween, MayBeLeft};
+ghost use Rattle.x7_update.specs.After.{IsBetweenSlots, MayBeLeft};
 ghost use Rattle.x7_update.specs.Layout.{HasLayout};
 
 /// Where no sync word begins in the first sector, what stands there makes no difference: a golden stream with which the
@@ -22,7 +22,7 @@ pub fn flashes_that_lead_nowhere_start_alike()
 /// The first sector leads nowhere where it is erased, and where a power loss left a flash with a layout in an update.
 pub fn flashes_between_slots_lead_nowhere()
     ensures erased { (flash : List ℕ) → LeadsNowhere (with_erased flash) }
-    ensures between { (flash found : List ℕ) → HasLayout flash → IsBetween flash found → LeadsNowhere found }
+    ensures between { (flash found : List ℕ) → HasLayout flash → IsBetweenSlots flash found → LeadsNowhere found }
 {}
 
 /// A flash has a golden stream that starts where the first sector is erased, and that

@@ -8,7 +8,7 @@ ghost use Rattle.x7_memory.specs.Plan.{IsPlanFor, PlanData};
 ghost use Rattle.x7_boot.specs.Attempt.{AttemptCourse};
 ghost use Rattle.x7_boot.specs.Image.{flash_limit, image_of, image_size};
 ghost use Rattle.x7_recovery.specs.Example.{nothing_planned, tiny};
-ghost use Rattle.x7_recovery.specs.OpenBoot.{HasPlanned, HasStreams, UpdateFails};
+ghost use Rattle.x7_recovery.specs.OpenBoot.{HasFullGolden, HasStreams, UpdateFails};
 ghost use Rattle.x7_recovery.specs.OpenSlot.{image_of_flash};
 ghost use Rattle.x7_recovery.specs.PlannedImage.{HasImage, golden_image, place_after};
 ghost use Rattle.x7_recovery.specs.Recovery.{IsPrepared, updating_image};
@@ -21,7 +21,7 @@ pub fn images_boot()
     ensures boots { (part : PartData) (golden update more : List ℕ) → IsPart part → image_size (length golden) (length update) ≤ flash_limit
         → HasStreams part golden update (image_of part.start_unit golden update ++ more) }
     ensures planned { (part : PartData) (golden : PlanData) (update more : List ℕ) → HasImage part golden update
-        → HasPlanned (image_of_flash part (golden_image part golden update ++ more) (place_after part golden)) golden }
+        → HasFullGolden (image_of_flash part (golden_image part golden update ++ more) (place_after part golden)) golden }
 {}
 
 /// The laws of this crate speak of something. There is a part with a plan and their image, which is prepared for an

@@ -7,9 +7,9 @@ ghost use Rattle.x7_part.specs.Part.{PartData};
 ghost use Rattle.x7_part.specs.Ranges.{IsPart};
 ghost use Rattle.x7_memory.specs.Plan.{PlanData};
 ghost use Rattle.x7_recovery.specs.OpenBoot.{EachBootsOpen};
-ghost use Rattle.x7_recovery.specs.OpenSlot.{BeginsAsImage, IsOpened, Opened, image_of_flash, slot_of_flash};
+ghost use Rattle.x7_recovery.specs.OpenSlot.{BeginsAsImage, IsOpenFlash, OpenFlash, image_of_flash, slot_of_flash};
 ghost use Rattle.x7_recovery.specs.Recovery.{HasGolden};
-ghost use Rattle.x7_update.specs.After.{IsAfter};
+ghost use Rattle.x7_update.specs.After.{IsAfterUpdate};
 ghost use Rattle.x7_update.specs.Layout.{HasLayout, IsOpen, update_place};
 
 /// From a flash with an open slot a boot tries the update at the place to which the slot leads; where it starts the
@@ -18,19 +18,19 @@ ghost use Rattle.x7_update.specs.Layout.{HasLayout, IsOpen, update_place};
 /// and begins clean; one with which some fallback over this flash starts. An update that is a full stream starts with
 /// the memory of its plan.
 pub fn open_slots_boot()
-    ensures { (o : Opened) → IsOpened o → EachBootsOpen o }
+    ensures { (o : OpenFlash) → IsOpenFlash o → EachBootsOpen o }
 {}
 
 /// A flash that begins with the first sector of an image has its first slot open, whatever follows. A flash with a
 /// layout, one of whose slots begins with the sync word, has that slot open, and after an update the next; then the
 /// golden stream stands as it did, and the stream of the update at the update's place.
 pub fn flashes_have_an_open_slot()
-    ensures image { (part : PartData) (flash : List ℕ) (place : ℕ) → IsPart part → BeginsAsImage part flash place → IsOpened (image_of_flash part flash place) }
+    ensures image { (part : PartData) (flash : List ℕ) (place : ℕ) → IsPart part → BeginsAsImage part flash place → IsOpenFlash (image_of_flash part flash place) }
     ensures layout { (part : PartData) (flash : List ℕ) (slot : ℕ) → part.start_unit ≡ 1 → HasLayout flash → AreBytes (take sector_bytes flash) → slot < slot_count → IsOpen flash slot
-        → IsOpened (slot_of_flash part flash slot (update_place flash)) }
+        → IsOpenFlash (slot_of_flash part flash slot (update_place flash)) }
     ensures after { (part : PartData) (stream flash found : List ℕ) → part.start_unit ≡ 1 → HasLayout flash → AreBytes (take sector_bytes found)
-        → (a : IsAfter stream flash found) → IsOpened (slot_of_flash part found a.next (update_place flash)) }
-    ensures golden { (part : PartData) (golden : PlanData) (stream flash found : List ℕ) → HasLayout flash → IsAfter stream flash found → HasGolden part golden flash
+        → (a : IsAfterUpdate stream flash found) → IsOpenFlash (slot_of_flash part found a.next (update_place flash)) }
+    ensures golden { (part : PartData) (golden : PlanData) (stream flash found : List ℕ) → HasLayout flash → IsAfterUpdate stream flash found → HasGolden part golden flash
         → HasGolden part golden found }
-    ensures stream { (stream flash found : List ℕ) → HasLayout flash → IsAfter stream flash found → (rest : List ℕ) × (drop (update_place flash) found ≡ stream ++ rest) }
+    ensures stream { (stream flash found : List ℕ) → HasLayout flash → IsAfterUpdate stream flash found → (rest : List ℕ) × (drop (update_place flash) found ≡ stream ++ rest) }
 {}

@@ -4,25 +4,25 @@ use Rattle.std.proofs.Math.Nat.{zero-add}
 use Rattle.std.specs.Bool.{then_some}
 use Rattle.std.specs.Option.{option_or}
 use Rattle.x7_startup.specs.Phases.{wait_of, IsPhase, tick_limit}
-use Rattle.x7_startup.specs.Startup.{IsPhaseOf, Call, Arm, Desync, Byte, DropBack, StartupProgress, NotBegun, Begun, has_taking, since_taking, bytes_among, is_armed, start_of, progress_of, Stored, StoresAt, StandsForCalls}
+use Rattle.x7_startup.specs.Startup.{IsPhaseOf, Call, Arm, Desync, Byte, DropBack, StartupProgress, NotBegun, Begun, has_shutdown, since_shutdown, bytes_among, is_armed, progress_from, progress_of, Stored, StoresAt, StandsForCalls}
 use Rattle.x7_startup.specs.Ticks.{PassesTicks, reached}
 use Rattle.x7_startup.proofs.PhaseLemmas.{phase_first, phase_rises, one_phase}
 
-has_taking_push : (calls t : List Call) → has_taking t ≡ false → has_taking (calls ++ t) ≡ has_taking calls
+has_taking_push : (calls t : List Call) → has_shutdown t ≡ false → has_shutdown (calls ++ t) ≡ has_shutdown calls
 has_taking_push [] t h = h
 has_taking_push (Arm ∷ calls) t h = has_taking_push calls t h
 has_taking_push (Desync c ∷ calls) t h = has_taking_push calls t h
 has_taking_push (Byte ∷ calls) t h = has_taking_push calls t h
 has_taking_push (DropBack ∷ calls) t h = refl
 
-has_taking_last : (calls : List Call) → has_taking (calls ++ DropBack ∷ []) ≡ true
+has_taking_last : (calls : List Call) → has_shutdown (calls ++ DropBack ∷ []) ≡ true
 has_taking_last [] = refl
 has_taking_last (Arm ∷ calls) = has_taking_last calls
 has_taking_last (Desync c ∷ calls) = has_taking_last calls
 has_taking_last (Byte ∷ calls) = has_taking_last calls
 has_taking_last (DropBack ∷ calls) = refl
 
-since_none : (t : List Call) → has_taking t ≡ false → since_taking t ≡ t
+since_none : (t : List Call) → has_shutdown t ≡ false → since_shutdown t ≡ t
 since_none [] h = refl
 since_none (c ∷ t) h = rw h refl
 
@@ -30,13 +30,13 @@ choice : (b : Bool) (x y z : List Call) → (if b then x ++ z else y ++ z) ≡ (
 choice true x y z = refl
 choice false x y z = refl
 
-pub since_push : (calls t : List Call) → has_taking t ≡ false → since_taking (calls ++ t) ≡ since_taking calls ++ t
+pub since_push : (calls t : List Call) → has_shutdown t ≡ false → since_shutdown (calls ++ t) ≡ since_shutdown calls ++ t
 since_push [] t h = since_none t h
 since_push (c ∷ calls) t h =
     rw (has_taking_push (c ∷ calls) t h, since_push calls t h)
-    (choice (has_taking (c ∷ calls)) (since_taking calls) (c ∷ calls) t)
+    (choice (has_shutdown (c ∷ calls)) (since_shutdown calls) (c ∷ calls) t)
 
-pub since_last : (calls : List Call) → since_taking (calls ++ DropBack ∷ []) ≡ []
+pub since_last : (calls : List Call) → since_shutdown (calls ++ DropBack ∷ []) ≡ []
 since_last [] = refl
 since_last (c ∷ calls) = rw (has_taking_last (c ∷ calls)) (since_last calls)
 
@@ -95,12 +95,12 @@ abbrev pub further : ℕ → StartupProgress → StartupProgress
 further n NotBegun = NotBegun
 further n (Begun cor0 bytes) = Begun cor0 (bytes + n)
 
-start_never : (a : Bool) (n : ℕ) → start_of a (replicate n Byte) ≡ NotBegun
+start_never : (a : Bool) (n : ℕ) → progress_from a (replicate n Byte) ≡ NotBegun
 start_never a zero = refl
 start_never true (suc n) = start_never true n
 start_never false (suc n) = start_never false n
 
-pub start_bytes : (a : Bool) (calls : List Call) (n : ℕ) → start_of a (calls ++ replicate n Byte) ≡ further n (start_of a calls)
+pub start_bytes : (a : Bool) (calls : List Call) (n : ℕ) → progress_from a (calls ++ replicate n Byte) ≡ further n (progress_from a calls)
 start_bytes a [] n = start_never a n
 start_bytes true (Arm ∷ calls) n = start_bytes true calls n
 start_bytes false (Arm ∷ calls) n = start_bytes true calls n
@@ -111,7 +111,7 @@ start_bytes false (Byte ∷ calls) n = start_bytes false calls n
 start_bytes true (DropBack ∷ calls) n = start_bytes true calls n
 start_bytes false (DropBack ∷ calls) n = start_bytes false calls n
 
-pub start_arm : (a : Bool) (calls : List Call) → start_of a (calls ++ Arm ∷ []) ≡ start_of a calls
+pub start_arm : (a : Bool) (calls : List Call) → progress_from a (calls ++ Arm ∷ []) ≡ progress_from a calls
 start_arm true [] = refl
 start_arm false [] = refl
 start_arm true (Arm ∷ calls) = start_arm true calls
@@ -129,7 +129,7 @@ first_place (Begun cor0 bytes) armed d = Begun cor0 bytes
 first_place NotBegun true d = Begun d 0
 first_place NotBegun false d = NotBegun
 
-pub start_desync : (a : Bool) (calls : List Call) (d : ℕ) → start_of a (calls ++ Desync d ∷ []) ≡ first_place (start_of a calls) (is_armed a calls) d
+pub start_desync : (a : Bool) (calls : List Call) (d : ℕ) → progress_from a (calls ++ Desync d ∷ []) ≡ first_place (progress_from a calls) (is_armed a calls) d
 start_desync true [] d = refl
 start_desync false [] d = refl
 start_desync true (Arm ∷ calls) d = start_desync true calls d
@@ -143,151 +143,151 @@ start_desync false (DropBack ∷ calls) d = start_desync false calls d
 
 -- ---- what a call leaves
 
-armed_so : (lock matched : ℕ) (s : Stored) (armed : Bool) (progress : StartupProgress) → StoresAt lock matched s progress → StoresAt lock matched (record s { armed = armed }) progress
-armed_so lock matched s armed progress h = record { begun_is = h.begun_is; tick_bytes_are = h.tick_bytes_are; ticks_are = h.ticks_are; phase_is = h.phase_is }
+armed_so : (lock_ticks match_ticks : ℕ) (s : Stored) (armed : Bool) (progress : StartupProgress) → StoresAt lock_ticks match_ticks s progress → StoresAt lock_ticks match_ticks (record s { armed = armed }) progress
+armed_so lock_ticks match_ticks s armed progress h = record { begun_with_is = h.begun_with_is; tick_bytes_are = h.tick_bytes_are; ticks_are = h.ticks_are; phase_is = h.phase_is }
 
-pub arm_stands : (lock matched : ℕ) (s : Stored) (calls : List Call) → StandsForCalls lock matched s calls →
-    StandsForCalls lock matched (record s { armed = true }) (calls ++ Arm ∷ [])
-arm_stands lock matched s calls h =
+pub arm_stands : (lock_ticks match_ticks : ℕ) (s : Stored) (calls : List Call) → StandsForCalls lock_ticks match_ticks s calls →
+    StandsForCalls lock_ticks match_ticks (record s { armed = true }) (calls ++ Arm ∷ [])
+arm_stands lock_ticks match_ticks s calls h =
     let e = since_push calls (Arm ∷ []) refl in
     record {
-      armed_is = sym (ap (is_armed false) e ∙ armed_arm false (since_taking calls));
-      stores = rw (e, start_arm false (since_taking calls)) (armed_so lock matched s true (progress_of calls) h.stores);
+      armed_is = sym (ap (is_armed false) e ∙ armed_arm false (since_shutdown calls));
+      stores = rw (e, start_arm false (since_shutdown calls)) (armed_so lock_ticks match_ticks s true (progress_of calls) h.stores);
     }
 
-pub drop_stands : (lock matched : ℕ) (calls : List Call) →
-    StandsForCalls lock matched (record { armed = false; begun = None; tick_bytes = 0; ticks = 0; phase = 0 }) (calls ++ DropBack ∷ [])
-drop_stands lock matched calls =
+pub drop_stands : (lock_ticks match_ticks : ℕ) (calls : List Call) →
+    StandsForCalls lock_ticks match_ticks (record { armed = false; begun_with = None; tick_bytes = 0; ticks = 0; phase = 0 }) (calls ++ DropBack ∷ [])
+drop_stands lock_ticks match_ticks calls =
     let e = since_last calls in
     record {
       armed_is = sym (ap (is_armed false) e);
-      stores = rw e record { begun_is = refl; tick_bytes_are = refl; ticks_are = refl; phase_is = refl };
+      stores = rw e record { begun_with_is = refl; tick_bytes_are = refl; ticks_are = refl; phase_is = refl };
     }
 
-desync_stores : (lock matched : ℕ) (s : Stored) (progress : StartupProgress) (armed : Bool) (d : ℕ) → StoresAt lock matched s progress →
-    StoresAt lock matched (record s { armed = false; begun = option_or s.begun (then_some armed d) }) (first_place progress armed d)
-desync_stores lock matched s NotBegun true d h =
-    let none : s.begun ≡ None = h.begun_is in
+desync_stores : (lock_ticks match_ticks : ℕ) (s : Stored) (progress : StartupProgress) (armed : Bool) (d : ℕ) → StoresAt lock_ticks match_ticks s progress →
+    StoresAt lock_ticks match_ticks (record s { armed = false; begun_with = option_or s.begun_with (then_some armed d) }) (first_place progress armed d)
+desync_stores lock_ticks match_ticks s NotBegun true d h =
+    let none : s.begun_with ≡ None = h.begun_with_is in
     let first : s.phase ≡ 0 = h.phase_is in
     record {
-      begun_is = rw none refl;
+      begun_with_is = rw none refl;
       tick_bytes_are = h.tick_bytes_are;
       ticks_are = h.ticks_are;
-      phase_is = rw first (phase_first (wait_of lock matched d));
+      phase_is = rw first (phase_first (wait_of lock_ticks match_ticks d));
     }
-desync_stores lock matched s NotBegun false d h =
-    let none : s.begun ≡ None = h.begun_is in
-    record { begun_is = rw none refl; tick_bytes_are = h.tick_bytes_are; ticks_are = h.ticks_are; phase_is = h.phase_is }
-desync_stores lock matched s (Begun cor0 bytes) armed d h =
-    let some : s.begun ≡ Some cor0 = h.begun_is in
-    record { begun_is = rw some refl; tick_bytes_are = h.tick_bytes_are; ticks_are = h.ticks_are; phase_is = h.phase_is }
+desync_stores lock_ticks match_ticks s NotBegun false d h =
+    let none : s.begun_with ≡ None = h.begun_with_is in
+    record { begun_with_is = rw none refl; tick_bytes_are = h.tick_bytes_are; ticks_are = h.ticks_are; phase_is = h.phase_is }
+desync_stores lock_ticks match_ticks s (Begun cor0 bytes) armed d h =
+    let some : s.begun_with ≡ Some cor0 = h.begun_with_is in
+    record { begun_with_is = rw some refl; tick_bytes_are = h.tick_bytes_are; ticks_are = h.ticks_are; phase_is = h.phase_is }
 
-pub desync_stands : (lock matched : ℕ) (s : Stored) (calls : List Call) (d : ℕ) → StandsForCalls lock matched s calls →
-    StandsForCalls lock matched (record s { armed = false; begun = option_or s.begun (then_some s.armed d) }) (calls ++ Desync d ∷ [])
-desync_stands lock matched s calls d h =
+pub desync_stands : (lock_ticks match_ticks : ℕ) (s : Stored) (calls : List Call) (d : ℕ) → StandsForCalls lock_ticks match_ticks s calls →
+    StandsForCalls lock_ticks match_ticks (record s { armed = false; begun_with = option_or s.begun_with (then_some s.armed d) }) (calls ++ Desync d ∷ [])
+desync_stands lock_ticks match_ticks s calls d h =
     let e = since_push calls (Desync d ∷ []) refl in
     record {
-      armed_is = sym (ap (is_armed false) e ∙ armed_desync false (since_taking calls) d);
-      stores = rw (e, start_desync false (since_taking calls) d, ← h.armed_is)
-          (desync_stores lock matched s (progress_of calls) s.armed d h.stores);
+      armed_is = sym (ap (is_armed false) e ∙ armed_desync false (since_shutdown calls) d);
+      stores = rw (e, start_desync false (since_shutdown calls) d, ← h.armed_is)
+          (desync_stores lock_ticks match_ticks s (progress_of calls) s.armed d h.stores);
     }
 
-no_taking : (n : ℕ) → has_taking (replicate n Byte) ≡ false
+no_taking : (n : ℕ) → has_shutdown (replicate n Byte) ≡ false
 no_taking zero = refl
 no_taking (suc n) = no_taking n
 
-idle : (lock matched : ℕ) (s : Stored) (progress : StartupProgress) (n : ℕ) → s.begun ≡ None → StoresAt lock matched s progress → StoresAt lock matched s (further n progress)
-idle lock matched s NotBegun n none h = h
-idle lock matched s (Begun cor0 bytes) n none h =
-    let some : s.begun ≡ Some cor0 = h.begun_is in absurd (cc (none, some))
+idle : (lock_ticks match_ticks : ℕ) (s : Stored) (progress : StartupProgress) (n : ℕ) → s.begun_with ≡ None → StoresAt lock_ticks match_ticks s progress → StoresAt lock_ticks match_ticks s (further n progress)
+idle lock_ticks match_ticks s NotBegun n none h = h
+idle lock_ticks match_ticks s (Begun cor0 bytes) n none h =
+    let some : s.begun_with ≡ Some cor0 = h.begun_with_is in absurd (cc (none, some))
 
 -- bytes at a startup that hasn't begun
-pub idle_stands : (lock matched : ℕ) (s : Stored) (calls : List Call) (n : ℕ) → s.begun ≡ None → StandsForCalls lock matched s calls →
-    StandsForCalls lock matched s (calls ++ replicate n Byte)
-idle_stands lock matched s calls n none h =
+pub idle_stands : (lock_ticks match_ticks : ℕ) (s : Stored) (calls : List Call) (n : ℕ) → s.begun_with ≡ None → StandsForCalls lock_ticks match_ticks s calls →
+    StandsForCalls lock_ticks match_ticks s (calls ++ replicate n Byte)
+idle_stands lock_ticks match_ticks s calls n none h =
     let e = since_push calls (replicate n Byte) (no_taking n) in
     record {
-      armed_is = h.armed_is ∙ sym (ap (is_armed false) e ∙ armed_bytes false (since_taking calls) n);
-      stores = rw (e, start_bytes false (since_taking calls) n)
-          (idle lock matched s (progress_of calls) n none h.stores);
+      armed_is = h.armed_is ∙ sym (ap (is_armed false) e ∙ armed_bytes false (since_shutdown calls) n);
+      stores = rw (e, start_bytes false (since_shutdown calls) n)
+          (idle lock_ticks match_ticks s (progress_of calls) n none h.stores);
     }
 
-goes_on : (lock matched : ℕ) (s : Stored) (progress : StartupProgress) (n cor0 more tick_bytes ticks phase : ℕ) → s.begun ≡ Some cor0 →
+goes_on : (lock_ticks match_ticks : ℕ) (s : Stored) (progress : StartupProgress) (n cor0 more tick_bytes ticks phase : ℕ) → s.begun_with ≡ Some cor0 →
     more ≡ (s.tick_bytes + n) / 4 → tick_bytes ≡ (s.tick_bytes + n) % 4 →
-    PassesTicks (wait_of lock matched cor0) (reached s.ticks s.phase) more (reached ticks phase) → StoresAt lock matched s progress →
-    StoresAt lock matched (record s { tick_bytes = tick_bytes; ticks = ticks; phase = phase }) (further n progress)
-goes_on lock matched s NotBegun n cor0 more tick_bytes ticks phase some m q runs h =
-    let none : s.begun ≡ None = h.begun_is in absurd (cc (some, none))
-goes_on lock matched s (Begun c b) n cor0 more tick_bytes ticks phase some m q runs h =
-    let was : s.begun ≡ Some c = h.begun_is in
+    PassesTicks (wait_of lock_ticks match_ticks cor0) (reached s.ticks s.phase) more (reached ticks phase) → StoresAt lock_ticks match_ticks s progress →
+    StoresAt lock_ticks match_ticks (record s { tick_bytes = tick_bytes; ticks = ticks; phase = phase }) (further n progress)
+goes_on lock_ticks match_ticks s NotBegun n cor0 more tick_bytes ticks phase some m q runs h =
+    let none : s.begun_with ≡ None = h.begun_with_is in absurd (cc (some, none))
+goes_on lock_ticks match_ticks s (Begun c b) n cor0 more tick_bytes ticks phase some m q runs h =
+    let was : s.begun_with ≡ Some c = h.begun_with_is in
     let same : c ≡ cor0 = cc (some, was) in
     let before : s.tick_bytes ≡ b % 4 = h.tick_bytes_are in
     let all : b / 4 + more ≡ (b + n) / 4 = omega arith in
-    let p : IsPhase (wait_of lock matched c) (b / 4) s.phase = h.phase_is in
+    let p : IsPhase (wait_of lock_ticks match_ticks c) (b / 4) s.phase = h.phase_is in
     let r = runs (b / 4) h.ticks_are (rw same at p) in
     let t : ticks ≡ min ((b + n) / 4) tick_limit = rw (← all) r.0 in
-    let f : IsPhase (wait_of lock matched cor0) ((b + n) / 4) phase = rw all at r.1 in
-    record { begun_is = was; tick_bytes_are = omega arith; ticks_are = t; phase_is = rw same f }
+    let f : IsPhase (wait_of lock_ticks match_ticks cor0) ((b + n) / 4) phase = rw all at r.1 in
+    record { begun_with_is = was; tick_bytes_are = omega arith; ticks_are = t; phase_is = rw same f }
 
 -- bytes at a startup that has begun
-pub running_stands : (lock matched : ℕ) (s : Stored) (calls : List Call) (n cor0 more tick_bytes ticks phase : ℕ) → s.begun ≡ Some cor0 →
+pub running_stands : (lock_ticks match_ticks : ℕ) (s : Stored) (calls : List Call) (n cor0 more tick_bytes ticks phase : ℕ) → s.begun_with ≡ Some cor0 →
     more ≡ (s.tick_bytes + n) / 4 → tick_bytes ≡ (s.tick_bytes + n) % 4 →
-    PassesTicks (wait_of lock matched cor0) (reached s.ticks s.phase) more (reached ticks phase) → StandsForCalls lock matched s calls →
-    StandsForCalls lock matched (record s { tick_bytes = tick_bytes; ticks = ticks; phase = phase }) (calls ++ replicate n Byte)
-running_stands lock matched s calls n cor0 more tick_bytes ticks phase begun m q runs h =
+    PassesTicks (wait_of lock_ticks match_ticks cor0) (reached s.ticks s.phase) more (reached ticks phase) → StandsForCalls lock_ticks match_ticks s calls →
+    StandsForCalls lock_ticks match_ticks (record s { tick_bytes = tick_bytes; ticks = ticks; phase = phase }) (calls ++ replicate n Byte)
+running_stands lock_ticks match_ticks s calls n cor0 more tick_bytes ticks phase begun m q runs h =
     let e = since_push calls (replicate n Byte) (no_taking n) in
     record {
-      armed_is = h.armed_is ∙ sym (ap (is_armed false) e ∙ armed_bytes false (since_taking calls) n);
-      stores = rw (e, start_bytes false (since_taking calls) n)
-          (goes_on lock matched s (progress_of calls) n cor0 more tick_bytes ticks phase begun m q runs h.stores);
+      armed_is = h.armed_is ∙ sym (ap (is_armed false) e ∙ armed_bytes false (since_shutdown calls) n);
+      stores = rw (e, start_bytes false (since_shutdown calls) n)
+          (goes_on lock_ticks match_ticks s (progress_of calls) n cor0 more tick_bytes ticks phase begun m q runs h.stores);
     }
 
 -- a byte that ends no tick
-pub within_tick : (lock matched : ℕ) (s : Stored) (calls : List Call) (cor0 : ℕ) → s.begun ≡ Some cor0 → s.tick_bytes < 3 →
-    StandsForCalls lock matched s calls → StandsForCalls lock matched (record s { tick_bytes = s.tick_bytes + 1 }) (calls ++ Byte ∷ [])
-within_tick lock matched s calls cor0 begun small h =
-    running_stands lock matched s calls 1 cor0 0 (s.tick_bytes + 1) s.ticks s.phase begun (omega arith) (omega arith)
+pub within_tick : (lock_ticks match_ticks : ℕ) (s : Stored) (calls : List Call) (cor0 : ℕ) → s.begun_with ≡ Some cor0 → s.tick_bytes < 3 →
+    StandsForCalls lock_ticks match_ticks s calls → StandsForCalls lock_ticks match_ticks (record s { tick_bytes = s.tick_bytes + 1 }) (calls ++ Byte ∷ [])
+within_tick lock_ticks match_ticks s calls cor0 begun small h =
+    running_stands lock_ticks match_ticks s calls 1 cor0 0 (s.tick_bytes + 1) s.ticks s.phase begun (omega arith) (omega arith)
     (λ t e p. let z : t + 0 ≡ t = omega arith in rw z (e, p)) h
 
 -- ---- how far startup is, and whether it is armed, after one call more
 
 pub progress_arm : (calls : List Call) → progress_of (calls ++ Arm ∷ []) ≡ progress_of calls
-progress_arm calls = ap (start_of false) (since_push calls (Arm ∷ []) refl) ∙ start_arm false (since_taking calls)
+progress_arm calls = ap (progress_from false) (since_push calls (Arm ∷ []) refl) ∙ start_arm false (since_shutdown calls)
 
-pub progress_desync : (calls : List Call) (d : ℕ) → progress_of (calls ++ Desync d ∷ []) ≡ first_place (progress_of calls) (is_armed false (since_taking calls)) d
-progress_desync calls d = ap (start_of false) (since_push calls (Desync d ∷ []) refl) ∙ start_desync false (since_taking calls) d
+pub progress_desync : (calls : List Call) (d : ℕ) → progress_of (calls ++ Desync d ∷ []) ≡ first_place (progress_of calls) (is_armed false (since_shutdown calls)) d
+progress_desync calls d = ap (progress_from false) (since_push calls (Desync d ∷ []) refl) ∙ start_desync false (since_shutdown calls) d
 
 pub progress_drop : (calls : List Call) → progress_of (calls ++ DropBack ∷ []) ≡ NotBegun
-progress_drop calls = ap (start_of false) (since_last calls)
+progress_drop calls = ap (progress_from false) (since_last calls)
 
-pub is_armed_arm : (calls : List Call) → is_armed false (since_taking (calls ++ Arm ∷ [])) ≡ true
-is_armed_arm calls = ap (is_armed false) (since_push calls (Arm ∷ []) refl) ∙ armed_arm false (since_taking calls)
+pub is_armed_arm : (calls : List Call) → is_armed false (since_shutdown (calls ++ Arm ∷ [])) ≡ true
+is_armed_arm calls = ap (is_armed false) (since_push calls (Arm ∷ []) refl) ∙ armed_arm false (since_shutdown calls)
 
-pub is_armed_desync : (calls : List Call) (d : ℕ) → is_armed false (since_taking (calls ++ Desync d ∷ [])) ≡ false
-is_armed_desync calls d = ap (is_armed false) (since_push calls (Desync d ∷ []) refl) ∙ armed_desync false (since_taking calls) d
+pub is_armed_desync : (calls : List Call) (d : ℕ) → is_armed false (since_shutdown (calls ++ Desync d ∷ [])) ≡ false
+is_armed_desync calls d = ap (is_armed false) (since_push calls (Desync d ∷ []) refl) ∙ armed_desync false (since_shutdown calls) d
 
-pub is_armed_drop : (calls : List Call) → is_armed false (since_taking (calls ++ DropBack ∷ [])) ≡ false
+pub is_armed_drop : (calls : List Call) → is_armed false (since_shutdown (calls ++ DropBack ∷ [])) ≡ false
 is_armed_drop calls = ap (is_armed false) (since_last calls)
 
-pub is_armed_bytes : (calls : List Call) (n : ℕ) → is_armed false (since_taking (calls ++ replicate n Byte)) ≡ is_armed false (since_taking calls)
-is_armed_bytes calls n = ap (is_armed false) (since_push calls (replicate n Byte) (no_taking n)) ∙ armed_bytes false (since_taking calls) n
+pub is_armed_bytes : (calls : List Call) (n : ℕ) → is_armed false (since_shutdown (calls ++ replicate n Byte)) ≡ is_armed false (since_shutdown calls)
+is_armed_bytes calls n = ap (is_armed false) (since_push calls (replicate n Byte) (no_taking n)) ∙ armed_bytes false (since_shutdown calls) n
 
 pub progress_bytes : (calls : List Call) (n : ℕ) → progress_of (calls ++ replicate n Byte) ≡ further n (progress_of calls)
-progress_bytes calls n = ap (start_of false) (since_push calls (replicate n Byte) (no_taking n)) ∙ start_bytes false (since_taking calls) n
+progress_bytes calls n = ap (progress_from false) (since_push calls (replicate n Byte) (no_taking n)) ∙ start_bytes false (since_shutdown calls) n
 
-never_falls : (lock matched : ℕ) (progress : StartupProgress) (n p q : ℕ) → IsPhaseOf lock matched progress p → IsPhaseOf lock matched (further n progress) q → p ≤ q
-never_falls lock matched NotBegun n p q h k = let first : p ≡ 0 = h in omega arith
-never_falls lock matched (Begun cor0 bytes) n p q h k = phase_rises (wait_of lock matched cor0) (bytes / 4) ((bytes + n) / 4) p q (omega arith) h k
+never_falls : (lock_ticks match_ticks : ℕ) (progress : StartupProgress) (n p q : ℕ) → IsPhaseOf lock_ticks match_ticks progress p → IsPhaseOf lock_ticks match_ticks (further n progress) q → p ≤ q
+never_falls lock_ticks match_ticks NotBegun n p q h k = let first : p ≡ 0 = h in omega arith
+never_falls lock_ticks match_ticks (Begun cor0 bytes) n p q h k = phase_rises (wait_of lock_ticks match_ticks cor0) (bytes / 4) ((bytes + n) / 4) p q (omega arith) h k
 
 -- by bytes alone the phase never falls, so phase 7 lasts
-pub phase_never_falls : (lock matched : ℕ) (calls : List Call) (n p q : ℕ) → IsPhaseOf lock matched (progress_of calls) p →
-    IsPhaseOf lock matched (progress_of (calls ++ replicate n Byte)) q → p ≤ q
-phase_never_falls lock matched calls n p q h k = never_falls lock matched (progress_of calls) n p q h (rw (progress_bytes calls n) at k)
+pub phase_never_falls : (lock_ticks match_ticks : ℕ) (calls : List Call) (n p q : ℕ) → IsPhaseOf lock_ticks match_ticks (progress_of calls) p →
+    IsPhaseOf lock_ticks match_ticks (progress_of (calls ++ replicate n Byte)) q → p ≤ q
+phase_never_falls lock_ticks match_ticks calls n p q h k = never_falls lock_ticks match_ticks (progress_of calls) n p q h (rw (progress_bytes calls n) at k)
 
-one_phase_of : (lock matched : ℕ) (progress : StartupProgress) (p q : ℕ) → IsPhaseOf lock matched progress p → IsPhaseOf lock matched progress q → p ≡ q
-one_phase_of lock matched NotBegun p q h k = let first : p ≡ 0 = h in let second : q ≡ 0 = k in omega arith
-one_phase_of lock matched (Begun cor0 bytes) p q h k = one_phase (wait_of lock matched cor0) (bytes / 4) p q h k
+one_phase_of : (lock_ticks match_ticks : ℕ) (progress : StartupProgress) (p q : ℕ) → IsPhaseOf lock_ticks match_ticks progress p → IsPhaseOf lock_ticks match_ticks progress q → p ≡ q
+one_phase_of lock_ticks match_ticks NotBegun p q h k = let first : p ≡ 0 = h in let second : q ≡ 0 = k in omega arith
+one_phase_of lock_ticks match_ticks (Begun cor0 bytes) p q h k = one_phase (wait_of lock_ticks match_ticks cor0) (bytes / 4) p q h k
 
 -- a list of calls has one phase
-pub one_phase_after : (lock matched : ℕ) (calls : List Call) (p q : ℕ) → IsPhaseOf lock matched (progress_of calls) p → IsPhaseOf lock matched (progress_of calls) q → p ≡ q
-one_phase_after lock matched calls p q h k = one_phase_of lock matched (progress_of calls) p q h k
+pub one_phase_after : (lock_ticks match_ticks : ℕ) (calls : List Call) (p q : ℕ) → IsPhaseOf lock_ticks match_ticks (progress_of calls) p → IsPhaseOf lock_ticks match_ticks (progress_of calls) q → p ≡ q
+one_phase_after lock_ticks match_ticks calls p q h k = one_phase_of lock_ticks match_ticks (progress_of calls) p q h k

@@ -10,11 +10,11 @@ use Rattle.x7_startup.specs.Options.{done_cycle_of, gts_cycle_of, gwe_cycle_of}
 abbrev pub done_rise : ℕ → ℕ
 done_rise code = if nat_lt code 6 then code + 1 else 6
 
--- the phase of GTS or GWE by its code, where DONE's is given
+-- the phase of GTS or GWE by its code, and by DONE's phase; none for a line that never rises
 abbrev pub line_rise : ℕ → ℕ → Option ℕ
 line_rise done code = if nat_lt code 6 then Some (code + 1) else if code == 6 then Some done else None
 
--- whether a line is 1 in a phase: from its own phase on
+-- whether a line is 1 in a phase: from the phase on in which it rises, if it rises
 abbrev pub has_risen : Option ℕ → ℕ → Bool
 has_risen None phase = false
 has_risen (Some rise) phase = not (nat_lt phase rise)
@@ -34,8 +34,8 @@ abbrev pub gwe_line : Option ℕ → ℕ → Bool
 gwe_line None phase = false
 gwe_line (Some cor0) phase = has_risen (line_rise (done_rise (done_cycle_of cor0)) (gwe_cycle_of cor0)) phase
 
--- the three lines at once
-pub record AreLines (begun : Option ℕ) (phase : ℕ) (done gts gwe : Bool) : Type 0 where
-  pub done_is : done ≡ done_line begun phase
-  pub gts_is : gts ≡ gts_line begun phase
-  pub gwe_is : gwe ≡ gwe_line begun phase
+-- these are DONE, GTS and GWE in a phase, by the COR0 that startup began with, if it has begun
+pub record AreLines (begun_with : Option ℕ) (phase : ℕ) (done gts gwe : Bool) : Type 0 where
+  pub done_is : done ≡ done_line begun_with phase
+  pub gts_is : gts ≡ gts_line begun_with phase
+  pub gwe_is : gwe ≡ gwe_line begun_with phase

@@ -3,22 +3,22 @@ use Rattle.std.specs.Prelude.{ℕ}
 use Rattle.x7_regs.specs.StartupOptions.{done_cycle, gts_cycle, gwe_cycle, lock_cycle, match_cycle}
 use Rattle.x7_words.specs.Word.{field_of}
 
--- the code of the phase in which DONE rises
+-- DONE_CYCLE, bits 14:12: the code of the phase in which DONE rises
 abbrev pub done_cycle_of : ℕ → ℕ
 done_cycle_of = field_of done_cycle 3
 
--- the code of the phase that waits for the DCI match
+-- MATCH_CYCLE, bits 11:9: the phase that waits for the impedance (DCI) to match
 abbrev pub match_cycle_of : ℕ → ℕ
 match_cycle_of = field_of match_cycle 3
 
--- the code of the phase that waits for the MMCM lock
+-- LOCK_CYCLE, bits 8:6: the phase that waits for the clocks (MMCM) to lock
 abbrev pub lock_cycle_of : ℕ → ℕ
 lock_cycle_of = field_of lock_cycle 3
 
--- the code of the phase in which GTS rises
+-- GTS_CYCLE, bits 5:3: the code of the phase in which GTS rises
 abbrev pub gts_cycle_of : ℕ → ℕ
 gts_cycle_of = field_of gts_cycle 3
 
--- the code of the phase in which GWE rises
+-- GWE_CYCLE, bits 2:0: the code of the phase in which GWE rises
 abbrev pub gwe_cycle_of : ℕ → ℕ
 gwe_cycle_of = field_of gwe_cycle 3

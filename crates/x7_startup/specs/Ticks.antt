@@ -3,10 +3,11 @@ use Rattle.std.specs.Prelude.{◌≡◌, ℕ, ◌+◌, min}
 use Rattle.x7_startup.specs.Phases.{IsPhase, tick_limit}
 use Rattle.x7_startup.specs.declared.phases.Reached.{Reached}
 
--- `more` ticks lead from a phase and a capped count of ticks to the new ones
+-- `more` ticks lead from a phase, and the ticks before it counted up to the limit, to the new ones
 abbrev pub PassesTicks : (ℕ → ℕ) → Reached → ℕ → Reached → Type 0
 PassesTicks wait old more new =
-    (t : ℕ) → old.ticks ≡ min t tick_limit → IsPhase wait t old.phase → (new.ticks ≡ min (t + more) tick_limit) × IsPhase wait (t + more) new.phase
+    (ticks : ℕ) → old.ticks ≡ min ticks tick_limit → IsPhase wait ticks old.phase
+    → (new.ticks ≡ min (ticks + more) tick_limit) × IsPhase wait (ticks + more) new.phase
 
 -- a count of ticks, and the phase after them
 abbrev pub reached : ℕ → ℕ → Reached

@@ -15,8 +15,8 @@ pub struct Lines {
     pub gwe: bool,
 }
 
-/// The phases in which DONE, and GTS or GWE, rise by their codes (codes 6 and 7 are this project's choice).
-/// `done` is DONE's own phase; a line without a phase never rises.
+/// By a code of COR0 the phase in which DONE rises, and that in which GTS or GWE does (codes 6 and 7 are this project's
+/// choice). `done` is DONE's own phase; a line without a phase never rises.
 #[rattlefmt::skip]
 fn rises_of(code: u32, done: u8) -> (u8, Option<u8>)
     requires code { code < 8 }

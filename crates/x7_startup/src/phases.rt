@@ -5,8 +5,14 @@ ghost use Rattle.x7_startup.specs.Ticks.{PassesTicks};
 
 use x7_regs::{LOCK_CYCLE, MATCH_CYCLE};
 
-/// The number up to which ticks are counted, the last of 16 bits: no lock or match number of a part is larger.
+/// The number up to which ticks are counted, the last of 16 bits: no part waits for more.
 const TICK_LIMIT: u64 = 65_535;
+
+/// The number of LOCK_CYCLE's lowest bit of three in COR0.
+const LOCK_CYCLE: u32 = 6;
+
+/// The number of MATCH_CYCLE's lowest bit of three in COR0.
+const MATCH_CYCLE: u32 = 9;
 
 /// A phase of at most 7, and the ticks since startup began, at most 65,535.
 #[derive(Clone, Copy)]
@@ -15,17 +21,17 @@ pub(crate) struct Reached {
     pub(crate) phase: u8,
 }
 
-/// The ticks that must have passed before the phase is left.
-fn wait_in(cor0: u32, phase: u8, lock: u16, matched: u16) -> u16
-    ensures { result ≡ wait_of lock matched cor0 phase }
+/// The ticks since startup began that must have passed before the phase is left.
+fn wait_of(cor0: u32, phase: u8, lock_ticks: u16, match_ticks: u16) -> u16
+    ensures { result ≡ wait_of lock_ticks match_ticks cor0 phase }
 {
     let for_lock = if cor0 >> LOCK_CYCLE & 7 == u32::from(phase) {
-        lock
+        lock_ticks
     } else {
         0
     };
     let for_match = if cor0 >> MATCH_CYCLE & 7 == u32::from(phase) {
-        matched
+        match_ticks
     } else {
         0
     };
@@ -33,17 +39,17 @@ fn wait_in(cor0: u32, phase: u8, lock: u16, matched: u16) -> u16
 }
 
 /// The phase and the ticks that are reached one tick later.
-pub(crate) fn tick(cor0: u32, start: Reached, lock: u16, matched: u16) -> Reached
+pub(crate) fn tick(cor0: u32, start: Reached, lock_ticks: u16, match_ticks: u16) -> Reached
     requires phase { start.phase ≤ 7 }
     ensures last { result.phase ≤ 7 }
-    ensures runs { PassesTicks (wait_of lock matched cor0) start 1 result }
+    ensures runs { PassesTicks (wait_of lock_ticks match_ticks cor0) start 1 result }
 {
     let ticks = start.ticks.saturating_add(1);
     let phase = start.phase;
     if phase == 7 {
         return Reached { ticks, phase };
     }
-    if start.ticks < wait_in(cor0, phase, lock, matched) {
+    if start.ticks < wait_of(cor0, phase, lock_ticks, match_ticks) {
         return Reached { ticks, phase };
     }
     Reached {
@@ -54,16 +60,22 @@ pub(crate) fn tick(cor0: u32, start: Reached, lock: u16, matched: u16) -> Reache
 
 /// The phase and the ticks that are reached `count` ticks later, by a loop of at most fifteen turns.
 #[tactic(auto, using(crate::proofs::RunLemmas::ran_none, crate::proofs::RunLemmas::ran_stays, crate::proofs::RunLemmas::ran_moves, crate::proofs::RunLemmas::ran_all))]
-pub(crate) fn pass_ticks(cor0: u32, start: Reached, count: u64, lock: u16, matched: u16) -> Reached
+pub(crate) fn pass_ticks(
+    cor0: u32,
+    start: Reached,
+    count: u64,
+    lock_ticks: u16,
+    match_ticks: u16,
+) -> Reached
     requires phase { start.phase ≤ 7 }
     ensures last { result.phase ≤ 7 }
-    ensures runs { PassesTicks (wait_of lock matched cor0) start count result }
+    ensures runs { PassesTicks (wait_of lock_ticks match_ticks cor0) start count result }
 {
     let mut ticks = start.ticks;
     let mut phase = start.phase;
     let mut left = count;
     while left > 0 && phase < 7 {
-        let wait = wait_in(cor0, phase, lock, matched);
+        let wait = wait_of(cor0, phase, lock_ticks, match_ticks);
         if ticks < wait {
             let step = left.min(u64::from(wait - ticks));
             ticks += step as u16;

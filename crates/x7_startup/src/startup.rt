@@ -12,8 +12,8 @@ use std::marker::Model;
 #[derive(Clone, Copy, Debug, PartialEq, Eq)]
 pub struct Startup {
     armed: bool,
-    // COR0 as it stood where startup began
-    begun: Option<u32>,
+    // COR0 as it stood where startup began, if it has begun
+    begun_with: Option<u32>,
     // the bytes past the last tick, at most 3
     tick_bytes: u8,
     ticks: u16,
@@ -23,9 +23,9 @@ pub struct Startup {
 impl Model for Startup {
     ghost Value = { Stored };
 
-    ghost view = { λ s. record { armed = s.armed; begun = s.begun; tick_bytes = s.tick_bytes; ticks = s.ticks; phase = s.phase } };
+    ghost view = { λ s. record { armed = s.armed; begun_with = s.begun_with; tick_bytes = s.tick_bytes; ticks = s.ticks; phase = s.phase } };
 
-    ghost inverse = { λ v. record { armed = v.armed; begun = v.begun; tick_bytes = v.tick_bytes; ticks = v.ticks; phase = v.phase } };
+    ghost inverse = { λ v. record { armed = v.armed; begun_with = v.begun_with; tick_bytes = v.tick_bytes; ticks = v.ticks; phase = v.phase } };
 
     ghost invariant = { λ s. (s.tick_bytes < 4) × (s.phase ≤ 7) };
 }
@@ -33,11 +33,11 @@ impl Model for Startup {
 impl Startup {
     /// A startup after a reset: not armed, not begun.
     pub fn new() -> Self
-        ensures stands { (lock matched : ℕ) → StandsForCalls lock matched result [] }
+        ensures stands { (lock_ticks match_ticks : ℕ) → StandsForCalls lock_ticks match_ticks result [] }
     {
         Startup {
             armed: false,
-            begun: None,
+            begun_with: None,
             tick_bytes: 0,
             ticks: 0,
             phase: 0,
@@ -46,24 +46,26 @@ impl Startup {
 
     /// START: the next DESYNC begins startup.
     pub fn arm(&mut self)
-        ensures stands { (lock matched : ℕ) (calls : List Call) → StandsForCalls lock matched self.old calls → StandsForCalls lock matched self.new (calls ++ Arm ∷ []) }
+        ensures stands { (lock_ticks match_ticks : ℕ) (calls : List Call) → StandsForCalls lock_ticks match_ticks self.old calls
+            → StandsForCalls lock_ticks match_ticks self.new (calls ++ Arm ∷ []) }
     {
         self.armed = true;
     }
 
-    /// DESYNC: begins an armed startup with this COR0, and disarms.
+    /// DESYNC: begins an armed startup with this COR0, unless it has begun already, and disarms.
     pub fn desync(&mut self, cor0: u32)
-        ensures stands { (lock matched : ℕ) (calls : List Call) → StandsForCalls lock matched self.old calls → StandsForCalls lock matched self.new (calls ++ Desync cor0 ∷ []) }
+        ensures stands { (lock_ticks match_ticks : ℕ) (calls : List Call) → StandsForCalls lock_ticks match_ticks self.old calls
+            → StandsForCalls lock_ticks match_ticks self.new (calls ++ Desync cor0 ∷ []) }
     {
-        self.begun = self.begun.or(self.armed.then_some(cor0));
+        self.begun_with = self.begun_with.or(self.armed.then_some(cor0));
         self.armed = false;
     }
 
     /// One byte more was taken, by a part whose clocks lock and whose impedance matches after these ticks of startup.
-    pub fn byte(&mut self, lock: u16, matched: u16)
-        ensures stands { (calls : List Call) → StandsForCalls lock matched self.old calls → StandsForCalls lock matched self.new (calls ++ Byte ∷ []) }
+    pub fn byte(&mut self, lock_ticks: u16, match_ticks: u16)
+        ensures stands { (calls : List Call) → StandsForCalls lock_ticks match_ticks self.old calls → StandsForCalls lock_ticks match_ticks self.new (calls ++ Byte ∷ []) }
     {
-        let Some(cor0) = self.begun else {
+        let Some(cor0) = self.begun_with else {
             return;
         };
         if self.tick_bytes < 3 {
@@ -74,20 +76,20 @@ impl Startup {
             ticks: self.ticks,
             phase: self.phase,
         };
-        let next = tick(cor0, reached, lock, matched);
+        let next = tick(cor0, reached, lock_ticks, match_ticks);
         self.tick_bytes = 0;
         self.ticks = next.ticks;
         self.phase = next.phase;
     }
 
-    /// `count` bytes more were taken: the same as `count` calls of `byte`.
-    pub fn bytes(&mut self, count: u64, lock: u16, matched: u16)
-        ensures stands { (calls : List Call) → StandsForCalls lock matched self.old calls → StandsForCalls lock matched self.new (calls ++ replicate count Byte) }
+    /// `count` bytes more were taken: what as many calls of `byte` do, at once.
+    pub fn bytes(&mut self, count: u64, lock_ticks: u16, match_ticks: u16)
+        ensures stands { (calls : List Call) → StandsForCalls lock_ticks match_ticks self.old calls → StandsForCalls lock_ticks match_ticks self.new (calls ++ replicate count Byte) }
     {
-        let Some(cor0) = self.begun else {
+        let Some(cor0) = self.begun_with else {
             return;
         };
-        let rest = self.tick_bytes + (count % 4) as u8;
+        let tick_bytes = self.tick_bytes + (count % 4) as u8;
         let reached = Reached {
             ticks: self.ticks,
             phase: self.phase,
@@ -95,21 +97,22 @@ impl Startup {
         let next = pass_ticks(
             cor0,
             reached,
-            count / 4 + u64::from(rest / 4),
-            lock,
-            matched,
+            count / 4 + u64::from(tick_bytes / 4),
+            lock_ticks,
+            match_ticks,
         );
-        self.tick_bytes = rest % 4;
+        self.tick_bytes = tick_bytes % 4;
         self.ticks = next.ticks;
         self.phase = next.phase;
     }
 
     /// A shutdown was taken: not armed, not begun.
     pub fn drop_back(&mut self)
-        ensures stands { (lock matched : ℕ) (calls : List Call) → StandsForCalls lock matched self.old calls → StandsForCalls lock matched self.new (calls ++ DropBack ∷ []) }
+        ensures stands { (lock_ticks match_ticks : ℕ) (calls : List Call) → StandsForCalls lock_ticks match_ticks self.old calls
+            → StandsForCalls lock_ticks match_ticks self.new (calls ++ DropBack ∷ []) }
     {
         self.armed = false;
-        self.begun = None;
+        self.begun_with = None;
         self.tick_bytes = 0;
         self.ticks = 0;
         self.phase = 0;
@@ -117,16 +120,17 @@ impl Startup {
 
     /// Whether startup has begun. Until then bytes leave it as it is.
     pub fn has_begun(&self) -> bool
-        ensures { result ≡ is_some self.now.begun }
+        ensures { result ≡ is_some self.now.begun_with }
     {
-        self.begun.is_some()
+        self.begun_with.is_some()
     }
 
     /// The phase, 0 to 7.
     pub fn phase(&self) -> u8
         ensures now { result ≡ self.now.phase }
         ensures last { result ≤ 7 }
-        ensures stands { (lock matched : ℕ) (calls : List Call) → StandsForCalls lock matched self.now calls → IsPhaseOf lock matched (progress_of calls) result }
+        ensures stands { (lock_ticks match_ticks : ℕ) (calls : List Call) → StandsForCalls lock_ticks match_ticks self.now calls
+            → IsPhaseOf lock_ticks match_ticks (progress_of calls) result }
     {
         self.phase
     }
@@ -134,19 +138,21 @@ impl Startup {
     /// The ticks since startup began, at most 65,535.
     pub fn ticks(&self) -> u16
         ensures now { result ≡ self.now.ticks }
-        ensures stands { (lock matched : ℕ) (calls : List Call) → StandsForCalls lock matched self.now calls → result ≡ min (ticks_of (progress_of calls)) tick_limit }
+        ensures stands { (lock_ticks match_ticks : ℕ) (calls : List Call) → StandsForCalls lock_ticks match_ticks self.now calls
+            → result ≡ min (ticks_of (progress_of calls)) tick_limit }
     {
         self.ticks
     }
 
-    /// The three lines.
+    /// The lines DONE, GTS and GWE, which are 0 until startup has begun.
     pub fn lines(&self) -> Lines
-        ensures stands { (lock matched : ℕ) (calls : List Call) → StandsForCalls lock matched self.now calls → AreLines (cor0_of (progress_of calls)) self.now.phase result.done result.gts result.gwe }
-        ensures done { result.done ≡ done_line self.now.begun self.now.phase }
-        ensures gts { result.gts ≡ gts_line self.now.begun self.now.phase }
-        ensures gwe { result.gwe ≡ gwe_line self.now.begun self.now.phase }
+        ensures stands { (lock_ticks match_ticks : ℕ) (calls : List Call) → StandsForCalls lock_ticks match_ticks self.now calls
+            → AreLines (cor0_of (progress_of calls)) self.now.phase result.done result.gts result.gwe }
+        ensures done { result.done ≡ done_line self.now.begun_with self.now.phase }
+        ensures gts { result.gts ≡ gts_line self.now.begun_with self.now.phase }
+        ensures gwe { result.gwe ≡ gwe_line self.now.begun_with self.now.phase }
     {
-        let Some(cor0) = self.begun else {
+        let Some(cor0) = self.begun_with else {
             return Lines {
                 done: false,
                 gts: false,

@@ -1,8 +1,14 @@
-//! The configuration watchdog (UG470, watchdog): it counts the bytes that have it on.
+//! The configuration watchdog (UG470, watchdog): it counts the bytes at which it is on.
 ghost use Rattle.std.specs.Prelude.{◌≡◌, ◌<◌, ◌≤◌, ◌^◌, ◌+◌, ◌-◌, ◌*◌, ◌==◌, ◌&&◌, ◌↔◌, ◌∷◌, ◌++◌, not, min, ℕ, IsTrue, [], IfSome, IfNone, if◌then◌else◌};
 ghost use Rattle.x7_startup.specs.Watchdog.{FiredAt, NoneFired, OfCalls, Load, Reload, Watched, Watch, WatchesFor, Fires, full_count};
 
 use std::marker::Model;
+
+/// The number of the bit of TIMER by which the watchdog counts during configuration.
+const CFG_MON: u32 = 30;
+
+/// The bits of TIMER that are its value.
+const TIMER_VALUE: u32 = 0x3FFF_FFFF;
 
 /// The watchdog of one attempt, as the calls so far have left it.
 #[derive(Clone, Copy, Debug, PartialEq, Eq)]
@@ -59,19 +65,20 @@ impl Watchdog {
         self.limit != 0
     }
 
-    /// One byte more was taken, in phase 7 or not: whether the watchdog fires at it.
+    /// One byte more was taken, in phase 7 (`eos`) or not: whether the watchdog fires at it.
     pub fn byte(&mut self, eos: bool) -> bool
         ensures stands { OfCalls self.old (λ off first calls. WatchesFor off first self.new (calls ++ Watched eos ∷ [])) }
         ensures fires { OfCalls self.old (λ off first calls. (IsTrue result ↔ Fires off first calls eos)) }
     {
-        if !counts(self.limit, eos) {
+        if !is_on(self.limit, eos) {
             return false;
         }
         self.count = self.count.saturating_add(1);
         self.count == self.limit
     }
 
-    /// `count` bytes more were taken, up to the one at which the watchdog fires: the number of that byte, from 1.
+    /// `count` bytes more were taken, all in phase 7 (`eos`) or none, up to the one at which the watchdog fires: the
+    /// number of that byte, from 1, or none where it doesn't fire.
     pub fn bytes(&mut self, count: u64, eos: bool) -> Option<u64>
         ensures within { IfSome result (λ n. (0 < n) × (n ≤ count)) }
         ensures fires { OfCalls self.old (λ off first calls.
@@ -79,9 +86,9 @@ impl Watchdog {
         ensures quiet { OfCalls self.old (λ off first calls.
             IfNone result (NoneFired off first calls eos count self.new)) }
     {
-        let on = counts(self.limit, eos);
+        let on = is_on(self.limit, eos);
         let Some(n) = due_within(on, self.count, self.limit, count) else {
-            self.count = counted(on, self.count, count);
+            self.count = count_after(on, self.count, count);
             return None;
         };
         self.count = self.limit;
@@ -93,21 +100,21 @@ impl Watchdog {
 fn limit_of(off: bool, timer: u32) -> u32
     ensures { result ≡ full_count off timer }
 {
-    if timer >> 30 & 1 == 1 && !off {
-        (timer & 0x3FFF_FFFF) * 4
+    if timer >> CFG_MON & 1 == 1 && !off {
+        (timer & TIMER_VALUE) * 4
     } else {
         0
     }
 }
 
-/// Whether a byte counts.
-fn counts(limit: u32, eos: bool) -> bool
+/// Whether the watchdog with this limit is on at a byte, and counts it; `eos` is phase 7.
+fn is_on(limit: u32, eos: bool) -> bool
     ensures { result ≡ not (limit == 0) && not eos }
 {
     limit != 0 && !eos
 }
 
-/// How many bytes, `bytes` at most, bring the count to the limit.
+/// How many more bytes, `bytes` at most, bring the count to the limit; none where that many don't.
 fn due_within(on: bool, count: u32, limit: u32, bytes: u64) -> Option<u64>
     ensures some { IfSome result (λ n. (0 < n) × (n ≤ bytes) × IsTrue on × (count + n ≡ limit)) }
     ensures none { IfNone result ((k : ℕ) → k < bytes → IsTrue on → ¬ (count + (k + 1) ≡ limit)) }
@@ -119,8 +126,8 @@ fn due_within(on: bool, count: u32, limit: u32, bytes: u64) -> Option<u64>
     }
 }
 
-/// The count after more bytes, which all have the watchdog on or none.
-fn counted(on: bool, count: u32, bytes: u64) -> u32
+/// The count after `bytes` more, at all of which the watchdog is on, or at none.
+fn count_after(on: bool, count: u32, bytes: u64) -> u32
     ensures { result ≡ min (count + bytes * (if on then 1 else 0)) (2 ^ 32 - 1) }
 {
     if on {

@@ -30,7 +30,7 @@ use Rattle.x7_engine.specs.Standing.{NoWordDue}
 use Rattle.x7_engine.specs.State.{memory_in, reads_of, state_of}
 use Rattle.x7_effects.proofs.FormLemmas.{full_length}
 use Rattle.x7_effects.proofs.PlannerLemmas.{full_same}
-use Rattle.x7_effects.specs.Played.{PlaysFull, resting_after}
+use Rattle.x7_effects.specs.Played.{PlaysFull, device_after}
 use Rattle.x7_effects.proofs.LawLemmas.{new_law}
 use Rattle.x7_tool.specs.Generate.{count_line, counted, gen_text, generated, head_line, least_planned, next_number, planned_summary, played_summary, row_by, rows_after, sum_line, summary_text, words_sum}
 use Rattle.x7_forms.specs.Known.{reads_limit}
@@ -201,7 +201,7 @@ generated_addressed part seed =
     rows_each (λ row. Contains (addresses_in part) row.far) (frame_words part) seed (addresses_in part) (λ i d h n. All-contains_itself (addresses_in part) i d h)
 
 -- the full stream of a seed's plan, played on a new device
-pub generated_plays : (part : PartData) (seed : ℕ) → IsPart part → PlaysFull (resting_after part on_the_bench []) (full_stream part (generated part seed)) (generated part seed)
+pub generated_plays : (part : PartData) (seed : ℕ) → IsPart part → PlaysFull (device_after part on_the_bench []) (full_stream part (generated part seed)) (generated part seed)
 generated_plays part seed is = new_law part (generated part seed) is (generated_plan part seed is) refl (generated_addressed part seed)
 
 -- the full stream of a seed's plan leaves the plan over zeros, and phase 7

@@ -19,7 +19,7 @@ use Rattle.x7_boot.specs.declared.boots.BootEnd.TheVariants as boot_end
 use Rattle.x7_boot.specs.Image.{flash_limit, image_of, image_size}
 use Rattle.x7_boot.specs.Boots.{course_along}
 use Rattle.x7_recovery.specs.OpenBoot.{HasStreams}
-use Rattle.x7_recovery.specs.OpenSlot.{Opened}
+use Rattle.x7_recovery.specs.OpenSlot.{OpenFlash}
 use Rattle.x7_boot.proofs.CheckedLemmas.{attempt_checked, checked, last_checked}
 use Rattle.x7_recovery.proofs.AnyBootLemmas.{boots_open, image_boots}
 use Rattle.x7_svf.specs.declared.statement.Statement.{Statement}
@@ -28,7 +28,7 @@ use Rattle.x7_jtag.specs.Port.{Port, words_read_out}
 use Rattle.x7_jtag.specs.Queue.{QueueIsSound}
 use Rattle.x7_jtag.specs.Shown.{bytes_taken}
 use Rattle.x7_jtag.proofs.QueueLemmas.{port_sound}
-use Rattle.x7_effects.specs.Played.{PlaysFull, PlaysPartial, PlaysRead, resting_after}
+use Rattle.x7_effects.specs.Played.{PlaysFull, PlaysPartial, PlaysRead, device_after}
 use Rattle.x7_effects.proofs.LawLemmas.{full_law, partial_law, read_law}
 use Rattle.x7_forms.specs.declared.bad_input.InputFault.TheVariants as input
 use Rattle.x7_forms.specs.Event.{Event, bad_input, too_many_reads}
@@ -77,7 +77,7 @@ full_promised known part frames (Ok texts) answer e p = record {
   planned = p.2;
   plays = λ kept bytes fits rests.
       let is : IsPart texts.part = part_is known part texts.part (texts_by (part_of known part) (whole_in known text_limit frames) texts e) in
-      subst (λ (stream : List ℕ). PlaysFull (resting_after texts.part kept bytes) stream p.1) (sym p.3)
+      subst (λ (stream : List ℕ). PlaysFull (device_after texts.part kept bytes) stream p.1) (sym p.3)
       (full_law texts.part kept bytes p.1 fits rests is p.2.is_plan p.2.width (All-permutation (λ row. Contains (addresses_in texts.part) row.far) p.2.rows p.1.rows p.2.same p.2.good.addresses));
 }
 
@@ -90,7 +90,7 @@ partial_promised known part frames (Ok texts) answer e p = record {
   planned = p.2;
   plays = λ kept bytes fits rests.
       let is : IsPart texts.part = part_is known part texts.part (texts_by (part_of known part) (whole_in known text_limit frames) texts e) in
-      subst (λ (stream : List ℕ). PlaysPartial (resting_after texts.part kept bytes) stream p.1) (sym p.4)
+      subst (λ (stream : List ℕ). PlaysPartial (device_after texts.part kept bytes) stream p.1) (sym p.4)
       (partial_law texts.part kept bytes p.1 fits rests is p.2.is_plan p.2.width (All-permutation (λ row. Contains (addresses_in texts.part) row.far) p.2.rows p.1.rows p.2.same p.2.good.addresses));
 }
 
@@ -100,7 +100,7 @@ read_promised known part far n (Ok device) answer e p = record {
   device = device;
   read = e;
   plays = λ kept bytes fits rests.
-      subst (λ (stream : List ℕ). PlaysRead (resting_after device kept bytes) stream far n) (sym p.2) (read_law device kept bytes far n fits rests (part_is known part device e) p.1);
+      subst (λ (stream : List ℕ). PlaysRead (device_after device kept bytes) stream far n) (sym p.2) (read_law device kept bytes far n fits rests (part_is known part device e) p.1);
 }
 
 summary_promised : (known : Known) (part : List ℕ) (seed : ℕ) (read : Result PartData Event) (answer : Answer) → part_of known part ≡ read → and_so read (λ p. Ok (gen_answer p seed)) ≡ Ok answer → PromisesSummary known part seed answer.text
@@ -132,7 +132,7 @@ boots_known name part known flash answer e h fits =
 
 -- ---- from a flash with an open slot
 
-opened_known : (known : Known) (name : List ℕ) (part : PartData) (o : Opened) (answer : Answer) → FlashBoots name part (known.flash name) (Ok answer) → HoldsOpen known name part o → BootsFromOpen o answer
+opened_known : (known : Known) (name : List ℕ) (part : PartData) (o : OpenFlash) (answer : Answer) → FlashBoots name part (known.flash name) (Ok answer) → HoldsOpen known name part o → BootsFromOpen o answer
 opened_known known name part o answer h holds =
     let boot : IsBootText part o.flash answer = boots_known name part (known.flash name) o.flash answer holds.held h holds.bytes in
     let here : IsBootText o.part o.flash answer = subst (λ (p : PartData). IsBootText p o.flash answer) (sym holds.part_is) boot in

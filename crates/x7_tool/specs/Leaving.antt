@@ -1,7 +1,7 @@
 -- What a run leaves of a flash, and what may be found of it after a power loss at any moment (this project's choice).
 use Rattle.std.specs.Prelude.{◌≡◌, ℕ, List, Option, None, Some, Result, Ok, Err, ◌⊎◌}
 use Rattle.x7_words.specs.Flash.{FlashFails, FlashState, IfKnown}
-use Rattle.x7_update.specs.After.{IsAfter, MayBeLeft}
+use Rattle.x7_update.specs.After.{IsAfterUpdate, MayBeLeft}
 use Rattle.x7_update.specs.Writing.{AtAnyMoment, Becomes}
 use Rattle.x7_boot.specs.Boot.{BootedState, IsBoot}
 use Rattle.x7_recovery.specs.Golden.{BootsAlike, IsPreparedAny, UpdatingAny}
@@ -61,5 +61,5 @@ KeepsBytes reason old new = new.bytes ≡ old.bytes
 -- isn't leaves its bytes, as its reason says.
 abbrev pub Updates : Option (List ℕ) → Outside → Outside → Result Answer Event → Type 0
 Updates None old new end = Unit {0}
-Updates (Some stream) old new (Ok answer) = (bytes : List ℕ) × HasData (known_in old) stream bytes × Becomes old.flash new.flash (IsAfter bytes)
+Updates (Some stream) old new (Ok answer) = (bytes : List ℕ) × HasData (known_in old) stream bytes × Becomes old.flash new.flash (IsAfterUpdate bytes)
 Updates (Some stream) old new (Err event) = KeepsBytes event.reason old.flash new.flash

@@ -15,12 +15,12 @@ use Rattle.x7_boot.specs.Boot.{end_state}
 use Rattle.x7_boot.specs.Checked.{HasChecked}
 use Rattle.x7_boot.specs.Boots.{course_along}
 use Rattle.x7_recovery.specs.OpenBoot.{BootsOpen, HasStreams}
-use Rattle.x7_recovery.specs.OpenSlot.{IsOpened, Opened}
+use Rattle.x7_recovery.specs.OpenSlot.{IsOpenFlash, OpenFlash}
 use Rattle.x7_svf.specs.declared.statement.Statement.{Statement}
 use Rattle.x7_jtag.specs.Play.{port_played}
 use Rattle.x7_jtag.specs.Shown.{bytes_taken, state_shown}
 use Rattle.x7_svf.specs.Svf.{IsSvfOf}
-use Rattle.x7_effects.specs.Played.{PlaysFull, PlaysPartial, PlaysRead, resting_after}
+use Rattle.x7_effects.specs.Played.{PlaysFull, PlaysPartial, PlaysRead, device_after}
 use Rattle.x7_forms.specs.Event.{Event}
 use Rattle.x7_tool.specs.Generate.{generated, planned_summary}
 use Rattle.x7_forms.specs.Form.{AskedForm, Booting, Generating, Imaging, ImagingFor, PlanningFull, PlanningPartial, PlanningRead, Playing, PlayingSvf}
@@ -35,7 +35,7 @@ pub record PromisesFull (known : Known) (part frames stream : List ℕ) : Type 0
   pub plan : PlanData
   pub read : plan_texts known part frames ≡ Ok texts
   pub planned : IsPlanOf texts.part texts.text (Ok plan)
-  pub plays : (kept : Kept) (bytes : List ℕ) → AreBytes bytes → AtRest texts.part kept bytes → PlaysFull (resting_after texts.part kept bytes) stream plan
+  pub plays : (kept : Kept) (bytes : List ℕ) → AreBytes bytes → AtRest texts.part kept bytes → PlaysFull (device_after texts.part kept bytes) stream plan
 
 -- The stream of `plan partial`: after any bytes at rest it overrides just the frames of the plan of the frames text;
 -- the phase stays, and the device is at rest again.
@@ -44,21 +44,21 @@ pub record PromisesPartial (known : Known) (part frames stream : List ℕ) : Typ
   pub plan : PlanData
   pub read : plan_texts known part frames ≡ Ok texts
   pub planned : IsPlanOf texts.part texts.text (Ok plan)
-  pub plays : (kept : Kept) (bytes : List ℕ) → AreBytes bytes → AtRest texts.part kept bytes → PlaysPartial (resting_after texts.part kept bytes) stream plan
+  pub plays : (kept : Kept) (bytes : List ℕ) → AreBytes bytes → AtRest texts.part kept bytes → PlaysPartial (device_after texts.part kept bytes) stream plan
 
 -- The stream of `plan read`: after any bytes at rest it reads out a frame of zeros and the frames along the slots;
 -- memory and phase stay, and the device is at rest again.
 pub record PromisesRead (known : Known) (part : List ℕ) (far n : ℕ) (stream : List ℕ) : Type 0 where
   pub device : PartData
   pub read : part_of known part ≡ Ok device
-  pub plays : (kept : Kept) (bytes : List ℕ) → AreBytes bytes → AtRest device kept bytes → PlaysRead (resting_after device kept bytes) stream far n
+  pub plays : (kept : Kept) (bytes : List ℕ) → AreBytes bytes → AtRest device kept bytes → PlaysRead (device_after device kept bytes) stream far n
 
 -- The text of `gen`: the full stream of the seed's plan, played on a new device, leaves the plan over zeros and ends
 -- startup, and the summary is that of such a play.
 pub record PromisesSummary (known : Known) (part : List ℕ) (seed : ℕ) (text : List ℕ) : Type 0 where
   pub device : PartData
   pub read : part_of known part ≡ Ok device
-  pub plays : PlaysFull (resting_after device on_the_bench []) (full_stream device (generated device seed)) (generated device seed)
+  pub plays : PlaysFull (device_after device on_the_bench []) (full_stream device (generated device seed)) (generated device seed)
   pub played : text ≡ planned_summary device seed
 
 -- The report of `play`: it is that of the streams' data, and startup has begun only where these made their checks.
@@ -104,15 +104,15 @@ pub record StartsChecked (part : PartData) (flash : List ℕ) (answer : Answer) 
   pub started : answer.stopped ≡ false → HasChecked part boot.last.kept boot.last.bytes
 
 -- the flash of this name is known, and has an open slot for the part
-pub record HoldsOpen (known : Known) (flash : List ℕ) (part : PartData) (o : Opened) : Type 0 where
+pub record HoldsOpen (known : Known) (flash : List ℕ) (part : PartData) (o : OpenFlash) : Type 0 where
   pub held : known.flash flash ≡ Some (Held o.flash)
   pub bytes : AreBytes o.flash
   pub part_is : o.part ≡ part
-  pub opened : IsOpened o
+  pub opened : IsOpenFlash o
 
 -- the text of a boot from a flash with an open slot, which comes to what such a boot does: the update is tried, and
 -- where it fails the golden stream starts as a fallback
-pub record BootsFromOpen (o : Opened) (answer : Answer) : Type 0 where
+pub record BootsFromOpen (o : OpenFlash) (answer : Answer) : Type 0 where
   pub boot : IsBootText o.part o.flash answer
   pub comes : BootsOpen o (course_along boot.last boot.older boot.end)
 
@@ -123,7 +123,7 @@ pub record PromisesStart (known : Known) (part flash : List ℕ) (answer : Answe
   pub device : PartData
   pub read : part_of known part ≡ Ok device
   pub starts : (all : List ℕ) → known.flash flash ≡ Some (Held all) → AreBytes all → StartsChecked device all answer
-  pub opened : (o : Opened) → HoldsOpen known flash device o → BootsFromOpen o answer
+  pub opened : (o : OpenFlash) → HoldsOpen known flash device o → BootsFromOpen o answer
 
 -- what a whole text of a form promises over what is known
 abbrev pub PromiseOf : Known → AskedForm → Answer → Type 0

@@ -4,9 +4,9 @@ use Rattle.std.proofs.lemmas.Bool.{cases_eq, cases_lt}
 use Rattle.x7_words.specs.Word.{AreBytes}
 use Rattle.x7_words.specs.Flash.{FlashState, IfKnown}
 use Rattle.x7_update.specs.Layout.{HasLayout, HasSlots, IsOpen, IsFree, IsNextFreeSlot, switch_of, open_switch, free_switch, spent_switch, update_place}
-use Rattle.x7_update.specs.After.{SpendsOpen, already, spends, IsAfter, IsBetween, MayBeLeft, untouched, between, after, switched, with_stream}
+use Rattle.x7_update.specs.After.{SpendsOpen, already, spends, IsAfterUpdate, IsBetweenSlots, MayBeLeft, untouched, between, after, switched, with_stream}
 use Rattle.x7_update.specs.Writing.{AtAnyMoment, SpendingSlot, HasWanted, KeepsBelow, OnlySwitch, OpeningSlot, Replaced, ReplacingUpdate}
-use Rattle.x7_update.specs.Slots.{Finds}
+use Rattle.x7_update.specs.Slots.{IsTargetIn}
 use Rattle.x7_update.specs.declared.slots.UpdateTarget.{UpdateTarget}
 use Rattle.x7_update.proofs.StreamLemmas.{length_with_stream, with_stream_below, with_stream_wanted}
 use Rattle.x7_update.proofs.SwitchLemmas.{length_switched, switched_others, switch_switched, switch_other}
@@ -46,7 +46,7 @@ only_other slot other old found n only = same_switch old found other (λ i h k. 
 -- ---- from the flash itself
 
 -- the open slot alone is torn
-pub between_spending : (size slot : ℕ) (all found : List ℕ) → HasSlots size all → slot < 2048 → IsOpen all slot → OnlySwitch slot all found → IsBetween all found
+pub between_spending : (size slot : ℕ) (all found : List ℕ) → HasSlots size all → slot < 2048 → IsOpen all slot → OnlySwitch slot all found → IsBetweenSlots all found
 between_spending size slot all found has h is only = record {
   size = only.size;
   slots = λ i k b. only.others i (outside_switch slot i b);
@@ -69,14 +69,14 @@ only_spent slot all within = record {
   not_open = λ o. open_not_spent (sym (switch_switched slot 0 0 0 0 all within) ∙ o);
 }
 
-pub between_spent : (all spent : List ℕ) → HasSlots (length all) all → SpendsOpen all spent → IsBetween all spent
-between_spent all spent has (already none same) = subst (λ l. IsBetween all l) (sym same) (record { size = refl; slots = λ i h k. refl; none_open = none; switches = λ slot h o n. refl; golden = λ i h k. refl })
+pub between_spent : (all spent : List ℕ) → HasSlots (length all) all → SpendsOpen all spent → IsBetweenSlots all spent
+between_spent all spent has (already none same) = subst (λ l. IsBetweenSlots all l) (sym same) (record { size = refl; slots = λ i h k. refl; none_open = none; switches = λ slot h o n. refl; golden = λ i h k. refl })
 between_spent all spent has (spends slot h is same) =
-    subst (λ l. IsBetween all l) (sym same) (between_spending (length all) slot all (switched slot spent_switch all) has h is (only_spent slot all (omega (arith, has.place.least, has.place.most, h))))
+    subst (λ l. IsBetweenSlots all l) (sym same) (between_spending (length all) slot all (switched slot spent_switch all) has h is (only_spent slot all (omega (arith, has.place.least, has.place.most, h))))
 
 -- ---- from what is between
 
-pub between_below : (size : ℕ) (all mid found : List ℕ) → HasSlots size all → IsBetween all mid → KeepsBelow (update_place all) mid found → IsBetween all found
+pub between_below : (size : ℕ) (all mid found : List ℕ) → HasSlots size all → IsBetweenSlots all mid → KeepsBelow (update_place all) mid found → IsBetweenSlots all found
 between_below size all mid found has b keeps = record {
   size = keeps.size ∙ b.size;
   slots = λ i h k. keeps.below i (omega (arith, has.place.least, h)) ∙ b.slots i h k;
@@ -89,7 +89,7 @@ pub stream_keeps : (place : ℕ) (stream all : List ℕ) → place + length stre
 stream_keeps place stream all fits = record { size = length_with_stream place stream all fits; below = with_stream_below place stream all fits }
 
 -- the next slot alone is torn
-pub between_opening : (slot : ℕ) (all mid found : List ℕ) → IsBetween all mid → IsNextFreeSlot all slot → OnlySwitch slot mid found → IsBetween all found
+pub between_opening : (slot : ℕ) (all mid found : List ℕ) → IsBetweenSlots all mid → IsNextFreeSlot all slot → OnlySwitch slot mid found → IsBetweenSlots all found
 between_opening slot all mid found b next only = record {
   size = only.size ∙ b.size;
   slots = λ i k l. only.others i (outside_switch slot i l) ∙ b.slots i k l;
@@ -127,7 +127,7 @@ next_free next all spent found has n is_spent keeps =
 
 -- ---- the steps, by the slots that were found
 
-module _ (all : List ℕ) (target : UpdateTarget) (finds : Finds (length all) all target) where
+module _ (all : List ℕ) (target : UpdateTarget) (finds : IsTargetIn (length all) all target) where
   layout : HasLayout all
   layout = record { size = finds.sized; slots = finds.has }
 
@@ -147,7 +147,7 @@ module _ (all : List ℕ) (target : UpdateTarget) (finds : Finds (length all) al
   replacing_left stream found (inr b) fits = between layout fits b
 
   module _ (stream now : List ℕ) (fits : target.place + length stream ≤ length all) (r : Replaced target.place stream all now) where
-    is_between : IsBetween all r.spent
+    is_between : IsBetweenSlots all r.spent
     is_between = between_spent all r.spent finds.has r.is_spent
 
     inside : target.place + length stream ≤ length r.spent
@@ -165,11 +165,11 @@ module _ (all : List ℕ) (target : UpdateTarget) (finds : Finds (length all) al
     replaced_free = subst (λ l. IsFree l target.slots.next) (sym r.stands) (next_free target.slots.next all r.spent (with_stream target.place stream r.spent) finds.has finds.next r.is_spent keeps)
 
     -- no slot is open as yet
-    pub replaced_between : IsBetween all now
-    replaced_between = subst (λ l. IsBetween all l) (sym r.stands) (between_below (length all) all r.spent (with_stream target.place stream r.spent) finds.has is_between keeps)
+    pub replaced_between : IsBetweenSlots all now
+    replaced_between = subst (λ l. IsBetweenSlots all l) (sym r.stands) (between_below (length all) all r.spent (with_stream target.place stream r.spent) finds.has is_between keeps)
 
     -- the slot is open: the flash is updated
-    pub opened_after : IsAfter stream all (switched target.slots.next open_switch now)
+    pub opened_after : IsAfterUpdate stream all (switched target.slots.next open_switch now)
     opened_after = record {
       spent = r.spent;
       is_spent = r.is_spent;
@@ -181,7 +181,7 @@ module _ (all : List ℕ) (target : UpdateTarget) (finds : Finds (length all) al
 
     -- while the next slot is opened
     pub opening_left : (found : List ℕ) → OpeningSlot target.slots.next now found → AreBytes found → MayBeLeft stream all found
-    opening_left found (inl is) fits = after layout (subst (IsAfter stream all) (sym is) opened_after)
+    opening_left found (inl is) fits = after layout (subst (IsAfterUpdate stream all) (sym is) opened_after)
     opening_left found (inr only) fits = between layout fits (between_opening target.slots.next all now found replaced_between finds.next only)
 
 -- what may be found since a call's start is what was there then, or was found within it

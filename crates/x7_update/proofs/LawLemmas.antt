@@ -5,7 +5,7 @@ use Rattle.std.proofs.lemmas.List.{get_or-drop, get_or-take}
 use Rattle.x7_words.specs.Word.{word_of_bytes}
 use Rattle.x7_packets.specs.FlashSlot.{flash_slot}
 use Rattle.x7_update.specs.Layout.{CanStandAt, HasLayout, HasSize, IsFree, IsNextFreeSlot, IsOpen, first_slot, four_at, open_switch, switch_of}
-use Rattle.x7_update.specs.After.{SpendsOpen, already, spends, IsAfter, IsBetween, MayBeLeft, after, between, untouched, switched, with_stream}
+use Rattle.x7_update.specs.After.{SpendsOpen, already, spends, IsAfterUpdate, IsBetweenSlots, MayBeLeft, after, between, untouched, switched, with_stream}
 use Rattle.x7_update.specs.Layout.{spent_switch, update_place}
 use Rattle.x7_update.proofs.CaseLemmas.{between_below, between_spent, open_not_free, outside_switch, stream_keeps, true_or_false}
 use Rattle.x7_update.proofs.SwitchLemmas.{length_switched, switch_other, switched_others}
@@ -53,7 +53,7 @@ back_apart flash = (
   ),
 )
 
-module _ (flash found : List ℕ) (l : HasLayout flash) (b : IsBetween flash found) where
+module _ (flash found : List ℕ) (l : HasLayout flash) (b : IsBetweenSlots flash found) where
   -- a byte after a switch word
   byte_at : (i m : ℕ) → i < 65536 → i % 32 ≡ m → 4 ≤ m → get_or found i 0 ≡ get_or (first_slot flash) m 0
   byte_at i m h e k =
@@ -125,11 +125,11 @@ layout_with flash found l size slots one_open last_free =
       };
     }
 
-last_stays : (flash found : List ℕ) → HasLayout flash → IsBetween flash found → (IsNextFreeSlot flash 2047 → ⊥) → IsFree found 2047
+last_stays : (flash found : List ℕ) → HasLayout flash → IsBetweenSlots flash found → (IsNextFreeSlot flash 2047 → ⊥) → IsFree found 2047
 last_stays flash found l b more = b.switches 2047 (omega arith) (λ o. open_not_free flash 2047 o l.slots.last_free) more ∙ l.slots.last_free
 
 -- the updated flash
-layout_after : (stream flash found : List ℕ) → HasLayout flash → IsAfter stream flash found → (IsNextFreeSlot flash 2047 → ⊥) → HasLayout found
+layout_after : (stream flash found : List ℕ) → HasLayout flash → IsAfterUpdate stream flash found → (IsNextFreeSlot flash 2047 → ⊥) → HasLayout found
 layout_after stream flash found l a more =
     layout_with flash found l (ap length a.is ∙ length_switched a.next open_switch now refl within ∙ b.size)
     (λ i h k. ap (λ f. get_or f i 0) a.is ∙ switched_others a.next open_switch now refl within i (outside_switch a.next i k) ∙ b.slots i h k)
@@ -139,10 +139,10 @@ layout_after stream flash found l a more =
     now : List ℕ
     now = with_stream (update_place flash) stream a.spent
 
-    is_between : IsBetween flash a.spent
+    is_between : IsBetweenSlots flash a.spent
     is_between = between_spent flash a.spent l.slots a.is_spent
 
-    b : IsBetween flash now
+    b : IsBetweenSlots flash now
     b = between_below (length flash) flash a.spent now l.slots is_between (stream_keeps (update_place flash) stream a.spent (omega (arith, a.fits, is_between.size)))
 
     within : 32 * a.next + 4 ≤ length now
@@ -184,7 +184,7 @@ one_spent flash one other l (spends slot h is e) (spends slot_2 h_2 is_2 f) =
     let same : slot ≡ slot_2 = l.slots.one_open slot slot_2 h h_2 is is_2 in
     e ∙ ap (λ k. switched k spent_switch flash) same ∙ sym f
 
-pub one_after : (stream flash one other : List ℕ) → HasLayout flash → IsAfter stream flash one → IsAfter stream flash other → one ≡ other
+pub one_after : (stream flash one other : List ℕ) → HasLayout flash → IsAfterUpdate stream flash one → IsAfterUpdate stream flash other → one ≡ other
 one_after stream flash one other l a b =
     a.is
     ∙ ap (λ k. switched k open_switch (with_stream (update_place flash) stream a.spent)) (one_next flash a.next b.next a.is_next b.is_next)

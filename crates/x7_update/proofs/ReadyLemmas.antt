@@ -2,10 +2,10 @@
 use Rattle.std.proofs.Common.{◌≡◌, ℕ, ◌+◌, ◌-◌, ◌*◌, ◌≤◌, inl, inr, IsTrue, List, length, get_or, Option, Result, Ok, Err, OnOk, ap, sym, subst, ◌∙◌, arith}
 use Rattle.std.proofs.lemmas.Bool.{cases_lt}
 use Rattle.x7_words.specs.Flash.{FlashState, IfKnown, Sees}
-use Rattle.x7_update.specs.After.{IsAfter, IsBetween, with_stream}
+use Rattle.x7_update.specs.After.{IsAfterUpdate, IsBetweenSlots, with_stream}
 use Rattle.x7_update.specs.Layout.{CanStandAt, HasLayout, HasSize, HasNoOpenSlot, IsNextFreeSlot, IsOpen, open_switch, switch_of, update_place}
 use Rattle.x7_update.specs.ReadBack.{AllReadBack, ReadBack, WasReady}
-use Rattle.x7_update.specs.Slots.{Finds, IsFound, TargetFits}
+use Rattle.x7_update.specs.Slots.{IsTargetIn, HasTarget, TargetFits}
 use Rattle.x7_update.specs.Writing.{CanReadBack, HasWanted, ReadsWanted, ReadsWantedTo, ReplacingUpdate, SeesWanted, wanted_at}
 use Rattle.x7_update.proofs.CaseLemmas.{between_below, between_spent, open_not_free, stream_keeps}
 use Rattle.x7_update.proofs.StreamLemmas.{wanted_inside}
@@ -47,11 +47,11 @@ pub sees_up_to : (update : ℕ) (stream : List ℕ) (from to end : ℕ) (state :
 sees_up_to update stream from to end state within had place l h = had place l (omega (arith, within, h))
 
 -- where an update goes is found as well after reads
-pub still_found : (old new : FlashState) (target : UpdateTarget) → new.attached ≡ old.attached → new.extent ≡ old.extent → new.bytes ≡ old.bytes → IsFound old target → IsFound new target
+pub still_found : (old new : FlashState) (target : UpdateTarget) → new.attached ≡ old.attached → new.extent ≡ old.extent → new.bytes ≡ old.bytes → HasTarget old target → HasTarget new target
 still_found old new target attached size bytes found = record {
   attached = attached ∙ found.attached;
   fits = subst (λ n. TargetFits n target) (sym size) found.fits;
-  finds = subst (λ (o : Option (List ℕ)). IfKnown o (λ all. Finds (length all) all target)) (sym bytes) found.finds;
+  finds = subst (λ (o : Option (List ℕ)). IfKnown o (λ all. IsTargetIn (length all) all target)) (sym bytes) found.finds;
 }
 
 -- what can be read back still can, after reads alone
@@ -77,35 +77,35 @@ was_ready state update stream old new ready size seen same none_open last = reco
 
 -- what was read back of the slots of the flash
 module _ {F : Type 0} (state : F → FlashState) (stream : List ℕ) (old new : FlashState) (target : UpdateTarget) where
-  pub read_back : TargetFits new.extent target → IfKnown old.bytes (λ all. Finds (length all) all target) → WasReady state target.place stream new → ReadBack state stream old new
+  pub read_back : TargetFits new.extent target → IfKnown old.bytes (λ all. IsTargetIn (length all) all target) → WasReady state target.place stream new → ReadBack state stream old new
   read_back fits finds was = record {
-    update = target.place;
+    stream_place = target.place;
     stands = fits.place;
-    place = known_map old.bytes (λ all. Finds (length all) all target) (λ all. target.place ≡ update_place all) (λ all e f. f.update) finds;
+    place = known_map old.bytes (λ all. IsTargetIn (length all) all target) (λ all. target.place ≡ update_place all) (λ all e f. f.update) finds;
     ready = was;
   }
 
-  pub all_back : {E : Type 0} (result : Result (Unit {0}) E) → TargetFits new.extent target → IfKnown old.bytes (λ all. Finds (length all) all target) → OnOk result (WasReady state target.place stream new)
+  pub all_back : {E : Type 0} (result : Result (Unit {0}) E) → TargetFits new.extent target → IfKnown old.bytes (λ all. IsTargetIn (length all) all target) → OnOk result (WasReady state target.place stream new)
       → OnOk result (Sees new (32 * target.slots.next) open_switch) → OnOk result (AllReadBack state stream old new)
   all_back (Err fault) fits finds was seen = tt
   all_back (Ok _) fits finds was seen = record {
     before = read_back fits finds was;
     slot = target.slots.next;
     within = fits.next;
-    next = known_map old.bytes (λ all. Finds (length all) all target) (λ all. IsNextFreeSlot all target.slots.next) (λ all e f. f.next) finds;
+    next = known_map old.bytes (λ all. IsTargetIn (length all) all target) (λ all. IsNextFreeSlot all target.slots.next) (λ all e f. f.next) finds;
     switch = seen;
   }
 
 -- ---- the updated flash has an open slot
 
-module _ (stream flash found : List ℕ) (l : HasLayout flash) (a : IsAfter stream flash found) where
+module _ (stream flash found : List ℕ) (l : HasLayout flash) (a : IsAfterUpdate stream flash found) where
   abbrev now : List ℕ
   now = with_stream (update_place flash) stream a.spent
 
-  is_between : IsBetween flash a.spent
+  is_between : IsBetweenSlots flash a.spent
   is_between = between_spent flash a.spent l.slots a.is_spent
 
-  written : IsBetween flash now
+  written : IsBetweenSlots flash now
   written = between_below (length flash) flash a.spent now l.slots is_between (stream_keeps (update_place flash) stream a.spent (omega (arith, a.fits, is_between.size)))
 
   within : 32 * a.next + 4 ≤ length now
@@ -114,7 +114,7 @@ module _ (stream flash found : List ℕ) (l : HasLayout flash) (a : IsAfter stre
   after_opens : IsOpen found a.next
   after_opens = ap (λ f. switch_of f a.next) a.is ∙ switch_switched a.next 0xAA 0x99 0x55 0x66 now within
 
-  pub after_not_between : IsBetween flash found → ⊥
+  pub after_not_between : IsBetweenSlots flash found → ⊥
   after_not_between b = b.none_open a.next a.is_next.within after_opens
 
   pub after_not_same : found ≡ flash → ⊥

@@ -3,7 +3,7 @@ use Rattle.std.proofs.Common.{◌≡◌, ℕ, suc, ◌+◌, ◌<◌, ◌≤◌, 
 use Rattle.std.proofs.lemmas.Bool.{cases_eq, cases_order}
 use Rattle.x7_update.specs.Layout.{CanStandAt, HasSize, IsFree, IsOpen, LeadsToUpdate, update_place}
 use Rattle.x7_update.specs.Fault.{BeginsWell, IsGoodSlot, NoLayoutAt, OpensAgain, last_taken}
-use Rattle.x7_update.specs.Slots.{Finds, OpenAmong, SoFar, TargetFits, WithinSlots}
+use Rattle.x7_update.specs.Slots.{IsTargetIn, OpenAmong, SlotsAmong, TargetFits, WithinSlots}
 use Rattle.x7_update.specs.declared.slots.Slots.{Slots}
 use Rattle.x7_update.specs.declared.slots.UpdateTarget.{UpdateTarget}
 
@@ -19,11 +19,11 @@ module _ (first : List ℕ) (slot : ℕ) (leads : LeadsToUpdate first slot) wher
   not_open_more count None e n o = up_to (λ k. IsOpen first k → ⊥) slot o n
   not_open_more count (Some k) e n o = (omega (arith, o.0), o.1)
 
-  once_more : (before : Slots) → (IsOpen first slot → ⊥) → SoFar first slot before → (k : ℕ) → k < slot + 1 → OpensAgain first k → ⊥
+  once_more : (before : Slots) → (IsOpen first slot → ⊥) → SlotsAmong first slot before → (k : ℕ) → k < slot + 1 → OpensAgain first k → ⊥
   once_more before n so = up_to (λ k. OpensAgain first k → ⊥) slot so.once (λ again. n again.second)
 
   -- the slot is free
-  pub so_far_free : (before : Slots) → (IsOpen first slot → ⊥) → IsFree first slot → SoFar first slot before → SoFar first (slot + 1) before
+  pub so_far_free : (before : Slots) → (IsOpen first slot → ⊥) → IsFree first slot → SlotsAmong first slot before → SlotsAmong first (slot + 1) before
   so_far_free before n is so = record {
     leads = up_to (λ k. LeadsToUpdate first k) slot so.leads leads;
     once = once_more before n so;
@@ -34,7 +34,7 @@ module _ (first : List ℕ) (slot : ℕ) (leads : LeadsToUpdate first slot) wher
   }
 
   -- the slot is spent
-  pub so_far_spent : (before : Slots) → (IsOpen first slot → ⊥) → (IsFree first slot → ⊥) → SoFar first slot before → SoFar first (slot + 1) (record { open_slot = before.open_slot; next = slot + 1 })
+  pub so_far_spent : (before : Slots) → (IsOpen first slot → ⊥) → (IsFree first slot → ⊥) → SlotsAmong first slot before → SlotsAmong first (slot + 1) (record { open_slot = before.open_slot; next = slot + 1 })
   so_far_spent before n f so = record {
     leads = up_to (λ k. LeadsToUpdate first k) slot so.leads leads;
     once = once_more before n so;
@@ -44,11 +44,11 @@ module _ (first : List ℕ) (slot : ℕ) (leads : LeadsToUpdate first slot) wher
     first = λ k e is_free. let same : k ≡ slot = omega arith in f (subst (λ m. IsFree first m) same is_free);
   }
 
-pub so_far_good : (first : List ℕ) (count : ℕ) (slots : Slots) → SoFar first count slots → (slot : ℕ) → slot < count → IsGoodSlot first slot
+pub so_far_good : (first : List ℕ) (count : ℕ) (slots : Slots) → SlotsAmong first count slots → (slot : ℕ) → slot < count → IsGoodSlot first slot
 so_far_good first count slots so slot h = (so.leads slot h, so.once slot h)
 
 -- all slots are good
-pub all_found : (size : ℕ) (first : List ℕ) (target : UpdateTarget) → HasSize size → CanStandAt size (update_place first) → SoFar first 2048 target.slots → target.slots.next < 2048 → target.place ≡ update_place first → Finds size first target
+pub all_found : (size : ℕ) (first : List ℕ) (target : UpdateTarget) → HasSize size → CanStandAt size (update_place first) → SlotsAmong first 2048 target.slots → target.slots.next < 2048 → target.place ≡ update_place first → IsTargetIn size first target
 all_found size first target sized place so some is = record {
   sized = sized;
   has = record { place = place; leads = so.leads; one_open = one_open; last_free = so.free 2047 (omega arith) (omega arith) };
@@ -67,7 +67,7 @@ all_found size first target sized place so some is = record {
     ]
 
 -- all slots are good, but none is free
-pub none_free : (size : ℕ) (first : List ℕ) (slots : Slots) (place : ℕ) → BeginsWell size first → SoFar first 2048 slots → 2048 ≤ slots.next → place ≡ 65504 → NoLayoutAt size first place
+pub none_free : (size : ℕ) (first : List ℕ) (slots : Slots) (place : ℕ) → BeginsWell size first → SlotsAmong first 2048 slots → 2048 ≤ slots.next → place ≡ 65504 → NoLayoutAt size first place
 none_free size first slots place begins so all is =
     let last : suc 2047 ≡ slots.next = omega (arith, so.within) in
     last_taken begins (so_far_good first 2048 slots so) (so.first 2047 last) is
@@ -77,7 +77,7 @@ within_slots first None o = tt
 within_slots first (Some slot) o = o.0
 
 -- where an update goes is within the flash
-pub target_fits : (size : ℕ) (first : List ℕ) (target : UpdateTarget) → Finds size first target → TargetFits size target
+pub target_fits : (size : ℕ) (first : List ℕ) (target : UpdateTarget) → IsTargetIn size first target → TargetFits size target
 target_fits size first target f = record {
   sized = f.sized;
   place = subst (λ u. CanStandAt size u) (sym f.update) f.has.place;

@@ -4,7 +4,7 @@ use Rattle.x7_words.specs.Word.{word_of_bytes}
 use Rattle.x7_packets.specs.FlashSlot.{flash_slot}
 use Rattle.x7_update.specs.Layout.{CanStandAt, LeadsToUpdate, IsOpen, IsFree, four_at, switch_of, first_slot, update_place, open_switch}
 use Rattle.x7_update.specs.Fault.{BeginsWell, DiffersAt, IsBadSlotAt, IsGoodSlot, NoLayoutAt, OpensAgain, bad_first, bad_place, bad_size, bad_slot, last_taken}
-use Rattle.x7_update.specs.Slots.{OpenAmong, Finds}
+use Rattle.x7_update.specs.Slots.{OpenAmong, IsTargetIn}
 use Rattle.x7_update.specs.declared.slots.UpdateTarget.{UpdateTarget}
 
 module _ (first all : List ℕ) (same : (i : ℕ) → i < 65536 → get_or first i 0 ≡ get_or all i 0) where
@@ -52,7 +52,7 @@ module _ (first all : List ℕ) (same : (i : ℕ) → i < 65536 → get_or first
   back : (i : ℕ) → i < 65536 → get_or all i 0 ≡ get_or first i 0
   back i h = sym (same i h)
 
-  pub finds_same : (size : ℕ) (target : UpdateTarget) → Finds size first target → Finds size all target
+  pub finds_same : (size : ℕ) (target : UpdateTarget) → IsTargetIn size first target → IsTargetIn size all target
   finds_same size target f = record {
     sized = f.sized;
     has = record {

@@ -3,9 +3,9 @@ use Rattle.std.specs.Prelude.{◌≡◌, ℕ, ◌+◌, ◌-◌, ◌*◌, ◌%◌
 use Rattle.x7_words.specs.Flash.{erased_byte, replaced}
 use Rattle.x7_words.specs.Word.{AreBytes}
 use Rattle.x7_packets.specs.FlashSlot.{sector_bytes, slot_bytes, slot_count}
-use Rattle.x7_update.specs.Layout.{HasLayout, HasNoOpenSlot, IsNextFreeSlot, IsOpen, open_switch, spent_switch, switch_of, update_place}
+use Rattle.x7_update.specs.Layout.{HasLayout, HasNoOpenSlot, IsNextFreeSlot, IsOpen, open_switch, spent_switch, switch_bytes, switch_of, update_place}
 
--- the flash with this switch word in a slot
+-- the flash with this switch word, four bytes, in a slot
 abbrev pub switched : ℕ → List ℕ → List ℕ → List ℕ
 switched slot word flash = replaced (slot_bytes * slot) word flash
 
@@ -20,7 +20,7 @@ pub data SpendsOpen (flash spent : List ℕ) : Type 0 where
 
 -- The flash after an update with a stream: its open slot is spent, the stream stands at U with FF after it, and the
 -- first slot from which on all are free is open.
-pub record IsAfter (stream flash after : List ℕ) : Type 0 where
+pub record IsAfterUpdate (stream flash after : List ℕ) : Type 0 where
   pub spent : List ℕ
   pub is_spent : SpendsOpen flash spent
   pub next : ℕ
@@ -28,11 +28,12 @@ pub record IsAfter (stream flash after : List ℕ) : Type 0 where
   pub fits : update_place flash + length stream ≤ length flash
   pub is : after ≡ switched next open_switch (with_stream (update_place flash) stream spent)
 
--- After the open slot was spent and before the next is opened: no slot is open, all slots lead to U still, each switch
--- word but the open slot's and the next one's stays, the golden stream stands, and from U on there may be anything.
-pub record IsBetween (flash found : List ℕ) : Type 0 where
+-- A flash that was left in an update, after its open slot was spent and before the next is opened: no slot is open, all
+-- slots lead to U still, each switch word but the open slot's and the next one's stays, the golden stream stands, and
+-- from U on there may be anything.
+pub record IsBetweenSlots (flash found : List ℕ) : Type 0 where
   pub size : length found ≡ length flash
-  pub slots : (i : ℕ) → i < sector_bytes → 4 ≤ i % slot_bytes → get_or found i 0 ≡ get_or flash i 0
+  pub slots : (i : ℕ) → i < sector_bytes → switch_bytes ≤ i % slot_bytes → get_or found i 0 ≡ get_or flash i 0
   pub none_open : HasNoOpenSlot found
   pub switches : (slot : ℕ) → slot < slot_count → (IsOpen flash slot → ⊥) → (IsNextFreeSlot flash slot → ⊥) → switch_of found slot ≡ switch_of flash slot
   pub golden : (i : ℕ) → sector_bytes ≤ i → i < update_place flash → get_or found i 0 ≡ get_or flash i 0
@@ -41,5 +42,5 @@ pub record IsBetween (flash found : List ℕ) : Type 0 where
 -- that are between, or the flash after the update.
 pub data MayBeLeft (stream flash found : List ℕ) : Type 0 where
   untouched : found ≡ flash → MayBeLeft stream flash found
-  between : HasLayout flash → AreBytes found → IsBetween flash found → MayBeLeft stream flash found
-  after : HasLayout flash → IsAfter stream flash found → MayBeLeft stream flash found
+  between : HasLayout flash → AreBytes found → IsBetweenSlots flash found → MayBeLeft stream flash found
+  after : HasLayout flash → IsAfterUpdate stream flash found → MayBeLeft stream flash found

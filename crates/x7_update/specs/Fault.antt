@@ -2,7 +2,7 @@
 use Rattle.std.specs.Prelude.{◌≡◌, ◌≢◌, ℕ, ◌+◌, ◌-◌, ◌*◌, ◌<◌, ◌≤◌, ◌⊎◌, true, false, List, length, get_or, None, Some}
 use Rattle.x7_words.specs.Flash.{FlashFails, FlashState, IfKnown, WriteFails}
 use Rattle.x7_packets.specs.FlashSlot.{slot_bytes, slot_count}
-use Rattle.x7_update.specs.Layout.{CanStandAt, HasLayout, HasSize, IsFree, IsOpen, LeadsToUpdate, first_slot, start_place, update_place}
+use Rattle.x7_update.specs.Layout.{CanStandAt, HasLayout, HasSize, IsFree, IsOpen, LeadsToUpdate, first_slot, start_place, switch_bytes, update_place}
 use Rattle.x7_update.specs.Writing.{IsFirstRead, IsReadWrong}
 use Rattle.x7_update.specs.declared.fault.UpdateFault.{UpdateFault}
 use Rattle.x7_update.specs.declared.fault.UpdateFault.TheVariants.{Differs, Failed, NoLayout, NoMemory, TooLong}
@@ -10,13 +10,13 @@ use Rattle.x7_update.specs.declared.fault.UpdateFault.TheVariants.{Differs, Fail
 -- the first place of a slot, after its switch word, at which the slot differs from what it has to be
 pub record DiffersAt (flash : List ℕ) (slot place : ℕ) : Type 0 where
   pub i : ℕ
-  pub after_switch : 4 ≤ i
+  pub after_switch : switch_bytes ≤ i
   pub within : i < slot_bytes
   pub is : place ≡ slot_bytes * slot + i
   pub differs : get_or flash place 0 ≢ get_or (first_slot flash) i 0
-  pub first : (j : ℕ) → 4 ≤ j → j < i → get_or flash (slot_bytes * slot + j) 0 ≡ get_or (first_slot flash) j 0
+  pub first : (j : ℕ) → switch_bytes ≤ j → j < i → get_or flash (slot_bytes * slot + j) 0 ≡ get_or (first_slot flash) j 0
 
--- the slot is open, and so is one before it
+-- a slot is open, and so is one before it
 pub record OpensAgain (flash : List ℕ) (slot : ℕ) : Type 0 where
   pub other : ℕ
   pub before : other < slot
@@ -32,7 +32,7 @@ IsGoodSlot flash slot = LeadsToUpdate flash slot × (OpensAgain flash slot → �
 abbrev pub IsBadSlotAt : List ℕ → ℕ → ℕ → Type 0
 IsBadSlotAt flash slot place = DiffersAt flash slot place ⊎ (LeadsToUpdate flash slot × OpensAgain flash slot × (place ≡ slot_bytes * slot))
 
--- the size and the first slot are good
+-- a flash can be updated by its size and its first slot: the slot leads to a place at which an update can stand
 pub record BeginsWell (size : ℕ) (flash : List ℕ) : Type 0 where
   pub sized : HasSize size
   pub leads : LeadsToUpdate flash 0

@@ -13,6 +13,10 @@ use Rattle.x7_words.specs.Word.{word_of_bytes}
 use Rattle.x7_packets.specs.FlashSlot.{flash_slot, sector_bytes, slot_bytes, slot_count}
 use Rattle.x7_packets.specs.SyncWord.{sync_bytes}
 
+-- how many bytes a switch word has
+abbrev pub switch_bytes : ℕ
+switch_bytes = 4
+
 -- the four bytes from a place on
 abbrev pub four_at : List ℕ → ℕ → List ℕ
 four_at flash place = get_or flash place 0 ∷ get_or flash (place + 1) 0 ∷ get_or flash (place + 2) 0 ∷ get_or flash (place + 3) 0 ∷ []
@@ -33,19 +37,19 @@ free_switch = 0xFF ∷ 0xFF ∷ 0xFF ∷ 0xFF ∷ []
 abbrev pub spent_switch : List ℕ
 spent_switch = 0 ∷ 0 ∷ 0 ∷ 0 ∷ []
 
--- where in a slot its start address stands
+-- where in a slot its start address stands, in bytes from the slot's first
 abbrev pub start_place : ℕ
 start_place = 12
 
--- U, which is the start address of the first slot
+-- U, the update's place in bytes, which is the start address of the first slot
 abbrev pub update_place : List ℕ → ℕ
 update_place flash = word_of_bytes (four_at flash start_place)
 
--- the bytes that the first slot has to have, and each other one after its switch word
+-- the bytes of an open slot that leads to U: the first slot has to have them, and each other one after its switch word
 abbrev pub first_slot : List ℕ → List ℕ
 first_slot flash = flash_slot open_switch (four_at flash start_place)
 
--- the flash is whole sectors, two at least, and not too large
+-- a flash of this size, in bytes, can be updated: it is whole sectors, two at least, and not too large
 pub record HasSize (size : ℕ) : Type 0 where
   pub whole : size % sector_bytes ≡ 0
   pub least : 2 * sector_bytes ≤ size
@@ -57,20 +61,20 @@ pub record CanStandAt (size place : ℕ) : Type 0 where
   pub least : 2 * sector_bytes ≤ place
   pub most : place ≤ size
 
--- the slot leads to U: after its switch word it has the bytes that the first one has to have
+-- a slot of the flash leads to U: after its switch word it has the bytes that the first one has to have
 abbrev pub LeadsToUpdate : List ℕ → ℕ → Type 0
-LeadsToUpdate flash slot = (i : ℕ) → 4 ≤ i → i < slot_bytes → get_or flash (slot_bytes * slot + i) 0 ≡ get_or (first_slot flash) i 0
+LeadsToUpdate flash slot = (i : ℕ) → switch_bytes ≤ i → i < slot_bytes → get_or flash (slot_bytes * slot + i) 0 ≡ get_or (first_slot flash) i 0
 
--- the slot is open
+-- a slot of the flash is open
 abbrev pub IsOpen : List ℕ → ℕ → Type 0
 IsOpen flash slot = switch_of flash slot ≡ open_switch
 
--- the slot is free
+-- a slot of the flash is free
 abbrev pub IsFree : List ℕ → ℕ → Type 0
 IsFree flash slot = switch_of flash slot ≡ free_switch
 
--- The first sector of a flash of a size is slots that all lead to one U, of which at most one is open and
--- from some on, one at least, all are free.
+-- The first sector of a flash of a size is slots that all lead to one U. At most one of them is open, and the last one
+-- is free.
 pub record HasSlots (size : ℕ) (flash : List ℕ) : Type 0 where
   pub place : CanStandAt size (update_place flash)
   pub leads : (slot : ℕ) → slot < slot_count → LeadsToUpdate flash slot
@@ -82,11 +86,11 @@ pub record HasLayout (flash : List ℕ) : Type 0 where
   pub size : HasSize (length flash)
   pub slots : HasSlots (length flash) flash
 
--- no slot is open
+-- no slot of the flash is open
 abbrev pub HasNoOpenSlot : List ℕ → Type 0
 HasNoOpenSlot flash = (slot : ℕ) → slot < slot_count → switch_of flash slot ≢ open_switch
 
--- the first slot from which on all are free
+-- the slot that the next update opens: the first from which on all are free
 pub record IsNextFreeSlot (flash : List ℕ) (next : ℕ) : Type 0 where
   pub within : next < slot_count
   pub free : (slot : ℕ) → next ≤ slot → slot < slot_count → IsFree flash slot

@@ -2,29 +2,29 @@
 use Rattle.std.specs.Prelude.{◌≡◌, ℕ, ◌+◌, ◌*◌, ◌<◌, ◌≤◌, List}
 use Rattle.x7_words.specs.Flash.{FlashState, IfKnown, Sees}
 use Rattle.x7_packets.specs.FlashSlot.{slot_bytes, slot_count}
-use Rattle.x7_update.specs.After.{IsAfter}
+use Rattle.x7_update.specs.After.{IsAfterUpdate}
 use Rattle.x7_update.specs.Layout.{CanStandAt, HasLayout, HasNoOpenSlot, IsNextFreeSlot, open_switch, update_place}
 use Rattle.x7_update.specs.Writing.{SeesWanted}
 
 module _ {F : Type 0} (state : F → FlashState) where
-  -- The flash was ready, with one moment at most to come: no slot was open, and from the place on up to the end each
-  -- byte had been read as it is wanted, with no write since.
-  pub record WasReady (update : ℕ) (stream : List ℕ) (new : FlashState) : Type 0 where
+  -- The flash was ready for its next slot to be opened, with one moment at most to come: no slot was open, and from the
+  -- stream's place up to the end each byte had been read as it is wanted, with no write since.
+  pub record WasReady (stream_place : ℕ) (stream : List ℕ) (new : FlashState) : Type 0 where
     pub ready : F
-    pub seen : SeesWanted update stream update new.extent (state ready)
+    pub seen : SeesWanted stream_place stream stream_place new.extent (state ready)
     pub none_open : IfKnown (state ready).bytes HasNoOpenSlot
     pub last : new.moments ≤ (state ready).moments + 1
 
   -- all of an update with a stream was read back, and no slot was open as yet
   pub record ReadBack (stream : List ℕ) (old new : FlashState) : Type 0 where
-    pub update : ℕ
-    pub stands : CanStandAt new.extent update
-    pub place : IfKnown old.bytes (λ all. update ≡ update_place all)
-    pub ready : WasReady update stream new
+    pub stream_place : ℕ
+    pub stands : CanStandAt new.extent stream_place
+    pub place : IfKnown old.bytes (λ all. stream_place ≡ update_place all)
+    pub ready : WasReady stream_place stream new
 
   -- what is found may be the updated flash only where all was read back before
   abbrev pub OpensReadBack : List ℕ → FlashState → FlashState → List ℕ → List ℕ → Type 0
-  OpensReadBack stream old new flash found = HasLayout flash → IsAfter stream flash found → ReadBack stream old new
+  OpensReadBack stream old new flash found = HasLayout flash → IsAfterUpdate stream flash found → ReadBack stream old new
 
   -- An update with a stream that is done was read back, and then the switch word of the slot that it opened: as that of
   -- an open slot, with no write since.

@@ -8,18 +8,18 @@ use Rattle.x7_update.specs.declared.slots.Slots.{Slots}
 use Rattle.x7_update.specs.declared.slots.UpdateTarget.{UpdateTarget}
 
 -- the bytes are those of a sector, and this is what each of its slots has to be after its switch word
-pub record HasFirstSlot (first wanted : List ℕ) : Type 0 where
-  pub whole : length first ≡ sector_bytes
-  pub is : wanted ≡ first_slot first
+pub record HasFirstSlot (first_sector wanted : List ℕ) : Type 0 where
+  pub whole : length first_sector ≡ sector_bytes
+  pub is : wanted ≡ first_slot first_sector
 
--- of the first `count` slots this one is open, or none is
+-- of the first `count` slots the one of this number is open, or none is
 abbrev pub OpenAmong : List ℕ → ℕ → Option ℕ → Type 0
 OpenAmong flash count None = (slot : ℕ) → slot < count → switch_of flash slot ≢ open_switch
 OpenAmong flash count (Some slot) = (slot < count) × IsOpen flash slot
 
--- what the first `count` slots say is this: each leads to U, at most one of them
--- is open, and from `next` on all are free
-pub record SoFar (flash : List ℕ) (count : ℕ) (slots : Slots) : Type 0 where
+-- the first `count` slots of a flash are these: each leads to U, at most one of them is open, `open_slot`, and from
+-- `next` on all are free
+pub record SlotsAmong (flash : List ℕ) (count : ℕ) (slots : Slots) : Type 0 where
   pub leads : (slot : ℕ) → slot < count → LeadsToUpdate flash slot
   pub once : (slot : ℕ) → slot < count → OpensAgain flash slot → ⊥
   pub opens : OpenAmong flash count slots.open_slot
@@ -27,9 +27,9 @@ pub record SoFar (flash : List ℕ) (count : ℕ) (slots : Slots) : Type 0 where
   pub free : (slot : ℕ) → slots.next ≤ slot → slot < count → IsFree flash slot
   pub first : (slot : ℕ) → suc slot ≡ slots.next → switch_of flash slot ≢ free_switch
 
--- an update of a flash of this size goes here: the first sector is slots of a layout, with this U,
--- this open slot or none, and this next one
-pub record Finds (size : ℕ) (flash : List ℕ) (target : UpdateTarget) : Type 0 where
+-- where an update of a flash of this size goes: the first sector is slots of a layout, with this U, this open slot or
+-- none, and this next one
+pub record IsTargetIn (size : ℕ) (flash : List ℕ) (target : UpdateTarget) : Type 0 where
   pub sized : HasSize size
   pub has : HasSlots size flash
   pub update : target.place ≡ update_place flash
@@ -48,8 +48,8 @@ pub record TargetFits (size : ℕ) (target : UpdateTarget) : Type 0 where
   pub next : target.slots.next < slot_count
   pub opens : WithinSlots target.slots.open_slot
 
--- a flash is attached, and this is where its update goes, by its bytes where these are known
-pub record IsFound (state : FlashState) (target : UpdateTarget) : Type 0 where
+-- a flash is attached, and its update goes to this target, which fits its size, and its bytes where these are known
+pub record HasTarget (state : FlashState) (target : UpdateTarget) : Type 0 where
   pub attached : state.attached ≡ true
   pub fits : TargetFits state.extent target
-  pub finds : IfKnown state.bytes (λ all. Finds (length all) all target)
+  pub finds : IfKnown state.bytes (λ all. IsTargetIn (length all) all target)

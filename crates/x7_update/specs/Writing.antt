@@ -3,8 +3,8 @@ use Rattle.std.specs.Prelude.{◌≡◌, ◌≢◌, ℕ, ◌+◌, ◌-◌, ◌*�
 use Rattle.x7_words.specs.Flash.{erased_byte, Elapses, FlashFails, FlashState, IfKnown, OnlyWrites, WriteFails}
 use Rattle.x7_words.specs.Word.{AreBytes}
 use Rattle.x7_packets.specs.FlashSlot.{sector_bytes, slot_bytes, slot_count}
-use Rattle.x7_update.specs.After.{SpendsOpen, IsBetween, switched, with_stream}
-use Rattle.x7_update.specs.Layout.{CanStandAt, HasSize, open_switch, switch_of}
+use Rattle.x7_update.specs.After.{SpendsOpen, IsBetweenSlots, switched, with_stream}
+use Rattle.x7_update.specs.Layout.{CanStandAt, HasSize, open_switch, switch_bytes, switch_of}
 use Rattle.x7_update.specs.declared.fault.UpdateFault.{UpdateFault}
 use Rattle.x7_update.specs.declared.fault.UpdateFault.TheVariants.{Differs, Failed, NoLayout, NoMemory, TooLong}
 
@@ -36,7 +36,7 @@ pub record OnlyUses (old new : FlashState) : Type 0 where
   pub faults : old.faults ≤ new.faults
   pub write_faults : old.write_faults ≤ new.write_faults
 
--- where there were bytes there are bytes
+-- what is found is bytes where the flash's content was
 abbrev pub StaysBytes : List ℕ → List ℕ → Type 0
 StaysBytes old found = AreBytes old → AreBytes found
 
@@ -51,7 +51,7 @@ pub record Writes (old new : FlashState) (past since : ℕ → List ℕ → Type
 pub record CanSwitch (state : FlashState) (slot : ℕ) : Type 0 where
   pub attached : state.attached ≡ true
   pub among : slot < slot_count
-  pub within : slot_bytes * slot + 4 ≤ state.extent
+  pub within : slot_bytes * slot + switch_bytes ≤ state.extent
 
 -- all from a place on can be erased: the flash is attached, and whole sectors are before the place and up to the end
 pub record CanEraseFrom (state : FlashState) (place : ℕ) : Type 0 where
@@ -59,7 +59,7 @@ pub record CanEraseFrom (state : FlashState) (place : ℕ) : Type 0 where
   pub size : state.extent % sector_bytes ≡ 0
   pub begins : place % sector_bytes ≡ 0
 
--- nothing below the place has changed
+-- nothing of the flash below the place has changed
 pub record KeepsBelow (place : ℕ) (old found : List ℕ) : Type 0 where
   pub size : length found ≡ length old
   pub below : (i : ℕ) → i < place → get_or found i 0 ≡ get_or old i 0
@@ -70,10 +70,10 @@ pub record ErasedTo (place end : ℕ) (old now : List ℕ) : Type 0 where
   pub below : (i : ℕ) → i < place → get_or now i 0 ≡ get_or old i 0
   pub ones : (i : ℕ) → place ≤ i → i < end → get_or now i 0 ≡ erased_byte
 
--- only the slot's switch word may have changed, and the slot isn't open
+-- nothing of the flash has changed but, perhaps, the switch word of a slot, which isn't open
 pub record OnlySwitch (slot : ℕ) (old found : List ℕ) : Type 0 where
   pub size : length found ≡ length old
-  pub others : (i : ℕ) → (i < slot_bytes * slot) ⊎ (slot_bytes * slot + 4 ≤ i) → get_or found i 0 ≡ get_or old i 0
+  pub others : (i : ℕ) → (i < slot_bytes * slot) ⊎ (slot_bytes * slot + switch_bytes ≤ i) → get_or found i 0 ≡ get_or old i 0
   pub not_open : switch_of found slot ≢ open_switch
 
 -- while an open slot is spent nothing has changed, or the slot isn't open
@@ -86,64 +86,64 @@ OpeningSlot slot old found = (found ≡ switched slot open_switch old) ⊎ OnlyS
 
 -- while the update is replaced nothing has changed, or no slot is open
 abbrev pub ReplacingUpdate : List ℕ → List ℕ → Type 0
-ReplacingUpdate old found = (found ≡ old) ⊎ IsBetween old found
+ReplacingUpdate old found = (found ≡ old) ⊎ IsBetweenSlots old found
 
--- the stream stands at its place, with FF after it
+-- the flash is as it was, but that the stream stands at its place, with FF after it
 abbrev pub StreamStands : ℕ → List ℕ → List ℕ → List ℕ → Type 0
 StreamStands place stream old now = now ≡ with_stream place stream old
 
--- the open slot is spent, and the stream stands at its place
+-- the flash is as it was, but that its open slot is spent, and the stream stands at its place with FF after it
 pub record Replaced (place : ℕ) (stream old now : List ℕ) : Type 0 where
   pub spent : List ℕ
   pub is_spent : SpendsOpen old spent
   pub stands : StreamStands place stream spent now
 
--- the byte that is wanted at a place from the update's place on: the stream's, or FF after it
+-- the byte that is wanted at a place, where the stream stands at `stream_place`: the stream's, or FF after it
 abbrev pub wanted_at : ℕ → List ℕ → ℕ → ℕ
-wanted_at update stream place = if nat_lt (place - update) (length stream) then get_or stream (place - update) 0 else erased_byte
+wanted_at stream_place stream place = if nat_lt (place - stream_place) (length stream) then get_or stream (place - stream_place) 0 else erased_byte
 
--- all from the update's place on is as it is wanted
+-- each byte from the stream's place on is as it is wanted
 abbrev pub HasWanted : ℕ → List ℕ → List ℕ → Type 0
-HasWanted update stream flash = (place : ℕ) → update ≤ place → place < length flash → get_or flash place 0 ≡ wanted_at update stream place
+HasWanted stream_place stream flash = (place : ℕ) → stream_place ≤ place → place < length flash → get_or flash place 0 ≡ wanted_at stream_place stream place
 
 -- an update with a stream can be read back: the flash is attached, the stream stands at its place with FF after it, and
 -- the buffer is of a sector's size
-pub record CanReadBack (state : FlashState) (update : ℕ) (stream buffer : List ℕ) : Type 0 where
+pub record CanReadBack (state : FlashState) (stream_place : ℕ) (stream buffer : List ℕ) : Type 0 where
   pub attached : state.attached ≡ true
   pub size : HasSize state.extent
-  pub place : CanStandAt state.extent update
-  pub fits : update + length stream ≤ state.extent
-  pub wanted : IfKnown state.bytes (HasWanted update stream)
+  pub place : CanStandAt state.extent stream_place
+  pub fits : stream_place + length stream ≤ state.extent
+  pub wanted : IfKnown state.bytes (HasWanted stream_place stream)
   pub buffer_is : length buffer ≡ sector_bytes
 
 -- from one place up to another each byte was read as it is wanted, and nothing was written since
 abbrev pub SeesWanted : ℕ → List ℕ → ℕ → ℕ → FlashState → Type 0
-SeesWanted update stream from to state = (place : ℕ) → from ≤ place → place < to → IsTrue (state.seen place (wanted_at update stream place))
+SeesWanted stream_place stream from to state = (place : ℕ) → from ≤ place → place < to → IsTrue (state.seen place (wanted_at stream_place stream place))
 
 -- this many bytes of what was read from a place on are as they are wanted there
 abbrev pub ReadsWantedTo : ℕ → List ℕ → ℕ → List ℕ → ℕ → Type 0
-ReadsWantedTo update stream place buffer count = (i : ℕ) → i < count → get_or buffer i 0 ≡ wanted_at update stream (place + i)
+ReadsWantedTo stream_place stream place buffer count = (i : ℕ) → i < count → get_or buffer i 0 ≡ wanted_at stream_place stream (place + i)
 
 -- each byte of what was read from a place on is as it is wanted there
 abbrev pub ReadsWanted : ℕ → List ℕ → ℕ → List ℕ → Type 0
-ReadsWanted update stream place buffer = ReadsWantedTo update stream place buffer (length buffer)
+ReadsWanted stream_place stream place buffer = ReadsWantedTo stream_place stream place buffer (length buffer)
 
 -- a byte of what was read from a place on is another than the one wanted there, and it is the first that is
 abbrev pub IsWrong : ℕ → List ℕ → ℕ → List ℕ → UpdateFault → Type 0
-IsWrong update stream place buffer (Differs at wrote read) =
-    (i : ℕ) × (i < length buffer) × (at ≡ place + i) × (wrote ≡ wanted_at update stream at) × (read ≡ get_or buffer i 0) × (wrote ≢ read)
-    × ReadsWantedTo update stream place buffer i
-IsWrong update stream place buffer (Failed writing) = ⊥
-IsWrong update stream place buffer TooLong = ⊥
-IsWrong update stream place buffer (NoLayout at) = ⊥
-IsWrong update stream place buffer NoMemory = ⊥
+IsWrong stream_place stream place buffer (Differs at wrote read) =
+    (i : ℕ) × (i < length buffer) × (at ≡ place + i) × (wrote ≡ wanted_at stream_place stream at) × (read ≡ get_or buffer i 0) × (wrote ≢ read)
+    × ReadsWantedTo stream_place stream place buffer i
+IsWrong stream_place stream place buffer (Failed writing) = ⊥
+IsWrong stream_place stream place buffer TooLong = ⊥
+IsWrong stream_place stream place buffer (NoLayout at) = ⊥
+IsWrong stream_place stream place buffer NoMemory = ⊥
 
 -- A piece that an update with a stream writes in a flash of a size, from one place on up to another: the
 -- stream, and FF after it up to the flash's end, from a place on at which the stream can stand and fits; or
 -- the switch word of the slot that is opened.
 pub data IsWritten (size : ℕ) (stream piece : List ℕ) (from end : ℕ) : Type 0 where
   in_stream : CanStandAt size from → from + length stream ≤ size → piece ≡ stream → end ≡ size → IsWritten size stream piece from end
-  in_switch : (slot : ℕ) → slot < slot_count → from ≡ slot_bytes * slot → piece ≡ open_switch → end ≡ from + 4 → IsWritten size stream piece from end
+  in_switch : (slot : ℕ) → slot < slot_count → from ≡ slot_bytes * slot → piece ≡ open_switch → end ≡ from + switch_bytes → IsWritten size stream piece from end
 
 -- a byte is another than the one that an update with this stream writes at a place of a flash of a size
 pub record IsReadWrong (size : ℕ) (stream : List ℕ) (place wrote read : ℕ) : Type 0 where
@@ -162,8 +162,8 @@ pub record IsFirstRead (state : FlashState) (from : ℕ) (piece : List ℕ) (pla
   pub seen : IsTrue (state.seen place read)
   pub wanted : SeesWanted from piece from place state
 
--- why the end of an update with a stream fails: a read or a write failed, or a byte was read that is another than the
--- one written, the first of its piece that is; which known bytes never are
+-- why an update with a stream fails once the stream is written: a read or a write failed, or the bytes aren't known and
+-- one was read that is another than the one written, the first of its piece that is
 abbrev pub EndFails : List ℕ → FlashState → FlashState → UpdateFault → Type 0
 EndFails stream old new (Differs at wrote read) =
     (wrong : IsReadWrong new.extent stream at wrote read) × (old.bytes ≡ None) × IsFirstRead new wrong.from wrong.piece at read

@@ -1,7 +1,7 @@
 //! Laws of layouts and updates.
 ghost use Rattle.std.specs.Prelude.{◌≡◌, ◌≢◌, ◌-◌, ◌<◌, ℕ, List, length};
 ghost use Rattle.x7_packets.specs.FlashSlot.{sector_bytes, slot_count};
-ghost use Rattle.x7_update.specs.After.{IsAfter, IsBetween, MayBeLeft};
+ghost use Rattle.x7_update.specs.After.{IsAfterUpdate, IsBetweenSlots, MayBeLeft};
 ghost use Rattle.x7_update.specs.Layout.{HasLayout, IsNextFreeSlot, four_at, open_switch};
 ghost use Rattle.x7_update.specs.Fault.{NoLayoutAt};
 
@@ -12,13 +12,13 @@ pub fn layouts_are_not_refused()
 
 /// An update of a flash with a stream has one outcome.
 pub fn updates_have_one_outcome()
-    ensures { (stream flash one other : List ℕ) → HasLayout flash → IsAfter stream flash one → IsAfter stream flash other → one ≡ other }
+    ensures { (stream flash one other : List ℕ) → HasLayout flash → IsAfterUpdate stream flash one → IsAfterUpdate stream flash other → one ≡ other }
 {}
 
 /// A flash that was left after its open slot was spent and before the next was opened has no sync word in its first
 /// sector, nor one that begins there: a device that searches from its first byte on comes to the golden stream.
 pub fn flashes_between_slots_hold_no_sync_word()
-    ensures { (flash found : List ℕ) → HasLayout flash → IsBetween flash found
+    ensures { (flash found : List ℕ) → HasLayout flash → IsBetweenSlots flash found
         → (place : ℕ) → place < sector_bytes → four_at found place ≢ open_switch }
 {}
 

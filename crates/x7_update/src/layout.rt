@@ -1,9 +1,12 @@
 //! The layout of a flash that can be updated: its size, the update's place, and the words of a slot.
 ghost use Rattle.std.specs.Prelude.{◌≡◌, ◌↔◌, ◌+◌, ◌≤◌, true, length};
-ghost use Rattle.x7_update.specs.Layout.{CanStandAt, HasSize, first_slot, four_at};
+ghost use Rattle.x7_update.specs.Layout.{CanStandAt, HasSize, first_slot, four_at, start_place};
 
 use x7_packets::{SYNC_BYTES, flash_slot};
 use x7_words::{FLASH_LIMIT, SECTOR_BYTES};
+
+/// How many bytes a switch word has.
+pub(crate) const SWITCH_BYTES: usize = 4;
 
 /// The switch word of an open slot: the sync word.
 pub(crate) const OPEN_SWITCH: [u8; 4] = SYNC_BYTES;
@@ -14,31 +17,32 @@ pub(crate) const FREE_SWITCH: [u8; 4] = [0xFF; 4];
 /// The switch word of a spent slot, as an update leaves it: zeros.
 pub(crate) const SPENT_SWITCH: [u8; 4] = [0; 4];
 
-/// Where in a slot its start address stands.
+/// Where in a slot its start address stands, in bytes from the slot's first.
 pub(crate) const START_PLACE: usize = 12;
 
-/// The four bytes from a place on.
-pub(crate) fn four_at(first: &[u8], place: usize) -> [u8; 4]
-    requires { place + 4 ≤ length first.now }
-    ensures { result ≡ four_at first.now place }
+/// The four bytes of the first sector from a place on.
+pub(crate) fn four_at(first_sector: &[u8], place: usize) -> [u8; 4]
+    requires { place + 4 ≤ length first_sector.now }
+    ensures { result ≡ four_at first_sector.now place }
 {
     [
-        first[place],
-        first[place + 1],
-        first[place + 2],
-        first[place + 3],
+        first_sector[place],
+        first_sector[place + 1],
+        first_sector[place + 2],
+        first_sector[place + 3],
     ]
 }
 
-/// What each slot has to be after its switch word.
-pub(crate) fn first_slot(first: &[u8]) -> [u8; 32]
-    requires { 16 ≤ length first.now }
-    ensures { result ≡ first_slot first.now }
+/// The bytes that the first slot has to have, and each other one after its switch word, by the first slot's start
+/// address.
+pub(crate) fn first_slot(first_sector: &[u8]) -> [u8; 32]
+    requires { start_place + 4 ≤ length first_sector.now }
+    ensures { result ≡ first_slot first_sector.now }
 {
-    flash_slot(OPEN_SWITCH, four_at(first, START_PLACE))
+    flash_slot(OPEN_SWITCH, four_at(first_sector, START_PLACE))
 }
 
-/// Whether a flash of this size can be updated.
+/// Whether a flash of this size, in bytes, can be updated.
 pub(crate) fn has_size(size: u64) -> bool
     ensures { (result ≡ true) ↔ HasSize size }
 {

@@ -4,11 +4,11 @@ ghost use Rattle.x7_words.specs.Flash.{KnowsBytes, OnlyReads};
 ghost use Rattle.x7_packets.specs.FlashSlot.{sector_bytes, slot_count};
 ghost use Rattle.x7_update.specs.Layout.{HasSize, LeadsToUpdate};
 ghost use Rattle.x7_update.specs.Fault.{DiffersAt, HasCause, IsBadSlotAt, IsGoodSlot, NoLayoutAt};
-ghost use Rattle.x7_update.specs.Slots.{Finds, HasFirstSlot, IsFound, SoFar};
+ghost use Rattle.x7_update.specs.Slots.{IsTargetIn, HasFirstSlot, HasTarget, SlotsAmong};
 
 use crate::fault::UpdateFault;
 use crate::layout::{
-    FREE_SWITCH, OPEN_SWITCH, START_PLACE, can_stand, first_slot, four_at, has_size,
+    FREE_SWITCH, OPEN_SWITCH, START_PLACE, SWITCH_BYTES, can_stand, first_slot, four_at, has_size,
 };
 use x7_packets::{SLOT_BYTES, SLOT_COUNT};
 use x7_words::{Flash, is_same, word_of};
@@ -31,34 +31,39 @@ pub(crate) struct UpdateTarget {
     pub(crate) slots: Slots,
 }
 
-/// The first place of a slot, after its switch word, at which the slot differs from what it has to be.
-fn difference(first: &[u8], wanted: &[u8; 32], slot: usize) -> Option<u64>
+/// The first place in the flash, after a slot's switch word, at which the slot differs from what it has to be.
+fn slot_difference(first_sector: &[u8], wanted: &[u8; 32], slot: usize) -> Option<u64>
     requires slot { slot < slot_count }
-    requires sector { HasFirstSlot first.now wanted.now }
-    ensures none { IfNone result (LeadsToUpdate first.now slot) }
-    ensures some { IfSome result (λ place. DiffersAt first.now slot place) }
+    requires sector { HasFirstSlot first_sector.now wanted.now }
+    ensures none { IfNone result (LeadsToUpdate first_sector.now slot) }
+    ensures some { IfSome result (λ place. DiffersAt first_sector.now slot place) }
 {
-    let at = SLOT_BYTES as usize * slot;
-    for i in 4..SLOT_BYTES as usize {
-        if first[at + i] != wanted[i] {
-            return Some((at + i) as u64);
+    let slot_place = SLOT_BYTES as usize * slot;
+    for i in SWITCH_BYTES..SLOT_BYTES as usize {
+        if first_sector[slot_place + i] != wanted[i] {
+            return Some((slot_place + i) as u64);
         }
     }
     None
 }
 
-/// Takes a slot, by what the slots before it say.
-fn take_slot(first: &[u8], wanted: &[u8; 32], slot: u64, before: Slots) -> Result<Slots, u64>
+/// The slots up to this one, by the slots before it, or the place that shows that it is none of a layout.
+fn look_at_slot(
+    first_sector: &[u8],
+    wanted: &[u8; 32],
+    slot: u64,
+    before: Slots,
+) -> Result<Slots, u64>
     requires slot { slot < slot_count }
-    requires sector { HasFirstSlot first.now wanted.now }
-    requires before { SoFar first.now slot before }
-    ensures ok { IfOk result (SoFar first.now (slot + 1)) }
-    ensures err { IfErr result (IsBadSlotAt first.now slot) }
+    requires sector { HasFirstSlot first_sector.now wanted.now }
+    requires before { SlotsAmong first_sector.now slot before }
+    ensures ok { IfOk result (SlotsAmong first_sector.now (slot + 1)) }
+    ensures err { IfErr result (IsBadSlotAt first_sector.now slot) }
 {
-    if let Some(place) = difference(first, wanted, slot as usize) {
+    if let Some(place) = slot_difference(first_sector, wanted, slot as usize) {
         return Err(place);
     }
-    let switch = four_at(first, SLOT_BYTES as usize * slot as usize);
+    let switch = four_at(first_sector, SLOT_BYTES as usize * slot as usize);
     let Slots { open_slot, next } = before;
     if is_same(&switch, &OPEN_SWITCH) {
         if open_slot.is_some() {
@@ -78,39 +83,39 @@ fn take_slot(first: &[u8], wanted: &[u8; 32], slot: u64, before: Slots) -> Resul
     })
 }
 
-/// Takes all slots.
-fn take_slots(first: &[u8], wanted: &[u8; 32]) -> Result<Slots, u64>
-    requires { HasFirstSlot first.now wanted.now }
-    ensures ok { IfOk result (SoFar first.now slot_count) }
+/// The slots of the first sector, or the place that shows that one is none of a layout.
+fn look_at_slots(first_sector: &[u8], wanted: &[u8; 32]) -> Result<Slots, u64>
+    requires { HasFirstSlot first_sector.now wanted.now }
+    ensures ok { IfOk result (SlotsAmong first_sector.now slot_count) }
     ensures err { IfErr result (λ place. (slot : ℕ) × (slot < slot_count)
-        × ((earlier : ℕ) → earlier < slot → IsGoodSlot first.now earlier) × IsBadSlotAt first.now slot place) }
+        × ((earlier : ℕ) → earlier < slot → IsGoodSlot first_sector.now earlier) × IsBadSlotAt first_sector.now slot place) }
 {
     let mut slots = Slots {
         open_slot: None,
         next: 0,
     };
     for slot in 0..SLOT_COUNT {
-        slots = take_slot(first, wanted, slot, slots)?;
+        slots = look_at_slot(first_sector, wanted, slot, slots)?;
     }
     Ok(slots)
 }
 
 /// Where an update goes in a flash of a size, by its first sector, or the place at which there is no layout.
-fn target_of(first: &[u8], size: u64) -> Result<UpdateTarget, u64>
-    requires first { length first.now ≡ sector_bytes }
+fn target_of(first_sector: &[u8], size: u64) -> Result<UpdateTarget, u64>
+    requires first_sector { length first_sector.now ≡ sector_bytes }
     requires size { HasSize size }
-    ensures found { IfOk result (Finds size first.now) }
-    ensures fault { IfErr result (NoLayoutAt size first.now) }
+    ensures found { IfOk result (IsTargetIn size first_sector.now) }
+    ensures fault { IfErr result (NoLayoutAt size first_sector.now) }
 {
-    let wanted = first_slot(first);
-    if let Some(place) = difference(first, &wanted, 0) {
+    let wanted = first_slot(first_sector);
+    if let Some(place) = slot_difference(first_sector, &wanted, 0) {
         return Err(place);
     }
-    let place = u64::from(word_of(four_at(first, START_PLACE)));
+    let place = u64::from(word_of(four_at(first_sector, START_PLACE)));
     if !can_stand(place, size) {
         return Err(START_PLACE as u64);
     }
-    let slots = take_slots(first, &wanted)?;
+    let slots = look_at_slots(first_sector, &wanted)?;
     if slots.next >= SLOT_COUNT {
         return Err(SLOT_BYTES * (SLOT_COUNT - 1));
     }
@@ -124,7 +129,7 @@ pub(crate) fn find_target<F: Flash>(
 ) -> Result<UpdateTarget, UpdateFault>
     requires attached { (F.state flash.old).attached ≡ true }
     requires buffer { length buffer.old ≡ sector_bytes }
-    ensures found { IfOk result (IsFound (F.state flash.old)) }
+    ensures found { IfOk result (HasTarget (F.state flash.old)) }
     ensures fault { (stream : List ℕ) → IfErr result (HasCause stream (F.state flash.old) (F.state flash.new)) }
     ensures bytes { KnowsBytes (F.state flash.old) }
     ensures only { OnlyReads (F.state flash.old) (F.state flash.new) (F.found_since flash.old) (F.found_since flash.new) }

@@ -2,11 +2,11 @@
 ghost use Rattle.std.specs.Prelude.{◌≡◌, ◌+◌, ◌*◌, ◌<◌, ◌≤◌, ◌⊎◌, ℕ, List, true, length, IfErr, OnOk, OnErr, option_map};
 ghost use Rattle.x7_words.specs.Flash.{OnlyReads, IfKnown, Sees, WriteFails};
 ghost use Rattle.x7_packets.specs.FlashSlot.{slot_bytes, slot_count};
-ghost use Rattle.x7_update.specs.After.{SpendsOpen, IsAfter, MayBeLeft, switched};
+ghost use Rattle.x7_update.specs.After.{SpendsOpen, IsAfterUpdate, MayBeLeft, switched};
 ghost use Rattle.x7_update.specs.Layout.{HasLayout, HasNoOpenSlot, IsFree, open_switch};
 ghost use Rattle.x7_update.specs.ReadBack.{AllReadBack, OpensReadBack, WasReady};
 ghost use Rattle.x7_update.specs.Fault.{CanBeUpdated, HasCause, IsEarly};
-ghost use Rattle.x7_update.specs.Slots.{IsFound};
+ghost use Rattle.x7_update.specs.Slots.{HasTarget};
 ghost use Rattle.x7_update.specs.Writing.{AtAnyMoment, Becomes, CanReadBack, EndFails, OnlyUses, OpeningSlot, Replaced, ReplacingUpdate, StaysBytes, Writes};
 ghost use Rattle.x7_update.specs.declared.fault.UpdateFault.TheVariants.{NoMemory};
 
@@ -20,7 +20,7 @@ use x7_words::{Failed, Flash, SECTOR_BYTES};
 
 /// Spends the open slot, if there is one.
 fn spend_open_slot<F: Flash>(flash: &mut F, target: UpdateTarget) -> Result<(), Failed>
-    requires { IsFound (F.state flash.old) target }
+    requires { HasTarget (F.state flash.old) target }
     ensures spent { OnOk result (Becomes (F.state flash.old) (F.state flash.new) SpendsOpen) }
     ensures writes { Writes (F.state flash.old) (F.state flash.new) (F.found_since flash.old) (F.found_since flash.new)
         ReplacingUpdate }
@@ -34,7 +34,7 @@ fn spend_open_slot<F: Flash>(flash: &mut F, target: UpdateTarget) -> Result<(), 
 
 /// Spends the open slot and writes the stream.
 fn replace<F: Flash>(flash: &mut F, target: UpdateTarget, stream: &[u8]) -> Result<(), Failed>
-    requires found { IsFound (F.state flash.old) target }
+    requires found { HasTarget (F.state flash.old) target }
     requires stream { target.place + length stream.now ≤ (F.state flash.old).extent }
     ensures replaced { OnOk result (Becomes (F.state flash.old) (F.state flash.new) (Replaced target.place stream.now)) }
     ensures writes { Writes (F.state flash.old) (F.state flash.new) (F.found_since flash.old) (F.found_since flash.new)
@@ -83,7 +83,7 @@ fn read_back_and_open<F: Flash>(
 /// golden stream stands, or the updated flash.
 pub fn update<F: Flash>(alloc: Global, flash: &mut F, stream: &[u8]) -> Result<(), UpdateFault>
     requires { (F.state flash.old).attached ≡ true }
-    ensures updated { OnOk result (Becomes (F.state flash.old) (F.state flash.new) (IsAfter stream.now)) }
+    ensures updated { OnOk result (Becomes (F.state flash.old) (F.state flash.new) (IsAfterUpdate stream.now)) }
     ensures layout { OnOk result (IfKnown (F.state flash.old).bytes HasLayout) }
     ensures found { (found : List ℕ) → F.found_since flash.new (F.state flash.old).moments found →
         IfKnown (F.state flash.old).bytes (λ all. MayBeLeft stream.now all found) }

@@ -1,4 +1,4 @@
-//! What was written is read back and compared.
+//! What an update has written is read back and compared.
 ghost use Rattle.std.specs.Prelude.{◌≡◌, ◌+◌, ◌*◌, ◌<◌, ◌≤◌, ◌^◌, ℕ, List, true, length, IfErr, OnOk};
 ghost use Rattle.x7_words.specs.Flash.{OnlyReads, IfKnown, Sees};
 ghost use Rattle.x7_packets.specs.FlashSlot.{sector_bytes, slot_bytes, slot_count};
@@ -8,16 +8,16 @@ ghost use Rattle.x7_update.specs.Writing.{CanReadBack, EndFails, IsWrong, ReadsW
 use crate::fault::UpdateFault;
 use crate::layout::OPEN_SWITCH;
 use x7_packets::SLOT_BYTES;
-use x7_words::{Flash, SECTOR_BYTES};
+use x7_words::{ERASED_BYTE, Flash, SECTOR_BYTES};
 
-/// The byte that is wanted `after` bytes after the update's place: the stream's, or FF after the stream.
+/// The byte that is wanted `after` bytes after the stream's place: the stream's, or FF after the stream.
 fn wanted(stream: &[u8], after: u64) -> u8
-    ensures { (update : ℕ) → result ≡ wanted_at update stream.now (update + after) }
+    ensures { (stream_place : ℕ) → result ≡ wanted_at stream_place stream.now (stream_place + after) }
 {
     if after < stream.len() as u64 {
         stream[after as usize]
     } else {
-        0xFF
+        ERASED_BYTE
     }
 }
 
@@ -46,34 +46,34 @@ fn compare(buffer: &[u8], after: u64, from: u64, piece: &[u8]) -> Result<(), Upd
 /// Reads all from the update's place on, and compares it with the stream and FF after it.
 pub(crate) fn verify_stream<F: Flash>(
     flash: &mut F,
-    update: u64,
+    stream_place: u64,
     stream: &[u8],
     buffer: &mut [u8],
 ) -> Result<(), UpdateFault>
-    requires { CanReadBack (F.state flash.old) update stream.now buffer.old }
-    ensures seen { OnOk result (SeesWanted update stream.now update (F.state flash.old).extent (F.state flash.new)) }
+    requires { CanReadBack (F.state flash.old) stream_place stream.now buffer.old }
+    ensures seen { OnOk result (SeesWanted stream_place stream.now stream_place (F.state flash.old).extent (F.state flash.new)) }
     ensures fault { IfErr result (EndFails stream.now (F.state flash.old) (F.state flash.new)) }
     ensures only { OnlyReads (F.state flash.old) (F.state flash.new) (F.found_since flash.old) (F.found_since flash.new) }
 {
-    for sector in update / SECTOR_BYTES..flash.size() / SECTOR_BYTES {
-        verify_sector(flash, sector, update, stream, buffer)?;
+    for sector in stream_place / SECTOR_BYTES..flash.size() / SECTOR_BYTES {
+        verify_sector(flash, sector, stream_place, stream, buffer)?;
     }
     Ok(())
 }
 
-/// Reads a sector of the update, and compares it. The sectors before it were read back.
+/// Reads a sector of the update, and compares it with the stream and FF after it; those before it were read back.
 fn verify_sector<F: Flash>(
     flash: &mut F,
     sector: u64,
-    update: u64,
+    stream_place: u64,
     stream: &[u8],
     buffer: &mut [u8],
 ) -> Result<(), UpdateFault>
-    requires written { CanReadBack (F.state flash.old) update stream.now buffer.old }
+    requires written { CanReadBack (F.state flash.old) stream_place stream.now buffer.old }
     requires within { sector * sector_bytes + sector_bytes ≤ (F.state flash.old).extent }
-    requires after { update ≤ sector * sector_bytes }
-    requires before { SeesWanted update stream.now update (sector * sector_bytes) (F.state flash.old) }
-    ensures seen { OnOk result (SeesWanted update stream.now update (sector * sector_bytes + sector_bytes) (F.state flash.new)) }
+    requires after { stream_place ≤ sector * sector_bytes }
+    requires before { SeesWanted stream_place stream.now stream_place (sector * sector_bytes) (F.state flash.old) }
+    ensures seen { OnOk result (SeesWanted stream_place stream.now stream_place (sector * sector_bytes + sector_bytes) (F.state flash.new)) }
     ensures fault { IfErr result (EndFails stream.now (F.state flash.old) (F.state flash.new)) }
     ensures only { OnlyReads (F.state flash.old) (F.state flash.new) (F.found_since flash.old) (F.found_since flash.new) }
     ensures buffer { length buffer.new ≡ sector_bytes }
@@ -82,7 +82,12 @@ fn verify_sector<F: Flash>(
         Ok(()) => (),
         Err(_) => return Err(UpdateFault::Failed { writing: false }),
     }
-    compare(buffer, sector * SECTOR_BYTES - update, update, stream)
+    compare(
+        buffer,
+        sector * SECTOR_BYTES - stream_place,
+        stream_place,
+        stream,
+    )
 }
 
 /// Reads the switch word of the slot that was opened, and compares it.

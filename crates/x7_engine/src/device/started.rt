@@ -97,7 +97,7 @@ impl Device {
 
     /// Whether startup has begun since the last shutdown taken.
     fn has_begun(&self) -> bool
-        ensures now { result ≡ is_some self.now.registers.clock.startup.begun }
+        ensures now { result ≡ is_some self.now.registers.clock.startup.begun_with }
         ensures not_begun { OfPast self.now (λ p. result ≡ false → HasNotBegun p.part p.kept p.bytes) }
     {
         self.registers.clock.startup.has_begun()

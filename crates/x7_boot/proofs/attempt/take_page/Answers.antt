@@ -32,7 +32,7 @@ returns c = λ part kept bytes s going none.
     let stands = fed.stands part kept false bytes s in
     let cause = c.cause_in.ensures ∙ ap (λ (f : Option Fault). failure_of f false) (c.fault.ensures part kept false all stands) in
     let dropping = ap (λ (r : ReadBufState). r.most) (fed.reads part kept false bytes s).1 ∙ ap (λ (r : ReadBufState). r.most) c.dropping-read.ensures in
-    subst (λ (x : Step). Took (past_in_flash part kept bytes) c.feed_until_started.new.self c.args.page.now x) (sym c.step_of.ensures)
+    subst (λ (x : Step). Took (past_in_flash part kept bytes) c.feed_until_started.new.self c.args.page.now x) (sym c.step_by.ensures)
     (subst (λ (r : UntilStarted). Took (past_in_flash part kept bytes) c.feed_until_started.new.self c.args.page.now (step_until r c.cause_in.result)) c.in-Fed.is
     (page_took part kept c.feed_until_started.new.self bytes c.args.page.now c.feed_until_started.new.read c.feed_until_started.result c.cause_in.result fed.within
     stands (fed.first part kept false bytes s) dropping (fed.answer part kept false bytes s) (fed.started part kept false bytes s) cause))

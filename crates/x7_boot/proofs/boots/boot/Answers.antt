@@ -13,14 +13,14 @@ attempts-preserved g c =
     let f = g.F.Flash in
     let i = c.attempts.invariant in
     let t = c.in_ok-ending.ensures in
-    let next = c.next_of.ensures in
+    let next = c.next_by.ensures in
     record {
-      led = led_next c.args.part.now c.attempts.device.part c.attempts.keep c.in-Again.kept c.attempts.address c.in-Again.place (f.state c.args.flash.now).bytes (f.state c.attempts.flash).bytes c.try_once.new.device c.in_ok-ending.ending
-          c.attempts.attempts.items c.push.new.self.items c.attempts.number c.next_of.result i.flash.bytes i.part i.led t.tried next.table c.in-Again.is c.in-Ok-push.ensures.items;
+      led = led_next c.args.part.now c.attempts.device.part c.attempts.kept c.in-Again.next_kept c.attempts.address c.in-Again.next_address (f.state c.args.flash.now).bytes (f.state c.attempts.flash).bytes c.try_once.new.device c.in_ok-ending.ending
+          c.attempts.attempts.items c.push.new.self.items c.attempts.number c.next_by.result i.flash.bytes i.part i.led t.tried next.table c.in-Again.is c.in-Ok-push.ensures.items;
       part = t.part ∙ i.part;
-      not_on_bench = next.not_on_bench c.in-Again.kept c.in-Again.place c.in-Again.is;
-      number = attempts_next c.attempts.keep.kind c.in-Again.kept.kind c.attempts.number (next.no_second_fallback c.in-Again.kept c.in-Again.place c.in-Again.is) (next.under_limit c.in-Again.kept c.in-Again.place c.in-Again.is) i.room;
-      room = next.under_limit c.in-Again.kept c.in-Again.place c.in-Again.is;
+      not_on_bench = next.not_on_bench c.in-Again.next_kept c.in-Again.next_address c.in-Again.is;
+      number = attempts_next c.attempts.kept.kind c.in-Again.next_kept.kind c.attempts.number (next.no_second_fallback c.in-Again.next_kept c.in-Again.next_address c.in-Again.is) (next.under_limit c.in-Again.next_kept c.in-Again.next_address c.in-Again.is) i.room;
+      room = next.under_limit c.in-Again.next_kept c.in-Again.next_address c.in-Again.is;
       limit = i.limit;
       pages = pages_of (f.state c.args.flash.now).bytes (f.state c.attempts.flash).bytes (f.state c.args.flash.now).extent (f.state c.attempts.flash).extent c.try_once.new.pages.pages.entries i.flash.bytes i.flash.extent c.try_once.ensures.pages;
       quiet = t.quiet ∙ i.quiet;
@@ -32,8 +32,8 @@ returns-in-Ends-clause-booted g c =
     let f = g.F.Flash in
     let i = c.attempts.invariant in
     let t = c.in_ok-ending.ensures in
-    boot_ends c.args.part.now c.attempts.device.part c.attempts.keep c.attempts.address (f.state c.args.flash.now).bytes (f.state c.attempts.flash).bytes c.try_once.new.device c.in_ok-ending.ending
-    c.attempts.attempts.items c.push.new.self.items c.attempts.number c.next_of.result c.in-Ends.end i.flash.bytes i.part i.led t.tried c.next_of.ensures.table c.in-Ends.is c.in-Ok-push.ensures.items
+    boot_ends c.args.part.now c.attempts.device.part c.attempts.kept c.attempts.address (f.state c.args.flash.now).bytes (f.state c.attempts.flash).bytes c.try_once.new.device c.in_ok-ending.ending
+    c.attempts.attempts.items c.push.new.self.items c.attempts.number c.next_by.result c.in-Ends.end i.flash.bytes i.part i.led t.tried c.next_by.ensures.table c.in-Ends.is c.in-Ok-push.ensures.items
 
 pub try_once-requires-clause-pages : goal.try_once-requires-clause-pages
 try_once-requires-clause-pages g c =

@@ -13,11 +13,11 @@ abbrev pub invariant-attempts : goal.invariant-attempts
 invariant-attempts g l =
     let f = g.F.Flash in
     record {
-      led : IfKnown (f.state l.fn.flash).bytes (λ all. AreBytes all → Led (attempt_at l.fn.part l.keep l.address) all l.attempts.items l.number);
+      led : IfKnown (f.state l.fn.flash).bytes (λ all. AreBytes all → Led (attempt_at l.fn.part l.kept l.address) all l.attempts.items l.number);
       part : l.device.part ≡ l.fn.part;
-      not_on_bench : l.keep.kind ≡ Bench → ⊥;
+      not_on_bench : l.kept.kind ≡ Bench → ⊥;
       number : l.number ≤ 16;
-      room : is_fallback l.keep.kind ≡ false → l.number < 16;
+      room : is_fallback l.kept.kind ≡ false → l.number < 16;
       limit : (f.state l.fn.flash).extent ≤ flash_limit;
       pages : ArePages (f.state l.fn.flash).bytes (f.state l.fn.flash).extent l.pages.pages.entries;
       quiet : (f.state l.flash).faults ≡ (f.state l.fn.flash).faults;

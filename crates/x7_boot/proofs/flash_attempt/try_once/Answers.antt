@@ -3,7 +3,7 @@ use Rattle.std.specs.Prelude.{IsErrOf}
 use Rattle.x7_words.specs.Count.{HasRisen}
 use Rattle.x7_words.specs.Flash.{FlashFails, IfKnown}
 use Rattle.x7_words.proofs.FlashLemmas.{reads_at, reads_on}
-use Rattle.x7_boot.specs.Attempt.{Feeds, attempt_at}
+use Rattle.x7_boot.specs.Attempt.{IsUnderWay, attempt_at}
 use Rattle.x7_boot.specs.Pages.{page_size}
 use Rattle.x7_boot.specs.declared.fault.BootFault.TheVariants.{Failed, NoMemory}
 use Rattle.x7_boot.proofs.PageLemmas.{from_limited, loaded_from, pages_of, reaches}
@@ -12,7 +12,7 @@ use Rattle.x7_boot.proofs.flash_attempt.try_once.Goals as goal
 
 pub pages-init : goal.pages-init
 pages-init g c = record {
-  feeds = subst (λ (n : ℕ). Feeds (attempt_at c.args.device.now.part c.args.keep c.args.address) (g.F.Flash.state c.args.flash.now).bytes c.begin.new.device n) (sym c.from-at.ensures) (c.begin.ensures (g.F.Flash.state c.args.flash.now).bytes);
+  feeds = subst (λ (n : ℕ). IsUnderWay (attempt_at c.args.device.now.part c.args.kept c.args.address) (g.F.Flash.state c.args.flash.now).bytes c.begin.new.device n) (sym c.from-place.ensures) (c.begin.ensures (g.F.Flash.state c.args.flash.now).bytes);
   kept = c.requires.pages;
   quiet = refl;
   flash = reads_at _ _;
@@ -20,26 +20,26 @@ pages-init g c = record {
 }
 
 pub run_out-requires : goal.run_out-requires
-run_out-requires g c = let f = c.pages.invariant.feeds in ends_here c.args.device.now.part c.args.keep c.pages.device f.bytes c.requires.not_on_bench f.stands f.open_end f.due
+run_out-requires g c = let f = c.pages.invariant.feeds in ends_here c.args.device.now.part c.args.kept c.pages.device f.bytes c.requires.not_on_bench f.stands f.not_ended f.due
 
-pub returns-then-at-size-clause-tried : goal.returns-then-at-size-clause-tried
-returns-then-at-size-clause-tried g c =
+pub returns-then-place-size-clause-tried : goal.returns-then-place-size-clause-tried
+returns-then-place-size-clause-tried g c =
     let f = c.pages.invariant.feeds in
-    known_out c.args.device.now.part c.args.keep c.args.address (g.F.Flash.state c.args.flash.now).bytes c.pages.device c.run_out.new.device c.pages.at c.size-size.result c.run_out.result f c.if-at-size.true
-    (subst (λ (n : ℕ). IfKnown (g.F.Flash.state c.args.flash.now).bytes (λ all. n ≡ length all)) (sym c.size-size.ensures.extent) c.size-size.ensures.sized) (c.run_out.ensures.stands c.args.device.now.part c.args.keep f.bytes f.stands) c.run_out.ensures.ending
+    known_out c.args.device.now.part c.args.kept c.args.address (g.F.Flash.state c.args.flash.now).bytes c.pages.device c.run_out.new.device c.pages.place c.size-size.result c.run_out.result f c.if-place-size.true
+    (subst (λ (n : ℕ). IfKnown (g.F.Flash.state c.args.flash.now).bytes (λ all. n ≡ length all)) (sym c.size-size.ensures.extent) c.size-size.ensures.sized) (c.run_out.ensures.stands c.args.device.now.part c.args.kept f.bytes f.stands) c.run_out.ensures.ending
 
 pub pages-preserved : goal.pages-preserved
 pages-preserved g c =
     let f = c.pages.invariant.feeds in
     let known = (g.F.Flash.state c.args.flash.now).bytes in
     let extent = (g.F.Flash.state c.args.flash.now).extent in
-    let below : c.pages.at < extent = omega (arith, c.if-at-size.false, c.pages.invariant.size) in
+    let below : c.pages.place < extent = omega (arith, c.if-place-size.false, c.pages.invariant.size) in
     let are = pages_of known (g.F.Flash.state c.pages.flash).bytes extent (g.F.Flash.state c.pages.flash).extent c.load.new.self.pages.entries c.pages.invariant.flash.bytes c.pages.invariant.flash.extent c.load.ensures.pages in
-    let read = loaded_from known (g.F.Flash.state c.pages.flash).bytes extent (g.F.Flash.state c.pages.flash).extent (c.pages.at / page_size) c.load.new.self.block.items c.in_ok-loaded.loaded c.pages.invariant.flash.bytes c.pages.invariant.flash.extent c.in_ok-loaded.ensures.read in
+    let read = loaded_from known (g.F.Flash.state c.pages.flash).bytes extent (g.F.Flash.state c.pages.flash).extent (c.pages.place / page_size) c.load.new.self.block.items c.in_ok-loaded.loaded c.pages.invariant.flash.bytes c.pages.invariant.flash.extent c.in_ok-loaded.ensures.read in
     let from = c.bytes_from-bytes.ensures known extent below are read in
-    let t = c.take_page.ensures c.args.device.now.part c.args.keep f.bytes f.stands f.going f.open_end in
+    let t = c.take_page.ensures c.args.device.now.part c.args.kept f.bytes f.stands f.going f.not_ended in
     record {
-      feeds = feeds_on c.args.device.now.part c.args.keep c.args.address (g.F.Flash.state c.args.flash.now).bytes c.pages.device c.take_page.new.device c.bytes_from-bytes.result.now c.pages.at (c.pages.at + length c.bytes_from-bytes.result.now) c.take_page.result refl f from.bytes_are t c.in-Goes.is;
+      feeds = feeds_on c.args.device.now.part c.args.kept c.args.address (g.F.Flash.state c.args.flash.now).bytes c.pages.device c.take_page.new.device c.bytes_from-bytes.result.now c.pages.place (c.pages.place + length c.bytes_from-bytes.result.now) c.take_page.result refl f from.bytes_are t c.in-GoesOn.is;
       kept = are;
       quiet = c.in_ok-loaded.ensures.quiet ∙ c.pages.invariant.quiet;
       flash = reads_on _ _ _ _ _ _ c.pages.invariant.flash c.in_ok-loaded.ensures.flash;
@@ -51,33 +51,33 @@ returns-in-Ends-clause-tried g c =
     let f = c.pages.invariant.feeds in
     let known = (g.F.Flash.state c.args.flash.now).bytes in
     let extent = (g.F.Flash.state c.args.flash.now).extent in
-    let below : c.pages.at < extent = omega (arith, c.if-at-size.false, c.pages.invariant.size) in
+    let below : c.pages.place < extent = omega (arith, c.if-place-size.false, c.pages.invariant.size) in
     let are = pages_of known (g.F.Flash.state c.pages.flash).bytes extent (g.F.Flash.state c.pages.flash).extent c.load.new.self.pages.entries c.pages.invariant.flash.bytes c.pages.invariant.flash.extent c.load.ensures.pages in
-    let read = loaded_from known (g.F.Flash.state c.pages.flash).bytes extent (g.F.Flash.state c.pages.flash).extent (c.pages.at / page_size) c.load.new.self.block.items c.in_ok-loaded.loaded c.pages.invariant.flash.bytes c.pages.invariant.flash.extent c.in_ok-loaded.ensures.read in
+    let read = loaded_from known (g.F.Flash.state c.pages.flash).bytes extent (g.F.Flash.state c.pages.flash).extent (c.pages.place / page_size) c.load.new.self.block.items c.in_ok-loaded.loaded c.pages.invariant.flash.bytes c.pages.invariant.flash.extent c.in_ok-loaded.ensures.read in
     let from = c.bytes_from-bytes.ensures known extent below are read in
-    let t = c.take_page.ensures c.args.device.now.part c.args.keep f.bytes f.stands f.going f.open_end in
-    known_ended c.args.device.now.part c.args.keep c.args.address (g.F.Flash.state c.args.flash.now).bytes c.pages.device c.take_page.new.device c.bytes_from-bytes.result.now c.pages.at c.take_page.result c.in-Ends.ending f from.bytes_are t c.in-Ends.is
+    let t = c.take_page.ensures c.args.device.now.part c.args.kept f.bytes f.stands f.going f.not_ended in
+    known_ended c.args.device.now.part c.args.kept c.args.address (g.F.Flash.state c.args.flash.now).bytes c.pages.device c.take_page.new.device c.bytes_from-bytes.result.now c.pages.place c.take_page.result c.in-Ends.ending f from.bytes_are t c.in-Ends.is
 
 pub run_out-requires-in-Stops : goal.run_out-requires-in-Stops
 run_out-requires-in-Stops g c =
     let f = c.pages.invariant.feeds in
-    stops_here c.args.device.now.part c.args.keep c.take_page.new.device f.bytes c.bytes_from-bytes.result.now c.take_page.result c.requires.not_on_bench (c.take_page.ensures c.args.device.now.part c.args.keep f.bytes f.stands f.going f.open_end) c.in-Stops.is
+    stops_here c.args.device.now.part c.args.kept c.take_page.new.device f.bytes c.bytes_from-bytes.result.now c.take_page.result c.requires.not_on_bench (c.take_page.ensures c.args.device.now.part c.args.kept f.bytes f.stands f.going f.not_ended) c.in-Stops.is
 
 pub returns-in-Stops-clause-tried : goal.returns-in-Stops-clause-tried
 returns-in-Stops-clause-tried g c =
     let f = c.pages.invariant.feeds in
     let known = (g.F.Flash.state c.args.flash.now).bytes in
     let extent = (g.F.Flash.state c.args.flash.now).extent in
-    let below : c.pages.at < extent = omega (arith, c.if-at-size.false, c.pages.invariant.size) in
+    let below : c.pages.place < extent = omega (arith, c.if-place-size.false, c.pages.invariant.size) in
     let are = pages_of known (g.F.Flash.state c.pages.flash).bytes extent (g.F.Flash.state c.pages.flash).extent c.load.new.self.pages.entries c.pages.invariant.flash.bytes c.pages.invariant.flash.extent c.load.ensures.pages in
-    let read = loaded_from known (g.F.Flash.state c.pages.flash).bytes extent (g.F.Flash.state c.pages.flash).extent (c.pages.at / page_size) c.load.new.self.block.items c.in_ok-loaded.loaded c.pages.invariant.flash.bytes c.pages.invariant.flash.extent c.in_ok-loaded.ensures.read in
+    let read = loaded_from known (g.F.Flash.state c.pages.flash).bytes extent (g.F.Flash.state c.pages.flash).extent (c.pages.place / page_size) c.load.new.self.block.items c.in_ok-loaded.loaded c.pages.invariant.flash.bytes c.pages.invariant.flash.extent c.in_ok-loaded.ensures.read in
     let from = c.bytes_from-bytes.ensures known extent below are read in
-    let t = c.take_page.ensures c.args.device.now.part c.args.keep f.bytes f.stands f.going f.open_end in
-    known_stopped c.args.device.now.part c.args.keep c.args.address (g.F.Flash.state c.args.flash.now).bytes c.pages.device c.take_page.new.device c.run_out-in-Stops.new.device c.bytes_from-bytes.result.now c.pages.at c.take_page.result c.run_out-in-Stops.result f from.bytes_are t c.in-Stops.is
-    (c.run_out-in-Stops.ensures.stands c.args.device.now.part c.args.keep _ t.stands) c.run_out-in-Stops.ensures.ending
+    let t = c.take_page.ensures c.args.device.now.part c.args.kept f.bytes f.stands f.going f.not_ended in
+    known_stopped c.args.device.now.part c.args.kept c.args.address (g.F.Flash.state c.args.flash.now).bytes c.pages.device c.take_page.new.device c.run_out-in-Stops.new.device c.bytes_from-bytes.result.now c.pages.place c.take_page.result c.run_out-in-Stops.result f from.bytes_are t c.in-Stops.is
+    (c.run_out-in-Stops.ensures.stands c.args.device.now.part c.args.kept _ t.stands) c.run_out-in-Stops.ensures.ending
 
-pub returns-then-at-size-clause-pages : goal.returns-then-at-size-clause-pages
-returns-then-at-size-clause-pages g c = c.pages.invariant.kept
+pub returns-then-place-size-clause-pages : goal.returns-then-place-size-clause-pages
+returns-then-place-size-clause-pages g c = c.pages.invariant.kept
 
 pub load-requires-clause-pages : goal.load-requires-clause-pages
 load-requires-clause-pages g c =
@@ -87,35 +87,35 @@ pub take_page-requires : goal.take_page-requires
 take_page-requires g c =
     let known = (g.F.Flash.state c.args.flash.now).bytes in
     let extent = (g.F.Flash.state c.args.flash.now).extent in
-    let below : c.pages.at < extent = omega (arith, c.if-at-size.false, c.pages.invariant.size) in
+    let below : c.pages.place < extent = omega (arith, c.if-place-size.false, c.pages.invariant.size) in
     let are = pages_of known (g.F.Flash.state c.pages.flash).bytes extent (g.F.Flash.state c.pages.flash).extent c.load.new.self.pages.entries c.pages.invariant.flash.bytes c.pages.invariant.flash.extent c.load.ensures.pages in
-    let read = loaded_from known (g.F.Flash.state c.pages.flash).bytes extent (g.F.Flash.state c.pages.flash).extent (c.pages.at / page_size) c.load.new.self.block.items c.in_ok-loaded.loaded c.pages.invariant.flash.bytes c.pages.invariant.flash.extent c.in_ok-loaded.ensures.read in
+    let read = loaded_from known (g.F.Flash.state c.pages.flash).bytes extent (g.F.Flash.state c.pages.flash).extent (c.pages.place / page_size) c.load.new.self.block.items c.in_ok-loaded.loaded c.pages.invariant.flash.bytes c.pages.invariant.flash.extent c.in_ok-loaded.ensures.read in
     let from = c.bytes_from-bytes.ensures known extent below are read in
-    feeds_ready c.args.device.now.part c.args.keep c.args.address known c.pages.device c.pages.at (length c.bytes_from-bytes.result.now)
-    (let limit = from_limited known extent c.pages.at c.bytes_from-bytes.result.now c.requires.limit from in omega (arith, limit)) c.pages.invariant.feeds
+    feeds_ready c.args.device.now.part c.args.kept c.args.address known c.pages.device c.pages.place (length c.bytes_from-bytes.result.now)
+    (let limit = from_limited known extent c.pages.place c.bytes_from-bytes.result.now c.requires.limit from in omega (arith, limit)) c.pages.invariant.feeds
 
 pub pages-smaller : goal.pages-smaller
 pages-smaller g c =
     let known = (g.F.Flash.state c.args.flash.now).bytes in
     let extent = (g.F.Flash.state c.args.flash.now).extent in
-    let below : c.pages.at < extent = omega (arith, c.if-at-size.false, c.pages.invariant.size) in
+    let below : c.pages.place < extent = omega (arith, c.if-place-size.false, c.pages.invariant.size) in
     let are = pages_of known (g.F.Flash.state c.pages.flash).bytes extent (g.F.Flash.state c.pages.flash).extent c.load.new.self.pages.entries c.pages.invariant.flash.bytes c.pages.invariant.flash.extent c.load.ensures.pages in
-    let read = loaded_from known (g.F.Flash.state c.pages.flash).bytes extent (g.F.Flash.state c.pages.flash).extent (c.pages.at / page_size) c.load.new.self.block.items c.in_ok-loaded.loaded c.pages.invariant.flash.bytes c.pages.invariant.flash.extent c.in_ok-loaded.ensures.read in
+    let read = loaded_from known (g.F.Flash.state c.pages.flash).bytes extent (g.F.Flash.state c.pages.flash).extent (c.pages.place / page_size) c.load.new.self.block.items c.in_ok-loaded.loaded c.pages.invariant.flash.bytes c.pages.invariant.flash.extent c.in_ok-loaded.ensures.read in
     let from = c.bytes_from-bytes.ensures known extent below are read in
     let some = from.some in
-    omega (arith, some, c.if-at-size.false)
+    omega (arith, some, c.if-place-size.false)
 
 pub bytes_from-bytes-requires-clause-block : goal.bytes_from-bytes-requires-clause-block
 bytes_from-bytes-requires-clause-block g c =
-    reaches (g.F.Flash.state c.pages.flash).bytes (g.F.Flash.state c.pages.flash).extent c.pages.at c.load.new.self.block.items c.in_ok-loaded.loaded
-    (omega (arith, c.if-at-size.false, c.pages.invariant.size, c.pages.invariant.flash.extent)) c.in_ok-loaded.ensures.read
+    reaches (g.F.Flash.state c.pages.flash).bytes (g.F.Flash.state c.pages.flash).extent c.pages.place c.load.new.self.block.items c.in_ok-loaded.loaded
+    (omega (arith, c.if-place-size.false, c.pages.invariant.size, c.pages.invariant.flash.extent)) c.in_ok-loaded.ensures.read
 
 pub bytes_from-bytes-requires-clause-page : goal.bytes_from-bytes-requires-clause-page
 bytes_from-bytes-requires-clause-page g c = record {
   known = (g.F.Flash.state c.pages.flash).bytes;
   extent = (g.F.Flash.state c.pages.flash).extent;
   are = c.load.ensures.pages;
-  within = omega (arith, c.if-at-size.false, c.pages.invariant.size, c.pages.invariant.flash.extent);
+  within = omega (arith, c.if-place-size.false, c.pages.invariant.size, c.pages.invariant.flash.extent);
   there = c.in_ok-loaded.ensures.there;
 }
 

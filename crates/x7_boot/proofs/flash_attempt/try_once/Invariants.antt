@@ -1,6 +1,6 @@
 use Rattle.std.proofs.Common.{◌≡◌, ◌-◌}
 use Rattle.x7_words.specs.Flash.{OnlyReads}
-use Rattle.x7_boot.specs.Attempt.{Feeds, attempt_at}
+use Rattle.x7_boot.specs.Attempt.{IsUnderWay, attempt_at}
 use Rattle.x7_boot.specs.Pages.{ArePages}
 use Rattle.x7_boot.proofs.flash_attempt.try_once.Given as goal
 
@@ -8,7 +8,7 @@ abbrev pub invariant-pages : goal.invariant-pages
 invariant-pages g l =
     let f = g.F.Flash in
     record {
-      feeds : Feeds (attempt_at l.fn.device.part l.fn.keep l.fn.address) (f.state l.fn.flash).bytes l.device l.at;
+      feeds : IsUnderWay (attempt_at l.fn.device.part l.fn.kept l.fn.address) (f.state l.fn.flash).bytes l.device l.place;
       kept : ArePages (f.state l.fn.flash).bytes (f.state l.fn.flash).extent l.pages.pages.entries;
       quiet : (f.state l.flash).faults ≡ (f.state l.fn.flash).faults;
       flash : OnlyReads (f.state l.fn.flash) (f.state l.flash) (f.found_since l.fn.flash) (f.found_since l.flash);
@@ -16,4 +16,4 @@ invariant-pages g l =
     }
 
 abbrev pub decreases-pages : goal.decreases-pages
-decreases-pages g l = l.size - l.at
+decreases-pages g l = l.size - l.place

@@ -5,5 +5,5 @@ use Rattle.x7_header.proofs.writing.write_header.Goals as goal
 pub returns-clause-back : goal.returns-clause-back
 returns-clause-back c = λ rest. header_again (contents_of c.args.head.now) rest c.requires
 
-pub returns-clause-alone : goal.returns-clause-alone
-returns-clause-alone c = λ x have same. header_same x (contents_of c.args.head.now) have c.requires same
+pub returns-clause-one_head : goal.returns-clause-one_head
+returns-clause-one_head c = λ x have same. header_same x (contents_of c.args.head.now) have c.requires same

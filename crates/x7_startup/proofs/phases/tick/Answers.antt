@@ -3,12 +3,12 @@ use Rattle.x7_startup.specs.Phases.{wait_of}
 use Rattle.x7_startup.proofs.RunLemmas.{tick_stays, tick_moves}
 use Rattle.x7_startup.proofs.phases.tick.Goals as goal
 
-pub returns-then-start-wait_in-clause-runs : goal.returns-then-start-wait_in-clause-runs
-returns-then-start-wait_in-clause-runs c =
+pub returns-then-start-wait_of-clause-runs : goal.returns-then-start-wait_of-clause-runs
+returns-then-start-wait_of-clause-runs c =
     rw c.saturating_add-ticks.ensures
-    (tick_stays (wait_of c.args.lock c.args.matched c.args.cor0) _ _ c.wait_in.result c.wait_in.ensures c.wait_in.type_inv c.if-start-wait_in.true)
+    (tick_stays (wait_of c.args.lock_ticks c.args.match_ticks c.args.cor0) _ _ c.wait_of.result c.wait_of.ensures c.wait_of.type_inv c.if-start-wait_of.true)
 
 pub returns-clause-runs : goal.returns-clause-runs
 returns-clause-runs c =
     rw c.saturating_add-ticks.ensures
-    (tick_moves (wait_of c.args.lock c.args.matched c.args.cor0) _ _ c.wait_in.result c.wait_in.ensures c.wait_in.type_inv (omega arith) c.if-start-wait_in.false)
+    (tick_moves (wait_of c.args.lock_ticks c.args.match_ticks c.args.cor0) _ _ c.wait_of.result c.wait_of.ensures c.wait_of.type_inv (omega arith) c.if-start-wait_of.false)

@@ -3,7 +3,7 @@ use Rattle.std.specs.Prelude.{IsTrue}
 use Rattle.x7_words.specs.Flash.{IfKnown}
 use Rattle.x7_words.proofs.InputLemmas.{few_at, few_more, stays_at}
 use Rattle.x7_boot.specs.Image.{flash_limit}
-use Rattle.x7_update.specs.After.{IsAfter}
+use Rattle.x7_update.specs.After.{IsAfterUpdate}
 use Rattle.x7_update.specs.Layout.{HasLayout}
 use Rattle.x7_update.specs.Writing.{BecomesBytes}
 use Rattle.x7_forms.specs.Event.{Event}
@@ -70,7 +70,7 @@ returns-in-Ok-clause-answered g c = λ before after out.
     let within = subst (λ (o : Option (List ℕ)). IfKnown o (λ all. length all ≤ flash_limit)) same c.in_ok-open_flash.ensures.within in
     let has = data_given (with_inputs old.inputs.contents first.bytes) (CameIn (step_over (stream ∷ []) old.inputs new.inputs)) stream (data_from read) bytes (c.in_ok-read.ensures.caused first.bytes) (rest_of c.deref.result.now read.bytes.items read.start c.deref.ensures.value) in
     let layout = subst (λ (o : Option (List ℕ)). IfKnown o HasLayout) same c.in-Ok.ensures.layout in
-    let becomes = subst (λ (o : Option (List ℕ)). BecomesBytes (IsAfter bytes) o last.bytes) same c.in-Ok.ensures.updated in
+    let becomes = subst (λ (o : Option (List ℕ)). BecomesBytes (IsAfterUpdate bytes) o last.bytes) same c.in-Ok.ensures.updated in
     let size = subst (λ (n : ℕ). n ≤ flash_limit) (sym c.update.ensures.only.extent) c.in_ok-open_flash.ensures.size in
     record {
       ends = done_ends c.args.name.now stream bytes old new out within has layout size becomes;

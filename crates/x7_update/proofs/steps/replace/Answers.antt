@@ -1,6 +1,6 @@
 use Rattle.std.proofs.Common.{length, ◌∙◌, arith}
 use Rattle.x7_update.specs.After.{SpendsOpen}
-use Rattle.x7_update.specs.Slots.{Finds}
+use Rattle.x7_update.specs.Slots.{IsTargetIn}
 use Rattle.x7_update.specs.Writing.{Becomes, KeepsBelow, Replaced, ReplacingUpdate, StreamStands}
 use Rattle.x7_update.proofs.ByteLemmas.{bytes_on}
 use Rattle.x7_update.proofs.CaseLemmas.{writing_replaces}
@@ -28,7 +28,7 @@ returns-clause-writes g c =
     record {
       any_moment = moments_on first mid last _ _ _ SpendsOpen (KeepsBelow c.args.target.place) ReplacingUpdate
           (λ all spent found e is_spent keeps.
-          writing_replaces all c.args.target (known_at first.bytes (λ all. Finds (length all) all c.args.target) c.requires.found.finds all e) spent found is_spent keeps)
+          writing_replaces all c.args.target (known_at first.bytes (λ all. IsTargetIn (length all) all c.args.target) c.requires.found.finds all e) spent found is_spent keeps)
           spends.any_moment (becomes_leaves first mid SpendsOpen c.in_ok-spend_open_slot.ensures.spent) writes.any_moment;
       bytes = bytes_on first mid last _ _ _ spends.bytes writes.bytes;
       only = writes_on first mid last spends.only writes.only;

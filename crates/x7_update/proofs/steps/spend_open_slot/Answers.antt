@@ -1,7 +1,7 @@
 use Rattle.std.proofs.Common.{◌≡◌, ℕ, ◌<◌, inl, Option, length, option_map, refl, subst, arith}
 use Rattle.x7_update.specs.After.{SpendsOpen, already, spends, switched}
 use Rattle.x7_update.specs.Layout.{IsOpen, spent_switch}
-use Rattle.x7_update.specs.Slots.{Finds, OpenAmong, WithinSlots}
+use Rattle.x7_update.specs.Slots.{IsTargetIn, OpenAmong, WithinSlots}
 use Rattle.x7_update.specs.Writing.{Becomes, SpendingSlot, ReplacingUpdate, StaysBytes}
 use Rattle.x7_update.proofs.CaseLemmas.{spending_replaces}
 use Rattle.x7_update.proofs.KnownLemmas.{becomes_of, becomes_same, known_at, known_map, moments_none, moments_weaker, on_ok_map, writes_none}
@@ -12,7 +12,7 @@ returns-in-None-clause-spent g c =
     let first = g.F.Flash.state c.args.flash.now in
     becomes_same first SpendsOpen
     (λ all e.
-    let finds = known_at first.bytes (λ all. Finds (length all) all c.args.target) c.requires.finds all e in
+    let finds = known_at first.bytes (λ all. IsTargetIn (length all) all c.args.target) c.requires.finds all e in
     let P : Option ℕ → Type 0 = λ o. OpenAmong all 2048 o in
     let none = subst P c.in-None.is finds.opens in
     already none refl)
@@ -25,7 +25,7 @@ returns-in-Some-clause-spent g c =
     on_ok_map (last.bytes ≡ option_map (switched slot spent_switch) first.bytes) (Becomes first last SpendsOpen) c.spend_slot.result c.spend_slot.ensures.spent
     (λ is. becomes_of first last (switched slot spent_switch) SpendsOpen is
     (λ all e.
-    let finds = known_at first.bytes (λ all. Finds (length all) all c.args.target) c.requires.finds all e in
+    let finds = known_at first.bytes (λ all. IsTargetIn (length all) all c.args.target) c.requires.finds all e in
     let P : Option ℕ → Type 0 = λ o. OpenAmong all 2048 o in
     let opened = subst P c.in-Some.is finds.opens in
     spends slot opened.0 opened.1 refl))
@@ -38,7 +38,7 @@ returns-in-Some-clause-writes g c =
     record {
       any_moment = moments_weaker first (g.F.Flash.state c.spend_slot.new.flash) _ _ (SpendingSlot slot) ReplacingUpdate
           (λ all found e h.
-          let finds = known_at first.bytes (λ all. Finds (length all) all c.args.target) c.requires.finds all e in
+          let finds = known_at first.bytes (λ all. IsTargetIn (length all) all c.args.target) c.requires.finds all e in
           let P : Option ℕ → Type 0 = λ o. OpenAmong all 2048 o in
           let opened = subst P c.in-Some.is finds.opens in
           spending_replaces all c.args.target finds slot found opened.0 opened.1 h)
@@ -59,7 +59,7 @@ spend_slot-requires-clause-slot g c =
 
 pub spend_slot-requires-clause-opened : goal.spend_slot-requires-clause-opened
 spend_slot-requires-clause-opened g c =
-    known_map (g.F.Flash.state c.args.flash.now).bytes (λ all. Finds (length all) all c.args.target) (λ all. IsOpen all c.in-Some.slot)
+    known_map (g.F.Flash.state c.args.flash.now).bytes (λ all. IsTargetIn (length all) all c.args.target) (λ all. IsOpen all c.in-Some.slot)
     (λ all e finds.
     let P : Option ℕ → Type 0 = λ o. OpenAmong all 2048 o in
     let opened = subst P c.in-Some.is finds.opens in

@@ -2,11 +2,11 @@ use Rattle.std.proofs.Common.{◌≡◌, ◌+◌, ◌≤◌, ◌⊎◌, ⊎_elim
 use Rattle.x7_words.specs.Count.{HasRisen}
 use Rattle.x7_words.specs.Flash.{IfKnown, WriteFails}
 use Rattle.x7_words.specs.Word.{AreBytes}
-use Rattle.x7_update.specs.After.{IsBetween, MayBeLeft, untouched}
+use Rattle.x7_update.specs.After.{IsBetweenSlots, MayBeLeft, untouched}
 use Rattle.x7_update.specs.Layout.{CanStandAt, HasLayout, HasSize, HasNoOpenSlot, IsFree}
 use Rattle.x7_update.specs.ReadBack.{OpensReadBack, ReadBack, WasReady}
 use Rattle.x7_update.specs.Fault.{CanTake, IsTooLong}
-use Rattle.x7_update.specs.Slots.{Finds, TargetFits}
+use Rattle.x7_update.specs.Slots.{IsTargetIn, TargetFits}
 use Rattle.x7_update.specs.Writing.{HasWanted, OpeningSlot, Replaced, ReplacingUpdate, StaysBytes}
 use Rattle.x7_update.specs.declared.fault.UpdateFault.TheVariants.{Failed, TooLong}
 use Rattle.x7_update.proofs.BackLemmas.{end_refused, fails_since, none_before}
@@ -35,7 +35,7 @@ returns-then-stream-size-clause-refused g c =
     let stream = c.args.stream.now in
     let found = c.in_ok-target.ensures.found in
     let read = c.find_target.ensures.only in
-    known_map first.bytes (λ all. Finds (length all) all target) (IsTooLong stream)
+    known_map first.bytes (λ all. IsTargetIn (length all) all target) (IsTooLong stream)
     (λ all e finds.
     let long : first.extent ≡ length all = known_at first.bytes (λ all. first.extent ≡ length all) (g.met.F.Flash.counted c.args.flash.now) all e in
     record { layout = record { size = finds.sized; slots = finds.has }; passes = omega (arith, long, finds.update, read.extent, c.size.ensures.extent, found.fits.place.most, c.if-stream-size.true) })
@@ -55,7 +55,7 @@ returns-in-Err-clause-refused g c =
     let read = c.find_target.ensures.only in
     let size : then.extent ≡ first.extent = c.replace.ensures.writes.only.extent ∙ read.extent in
     let can : IfKnown first.bytes (CanTake stream) =
-    known_map first.bytes (λ all. Finds (length all) all target) (CanTake stream)
+    known_map first.bytes (λ all. IsTargetIn (length all) all target) (CanTake stream)
     (λ all e finds.
     let long : first.extent ≡ length all = known_at first.bytes (λ all. first.extent ≡ length all) (g.met.F.Flash.counted c.args.flash.now) all e in
     record { layout = record { size = finds.sized; slots = finds.has }; fits = omega (arith, long, finds.update, read.extent, c.size.ensures.extent, found.fits.place.most, c.if-stream-size.false) })
@@ -79,7 +79,7 @@ returns-clause-refused g c =
     let wrote = c.replace.ensures.writes.only in
     let size : last.extent ≡ first.extent = c.read_back_and_open.ensures.only.extent ∙ wrote.extent ∙ read.extent in
     let can : IfKnown first.bytes (CanTake stream) =
-    known_map first.bytes (λ all. Finds (length all) all target) (CanTake stream)
+    known_map first.bytes (λ all. IsTargetIn (length all) all target) (CanTake stream)
     (λ all e finds.
     let long : first.extent ≡ length all = known_at first.bytes (λ all. first.extent ≡ length all) (g.met.F.Flash.counted c.args.flash.now) all e in
     record { layout = record { size = finds.sized; slots = finds.has }; fits = omega (arith, long, finds.update, read.extent, c.size.ensures.extent, fits.place.most, c.if-stream-size.false) })
@@ -97,7 +97,7 @@ pub returns-clause-layout : goal.returns-clause-layout
 returns-clause-layout g c =
     let known = (g.F.Flash.state c.args.flash.now).bytes in
     on_ok (IfKnown known HasLayout) c.read_back_and_open.result
-    (known_map known (λ all. Finds (length all) all c.in_ok-target.target) HasLayout (λ all e finds. record { size = finds.sized; slots = finds.has }) c.in_ok-target.ensures.found.finds)
+    (known_map known (λ all. IsTargetIn (length all) all c.in_ok-target.target) HasLayout (λ all e finds. record { size = finds.sized; slots = finds.has }) c.in_ok-target.ensures.found.finds)
 
 pub replace-requires-clause-found : goal.replace-requires-clause-found
 replace-requires-clause-found g c =
@@ -122,7 +122,7 @@ read_back_and_open-requires-clause-written g c =
       fits = omega (arith, size, read.extent, c.size.ensures.extent, found.fits.place.most, c.if-stream-size.false);
       wanted = becomes_then mid then (Replaced target.place stream) (HasWanted target.place stream)
           (λ all now e r.
-          let finds = known_at first.bytes (λ all. Finds (length all) all target) found.finds all (sym read.bytes ∙ e) in
+          let finds = known_at first.bytes (λ all. IsTargetIn (length all) all target) found.finds all (sym read.bytes ∙ e) in
           let long : mid.extent ≡ length all = known_at mid.bytes (λ all. mid.extent ≡ length all) (g.met.F.Flash.counted c.find_target.new.flash) all e in
           let fits : target.place + length stream ≤ length all = omega (arith, long, read.extent, c.size.ensures.extent, found.fits.place.most, c.if-stream-size.false) in
           replaced_wanted all target finds stream now fits r)
@@ -141,7 +141,7 @@ read_back_and_open-requires-clause-free g c =
     let stream = c.args.stream.now in
     becomes_then mid (g.F.Flash.state c.replace.new.flash) (Replaced target.place stream) (λ now. IsFree now target.slots.next)
     (λ all now e r.
-    let finds = known_at first.bytes (λ all. Finds (length all) all target) c.in_ok-target.ensures.found.finds all (sym c.find_target.ensures.only.bytes ∙ e) in
+    let finds = known_at first.bytes (λ all. IsTargetIn (length all) all target) c.in_ok-target.ensures.found.finds all (sym c.find_target.ensures.only.bytes ∙ e) in
     let long : mid.extent ≡ length all = known_at mid.bytes (λ all. mid.extent ≡ length all) (g.met.F.Flash.counted c.find_target.new.flash) all e in
     let fits : target.place + length stream ≤ length all = omega (arith, long, c.find_target.ensures.only.extent, c.size.ensures.extent, c.in_ok-target.ensures.found.fits.place.most, c.if-stream-size.false) in
     replaced_free all target finds stream now fits r)
@@ -154,8 +154,8 @@ read_back_and_open-requires-clause-none_open g c =
     let then = g.F.Flash.state c.replace.new.flash in
     let target = c.in_ok-target.target in
     let stream = c.args.stream.now in
-    let known : (all : List ℕ) → mid.bytes ≡ Some all → Finds (length all) all target =
-    λ all e. known_at first.bytes (λ all. Finds (length all) all target) c.in_ok-target.ensures.found.finds all (sym c.find_target.ensures.only.bytes ∙ e) in
+    let known : (all : List ℕ) → mid.bytes ≡ Some all → IsTargetIn (length all) all target =
+    λ all e. known_at first.bytes (λ all. IsTargetIn (length all) all target) c.in_ok-target.ensures.found.finds all (sym c.find_target.ensures.only.bytes ∙ e) in
     becomes_then mid then (Replaced target.place stream) HasNoOpenSlot
     (λ all now e r.
     let long : mid.extent ≡ length all = known_at mid.bytes (λ all. mid.extent ≡ length all) (g.met.F.Flash.counted c.find_target.new.flash) all e in
@@ -170,8 +170,8 @@ returns-in-Err-clause-any_moment g c =
     let then = g.F.Flash.state c.replace.new.flash in
     let target = c.in_ok-target.target in
     let stream = c.args.stream.now in
-    let known : (all : List ℕ) → mid.bytes ≡ Some all → Finds (length all) all target =
-    λ all e. known_at first.bytes (λ all. Finds (length all) all target) c.in_ok-target.ensures.found.finds all (sym c.find_target.ensures.only.bytes ∙ e) in
+    let known : (all : List ℕ) → mid.bytes ≡ Some all → IsTargetIn (length all) all target =
+    λ all e. known_at first.bytes (λ all. IsTargetIn (length all) all target) c.in_ok-target.ensures.found.finds all (sym c.find_target.ensures.only.bytes ∙ e) in
     let Left : List ℕ → List ℕ → Type 0 = λ all found. AreBytes found → MayBeLeft stream all found in
     moments_weaker first then _ _ (λ all found. Left all found × StaysBytes all found) (MayBeLeft stream)
     (λ all found e both. both.0 (both.1 (known_at first.bytes AreBytes c.find_target.ensures.bytes all e)))
@@ -187,8 +187,8 @@ returns-clause-any_moment g c =
     let then = g.F.Flash.state c.replace.new.flash in
     let target = c.in_ok-target.target in
     let stream = c.args.stream.now in
-    let known : (all : List ℕ) → mid.bytes ≡ Some all → Finds (length all) all target =
-    λ all e. known_at first.bytes (λ all. Finds (length all) all target) c.in_ok-target.ensures.found.finds all (sym c.find_target.ensures.only.bytes ∙ e) in
+    let known : (all : List ℕ) → mid.bytes ≡ Some all → IsTargetIn (length all) all target =
+    λ all e. known_at first.bytes (λ all. IsTargetIn (length all) all target) c.in_ok-target.ensures.found.finds all (sym c.find_target.ensures.only.bytes ∙ e) in
     let last = g.F.Flash.state c.read_back_and_open.new.flash in
     let Left : List ℕ → List ℕ → Type 0 = λ all found. AreBytes found → MayBeLeft stream all found in
     moments_weaker first last _ _ (λ all found. Left all found × StaysBytes all found) (MayBeLeft stream)
@@ -280,8 +280,8 @@ returns-clause-opens g c =
     let then = g.F.Flash.state c.replace.new.flash in
     let target = c.in_ok-target.target in
     let stream = c.args.stream.now in
-    let known : (all : List ℕ) → mid.bytes ≡ Some all → Finds (length all) all target =
-    λ all e. known_at first.bytes (λ all. Finds (length all) all target) c.in_ok-target.ensures.found.finds all (sym c.find_target.ensures.only.bytes ∙ e) in
+    let known : (all : List ℕ) → mid.bytes ≡ Some all → IsTargetIn (length all) all target =
+    λ all e. known_at first.bytes (λ all. IsTargetIn (length all) all target) c.in_ok-target.ensures.found.finds all (sym c.find_target.ensures.only.bytes ∙ e) in
     let last = g.F.Flash.state c.read_back_and_open.new.flash in
     let Opens : List ℕ → List ℕ → Type 0 = OpensReadBack g.F.Flash.state stream first last in
     let Was : Type 0 = WasReady g.F.Flash.state target.place stream last in
@@ -293,6 +293,6 @@ returns-clause-opens g c =
     (λ all now found e r o l a.
     let long : mid.extent ≡ length all = known_at mid.bytes (λ all. mid.extent ≡ length all) (g.met.F.Flash.counted c.find_target.new.flash) all e in
     let fits : target.place + length stream ≤ length all = omega (arith, long, c.find_target.ensures.only.extent, c.size.ensures.extent, c.in_ok-target.ensures.found.fits.place.most, c.if-stream-size.false) in
-    ⊎_elim (λ same. absurd (after_not_between stream all found l a (subst (IsBetween all) (sym same) (replaced_between all target (known all e) stream now fits r)))) back o)
+    ⊎_elim (λ same. absurd (after_not_between stream all found l a (subst (IsBetweenSlots all) (sym same) (replaced_between all target (known all e) stream now fits r)))) back o)
     (moments_weaker mid then _ _ ReplacingUpdate Opens (λ all found e h l a. absurd (after_not_replacing stream all found l a h)) c.replace.ensures.writes.any_moment)
     (becomes_leaves mid then (Replaced target.place stream) c.in-Ok-replace.ensures.replaced) c.read_back_and_open.ensures.opens)

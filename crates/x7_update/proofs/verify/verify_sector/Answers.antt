@@ -8,7 +8,7 @@ pub returns-clause-fault : goal.returns-clause-fault
 returns-clause-fault g c =
     let old = g.F.Flash.state c.args.flash.now in
     let new = g.F.Flash.state c.read_at.new.self in
-    let update = c.args.update in
+    let update = c.args.stream_place in
     let place = c.args.sector * 65536 in
     let q = c.requires in
     let at : update + (place - update) ≡ place = omega (arith, q.after) in
@@ -20,7 +20,7 @@ returns-clause-fault g c =
 pub returns-clause-seen : goal.returns-clause-seen
 returns-clause-seen g c =
     let new = g.F.Flash.state c.read_at.new.self in
-    let update = c.args.update in
+    let update = c.args.stream_place in
     let place = c.args.sector * 65536 in
     let at : update + (place - update) ≡ place = omega (arith, c.requires.after) in
     sees_wanted update c.args.stream.now place 65536 (update + (place - update)) c.read_at.new.buf new c.compare.result (c.in-Ok.ensures.length ∙ c.requires.written.buffer_is) at c.in-Ok.ensures.seen

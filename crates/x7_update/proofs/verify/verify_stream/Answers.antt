@@ -13,14 +13,14 @@ loop-sector-preserved g c =
     record {
       only = reads_on first mid last _ _ _ c.loop-sector.invariant.only c.verify_sector.ensures.only;
       buffer = c.verify_sector.ensures.buffer;
-      seen = sees_up_to c.args.update c.args.stream.now c.args.update (c.loop-sector.sector * 65536 + 65536) ((c.loop-sector.sector + 1) * 65536) last (omega arith) c.in_ok-verify_sector.ensures.seen;
+      seen = sees_up_to c.args.stream_place c.args.stream.now c.args.stream_place (c.loop-sector.sector * 65536 + 65536) ((c.loop-sector.sector + 1) * 65536) last (omega arith) c.in_ok-verify_sector.ensures.seen;
     }
 
 pub returns-clause-seen : goal.returns-clause-seen
 returns-clause-seen g c =
     let first = g.F.Flash.state c.args.flash.now in
     let end : first.extent ≤ c.loop-sector.sector * 65536 = omega (arith, c.size-sector-end.ensures.extent, c.requires.size.whole) in
-    sees_up_to c.args.update c.args.stream.now c.args.update (c.loop-sector.sector * 65536) first.extent (g.F.Flash.state c.loop-sector.flash) end c.loop-sector.invariant.seen
+    sees_up_to c.args.stream_place c.args.stream.now c.args.stream_place (c.loop-sector.sector * 65536) first.extent (g.F.Flash.state c.loop-sector.flash) end c.loop-sector.invariant.seen
 
 pub returns-in_err-verify_sector-clause-fault : goal.returns-in_err-verify_sector-clause-fault
 returns-in_err-verify_sector-clause-fault g c =
@@ -34,4 +34,4 @@ returns-in_err-verify_sector-clause-fault g c =
 pub verify_sector-requires-clause-written : goal.verify_sector-requires-clause-written
 verify_sector-requires-clause-written g c =
     let i = c.loop-sector.invariant in
-    still_read_back (g.F.Flash.state c.args.flash.now) (g.F.Flash.state c.loop-sector.flash) c.args.update c.args.stream.now c.args.buffer.now c.loop-sector.buffer i.only.attached i.only.extent i.only.bytes i.buffer c.requires
+    still_read_back (g.F.Flash.state c.args.flash.now) (g.F.Flash.state c.loop-sector.flash) c.args.stream_place c.args.stream.now c.args.buffer.now c.loop-sector.buffer i.only.attached i.only.extent i.only.bytes i.buffer c.requires

@@ -9,5 +9,5 @@ invariant-loop-sector g l =
     record {
       only : OnlyReads (f.state l.fn.flash) (f.state l.flash) (f.found_since l.fn.flash) (f.found_since l.flash);
       buffer : length l.buffer ≡ 65536;
-      seen : SeesWanted l.update l.stream l.update (l.sector * 65536) (f.state l.flash);
+      seen : SeesWanted l.stream_place l.stream l.stream_place (l.sector * 65536) (f.state l.flash);
     }

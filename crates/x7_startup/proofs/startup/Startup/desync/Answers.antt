@@ -3,6 +3,6 @@ use Rattle.x7_startup.proofs.startup.Startup.desync.Goals as goal
 
 pub returns : goal.returns
 returns c = record {
-  stands = λ lock matched calls h.
-      rw (c.or-self-inside.ensures, c.then_some.ensures) (desync_stands lock matched _ calls c.args.cor0 (rw (← c.self.view_is) at h));
+  stands = λ lock_ticks match_ticks calls h.
+      rw (c.or-self-inside.ensures, c.then_some.ensures) (desync_stands lock_ticks match_ticks _ calls c.args.cor0 (rw (← c.self.view_is) at h));
 }

@@ -2,4 +2,4 @@ use Rattle.x7_startup.proofs.CallLemmas.{drop_stands}
 use Rattle.x7_startup.proofs.startup.Startup.drop_back.Goals as goal
 
 pub returns : goal.returns
-returns c = record { stands = λ lock matched calls h. drop_stands lock matched calls }
+returns c = record { stands = λ lock_ticks match_ticks calls h. drop_stands lock_ticks match_ticks calls }

@@ -3,7 +3,7 @@ use Rattle.x7_header.specs.Reading.{LayoutWaits}
 use Rattle.x7_header.specs.declared.fault.HeaderFault.TheVariants as fault
 use Rattle.x7_header.proofs.StepLemmas.{fault_at_a, fault_at_b, fault_at_c, fault_at_d, fault_at_e}
 use Rattle.x7_header.proofs.WaitLemmas.{err_has, err_then}
-use Rattle.x7_header.proofs.progress.after_fields.Goals as goal
+use Rattle.x7_header.proofs.progress.whole_fields.Goals as goal
 
 pub returns-in_err-rest-clause-waits : goal.returns-in_err-rest-clause-waits
 returns-in_err-rest-clause-waits c = err_has (λ lack. LayoutWaits c.args.bytes.now lack) c.from_residual.result c.in_err-rest.field-0.0 c.from_residual.ensures.0 c.from_residual.ensures.1 (λ all more h.
@@ -36,5 +36,5 @@ returns-clause-waits c =
     let b = c.in_ok-rest-2.ensures.whole in
     let d = c.in_ok-rest-3.ensures.whole in
     let e = c.in_ok-rest-4.ensures.whole in
-    err_then _ (λ lack. LayoutWaits c.args.bytes.now lack) c.after_number.result c.after_number.ensures.waits (λ lack w all more h.
+    err_then _ (λ lack. LayoutWaits c.args.bytes.now lack) c.whole_number.result c.whole_number.ensures.waits (λ lack w all more h.
     fault_at_e all (c.args.bytes.now ++ more) a.0 _ b.0 _ d.0 _ e.0 _ (fault.Cut all) (a.1 all more) (b.1 all more) (d.1 all more) (e.1 all more) (w all more h))

@@ -1,7 +1,7 @@
 use Rattle.std.proofs.Common.{◌≡◌, ◌*◌, ◌<◌, ℕ, None, nat_eq}
 use Rattle.std.specs.Map.{lookup}
 use Rattle.x7_boot.specs.Pages.{page_size}
-use Rattle.x7_boot.proofs.cache.PageCache.absent_pages.Given as goal
+use Rattle.x7_boot.proofs.cache.PageCache.absent_page_count.Given as goal
 
 abbrev pub invariant-loop-page : goal.invariant-loop-page
 invariant-loop-page l = record {
