@@ -2,7 +2,7 @@
 use Rattle.std.proofs.Common.{◌≡◌, ℕ, List, Option, None, Some, subst, sym}
 use Rattle.x7_forms.specs.declared.status.Status.{Status}
 use Rattle.x7_forms.specs.Form.{form_of}
-use Rattle.x7_forms.specs.Message.{status_number}
+use Rattle.x7_forms.specs.Status.{status_number}
 use Rattle.x7_tool.specs.Outside.{Outside}
 use Rattle.x7_tool.specs.Runs.{Runs}
 use Rattle.x7.specs.Command.{ProgramEndsBy, WritesPage}

@@ -5,9 +5,8 @@ use Rattle.x7_words.specs.Input.{InputsState}
 use Rattle.x7_forms.specs.declared.refusal.Refusal.{Refusal}
 use Rattle.x7_part.specs.declared.fault.PartFault.{PartFault}
 use Rattle.x7_forms.specs.declared.bad_input.InputFault.TheVariants as input
-use Rattle.x7_forms.specs.Event.{Event, Cause, Absence, Contents, bad_input, bad_part, cause_of_event, missing, no_memory, reading_failed, too_large}
-use Rattle.x7_forms.specs.Known.{Failing, Known, Lacking, Mishap, StreamRead, data_of, mishap_event, read_of, stream_limit, whole_in, with_inputs, with_mishap}
-use Rattle.x7_forms.specs.Message.{event_of}
+use Rattle.x7_forms.specs.Event.{Event, Cause, Absence, Contents, bad_input, bad_part, cause_of_event, event_of, missing, no_memory, reading_failed, too_large}
+use Rattle.x7_forms.specs.Known.{Failing, Known, Lacking, Mishap, StreamRead, streams_known, mishap_event, stream_known, stream_limit, whole_known, with_inputs, with_mishap}
 
 -- the name is one of these
 abbrev pub Among : List (List ℕ) → List ℕ → Type 0
@@ -15,20 +14,20 @@ Among [] name = ⊥
 Among (first ∷ names) name = (name ≡ first) ⊎ Among names name
 
 -- the name is the last that was asked for, where that is kept, and no input is selected any more
-pub record IsOver (name : List ℕ) (now : InputsState) : Type 0 where
+pub record IsDeselected (name : List ℕ) (now : InputsState) : Type 0 where
   pub asked : IfSome now.asked (λ kept. kept ≡ name)
   pub selected : now.selected ≡ false
 
 -- an input of one of these names failed: it was the last that was asked for, and the count of faults rose
 pub record FailsAmong (names : List (List ℕ)) (old new : InputsState) (name : List ℕ) : Type 0 where
   pub among : Among names name
-  pub over : IsOver name new
+  pub deselected : IsDeselected name new
   pub risen : HasRisen old.faults new.faults
 
 -- an input of one of these names was missing, by the count of absences
 pub record LacksAmong (names : List (List ℕ)) (old new : InputsState) (name : List ℕ) : Type 0 where
   pub among : Among names name
-  pub over : IsOver name new
+  pub deselected : IsDeselected name new
   pub risen : HasRisen old.absences new.absences
 
 -- a step over inputs: the names that it may ask for, and what the inputs had come to before and after it
@@ -61,7 +60,7 @@ DueBy (Some known) mishap Due event = Due (with_mishap mishap known) (Err event)
 pub record IsOfMishap (A : Type 0) (known : Option Known) (Came : Mishap → Type 0) (Due : Known → Result A Event → Type 0) (event : Event) : Type 0 where
   pub mishap : Mishap
   pub came : Came mishap
-  pub is : mishap_event mishap ≡ event
+  pub reports : mishap_event mishap ≡ event
   pub due : DueBy known mishap Due event
 
 -- an event that may come whatever the contents are: want of memory, or that of a mishap
@@ -136,12 +135,12 @@ IsOneUnplayed names event = (event ≡ no_memory) ⊎ ((name : List ℕ) × (Amo
 
 -- a step reads an input whole, of at most `limit` bytes
 abbrev pub ReadsWhole : InputsState → InputsState → ℕ → List ℕ → Result (List ℕ) Event → Type 0
-ReadsWhole old new limit name got = AnswersAs (step_over (name ∷ []) old new) (λ known. whole_in known limit name) got
+ReadsWhole old new limit name got = AnswersAs (step_over (name ∷ []) old new) (λ known. whole_known known limit name) got
 
 -- a step reads a stream of at most `limit` bytes, and keeps its data
 abbrev pub ReadsStream : InputsState → InputsState → ℕ → List ℕ → Result StreamRead Event → Type 0
-ReadsStream old new limit name got = AnswersAs (step_over (name ∷ []) old new) (λ known. read_of known limit name) got
+ReadsStream old new limit name got = AnswersAs (step_over (name ∷ []) old new) (λ known. stream_known known limit name) got
 
 -- a step reads the data of streams, one after the other
 abbrev pub ReadsStreams : InputsState → InputsState → List (List ℕ) → Result (List ℕ) Event → Type 0
-ReadsStreams old new names got = AnswersAs (step_over names old new) (λ known. data_of known stream_limit names) got
+ReadsStreams old new names got = AnswersAs (step_over names old new) (λ known. streams_known known stream_limit names) got

@@ -14,16 +14,16 @@ const START: &[u8] = b"x7: bad part ";
 fn say_number<'x, E: Sink>(
     err: &mut E,
     name: &'x str,
-    kind: &'x [u8],
+    label: &'x [u8],
     number: u32,
 ) -> Result<(), Failed>
-    ensures { PutsOrFails (E.state err.old) (codes "x7: bad part " ++ (name.now ++ (kind.now ++ (decimal number ++ codes "\n")))) (E.state err.new) }
+    ensures { PutsOrFails (E.state err.old) (codes "x7: bad part " ++ (name.now ++ (label.now ++ (decimal number ++ codes "\n")))) (E.state err.new) }
 {
     let mut buffer = Buffer::new();
     let digits = buffer.format(number);
     write_pieces(
         err,
-        &[START, name.as_bytes(), kind, digits.as_bytes(), b"\n"],
+        &[START, name.as_bytes(), label, digits.as_bytes(), b"\n"],
     )
 }
 
@@ -31,11 +31,11 @@ fn say_number<'x, E: Sink>(
 fn say_key_in_row<'x, E: Sink>(
     err: &mut E,
     name: &'x str,
-    kind: &'x [u8],
+    label: &'x [u8],
     key: &'x str,
     row: u32,
 ) -> Result<(), Failed>
-    ensures { PutsOrFails (E.state err.old) (codes "x7: bad part " ++ (name.now ++ (kind.now ++ (key.now ++ (codes " in row " ++ (decimal row ++ codes "\n")))))) (E.state err.new) }
+    ensures { PutsOrFails (E.state err.old) (codes "x7: bad part " ++ (name.now ++ (label.now ++ (key.now ++ (codes " in row " ++ (decimal row ++ codes "\n")))))) (E.state err.new) }
 {
     let mut buffer = Buffer::new();
     let digits = buffer.format(row);
@@ -44,7 +44,7 @@ fn say_key_in_row<'x, E: Sink>(
         &[
             START,
             name.as_bytes(),
-            kind,
+            label,
             key.as_bytes(),
             b" in row ",
             digits.as_bytes(),
@@ -57,21 +57,21 @@ fn say_key_in_row<'x, E: Sink>(
 fn say_top_key<'x, E: Sink>(
     err: &mut E,
     name: &'x str,
-    kind: &'x [u8],
+    label: &'x [u8],
     key: &'x str,
 ) -> Result<(), Failed>
-    ensures { PutsOrFails (E.state err.old) (codes "x7: bad part " ++ (name.now ++ (kind.now ++ (key.now ++ codes "\n")))) (E.state err.new) }
+    ensures { PutsOrFails (E.state err.old) (codes "x7: bad part " ++ (name.now ++ (label.now ++ (key.now ++ codes "\n")))) (E.state err.new) }
 {
-    write_pieces(err, &[START, name.as_bytes(), kind, key.as_bytes(), b"\n"])
+    write_pieces(err, &[START, name.as_bytes(), label, key.as_bytes(), b"\n"])
 }
 
 /// Writes the line of a fault that names a key.
-fn say_key<E: Sink>(err: &mut E, name: &str, kind: &[u8], which: Which) -> Result<(), Failed>
-    ensures { PutsOrFails (E.state err.old) (codes "x7: bad part " ++ (name.now ++ (kind.now ++ (which_text which ++ codes "\n")))) (E.state err.new) }
+fn say_key<E: Sink>(err: &mut E, name: &str, label: &[u8], which: Which) -> Result<(), Failed>
+    ensures { PutsOrFails (E.state err.old) (codes "x7: bad part " ++ (name.now ++ (label.now ++ (which_text which ++ codes "\n")))) (E.state err.new) }
 {
     match which.row {
-        Some(row) => say_key_in_row(err, name, kind, which.key.name(), row),
-        None => say_top_key(err, name, kind, which.key.name()),
+        Some(row) => say_key_in_row(err, name, label, which.key.name(), row),
+        None => say_top_key(err, name, label, which.key.name()),
     }
 }
 

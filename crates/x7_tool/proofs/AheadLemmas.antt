@@ -210,7 +210,7 @@ module _ (contents : Option (List ℕ → Option (List ℕ))) (stream : List ℕ
   without_prefix_near m n name event e s a few l (inr (inl h)) =
       as_event n.given event (reading_failed name) h.0 (prefix_unjudged contents stream name m n s a h.3, prefix_given contents stream n.given old new (omega (arith, a.given, few)) l)
   without_prefix_near m n name event e s a few l (inr (inr h)) =
-      as_event n.given event (bad_input name (input.Byte h.place)) h.is (subst (λ (r : Option (List ℕ)). SoonBy contents stream r) e (bad_soon contents stream name m n event s h))
+      as_event n.given event (bad_input name (input.Byte h.place)) h.reports (subst (λ (r : Option (List ℕ)). SoonBy contents stream r) e (bad_soon contents stream name m n event s h))
 
   pub unread_near : (s n : InputsState) (name taken : List ℕ) (l : ListerState) (left : ℕ) (event : Event) → n.rest ≡ rest → RestIsWhole contents stream (preceded taken s.rest) → (t : ListsStream l old new taken)
       → n.given ≤ length taken + turn_bytes → (event ≡ too_large name → left < turn_bytes) → Longer new new → Unread s name n left event → StaysBy (status_of_event event) contents stream n.given rest old new

@@ -8,7 +8,7 @@ use Rattle.x7_forms.specs.declared.status.Status.{Status}
 use Rattle.x7_forms.specs.Event.{Event, event_line, status_of_event, usage}
 use Rattle.x7_forms.specs.Form.{AskedForm, Unused, flash_use, listed_by, updated_by}
 use Rattle.x7_forms.specs.Known.{Answer}
-use Rattle.x7_forms.specs.Message.{text_status}
+use Rattle.x7_forms.specs.Status.{text_status}
 use Rattle.x7_tool.specs.Leaving.{UsesFlash}
 use Rattle.x7_tool.specs.Outside.{Outside, sources}
 use Rattle.x7_tool.specs.Run.{Answered, AnswersOver, JudgesFlash, MakesReady, MakesReadyFrom, Puts}

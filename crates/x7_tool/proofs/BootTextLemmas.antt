@@ -16,8 +16,7 @@ use Rattle.x7_boot.specs.declared.fault.BootFault.{BootFault}
 use Rattle.x7_boot.specs.declared.fault.BootFault.TheVariants as boot_fault
 use Rattle.x7_boot.specs.Text.{boot_lines}
 use Rattle.x7_tool.specs.Boot.{boot_text}
-use Rattle.x7_forms.specs.Event.{Event, no_memory, too_large}
-use Rattle.x7_forms.specs.Message.{event_of}
+use Rattle.x7_forms.specs.Event.{Event, event_of, no_memory, too_large}
 use Rattle.x7_boot.specs.Image.{flash_limit}
 use Rattle.x7_forms.specs.Known.{Answer, flash_found}
 use Rattle.x7_tool.specs.Outcome.{IsBootText, FlashBoots, boot_event, has_failed}

@@ -10,9 +10,8 @@ use Rattle.x7_engine.specs.Standing.{DeviceState}
 use Rattle.x7_engine.specs.State.{why_of, memory_in, reads_of, state_of, stop_in}
 use Rattle.x7_engine.specs.Stop.{stop_fault}
 use Rattle.x7_report.specs.Reports.{PlayTextState, report_text}
-use Rattle.x7_forms.specs.Event.{Event, no_memory, too_many_reads}
+use Rattle.x7_forms.specs.Event.{Event, event_of, no_memory, too_many_reads}
 use Rattle.x7_forms.specs.Known.{Answer, reads_limit}
-use Rattle.x7_forms.specs.Message.{event_of}
 use Rattle.x7_playing.specs.Playing.{HasPlayed, IsPlayed}
 use Rattle.x7_forms.specs.Step.{IsDecided, IsPossible, seen}
 use Rattle.x7_playing.specs.declared.player.Player.{Player}
@@ -29,7 +28,7 @@ pub reported_is : (part : PartData) (bytes : List ℕ) (d : DeviceState) (reads 
     → text ≡ report_text part (state_of part on_the_bench false p.prefix) reads (memory_in part on_the_bench p.prefix) → reported part bytes ≡ Ok (record { stopped = stopped; text = text })
 unfolding reported
 reported_is part bytes d reads text fault stopped p f s t =
-    let few : length (reads_of part on_the_bench bytes) ≤ reads_limit = subst (λ x. length x ≤ reads_limit) p.reads_are p.few in
+    let few : length (reads_of part on_the_bench bytes) ≤ reads_limit = subst (λ x. length x ≤ reads_limit) p.reads_are p.within_limit in
     let short : nat_lt reads_limit (length (reads_of part on_the_bench bytes)) ≡ false = grind (arith, few, nat_tests) in
     let stop : is_some (stop_fault (why_of (stop_in part on_the_bench bytes))) ≡ stopped = ap (λ x. is_some (stop_fault (why_of x))) p.stop ∙ sym (ap is_some f) ∙ sym s in
     let memory : FrameMap = memory_in part on_the_bench bytes in

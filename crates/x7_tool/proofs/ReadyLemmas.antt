@@ -16,9 +16,8 @@ use Rattle.x7_report.specs.Reports.{PlayTextState}
 use Rattle.x7_forms.specs.declared.bad_input.InputFault.{InputFault}
 use Rattle.x7_forms.specs.declared.bad_input.InputFault.TheVariants as input
 use Rattle.x7_forms.specs.declared.refusal.Refusal.{Refusal}
-use Rattle.x7_forms.specs.Event.{Event, bad_input, no_memory}
+use Rattle.x7_forms.specs.Event.{Event, bad_input, event_of, no_memory}
 use Rattle.x7_forms.specs.Known.{Answer, and_so}
-use Rattle.x7_forms.specs.Message.{event_of}
 use Rattle.x7_forms.specs.Step.{IsDecided, IsPossible, seen}
 use Rattle.x7_forms.proofs.ReadLemmas.{Steady, so_steady, work_steady}
 use Rattle.x7_tool.specs.declared.text.Text.{Text}

@@ -17,8 +17,8 @@ use Rattle.x7_forms.specs.declared.status.Status.{Status}
 use Rattle.x7_forms.specs.declared.status.Status.TheVariants as status
 use Rattle.x7_forms.specs.Event.{Event, Cause, Wording, Want, Fault, Absence, Break, Contents, Difference, cause_of_event, no_memory, status_of_event, usage, writing_failed}
 use Rattle.x7_forms.specs.Form.{AskedForm, Assembling, FlashUse, FromMcs, Unused, flash_use, listed_by, names_used, updated_by}
-use Rattle.x7_forms.specs.Message.{final_status, text_status}
-use Rattle.x7_forms.specs.Known.{Answer, Failing, Known, Lacking, Mishap, mishap_event, and_so, found, known_of, taken_whole, whole_in, with_inputs, within}
+use Rattle.x7_forms.specs.Status.{final_status, text_status}
+use Rattle.x7_forms.specs.Known.{Answer, Failing, Known, Lacking, Mishap, mishap_event, and_so, input_found, known_of, taken_whole, whole_known, with_inputs, if_within}
 use Rattle.x7_forms.specs.Step.{Among, DecidedBy, IsCausedBy, IsDue, IsFromOutside, PossibleBy}
 use Rattle.x7_tool.specs.Ahead.{StaysNear, StaysNearIn}
 use Rattle.x7_tool.specs.Leaving.{Updates}
@@ -89,7 +89,7 @@ mishap_cause (Lacking name) form old new event e h = subst (λ (c : Cause). Caus
 
 outside_cause : (form : AskedForm) (old new : Outside) (event : Event) → IsFromOutside {A = Answer} (known_in old) (Came (Some form) old new) (λ t end. FormGives t form end) (Err event) → CausedBy (cause_of_event event) form old new event
 outside_cause form old new event (inl e) = subst (λ (x : Event). CausedBy (cause_of_event x) form old new x) (sym e) refl
-outside_cause form old new event (inr h) = mishap_cause h.mishap form old new event h.is h
+outside_cause form old new event (inr h) = mishap_cause h.mishap form old new event h.reports h
 
 known_cause : (cause : Cause) (known : Known) (form : AskedForm) (old new : Outside) (event : Event) → known_in old ≡ Some known → DecidedBy cause → FormGives known form (Err event) → CausedBy cause form old new event
 known_cause Absence known form old new event k d h = inr (rw k h)
@@ -115,7 +115,7 @@ has_cause form old new got (inr h) = due_cause (known_in old) form old new got r
 -- ---- texts that lead back
 
 -- a text within its limit
-within_limit : (name text : List ℕ) (limit : ℕ) → length text ≤ limit → within name limit text ≡ Ok text
+within_limit : (name text : List ℕ) (limit : ℕ) → length text ≤ limit → if_within name limit text ≡ Ok text
 within_limit name text limit h = let short : nat_lt limit (length text) ≡ false = grind (arith, h, nat_tests) in rw short refl
 
 asm_back : (name text bytes : List ℕ) (end : Result Answer Event) → IsAsm text (Ok bytes) → AssembledAs name (Ok text) end → end ≡ Ok (record { stopped = false; text = bytes })
@@ -138,13 +138,13 @@ form_back : (form : AskedForm) (old new : Outside) (s : Status) (end : Result An
 form_back (Assembling name) old new s end outcome = λ bytes text fits short listed has quiet.
     let known : Known = known_of has.0 old.flash.bytes in
     let is : known_in old ≡ Some known = ap (λ (i : Option (List ℕ → Option (List ℕ))). with_inputs i old.flash.bytes) has.1.0 in
-    let whole : whole_in known text_limit name ≡ Ok text = ap (λ (i : Option (List ℕ)). taken_whole name text_limit (found i)) has.1.1 ∙ within_limit name text text_limit (omega (arith, short, stream_short bytes text fits listed)) in
+    let whole : whole_known known text_limit name ≡ Ok text = ap (λ (i : Option (List ℕ)). taken_whole name text_limit (input_found i)) has.1.1 ∙ within_limit name text text_limit (omega (arith, short, stream_short bytes text fits listed)) in
     leads_back s (Assembling name) known end (Ok (record { stopped = false; text = bytes })) (outcome known is quiet)
     (λ h. asm_back name text bytes end (stream_back bytes text fits short listed) (subst (λ (r : Result (List ℕ) Event). AssembledAs name r end) whole h))
 form_back (FromMcs name) old new s end outcome = λ bytes fits short has quiet.
     let known : Known = known_of has.0 old.flash.bytes in
     let is : known_in old ≡ Some known = ap (λ (i : Option (List ℕ → Option (List ℕ))). with_inputs i old.flash.bytes) has.1.0 in
-    let whole : whole_in known text_limit name ≡ Ok (mcs_text bytes) = ap (λ (i : Option (List ℕ)). taken_whole name text_limit (found i)) has.1.1 ∙ within_limit name (mcs_text bytes) text_limit (omega (arith, short, text_short bytes)) in
+    let whole : whole_known known text_limit name ≡ Ok (mcs_text bytes) = ap (λ (i : Option (List ℕ)). taken_whole name text_limit (input_found i)) has.1.1 ∙ within_limit name (mcs_text bytes) text_limit (omega (arith, short, text_short bytes)) in
     leads_back s (FromMcs name) known end (Ok (record { stopped = false; text = bytes })) (outcome known is quiet)
     (λ h. mcs_back name (mcs_text bytes) bytes end (text_gives bytes fits short) (sym (ap (λ (r : Result (List ℕ) Event). and_so r (λ text. mcs_image name (mcs_of text))) whole) ∙ h))
 form_back form old new s end outcome = tt
@@ -209,7 +209,7 @@ leaves_all form cause old new event l n e = subst (λ (s : Option (List ℕ)). L
 
 outside_by : (known : Option Known) (C : Mishap → Type 0) (Due : Known → Result Answer Event → Type 0) (event : Event) → IsFromOutside {A = Answer} known C Due (Err event) → cause_of_event event ≡ Break → ⊥
 outside_by known C Due event (inl e) b = let c : Want ≡ Break = sym (ap cause_of_event e) ∙ b in absurd (cc)
-outside_by known C Due event (inr h) b = by h.mishap h.is
+outside_by known C Due event (inr h) b = by h.mishap h.reports
   where
     by : (m : Mishap) → mishap_event m ≡ event → ⊥
     by (Failing name given) e = let c : Fault ≡ Break = ap cause_of_event e ∙ b in absurd (cc)

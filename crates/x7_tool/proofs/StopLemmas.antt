@@ -7,13 +7,12 @@ use Rattle.x7_words.specs.Flash.{FlashState}
 use Rattle.x7_words.specs.Sink.{SinkState}
 use Rattle.x7_part.specs.Part.{PartData}
 use Rattle.x7_forms.specs.declared.refusal.Refusal.{Refusal}
-use Rattle.x7_forms.specs.Event.{Absence, Break, Cause, Contents, Difference, Event, Fault, Want, Wording, bad_input, cause_of_event, differs, missing, no_memory, reading_failed, too_large, too_many_reads, writing_failed}
+use Rattle.x7_forms.specs.Event.{Absence, Break, Cause, Contents, Difference, Event, Fault, Want, Wording, bad_input, cause_of_event, differs, event_of, missing, no_memory, reading_failed, too_large, too_many_reads, writing_failed}
 use Rattle.x7_forms.specs.declared.bad_input.InputFault.TheVariants as input
 use Rattle.x7_forms.specs.declared.refusal.Why.{Why}
 use Rattle.x7_forms.specs.declared.refusal.Why.TheVariants as why
 use Rattle.x7_forms.specs.Form.{AskedForm, Booting, Playing, Unused, UpdatingFlash, flash_names, flash_use}
 use Rattle.x7_forms.specs.Known.{Answer, part_limit, stream_limit}
-use Rattle.x7_forms.specs.Message.{event_of}
 use Rattle.x7_forms.specs.Step.{Among, seen}
 use Rattle.x7_forms.specs.ReadingStops.{IsAbout, Limited, StopsAmong, limited, limited_together}
 use Rattle.x7_forms.specs.Turn.{StandsAt}

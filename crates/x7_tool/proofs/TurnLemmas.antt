@@ -14,7 +14,7 @@ use Rattle.x7_words.proofs.ListLemmas.{all_append, all_back}
 use Rattle.x7_forms.specs.Step.{CameIn, step_over}
 use Rattle.x7_words.proofs.InputLemmas.{preceded_preceded}
 use Rattle.x7_forms.specs.Event.{Event, reading_failed, too_large, writing_failed}
-use Rattle.x7_forms.specs.Known.{Mishap, found, stream_limit, with_inputs}
+use Rattle.x7_forms.specs.Known.{Mishap, input_found, stream_limit, with_inputs}
 use Rattle.x7_tool.specs.Run.{ListsSoFar}
 use Rattle.x7_tool.specs.Between.{Lists, ListsStream}
 use Rattle.x7_forms.specs.Turn.{IsAt, FollowsUnlessLast, Unread}
@@ -185,7 +185,7 @@ end_failed None flash C stream taken rest Full old now s e f p = (refl, f, (p.0,
 end_failed (Some inputs) flash C stream taken rest Full old now s e f p =
     let all = known_all inputs stream taken rest s in
     let none : all.0 ≡ [] = let end = rw all.1.0 at e in end in
-    (refl, f, (taken, (ap found (all.1.1 ∙ ap (λ t. Some (taken ++ t)) none ∙ ap Some (append-nil taken)), λ fits. p)))
+    (refl, f, (taken, (ap input_found (all.1.1 ∙ ap (λ t. Some (taken ++ t)) none ∙ ap Some (append-nil taken)), λ fits. p)))
 
 -- a turn that could not be read
 pub unread_end : (s m n : InputsState) (flash : Option (List ℕ)) (stream taken : List ℕ) (l : ListerState) (left : ℕ) (Full : Type 0) (old now : Option (List ℕ)) (event : Event)

@@ -22,7 +22,7 @@ use Rattle.x7_forms.specs.declared.refusal.Why.{Why}
 use Rattle.x7_forms.specs.declared.refusal.Why.TheVariants as why
 use Rattle.x7_forms.specs.Event.{Event, bad_input, cause_of_event, differs, no_memory, reading_failed, status_of_event, too_large, writing_failed}
 use Rattle.x7_forms.specs.Form.{AskedForm, UpdatingFlash, names_of}
-use Rattle.x7_forms.specs.Message.{text_status}
+use Rattle.x7_forms.specs.Status.{text_status}
 use Rattle.x7_forms.specs.Known.{Absent, Answer, Failing, Found, Known, Lacking, Mishap, flash_found, mishap_event, spoiled, spoiled_name, with_inputs, with_mishap}
 use Rattle.x7_forms.specs.Step.{Among, CameIn, DueBy, IsCaused, IsDecided, IsDue, IsPossible, IsUnplayed, step_over}
 use Rattle.x7_forms.proofs.ReadLemmas.{name_is, outside_goes}
@@ -145,9 +145,9 @@ fault_measured form n new NoMemory = not_large form new no_memory (λ r. absurd 
 -- a flash that can't be used
 pub unopened_over : (flash stream : List ℕ) (old new : Outside) (event : Event) → IsUnopened flash old.flash new.flash event → AnswersOver (UpdatingFlash flash stream) old new (Err event)
 unopened_over flash stream old new event (inl (inl h, d)) =
-    subst (λ (e : Event). AnswersOver (UpdatingFlash flash stream) old new (Err e)) (sym h.0) (inl (inr (record { mishap = Lacking flash; came = inr h.1; is = refl; due = flash_due (known_in old) (Lacking flash) flash stream refl })))
+    subst (λ (e : Event). AnswersOver (UpdatingFlash flash stream) old new (Err e)) (sym h.0) (inl (inr (record { mishap = Lacking flash; came = inr h.1; reports = refl; due = flash_due (known_in old) (Lacking flash) flash stream refl })))
 unopened_over flash stream old new event (inl (inr h, d)) =
-    subst (λ (e : Event). AnswersOver (UpdatingFlash flash stream) old new (Err e)) (sym h.0) (inl (inr (record { mishap = Failing flash new.inputs.given; came = (refl, inr h.1); is = refl; due = flash_due (known_in old) (Failing flash new.inputs.given) flash stream refl })))
+    subst (λ (e : Event). AnswersOver (UpdatingFlash flash stream) old new (Err e)) (sym h.0) (inl (inr (record { mishap = Failing flash new.inputs.given; came = (refl, inr h.1); reports = refl; due = flash_due (known_in old) (Failing flash new.inputs.given) flash stream refl })))
 unopened_over flash stream old new event (inr h) =
     subst (λ (e : Event). AnswersOver (UpdatingFlash flash stream) old new (Err e)) (sym h.0) (update_over flash stream old new (Err (too_large flash)) (tt, tt) (λ t e. inl (h.2, refl)))
 
@@ -244,7 +244,7 @@ fault_ends flash stream bytes old new (Failed true) out asked within has reads s
     record { cause = (refl, inr (h.0, size, could_end flash stream bytes old within has h.2)); last = fault_last flash stream bytes old.inputs new.flash (Failed true) reads size; wrote = out_same old new out; near = near_all (UpdatingFlash flash stream) (status_of_event writing_failed) old new refl; measured = fault_measured (Some (UpdatingFlash flash stream)) (names flash stream) new.flash (Failed true); updates = tt }
 fault_ends flash stream bytes old new (Failed false) out asked within has reads size h early =
     refused_ends flash stream old new (reading_failed flash) out (fault_measured (Some (UpdatingFlash flash stream)) (names flash stream) new.flash (Failed false)) (fault_last flash stream bytes old.inputs new.flash (Failed false) reads size)
-    (inl (inr (record { mishap = Failing flash new.inputs.given; came = (refl, inr (record { among = inl refl; asked = asked; risen = h.0 })); is = refl; due = flash_due (known_in old) (Failing flash new.inputs.given) flash stream refl }))) (inl h.0)
+    (inl (inr (record { mishap = Failing flash new.inputs.given; came = (refl, inr (record { among = inl refl; asked = asked; risen = h.0 })); reports = refl; due = flash_due (known_in old) (Failing flash new.inputs.given) flash stream refl }))) (inl h.0)
 fault_ends flash stream bytes old new TooLong out asked within has reads size h early =
     refused_ends flash stream old new (bad_input stream input.Long) out (fault_measured (Some (UpdatingFlash flash stream)) (names flash stream) new.flash TooLong) (fault_last flash stream bytes old.inputs new.flash TooLong reads size)
     (update_over flash stream old new (Err (bad_input stream input.Long)) (tt, tt) (λ t e. fault_known (names flash stream) old.flash.bytes (stream_data t stream) bytes TooLong within (data_at (known_in old) stream bytes has t e) h)) (early tt)

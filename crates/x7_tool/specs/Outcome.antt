@@ -56,7 +56,7 @@ use Rattle.x7_forms.specs.declared.bad_input.InputFault.TheVariants as input
 use Rattle.x7_forms.specs.Event.{Event, bad_input, differs, missing, no_memory, reading_failed, too_large, usage, writing_failed}
 use Rattle.x7_forms.specs.Form.{AskedForm, Assembling, Booting, Debugging, FromMcs, Imaging, ImagingFor, Listing, PlanningFull, PlanningRead, Playing, PlayingSvf, ToMcs, PlanningPartial, Generating, UpdatingFlash}
 use Rattle.x7_tool.specs.Boot.{boot_text}
-use Rattle.x7_forms.specs.Known.{Absent, Answer, Broken, Found, Held, Known, and_so, data_in, part_of, stream_limit, whole_in, within}
+use Rattle.x7_forms.specs.Known.{Absent, Answer, Broken, Found, Held, Known, and_so, data_in, part_known, stream_limit, whole_known, if_within}
 use Rattle.x7_tool.specs.Play.{played}
 
 -- a listing, or the event of a header that is refused
@@ -66,13 +66,13 @@ text_by name (Err place) = Err (bad_input name (input.Byte place))
 
 -- the listing of a stream's bytes: its header is judged as soon as its bytes are read, and its length after it
 abbrev pub listed_bytes : List ℕ → List ℕ → Result Answer Event
-listed_bytes stream bytes = and_so (text_by stream (stream_listing bytes)) (λ text. and_so (within stream stream_limit bytes) (λ _. Ok (record { stopped = false; text = text })))
+listed_bytes stream bytes = and_so (text_by stream (stream_listing bytes)) (λ text. and_so (if_within stream stream_limit bytes) (λ _. Ok (record { stopped = false; text = text })))
 
 -- the listing of what is found: a stream may be over its limit before it fails
 abbrev pub listed_found : List ℕ → Found → Result Answer Event
 listed_found stream (Held bytes) = listed_bytes stream bytes
 listed_found stream Absent = Err (missing stream)
-listed_found stream (Broken bytes) = and_so (within stream stream_limit bytes) (λ _. Err (reading_failed stream))
+listed_found stream (Broken bytes) = and_so (if_within stream stream_limit bytes) (λ _. Err (reading_failed stream))
 
 -- `list STREAM`: the listing of the stream, its header's line first
 abbrev pub listed : Known → List ℕ → Result Answer Event
@@ -102,7 +102,7 @@ AssembledAs name (Ok text) (Err event) = (fault : AsmFault) × (IsAsm text (Err 
 
 -- `mcs IMAGE`: the flash text of an image
 abbrev pub mcs_written : Known → List ℕ → Result Answer Event
-mcs_written known image = and_so (whole_in known flash_limit image) (λ bytes. Ok (record { stopped = false; text = mcs_text bytes }))
+mcs_written known image = and_so (whole_known known flash_limit image) (λ bytes. Ok (record { stopped = false; text = mcs_text bytes }))
 
 -- the event of a flash text that gives no flash
 abbrev pub mcs_event : List ℕ → McsFault → Event
@@ -120,7 +120,7 @@ mcs_image name (Err fault) = Err (mcs_event name fault)
 
 -- `unmcs TEXT`: the flash image of a flash text
 abbrev pub mcs_read : Known → List ℕ → Result Answer Event
-mcs_read known text = and_so (whole_in known text_limit text) (λ bytes. mcs_image text (mcs_of bytes))
+mcs_read known text = and_so (whole_known known text_limit text) (λ bytes. mcs_image text (mcs_of bytes))
 
 -- ---- plans
 
@@ -131,7 +131,7 @@ pub record PlanTexts : Type 0 where
 
 -- the part of a part file, and then the text for it
 abbrev pub plan_texts : Known → List ℕ → List ℕ → Result PlanTexts Event
-plan_texts known part frames = and_so (part_of known part) (λ p. and_so (whole_in known text_limit frames) (λ text. Ok (record { part = p; text = text })))
+plan_texts known part frames = and_so (part_known known part) (λ p. and_so (whole_known known text_limit frames) (λ text. Ok (record { part = p; text = text })))
 
 -- the event of a frames text that gives no plan
 abbrev pub frames_event : List ℕ → FramesFault → Event
@@ -177,13 +177,13 @@ gen_answer part seed = record { stopped = false; text = gen_text part seed }
 
 -- `gen PART SEED` over known inputs: the summary, or why there is no part
 abbrev pub gen_made : Known → List ℕ → ℕ → Result Answer Event
-gen_made known part seed = and_so (part_of known part) (λ p. Ok (gen_answer p seed))
+gen_made known part seed = and_so (part_known known part) (λ p. Ok (gen_answer p seed))
 
 -- ---- streams of a limit of their own
 
 -- the data of a stream that has a limit of its own, which comes before its header
 abbrev pub stream_data : Known → List ℕ → Result (List ℕ) Event
-stream_data known name = and_so (whole_in known stream_limit name) (data_in name)
+stream_data known name = and_so (whole_known known stream_limit name) (data_in name)
 
 -- ---- debug
 
@@ -200,7 +200,7 @@ pub record DebugInputs : Type 0 where
 -- the inputs of a debugging are read in the order of its words
 abbrev pub debug_inputs : Known → List ℕ → List ℕ → List ℕ → Result DebugInputs Event
 debug_inputs known part stream script =
-    and_so (part_of known part) (λ p. and_so (stream_data known stream) (λ bytes. and_so (whole_in known script_limit script) (λ text. Ok (record { part = p; stream = bytes; script = text }))))
+    and_so (part_known known part) (λ p. and_so (stream_data known stream) (λ bytes. and_so (whole_known known script_limit script) (λ text. Ok (record { part = p; stream = bytes; script = text }))))
 
 -- the event of a text that gives no script
 abbrev pub script_event : List ℕ → ScriptFault → Event
@@ -268,7 +268,7 @@ imaged known golden update = and_so (image_streams known golden update) (image_b
 
 -- `image PART GOLDEN UPDATE`: the flash image of both streams' data for a part, by its start unit
 abbrev pub imaged_for : Known → List ℕ → List ℕ → List ℕ → Result Answer Event
-imaged_for known part golden update = and_so (part_of known part) (λ p. and_so (image_streams known golden update) (image_by update p.start_unit))
+imaged_for known part golden update = and_so (part_known known part) (λ p. and_so (image_streams known golden update) (image_by update p.start_unit))
 
 -- ---- boots
 
@@ -364,18 +364,18 @@ UpdatedAs known names end = FlashUpdates names (known.flash names.flash) (stream
 abbrev pub FormGives : Known → AskedForm → Result Answer Event → Type 0
 FormGives known (Listing stream) end = listed known stream ≡ end
 FormGives known (Playing part streams) end = played known part streams ≡ end
-FormGives known (Assembling text) end = AssembledAs text (whole_in known text_limit text) end
+FormGives known (Assembling text) end = AssembledAs text (whole_known known text_limit text) end
 FormGives known (ToMcs image) end = mcs_written known image ≡ end
 FormGives known (FromMcs text) end = mcs_read known text ≡ end
 FormGives known (PlanningFull part frames) end = PlannedFull frames (plan_texts known part frames) end
 FormGives known (PlanningPartial part frames) end = PlannedPartial frames (plan_texts known part frames) end
-FormGives known (PlanningRead part far n) end = PlannedRead part far n (part_of known part) end
+FormGives known (PlanningRead part far n) end = PlannedRead part far n (part_known known part) end
 FormGives known (Generating part seed) end = gen_made known part seed ≡ end
 FormGives known (Imaging golden update) end = imaged known golden update ≡ end
 FormGives known (ImagingFor part golden update) end = imaged_for known part golden update ≡ end
 FormGives known (Debugging part stream script) end = DebuggedAs script (debug_inputs known part stream script) end
 FormGives known (PlayingSvf part text) end = PlayedSvf text (plan_texts known part text) end
-FormGives known (Booting part flash) end = BootedAs flash (part_of known part) (known.flash flash) end
+FormGives known (Booting part flash) end = BootedAs flash (part_known known part) (known.flash flash) end
 FormGives known (UpdatingFlash flash stream) end = UpdatedAs known (record { flash = flash; stream = stream }) end
 
 -- the words come to this end: words without a form are a wrong usage

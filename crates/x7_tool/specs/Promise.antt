@@ -24,7 +24,7 @@ use Rattle.x7_effects.specs.Played.{PlaysFull, PlaysPartial, PlaysRead, resting_
 use Rattle.x7_forms.specs.Event.{Event}
 use Rattle.x7_tool.specs.Generate.{generated, planned_summary}
 use Rattle.x7_forms.specs.Form.{AskedForm, Booting, Generating, Imaging, ImagingFor, PlanningFull, PlanningPartial, PlanningRead, Playing, PlayingSvf}
-use Rattle.x7_forms.specs.Known.{Answer, Held, Known, data_of, part_of, stream_limit}
+use Rattle.x7_forms.specs.Known.{Answer, Held, Known, streams_known, part_known, stream_limit}
 use Rattle.x7_tool.specs.Play.{report_of}
 use Rattle.x7_tool.specs.Outcome.{ImageStreams, PlanTexts, image_streams, plan_texts, svf_answer, IsBootText}
 
@@ -50,14 +50,14 @@ pub record PromisesPartial (known : Known) (part frames stream : List ℕ) : Typ
 -- memory and phase stay, and the device is at rest again.
 pub record PromisesRead (known : Known) (part : List ℕ) (far n : ℕ) (stream : List ℕ) : Type 0 where
   pub device : PartData
-  pub read : part_of known part ≡ Ok device
+  pub read : part_known known part ≡ Ok device
   pub plays : (kept : Kept) (bytes : List ℕ) → AreBytes bytes → AtRest device kept bytes → PlaysRead (resting_after device kept bytes) stream far n
 
 -- The text of `gen`: the full stream of the seed's plan, played on a new device, leaves the plan over zeros and ends
 -- startup, and the summary is that of such a play.
 pub record PromisesSummary (known : Known) (part : List ℕ) (seed : ℕ) (text : List ℕ) : Type 0 where
   pub device : PartData
-  pub read : part_of known part ≡ Ok device
+  pub read : part_known known part ≡ Ok device
   pub plays : PlaysFull (resting_after device on_the_bench []) (full_stream device (generated device seed)) (generated device seed)
   pub played : text ≡ planned_summary device seed
 
@@ -65,8 +65,8 @@ pub record PromisesSummary (known : Known) (part : List ℕ) (seed : ℕ) (text 
 pub record PromisesPlayed (known : Known) (part : List ℕ) (streams : List (List ℕ)) (answer : Answer) : Type 0 where
   pub device : PartData
   pub bytes : List ℕ
-  pub read : part_of known part ≡ Ok device
-  pub joined : data_of known stream_limit streams ≡ Ok bytes
+  pub read : part_known known part ≡ Ok device
+  pub joined : streams_known known stream_limit streams ≡ Ok bytes
   pub report : answer ≡ report_of device bytes
   pub checked : AreBytes bytes → 0 < (state_of device on_the_bench false bytes).phase → HasChecked device on_the_bench bytes
 
@@ -92,7 +92,7 @@ pub record PromisesImage (known : Known) (golden update image : List ℕ) : Type
 pub record PromisesImageFor (known : Known) (part golden update image : List ℕ) : Type 0 where
   pub device : PartData
   pub streams : ImageStreams
-  pub part_read : part_of known part ≡ Ok device
+  pub part_read : part_known known part ≡ Ok device
   pub read : image_streams known golden update ≡ Ok streams
   pub boots : (more : List ℕ) → HasStreams device streams.golden streams.update (image ++ more)
 
@@ -121,7 +121,7 @@ pub record BootsFromOpen (o : Opened) (answer : Answer) : Type 0 where
 -- golden stream is one that starts so.
 pub record PromisesStart (known : Known) (part flash : List ℕ) (answer : Answer) : Type 0 where
   pub device : PartData
-  pub read : part_of known part ≡ Ok device
+  pub read : part_known known part ≡ Ok device
   pub starts : (all : List ℕ) → known.flash flash ≡ Some (Held all) → AreBytes all → StartsChecked device all answer
   pub opened : (o : Opened) → HoldsOpen known flash device o → BootsFromOpen o answer
 

@@ -14,7 +14,7 @@ use Rattle.x7_forms.specs.Event.{Event, Cause, Wording, Want, Fault, Absence, Br
 use Rattle.x7_forms.specs.Form.{AskedForm, Listing, UpdatingFlash, flash_names, listed_by, names_of, updated_by}
 use Rattle.x7_forms.specs.Known.{Answer, Held, Known, bytes_found, flash_found, with_inputs}
 use Rattle.x7_part.specs.Part.{PartData}
-use Rattle.x7_forms.specs.Message.{final_status}
+use Rattle.x7_forms.specs.Status.{final_status}
 use Rattle.x7_forms.specs.Step.{Among, AnswersBy, IsCausedBy, IsOfMishap, seen, step_over}
 use Rattle.x7_tool.specs.Ahead.{StaysNear}
 use Rattle.x7_tool.specs.Outcome.{FlashBoots, FormGives, no_text}

@@ -9,7 +9,7 @@ use Rattle.x7_forms.specs.declared.status.Status.{Status}
 use Rattle.x7_forms.specs.declared.status.Status.TheVariants as status
 use Rattle.x7_forms.specs.Event.{Event}
 use Rattle.x7_forms.specs.Form.{AskedForm, Assembling, FromMcs, flash_use, names_of, updated_by}
-use Rattle.x7_forms.specs.Message.{final_status}
+use Rattle.x7_forms.specs.Status.{final_status}
 use Rattle.x7_forms.specs.Known.{Answer, Known, stream_limit}
 use Rattle.x7_tool.specs.Ahead.{StaysNear}
 use Rattle.x7_tool.specs.Leaving.{Updates}

@@ -1,6 +1,6 @@
 //! The command `asm`.
 ghost use Rattle.std.specs.Prelude.{◌≡◌};
-ghost use Rattle.x7_forms.specs.Message.{event_of};
+ghost use Rattle.x7_forms.specs.Event.{event_of};
 ghost use Rattle.x7_tool.specs.Outcome.{asm_event};
 ghost use Rattle.x7_tool.specs.Run.{MakesReady};
 ghost use Rattle.x7_forms.specs.Form.{Assembling};

@@ -2,7 +2,7 @@
 ghost use Rattle.std.specs.Prelude.{◌≡◌, ◌≤◌, IfErr, OnOk, length, true, false};
 ghost use Rattle.x7_words.specs.Flash.{AsksFor, FlashStays, IsSized, IfKnown};
 ghost use Rattle.x7_boot.specs.Image.{flash_limit};
-ghost use Rattle.x7_forms.specs.Message.{event_of};
+ghost use Rattle.x7_forms.specs.Event.{event_of};
 ghost use Rattle.x7_tool.specs.Outside.{ReadsFlash};
 ghost use Rattle.x7_tool.specs.Run.{IsUnattached, IsUnopened};
 

@@ -5,8 +5,7 @@ ghost use Rattle.x7_part.specs.Part.{frame_words};
 ghost use Rattle.x7_memory.specs.Plan.{AreAddressed};
 ghost use Rattle.x7_planner.specs.FullStream.{full_stream};
 ghost use Rattle.x7_planner.specs.FullStreamPieces.{HasGiven, piece_limit};
-ghost use Rattle.x7_forms.specs.Event.{no_memory};
-ghost use Rattle.x7_forms.specs.Message.{event_of};
+ghost use Rattle.x7_forms.specs.Event.{event_of, no_memory};
 ghost use Rattle.x7_tool.specs.FullText.{full_of};
 
 use crate::text::Ready;

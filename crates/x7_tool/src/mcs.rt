@@ -1,6 +1,6 @@
 //! The commands `mcs` and `unmcs`: flash images as Intel HEX texts, and back.
 ghost use Rattle.std.specs.Prelude.{◌≡◌};
-ghost use Rattle.x7_forms.specs.Message.{event_of};
+ghost use Rattle.x7_forms.specs.Event.{event_of};
 ghost use Rattle.x7_tool.specs.Outcome.{mcs_event};
 ghost use Rattle.x7_tool.specs.Run.{MakesReady};
 ghost use Rattle.x7_forms.specs.Form.{FromMcs, ToMcs};

@@ -4,8 +4,7 @@ ghost use Rattle.std.specs.Prelude.{◌≡◌, ◌⊎◌, ◌∷◌, [], ℕ, Li
 ghost use Rattle.x7_words.specs.Input.{AsksFew, InputsStay};
 ghost use Rattle.x7_part.specs.Part.{frame_words};
 ghost use Rattle.x7_frames.specs.FramesText.{IsPlanOf};
-ghost use Rattle.x7_forms.specs.Message.{event_of};
-ghost use Rattle.x7_forms.specs.Event.{no_memory};
+ghost use Rattle.x7_forms.specs.Event.{event_of, no_memory};
 ghost use Rattle.x7_tool.specs.Outcome.{PlannedPartial, PlannedRead, frames_event, planner_event, text_limit};
 ghost use Rattle.x7_forms.specs.Turn.{StandsAt};
 ghost use Rattle.x7_forms.specs.Form.{PlanningFull, PlanningPartial, PlanningRead};

@@ -1,8 +1,7 @@
 //! The command `play`.
 ghost use Rattle.std.specs.Prelude.{◌≡◌, ◌⊎◌, ℕ, List, map, string_bytes, Ok, Err, IfErr, IfOk};
 ghost use Rattle.x7_part.specs.Part.{PartData};
-ghost use Rattle.x7_forms.specs.Event.{no_memory, too_many_reads};
-ghost use Rattle.x7_forms.specs.Message.{event_of};
+ghost use Rattle.x7_forms.specs.Event.{event_of, no_memory, too_many_reads};
 ghost use Rattle.x7_playing.specs.Playing.{HasPlayed};
 ghost use Rattle.x7_forms.specs.Form.{Playing};
 ghost use Rattle.x7_forms.specs.Step.{seen};
@@ -21,7 +20,7 @@ fn text_of<'w>(alloc: Global, player: Player) -> Result<PlayText, Refusal<'w>>
     ensures err { IfErr result (λ r. (event_of r ≡ no_memory)
         ⊎ ((event_of r ≡ too_many_reads) × ((part : PartData) (bytes : List ℕ) → HasPlayed part bytes player → reported part bytes ≡ Err too_many_reads))) }
 {
-    if player.over {
+    if player.is_over {
         return Err(Refusal {
             reason: Why::TooLarge,
             name: "reads",

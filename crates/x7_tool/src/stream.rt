@@ -3,7 +3,7 @@ ghost use Rattle.std.specs.Prelude.{◌≡◌, ◌≤◌, [], ◌∷◌, IfErr, 
 ghost use Rattle.x7_words.specs.Input.{AsksFew, InputsStay};
 ghost use Rattle.x7_tool.specs.Outcome.{stream_data};
 ghost use Rattle.x7_forms.specs.Known.{stream_limit};
-ghost use Rattle.x7_forms.specs.Message.{event_of};
+ghost use Rattle.x7_forms.specs.Event.{event_of};
 ghost use Rattle.x7_forms.specs.Turn.{StandsAt};
 ghost use Rattle.x7_forms.specs.Step.{AnswersAs, IsUnplayed, seen, step_over};
 ghost use Rattle.x7_tool.specs.Stream.{data_from};
@@ -39,7 +39,7 @@ pub(crate) fn read_stream<'w, I: Inputs>(
 }
 
 /// The data of a stream, in the room of its bytes.
-fn data_of(stream: Stream) -> Vec<u8>
+fn into_data(stream: Stream) -> Vec<u8>
     requires { stream.start ≤ length stream.bytes.items }
     ensures { result.items ≡ data_from stream }
 {
@@ -67,5 +67,5 @@ pub(crate) fn read_data<'w, I: Inputs>(
     ensures inputs { InputsStay (I.state inputs.old) (I.state inputs.new) }
 {
     let stream = read_stream(alloc, inputs, name)?;
-    Ok(data_of(stream))
+    Ok(into_data(stream))
 }

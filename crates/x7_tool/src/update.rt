@@ -1,7 +1,7 @@
 //! The command `update`: a flash gets another update stream, and may lose its power at any moment.
 ghost use Rattle.std.specs.Prelude.{◌≡◌, ℕ, List, Some, false};
 ghost use Rattle.x7_forms.specs.Form.{UpdatingFlash};
-ghost use Rattle.x7_forms.specs.Message.{event_of};
+ghost use Rattle.x7_forms.specs.Event.{event_of};
 ghost use Rattle.x7_forms.specs.Step.{seen};
 ghost use Rattle.x7_tool.specs.Leaving.{UsesFlash};
 ghost use Rattle.x7_tool.specs.Outcome.{update_event};

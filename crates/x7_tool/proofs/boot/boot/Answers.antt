@@ -1,6 +1,6 @@
 use Rattle.std.proofs.Common.{[], ◌∷◌, None, Some, inl, refl}
 use Rattle.x7_forms.specs.Form.{Booting}
-use Rattle.x7_forms.specs.Message.{event_of}
+use Rattle.x7_forms.specs.Event.{event_of}
 use Rattle.x7_tool.specs.Play.{text_of_play}
 use Rattle.x7_forms.specs.Step.{CameIn, seen, step_over}
 use Rattle.x7_tool.proofs.FlashLemmas.{boot_last, boot_measured, booted_ends, no_part_last, no_part_measured, part_good, part_refused}
@@ -27,7 +27,7 @@ returns-clause-ready g c =
       stops = boot_stops name part_name part old new first last made c.boot_from.ensures.caused;
       measured = boot_measured (Some (Booting part_name name)) name part first last made c.boot_from.ensures.caused;
       last = boot_last text_of_play name part_name old last c.boot_from.result c.boot_from.ensures.failed (part_good old.contents C name part_name part (c.in_ok-part.ensures.caused None));
-      asks = c.read_part.ensures.once;
+      asks = c.read_part.ensures.asks;
       stays = c.read_part.ensures.inputs;
     }
 
@@ -40,9 +40,9 @@ returns-in_err-part-clause-ready g c = rw (handed_on c.from_residual.result c.in
     let event = event_of c.in_err-part.field-0.0 in
     record {
       caused = λ before after. part_refused (record before { inputs = old; flash = flash }) (record after { inputs = new; flash = flash }) name part_name event (c.in_err-part.ensures.caused flash.bytes);
-      stops = first_stops (Booting part_name name) (limited part_limit part_name) [] old new event refl c.read_part.ensures.stands c.read_part.ensures.once (no_part_about part_name event c.in_err-part.ensures.named);
+      stops = first_stops (Booting part_name name) (limited part_limit part_name) [] old new event refl c.read_part.ensures.stands c.read_part.ensures.asks (no_part_about part_name event c.in_err-part.ensures.named);
       measured = no_part_measured (Some (Booting part_name name)) flash part_name event (inl refl) c.in_err-part.ensures.named;
       last = no_part_last (Booting part_name name) old flash part_name event (inl refl) c.in_err-part.ensures.named;
-      asks = c.read_part.ensures.once;
+      asks = c.read_part.ensures.asks;
       stays = c.read_part.ensures.inputs;
     })

@@ -2,7 +2,7 @@ use Rattle.std.proofs.Common.{◌<◌, rules, arith, ap, inl, inr}
 use Rattle.std.specs.Prelude.{Err}
 use Rattle.x7_words.proofs.FlashLemmas.{unwritten_on}
 use Rattle.x7_boot.specs.Image.{flash_limit}
-use Rattle.x7_forms.specs.Message.{event_of}
+use Rattle.x7_forms.specs.Event.{event_of}
 use Rattle.x7_tool.proofs.FlashLemmas.{reads_on}
 use Rattle.x7_tool.proofs.BootTextLemmas.{text_boots, short_flash, fault_boots}
 use Rattle.x7_forms.proofs.ResultLemmas.{handed_on}

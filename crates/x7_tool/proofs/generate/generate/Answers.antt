@@ -1,8 +1,8 @@
 use Rattle.std.proofs.Common.{Ok, refl, ◌∷◌, []}
 use Rattle.x7_part.specs.Part.{PartData}
 use Rattle.x7_forms.specs.Form.{Generating}
-use Rattle.x7_forms.specs.Known.{Answer, part_limit, part_of}
-use Rattle.x7_forms.specs.Message.{event_of}
+use Rattle.x7_forms.specs.Known.{Answer, part_limit, part_known}
+use Rattle.x7_forms.specs.Event.{event_of}
 use Rattle.x7_forms.specs.ReadingStops.{limited}
 use Rattle.x7_forms.specs.Step.{seen}
 use Rattle.x7_forms.proofs.ReadLemmas.{answers_end, answers_stop, part_steady}
@@ -21,9 +21,9 @@ returns-in_err-part g c = rw (handed_on c.from_residual.result c.in_err-part.fie
     let seed = c.args.seed in
     let event = event_of c.in_err-part.field-0.0 in
     record {
-      caused = answers_stop PartData Answer (name ∷ []) (name ∷ []) old new (λ t. part_of t name) (λ t p. Ok (gen_answer p seed)) event (λ n h. h) c.in_err-part.ensures.caused;
-      stops = first_stops (Generating name seed) (limited part_limit name) [] old new event refl c.read_part.ensures.stands c.read_part.ensures.once (no_part_about name event c.in_err-part.ensures.named);
-      asks = c.read_part.ensures.once;
+      caused = answers_stop PartData Answer (name ∷ []) (name ∷ []) old new (λ t. part_known t name) (λ t p. Ok (gen_answer p seed)) event (λ n h. h) c.in_err-part.ensures.caused;
+      stops = first_stops (Generating name seed) (limited part_limit name) [] old new event refl c.read_part.ensures.stands c.read_part.ensures.asks (no_part_about name event c.in_err-part.ensures.named);
+      asks = c.read_part.ensures.asks;
       stays = c.read_part.ensures.inputs;
     })
 
@@ -36,8 +36,8 @@ returns g c =
     let part = c.in_ok-part.part in
     let made = c.summary_of.result in
     record {
-      caused = answers_end PartData Answer (name ∷ []) old new (λ t. part_of t name) (λ p. Ok (gen_answer p seed)) part (seen text_of_bytes made) (part_steady name) c.in_ok-part.ensures.caused (made_due (gen_answer part seed) made c.summary_of.ensures.ok c.summary_of.ensures.err);
+      caused = answers_end PartData Answer (name ∷ []) old new (λ t. part_known t name) (λ p. Ok (gen_answer p seed)) part (seen text_of_bytes made) (part_steady name) c.in_ok-part.ensures.caused (made_due (gen_answer part seed) made c.summary_of.ensures.ok c.summary_of.ensures.err);
       stops = want_only text_of_bytes (Generating name seed) old new made c.summary_of.ensures.err;
-      asks = c.read_part.ensures.once;
+      asks = c.read_part.ensures.asks;
       stays = c.read_part.ensures.inputs;
     }

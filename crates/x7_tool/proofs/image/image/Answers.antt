@@ -1,7 +1,7 @@
 use Rattle.std.proofs.Common.{refl, ◌∷◌, []}
 use Rattle.x7_forms.specs.Form.{Imaging}
 use Rattle.x7_forms.specs.Known.{Answer, stream_limit}
-use Rattle.x7_forms.specs.Message.{event_of}
+use Rattle.x7_forms.specs.Event.{event_of}
 use Rattle.x7_forms.specs.ReadingStops.{limited}
 use Rattle.x7_forms.specs.Step.{seen}
 use Rattle.x7_forms.proofs.ReadLemmas.{answers_end, answers_stop}

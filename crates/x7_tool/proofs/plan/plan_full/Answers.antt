@@ -1,5 +1,5 @@
 use Rattle.std.proofs.Common.{refl, ◌∷◌, []}
-use Rattle.x7_forms.specs.Message.{event_of}
+use Rattle.x7_forms.specs.Event.{event_of}
 use Rattle.x7_forms.specs.Step.{seen}
 use Rattle.x7_tool.specs.Outcome.{PlannedFull, text_limit}
 use Rattle.x7_tool.specs.FullText.{full_of}
@@ -17,8 +17,8 @@ pub returns-in_err-known : goal.returns-in_err-known
 returns-in_err-known g c = rw (handed_on c.from_residual.result c.in_err-known.field-0.0 c.from_residual.ensures) (let i = g.I.Inputs in
     record {
       caused = part_refused c.args.part.now c.args.frames.now (i.state c.args.inputs.now) (i.state c.read_part.new.inputs) (i.state c.read_part.new.inputs) (PlannedFull c.args.frames.now) (λ x. refl) (event_of c.in_err-known.field-0.0) c.in_err-known.ensures.caused;
-      stops = first_stops (PlanningFull c.args.part.now c.args.frames.now) (limited part_limit c.args.part.now) (limited text_limit c.args.frames.now ∷ []) (g.I.Inputs.state c.args.inputs.now) (g.I.Inputs.state c.read_part.new.inputs) (event_of c.in_err-known.field-0.0) refl c.read_part.ensures.stands c.read_part.ensures.once (no_part_about c.args.part.now (event_of c.in_err-known.field-0.0) c.in_err-known.ensures.named);
-      asks = first_asked c.args.part.now (c.args.frames.now ∷ []) (g.I.Inputs.state c.args.inputs.now) (g.I.Inputs.state c.read_part.new.inputs) c.read_part.ensures.once;
+      stops = first_stops (PlanningFull c.args.part.now c.args.frames.now) (limited part_limit c.args.part.now) (limited text_limit c.args.frames.now ∷ []) (g.I.Inputs.state c.args.inputs.now) (g.I.Inputs.state c.read_part.new.inputs) (event_of c.in_err-known.field-0.0) refl c.read_part.ensures.stands c.read_part.ensures.asks (no_part_about c.args.part.now (event_of c.in_err-known.field-0.0) c.in_err-known.ensures.named);
+      asks = first_asked c.args.part.now (c.args.frames.now ∷ []) (g.I.Inputs.state c.args.inputs.now) (g.I.Inputs.state c.read_part.new.inputs) c.read_part.ensures.asks;
       stays = c.read_part.ensures.inputs;
     })
 
@@ -28,8 +28,8 @@ returns-in_err-plan g c = rw (handed_on c.from_residual-in_err-plan.result c.in_
       caused = plan_refused c.args.part.now c.args.frames.now (i.state c.args.inputs.now) (i.state c.read_part.new.inputs) (i.state c.read_plan.new.inputs) (PlannedFull c.args.frames.now) (λ x. refl) c.in_ok-known.known (event_of c.in_err-plan.field-0.0)
           c.read_part.ensures.inputs c.in_ok-known.ensures.caused (λ text h. h) c.in_err-plan.ensures.caused;
       stops = among_stops (PlanningFull c.args.part.now c.args.frames.now) (g.I.Inputs.state c.args.inputs.now) (g.I.Inputs.state c.read_plan.new.inputs) (event_of c.in_err-plan.field-0.0)
-          (stops_after (limited part_limit c.args.part.now) (limited text_limit c.args.frames.now ∷ []) (g.I.Inputs.state c.args.inputs.now) (g.I.Inputs.state c.read_part.new.inputs) (g.I.Inputs.state c.read_plan.new.inputs) (event_of c.in_err-plan.field-0.0) c.read_part.ensures.once c.in_err-plan.ensures.stops);
-      asks = both_asked (g.I.Inputs.state c.args.inputs.now) (g.I.Inputs.state c.read_part.new.inputs) (g.I.Inputs.state c.read_plan.new.inputs) c.read_part.ensures.once c.read_plan.ensures.asks;
+          (stops_after (limited part_limit c.args.part.now) (limited text_limit c.args.frames.now ∷ []) (g.I.Inputs.state c.args.inputs.now) (g.I.Inputs.state c.read_part.new.inputs) (g.I.Inputs.state c.read_plan.new.inputs) (event_of c.in_err-plan.field-0.0) c.read_part.ensures.asks c.in_err-plan.ensures.stops);
+      asks = both_asked (g.I.Inputs.state c.args.inputs.now) (g.I.Inputs.state c.read_part.new.inputs) (g.I.Inputs.state c.read_plan.new.inputs) c.read_part.ensures.asks c.read_plan.ensures.asks;
       stays = stays_on _ _ _ c.read_part.ensures.inputs c.read_plan.ensures.inputs;
     })
 
@@ -41,7 +41,7 @@ returns g c =
       caused = planned_end c.args.part.now c.args.frames.now (i.state c.args.inputs.now) (i.state c.read_part.new.inputs) (i.state c.read_plan.new.inputs) (PlannedFull c.args.frames.now) (λ x. refl) c.in_ok-known.known t.0 (seen full_of c.new.result)
           c.read_part.ensures.inputs c.in_ok-known.ensures.caused t.1 (full_ended c.args.frames.now c.in_ok-known.known t.0 c.in_ok-plan.plan c.new.result t.2 c.new.ensures.part c.new.ensures.plan c.new.ensures.err);
       stops = want_only full_of (PlanningFull c.args.part.now c.args.frames.now) (g.I.Inputs.state c.args.inputs.now) (g.I.Inputs.state c.read_plan.new.inputs) c.new.result c.new.ensures.err;
-      asks = both_asked (g.I.Inputs.state c.args.inputs.now) (g.I.Inputs.state c.read_part.new.inputs) (g.I.Inputs.state c.read_plan.new.inputs) c.read_part.ensures.once c.read_plan.ensures.asks;
+      asks = both_asked (g.I.Inputs.state c.args.inputs.now) (g.I.Inputs.state c.read_part.new.inputs) (g.I.Inputs.state c.read_plan.new.inputs) c.read_part.ensures.asks c.read_plan.ensures.asks;
       stays = stays_on _ _ _ c.read_part.ensures.inputs c.read_plan.ensures.inputs;
     }
 

@@ -1,7 +1,7 @@
 use Rattle.std.proofs.Common.{[], ◌∷◌, Ok, arith, refl}
 use Rattle.x7_part.specs.Part.{PartData}
-use Rattle.x7_forms.specs.Message.{event_of}
-use Rattle.x7_forms.specs.Known.{and_so, part_of, whole_in, part_limit}
+use Rattle.x7_forms.specs.Event.{event_of}
+use Rattle.x7_forms.specs.Known.{and_so, part_known, whole_known, part_limit}
 use Rattle.x7_forms.proofs.ReadLemmas.{answers_stop, first_of}
 use Rattle.x7_tool.proofs.PlanLemmas.{texts_read, texts_unread}
 use Rattle.x7_tool.specs.Outcome.{PlanTexts, text_limit}
@@ -25,20 +25,20 @@ pub returns-in_err-part-clause-given : goal.returns-in_err-part-clause-given
 returns-in_err-part-clause-given g c = rw (handed_on c.from_residual.result c.in_err-part.field-0.0 c.from_residual.ensures) (let i = g.I.Inputs in
     let part = c.args.part.now in
     let text = c.args.text.now in
-    answers_stop PartData PlanTexts (part ∷ []) (part ∷ text ∷ []) (i.state c.args.inputs.now) (i.state c.read_part.new.inputs) (λ t. part_of t part) (λ t p. and_so (whole_in t text_limit text) (λ bytes. Ok (record { part = p; text = bytes })))
+    answers_stop PartData PlanTexts (part ∷ []) (part ∷ text ∷ []) (i.state c.args.inputs.now) (i.state c.read_part.new.inputs) (λ t. part_known t part) (λ t p. and_so (whole_known t text_limit text) (λ bytes. Ok (record { part = p; text = bytes })))
     (event_of c.in_err-part.field-0.0) (first_of part (text ∷ [])) c.in_err-part.ensures.caused)
 
 pub returns-in_err-part-clause-stops : goal.returns-in_err-part-clause-stops
-returns-in_err-part-clause-stops g c = rw (handed_on c.from_residual.result c.in_err-part.field-0.0 c.from_residual.ensures) (about_among (limited part_limit c.args.part.now ∷ limited text_limit c.args.text.now ∷ []) [] (limited part_limit c.args.part.now) (limited text_limit c.args.text.now ∷ []) (g.I.Inputs.state c.args.inputs.now) (g.I.Inputs.state c.read_part.new.inputs) (event_of c.in_err-part.field-0.0) refl c.read_part.ensures.stands c.read_part.ensures.once (no_part_about c.args.part.now (event_of c.in_err-part.field-0.0) c.in_err-part.ensures.named))
+returns-in_err-part-clause-stops g c = rw (handed_on c.from_residual.result c.in_err-part.field-0.0 c.from_residual.ensures) (about_among (limited part_limit c.args.part.now ∷ limited text_limit c.args.text.now ∷ []) [] (limited part_limit c.args.part.now) (limited text_limit c.args.text.now ∷ []) (g.I.Inputs.state c.args.inputs.now) (g.I.Inputs.state c.read_part.new.inputs) (event_of c.in_err-part.field-0.0) refl c.read_part.ensures.stands c.read_part.ensures.asks (no_part_about c.args.part.now (event_of c.in_err-part.field-0.0) c.in_err-part.ensures.named))
 
 pub returns-in_err-text-clause-stops : goal.returns-in_err-text-clause-stops
-returns-in_err-text-clause-stops g c = rw (handed_on c.from_residual-in_err-text.result c.in_err-text.field-0.0 c.from_residual-in_err-text.ensures) (about_among (limited part_limit c.args.part.now ∷ limited text_limit c.args.text.now ∷ []) (limited part_limit c.args.part.now ∷ []) (limited text_limit c.args.text.now) [] (g.I.Inputs.state c.args.inputs.now) (g.I.Inputs.state c.read_whole.new.inputs) (event_of c.in_err-text.field-0.0) refl c.read_whole.ensures.stands (both_asked (g.I.Inputs.state c.args.inputs.now) (g.I.Inputs.state c.read_part.new.inputs) (g.I.Inputs.state c.read_whole.new.inputs) c.read_part.ensures.once c.read_whole.ensures.once) (unread_about c.args.text.now (event_of c.in_err-text.field-0.0) c.in_err-text.ensures.named))
+returns-in_err-text-clause-stops g c = rw (handed_on c.from_residual-in_err-text.result c.in_err-text.field-0.0 c.from_residual-in_err-text.ensures) (about_among (limited part_limit c.args.part.now ∷ limited text_limit c.args.text.now ∷ []) (limited part_limit c.args.part.now ∷ []) (limited text_limit c.args.text.now) [] (g.I.Inputs.state c.args.inputs.now) (g.I.Inputs.state c.read_whole.new.inputs) (event_of c.in_err-text.field-0.0) refl c.read_whole.ensures.stands (both_asked (g.I.Inputs.state c.args.inputs.now) (g.I.Inputs.state c.read_part.new.inputs) (g.I.Inputs.state c.read_whole.new.inputs) c.read_part.ensures.asks c.read_whole.ensures.asks) (unread_about c.args.text.now (event_of c.in_err-text.field-0.0) c.in_err-text.ensures.named))
 
 pub returns-in_err-part-clause-asks : goal.returns-in_err-part-clause-asks
-returns-in_err-part-clause-asks g c = few_more _ _ 1 2 (omega arith) c.read_part.ensures.once
+returns-in_err-part-clause-asks g c = few_more _ _ 1 2 (omega arith) c.read_part.ensures.asks
 
 pub returns-in_err-text-clause-asks : goal.returns-in_err-text-clause-asks
-returns-in_err-text-clause-asks g c = few_on _ _ _ 1 1 c.read_part.ensures.once c.read_whole.ensures.once
+returns-in_err-text-clause-asks g c = few_on _ _ _ 1 1 c.read_part.ensures.asks c.read_whole.ensures.asks
 
 pub returns-clause-asks : goal.returns-clause-asks
-returns-clause-asks g c = few_on _ _ _ 1 1 c.read_part.ensures.once c.read_whole.ensures.once
+returns-clause-asks g c = few_on _ _ _ 1 1 c.read_part.ensures.asks c.read_whole.ensures.asks

@@ -1,8 +1,7 @@
 use Rattle.std.proofs.Common.{ap, refl, subst, sym, ◌∙◌}
 use Rattle.x7_words.specs.Sink.{PutsOrFails}
-use Rattle.x7_forms.specs.Event.{Event, event_line, status_of_event}
+use Rattle.x7_forms.specs.Event.{Event, event_line, event_of, status_of_event}
 use Rattle.x7_forms.specs.Form.{asked_by, form_asked}
-use Rattle.x7_forms.specs.Message.{event_of}
 use Rattle.x7_tool.specs.Outside.{outside}
 use Rattle.x7_tool.proofs.AnswerLemmas.{ran_done, ran_none, ran_refused, uses_as}
 use Rattle.x7_tool.proofs.FlashLemmas.{uses_same}

@@ -6,10 +6,9 @@ use Rattle.x7_boot.specs.Image.{flash_limit}
 use Rattle.x7_update.specs.After.{IsAfter}
 use Rattle.x7_update.specs.Layout.{HasLayout}
 use Rattle.x7_update.specs.Writing.{BecomesBytes}
-use Rattle.x7_forms.specs.Event.{Event}
+use Rattle.x7_forms.specs.Event.{Event, event_of}
 use Rattle.x7_forms.specs.Form.{UpdatingFlash}
 use Rattle.x7_forms.specs.Known.{with_inputs, stream_limit}
-use Rattle.x7_forms.specs.Message.{event_of}
 use Rattle.x7_forms.specs.Step.{CameIn, step_over}
 use Rattle.x7_tool.specs.Outside.{Outside, sources}
 use Rattle.x7_tool.specs.Run.{EndsAs}
