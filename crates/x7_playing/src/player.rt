@@ -17,7 +17,7 @@ const READS_ROOM: u32 = 4_096;
 /// Appends the words of a buffer to those that were read out before, which have room for them, and says whether all
 /// together are over the limit; then none is appended.
 fn gather(buffer: &mut ReadBuf, reads: &mut Vec<u32>) -> bool
-    requires few { vec_len reads.old ≤ reads_limit }
+    requires within { vec_len reads.old ≤ reads_limit }
     requires most { buffer.old.most ≡ Some reads_room }
     requires room { vec_len reads.old + reads_room ≤ vec_capacity reads.old }
     ensures words { result ≡ false → reads.new.items ≡ reads.old.items ++ buffer.old.words }

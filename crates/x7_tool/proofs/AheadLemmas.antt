@@ -120,7 +120,7 @@ near_by contents stream early late rest old new s few h inputs bytes left before
       early = early;
       late = late;
       split = whole ∙ ap (λ (x : List ℕ). (early ++ late) ++ x) (sym tail) ∙ append_assoc early late left;
-      few = few;
+      not_far = few;
       written = w.0;
       near = omega (arith, ap length whole, ap length tail, length-append (early ++ late) t.0, w.1);
     }
@@ -150,14 +150,14 @@ turn_near contents stream taken piece line content l rest old mid new s close fe
 pub prefix_given : (contents : Option (List ℕ → Option (List ℕ))) (stream : List ℕ) (given : ℕ) (old new : Option (List ℕ)) → given ≤ longest_beginning → Longer old new → GivenBy contents stream given old new
 prefix_given contents stream given old new few l inputs bytes before after c b o n =
     let none : length {A = ℕ} [] ≡ 0 = refl in
-    record { early = []; others = bytes; split = refl; few = omega (arith, none, few); written = nothing_written old new l before after o n }
+    record { early = []; others = bytes; split = refl; not_far = omega (arith, none, few); written = nothing_written old new l before after o n }
 
 pub turn_given : (contents : Option (List ℕ → Option (List ℕ))) (stream taken line content : List ℕ) (given : ℕ) (l : ListerState) (rest old mid new : Option (List ℕ)) → RestIsWhole contents stream (preceded taken rest)
     → given ≤ length taken + turn_bytes → stream_listing taken ≡ Ok (line ++ listing_of content) → Lists l (appended old line) mid content → Longer mid new → GivenBy contents stream given old new
 turn_given contents stream taken line content given l rest old mid new s few e t m inputs bytes before after c b o n =
     let k = known_all inputs stream taken rest (subst (λ (k : Option (List ℕ → Option (List ℕ))). RestIsWhole k stream (preceded taken rest)) c s) in
     let whole : bytes ≡ taken ++ k.0 = let e = k.1.1 in cc in
-    record { early = taken; others = k.0; split = whole; few = omega (arith, few); written = turn_written taken line content l old mid new e t m before after o n }
+    record { early = taken; others = k.0; split = whole; not_far = omega (arith, few); written = turn_written taken line content l old mid new e t m before after o n }
 
 -- ---- what the refusal of a header finds
 

@@ -12,8 +12,7 @@ use Rattle.x7_forms.specs.Status.{text_status}
 use Rattle.x7_tool.specs.Leaving.{UsesFlash}
 use Rattle.x7_tool.specs.Outside.{Outside, sources}
 use Rattle.x7_tool.specs.Run.{Answered, AnswersOver, JudgesFlash, MakesReady, MakesReadyFrom, Puts}
-use Rattle.x7_tool.specs.Runs.{RanAs}
-use Rattle.x7_tool.proofs.RunLemmas.{ready_ends, streamed, text_ends}
+use Rattle.x7_tool.proofs.RunLemmas.{RanAs, ready_ends, streamed, text_ends}
 use Rattle.x7_tool.proofs.StopLemmas.{done_judges, puts_stop, refused_judges, unused_judges}
 
 -- ---- a form

@@ -142,7 +142,7 @@ nothing_listed = raw_listed [] ((raw_at [] (starts_with nat_eq [] fixed_bytes) r
 
 -- nothing was put of any listing
 pub nothing_put : (old : Option (List ℕ)) → ListsSoFar [] old old
-nothing_put old = record { has = (listing_of [], nothing_listed); goes = λ rest text fits e. none_put old text }
+nothing_put old = record { has_listing = (listing_of [], nothing_listed); puts_prefix = λ rest text fits e. none_put old text }
 
 -- the bytes that were taken are a prefix of the input
 prefix_taken : (contents : Option (List ℕ → Option (List ℕ))) (flash : Option (List ℕ)) (name taken : List ℕ) (rest : Option (List ℕ)) → RestIsWhole contents name (preceded taken rest) → IsPrefixOf (with_inputs contents flash) name taken

@@ -227,7 +227,7 @@ pub reads_none : (name : List ℕ) (s : FlashState) → ReadsFlash name s s
 reads_none name s = record { bytes = refl; write_faults = refl; moments = refl; faults = omega arith; absences = omega arith; no_other = λ other h. inl h }
 
 -- a flash that was not used
-kept_same : (u : FlashUse) (s : FlashState) → KeepsFlash u s s
+pub kept_same : (u : FlashUse) (s : FlashState) → KeepsFlash u s s
 kept_same Unused s = refl
 kept_same (Read name) s = reads_none name s
 kept_same (Updated name) s = record { faults = omega arith; absences = omega arith; write_faults = omega arith; no_other = λ other h. inl h }

@@ -16,7 +16,7 @@ use Rattle.x7_playing.specs.Playing.{HasPlayed, IsPlayed}
 use Rattle.x7_forms.specs.Step.{IsDecided, IsPossible, seen}
 use Rattle.x7_playing.specs.declared.player.Player.{Player}
 use Rattle.x7_forms.specs.declared.refusal.Refusal.{Refusal}
-use Rattle.x7_tool.specs.Play.{report_of, reported, text_of_play}
+use Rattle.x7_tool.specs.Play.{report_of, reported, play_answer}
 
 pub reported_over : (part : PartData) (bytes : List ℕ) → reads_limit < length (reads_of part on_the_bench bytes) → reported part bytes ≡ Err too_many_reads
 unfolding reported
@@ -39,9 +39,9 @@ reported_is part bytes d reads text fault stopped p f s t =
     rw short (ap Ok answer)
 
 -- the text of a play, or why there is none
-pub text_ends : (part : PartData) (bytes : List ℕ) (p : Player) (r : Result PlayTextState Refusal) → HasPlayed part bytes p → IfOk r (λ text. (part : PartData) (bytes : List ℕ) → HasPlayed part bytes p → reported part bytes ≡ Ok (text_of_play text))
+pub text_ends : (part : PartData) (bytes : List ℕ) (p : Player) (r : Result PlayTextState Refusal) → HasPlayed part bytes p → IfOk r (λ text. (part : PartData) (bytes : List ℕ) → HasPlayed part bytes p → reported part bytes ≡ Ok (play_answer text))
     → IfErr r (λ x. (event_of x ≡ no_memory) ⊎ ((event_of x ≡ too_many_reads) × ((part : PartData) (bytes : List ℕ) → HasPlayed part bytes p → reported part bytes ≡ Err too_many_reads)))
-    → (seen text_of_play r ≡ Err no_memory) ⊎ (IsPossible (seen text_of_play r) × IsDecided (seen text_of_play r) × (reported part bytes ≡ seen text_of_play r))
+    → (seen play_answer r ≡ Err no_memory) ⊎ (IsPossible (seen play_answer r) × IsDecided (seen play_answer r) × (reported part bytes ≡ seen play_answer r))
 text_ends part bytes p (Ok text) h ok err = inr (tt, tt, ok part bytes h)
 text_ends part bytes p (Err x) h ok (inl e) = inl (ap (λ (event : Event). Err event) e)
 text_ends part bytes p (Err x) h ok (inr (e, many)) = inr (subst (λ (event : Event). IsPossible {A = Answer} (Err event)) (sym e) tt, subst (λ (event : Event). IsDecided {A = Answer} (Err event)) (sym e) tt, many part bytes h ∙ ap (λ (event : Event). Err event) (sym e))

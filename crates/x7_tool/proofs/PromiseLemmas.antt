@@ -35,7 +35,7 @@ use Rattle.x7_forms.specs.Event.{Event, bad_input, too_many_reads}
 use Rattle.x7_forms.specs.Form.{AskedForm, Booting, Generating, Imaging, ImagingFor, PlanningFull, PlanningPartial, PlanningRead, Playing, PlayingSvf}
 use Rattle.x7_forms.specs.Known.{Answer, Found, Held, Known, and_so, streams_known, part_by, part_limit, part_known, reads_limit, stream_limit, whole_known}
 use Rattle.x7_tool.specs.Play.{report_of, reported}
-use Rattle.x7_tool.specs.Outcome.{BootedAs, IsBootText, FlashBoots, FormGives, ImageStreams, PlanTexts, PlannedFull, PlannedPartial, PlannedRead, PlayedSvf, gen_answer, has_failed, image_by, image_streams, plan_texts, text_limit}
+use Rattle.x7_tool.specs.Outcome.{BootedAs, IsBootText, FlashBoots, FormGives, ImageStreams, PartAndText, PlannedFull, PlannedPartial, PlannedRead, PlayedSvf, gen_answer, has_failed, image_by, image_streams, part_and_text, text_limit}
 use Rattle.x7_tool.specs.Promise.{BootsFromOpen, HoldsOpen, PromiseOf, PromisesFull, PromisesImage, PromisesImageFor, PromisesPartial, PromisesPlayed, PromisesPort, PromisesRead, PromisesStart, PromisesSummary, StartsChecked}
 use Rattle.x7_tool.proofs.GenerateLemmas.{generated_plays, planned_is}
 
@@ -57,18 +57,18 @@ part_whole name p (Err event) h = absurd (cc)
 part_is : (known : Known) (name : List ℕ) (p : PartData) → part_known known name ≡ Ok p → IsPart p
 part_is known name p h = part_whole name p (whole_known known part_limit name) h
 
-part_of_texts : (texts : PlanTexts) → PartData
+part_of_texts : (texts : PartAndText) → PartData
 part_of_texts texts = texts.part
 
-texts_by : (part : Result PartData Event) (whole : Result (List ℕ) Event) (texts : PlanTexts) → and_so part (λ p. and_so whole (λ text. Ok (record { part = p; text = text }))) ≡ Ok texts → part ≡ Ok texts.part
+texts_by : (part : Result PartData Event) (whole : Result (List ℕ) Event) (texts : PartAndText) → and_so part (λ p. and_so whole (λ text. Ok (record { part = p; text = text }))) ≡ Ok texts → part ≡ Ok texts.part
 unfolding value_or part_of_texts
-texts_by (Ok p) (Ok text) texts h = ap (λ (r : Result PlanTexts Event). Ok (part_of_texts (value_or texts r))) h
+texts_by (Ok p) (Ok text) texts h = ap (λ (r : Result PartAndText Event). Ok (part_of_texts (value_or texts r))) h
 texts_by (Ok p) (Err event) texts h = absurd (cc)
 texts_by (Err event) whole texts h = absurd (cc)
 
 -- ---- what each form promises
 
-full_promised : (known : Known) (part frames : List ℕ) (read : Result PlanTexts Event) (answer : Answer) → plan_texts known part frames ≡ read → PlannedFull frames read (Ok answer) → PromisesFull known part frames answer.text
+full_promised : (known : Known) (part frames : List ℕ) (read : Result PartAndText Event) (answer : Answer) → part_and_text known part frames ≡ read → PlannedFull frames read (Ok answer) → PromisesFull known part frames answer.text
 full_promised known part frames (Err event) answer e p = absurd (cc)
 full_promised known part frames (Ok texts) answer e p = record {
   texts = texts;
@@ -81,7 +81,7 @@ full_promised known part frames (Ok texts) answer e p = record {
       (full_law texts.part kept bytes p.1 fits rests is p.2.is_plan p.2.width (All-permutation (λ row. Contains (addresses_in texts.part) row.far) p.2.rows p.1.rows p.2.same p.2.good.addresses));
 }
 
-partial_promised : (known : Known) (part frames : List ℕ) (read : Result PlanTexts Event) (answer : Answer) → plan_texts known part frames ≡ read → PlannedPartial frames read (Ok answer) → PromisesPartial known part frames answer.text
+partial_promised : (known : Known) (part frames : List ℕ) (read : Result PartAndText Event) (answer : Answer) → part_and_text known part frames ≡ read → PlannedPartial frames read (Ok answer) → PromisesPartial known part frames answer.text
 partial_promised known part frames (Err event) answer e p = absurd (cc)
 partial_promised known part frames (Ok texts) answer e p = record {
   texts = texts;
@@ -175,13 +175,13 @@ taken_fits part statements =
     let fits : AreBytes p.queue.given = all_prefix (λ b. b < 256) p.queue.given p.queue.held sound.fits in
     all_prefix (λ b. b < 256) (take n p.queue.given) (drop n p.queue.given) (subst AreBytes (sym (take-append-drop n p.queue.given)) fits)
 
-port_promised : (known : Known) (part text : List ℕ) (read : Result PlanTexts Event) (answer : Answer) → plan_texts known part text ≡ read → PlayedSvf text read (Ok answer) → PromisesPort known part text answer
+port_promised : (known : Known) (part text : List ℕ) (read : Result PartAndText Event) (answer : Answer) → part_and_text known part text ≡ read → PlayedSvf text read (Ok answer) → PromisesPort known part text answer
 port_promised known part text (Err event) answer e p = absurd (cc)
 port_promised known part text (Ok texts) answer e p = record {
   texts = texts;
   statements = p.0;
   read = e;
-  has = p.1;
+  has_statements = p.1;
   shows = sym p.2;
   checked = λ late. checked texts.part on_the_bench false (bytes_taken texts.part (port_played texts.part p.0)) (taken_fits texts.part p.0) late;
 }
@@ -211,12 +211,12 @@ image_for_promised known part golden update (Ok p) (Err event) answer e f h = ab
 image_for_promised known part golden update (Ok p) (Ok s) answer e f h = record { device = p; streams = s; part_read = e; read = f; boots = λ more. image_has_streams update p.start_unit s p answer more (part_is known part p e) refl h }
 
 pub promised : (known : Known) (form : AskedForm) (answer : Answer) → FormGives known form (Ok answer) → PromiseOf known form answer
-promised known (PlanningFull part frames) answer a = full_promised known part frames (plan_texts known part frames) answer refl a
-promised known (PlanningPartial part frames) answer a = partial_promised known part frames (plan_texts known part frames) answer refl a
+promised known (PlanningFull part frames) answer a = full_promised known part frames (part_and_text known part frames) answer refl a
+promised known (PlanningPartial part frames) answer a = partial_promised known part frames (part_and_text known part frames) answer refl a
 promised known (PlanningRead part far n) answer a = read_promised known part far n (part_known known part) answer refl a
 promised known (Generating part seed) answer a = summary_promised known part seed (part_known known part) answer refl a
 promised known (Playing part streams) answer a = play_promised known part streams (part_known known part) (streams_known known stream_limit streams) answer refl refl a
-promised known (PlayingSvf part text) answer a = port_promised known part text (plan_texts known part text) answer refl a
+promised known (PlayingSvf part text) answer a = port_promised known part text (part_and_text known part text) answer refl a
 promised known (Imaging golden update) answer a = image_promised known golden update (image_streams known golden update) answer refl a
 promised known (ImagingFor part golden update) answer a = image_for_promised known part golden update (part_known known part) (image_streams known golden update) answer refl refl a
 promised known (Booting part flash) answer a = start_promised known part flash (part_known known part) answer refl a

@@ -3,7 +3,7 @@ use Rattle.std.proofs.Common.{◌≡◌, ◌≤◌, arith, length, ℕ, List, Bo
 use Rattle.std.specs.Prelude.{nat_lt}
 use Rattle.std.proofs.lemmas.Bool.Decides.{nat_tests}
 use Rattle.x7_words.specs.Flash.{FlashState}
-use Rattle.x7_words.specs.Input.{InputsState}
+use Rattle.x7_words.specs.Input.{AsksFew, InputsState, InputsStay}
 use Rattle.x7_words.specs.Sink.{SinkState, PutsSome}
 use Rattle.x7_listing.specs.Assembly.{IsAsm}
 use Rattle.x7_listing.proofs.OutcomeLemmas.{one_outcome}
@@ -16,17 +16,18 @@ use Rattle.x7_mcs.proofs.SizeLemmas.{text_short}
 use Rattle.x7_forms.specs.declared.status.Status.{Status}
 use Rattle.x7_forms.specs.declared.status.Status.TheVariants as status
 use Rattle.x7_forms.specs.Event.{Event, Cause, Wording, Want, Fault, Absence, Break, Contents, Difference, cause_of_event, no_memory, status_of_event, usage, writing_failed}
-use Rattle.x7_forms.specs.Form.{AskedForm, Assembling, FlashUse, FromMcs, Unused, flash_use, listed_by, names_used, updated_by}
+use Rattle.x7_forms.specs.Form.{AskedForm, Assembling, FlashUse, FromMcs, Unused, flash_use, listed_by, names_of, names_used, updated_by}
 use Rattle.x7_forms.specs.Status.{final_status, text_status}
 use Rattle.x7_forms.specs.Known.{Answer, Failing, Known, Lacking, Mishap, mishap_event, and_so, input_found, known_of, taken_whole, whole_known, with_inputs, if_within}
 use Rattle.x7_forms.specs.Step.{Among, DecidedBy, IsCausedBy, IsDue, IsFromOutside, PossibleBy}
 use Rattle.x7_tool.specs.Ahead.{StaysNear, StaysNearIn}
 use Rattle.x7_tool.specs.Leaving.{Updates}
 use Rattle.x7_tool.specs.Outcome.{AssembledAs, FormGives, IsOutcome, mcs_image, text_limit}
-use Rattle.x7_tool.specs.Outside.{Came, IsQuiet, KeepsFlash, Outside, known_in}
+use Rattle.x7_tool.specs.Outside.{Came, IsQuiet, KeepsFlash, Outside, known_in, sources}
 use Rattle.x7_tool.specs.Promise.{Promise}
-use Rattle.x7_tool.specs.Run.{Agrees, AnswersForm, AnswersOver, CausedBy, EndIsCaused, Ends, EndsAs, FailsLast, GetsBy, GetsPrefix, Happens, IsMeasured, LeavesBy, LeftAtBreak, LeftBy, Puts}
-use Rattle.x7_tool.specs.Runs.{TextsLeadBack, RanAs, Runs}
+use Rattle.x7_tool.specs.Run.{Agrees, AnswersForm, AnswersOver, CausedBy, EndIsCaused, Ends, EndsAs, FailsLast, GetsBy, GetsPrefix, ReportsMishap, IsMeasured, JudgesFlash, LeavesBy, LeftAtBreak, LeftBy, Puts, SaysEnd}
+use Rattle.x7_tool.specs.Runs.{TextsLeadBack, Runs}
+use Rattle.x7_tool.specs.Stopping.{Stops}
 use Rattle.x7_tool.proofs.FlashLemmas.{answers_over, not_fault, not_large}
 use Rattle.x7_tool.proofs.PromiseLemmas.{promised}
 
@@ -83,7 +84,7 @@ is_ok (Ok a) = true
 is_ok (Err event) = false
 
 -- an event of a mishap, by that
-mishap_cause : (m : Mishap) (form : AskedForm) (old new : Outside) (event : Event) → mishap_event m ≡ event → Happens form old new event → CausedBy (cause_of_event event) form old new event
+mishap_cause : (m : Mishap) (form : AskedForm) (old new : Outside) (event : Event) → mishap_event m ≡ event → ReportsMishap form old new event → CausedBy (cause_of_event event) form old new event
 mishap_cause (Failing name given) form old new event e h = subst (λ (c : Cause). CausedBy c form old new event) (ap cause_of_event e) h
 mishap_cause (Lacking name) form old new event e h = subst (λ (c : Cause). CausedBy c form old new event) (ap cause_of_event e) (inl h)
 
@@ -174,6 +175,18 @@ promise_is (Some form) old new (Ok answer) h = promise_by (known_in old) form an
 promise_is (Some form) old new (Err event) h = no_promise (known_in old) (Some form) event
 
 -- ---- a run
+
+-- A command ended with this status, for a cause, and said why where there is no whole text. `Runs` follows from it, and
+-- from what the form does with its flash.
+pub record RanAs (form : Option AskedForm) (old new : Outside) (s : Status) : Type 0 where
+  pub end : Result Answer Event
+  pub ends_as : s ≡ final_status end
+  pub said : SaysEnd old.err new.err end
+  pub ends : Ends form old new end
+  pub stops : Stops form old.inputs new.inputs end
+  pub judges : JudgesFlash form (sources old.inputs old.flash) (sources new.inputs new.flash) end
+  pub asks : AsksFew old.inputs (length (names_of form)) new.inputs
+  pub stays : InputsStay old.inputs new.inputs
 
 -- how a command ended is what its run comes to
 pub runs : (form : Option AskedForm) (old new : Outside) (s : Status) → RanAs form old new s → KeepsFlash (flash_use form) old.flash new.flash → Runs form old new s

@@ -29,7 +29,7 @@ use Rattle.x7_debug.specs.declared.fault.ScriptFault.{ScriptFault}
 use Rattle.x7_debug.specs.declared.fault.ScriptFault.TheVariants as script
 use Rattle.x7_svf.specs.declared.fault.SvfFault.{SvfFault}
 use Rattle.x7_svf.specs.declared.fault.SvfFault.TheVariants as svf
-use Rattle.x7_tool.specs.Outcome.{DebugInputs, DebuggedAs, PlanTexts, PlayedSvf, asm_event, frames_event, mcs_event, planner_event, script_event, svf_event, update_event}
+use Rattle.x7_tool.specs.Outcome.{DebugInputs, DebuggedAs, PartAndText, PlayedSvf, asm_event, frames_event, mcs_event, planner_event, script_event, svf_event, update_event}
 use Rattle.x7_update.specs.declared.fault.UpdateFault.{UpdateFault}
 use Rattle.x7_update.specs.declared.fault.UpdateFault.TheVariants as update
 use Rattle.x7_tool.specs.Outside.{Sources}
@@ -76,7 +76,7 @@ pub debug_about : (name : List ℕ) (d : DebugInputs) (event : Event) → (event
 debug_about name d event (inl e) = inl e
 debug_about name d event (inr h) = about_by name event (script_event name h.0) (sym h.1.1) (script_about name h.0)
 
-pub svf_played_about : (name : List ℕ) (texts : PlanTexts) (event : Event) → (event ≡ no_memory) ⊎ PlayedSvf name (Ok texts) (Err event) → IsAbout name event
+pub svf_played_about : (name : List ℕ) (texts : PartAndText) (event : Event) → (event ≡ no_memory) ⊎ PlayedSvf name (Ok texts) (Err event) → IsAbout name event
 svf_played_about name texts event (inl e) = inl e
 svf_played_about name texts event (inr h) = about_by name event (svf_event name h.0) (sym h.2) (svf_about name h.0)
 

@@ -254,7 +254,7 @@ fault_ends flash stream bytes old new (NoLayout place) out asked within has read
     (λ t e. fault_known (names flash stream) old.flash.bytes (stream_data t stream) bytes (NoLayout place) within (data_at (known_in old) stream bytes has t e) h)) (early tt)
 fault_ends flash stream bytes old new (Differs place wrote read) out asked within has reads size h early = record {
   cause = (
-    (place, refl, h.1, record { bytes = bytes; has = has; wrote = wrote; read = read; wrong = h.0; first = h.2 }),
+    (place, refl, h.1, record { bytes = bytes; has_data = has; wrote = wrote; read = read; wrong = h.0; first = h.2 }),
     agreed (known_in old) old.flash.bytes flash stream (Err (differs flash place)) (known_flash old.inputs.contents old.flash.bytes flash)
         (λ t e. fault_known (names flash stream) old.flash.bytes (stream_data t stream) bytes (Differs place wrote read) within (data_at (known_in old) stream bytes has t e) ((new.flash.extent, h.0), h.1)),
   );

@@ -23,6 +23,6 @@ reported part bytes = if nat_lt reads_limit (length (reads_of part on_the_bench 
 abbrev pub played : Known → List ℕ → List (List ℕ) → Result Answer Event
 played known part streams = and_so (part_known known part) (λ p. and_so (streams_known known stream_limit streams) (reported p))
 
--- a report that is ready to be written, as an answer
-abbrev pub text_of_play : PlayTextState → Answer
-text_of_play text = record { stopped = text.stopped; text = text.text }
+-- the answer of a report that is ready to be written
+abbrev pub play_answer : PlayTextState → Answer
+play_answer text = record { stopped = text.stopped; text = text.text }

@@ -34,16 +34,16 @@ abbrev pub Agrees : Option Known → AskedForm → Result Answer Event → Type 
 Agrees None form end = Unit {0}
 Agrees (Some known) form end = FormGives known form end
 
--- the event reports a mishap that came, and where the contents are known, the form comes to it over them with that
--- mishap; where they aren't, the mishap is all that is said
-abbrev pub Happens : AskedForm → Outside → Outside → Event → Type 0
-Happens form old new event = IsOfMishap Answer (known_in old) (Came (Some form) old new) (λ known end. FormGives known form end) event
+-- The event reports a mishap that came; where the contents are known, the form comes to the event over them with that
+-- mishap.
+abbrev pub ReportsMishap : AskedForm → Outside → Outside → Event → Type 0
+ReportsMishap form old new event = IsOfMishap Answer (known_in old) (Came (Some form) old new) (λ known end. FormGives known form end) event
 
--- a byte was read that is another than the one that an update with the stream's data writes at this place of the flash,
--- and is the first of the update or of its slot's switch word that is; with some data, where the contents aren't known
+-- At this place of the flash another byte was read than an update with the stream's data writes there, and it is the
+-- first such byte of the update or of its slot's switch word. Where the contents aren't known, it is so for some data.
 pub record ReadsWrongAt (known : Option Known) (stream : List ℕ) (new : FlashState) (place : ℕ) : Type 0 where
   pub bytes : List ℕ
-  pub has : HasData known stream bytes
+  pub has_data : HasData known stream bytes
   pub wrote : ℕ
   pub read : ℕ
   pub wrong : IsReadWrong new.extent bytes place wrote read
@@ -59,12 +59,12 @@ IsDifference _ old new event = ⊥
 abbrev pub WritesLast : AskedForm → Outside → Outside → Type 0
 WritesLast form old new = WritesFail (updated_by (Some form)) old.flash new.flash × (new.flash.extent ≤ flash_limit) × Agrees (known_in old) form (Ok no_text)
 
--- what a cause says of an event: a fault, or an absence by its count, is the first event that comes
+-- by its cause, what is so of an event: a fault, or an absence by its count, is the first event that comes
 abbrev pub CausedBy : Cause → AskedForm → Outside → Outside → Event → Type 0
 CausedBy Wording form old new event = ⊥
 CausedBy Want form old new event = event ≡ no_memory
-CausedBy Fault form old new event = Happens form old new event
-CausedBy Absence form old new event = Happens form old new event ⊎ Shows (known_in old) form (Err event)
+CausedBy Fault form old new event = ReportsMishap form old new event
+CausedBy Absence form old new event = ReportsMishap form old new event ⊎ Shows (known_in old) form (Err event)
 CausedBy Break form old new event = (event ≡ writing_failed) × (SinkFails old.out new.out ⊎ WritesLast form old new)
 CausedBy Difference form old new event = IsDifference form old new event × Agrees (known_in old) form (Err event)
 CausedBy Contents form old new event = Agrees (known_in old) form (Err event)
@@ -90,8 +90,8 @@ PutsListing bytes old new = (text : List ℕ) × ((stream_listing bytes ≡ Ok t
 -- The bytes have a listing, and what was put is a prefix of the listing of every list of
 -- bytes that begins with them and has one.
 pub record ListsSoFar (bytes : List ℕ) (old new : Option (List ℕ)) : Type 0 where
-  pub has : (text : List ℕ) × (stream_listing bytes ≡ Ok text)
-  pub goes : (rest text : List ℕ) → AreBytes rest → stream_listing (bytes ++ rest) ≡ Ok text → PutsPrefix old text new
+  pub has_listing : (text : List ℕ) × (stream_listing bytes ≡ Ok text)
+  pub puts_prefix : (rest text : List ℕ) → AreBytes rest → stream_listing (bytes ++ rest) ≡ Ok text → PutsPrefix old text new
 
 -- the output got a prefix of the listing of bytes that are a prefix of the stream, and of whatever may follow them
 abbrev pub ListsPrefix : List ℕ → Outside → Outside → Type 0
@@ -177,8 +177,8 @@ JudgesFlash form old new end = Unit {0}
 
 -- ---- the end of a command
 
--- how a command ended: why, what the output got, how far was read, how large the flash is, what was judged where it
--- failed, and what an update left
+-- how a command ended: why, what the output got, how far `list` read ahead, how large the flash is, what was in order
+-- before the flash failed, and what an update left
 pub record Ends (form : Option AskedForm) (old new : Outside) (end : Result Answer Event) : Type 0 where
   pub cause : EndIsCaused form old new end
   pub wrote : Wrote form old new end
@@ -219,7 +219,8 @@ abbrev pub SaysEnd : SinkState → SinkState → Result Answer Event → Type 0
 SaysEnd old new (Ok answer) = new.written ≡ old.written
 SaysEnd old new (Err event) = PutsOrFails old (event_line event) new
 
--- how a text that is ready, or none, was written: whether it reports a fault, or the event
+-- how a text that is ready was written, or the event in place of one: the answer of the call is whether what the text
+-- reports stopped, or an event
 abbrev pub Puts : Result Answer Event → SinkState → SinkState → Result Bool Event → Type 0
 Puts (Err event) old new got = (got ≡ Err event) × (new.written ≡ old.written)
 Puts (Ok answer) old new (Ok stopped) = (stopped ≡ answer.stopped) × PutsAll old answer.text new

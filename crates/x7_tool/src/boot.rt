@@ -11,7 +11,7 @@ ghost use Rattle.x7_tool.specs.Outcome.{IsBootText, boot_event, has_failed};
 ghost use Rattle.x7_tool.specs.Boot.{OfBoot, boot_text};
 ghost use Rattle.x7_forms.specs.Step.{seen};
 ghost use Rattle.x7_tool.specs.Outside.{ReadsFlash, sources};
-ghost use Rattle.x7_tool.specs.Play.{text_of_play};
+ghost use Rattle.x7_tool.specs.Play.{play_answer};
 ghost use Rattle.x7_tool.specs.Run.{FlashComes, MakesReadyFrom};
 
 use crate::attach::attach;
@@ -71,7 +71,7 @@ fn ready_text(alloc: Global, booted: Booted) -> Result<PlayText, NoMemory>
 
 /// The text of a boot, or want of memory.
 fn text_of<'w>(alloc: Global, booted: Booted) -> Result<PlayText, Refusal<'w>>
-    ensures ok { IfOk result (λ text. (part : PartData) (flash : List ℕ) → IsBoot part flash booted → NoWordDue booted.device → IsBootText part flash (text_of_play text)) }
+    ensures ok { IfOk result (λ text. (part : PartData) (flash : List ℕ) → IsBoot part flash booted → NoWordDue booted.device → IsBootText part flash (play_answer text)) }
     ensures err { IfErr result (λ r. event_of r ≡ no_memory) }
 {
     Ok(ready_text(alloc, booted)?)
@@ -101,7 +101,7 @@ fn boot_from<'w, F: Flash>(
     flash: &mut F,
     name: &'w str,
 ) -> Result<PlayText, Refusal<'w>>
-    ensures caused { FlashComes name.now part.now (F.state flash.old) (F.state flash.new) (seen text_of_play result) }
+    ensures caused { FlashComes name.now part.now (F.state flash.old) (F.state flash.new) (seen play_answer result) }
     ensures failed { IfErr result (λ r. event_of r ≡ reading_failed name.now → (F.state flash.new).attached ≡ true → (F.state flash.new).extent ≤ flash_limit) }
     ensures reads { ReadsFlash name.now (F.state flash.old) (F.state flash.new) }
     ensures unwritten { Unwritten (F.state flash.old) (F.state flash.new) (F.found_since flash.old) (F.found_since flash.new) }
@@ -122,7 +122,7 @@ pub(crate) fn boot<'w, I: Inputs, F: Flash>(
     name: &'w str,
 ) -> Result<PlayText, Refusal<'w>>
     ensures ready { MakesReadyFrom (Booting part.now name.now) (sources (I.state inputs.old) (F.state flash.old))
-        (sources (I.state inputs.new) (F.state flash.new)) (seen text_of_play result) }
+        (sources (I.state inputs.new) (F.state flash.new)) (seen play_answer result) }
     ensures reads { ReadsFlash name.now (F.state flash.old) (F.state flash.new) }
     ensures unwritten { Unwritten (F.state flash.old) (F.state flash.new) (F.found_since flash.old) (F.found_since flash.new) }
 {

@@ -5,7 +5,7 @@ ghost use Rattle.x7_forms.specs.Form.{asked_by, form_in};
 ghost use Rattle.x7_tool.specs.Leaving.{EachBoots, PowerLossMayLeave, UsesFlash};
 ghost use Rattle.x7_tool.specs.Outside.{outside, sources};
 ghost use Rattle.x7_tool.specs.Run.{Answered, written_by};
-ghost use Rattle.x7_tool.specs.Runs.{RanAs, Runs};
+ghost use Rattle.x7_tool.specs.Runs.{Runs};
 
 use crate::asm::asm;
 use crate::boot::boot;
@@ -41,9 +41,14 @@ fn answer<'w, I: Inputs, O: Sink, F: Flash>(
             list(alloc, inputs, out, stream)?;
             Ok(false)
         }
-        Form::Play { part, streams } => put_whole(play(alloc, inputs, part, streams), out),
         Form::Asm { text } => put_whole(asm(alloc, inputs, text), out),
-        Form::Mcs { image } => put_whole(mcs(alloc, inputs, image), out),
+        Form::Play { part, streams } => put_whole(play(alloc, inputs, part, streams), out),
+        Form::Debug {
+            part,
+            stream,
+            script,
+        } => put_whole(debug(alloc, inputs, part, stream, script), out),
+        Form::Svf { part, text } => put_whole(svf(alloc, inputs, part, text), out),
         Form::PlanFull { part, frames } => put_whole(plan_full(alloc, inputs, part, frames), out),
         Form::PlanPartial { part, frames } => {
             put_whole(plan_partial(alloc, inputs, part, frames), out)
@@ -56,13 +61,6 @@ fn answer<'w, I: Inputs, O: Sink, F: Flash>(
             golden,
             update,
         } => put_whole(image_for(alloc, inputs, part, golden, update), out),
-        Form::Unmcs { text } => put_whole(unmcs(alloc, inputs, text), out),
-        Form::Debug {
-            part,
-            stream,
-            script,
-        } => put_whole(debug(alloc, inputs, part, stream, script), out),
-        Form::Svf { part, text } => put_whole(svf(alloc, inputs, part, text), out),
         Form::Boot { part, flash: name } => put_whole(boot(alloc, inputs, flash, part, name), out),
         Form::Update {
             flash: name,
@@ -71,10 +69,12 @@ fn answer<'w, I: Inputs, O: Sink, F: Flash>(
             update(alloc, inputs, flash, name, stream)?;
             Ok(false)
         }
+        Form::Mcs { image } => put_whole(mcs(alloc, inputs, image), out),
+        Form::Unmcs { text } => put_whole(unmcs(alloc, inputs, text), out),
     }
 }
 
-/// Runs the command; its contract is the one fact whose parts are the clauses of `run`.
+/// Runs the command. The other two clauses of `run`, on a power loss, follow from `flash`.
 fn carry_out<I: Inputs, O: Sink, E: Sink, F: Flash>(
     alloc: Global,
     words: &Vec<String>,
@@ -83,7 +83,7 @@ fn carry_out<I: Inputs, O: Sink, E: Sink, F: Flash>(
     out: &mut O,
     err: &mut E,
 ) -> Status
-    ensures ran { RanAs (form_in words.now.items) (outside (I.state inputs.old) (F.state flash.old) (O.state out.old) (E.state err.old))
+    ensures ran { Runs (form_in words.now.items) (outside (I.state inputs.old) (F.state flash.old) (O.state out.old) (E.state err.old))
         (outside (I.state inputs.new) (F.state flash.new) (O.state out.new) (E.state err.new)) result }
     ensures flash { UsesFlash (form_in words.now.items) (sources (I.state inputs.old) (F.state flash.old)) (F.state flash.new)
         (F.found_since flash.old) (F.found_since flash.new) }

@@ -1,7 +1,7 @@
 use Rattle.std.proofs.Common.{[], ◌∷◌, None, Some, inl, refl}
 use Rattle.x7_forms.specs.Form.{Booting}
 use Rattle.x7_forms.specs.Event.{event_of}
-use Rattle.x7_tool.specs.Play.{text_of_play}
+use Rattle.x7_tool.specs.Play.{play_answer}
 use Rattle.x7_forms.specs.Step.{CameIn, seen, step_over}
 use Rattle.x7_tool.proofs.FlashLemmas.{boot_last, boot_measured, booted_ends, no_part_last, no_part_measured, part_good, part_refused}
 use Rattle.x7_forms.specs.Known.{part_limit}
@@ -20,13 +20,13 @@ returns-clause-ready g c =
     let name = c.args.name.now in
     let part_name = c.args.part.now in
     let part = c.in_ok-part.part in
-    let made = seen text_of_play c.boot_from.result in
+    let made = seen play_answer c.boot_from.result in
     let C = CameIn (step_over (part_name ∷ []) old new) in
     record {
       caused = λ before after. booted_ends (record before { inputs = old; flash = first }) (record after { inputs = new; flash = last }) name part_name part C made (c.in_ok-part.ensures.caused first.bytes) c.boot_from.ensures.caused;
       stops = boot_stops name part_name part old new first last made c.boot_from.ensures.caused;
       measured = boot_measured (Some (Booting part_name name)) name part first last made c.boot_from.ensures.caused;
-      last = boot_last text_of_play name part_name old last c.boot_from.result c.boot_from.ensures.failed (part_good old.contents C name part_name part (c.in_ok-part.ensures.caused None));
+      last = boot_last play_answer name part_name old last c.boot_from.result c.boot_from.ensures.failed (part_good old.contents C name part_name part (c.in_ok-part.ensures.caused None));
       asks = c.read_part.ensures.asks;
       stays = c.read_part.ensures.inputs;
     }

@@ -8,7 +8,7 @@ use Rattle.x7_forms.specs.Step.{seen}
 use Rattle.x7_forms.proofs.ReadLemmas.{answers_end, answers_stop, part_steady}
 use Rattle.x7_forms.proofs.StandLemmas.{no_part_about}
 use Rattle.x7_tool.specs.Outcome.{gen_answer}
-use Rattle.x7_tool.specs.Ready.{text_of_bytes}
+use Rattle.x7_tool.specs.Ready.{bytes_answer}
 use Rattle.x7_tool.proofs.ReadyLemmas.{made_due}
 use Rattle.x7_tool.proofs.StopLemmas.{want_only, first_stops}
 use Rattle.x7_forms.proofs.ResultLemmas.{handed_on}
@@ -36,8 +36,8 @@ returns g c =
     let part = c.in_ok-part.part in
     let made = c.summary_of.result in
     record {
-      caused = answers_end PartData Answer (name ∷ []) old new (λ t. part_known t name) (λ p. Ok (gen_answer p seed)) part (seen text_of_bytes made) (part_steady name) c.in_ok-part.ensures.caused (made_due (gen_answer part seed) made c.summary_of.ensures.ok c.summary_of.ensures.err);
-      stops = want_only text_of_bytes (Generating name seed) old new made c.summary_of.ensures.err;
+      caused = answers_end PartData Answer (name ∷ []) old new (λ t. part_known t name) (λ p. Ok (gen_answer p seed)) part (seen bytes_answer made) (part_steady name) c.in_ok-part.ensures.caused (made_due (gen_answer part seed) made c.summary_of.ensures.ok c.summary_of.ensures.err);
+      stops = want_only bytes_answer (Generating name seed) old new made c.summary_of.ensures.err;
       asks = c.read_part.ensures.asks;
       stays = c.read_part.ensures.inputs;
     }

@@ -10,7 +10,7 @@ use Rattle.x7_forms.proofs.ReadLemmas.{answers_end, answers_go, answers_stop, fi
 use Rattle.x7_forms.proofs.ResultLemmas.{handed_on, err_weaker}
 use Rattle.x7_forms.proofs.StandLemmas.{stops_after, no_part_about}
 use Rattle.x7_tool.specs.Outcome.{ImageStreams, image_by, image_streams}
-use Rattle.x7_tool.specs.Ready.{text_of_bytes}
+use Rattle.x7_tool.specs.Ready.{bytes_answer}
 use Rattle.x7_tool.specs.Stream.{streams_of}
 use Rattle.x7_tool.proofs.ReadyLemmas.{image_due, streams_steady}
 use Rattle.x7_tool.proofs.StopLemmas.{first_asked, result_stops, third_stops, among_stops, first_stops}
@@ -40,15 +40,15 @@ returns g c =
     let update = c.args.update.now in
     let known = c.in_ok-part.part in
     let streams = streams_of c.in_ok-streams.streams in
-    let made = c.part_text.result in
+    let made = c.image_by_part.result in
     let asks = few_on old mid new 1 2 c.read_part.ensures.asks c.read_streams.ensures.asks in
     record {
-      caused = answers_go PartData Answer (part ∷ []) (golden ∷ update ∷ []) (part ∷ golden ∷ update ∷ []) old mid new (λ t. part_known t part) (λ t p. and_so (image_streams t golden update) (image_by update p.start_unit)) known (seen text_of_bytes made)
+      caused = answers_go PartData Answer (part ∷ []) (golden ∷ update ∷ []) (part ∷ golden ∷ update ∷ []) old mid new (λ t. part_known t part) (λ t p. and_so (image_streams t golden update) (image_by update p.start_unit)) known (seen bytes_answer made)
           (part_steady part) c.read_part.ensures.inputs (λ n h. inr h) c.in_ok-part.ensures.caused
-          (answers_end ImageStreams Answer (golden ∷ update ∷ []) mid new (λ t. image_streams t golden update) (image_by update known.start_unit) streams (seen text_of_bytes made) (streams_steady golden update) c.in_ok-streams.ensures.caused
-          (image_due update known.start_unit streams made c.part_text.ensures.ok c.part_text.ensures.err));
-      stops = result_stops text_of_bytes (ImagingFor part golden update) old new made (err_weaker made
-          (λ r a. third_stops (ImagingFor part golden update) (limited part_limit part) (limited stream_limit golden) (limited stream_limit update) [] old new (event_of r) refl c.in_ok-streams.ensures.stands asks a) c.part_text.ensures.about);
+          (answers_end ImageStreams Answer (golden ∷ update ∷ []) mid new (λ t. image_streams t golden update) (image_by update known.start_unit) streams (seen bytes_answer made) (streams_steady golden update) c.in_ok-streams.ensures.caused
+          (image_due update known.start_unit streams made c.image_by_part.ensures.ok c.image_by_part.ensures.err));
+      stops = result_stops bytes_answer (ImagingFor part golden update) old new made (err_weaker made
+          (λ r a. third_stops (ImagingFor part golden update) (limited part_limit part) (limited stream_limit golden) (limited stream_limit update) [] old new (event_of r) refl c.in_ok-streams.ensures.stands asks a) c.image_by_part.ensures.about);
       asks = asks;
       stays = stays_on _ _ _ c.read_part.ensures.inputs c.read_streams.ensures.inputs;
     }

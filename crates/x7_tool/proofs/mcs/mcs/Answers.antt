@@ -9,7 +9,7 @@ use Rattle.x7_forms.proofs.StandLemmas.{unread_about}
 use Rattle.x7_tool.proofs.StopLemmas.{first_stops, want_stops}
 use Rattle.x7_forms.proofs.ResultLemmas.{handed_on}
 use Rattle.x7_forms.specs.Event.{event_of, no_memory}
-use Rattle.x7_tool.specs.Ready.{text_of_image}
+use Rattle.x7_tool.specs.Ready.{mcs_answer}
 use Rattle.x7_tool.proofs.ReadyLemmas.{want_seen}
 use Rattle.x7_tool.proofs.mcs.mcs.Goals as goal
 
@@ -40,7 +40,7 @@ returns g c =
     }
 
 pub returns-in_err-new : goal.returns-in_err-new
-returns-in_err-new g c = rw (want_seen text_of_image c.from_residual-in_err-new.result c.from_residual-in_err-new.ensures)
+returns-in_err-new g c = rw (want_seen mcs_answer c.from_residual-in_err-new.result c.from_residual-in_err-new.ensures)
     (let old = g.I.Inputs.state c.args.inputs.now in
     let new = g.I.Inputs.state c.read_whole.new.inputs in
     record { caused = λ flash. inl (inl refl); stops = want_stops (ToMcs c.args.image.now) old new no_memory refl; asks = c.read_whole.ensures.asks; stays = c.read_whole.ensures.inputs })

@@ -9,7 +9,7 @@ use Rattle.x7_forms.proofs.ReadLemmas.{answers_by, answers_kept}
 use Rattle.x7_forms.proofs.ResultLemmas.{handed_on, err_weaker}
 use Rattle.x7_forms.proofs.StandLemmas.{no_part_about}
 use Rattle.x7_tool.specs.Outcome.{PlannedRead}
-use Rattle.x7_tool.specs.Ready.{text_of_bytes}
+use Rattle.x7_tool.specs.Ready.{bytes_answer}
 use Rattle.x7_tool.proofs.ReadyLemmas.{read_due}
 use Rattle.x7_tool.proofs.StopLemmas.{result_stops, first_stops}
 use Rattle.x7_tool.proofs.plan.plan_read.Goals as goal
@@ -32,10 +32,10 @@ returns g c =
     let new = g.I.Inputs.state c.read_part.new.inputs in
     let name = c.args.name.now in
     let part = c.in_ok-part.part in
-    let made = c.read_text.result in
+    let made = c.readback_text.result in
     record {
-      caused = answers_by PartData Answer (name ∷ []) old new (λ t. part_known t name) part (PlannedRead name c.args.far c.args.n) (seen text_of_bytes made) c.in_ok-part.ensures.caused (read_due name part c.args.far c.args.n made c.read_text.ensures.ok c.read_text.ensures.err);
-      stops = result_stops text_of_bytes (PlanningRead name c.args.far c.args.n) old new made (err_weaker made (λ r a. first_stops (PlanningRead name c.args.far c.args.n) (limited part_limit name) [] old new (event_of r) refl c.read_part.ensures.stands c.read_part.ensures.asks a) c.read_text.ensures.about);
+      caused = answers_by PartData Answer (name ∷ []) old new (λ t. part_known t name) part (PlannedRead name c.args.far c.args.n) (seen bytes_answer made) c.in_ok-part.ensures.caused (read_due name part c.args.far c.args.n made c.readback_text.ensures.ok c.readback_text.ensures.err);
+      stops = result_stops bytes_answer (PlanningRead name c.args.far c.args.n) old new made (err_weaker made (λ r a. first_stops (PlanningRead name c.args.far c.args.n) (limited part_limit name) [] old new (event_of r) refl c.read_part.ensures.stands c.read_part.ensures.asks a) c.readback_text.ensures.about);
       asks = c.read_part.ensures.asks;
       stays = c.read_part.ensures.inputs;
     }

@@ -4,7 +4,7 @@ use Rattle.x7_forms.specs.Event.{event_of}
 use Rattle.x7_forms.specs.Known.{and_so, part_known, whole_known, part_limit}
 use Rattle.x7_forms.proofs.ReadLemmas.{answers_stop, first_of}
 use Rattle.x7_tool.proofs.PlanLemmas.{texts_read, texts_unread}
-use Rattle.x7_tool.specs.Outcome.{PlanTexts, text_limit}
+use Rattle.x7_tool.specs.Outcome.{PartAndText, text_limit}
 use Rattle.x7_forms.proofs.StandLemmas.{about_among, no_part_about, unread_about}
 use Rattle.x7_tool.proofs.StopLemmas.{both_asked}
 use Rattle.x7_forms.specs.ReadingStops.{limited}
@@ -12,20 +12,20 @@ use Rattle.x7_words.proofs.InputLemmas.{few_more, few_on}
 use Rattle.x7_forms.proofs.ResultLemmas.{handed_on}
 use Rattle.x7_tool.proofs.svf.read_given.Goals as goal
 
-pub returns-in_err-text-clause-given : goal.returns-in_err-text-clause-given
-returns-in_err-text-clause-given g c = rw (handed_on c.from_residual-in_err-text.result c.in_err-text.field-0.0 c.from_residual-in_err-text.ensures) (let i = g.I.Inputs in
+pub returns-in_err-text-clause-caused : goal.returns-in_err-text-clause-caused
+returns-in_err-text-clause-caused g c = rw (handed_on c.from_residual-in_err-text.result c.in_err-text.field-0.0 c.from_residual-in_err-text.ensures) (let i = g.I.Inputs in
     texts_unread c.args.part.now c.args.text.now (i.state c.args.inputs.now) (i.state c.read_part.new.inputs) (i.state c.read_whole.new.inputs) c.in_ok-part.part (event_of c.in_err-text.field-0.0) c.read_part.ensures.inputs c.in_ok-part.ensures.caused c.in_err-text.ensures.caused)
 
-pub returns-clause-given : goal.returns-clause-given
-returns-clause-given g c =
+pub returns-clause-caused : goal.returns-clause-caused
+returns-clause-caused g c =
     let i = g.I.Inputs in
     texts_read c.args.part.now c.args.text.now (i.state c.args.inputs.now) (i.state c.read_part.new.inputs) (i.state c.read_whole.new.inputs) c.in_ok-part.part c.in_ok-text.text.items c.read_part.ensures.inputs c.in_ok-part.ensures.caused c.in_ok-text.ensures.caused
 
-pub returns-in_err-part-clause-given : goal.returns-in_err-part-clause-given
-returns-in_err-part-clause-given g c = rw (handed_on c.from_residual.result c.in_err-part.field-0.0 c.from_residual.ensures) (let i = g.I.Inputs in
+pub returns-in_err-part-clause-caused : goal.returns-in_err-part-clause-caused
+returns-in_err-part-clause-caused g c = rw (handed_on c.from_residual.result c.in_err-part.field-0.0 c.from_residual.ensures) (let i = g.I.Inputs in
     let part = c.args.part.now in
     let text = c.args.text.now in
-    answers_stop PartData PlanTexts (part ∷ []) (part ∷ text ∷ []) (i.state c.args.inputs.now) (i.state c.read_part.new.inputs) (λ t. part_known t part) (λ t p. and_so (whole_known t text_limit text) (λ bytes. Ok (record { part = p; text = bytes })))
+    answers_stop PartData PartAndText (part ∷ []) (part ∷ text ∷ []) (i.state c.args.inputs.now) (i.state c.read_part.new.inputs) (λ t. part_known t part) (λ t p. and_so (whole_known t text_limit text) (λ bytes. Ok (record { part = p; text = bytes })))
     (event_of c.in_err-part.field-0.0) (first_of part (text ∷ [])) c.in_err-part.ensures.caused)
 
 pub returns-in_err-part-clause-stops : goal.returns-in_err-part-clause-stops
