@@ -121,7 +121,7 @@ pub record IsBadBeginning (old new : InputsState) (name : List ℕ) (event : Eve
   pub end : last ≡ true → AtEnd new.rest
   pub refused : IsRefused bytes last place
   -- no byte after the one at which the header is refused
-  pub soon : length bytes ≤ place + 1
+  pub no_byte_after : length bytes ≤ place + 1
 
 -- where the rest of an open input is known, and begins with a header that has another byte in
 -- a letter's place, that byte was not given

@@ -44,7 +44,7 @@ fn fill<'w, I: Inputs>(inputs: &mut I, name: &'w str, buffer: &mut [u8]) -> Resu
     ensures within { IfOk result (λ n. n ≤ length buffer.old) }
     ensures end { IfOk result (λ n. n < length buffer.old → AtEnd (I.state inputs.new).rest) }
     ensures no_end_read { IfOk result (λ n. n ≡ length buffer.old → (I.state inputs.new).ends ≤ (I.state inputs.old).ends) }
-    ensures once { (I.state inputs.new).ends ≤ (I.state inputs.old).ends + 1 }
+    ensures end_once { (I.state inputs.new).ends ≤ (I.state inputs.old).ends + 1 }
     ensures length { length buffer.new ≡ length buffer.old }
     ensures failed { IfErr result (λ r. (event_of r ≡ reading_failed name.now) × Breaks (I.state inputs.old) (length buffer.old) (I.state inputs.new)) }
     ensures asked { (I.state inputs.new).asked ≡ (I.state inputs.old).asked }
@@ -115,11 +115,11 @@ pub fn next_turn<'w, I: Inputs>(
     ensures no_end_read { IfOk result (λ turn. turn.last ≡ false → (I.state inputs.new).ends ≤ (I.state inputs.old).ends) }
     ensures length { length buffer.new ≡ length buffer.old }
     ensures err { IfErr result (λ r. Unread (I.state inputs.old) name.now (I.state inputs.new) left (event_of r)) }
-    ensures soon { IfErr result (λ r. event_of r ≡ reading_failed name.now → (I.state inputs.new).given < (I.state inputs.old).given + length buffer.old) }
+    ensures fails_early { IfErr result (λ r. event_of r ≡ reading_failed name.now → (I.state inputs.new).given < (I.state inputs.old).given + length buffer.old) }
     ensures over { IfErr result (λ r. event_of r ≡ too_large name.now → left < length buffer.old) }
     ensures asked { (I.state inputs.new).asked ≡ (I.state inputs.old).asked }
     ensures gives_few { GivesFew (I.state inputs.old) left (I.state inputs.new) }
-    ensures turn { (I.state inputs.new).given ≤ (I.state inputs.old).given + length buffer.old }
+    ensures gives_a_turn { (I.state inputs.new).given ≤ (I.state inputs.old).given + length buffer.old }
     ensures inputs { InputsStay (I.state inputs.old) (I.state inputs.new) }
 {
     let most = asked_count(left, buffer.len());

@@ -172,7 +172,7 @@ bad_soon contents stream name m n event s b inputs bytes left place c i r l =
     let whole : bytes ≡ b.bytes ++ t.0 = let e = t.1.1 in cc in
     let refused = b.refused t.0 (may_follow b.last n.rest t.0 t.1.0 b.end) in
     let same = same_place place b.place (stream_listing (b.bytes ++ t.0)) (ap stream_listing (sym whole) ∙ l) refused in
-    omega (arith, b.soon, same, ap length whole, ap length tail, length-append b.bytes t.0)
+    omega (arith, b.no_byte_after, same, ap length whole, ap length tail, length-append b.bytes t.0)
 
 -- ---- what a fault finds
 

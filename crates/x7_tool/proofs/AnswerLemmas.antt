@@ -39,7 +39,7 @@ pub flash_answered : (form asks : AskedForm) (old new : Outside) (whole : Result
     → Answered form old new got
 flash_answered form asks old new whole got e l j r d p =
     as_asked form asks old new got e (record {
-      ends = text_ends asks old new whole got l r.measured r.last d p;
+      ends = text_ends asks old new whole got l r.measured r.fails_last d p;
       stops = puts_stop asks old.inputs new.inputs whole old.out new.out got r.stops p;
       judges = j;
       asks = r.asks;
@@ -90,7 +90,7 @@ ran_none form old err s e t w =
       end = Err usage;
       ends_as = t;
       said = w;
-      ends = record { cause = refl; wrote = refl; near = tt; measured = λ name a e. absurd a; last = tt; updates = tt };
+      ends = record { cause = refl; wrote = refl; near = tt; measured = λ name a e. absurd a; fails_last = tt; updates = tt };
       stops = tt;
       judges = tt;
       asks = few_at old.inputs;

@@ -91,8 +91,8 @@ ended_left Break stream old new event h = some_of (known_in old) stream old.out 
 ended_left cause stream old new event h = left_as event.reason stream old new h.1
 
 pub list_ends : (stream : List ℕ) (old new : Outside) (end : Result Answer Event) → EndedIn stream old new end → StaysNear (final_status end) (Some (Listing stream)) old new → Ends (Some (Listing stream)) old new end
-list_ends stream old new (Ok answer) h n = record { cause = has_cause (Listing stream) old new (Ok answer) (answers_over (Listing stream) old new (Ok answer) h.0); wrote = h.1; near = n; measured = λ name a. absurd a; last = tt; updates = tt }
-list_ends stream old new (Err event) h n = record { cause = ended_cause (cause_of_event event) stream old new event refl h; wrote = ended_left (cause_of_event event) stream old new event h; near = n; measured = λ name a e. absurd a; last = λ name a e at. absurd a; updates = tt }
+list_ends stream old new (Ok answer) h n = record { cause = has_cause (Listing stream) old new (Ok answer) (answers_over (Listing stream) old new (Ok answer) h.0); wrote = h.1; near = n; measured = λ name a. absurd a; fails_last = tt; updates = tt }
+list_ends stream old new (Err event) h n = record { cause = ended_cause (cause_of_event event) stream old new event refl h; wrote = ended_left (cause_of_event event) stream old new event h; near = n; measured = λ name a e. absurd a; fails_last = λ name a e at. absurd a; updates = tt }
 
 -- a listing ends as it should, by the result of the call that ended it
 pub list_seen : {A : Type 0} (stream : List ℕ) (old new : Outside) (r : Result A Refusal) → OnOk r ((text : List ℕ) × EndedIn stream old new (Ok (record { stopped = false; text = text })))

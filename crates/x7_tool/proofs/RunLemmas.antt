@@ -204,7 +204,7 @@ runs form old new s r f =
       back = back_is form old new s r.end outcome;
       promise = promise_is form old new r.end r.ends.cause;
       measured = r.ends.measured;
-      last = r.ends.last;
+      fails_last = r.ends.fails_last;
       stops = r.stops;
       judges = r.judges;
       asks = r.asks;
@@ -285,7 +285,7 @@ puts_end form old new (Ok answer) (Ok stopped) l u m f c p = (
     wrote = p.1;
     near = near_all form (text_status stopped) old new l;
     measured = m;
-    last = tt;
+    fails_last = tt;
     updates = updates_none form old new (Ok (record { stopped = stopped; text = answer.text })) u;
   },
 )
@@ -296,7 +296,7 @@ puts_end form old new (Ok answer) (Err event) l u m f c p =
       wrote = subst (λ (x : Option (List ℕ)). LeftAtBreak x form old new) (sym u) (gets_by (known_in old) form answer old.out new.out l (has_cause form old new (Ok answer) c) p.2);
       near = near_all form status.WriteFault old new l;
       measured = not_large (Some form) new.flash writing_failed (λ r. absurd (cc));
-      last = not_fault (Some form) old.inputs new.flash writing_failed (λ r. absurd (cc));
+      fails_last = not_fault (Some form) old.inputs new.flash writing_failed (λ r. absurd (cc));
       updates = updates_none form old new (Err writing_failed) u;
     })
 puts_end form old new (Err event) (Ok stopped) l u m f c p = let e : true ≡ false = ap is_ok p.0 in absurd (cc)
@@ -307,7 +307,7 @@ puts_end form old new (Err event) (Err other) l u m f c p =
       wrote = leaves_all form (cause_of_event event) old new event l (no_break (known_in old) (Came (Some form) old new) (λ t end. FormGives t form end) event c) p.1;
       near = near_all form (status_of_event event) old new l;
       measured = m;
-      last = f;
+      fails_last = f;
       updates = updates_none form old new (Err event) u;
     })
 

@@ -180,7 +180,7 @@ refused_ends flash stream old new event out m l a kept =
       wrote = leaves_all form (cause_of_event event) old new event refl (no_break (known_in old) (Came (Some form) old new) (λ t end. FormGives t form end) event a) (out_same old new out);
       near = near_all form (status_of_event event) old new refl;
       measured = m;
-      last = l;
+      fails_last = l;
       updates = kept;
     }
 
@@ -241,7 +241,7 @@ fault_last flash stream bytes inputs new NoMemory has size = not_fault (Some (Up
 pub fault_ends : (flash stream bytes : List ℕ) (old new : Outside) (fault : UpdateFault) → new.out ≡ old.out → IsTrue (new.flash.names flash) → IsWithin old.flash.bytes → HasData (known_in old) stream bytes
     → HasData (with_inputs old.inputs.contents None) stream bytes → new.flash.extent ≤ flash_limit → HasCause bytes old.flash new.flash fault → (IsEarly fault → new.flash.bytes ≡ old.flash.bytes) → EndsAs (Some (UpdatingFlash flash stream)) old new (Err (update_event (names flash stream) fault))
 fault_ends flash stream bytes old new (Failed true) out asked within has reads size h early =
-    record { cause = (refl, inr (h.0, size, could_end flash stream bytes old within has h.2)); last = fault_last flash stream bytes old.inputs new.flash (Failed true) reads size; wrote = out_same old new out; near = near_all (UpdatingFlash flash stream) (status_of_event writing_failed) old new refl; measured = fault_measured (Some (UpdatingFlash flash stream)) (names flash stream) new.flash (Failed true); updates = tt }
+    record { cause = (refl, inr (h.0, size, could_end flash stream bytes old within has h.2)); fails_last = fault_last flash stream bytes old.inputs new.flash (Failed true) reads size; wrote = out_same old new out; near = near_all (UpdatingFlash flash stream) (status_of_event writing_failed) old new refl; measured = fault_measured (Some (UpdatingFlash flash stream)) (names flash stream) new.flash (Failed true); updates = tt }
 fault_ends flash stream bytes old new (Failed false) out asked within has reads size h early =
     refused_ends flash stream old new (reading_failed flash) out (fault_measured (Some (UpdatingFlash flash stream)) (names flash stream) new.flash (Failed false)) (fault_last flash stream bytes old.inputs new.flash (Failed false) reads size)
     (inl (inr (record { mishap = Failing flash new.inputs.given; came = (refl, inr (record { among = inl refl; asked = asked; risen = h.0 })); reports = refl; due = flash_due (known_in old) (Failing flash new.inputs.given) flash stream refl }))) (inl h.0)
@@ -261,7 +261,7 @@ fault_ends flash stream bytes old new (Differs place wrote read) out asked withi
   wrote = out_same old new out;
   near = near_all (UpdatingFlash flash stream) (status_of_event (differs flash place)) old new refl;
   measured = fault_measured (Some (UpdatingFlash flash stream)) (names flash stream) new.flash (Differs place wrote read);
-  last = fault_last flash stream bytes old.inputs new.flash (Differs place wrote read) reads size;
+  fails_last = fault_last flash stream bytes old.inputs new.flash (Differs place wrote read) reads size;
   updates = tt;
 }
 fault_ends flash stream bytes old new NoMemory out asked within has reads size h early = refused_ends flash stream old new no_memory out (fault_measured (Some (UpdatingFlash flash stream)) (names flash stream) new.flash NoMemory) (fault_last flash stream bytes old.inputs new.flash NoMemory reads size) (inl (inl refl)) (early tt)
@@ -281,7 +281,7 @@ done_ends flash stream bytes old new out within has layout size becomes =
         wrote = out_same old new out ∙ sym (appended_nil old.out.written);
         near = near_all (UpdatingFlash flash stream) (text_status false) old new refl;
         measured = λ name a. size;
-        last = tt;
+        fails_last = tt;
         updates = (bytes, has, becomes);
       },
     )

@@ -184,7 +184,7 @@ pub record Ends (form : Option AskedForm) (old new : Outside) (end : Result Answ
   pub wrote : Wrote form old new end
   pub near : StaysNear (final_status end) form old new
   pub measured : IsMeasured form new.flash end
-  pub last : FailsLast form old.inputs new.flash end
+  pub fails_last : FailsLast form old.inputs new.flash end
   pub updates : Updates (updated_by form) old new end
 
 -- how a command ended, by whether what it wrote reports a fault, or by the event
@@ -253,7 +253,7 @@ pub record MakesReadyFrom (form : AskedForm) (old new : Sources) (got : Result A
   pub caused : AnswersFrom form old new got
   pub stops : Stops (Some form) old.inputs new.inputs got
   pub measured : IsMeasured (Some form) new.flash got
-  pub last : FailsLast (Some form) old.inputs new.flash got
+  pub fails_last : FailsLast (Some form) old.inputs new.flash got
   pub asks : AsksFew old.inputs (length (names_of (Some form))) new.inputs
   pub stays : InputsStay old.inputs new.inputs
 

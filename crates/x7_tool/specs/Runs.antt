@@ -70,7 +70,7 @@ pub record Runs (form : Option AskedForm) (old new : Outside) (s : Status) : Typ
   pub measured : IsMeasured form new.flash end
   -- a fault of a flash that is attached comes last: the flash is within the limit, and
   -- all that the form reads of inputs is good
-  pub last : FailsLast form old.inputs new.flash end
+  pub fails_last : FailsLast form old.inputs new.flash end
   -- where an input ends the command, no later one was asked for, and no more than a byte over its limit was given of it
   pub stops : Stops form old.inputs new.inputs end
   -- an update whose flash isn't there, wasn't attached or is too large asks for no stream

@@ -119,10 +119,12 @@ fn memory_sum(part: &Part, memory: &Memory) -> u32
     total
 }
 
-/// A device that took a stream, and the bytes of that stream.
+/// A stream that was played.
 #[derive(Drop)]
 struct Played {
+    /// The player whose device took the stream.
     player: Player,
+    /// The bytes of the stream.
     size: u64,
 }
 

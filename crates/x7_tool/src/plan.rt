@@ -88,9 +88,9 @@ pub(crate) fn plan_full<'w, I: Inputs>(
 ) -> Result<FullText, Refusal<'w>>
     ensures { MakesReady (PlanningFull part.now frames.now) (I.state inputs.old) (I.state inputs.new) (seen full_answer result) }
 {
-    let known = read_part(alloc, inputs, part)?;
-    let plan = read_plan(alloc, inputs, &known, frames)?;
-    FullText::new(alloc, known, plan)
+    let part = read_part(alloc, inputs, part)?;
+    let plan = read_plan(alloc, inputs, &part, frames)?;
+    FullText::new(alloc, part, plan)
 }
 
 /// The partial stream of the plan of a frames text.
@@ -121,9 +121,9 @@ pub(crate) fn plan_partial<'w, I: Inputs>(
 ) -> Result<Vec<u8>, Refusal<'w>>
     ensures { MakesReady (PlanningPartial part.now frames.now) (I.state inputs.old) (I.state inputs.new) (seen bytes_answer result) }
 {
-    let known = read_part(alloc, inputs, part)?;
-    let plan = read_plan(alloc, inputs, &known, frames)?;
-    partial_text(alloc, &known, &plan, frames)
+    let part = read_part(alloc, inputs, part)?;
+    let plan = read_plan(alloc, inputs, &part, frames)?;
+    partial_text(alloc, &part, &plan, frames)
 }
 
 /// The read stream of `n` slots from the frame address `far` on.

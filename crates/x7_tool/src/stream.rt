@@ -15,11 +15,13 @@ use x7_words::Inputs;
 /// A stream that was read whole, and where its data begin.
 #[derive(Drop)]
 pub(crate) struct Stream {
+    /// All bytes of the stream.
     pub(crate) bytes: Vec<u8>,
+    /// Where the data begin, in bytes from 0.
     pub(crate) start: usize,
 }
 
-/// A stream, read whole: one that is too large is refused before its header is looked at.
+/// Reads a stream whole: one that is too large is refused before its header is looked at.
 pub(crate) fn read_stream<'w, I: Inputs>(
     alloc: Global,
     inputs: &mut I,
@@ -53,7 +55,7 @@ fn into_data(stream: Stream) -> Vec<u8>
     bytes
 }
 
-/// The data of a stream, alone: what follows its header, where it has one.
+/// Reads a stream, and keeps its data alone: what follows its header, where it has one.
 pub(crate) fn read_data<'w, I: Inputs>(
     alloc: Global,
     inputs: &mut I,

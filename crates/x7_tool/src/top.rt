@@ -31,8 +31,8 @@ fn answer<'w, I: Inputs, O: Sink, F: Flash>(
     flash: &mut F,
     out: &mut O,
 ) -> Result<bool, Refusal<'w>>
-    ensures answered { (e f : SinkState) → Answered (asked_by form.entry) (outside (I.state inputs.old) (F.state flash.old) (O.state out.old) e)
-        (outside (I.state inputs.new) (F.state flash.new) (O.state out.new) f) (written_by result) }
+    ensures answered { (before after : SinkState) → Answered (asked_by form.entry) (outside (I.state inputs.old) (F.state flash.old) (O.state out.old) before)
+        (outside (I.state inputs.new) (F.state flash.new) (O.state out.new) after) (written_by result) }
     ensures flash { UsesFlash (Some (asked_by form.entry)) (sources (I.state inputs.old) (F.state flash.old)) (F.state flash.new)
         (F.found_since flash.old) (F.found_since flash.new) }
 {

@@ -49,7 +49,7 @@ returns-in_err-judged-clause-err g c = rw (handed_on c.from_residual-in_err-judg
         taken = joined_taken (i.state c.args.inputs.now).rest (i.state c.loop-bytes.inputs).rest (i.state c.next_turn.new.inputs).rest old piece mid bytes v.taken c.in_ok-turn.ensures.ok.taken joined c.deref-in-loop-bytes.ensures.value;
         end = c.in_ok-turn.ensures.end;
         refused = h.2;
-        soon = refused_soon old piece bytes c.wanted.result h.0 p h.3;
+        no_byte_after = refused_soon old piece bytes c.wanted.result h.0 p h.3;
       }))
     ])
 
@@ -62,7 +62,7 @@ returns-in_err-turn-clause-err g c = rw (handed_on c.from_residual.result c.in_e
     (λ e. absurd (omega (arith, c.in_err-turn.ensures.over e, v.few, c.len-left.ensures, v.piece, c.min-count.ensures, length-take-le c.min-count.result c.loop-bytes.piece (omega (arith, c.min-count.ensures, v.piece)))))
     (λ e. none_given (i.state c.args.inputs.now) (i.state c.loop-bytes.inputs) (i.state c.next_turn.new.inputs) old c.deref.result.now c.wanted.result (length (take c.min-count.result c.loop-bytes.piece)) c.wanted.ensures.some
     (omega (arith, c.min-count.ensures, length-take-le c.min-count.result c.loop-bytes.piece (omega (arith, c.min-count.ensures, v.piece)))) c.deref.ensures.value c.wanted.ensures.fixed c.wanted.ensures.waits v.waiting
-    (reads_by (i.state c.args.inputs.now) (i.state c.loop-bytes.inputs) old v.selected v.taken v.given v.asked v.inputs v.selects) (c.in_err-turn.ensures.soon e)) c.in_err-turn.ensures.err)
+    (reads_by (i.state c.args.inputs.now) (i.state c.loop-bytes.inputs) old v.selected v.taken v.given v.asked v.inputs v.selects) (c.in_err-turn.ensures.fails_early e)) c.in_err-turn.ensures.err)
 
 pub loop-bytes-preserved : goal.loop-bytes-preserved
 loop-bytes-preserved g c =
@@ -101,7 +101,7 @@ returns-in_err-turn-clause-gives_few g c =
 pub returns-in_err-turn-clause-short : goal.returns-in_err-turn-clause-short
 returns-in_err-turn-clause-short g c =
     let v = c.loop-bytes.invariant in
-    omega (arith, v.given, v.few, c.next_turn.ensures.turn, v.piece, c.min-count.ensures, length-take-le c.min-count.result c.loop-bytes.piece (omega (arith, c.min-count.ensures, v.piece)))
+    omega (arith, v.given, v.few, c.next_turn.ensures.gives_a_turn, v.piece, c.min-count.ensures, length-take-le c.min-count.result c.loop-bytes.piece (omega (arith, c.min-count.ensures, v.piece)))
 
 pub returns-in_err-turn-clause-inputs : goal.returns-in_err-turn-clause-inputs
 returns-in_err-turn-clause-inputs g c = stays_on _ _ _ c.loop-bytes.invariant.inputs c.next_turn.ensures.inputs
@@ -116,7 +116,7 @@ returns-in_err-put_text-clause-gives_few g c =
 pub returns-in_err-put_text-clause-short : goal.returns-in_err-put_text-clause-short
 returns-in_err-put_text-clause-short g c =
     let v = c.loop-bytes.invariant in
-    omega (arith, v.given, v.few, c.next_turn.ensures.turn, v.piece, c.min-count.ensures, length-take-le c.min-count.result c.loop-bytes.piece (omega (arith, c.min-count.ensures, v.piece)))
+    omega (arith, v.given, v.few, c.next_turn.ensures.gives_a_turn, v.piece, c.min-count.ensures, length-take-le c.min-count.result c.loop-bytes.piece (omega (arith, c.min-count.ensures, v.piece)))
 
 pub returns-in_err-put_text-clause-inputs : goal.returns-in_err-put_text-clause-inputs
 returns-in_err-put_text-clause-inputs g c = stays_on _ _ _ c.loop-bytes.invariant.inputs c.next_turn.ensures.inputs
@@ -131,7 +131,7 @@ returns-in-Some-clause-gives_few g c =
 pub returns-in-Some-clause-short : goal.returns-in-Some-clause-short
 returns-in-Some-clause-short g c =
     let v = c.loop-bytes.invariant in
-    omega (arith, v.given, v.few, c.next_turn.ensures.turn, v.piece, c.min-count.ensures, length-take-le c.min-count.result c.loop-bytes.piece (omega (arith, c.min-count.ensures, v.piece)))
+    omega (arith, v.given, v.few, c.next_turn.ensures.gives_a_turn, v.piece, c.min-count.ensures, length-take-le c.min-count.result c.loop-bytes.piece (omega (arith, c.min-count.ensures, v.piece)))
 
 pub returns-in-Some-clause-inputs : goal.returns-in-Some-clause-inputs
 returns-in-Some-clause-inputs g c = stays_on _ _ _ c.loop-bytes.invariant.inputs c.next_turn.ensures.inputs
@@ -146,7 +146,7 @@ returns-in_err-judged-clause-gives_few g c =
 pub returns-in_err-judged-clause-short : goal.returns-in_err-judged-clause-short
 returns-in_err-judged-clause-short g c =
     let v = c.loop-bytes.invariant in
-    omega (arith, v.given, v.few, c.next_turn.ensures.turn, v.piece, c.min-count.ensures, length-take-le c.min-count.result c.loop-bytes.piece (omega (arith, c.min-count.ensures, v.piece)))
+    omega (arith, v.given, v.few, c.next_turn.ensures.gives_a_turn, v.piece, c.min-count.ensures, length-take-le c.min-count.result c.loop-bytes.piece (omega (arith, c.min-count.ensures, v.piece)))
 
 pub returns-in_err-judged-clause-inputs : goal.returns-in_err-judged-clause-inputs
 returns-in_err-judged-clause-inputs g c = stays_on _ _ _ c.loop-bytes.invariant.inputs c.next_turn.ensures.inputs

@@ -11,28 +11,28 @@ returns-in_err-count-clause-err g c = rw (handed_on c.from_residual.result c.in_
     let size = length-take-le most.result c.args.buffer.now (omega (arith, most.ensures.within)) in
     inl (failed.0, record { risen = failed.1.risen; selected = failed.1.selected; given = omega (arith, failed.1.given, size, most.ensures.over) }))
 
-pub returns-in_err-count-clause-soon : goal.returns-in_err-count-clause-soon
-returns-in_err-count-clause-soon g c = rw (handed_on c.from_residual.result c.in_err-count.field-0.0 c.from_residual.ensures)
+pub returns-in_err-count-clause-fails_early : goal.returns-in_err-count-clause-fails_early
+returns-in_err-count-clause-fails_early g c = rw (handed_on c.from_residual.result c.in_err-count.field-0.0 c.from_residual.ensures)
     (λ e. omega (arith, c.in_err-count.ensures.failed.1.given, length-take-le c.asked_count-most.result c.args.buffer.now (omega (arith, c.asked_count-most.ensures.within)), c.asked_count-most.ensures.within))
 
 pub returns-in_err-count-clause-gives_few : goal.returns-in_err-count-clause-gives_few
 returns-in_err-count-clause-gives_few g c =
     let size = length-take-le c.asked_count-most.result c.args.buffer.now (omega (arith, c.asked_count-most.ensures.within)) in
-    record { asked = c.fill.ensures.asked; selects = c.fill.ensures.selects; ends = c.fill.ensures.once; given = omega (arith, c.fill.ensures.given, size, c.asked_count-most.ensures.over) }
+    record { asked = c.fill.ensures.asked; selects = c.fill.ensures.selects; ends = c.fill.ensures.end_once; given = omega (arith, c.fill.ensures.given, size, c.asked_count-most.ensures.over) }
 
-pub returns-in_err-count-clause-turn : goal.returns-in_err-count-clause-turn
-returns-in_err-count-clause-turn g c =
+pub returns-in_err-count-clause-gives_a_turn : goal.returns-in_err-count-clause-gives_a_turn
+returns-in_err-count-clause-gives_a_turn g c =
     omega (arith, c.fill.ensures.given, length-take-le c.asked_count-most.result c.args.buffer.now (omega (arith, c.asked_count-most.ensures.within)), c.asked_count-most.ensures.within)
 
 pub returns-then-count-left-clause-gives_few : goal.returns-then-count-left-clause-gives_few
 returns-then-count-left-clause-gives_few g c =
     let size = length-take-le c.asked_count-most.result c.args.buffer.now (omega (arith, c.asked_count-most.ensures.within)) in
-    record { asked = c.fill.ensures.asked; selects = c.fill.ensures.selects; ends = c.fill.ensures.once; given = omega (arith, c.fill.ensures.given, size, c.asked_count-most.ensures.over) }
+    record { asked = c.fill.ensures.asked; selects = c.fill.ensures.selects; ends = c.fill.ensures.end_once; given = omega (arith, c.fill.ensures.given, size, c.asked_count-most.ensures.over) }
 
 pub returns-clause-gives_few : goal.returns-clause-gives_few
 returns-clause-gives_few g c =
     let size = length-take-le c.asked_count-most.result c.args.buffer.now (omega (arith, c.asked_count-most.ensures.within)) in
-    record { asked = c.fill.ensures.asked; selects = c.fill.ensures.selects; ends = c.fill.ensures.once; given = omega (arith, c.fill.ensures.given, size, c.asked_count-most.ensures.over) }
+    record { asked = c.fill.ensures.asked; selects = c.fill.ensures.selects; ends = c.fill.ensures.end_once; given = omega (arith, c.fill.ensures.given, size, c.asked_count-most.ensures.over) }
 
 pub returns-clause-ok : goal.returns-clause-ok
 returns-clause-ok g c =

@@ -26,7 +26,7 @@ returns-clause-ready g c =
       caused = λ before after. booted_ends (record before { inputs = old; flash = first }) (record after { inputs = new; flash = last }) name part_name part C made (c.in_ok-part.ensures.caused first.bytes) c.boot_from.ensures.caused;
       stops = boot_stops name part_name part old new first last made c.boot_from.ensures.caused;
       measured = boot_measured (Some (Booting part_name name)) name part first last made c.boot_from.ensures.caused;
-      last = boot_last play_answer name part_name old last c.boot_from.result c.boot_from.ensures.failed (part_good old.contents C name part_name part (c.in_ok-part.ensures.caused None));
+      fails_last = boot_last play_answer name part_name old last c.boot_from.result c.boot_from.ensures.failed (part_good old.contents C name part_name part (c.in_ok-part.ensures.caused None));
       asks = c.read_part.ensures.asks;
       stays = c.read_part.ensures.inputs;
     }
@@ -42,7 +42,7 @@ returns-in_err-part-clause-ready g c = rw (handed_on c.from_residual.result c.in
       caused = λ before after. part_refused (record before { inputs = old; flash = flash }) (record after { inputs = new; flash = flash }) name part_name event (c.in_err-part.ensures.caused flash.bytes);
       stops = first_stops (Booting part_name name) (limited part_limit part_name) [] old new event refl c.read_part.ensures.stands c.read_part.ensures.asks (no_part_about part_name event c.in_err-part.ensures.named);
       measured = no_part_measured (Some (Booting part_name name)) flash part_name event (inl refl) c.in_err-part.ensures.named;
-      last = no_part_last (Booting part_name name) old flash part_name event (inl refl) c.in_err-part.ensures.named;
+      fails_last = no_part_last (Booting part_name name) old flash part_name event (inl refl) c.in_err-part.ensures.named;
       asks = c.read_part.ensures.asks;
       stays = c.read_part.ensures.inputs;
     })

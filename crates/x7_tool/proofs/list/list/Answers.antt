@@ -179,7 +179,7 @@ returns-in_err-turn g c = rw (handed_on c.from_residual-in_err-turn.result c.in_
           (unread_end old.inputs (i.state c.loop-lister.inputs) new.inputs old.flash.bytes stream v.known.0 c.loop-lister.lister c.loop-lister.left (SinkFails old.out new.out) old.out.written new.out.written event
           v.inputs v.known.1.0 v.known.1.3 v.known.1.1 v.known.1.2 c.in_err-turn.ensures.err c.next_turn.ensures.asked)
           (stays_near event stream old new (unread_near old.inputs.contents stream new.inputs.rest old.out.written new.out.written (i.state c.loop-lister.inputs) new.inputs stream v.known.0 c.loop-lister.lister c.loop-lister.left event refl v.known.1.0 t
-          (omega (arith, v.known.1.3.given, c.next_turn.ensures.turn, v.piece)) (λ e. omega (arith, c.in_err-turn.ensures.over e, v.piece)) (same_now (o.state c.loop-lister.out)) c.in_err-turn.ensures.err));
+          (omega (arith, v.known.1.3.given, c.next_turn.ensures.gives_a_turn, v.piece)) (λ e. omega (arith, c.in_err-turn.ensures.over e, v.piece)) (same_now (o.state c.loop-lister.out)) c.in_err-turn.ensures.err));
       stops = let v = c.loop-lister.invariant in first_stops (Listing c.args.stream.now) (limited stream_limit c.args.stream.now) [] (g.I.Inputs.state c.args.inputs.now) (g.I.Inputs.state c.next_turn.new.inputs) (event_of c.in_err-turn.field-0.0) refl (stands_turn c.args.stream.now v.known.0 stream_limit c.loop-lister.left (g.I.Inputs.state c.loop-lister.inputs) (g.I.Inputs.state c.next_turn.new.inputs) v.known.1.3 v.known.1.2 c.next_turn.ensures.gives_few) asks (unread_about c.args.stream.now (event_of c.in_err-turn.field-0.0) (turn_unread (g.I.Inputs.state c.loop-lister.inputs) (g.I.Inputs.state c.next_turn.new.inputs) c.args.stream.now c.loop-lister.left (event_of c.in_err-turn.field-0.0) c.in_err-turn.ensures.err));
       judges = tt;
       asks = asks;
@@ -221,7 +221,7 @@ returns-in_err-put_turn g c = rw (handed_on c.from_residual-in_err-put_turn.resu
     let few : length piece ≤ turn_bytes = omega (arith, length-take-le n c.next_turn.new.buffer (omega (arith, c.in_ok-turn.ensures.within.1, c.next_turn.ensures.length, v.piece)), c.in_ok-turn.ensures.within.1, v.piece) in
     let known = stream_whole taken t.line t.content (t.listing []) in
     let near = turn_near contents stream taken piece t.line t.content c.loop-lister.lister rest old (o.state c.loop-lister.out).written now sel t.short_header few known t.lists c.put_turn.ensures.longer in
-    let gives = turn_given contents stream taken t.line t.content given c.loop-lister.lister (i.state c.loop-lister.inputs).rest old (o.state c.loop-lister.out).written now v.known.1.0 (omega (arith, v.known.1.3.given, c.next_turn.ensures.turn, v.piece)) known t.lists c.put_turn.ensures.longer in
+    let gives = turn_given contents stream taken t.line t.content given c.loop-lister.lister (i.state c.loop-lister.inputs).rest old (o.state c.loop-lister.out).written now v.known.1.0 (omega (arith, v.known.1.3.given, c.next_turn.ensures.gives_a_turn, v.piece)) known t.lists c.put_turn.ensures.longer in
     let asks = few_read (i.state c.args.inputs.now) (i.state c.loop-lister.inputs) (i.state c.next_turn.new.inputs) c.loop-lister.left c.loop-lister.invariant.once c.next_turn.ensures.gives_few in
     record {
       ends = list_ends stream (record before { inputs = i.state c.args.inputs.now; out = o.state c.args.out.now }) (record after { inputs = i.state c.next_turn.new.inputs; out = o.state c.put_turn.new.out }) (Err r) (end c.in_err-put_turn.ensures.why) (stays_near r stream (record before { inputs = i.state c.args.inputs.now; out = o.state c.args.out.now }) (record after { inputs = i.state c.next_turn.new.inputs; out = o.state c.put_turn.new.out }) (unwritten_near contents stream rest old now _ given r gives near (why_weaker c.in_err-put_turn.ensures.why)));
@@ -279,7 +279,7 @@ returns-then-turn g c = λ before after.
     let longer = longer_twice (o.state c.loop-lister.out).written (o.state c.put_turn.new.out).written now c.put_turn.ensures.longer c.put_end.ensures.longer in
     let whole = stream_whole taken t.line t.content (t.listing []) in
     let near = turn_near contents stream taken piece t.line t.content c.loop-lister.lister (i.state c.next_turn.new.inputs).rest old (o.state c.loop-lister.out).written now sel t.short_header few whole t.lists longer in
-    let gives = turn_given contents stream taken t.line t.content given c.loop-lister.lister (i.state c.loop-lister.inputs).rest old (o.state c.loop-lister.out).written now v.known.1.0 (omega (arith, v.known.1.3.given, c.next_turn.ensures.turn, v.piece)) whole t.lists longer in
+    let gives = turn_given contents stream taken t.line t.content given c.loop-lister.lister (i.state c.loop-lister.inputs).rest old (o.state c.loop-lister.out).written now v.known.1.0 (omega (arith, v.known.1.3.given, c.next_turn.ensures.gives_a_turn, v.piece)) whole t.lists longer in
     let close = err_weaker c.put_end.result (λ r w. stays_near (event_of r) stream (record before { inputs = i.state c.args.inputs.now; out = o.state c.args.out.now }) (record after { inputs = i.state c.next_turn.new.inputs; out = o.state c.put_end.new.out }) (unwritten_near contents stream (i.state c.next_turn.new.inputs).rest old now _ given (event_of r) gives near (why_weaker w))) c.put_end.ensures.why in
     let asks = few_read (i.state c.args.inputs.now) (i.state c.loop-lister.inputs) (i.state c.next_turn.new.inputs) c.loop-lister.left c.loop-lister.invariant.once c.next_turn.ensures.gives_few in
     record {
