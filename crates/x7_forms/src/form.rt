@@ -144,10 +144,12 @@ fn play_form(names: &[String]) -> Option<Form<'_>>
     ensures { form_asked result ≡ play_form (map string_bytes names.now) }
 {
     match names {
-        [part, streams @ ..] if streams.len() >= 1 && streams.len() <= MOST_STREAMS => Some(Form::Play {
-            part: part.as_str(),
-            streams,
-        }),
+        [part, streams @ ..] if streams.len() >= 1 && streams.len() <= MOST_STREAMS => Some(
+            Form::Play {
+                part: part.as_str(),
+                streams,
+            },
+        ),
         _ => None,
     }
 }

@@ -38,7 +38,11 @@ fn asked_count(left: usize, room: usize) -> usize
 
 /// Fills the buffer with the next bytes of the selected input, and answers how many there were: fewer than the buffer
 /// holds only where the input ended.
-fn fill<'w, I: Inputs>(inputs: &mut I, name: &'w str, buffer: &mut [u8]) -> Result<usize, Refusal<'w>>
+fn fill<'w, I: Inputs>(
+    inputs: &mut I,
+    name: &'w str,
+    buffer: &mut [u8],
+) -> Result<usize, Refusal<'w>>
     requires { (I.state inputs.old).selected ≡ true }
     ensures ok { IfOk result (λ n. TakesInput (I.state inputs.old) (take n buffer.new) (I.state inputs.new)) }
     ensures within { IfOk result (λ n. n ≤ length buffer.old) }

@@ -59,7 +59,11 @@ fn too_long<'w>(name: &'w str) -> Refusal<'w>
 }
 
 /// The image of two streams for parts whose start address counts bytes.
-fn image_by_bytes<'w>(alloc: Global, streams: &Streams, name: &'w str) -> Result<Vec<u8>, Refusal<'w>>
+fn image_by_bytes<'w>(
+    alloc: Global,
+    streams: &Streams,
+    name: &'w str,
+) -> Result<Vec<u8>, Refusal<'w>>
     requires golden { streams.now.golden.start ≤ length streams.now.golden.bytes.items }
     requires update { streams.now.update.start ≤ length streams.now.update.bytes.items }
     ensures ok { IfOk result (λ text. image_by name.now 1 (streams_of streams.now) ≡ Ok (bytes_answer text)) }
