@@ -19,7 +19,7 @@ use Rattle.x7_boot.specs.Image.{flash_limit}
 use Rattle.x7_forms.specs.declared.refusal.Refusal.{Refusal}
 use Rattle.x7_tool.specs.Outcome.{BootedAs, FlashBoots, FormGives, no_text}
 use Rattle.x7_tool.specs.Outside.{Came, KeepsFlash, Outside, ReadsFlash, known_from, known_in, sources}
-use Rattle.x7_tool.specs.Run.{Agrees, AnswersOver, FlashComes, IsMeasured, FailsLast, IsUnattached}
+use Rattle.x7_tool.specs.Run.{GivesIfKnown, AnswersOver, FlashComes, IsMeasured, FailsLast, IsUnattached}
 use Rattle.x7_forms.specs.Step.{Among, CameIn, DueBy, IsCaused, IsCausedBy, IsDecided, IsDue, IsNoPart, IsPossible, IsUnread, seen, step_over}
 use Rattle.x7_forms.proofs.ReadLemmas.{caused_on_by, name_is, outside_goes, part_steady}
 
@@ -183,13 +183,13 @@ no_part_last form old new name event a (inr h) = other_fault (Some form) old new
 
 -- the part of a boot was read
 pub part_good : (contents : Option (List ℕ → Option (List ℕ))) (C : Mishap → Type 0) (name part_name : List ℕ) (part : PartData) → IsCaused {A = PartData} (with_inputs contents None) C (λ t. part_known t part_name) (Ok part)
-    → Agrees (with_inputs contents None) (Booting part_name name) (Ok no_text)
+    → GivesIfKnown (with_inputs contents None) (Booting part_name name) (Ok no_text)
 part_good None C name part_name part h = tt
 part_good (Some inputs) C name part_name part (inl h) = absurd h
 part_good (Some inputs) C name part_name part (inr h) = subst (λ (r : Result PartData Event). BootedAs name r None (Ok no_text)) (sym h.1) tt
 
 pub boot_last : {A : Type 0} (value : A → Answer) (name part_name : List ℕ) (old : InputsState) (new : FlashState) (result : Result A Refusal) → IfErr result (λ r. event_of r ≡ reading_failed name → new.attached ≡ true → new.extent ≤ flash_limit)
-    → Agrees (with_inputs old.contents None) (Booting part_name name) (Ok no_text) → FailsLast (Some (Booting part_name name)) old new (seen value result)
+    → GivesIfKnown (with_inputs old.contents None) (Booting part_name name) (Ok no_text) → FailsLast (Some (Booting part_name name)) old new (seen value result)
 boot_last value name part_name old new (Ok a) h g = tt
 boot_last value name part_name old new (Err r) h g = λ other a e at. elim a [
   | inl same ↦ inl (h (e ∙ ap reading_failed same) at, (no_text, g))

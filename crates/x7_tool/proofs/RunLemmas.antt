@@ -25,7 +25,7 @@ use Rattle.x7_tool.specs.Leaving.{Updates}
 use Rattle.x7_tool.specs.Outcome.{AssembledAs, FormGives, IsOutcome, mcs_image, text_limit}
 use Rattle.x7_tool.specs.Outside.{Came, IsQuiet, KeepsFlash, Outside, known_in, sources}
 use Rattle.x7_tool.specs.Promise.{Promise}
-use Rattle.x7_tool.specs.Run.{Agrees, AnswersForm, AnswersOver, CausedBy, EndIsCaused, Ends, EndsAs, FailsLast, GetsBy, GetsPrefix, ReportsMishap, IsMeasured, JudgesFlash, LeavesBy, LeftAtBreak, LeftBy, Puts, SaysEnd}
+use Rattle.x7_tool.specs.Run.{GivesIfKnown, AnswersForm, AnswersOver, CausedBy, EndIsCaused, Ends, EndsAs, FailsLast, GetsBy, GetsPrefix, ReportsMishap, IsMeasured, JudgesFlash, LeavesBy, LeftAtBreak, LeftBy, PutsAnswer, SaysEnd}
 use Rattle.x7_tool.specs.Runs.{TextsLeadBack, Runs}
 use Rattle.x7_tool.specs.Stopping.{Stops}
 use Rattle.x7_tool.proofs.FlashLemmas.{answers_over, not_fault, not_large}
@@ -53,7 +53,7 @@ event_by known form old new event Fault k q h = absurd (never_came form old new 
 event_by known form old new event Absence k q (inl h) = absurd (never_came form old new h.mishap q h.came)
 event_by known form old new event Absence k q (inr h) = inr (rw k at h)
 event_by known form old new event Break k q h = elim h.1 [ inl fails ↦ absurd (q.2 fails) | inr fails ↦ absurd (q.3 fails.0) ]
-event_by known form old new event Difference k q h = let agrees : Agrees (known_in old) form (Err event) = h.1 in inr (rw k at agrees)
+event_by known form old new event Difference k q h = let agrees : GivesIfKnown (known_in old) form (Err event) = h.1 in inr (rw k at agrees)
 event_by known form old new event Contents k q h = inr (rw k at h)
 
 -- the end is the outcome or want of memory
@@ -156,7 +156,7 @@ back_is (Some form) old new s end outcome = form_back form old new s end outcome
 
 -- ---- promises
 
-promise_by : (known : Option Known) (form : AskedForm) (answer : Answer) → Agrees known form (Ok answer) → Promise known (Some form) (Ok answer)
+promise_by : (known : Option Known) (form : AskedForm) (answer : Answer) → GivesIfKnown known form (Ok answer) → Promise known (Some form) (Ok answer)
 promise_by None form answer h = tt
 promise_by (Some known) form answer h = promised known form answer h
 
@@ -242,7 +242,7 @@ no_break known C Due event (inl h) = outside_by known C Due event h
 no_break None C Due event (inr h) = open_by (cause_of_event event) h
 no_break (Some t) C Due event (inr h) = decided_by (cause_of_event event) h.0
 
-gets_by : (known : Option Known) (form : AskedForm) (answer : Answer) (old new : SinkState) → listed_by (Some form) ≡ None → Agrees known form (Ok answer) → PutsSome old answer.text new → GetsPrefix known form old new
+gets_by : (known : Option Known) (form : AskedForm) (answer : Answer) (old new : SinkState) → listed_by (Some form) ≡ None → GivesIfKnown known form (Ok answer) → PutsSome old answer.text new → GetsPrefix known form old new
 gets_by None form answer old new l h p = (answer.text, p)
 gets_by (Some known) form answer old new l h p = subst (λ (s : Option (List ℕ)). GetsBy s known form old new) (sym l) (answer, (h, p))
 
@@ -276,7 +276,7 @@ unfailed form old new (Ok answer) u = tt
 unfailed form old new (Err event) u = λ name a e at. absurd (subst (λ (x : FlashUse). Among (names_used x) name) u a)
 
 -- a form whose text is ready before any of it is written ends as it should where its text has its cause and was put
-puts_end : (form : AskedForm) (old new : Outside) (whole : Result Answer Event) (got : Result Bool Event) → listed_by (Some form) ≡ None → updated_by (Some form) ≡ None → IsMeasured (Some form) new.flash whole → FailsLast (Some form) old.inputs new.flash whole → AnswersOver form old new whole → Puts whole old.out new.out got
+puts_end : (form : AskedForm) (old new : Outside) (whole : Result Answer Event) (got : Result Bool Event) → listed_by (Some form) ≡ None → updated_by (Some form) ≡ None → IsMeasured (Some form) new.flash whole → FailsLast (Some form) old.inputs new.flash whole → AnswersOver form old new whole → PutsAnswer whole old.out new.out got
     → EndsAs (Some form) old new got
 puts_end form old new (Ok answer) (Ok stopped) l u m f c p = (
   answer.text,
@@ -312,11 +312,11 @@ puts_end form old new (Err event) (Err other) l u m f c p =
     })
 
 pub text_ends : (form : AskedForm) (old new : Outside) (whole : Result Answer Event) (got : Result Bool Event)
-    → streamed (listed_by (Some form)) (updated_by (Some form)) ≡ None → IsMeasured (Some form) new.flash whole → FailsLast (Some form) old.inputs new.flash whole → AnswersOver form old new whole → Puts whole old.out new.out got → EndsAs (Some form) old new got
+    → streamed (listed_by (Some form)) (updated_by (Some form)) ≡ None → IsMeasured (Some form) new.flash whole → FailsLast (Some form) old.inputs new.flash whole → AnswersOver form old new whole → PutsAnswer whole old.out new.out got → EndsAs (Some form) old new got
 text_ends form old new whole got n m f c p =
     puts_end form old new whole got (none_listed (listed_by (Some form)) (updated_by (Some form)) n) (none_updated (listed_by (Some form)) (updated_by (Some form)) n) m f c p
 
 -- a form that reads inputs alone ends as it should where its text has its cause and was put
 pub ready_ends : (form : AskedForm) (old new : Outside) (whole : Result Answer Event) (got : Result Bool Event)
-    → streamed (listed_by (Some form)) (updated_by (Some form)) ≡ None → flash_use (Some form) ≡ Unused → AnswersForm form old.inputs new.inputs whole → Puts whole old.out new.out got → EndsAs (Some form) old new got
+    → streamed (listed_by (Some form)) (updated_by (Some form)) ≡ None → flash_use (Some form) ≡ Unused → AnswersForm form old.inputs new.inputs whole → PutsAnswer whole old.out new.out got → EndsAs (Some form) old new got
 ready_ends form old new whole got l u c p = text_ends form old new whole got l (unmeasured form new.flash whole u) (unfailed form old.inputs new.flash whole u) (answers_over form old new whole (c old.flash.bytes)) p

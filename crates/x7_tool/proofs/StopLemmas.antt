@@ -33,7 +33,7 @@ use Rattle.x7_tool.specs.Outcome.{DebugInputs, DebuggedAs, PartAndText, PlayedSv
 use Rattle.x7_update.specs.declared.fault.UpdateFault.{UpdateFault}
 use Rattle.x7_update.specs.declared.fault.UpdateFault.TheVariants as update
 use Rattle.x7_tool.specs.Outside.{Sources}
-use Rattle.x7_tool.specs.Run.{FlashComes, IsUnopened, IsUnusable, JudgesFlash, Puts}
+use Rattle.x7_tool.specs.Run.{FlashComes, IsUnopened, IsUnusable, JudgesFlash, PutsAnswer}
 use Rattle.x7_tool.proofs.FlashLemmas.{flash_open}
 use Rattle.x7_tool.specs.Stopping.{Stops, StopsBy, NamesItsStop, inputs_of}
 
@@ -190,7 +190,7 @@ written_stops P Q form old now (Err x) h = put_stops form old now (event_of x) h
 -- ---- the words
 
 -- a text that is ready, or none, and how it was written
-pub puts_stop : (form : AskedForm) (first now : InputsState) (whole : Result Answer Event) (old new : SinkState) (got : Result Bool Event) → Stops (Some form) first now whole → Puts whole old new got → Stops (Some form) first now got
+pub puts_stop : (form : AskedForm) (first now : InputsState) (whole : Result Answer Event) (old new : SinkState) (got : Result Bool Event) → Stops (Some form) first now whole → PutsAnswer whole old new got → Stops (Some form) first now got
 puts_stop form first now (Err event) old new got s p = subst (λ (r : Result Bool Event). Stops (Some form) first now r) (sym p.0) s
 puts_stop form first now (Ok answer) old new (Ok stopped) s p = tt
 puts_stop form first now (Ok answer) old new (Err event) s p = subst (λ (x : Event). StopsBy (cause_of_event x) form first now x) (sym p.0) tt

@@ -29,7 +29,7 @@ use Rattle.x7_forms.proofs.ReadLemmas.{name_is, outside_goes}
 use Rattle.x7_tool.specs.Leaving.{HasData, KeepsBytes, MayBeFound, UsesFlash}
 use Rattle.x7_tool.specs.Outcome.{FlashUpdates, FormGives, IsUpdateFault, UpdateNames, UpdatesBytes, UpdatesWith, no_text, stream_data, update_event}
 use Rattle.x7_tool.specs.Outside.{Came, Outside, known_in, sources}
-use Rattle.x7_tool.specs.Run.{Agrees, AnswersOver, EndsAs, FailsLast, IsMeasured, IsUnopened}
+use Rattle.x7_tool.specs.Run.{GivesIfKnown, AnswersOver, EndsAs, FailsLast, IsMeasured, IsUnopened}
 use Rattle.x7_tool.proofs.FlashLemmas.{bad_small, came_wider, detached, not_fault, not_large, other_fault, known_flash, unattached_measured, unread_last, unread_measured}
 use Rattle.x7_tool.proofs.RunLemmas.{has_cause, leaves_all, near_all, no_break}
 
@@ -66,7 +66,7 @@ update_over : (flash stream : List ℕ) (old new : Outside) (end : Result Answer
 update_over flash stream old new end o h = inr (update_due (known_in old) old.flash.bytes flash stream end (known_flash old.inputs.contents old.flash.bytes flash) o h)
 
 agreed : (known : Option Known) (bytes : Option (List ℕ)) (flash stream : List ℕ) (end : Result Answer Event) → IsTold known flash bytes
-    → ((t : Known) → known ≡ Some t → UpdatesBytes (names flash stream) bytes (stream_data t stream) end) → Agrees known (UpdatingFlash flash stream) end
+    → ((t : Known) → known ≡ Some t → UpdatesBytes (names flash stream) bytes (stream_data t stream) end) → GivesIfKnown known (UpdatingFlash flash stream) end
 agreed None bytes flash stream end same h = tt
 agreed (Some t) bytes flash stream end same h = update_given t bytes flash stream end (same t refl) (h t refl)
 
@@ -215,7 +215,7 @@ cause_from bytes a b c (Differs place wrote read) e w f h = (h.0, sym e ∙ h.1,
 cause_from bytes a b c NoMemory e w f h = tt
 
 -- the flash can take the stream's data
-could_end : (flash stream bytes : List ℕ) (old : Outside) → IsWithin old.flash.bytes → HasData (known_in old) stream bytes → IfKnown old.flash.bytes (CanTake bytes) → Agrees (known_in old) (UpdatingFlash flash stream) (Ok no_text)
+could_end : (flash stream bytes : List ℕ) (old : Outside) → IsWithin old.flash.bytes → HasData (known_in old) stream bytes → IfKnown old.flash.bytes (CanTake bytes) → GivesIfKnown (known_in old) (UpdatingFlash flash stream) (Ok no_text)
 could_end flash stream bytes old within has can =
     let known = old.flash.bytes in
     let n = names flash stream in
@@ -223,7 +223,7 @@ could_end flash stream bytes old within has can =
     (λ t e. inr (within, subst (λ (r : Result (List ℕ) Event). UpdatesWith n known r (Ok no_text)) (sym (data_at (known_in old) stream bytes has t e)) (refl, can)))
 
 -- the stream is good, whatever the flash holds
-stream_good : (contents : Option (List ℕ → Option (List ℕ))) (flash stream bytes : List ℕ) → HasData (with_inputs contents None) stream bytes → Agrees (with_inputs contents None) (UpdatingFlash flash stream) (Ok no_text)
+stream_good : (contents : Option (List ℕ → Option (List ℕ))) (flash stream bytes : List ℕ) → HasData (with_inputs contents None) stream bytes → GivesIfKnown (with_inputs contents None) (UpdatingFlash flash stream) (Ok no_text)
 stream_good None flash stream bytes h = tt
 stream_good (Some inputs) flash stream bytes h = inr (tt, subst (λ (r : Result (List ℕ) Event). UpdatesWith (names flash stream) None r (Ok no_text)) (sym h) (refl, tt))
 

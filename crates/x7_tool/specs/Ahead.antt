@@ -65,7 +65,8 @@ IsRefusedSoon stream old new =
 -- given than stand before that one
 abbrev pub IsUnjudged : List ℕ → Outside → Outside → Type 0
 IsUnjudged stream old new =
-    (inputs : List ℕ → Option (List ℕ)) (bytes : List ℕ) (place : ℕ) → old.inputs.contents ≡ Some inputs → inputs stream ≡ Some bytes → AreBytes bytes → stream_listing bytes ≡ Err place → place < length bytes
+    (inputs : List ℕ → Option (List ℕ)) (bytes : List ℕ) (place : ℕ) → old.inputs.contents ≡ Some inputs → inputs stream ≡ Some bytes
+    → AreBytes bytes → stream_listing bytes ≡ Err place → place < length bytes
     → new.inputs.given ≤ place
 
 -- by the status: where the sink failed, the stream is too large, it failed or memory is wanting, few bytes more were

@@ -25,7 +25,9 @@ IsUnlisted old new event = ((event ≡ no_memory) × (new.written ≡ old.writte
 -- The listing stopped in a piece: whatever was listed before, and may follow, a
 -- prefix of the listing of all of it was put.
 abbrev pub StopsIn : ListerState → Option (List ℕ) → List ℕ → Option (List ℕ) → Type 0
-StopsIn l old piece new = (first : Option (List ℕ)) (bytes rest : List ℕ) → Lists l first old bytes → AreBytes (bytes ++ (piece ++ rest)) → PutsPrefix first (listing_of (bytes ++ (piece ++ rest))) new
+StopsIn l old piece new =
+    (first : Option (List ℕ)) (bytes rest : List ℕ) → Lists l first old bytes → AreBytes (bytes ++ (piece ++ rest))
+    → PutsPrefix first (listing_of (bytes ++ (piece ++ rest))) new
 
 -- What was put after the first bytes is so far the listing of each stream that begins with these bytes: a header's line
 -- or nothing, and the listing of the content, which is the data of the stream so far.

@@ -25,14 +25,14 @@ use Rattle.x7_tool.specs.Stopping.{Stops}
 -- ---- why
 
 -- the contents are known, and the form comes to this end; where they aren't, never
-abbrev pub Shows : Option Known → AskedForm → Result Answer Event → Type 0
-Shows None form end = ⊥
-Shows (Some known) form end = FormGives known form end
+abbrev pub IsKnownToGive : Option Known → AskedForm → Result Answer Event → Type 0
+IsKnownToGive None form end = ⊥
+IsKnownToGive (Some known) form end = FormGives known form end
 
 -- where the contents are known, the form comes to this end; where they aren't, always
-abbrev pub Agrees : Option Known → AskedForm → Result Answer Event → Type 0
-Agrees None form end = Unit {0}
-Agrees (Some known) form end = FormGives known form end
+abbrev pub GivesIfKnown : Option Known → AskedForm → Result Answer Event → Type 0
+GivesIfKnown None form end = Unit {0}
+GivesIfKnown (Some known) form end = FormGives known form end
 
 -- The event reports a mishap that came; where the contents are known, the form comes to the event over them with that
 -- mishap.
@@ -57,23 +57,23 @@ IsDifference _ old new event = ⊥
 -- A write of the flash of a form failed once all else was done: the flash is within the limit, and over
 -- what is known the form comes to its end.
 abbrev pub WritesLast : AskedForm → Outside → Outside → Type 0
-WritesLast form old new = WritesFail (updated_by (Some form)) old.flash new.flash × (new.flash.extent ≤ flash_limit) × Agrees (known_in old) form (Ok no_text)
+WritesLast form old new = WritesFail (updated_by (Some form)) old.flash new.flash × (new.flash.extent ≤ flash_limit) × GivesIfKnown (known_in old) form (Ok no_text)
 
 -- by its cause, what is so of an event: a fault, or an absence by its count, is the first event that comes
 abbrev pub CausedBy : Cause → AskedForm → Outside → Outside → Event → Type 0
 CausedBy Wording form old new event = ⊥
 CausedBy Want form old new event = event ≡ no_memory
 CausedBy Fault form old new event = ReportsMishap form old new event
-CausedBy Absence form old new event = ReportsMishap form old new event ⊎ Shows (known_in old) form (Err event)
+CausedBy Absence form old new event = ReportsMishap form old new event ⊎ IsKnownToGive (known_in old) form (Err event)
 CausedBy Break form old new event = (event ≡ writing_failed) × (SinkFails old.out new.out ⊎ WritesLast form old new)
-CausedBy Difference form old new event = IsDifference form old new event × Agrees (known_in old) form (Err event)
-CausedBy Contents form old new event = Agrees (known_in old) form (Err event)
+CausedBy Difference form old new event = IsDifference form old new event × GivesIfKnown (known_in old) form (Err event)
+CausedBy Contents form old new event = GivesIfKnown (known_in old) form (Err event)
 
 -- why a command ended so: words without a form are a wrong usage, a whole text is that of the
 -- known contents, and an event has its cause
 abbrev pub EndIsCaused : Option AskedForm → Outside → Outside → Result Answer Event → Type 0
 EndIsCaused None old new end = end ≡ Err usage
-EndIsCaused (Some form) old new (Ok answer) = Agrees (known_in old) form (Ok answer)
+EndIsCaused (Some form) old new (Ok answer) = GivesIfKnown (known_in old) form (Ok answer)
 EndIsCaused (Some form) old new (Err event) = CausedBy (cause_of_event event) form old new event
 
 -- ---- what the output got
@@ -156,7 +156,7 @@ IsMeasured form new (Err event) = (name : List ℕ) → Among (flash_names form)
 -- a form has all that it needs but for its flash, which is within the limit: whatever that holds, there
 -- is a whole text over what the inputs hold
 abbrev pub NeedsOnlyFlash : AskedForm → InputsState → FlashState → Type 0
-NeedsOnlyFlash form old new = (new.extent ≤ flash_limit) × ((answer : Answer) × Agrees (with_inputs old.contents None) form (Ok answer))
+NeedsOnlyFlash form old new = (new.extent ≤ flash_limit) × ((answer : Answer) × GivesIfKnown (with_inputs old.contents None) form (Ok answer))
 
 -- a fault of a form's flash that is attached comes once the form needs only the flash; it may
 -- be that of an input of the same name too
@@ -221,10 +221,10 @@ SaysEnd old new (Err event) = PutsOrFails old (event_line event) new
 
 -- how a text that is ready was written, or the event in place of one: the answer of the call is whether what the text
 -- reports stopped, or an event
-abbrev pub Puts : Result Answer Event → SinkState → SinkState → Result Bool Event → Type 0
-Puts (Err event) old new got = (got ≡ Err event) × (new.written ≡ old.written)
-Puts (Ok answer) old new (Ok stopped) = (stopped ≡ answer.stopped) × PutsAll old answer.text new
-Puts (Ok answer) old new (Err event) = (event ≡ writing_failed) × SinkFails old new × PutsSome old answer.text new
+abbrev pub PutsAnswer : Result Answer Event → SinkState → SinkState → Result Bool Event → Type 0
+PutsAnswer (Err event) old new got = (got ≡ Err event) × (new.written ≡ old.written)
+PutsAnswer (Ok answer) old new (Ok stopped) = (stopped ≡ answer.stopped) × PutsAll old answer.text new
+PutsAnswer (Ok answer) old new (Err event) = (event ≡ writing_failed) × SinkFails old new × PutsSome old answer.text new
 
 -- a text of the form that is ready has its cause: it is what the known contents come to, or
 -- what the form names failed or was missing

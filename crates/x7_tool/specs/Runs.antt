@@ -29,11 +29,15 @@ LeadsBack s end bytes = (s ≡ status.NoMemory) ⊎ (end ≡ Ok (record { stoppe
 
 -- where nothing failed, the listing of a stream assembles to the stream, its header included
 abbrev pub ListingAssembles : List ℕ → Outside → Outside → Status → Result Answer Event → Type 0
-ListingAssembles name old new s end = (bytes text : List ℕ) → AreBytes bytes → length bytes ≤ stream_limit → stream_listing bytes ≡ Ok text → HasText old name text → IsQuiet (Some (Assembling name)) old new → LeadsBack s end bytes
+ListingAssembles name old new s end =
+    (bytes text : List ℕ) → AreBytes bytes → length bytes ≤ stream_limit → stream_listing bytes ≡ Ok text
+    → HasText old name text → IsQuiet (Some (Assembling name)) old new → LeadsBack s end bytes
 
 -- where nothing failed, the Intel HEX text of an image gives the image
 abbrev pub GivesImage : List ℕ → Outside → Outside → Status → Result Answer Event → Type 0
-GivesImage name old new s end = (bytes : List ℕ) → AreBytes bytes → length bytes ≤ flash_limit → HasText old name (mcs_text bytes) → IsQuiet (Some (FromMcs name)) old new → LeadsBack s end bytes
+GivesImage name old new s end =
+    (bytes : List ℕ) → AreBytes bytes → length bytes ≤ flash_limit
+    → HasText old name (mcs_text bytes) → IsQuiet (Some (FromMcs name)) old new → LeadsBack s end bytes
 
 -- what the text of `asm` or `unmcs` was made from comes back: of a listing the stream, of an Intel HEX text the image
 abbrev pub TextsLeadBack : Option AskedForm → Outside → Outside → Status → Result Answer Event → Type 0
