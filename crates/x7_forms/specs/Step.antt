@@ -30,7 +30,7 @@ pub record LacksAmong (names : List (List ℕ)) (old new : InputsState) (name : 
   pub deselected : IsDeselected name new
   pub risen : HasRisen old.absences new.absences
 
--- a step over inputs: the names that it may ask for, and what the inputs had come to before and after it
+-- a step over inputs: the names that it may ask for, and the states of the inputs before and after it
 pub record InputStep : Type 0 where
   pub names : List (List ℕ)
   pub before : InputsState
@@ -45,7 +45,7 @@ abbrev pub CameIn : InputStep → Mishap → Type 0
 CameIn step (Failing name given) = (given ≡ step.after.given) × FailsAmong step.names step.before step.after name
 CameIn step (Lacking name) = LacksAmong step.names step.before step.after name
 
--- what the result of a call says: a value, or the event of a refusal
+-- the result of a call as definitions see it: what `value` makes of it, or the event of its refusal
 abbrev pub seen : {A B : Type 0} → (A → B) → Result A Refusal → Result B Event
 seen value (Ok a) = Ok (value a)
 seen value (Err refusal) = Err (event_of refusal)
@@ -63,7 +63,7 @@ pub record IsOfMishap (A : Type 0) (known : Option Known) (Came : Mishap → Typ
   pub reports : mishap_event mishap ≡ event
   pub due : DueBy known mishap Due event
 
--- an event that may come whatever the contents are: want of memory, or that of a mishap
+-- the result is an event that may come whatever the contents are: want of memory, or that of a mishap
 abbrev pub IsFromOutside : {A : Type 0} → Option Known → (Mishap → Type 0) → (Known → Result A Event → Type 0) → Result A Event → Type 0
 IsFromOutside known Came Due (Ok a) = ⊥
 IsFromOutside {A} known Came Due (Err event) = (event ≡ no_memory) ⊎ IsOfMishap A known Came Due event
@@ -79,13 +79,13 @@ abbrev pub IsDecided : {A : Type 0} → Result A Event → Type 0
 IsDecided (Ok a) = Unit {0}
 IsDecided (Err event) = DecidedBy (cause_of_event event)
 
--- what contents that are not known may come to: an event that lies in them; which name it has, and which
--- reason, a step says by a clause of its own
+-- what contents that are not known may bring about: an event that lies in them; which name it has, and which reason, a
+-- step says by a clause of its own
 abbrev pub PossibleBy : Cause → Type 0
 PossibleBy Contents = Unit {0}
 PossibleBy _ = ⊥
 
--- the result is a value, or an event that contents which aren't known may come to
+-- the result is a value, or an event that contents which aren't known may bring about
 abbrev pub IsPossible : {A : Type 0} → Result A Event → Type 0
 IsPossible (Ok a) = Unit {0}
 IsPossible (Err event) = PossibleBy (cause_of_event event)
@@ -95,7 +95,7 @@ abbrev pub IsDue : {A : Type 0} → Option Known → (Known → Result A Event �
 IsDue None Due got = IsPossible got
 IsDue (Some known) Due got = IsDecided got × Due known got
 
--- the result has a cause: it comes from outside, or it is due
+-- the result has a cause: it comes from outside, or it is due over what is known
 abbrev pub IsCausedBy : {A : Type 0} → Option Known → (Mishap → Type 0) → (Known → Result A Event → Type 0) → Result A Event → Type 0
 IsCausedBy known Came Due got = IsFromOutside known Came Due got ⊎ IsDue known Due got
 
@@ -113,7 +113,7 @@ AnswersBy step Due got = (flash : Option (List ℕ)) → IsCausedBy (with_inputs
 abbrev pub AnswersAs : {A : Type 0} → InputStep → (Known → Result A Event) → Result A Event → Type 0
 AnswersAs step due got = AnswersBy step (λ known end. due known ≡ end) got
 
--- ---- why a step came to nothing, whatever the inputs hold
+-- ---- why a step gives nothing, whatever the inputs hold
 
 -- an input of this name isn't read: want of memory, it isn't there, it failed, or it is over its limit
 abbrev pub IsUnread : List ℕ → Event → Type 0

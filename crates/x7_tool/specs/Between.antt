@@ -18,7 +18,7 @@ pub record Lists (l : ListerState) (first now : Option (List ℕ)) (bytes : List
   pub put : now ≡ appended first given
   pub clear : l.text ≡ []
 
--- a call that writes more of a listing came to nothing: memory was wanting, and nothing was written, or the sink failed
+-- a call that writes more of a listing failed: memory was wanting, and nothing was written, or the sink failed
 abbrev pub IsUnlisted : SinkState → SinkState → Event → Type 0
 IsUnlisted old new event = ((event ≡ no_memory) × (new.written ≡ old.written)) ⊎ ((event ≡ writing_failed) × SinkFails old new)
 

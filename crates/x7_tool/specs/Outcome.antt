@@ -165,11 +165,11 @@ svf_shown part differ p = record {
   text = play_text differ ++ report_text part (state_shown part p) [] (memory_shown part p);
 }
 
--- what statements come to on a new device of the part
+-- the answer of statements that are played on a new device of the part
 abbrev pub svf_answer : PartData → List Statement → Answer
 svf_answer part statements = svf_shown part (first_difference part statements) (port_played part statements)
 
--- `svf PART TEXT`: what the text's statements come to, or the line of the first that is none
+-- `svf PART TEXT`: the answer of the text's statements, or the event of its first line that is no statement
 abbrev pub PlayedSvf : List ℕ → Result PartAndText Event → Result Answer Event → Type 0
 PlayedSvf name (Err event) end = Err event ≡ end
 PlayedSvf name (Ok texts) (Ok answer) = (statements : List Statement) × IsSvfOf texts.text (Ok statements) × (svf_answer texts.part statements ≡ answer)
@@ -282,7 +282,7 @@ abbrev pub BootedAs : List ℕ → Result PartData Event → Option Found → Re
 BootedAs name (Err event) flash end = Err event ≡ end
 BootedAs name (Ok part) flash end = FlashBoots name part flash end
 
--- the event of a boot that came to no end
+-- the event of a boot that could not be finished
 abbrev pub boot_event : List ℕ → BootFault → Event
 boot_event name fault.Failed = reading_failed name
 boot_event name fault.TooLarge = too_large name
@@ -299,7 +299,7 @@ pub record UpdateNames : Type 0 where
 abbrev pub no_text : Answer
 no_text = record { stopped = false; text = [] }
 
--- the event of an update that came to no end
+-- the event of an update that was not done
 abbrev pub update_event : UpdateNames → UpdateFault → Event
 update_event names (update_fault.Failed true) = writing_failed
 update_event names (update_fault.Failed false) = reading_failed names.flash
@@ -384,7 +384,7 @@ FormGives known (UpdatingFlash flash stream) end = UpdatedAs known (record { fla
 FormGives known (ToMcs image) end = mcs_written known image ≡ end
 FormGives known (FromMcs text) end = mcs_read known text ≡ end
 
--- the words come to this end: words without a form are a wrong usage
+-- the words come to this end over what is known: words without a form are a wrong usage
 abbrev pub IsOutcome : Known → Option AskedForm → Result Answer Event → Type 0
 IsOutcome known None end = Err usage ≡ end
 IsOutcome known (Some form) end = FormGives known form end

@@ -187,13 +187,13 @@ pub record Ends (form : Option AskedForm) (old new : Outside) (end : Result Answ
   pub fails_last : FailsLast form old.inputs new.flash end
   pub updates : Updates (updated_by form) old new end
 
--- how a command ended, by whether what it wrote reports a fault, or by the event
+-- how a command ended, by whether what it wrote reports that something stopped, or by the event
 abbrev pub EndsAs : Option AskedForm → Outside → Outside → Result Bool Event → Type 0
 EndsAs form old new (Ok stopped) = (text : List ℕ) × Ends form old new (Ok (record { stopped = stopped; text = text }))
 EndsAs form old new (Err event) = Ends form old new (Err event)
 
--- A form came to this end, but for what is said of it: how it ended, where reading stopped, what was judged where its
--- flash can't be used, how often inputs were asked for, and that every input keeps its bytes.
+-- What a form did, up to the line that is said of its end: how it ended, where reading stopped, that a flash which can't
+-- be used was judged before any input, how often inputs were asked for, and that every input keeps its bytes.
 pub record Answered (form : AskedForm) (old new : Outside) (got : Result Bool Event) : Type 0 where
   pub ends : EndsAs (Some form) old new got
   pub stops : Stops (Some form) old.inputs new.inputs got
@@ -201,15 +201,15 @@ pub record Answered (form : AskedForm) (old new : Outside) (got : Result Bool Ev
   pub asks : AsksFew old.inputs (length (names_of (Some form))) new.inputs
   pub stays : InputsStay old.inputs new.inputs
 
--- a form that writes no text came to this end, whatever the sinks hold
+-- what a form that writes no text did, whatever the sinks hold
 abbrev pub AnsweredSilently : AskedForm → Sources → Sources → Result Bool Event → Type 0
 AnsweredSilently form old new got = (before after : Outside) → after.out ≡ before.out → Answered form (with_sources before old) (with_sources after new) got
 
--- a listing came to this end, whatever the flash and the sink of messages hold
+-- what a listing did, whatever the flash and the sink of messages hold
 abbrev pub AnsweredListing : List ℕ → Transfer → Transfer → Result Bool Event → Type 0
 AnsweredListing stream old new got = (before after : Outside) → Answered (Listing stream) (with_transfer before old) (with_transfer after new) got
 
--- whether what a call wrote reports a fault, or the event of its refusal
+-- by the result of a call that writes: whether what it reports stopped, or the event of its refusal
 abbrev pub written_by : Result Bool Refusal → Result Bool Event
 written_by result = seen (λ stopped. stopped) result
 
@@ -226,8 +226,8 @@ PutsAnswer (Err event) old new got = (got ≡ Err event) × (new.written ≡ old
 PutsAnswer (Ok answer) old new (Ok stopped) = (stopped ≡ answer.stopped) × PutsAll old answer.text new
 PutsAnswer (Ok answer) old new (Err event) = (event ≡ writing_failed) × SinkFails old new × PutsSome old answer.text new
 
--- a text of the form that is ready has its cause: it is what the known contents come to, or
--- what the form names failed or was missing
+-- a text of the form that is ready, or the event in place of it, has its cause: the form gives it over the known
+-- contents, or what the form names failed or was missing, or memory was wanting
 abbrev pub AnswersOver : AskedForm → Outside → Outside → Result Answer Event → Type 0
 AnswersOver form old new got = IsCausedBy (known_in old) (Came (Some form) old new) (λ known end. FormGives known form end) got
 

@@ -77,7 +77,7 @@ fn text_of<'w>(alloc: Global, booted: Booted) -> Result<PlayText, Refusal<'w>>
     Ok(ready_text(alloc, booted)?)
 }
 
-/// Why a boot came to no end.
+/// Why a boot could not be finished.
 fn refusal_of<'w>(name: &'w str, fault: BootFault) -> Refusal<'w>
     ensures { event_of result ≡ boot_event name.now fault }
 {
