@@ -267,8 +267,8 @@ pub record IsBootText (part : PartData) (flash : List ℕ) (answer : Answer) : T
   pub stopped : answer.stopped ≡ has_failed end
   pub text : answer.text ≡ boot_text part (reverse (map tried (last ∷ older))) end last
 
--- the boot of a part from what is found under the name of a flash; where nothing is known of it, any text, or that it is
--- too large
+-- the boot of a part from what is found under the name of a flash; where nothing is known of it, any text, or that it
+-- is too large
 abbrev pub FlashBoots : List ℕ → PartData → Option Found → Result Answer Event → Type 0
 FlashBoots name part None (Ok answer) = Unit {0}
 FlashBoots name part None (Err event) = event ≡ too_large name

@@ -192,8 +192,8 @@ abbrev pub EndsAs : Option AskedForm → Outside → Outside → Result Bool Eve
 EndsAs form old new (Ok stopped) = (text : List ℕ) × Ends form old new (Ok (record { stopped = stopped; text = text }))
 EndsAs form old new (Err event) = Ends form old new (Err event)
 
--- What a form did, up to the line that is said of its end: how it ended, where reading stopped, that a flash which can't
--- be used was judged before any input, how often inputs were asked for, and that every input keeps its bytes.
+-- What a form did, up to the line that is said of its end: how it ended, where reading stopped, that an update whose
+-- flash can't be used asks for no stream, how often inputs were asked for, and that every input keeps its bytes.
 pub record Answered (form : AskedForm) (old new : Outside) (got : Result Bool Event) : Type 0 where
   pub ends : EndsAs (Some form) old new got
   pub stops : Stops (Some form) old.inputs new.inputs got
