@@ -20,7 +20,7 @@ use Rattle.x7_part.specs.PartFile.{part_in}
 use Rattle.x7_forms.specs.declared.bad_input.InputFault.TheVariants as input
 use Rattle.x7_forms.specs.Event.{Event, bad_input, missing, no_memory, reading_failed, too_large}
 use Rattle.x7_forms.specs.Known.{Absent, Broken, Failing, Found, Held, Known, Lacking, Mishap, StreamRead, and_so, broken_at, data_by, data_in, streams_known, input_found, known_of, mishap_event, part_by, part_limit, part_known, put_before, stream_known, spoiled, spoiled_name, taken_whole, whole_known, with_inputs, with_mishap}
-use Rattle.x7_forms.specs.Turn.{Breaks, IsAt, Reads, Unopened, Unread, UnreadRest}
+use Rattle.x7_forms.specs.Turn.{Breaks, Reads, Unopened, Unread, UnreadRest}
 use Rattle.x7_forms.proofs.HeadLemmas.{data_more}
 use Rattle.x7_forms.specs.Step.{Among, AnswersAs, AnswersBy, CameIn, DueBy, FailsAmong, IsCaused, IsCausedBy, IsDecided, IsDue, IsFromOutside, IsNoPart, IsOneUnplayed, IsPossible, IsUnplayed, IsUnread, LacksAmong, step_over}
 use Rattle.x7_part.specs.declared.fault.PartFault.{PartFault}
@@ -495,6 +495,11 @@ whole_refused old opened new flash name limit event k s a (inr (inr h, q)) =
     let taken : RestIsWhole old.contents name (preceded more new.rest) = subst (λ (r : Option (List ℕ)). RestIsWhole old.contents name r) h.1.1.0 s in
     caused_event (with_inputs old.contents flash) (CameIn (step_over (name ∷ []) old new)) (λ t. whole_known t limit name) event (too_large name) h.0
     (over_whole old.contents flash (CameIn (step_over (name ∷ []) old new)) name more new.rest limit taken (omega (arith, h.1.1.1)))
+
+-- no more than these bytes were given of the input of this name, the last that was asked for
+pub record IsAt (name bytes : List ℕ) (now : InputsState) : Type 0 where
+  pub asked : IfSome now.asked (λ kept. kept ≡ name)
+  pub given : now.given ≤ length bytes
 
 -- where an input is at, turn by turn
 pub at_open : (name : List ℕ) (s : InputsState) → Asks name s → IsAt name [] s

@@ -7,8 +7,8 @@ use Rattle.x7_forms.specs.Event.{Event, bad_input, bad_part, missing, no_memory,
 use Rattle.x7_forms.specs.Known.{Absent, Broken, Found, Held, Mishap, StreamRead, and_so, bytes_found, data_in, input_found, stream_known, taken_whole, with_inputs, if_within}
 use Rattle.x7_forms.specs.Step.{IsCaused, IsNoPart, IsUnplayed, IsUnread}
 use Rattle.x7_forms.specs.ReadingStops.{IsAbout, Limited, StopsAmong, limited, limited_together, size_in, size_of}
-use Rattle.x7_forms.specs.Turn.{GivesFew, IsAt, Reads, StandsAt, UnreadBeginning, Unopened}
-use Rattle.x7_forms.proofs.ReadLemmas.{asked_on, left_at}
+use Rattle.x7_forms.specs.Turn.{GivesFew, Reads, StandsAt, UnreadBeginning, Unopened}
+use Rattle.x7_forms.proofs.ReadLemmas.{IsAt, asked_on, left_at}
 
 -- a turn after what was read
 pub gives_on : (old mid new : InputsState) (taken : List ℕ) (limit left : ℕ) → Reads old taken mid → length taken + left ≡ limit → mid.ends ≤ old.ends → GivesFew mid left new → GivesFew old limit new

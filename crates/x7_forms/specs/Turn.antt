@@ -38,11 +38,6 @@ pub record Reads (old : InputsState) (bytes : List ℕ) (new : InputsState) : Ty
   pub asked : new.asked ≡ old.asked
   pub stays : InputsStay old new
 
--- no more than these bytes were given of the input of this name, the last that was asked for
-pub record IsAt (name bytes : List ℕ) (now : InputsState) : Type 0 where
-  pub asked : IfSome now.asked (λ kept. kept ≡ name)
-  pub given : now.given ≤ length bytes
-
 -- No input was asked for since, and of the selected one at most `left` bytes and one more
 -- were given, and its end read once at most.
 pub record GivesFew (old : InputsState) (left : ℕ) (new : InputsState) : Type 0 where

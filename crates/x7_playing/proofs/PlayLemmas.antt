@@ -10,7 +10,7 @@ use Rattle.x7_engine.specs.Standing.{NoWordDue, DeviceState, DeviceStandsFor, re
 use Rattle.x7_engine.specs.State.{memory_in, reads_of, state_of, stop_in}
 use Rattle.x7_engine.specs.Stop.{Stopped}
 use Rattle.x7_forms.specs.Known.{reads_limit}
-use Rattle.x7_playing.specs.Playing.{IsPlayed, empty_buffer, reads_room}
+use Rattle.x7_playing.specs.Playing.{empty_buffer, reads_room}
 use Rattle.x7_engine.proofs.ReadsLemmas.{reads_grow}
 use Rattle.x7_engine.proofs.StateLemmas.{stop_is_final_memory, stop_is_final_reads, stop_is_final_state, stop_is_final_stop}
 use Rattle.x7_engine.specs.declared.fed.Fed.TheVariants as fed
@@ -50,6 +50,18 @@ is_end (fed.ReadFull n) h = h n refl
 is_end fed.All h = tt
 is_end (fed.Stopped n) h = tt
 is_end (fed.Iprog n) h = tt
+
+-- The device took a prefix of the data, after which nothing changes: its state, its stop, its memory and the words read
+-- out are those of all data, and no word is due.
+pub record IsPlayed (part : PartData) (bytes : List ℕ) (d : DeviceState) (reads : List ℕ) : Type 0 where
+  pub prefix : List ℕ
+  pub stands : DeviceStandsFor part on_the_bench false d prefix
+  pub stop : stop_in part on_the_bench bytes ≡ stop_in part on_the_bench prefix
+  pub state : state_of part on_the_bench false bytes ≡ state_of part on_the_bench false prefix
+  pub memory : memory_in part on_the_bench bytes ≡ memory_in part on_the_bench prefix
+  pub no_word_due : NoWordDue d
+  pub reads_are : reads ≡ reads_of part on_the_bench bytes
+  pub within_limit : length reads ≤ reads_limit
 
 pub stopped_end : (part : PartData) (bytes prefix rest : List ℕ) (d : DeviceState) (reads : List ℕ) (s : Stopped) → AreBytes bytes → bytes ≡ prefix ++ rest → DeviceStandsFor part on_the_bench false d prefix → reads ≡ reads_given part on_the_bench d prefix → length reads ≤ reads_limit
     → stop_in part on_the_bench prefix ≡ Some s → NoWordDue d → IsPlayed part bytes d reads

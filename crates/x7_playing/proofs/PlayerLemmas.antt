@@ -19,9 +19,9 @@ use Rattle.x7_engine.proofs.FrameLemmas.{length_left}
 use Rattle.x7_engine.proofs.ReadsLemmas.{reads_grow}
 use Rattle.x7_engine.proofs.StateLemmas.{stop_is_final_stop}
 use Rattle.x7_forms.specs.Known.{reads_limit}
-use Rattle.x7_playing.specs.Playing.{HasPlayed, HasPlayedBy, IsPlayed, MayPlay, PlayState, Plays, PlaysOn, ReadsOver}
+use Rattle.x7_playing.specs.Playing.{HasPlayed, HasPlayedBy, MayPlay, PlayState, Plays, PlaysOn, ReadsOver}
 use Rattle.x7_playing.specs.declared.player.Player.{Player}
-use Rattle.x7_playing.proofs.PlayLemmas.{IsEnd, over_limit, stopped_end}
+use Rattle.x7_playing.proofs.PlayLemmas.{IsPlayed, IsEnd, over_limit, stopped_end}
 
 some_is : {A : Type 0} (o : Option A) (a : A) → o ≡ Some a → IsSome o
 some_is None a e = absurd (cc)

@@ -6,7 +6,7 @@ use Rattle.x7_part.specs.Part.{PartData}
 use Rattle.x7_engine.specs.Kept.{on_the_bench}
 use Rattle.x7_engine.specs.ReadBuffer.{ReadBufState}
 use Rattle.x7_engine.specs.Standing.{DeviceState, DeviceStandsFor, NoWordDue, reads_given}
-use Rattle.x7_engine.specs.State.{memory_in, reads_of, state_of, stop_in}
+use Rattle.x7_engine.specs.State.{reads_of, stop_in}
 use Rattle.x7_forms.specs.Known.{reads_limit, StreamRead}
 use Rattle.x7_forms.specs.Event.{Event}
 use Rattle.x7_playing.specs.declared.player.Player.{Player}
@@ -93,15 +93,3 @@ pub record PlaysStream (limit left : ℕ) (WerePlayed : List ℕ → Type 0) (Is
   pub within : length bytes + left ≤ limit
   pub plays : WerePlayed bytes
   pub reads : IsRead (Ok (record { bytes = bytes; room = left }))
-
--- The device took a prefix of the data, after which nothing changes: its state, its stop, its memory and the words read
--- out are those of all data, and no word is due.
-pub record IsPlayed (part : PartData) (bytes : List ℕ) (d : DeviceState) (reads : List ℕ) : Type 0 where
-  pub prefix : List ℕ
-  pub stands : DeviceStandsFor part on_the_bench false d prefix
-  pub stop : stop_in part on_the_bench bytes ≡ stop_in part on_the_bench prefix
-  pub state : state_of part on_the_bench false bytes ≡ state_of part on_the_bench false prefix
-  pub memory : memory_in part on_the_bench bytes ≡ memory_in part on_the_bench prefix
-  pub no_word_due : NoWordDue d
-  pub reads_are : reads ≡ reads_of part on_the_bench bytes
-  pub within_limit : length reads ≤ reads_limit

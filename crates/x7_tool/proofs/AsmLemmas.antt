@@ -6,12 +6,16 @@ use Rattle.x7_listing.specs.declared.assembler.AsmFault.TheVariants as fault
 use Rattle.x7_words.specs.Input.{InputsState}
 use Rattle.x7_forms.specs.Event.{Event, no_memory}
 use Rattle.x7_forms.specs.Known.{Answer, whole_known}
-use Rattle.x7_tool.specs.Outcome.{AssembledAs, IsAsmFault, asm_event, text_limit}
+use Rattle.x7_tool.specs.Outcome.{AssembledAs, asm_event, text_limit}
 use Rattle.x7_forms.specs.Step.{IsDecided, IsPossible, ReadsWhole}
 use Rattle.x7_forms.specs.Form.{Assembling}
 use Rattle.x7_tool.specs.Run.{AnswersForm}
 use Rattle.x7_forms.proofs.ReadLemmas.{answers_by}
 use Rattle.x7_tool.proofs.FeedLemmas.{unread_by}
+
+-- the fault is the first of the text, or want of memory, which says nothing of the text
+abbrev pub IsAsmFault : AsmFault → List ℕ → Type 0
+IsAsmFault f text = (f ≡ fault.NoMemory) ⊎ IsAsm text (Err f)
 
 -- want of memory is free, and any other fault is the text's
 faulted_by : (name text : List ℕ) (f : AsmFault) → IsAsmFault f text

@@ -12,7 +12,8 @@ use Rattle.x7_engine.specs.Stop.{stop_fault}
 use Rattle.x7_report.specs.Reports.{PlayTextState, report_text}
 use Rattle.x7_forms.specs.Event.{Event, event_of, no_memory, too_many_reads}
 use Rattle.x7_forms.specs.Known.{Answer, reads_limit}
-use Rattle.x7_playing.specs.Playing.{HasPlayed, IsPlayed}
+use Rattle.x7_playing.specs.Playing.{HasPlayed}
+use Rattle.x7_playing.proofs.PlayLemmas.{IsPlayed}
 use Rattle.x7_forms.specs.Step.{IsDecided, IsPossible, seen}
 use Rattle.x7_playing.specs.declared.player.Player.{Player}
 use Rattle.x7_forms.specs.declared.refusal.Refusal.{Refusal}

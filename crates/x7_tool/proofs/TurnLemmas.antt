@@ -17,9 +17,9 @@ use Rattle.x7_forms.specs.Event.{Event, reading_failed, too_large, writing_faile
 use Rattle.x7_forms.specs.Known.{Mishap, input_found, stream_limit, with_inputs}
 use Rattle.x7_tool.specs.Run.{ListsSoFar}
 use Rattle.x7_tool.specs.Between.{Lists, ListsStream}
-use Rattle.x7_forms.specs.Turn.{IsAt, FollowsUnlessLast, Unread}
+use Rattle.x7_forms.specs.Turn.{FollowsUnlessLast, Unread}
 use Rattle.x7_tool.proofs.Causes.{Ended, PutsListed, broken, ends_same, faulted, oversized, unwritten}
-use Rattle.x7_forms.proofs.ReadLemmas.{at_fault, known_all}
+use Rattle.x7_forms.proofs.ReadLemmas.{IsAt, at_fault, known_all}
 
 -- the listing is the one that is found
 pub listing_is : (bytes text : List ℕ) → IsListing bytes text → text ≡ listing_of bytes

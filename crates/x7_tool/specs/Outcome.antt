@@ -105,10 +105,6 @@ asm_event name (asm.Line line) = bad_input name (input.Line line)
 asm_event name (asm.TooLong line) = bad_input name (input.LongLine line)
 asm_event name asm.NoMemory = no_memory
 
--- the fault is the first of the text, or want of memory, which says nothing of the text
-abbrev pub IsAsmFault : AsmFault → List ℕ → Type 0
-IsAsmFault fault text = (fault ≡ asm.NoMemory) ⊎ IsAsm text (Err fault)
-
 -- `asm TEXT`: the bytes that the text assembles to, or its first fault
 abbrev pub AssembledAs : List ℕ → Result (List ℕ) Event → Result Answer Event → Type 0
 AssembledAs name (Err event) end = Err event ≡ end
