@@ -100,10 +100,10 @@ image_form (golden ∷ update ∷ []) = Some (Imaging golden update)
 image_form (part ∷ golden ∷ update ∷ []) = Some (ImagingFor part golden update)
 image_form _ = None
 
--- the form of the words, by the first of them
-abbrev pub form_of : List (List ℕ) → Option AskedForm
-form_of [] = None
-form_of (command ∷ names) =
+-- the form of the words, by the first of them, where they have one
+abbrev pub form_of_words : List (List ℕ) → Option AskedForm
+form_of_words [] = None
+form_of_words (command ∷ names) =
     if bytes_eq command (codes "list") then one_name Listing names
     else if bytes_eq command (codes "asm") then one_name Assembling names
     else if bytes_eq command (codes "play") then play_form names
@@ -118,9 +118,9 @@ form_of (command ∷ names) =
     else if bytes_eq command (codes "unmcs") then one_name FromMcs names
     else None
 
--- the form of the words as a program gets them
-abbrev pub form_in : {Z : Type 0} → List (String Z) → Option AskedForm
-form_in words = form_of (map string_bytes words)
+-- the form of words that are strings, as a program gets them
+abbrev pub form_of_strings : {Z : Type 0} → List (String Z) → Option AskedForm
+form_of_strings words = form_of_words (map string_bytes words)
 
 -- what a form of the code asks for
 abbrev pub asked_by : Form → AskedForm

@@ -1,6 +1,6 @@
 //! The forms of the command line, in the order of docs/x7.1.
 ghost use Rattle.std.specs.Prelude.{◌≡◌, map, string_bytes};
-ghost use Rattle.x7_forms.specs.Form.{Assembling, Booting, FromMcs, Listing, PlayingSvf, PlanningFull, ToMcs, debug_form, form_in, gen_form, image_form, number_in, one_name, plan_form, plan_read_form, play_form, two_names, word_in, PlanningPartial, UpdatingFlash, form_asked};
+ghost use Rattle.x7_forms.specs.Form.{Assembling, Booting, FromMcs, Listing, PlayingSvf, PlanningFull, ToMcs, debug_form, form_of_strings, gen_form, image_form, number_in, one_name, plan_form, plan_read_form, play_form, two_names, word_in, PlanningPartial, UpdatingFlash, form_asked};
 
 use x7_text::{number_of_decimal, word_of_hex};
 
@@ -339,7 +339,7 @@ fn unmcs_form(names: &[String]) -> Option<Form<'_>>
 
 /// The form of the words, where they have one.
 pub fn words_of(words: &Vec<String>) -> Option<Form<'_>>
-    ensures { form_asked result ≡ form_in words.now.items }
+    ensures { form_asked result ≡ form_of_strings words.now.items }
 {
     let Some((command, names)) = words.split_first() else {
         return None;

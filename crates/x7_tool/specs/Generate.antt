@@ -44,9 +44,9 @@ abbrev pub words_sum : FrameMap → List ℕ → ℕ
 words_sum memory [] = 0
 words_sum memory (far ∷ fars) = sum (unwrap_or (memory far) []) + words_sum memory fars
 
--- the line of a part's name and a seed
-abbrev pub head_line : List ℕ → ℕ → List ℕ
-head_line name seed = codes "gen " ++ name ++ codes " " ++ decimal seed ++ codes "\n"
+-- the first line of the text of `gen`: the name of the part, and the seed
+abbrev pub gen_line : List ℕ → ℕ → List ℕ
+gen_line name seed = codes "gen " ++ name ++ codes " " ++ decimal seed ++ codes "\n"
 
 -- the line of a number in decimal digits, after its key
 abbrev pub count_line : List ℕ → ℕ → List ℕ
@@ -71,7 +71,7 @@ pub record SummaryData : Type 0 where
 -- the summary of the stream of a part and a seed
 unfoldable pub summary_text : List ℕ → ℕ → SummaryData → List ℕ
 summary_text name seed s =
-    head_line name seed ++ count_line (codes "planned ") s.planned ++ count_line (codes "stream ") s.size ++ count_line (codes "phase ") s.phase ++ sum_line s.sum
+    gen_line name seed ++ count_line (codes "planned ") s.planned ++ count_line (codes "stream ") s.size ++ count_line (codes "phase ") s.phase ++ sum_line s.sum
 
 -- the summary of a plan's stream, played on a new device; the sum is modulo 2^32
 abbrev pub played_summary : PartData → ℕ → ℕ → List ℕ → List ℕ

@@ -8,7 +8,7 @@ ghost use Rattle.x7_memory.specs.Frames.{AreFramesOf, frame_at};
 ghost use Rattle.x7_memory.specs.Plan.{AreAddressed, IsPlan};
 ghost use Rattle.x7_planner.specs.FullStream.{full_stream};
 ghost use Rattle.x7_planner.specs.FullStreamPieces.{HasGiven};
-ghost use Rattle.x7_tool.specs.Generate.{TookStream, count_line, counted, gen_text, head_line, sum_line, generated, next_number, planned_summary, played_summary, row_by, summary_text, words_sum};
+ghost use Rattle.x7_tool.specs.Generate.{TookStream, count_line, counted, gen_text, gen_line, sum_line, generated, next_number, planned_summary, played_summary, row_by, summary_text, words_sum};
 ghost use Rattle.x7_forms.specs.Event.{event_of, no_memory};
 ghost use Rattle.x7_tool.specs.Outcome.{gen_answer};
 ghost use Rattle.x7_tool.specs.Run.{MakesReady};
@@ -194,9 +194,9 @@ fn put_count(text: &mut Vec<u8>, key: &[u8], number: u64) -> Result<(), NoMemory
     put_number(text, number)
 }
 
-/// Appends the line of a part's name and a seed.
-fn put_head(text: &mut Vec<u8>, name: &str, seed: u32) -> Result<(), NoMemory>
-    ensures { OnOk result (text.new.items ≡ text.old.items ++ head_line name.now seed) }
+/// Appends the first line of the text of `gen`: the name of the part, and the seed.
+fn put_gen_line(text: &mut Vec<u8>, name: &str, seed: u32) -> Result<(), NoMemory>
+    ensures { OnOk result (text.new.items ≡ text.old.items ++ gen_line name.now seed) }
 {
     put_text(text, b"gen ")?;
     put_text(text, name.as_bytes())?;
@@ -217,7 +217,7 @@ fn put_sum(text: &mut Vec<u8>, sum: u32) -> Result<(), NoMemory>
 fn put_summary(text: &mut Vec<u8>, name: &str, seed: u32, summary: Summary) -> Result<(), NoMemory>
     ensures { OnOk result (text.new.items ≡ text.old.items ++ summary_text name.now seed (record { planned = summary.planned; size = summary.size; phase = summary.phase; sum = summary.sum })) }
 {
-    put_head(text, name, seed)?;
+    put_gen_line(text, name, seed)?;
     put_count(text, b"planned ", summary.planned)?;
     put_count(text, b"stream ", summary.size)?;
     put_count(text, b"phase ", u64::from(summary.phase))?;

@@ -1,7 +1,7 @@
 //! The top call.
 ghost use Rattle.std.specs.Prelude.{ℕ, List, Some};
 ghost use Rattle.x7_words.specs.Sink.{SinkState};
-ghost use Rattle.x7_forms.specs.Form.{asked_by, form_in};
+ghost use Rattle.x7_forms.specs.Form.{asked_by, form_of_strings};
 ghost use Rattle.x7_tool.specs.Leaving.{EachBoots, PowerLossMayLeave, UsesFlash};
 ghost use Rattle.x7_tool.specs.Outside.{outside, sources};
 ghost use Rattle.x7_tool.specs.Run.{Answered, written_by};
@@ -83,9 +83,9 @@ fn carry_out<I: Inputs, O: Sink, E: Sink, F: Flash>(
     out: &mut O,
     err: &mut E,
 ) -> Status
-    ensures ran { Runs (form_in words.now.items) (outside (I.state inputs.old) (F.state flash.old) (O.state out.old) (E.state err.old))
+    ensures ran { Runs (form_of_strings words.now.items) (outside (I.state inputs.old) (F.state flash.old) (O.state out.old) (E.state err.old))
         (outside (I.state inputs.new) (F.state flash.new) (O.state out.new) (E.state err.new)) result }
-    ensures flash { UsesFlash (form_in words.now.items) (sources (I.state inputs.old) (F.state flash.old)) (F.state flash.new)
+    ensures flash { UsesFlash (form_of_strings words.now.items) (sources (I.state inputs.old) (F.state flash.old)) (F.state flash.new)
         (F.found_since flash.old) (F.found_since flash.new) }
 {
     let form = match words_of(words) {
@@ -117,14 +117,14 @@ pub fn run<I: Inputs, O: Sink, E: Sink, F: Flash>(
     out: &mut O,
     err: &mut E,
 ) -> Status
-    ensures ran { Runs (form_in words.now.items) (outside (I.state inputs.old) (F.state flash.old) (O.state out.old) (E.state err.old))
+    ensures ran { Runs (form_of_strings words.now.items) (outside (I.state inputs.old) (F.state flash.old) (O.state out.old) (E.state err.old))
         (outside (I.state inputs.new) (F.state flash.new) (O.state out.new) (E.state err.new)) result }
-    ensures flash { UsesFlash (form_in words.now.items) (sources (I.state inputs.old) (F.state flash.old)) (F.state flash.new)
+    ensures flash { UsesFlash (form_of_strings words.now.items) (sources (I.state inputs.old) (F.state flash.old)) (F.state flash.new)
         (F.found_since flash.old) (F.found_since flash.new) }
     ensures found { (found : List ℕ) → F.found_since flash.new (F.state flash.old).moments found
-        → PowerLossMayLeave (form_in words.now.items) (sources (I.state inputs.old) (F.state flash.old)) found }
+        → PowerLossMayLeave (form_of_strings words.now.items) (sources (I.state inputs.old) (F.state flash.old)) found }
     ensures boots { (found : List ℕ) → F.found_since flash.new (F.state flash.old).moments found
-        → EachBoots (form_in words.now.items) (sources (I.state inputs.old) (F.state flash.old)) found }
+        → EachBoots (form_of_strings words.now.items) (sources (I.state inputs.old) (F.state flash.old)) found }
 {
     carry_out(alloc, words, inputs, flash, out, err)
 }

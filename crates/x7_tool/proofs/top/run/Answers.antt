@@ -1,4 +1,4 @@
-use Rattle.x7_forms.specs.Form.{form_in}
+use Rattle.x7_forms.specs.Form.{form_of_strings}
 use Rattle.x7_tool.proofs.FoundLemmas.{found_run_boots, found_since_run}
 use Rattle.x7_tool.proofs.top.run.Goals as goal
 
@@ -10,7 +10,7 @@ returns-clause-found g c =
 pub returns-clause-boots : goal.returns-clause-boots
 returns-clause-boots g c = λ found had u b w boot.
     let f = g.F.Flash in
-    let form = form_in c.args.words.now.items in
+    let form = form_of_strings c.args.words.now.items in
     let inputs = g.I.Inputs.state c.args.inputs.now in
     let first = f.state c.args.flash.now in
     let left = found_since_run form inputs first (f.state c.carry_out.new.flash) _ _ (λ found had. g.met.F.Flash.only_now c.args.flash.now found had) c.carry_out.ensures.flash found had in
