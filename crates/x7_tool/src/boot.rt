@@ -99,17 +99,17 @@ fn boot_from<'w, F: Flash>(
     alloc: Global,
     part: &Part,
     flash: &mut F,
-    name: &'w str,
+    flash_name: &'w str,
 ) -> Result<PlayText, Refusal<'w>>
-    ensures caused { FlashComes name.now part.now (F.state flash.old) (F.state flash.new) (seen play_answer result) }
-    ensures failed { IfErr result (λ r. event_of r ≡ reading_failed name.now → (F.state flash.new).attached ≡ true → (F.state flash.new).extent ≤ flash_limit) }
-    ensures reads { ReadsFlash name.now (F.state flash.old) (F.state flash.new) }
+    ensures caused { FlashComes flash_name.now part.now (F.state flash.old) (F.state flash.new) (seen play_answer result) }
+    ensures failed { IfErr result (λ r. event_of r ≡ reading_failed flash_name.now → (F.state flash.new).attached ≡ true → (F.state flash.new).extent ≤ flash_limit) }
+    ensures reads { ReadsFlash flash_name.now (F.state flash.old) (F.state flash.new) }
     ensures unwritten { Unwritten (F.state flash.old) (F.state flash.new) (F.found_since flash.old) (F.found_since flash.new) }
 {
-    attach(flash, name)?;
+    attach(flash, flash_name)?;
     match x7_boot::boot(alloc, part, flash) {
         Ok(booted) => text_of(alloc, booted),
-        Err(fault) => Err(refusal_of(name, fault)),
+        Err(fault) => Err(refusal_of(flash_name, fault)),
     }
 }
 
@@ -119,13 +119,13 @@ pub(crate) fn boot<'w, I: Inputs, F: Flash>(
     inputs: &mut I,
     flash: &mut F,
     part: &'w str,
-    name: &'w str,
+    flash_name: &'w str,
 ) -> Result<PlayText, Refusal<'w>>
-    ensures ready { MakesReadyFrom (Booting part.now name.now) (sources (I.state inputs.old) (F.state flash.old))
+    ensures ready { MakesReadyFrom (Booting part.now flash_name.now) (sources (I.state inputs.old) (F.state flash.old))
         (sources (I.state inputs.new) (F.state flash.new)) (seen play_answer result) }
-    ensures reads { ReadsFlash name.now (F.state flash.old) (F.state flash.new) }
+    ensures reads { ReadsFlash flash_name.now (F.state flash.old) (F.state flash.new) }
     ensures unwritten { Unwritten (F.state flash.old) (F.state flash.new) (F.found_since flash.old) (F.found_since flash.new) }
 {
     let part = read_part(alloc, inputs, part)?;
-    boot_from(alloc, &part, flash, name)
+    boot_from(alloc, &part, flash, flash_name)
 }

@@ -274,11 +274,11 @@ fn summary_of<'w>(alloc: Global, part: &Part, seed: u32) -> Result<Vec<u8>, Refu
 pub(crate) fn generate<'w, I: Inputs>(
     alloc: Global,
     inputs: &mut I,
-    name: &'w str,
+    part_name: &'w str,
     seed: u32,
 ) -> Result<Vec<u8>, Refusal<'w>>
-    ensures { MakesReady (Generating name.now seed) (I.state inputs.old) (I.state inputs.new) (seen bytes_answer result) }
+    ensures { MakesReady (Generating part_name.now seed) (I.state inputs.old) (I.state inputs.new) (seen bytes_answer result) }
 {
-    let part = read_part(alloc, inputs, name)?;
+    let part = read_part(alloc, inputs, part_name)?;
     summary_of(alloc, &part, seed)
 }

@@ -148,12 +148,12 @@ fn readback_text<'w>(
 pub(crate) fn plan_read<'w, I: Inputs>(
     alloc: Global,
     inputs: &mut I,
-    name: &'w str,
+    part_name: &'w str,
     far: u32,
     n: u32,
 ) -> Result<Vec<u8>, Refusal<'w>>
-    ensures { MakesReady (PlanningRead name.now far n) (I.state inputs.old) (I.state inputs.new) (seen bytes_answer result) }
+    ensures { MakesReady (PlanningRead part_name.now far n) (I.state inputs.old) (I.state inputs.new) (seen bytes_answer result) }
 {
-    let part = read_part(alloc, inputs, name)?;
-    readback_text(alloc, &part, name, far, n)
+    let part = read_part(alloc, inputs, part_name)?;
+    readback_text(alloc, &part, part_name, far, n)
 }

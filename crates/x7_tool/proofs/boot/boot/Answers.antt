@@ -17,7 +17,7 @@ returns-clause-ready g c =
     let new = g.I.Inputs.state c.read_part.new.inputs in
     let first = g.F.Flash.state c.args.flash.now in
     let last = g.F.Flash.state c.boot_from.new.flash in
-    let name = c.args.name.now in
+    let name = c.args.flash_name.now in
     let part_name = c.args.part.now in
     let part = c.in_ok-part.part in
     let made = seen play_answer c.boot_from.result in
@@ -35,7 +35,7 @@ pub returns-in_err-part-clause-ready : goal.returns-in_err-part-clause-ready
 returns-in_err-part-clause-ready g c = rw (handed_on c.from_residual.result c.in_err-part.field-0.0 c.from_residual.ensures) (let old = g.I.Inputs.state c.args.inputs.now in
     let new = g.I.Inputs.state c.read_part.new.inputs in
     let flash = g.F.Flash.state c.args.flash.now in
-    let name = c.args.name.now in
+    let name = c.args.flash_name.now in
     let part_name = c.args.part.now in
     let event = event_of c.in_err-part.field-0.0 in
     record {

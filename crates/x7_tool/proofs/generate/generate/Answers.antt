@@ -17,7 +17,7 @@ use Rattle.x7_tool.proofs.generate.generate.Goals as goal
 pub returns-in_err-part : goal.returns-in_err-part
 returns-in_err-part g c = rw (handed_on c.from_residual.result c.in_err-part.field-0.0 c.from_residual.ensures) (let old = g.I.Inputs.state c.args.inputs.now in
     let new = g.I.Inputs.state c.read_part.new.inputs in
-    let name = c.args.name.now in
+    let name = c.args.part_name.now in
     let seed = c.args.seed in
     let event = event_of c.in_err-part.field-0.0 in
     record {
@@ -31,7 +31,7 @@ pub returns : goal.returns
 returns g c =
     let old = g.I.Inputs.state c.args.inputs.now in
     let new = g.I.Inputs.state c.read_part.new.inputs in
-    let name = c.args.name.now in
+    let name = c.args.part_name.now in
     let seed = c.args.seed in
     let part = c.in_ok-part.part in
     let made = c.summary_of.result in
