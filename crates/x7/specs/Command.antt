@@ -4,8 +4,8 @@ use Rattle.std.specs.Str.{bytes_eq}
 use Rattle.x7_words.specs.Sink.{PutsAll, PutsSome, SinkFails, SinkState}
 use Rattle.x7_forms.specs.declared.status.Status.{Status}
 use Rattle.x7_forms.specs.declared.status.Status.TheVariants as status
-use Rattle.x7_forms.specs.Form.{form_of}
-use Rattle.x7_forms.specs.Message.{status_number}
+use Rattle.x7_forms.specs.Form.{form_of_words}
+use Rattle.x7_forms.specs.Status.{status_number}
 use Rattle.x7_tool.specs.Outside.{Outside}
 use Rattle.x7_tool.specs.Runs.{Runs}
 use Rattle.x7.specs.declared.page.TheConstants.{HELP, VERSION}
@@ -24,7 +24,7 @@ WritesPage page old new number = (PutsAll old page new × (number ≡ status_num
 -- was run, and the number is its status's
 abbrev pub ProgramEndsBy : Option (List ℕ) → List (List ℕ) → Outside → Outside → ℕ → Type 0
 ProgramEndsBy (Some page) words old new number = WritesPage page old.out new.out number × (new ≡ record old { out = new.out })
-ProgramEndsBy None words old new number = (s : Status) × Runs (form_of words) old new s × (number ≡ status_number s)
+ProgramEndsBy None words old new number = (s : Status) × Runs (form_of_words words) old new s × (number ≡ status_number s)
 
 -- the program did what the words ask for, and ends with this number
 abbrev pub ProgramEnds : List (List ℕ) → Outside → Outside → ℕ → Type 0

@@ -19,8 +19,8 @@ use Rattle.x7_part.specs.Part.{PartData}
 use Rattle.x7_part.specs.PartFile.{part_in}
 use Rattle.x7_forms.specs.declared.bad_input.InputFault.TheVariants as input
 use Rattle.x7_forms.specs.Event.{Event, bad_input, missing, no_memory, reading_failed, too_large}
-use Rattle.x7_forms.specs.Known.{Absent, Broken, Failing, Found, Held, Known, Lacking, Mishap, StreamRead, and_so, broken_at, data_by, data_in, data_of, found, known_of, mishap_event, part_by, part_limit, part_of, put_before, read_of, spoiled, spoiled_name, taken_whole, whole_in, with_inputs, with_mishap}
-use Rattle.x7_forms.specs.Turn.{Breaks, IsAt, Reads, Unopened, Unread, UnreadRest}
+use Rattle.x7_forms.specs.Known.{Absent, Broken, Failing, Found, Held, Known, Lacking, Mishap, StreamRead, and_so, broken_at, data_by, data_in, streams_known, input_found, known_of, mishap_event, part_by, part_limit, part_known, put_before, stream_known, spoiled, spoiled_name, taken_whole, whole_known, with_inputs, with_mishap}
+use Rattle.x7_forms.specs.Turn.{Breaks, Reads, Unopened, Unread, UnreadRest}
 use Rattle.x7_forms.proofs.HeadLemmas.{data_more}
 use Rattle.x7_forms.specs.Step.{Among, AnswersAs, AnswersBy, CameIn, DueBy, FailsAmong, IsCaused, IsCausedBy, IsDecided, IsDue, IsFromOutside, IsNoPart, IsOneUnplayed, IsPossible, IsUnplayed, IsUnread, LacksAmong, step_over}
 use Rattle.x7_part.specs.declared.fault.PartFault.{PartFault}
@@ -77,7 +77,7 @@ whole_by : (name a : List ℕ) (limit : ℕ) (m : Mishap) (i : Found) (b : Bool)
 whole_by name a limit m i true e h = inr (spoiled_whole name a limit m i (same_name name (spoiled_name m) e) h)
 whole_by name a limit m i false e h = inl h
 
-pub whole_steady : (limit : ℕ) (name : List ℕ) → Steady (List ℕ) (λ t. whole_in t limit name)
+pub whole_steady : (limit : ℕ) (name : List ℕ) → Steady (List ℕ) (λ t. whole_known t limit name)
 whole_steady limit name = record { steady = λ m t a h. whole_by name a limit m (t.inputs name) (bytes_eq name (spoiled_name m)) refl h }
 
 pub work_steady : (A : Type 0) (r : Result A Event) → Steady A (λ t. r)
@@ -97,12 +97,12 @@ so_by f g m t b (Ok a) e sf sg h = elim (sf.steady m t a e) [
 pub so_steady : (A B : Type 0) (f : Known → Result A Event) (g : Known → A → Result B Event) → Steady A f → ((a : A) → Steady B (λ t. g t a)) → Steady B (λ t. and_so (f t) (g t))
 so_steady A B f g sf sg = record { steady = λ m t b h. so_by f g m t b (f t) refl sf sg h }
 
-pub part_steady : (name : List ℕ) → Steady PartData (λ t. part_of t name)
-part_steady name = so_steady (List ℕ) PartData (λ t. whole_in t part_limit name) (λ t text. part_by name (part_in text)) (whole_steady part_limit name) (λ text. work_steady PartData (part_by name (part_in text)))
+pub part_steady : (name : List ℕ) → Steady PartData (λ t. part_known t name)
+part_steady name = so_steady (List ℕ) PartData (λ t. whole_known t part_limit name) (λ t text. part_by name (part_in text)) (whole_steady part_limit name) (λ text. work_steady PartData (part_by name (part_in text)))
 
-pub read_steady : (limit : ℕ) (name : List ℕ) → Steady StreamRead (λ t. read_of t limit name)
+pub read_steady : (limit : ℕ) (name : List ℕ) → Steady StreamRead (λ t. stream_known t limit name)
 read_steady limit name =
-    so_steady (List ℕ) StreamRead (λ t. whole_in t limit name) (λ t whole. and_so (data_in name whole) (λ bytes. Ok (record { bytes = bytes; room = limit - length whole }))) (whole_steady limit name)
+    so_steady (List ℕ) StreamRead (λ t. whole_known t limit name) (λ t whole. and_so (data_in name whole) (λ bytes. Ok (record { bytes = bytes; room = limit - length whole }))) (whole_steady limit name)
     (λ whole. work_steady StreamRead (and_so (data_in name whole) (λ bytes. Ok (record { bytes = bytes; room = limit - length whole }))))
 
 -- ---- causes of steps one after the other
@@ -111,7 +111,7 @@ read_steady limit name =
 pub outside_goes : (A B : Type 0) (known : Option Known) (C D : Mishap → Type 0) (Due : Known → Result A Event → Type 0) (Next : Known → Result B Event → Type 0) (event : Event) → ((m : Mishap) → C m → D m)
     → ((m : Mishap) → mishap_event m ≡ event → DueBy {A = A} known m Due event → DueBy {A = B} known m Next event) → IsFromOutside {A = A} known C Due (Err event) → IsFromOutside {A = B} known D Next (Err event)
 outside_goes A B known C D Due Next event f g (inl h) = inl h
-outside_goes A B known C D Due Next event f g (inr h) = inr (record { mishap = h.mishap; came = f h.mishap h.came; is = h.is; due = g h.mishap h.is h.due })
+outside_goes A B known C D Due Next event f g (inr h) = inr (record { mishap = h.mishap; came = f h.mishap h.came; reports = h.reports; due = g h.mishap h.reports h.due })
 
 -- a cause over some names and counts of calls is one over more names and later counts
 pub caused_on_by : (A : Type 0) (known : Option Known) (C D : Mishap → Type 0) (Due : Known → Result A Event → Type 0) (got : Result A Event) → ((m : Mishap) → C m → D m) → IsCausedBy known C Due got → IsCausedBy known D Due got
@@ -171,8 +171,8 @@ before_before prefix bytes (Err event) = refl
 -- what is due for the streams that are left, after what was read, with so much room left; a mishap of a name changes
 -- nothing of it, or is the event
 pub record RestsIn (t : Known) (names : List (List ℕ)) (limit : ℕ) (left : List (List ℕ)) (room : ℕ) (whole : List ℕ) : Type 0 where
-  pub is : data_of t limit names ≡ put_before whole (data_of t room left)
-  pub steady : (m : Mishap) → (data_of (with_mishap m t) limit names ≡ put_before whole (data_of (with_mishap m t) room left)) ⊎ (data_of (with_mishap m t) limit names ≡ Err (mishap_event m))
+  pub is : streams_known t limit names ≡ put_before whole (streams_known t room left)
+  pub steady : (m : Mishap) → (streams_known (with_mishap m t) limit names ≡ put_before whole (streams_known (with_mishap m t) room left)) ⊎ (streams_known (with_mishap m t) limit names ≡ Err (mishap_event m))
 
 abbrev pub Rests : Option (List ℕ → Option (List ℕ)) → List (List ℕ) → ℕ → List (List ℕ) → ℕ → List ℕ → Type 0
 Rests None names limit left room whole = Unit {0}
@@ -186,45 +186,45 @@ one_more read rest whole s e = rw e (before_before whole s.bytes (rest s.room))
 one_less : (read : Result StreamRead Event) (rest : ℕ → Result (List ℕ) Event) (whole : List ℕ) (event : Event) → read ≡ Err event → put_before whole (and_so read (λ stream. put_before stream.bytes (rest stream.room))) ≡ Err event
 one_less read rest whole event e = rw e refl
 
-rests_more : (t : Known) (names : List (List ℕ)) (limit : ℕ) (name : List ℕ) (left : List (List ℕ)) (room : ℕ) (whole : List ℕ) (s : StreamRead) → RestsIn t names limit (name ∷ left) room whole → read_of t room name ≡ Ok s → RestsIn t names limit left s.room (whole ++ s.bytes)
+rests_more : (t : Known) (names : List (List ℕ)) (limit : ℕ) (name : List ℕ) (left : List (List ℕ)) (room : ℕ) (whole : List ℕ) (s : StreamRead) → RestsIn t names limit (name ∷ left) room whole → stream_known t room name ≡ Ok s → RestsIn t names limit left s.room (whole ++ s.bytes)
 rests_more t names limit name left room whole s r e = record {
-  is = r.is ∙ one_more (read_of t room name) (λ room. data_of t room left) whole s e;
+  is = r.is ∙ one_more (stream_known t room name) (λ room. streams_known t room left) whole s e;
   steady = λ m.
       let k = with_mishap m t in
       elim (r.steady m) [
         | inr ends ↦ inr ends
         | inl same ↦ elim ((read_steady room name).steady m t s e) [
-          | inl next ↦ inl (same ∙ one_more (read_of k room name) (λ room. data_of k room left) whole s next)
-          | inr next ↦ inr (same ∙ one_less (read_of k room name) (λ room. data_of k room left) whole (mishap_event m) next)
+          | inl next ↦ inl (same ∙ one_more (stream_known k room name) (λ room. streams_known k room left) whole s next)
+          | inr next ↦ inr (same ∙ one_less (stream_known k room name) (λ room. streams_known k room left) whole (mishap_event m) next)
         ]
       ];
 }
 
 rests_next : (contents : Option (List ℕ → Option (List ℕ))) (C : Mishap → Type 0) (names : List (List ℕ)) (limit : ℕ) (name : List ℕ) (left : List (List ℕ)) (room : ℕ) (whole : List ℕ) (s : StreamRead) → Rests contents names limit (name ∷ left) room whole
-    → ((flash : Option (List ℕ)) → IsCaused (with_inputs contents flash) C (λ t. read_of t room name) (Ok s)) → Rests contents names limit left s.room (whole ++ s.bytes)
+    → ((flash : Option (List ℕ)) → IsCaused (with_inputs contents flash) C (λ t. stream_known t room name) (Ok s)) → Rests contents names limit left s.room (whole ++ s.bytes)
 rests_next None C names limit name left room whole s r h = tt
 rests_next (Some inputs) C names limit name left room whole s r h = λ flash. at flash (h flash)
   where
-    at : (flash : Option (List ℕ)) → IsCaused (Some (known_of inputs flash)) C (λ t. read_of t room name) (Ok s) → RestsIn (known_of inputs flash) names limit left s.room (whole ++ s.bytes)
+    at : (flash : Option (List ℕ)) → IsCaused (Some (known_of inputs flash)) C (λ t. stream_known t room name) (Ok s) → RestsIn (known_of inputs flash) names limit left s.room (whole ++ s.bytes)
     at flash (inl q) = absurd q
     at flash (inr q) = rests_more (known_of inputs flash) names limit name left room whole s (r flash) q.1
 
 -- a mishap of a stream is one of all
 rests_due : (contents : Option (List ℕ → Option (List ℕ))) (flash : Option (List ℕ)) (names : List (List ℕ)) (limit : ℕ) (name : List ℕ) (left : List (List ℕ)) (room : ℕ) (whole : List ℕ) (m : Mishap) (event : Event) → Rests contents names limit (name ∷ left) room whole
-    → mishap_event m ≡ event → DueBy {A = StreamRead} (with_inputs contents flash) m (λ t r. read_of t room name ≡ r) event → DueBy {A = List ℕ} (with_inputs contents flash) m (λ t r. data_of t limit names ≡ r) event
+    → mishap_event m ≡ event → DueBy {A = StreamRead} (with_inputs contents flash) m (λ t r. stream_known t room name ≡ r) event → DueBy {A = List ℕ} (with_inputs contents flash) m (λ t r. streams_known t limit names ≡ r) event
 rests_due None flash names limit name left room whole m event r e q = tt
 rests_due (Some inputs) flash names limit name left room whole m event r e q = elim ((r flash).steady m) [
-  | inl same ↦ same ∙ one_less (read_of (with_mishap m (known_of inputs flash)) room name) (λ room. data_of (with_mishap m (known_of inputs flash)) room left) whole event q
+  | inl same ↦ same ∙ one_less (stream_known (with_mishap m (known_of inputs flash)) room name) (λ room. streams_known (with_mishap m (known_of inputs flash)) room left) whole event q
   | inr ends ↦ ends ∙ ap (λ (x : Event). Err x) e
 ]
 
 rests_stop : (contents : Option (List ℕ → Option (List ℕ))) (flash : Option (List ℕ)) (C : Mishap → Type 0) (names : List (List ℕ)) (limit : ℕ) (name : List ℕ) (left : List (List ℕ)) (room : ℕ) (whole : List ℕ) (event : Event) → Rests contents names limit (name ∷ left) room whole
-    → IsCaused (with_inputs contents flash) C (λ t. read_of t room name) (Err event) → IsCaused (with_inputs contents flash) C (λ t. data_of t limit names) (Err event)
+    → IsCaused (with_inputs contents flash) C (λ t. stream_known t room name) (Err event) → IsCaused (with_inputs contents flash) C (λ t. streams_known t limit names) (Err event)
 rests_stop contents flash C names limit name left room whole event r (inl q) =
-    inl (outside_goes StreamRead (List ℕ) (with_inputs contents flash) C C (λ t r. read_of t room name ≡ r) (λ t r. data_of t limit names ≡ r) event (λ m x. x) (λ m e x. rests_due contents flash names limit name left room whole m event r e x) q)
+    inl (outside_goes StreamRead (List ℕ) (with_inputs contents flash) C C (λ t r. stream_known t room name ≡ r) (λ t r. streams_known t limit names ≡ r) event (λ m x. x) (λ m e x. rests_due contents flash names limit name left room whole m event r e x) q)
 rests_stop None flash C names limit name left room whole event r (inr q) = inr q
 rests_stop (Some inputs) flash C names limit name left room whole event r (inr q) =
-    inr (q.0, (r flash).is ∙ one_less (read_of (known_of inputs flash) room name) (λ room. data_of (known_of inputs flash) room left) whole event q.1)
+    inr (q.0, (r flash).is ∙ one_less (stream_known (known_of inputs flash) room name) (λ room. streams_known (known_of inputs flash) room left) whole event q.1)
 
 among_at : {X : Type 0} (f : X → List ℕ) (ss : List X) (k : ℕ) (s : X) → k < length ss → s ≡ get_or ss k s → Among (map f ss) (f s)
 among_at f [] k s h e = absurd (omega arith)
@@ -237,10 +237,10 @@ among_one names name h n (inr e) = absurd e
 
 -- a name that failed is one of more names, and its count rose over more calls
 fails_in : (some all : List (List ℕ)) (old mid new : InputsState) → ((n : List ℕ) → Among some n → Among all n) → InputsStay old mid → (n : List ℕ) → FailsAmong some mid new n → FailsAmong all old new n
-fails_in some all old mid new a s n f = record { among = a n f.among; over = f.over; risen = risen_from old.faults mid.faults new.faults s.faults f.risen }
+fails_in some all old mid new a s n f = record { among = a n f.among; deselected = f.deselected; risen = risen_from old.faults mid.faults new.faults s.faults f.risen }
 
 lacks_in : (some all : List (List ℕ)) (old mid new : InputsState) → ((n : List ℕ) → Among some n → Among all n) → InputsStay old mid → (n : List ℕ) → LacksAmong some mid new n → LacksAmong all old new n
-lacks_in some all old mid new a s n f = record { among = a n f.among; over = f.over; risen = risen_from old.absences mid.absences new.absences s.absences f.risen }
+lacks_in some all old mid new a s n f = record { among = a n f.among; deselected = f.deselected; risen = risen_from old.absences mid.absences new.absences s.absences f.risen }
 
 pub came_in : (some all : List (List ℕ)) (old mid new : InputsState) → ((n : List ℕ) → Among some n → Among all n) → InputsStay old mid → (m : Mishap) → CameIn (step_over some mid new) m → CameIn (step_over all old new) m
 came_in some all old mid new a s (Failing name given) h = (h.0, fails_in some all old mid new a s name h.1)
@@ -254,21 +254,21 @@ left_at f ss k s h e =
 -- a stream that ended the command
 pub stream_err : {X : Type 0} (f : X → List ℕ) (old mid new : InputsState) (flash : Option (List ℕ)) (ss : List X) (k limit room : ℕ) (s : X) (name whole : List ℕ) (event : Event)
     → InputsStay old mid → k < length ss → s ≡ get_or ss k s → name ≡ f s → Rests old.contents (map f ss) limit (map f (drop k ss)) room whole
-    → IsCaused (with_inputs mid.contents flash) (CameIn (step_over (name ∷ []) mid new)) (λ t. read_of t room name) (Err event)
-    → IsCaused (with_inputs old.contents flash) (CameIn (step_over (map f ss) old new)) (λ t. data_of t limit (map f ss)) (Err event)
+    → IsCaused (with_inputs mid.contents flash) (CameIn (step_over (name ∷ []) mid new)) (λ t. stream_known t room name) (Err event)
+    → IsCaused (with_inputs old.contents flash) (CameIn (step_over (map f ss) old new)) (λ t. streams_known t limit (map f ss)) (Err event)
 stream_err f old mid new flash ss k limit room s name whole event stays h e nm due got =
-    let got1 = subst (λ (c : Option (List ℕ → Option (List ℕ))). IsCaused (with_inputs c flash) (CameIn (step_over (name ∷ []) mid new)) (λ t. read_of t room name) (Err event)) stays.map got in
+    let got1 = subst (λ (c : Option (List ℕ → Option (List ℕ))). IsCaused (with_inputs c flash) (CameIn (step_over (name ∷ []) mid new)) (λ t. stream_known t room name) (Err event)) stays.map got in
     let eq : map f (drop k ss) ≡ name ∷ map f (drop (suc k) ss) = rw nm (left_at f ss k s h e) in
     let due1 = rw eq at due in
     let among : Among (map f ss) name = rw nm (among_at f ss k s h e) in
-    caused_on_by (List ℕ) (with_inputs old.contents flash) (CameIn (step_over (name ∷ []) mid new)) (CameIn (step_over (map f ss) old new)) (λ t r. data_of t limit (map f ss) ≡ r) (Err event)
+    caused_on_by (List ℕ) (with_inputs old.contents flash) (CameIn (step_over (name ∷ []) mid new)) (CameIn (step_over (map f ss) old new)) (λ t r. streams_known t limit (map f ss) ≡ r) (Err event)
     (came_in (name ∷ []) (map f ss) old mid new (among_one (map f ss) name among) stays)
     (rests_stop old.contents flash (CameIn (step_over (name ∷ []) mid new)) (map f ss) limit name (map f (drop (suc k) ss)) room whole event due1 got1)
 
 -- a stream whose data were read
 pub stream_next : {X : Type 0} (f : X → List ℕ) (contents now : Option (List ℕ → Option (List ℕ))) (C : Mishap → Type 0) (ss : List X) (k limit room : ℕ) (s : X) (name whole : List ℕ) (read : StreamRead)
     → now ≡ contents → k < length ss → s ≡ get_or ss k s → name ≡ f s → Rests contents (map f ss) limit (map f (drop k ss)) room whole
-    → ((flash : Option (List ℕ)) → IsCaused (with_inputs now flash) C (λ t. read_of t room name) (Ok read))
+    → ((flash : Option (List ℕ)) → IsCaused (with_inputs now flash) C (λ t. stream_known t room name) (Ok read))
     → Rests contents (map f ss) limit (map f (drop (k + 1) ss)) read.room (whole ++ read.bytes)
 stream_next f contents now C ss k limit room s name whole read same h e nm due got =
     let got1 = rw same at got in
@@ -278,7 +278,7 @@ stream_next f contents now C ss k limit room s name whole read same h e nm due g
 
 -- nothing was read
 rests_start : (t : Known) (names : List (List ℕ)) (limit : ℕ) → RestsIn t names limit names limit []
-rests_start t names limit = record { is = sym (before_none (data_of t limit names)); steady = λ m. inl (sym (before_none (data_of (with_mishap m t) limit names))) }
+rests_start t names limit = record { is = sym (before_none (streams_known t limit names)); steady = λ m. inl (sym (before_none (streams_known (with_mishap m t) limit names))) }
 
 pub rests_none : (contents : Option (List ℕ → Option (List ℕ))) (names : List (List ℕ)) (limit : ℕ) → Rests contents names limit names limit []
 rests_none None names limit = tt
@@ -292,24 +292,24 @@ none_left (suc k) (x ∷ xs) h = none_left k xs (omega (arith, h))
 
 -- all streams were read
 pub rests_all : {X : Type 0} (f : X → List ℕ) (contents : Option (List ℕ → Option (List ℕ))) (flash : Option (List ℕ)) (C : Mishap → Type 0) (ss : List X) (k limit room : ℕ) (whole : List ℕ) → length ss ≤ k → Rests contents (map f ss) limit (map f (drop k ss)) room whole
-    → IsCaused (with_inputs contents flash) C (λ t. data_of t limit (map f ss)) (Ok whole)
+    → IsCaused (with_inputs contents flash) C (λ t. streams_known t limit (map f ss)) (Ok whole)
 rests_all f None flash C ss k limit room whole h due = inr tt
 rests_all f (Some inputs) flash C ss k limit room whole h due =
     let left : map f (drop k ss) ≡ [] = ap (map f) (none_left k ss h) in
-    let is = (due flash).is ∙ ap (λ names. put_before whole (data_of (known_of inputs flash) room names)) left ∙ ap Ok (append-nil whole) in
+    let is = (due flash).is ∙ ap (λ names. put_before whole (streams_known (known_of inputs flash) room names)) left ∙ ap Ok (append-nil whole) in
     inr (tt, is)
 
 -- data that follow from all streams, with a mishap
-pub data_steady : (names : List (List ℕ)) (limit : ℕ) → Steady (List ℕ) (λ t. data_of t limit names)
+pub data_steady : (names : List (List ℕ)) (limit : ℕ) → Steady (List ℕ) (λ t. streams_known t limit names)
 data_steady [] limit = work_steady (List ℕ) (Ok [])
 data_steady (name ∷ names) limit =
-    so_steady StreamRead (List ℕ) (λ t. read_of t limit name) (λ t stream. put_before stream.bytes (data_of t stream.room names)) (read_steady limit name)
-    (λ stream. so_steady (List ℕ) (List ℕ) (λ t. data_of t stream.room names) (λ t bytes. Ok (stream.bytes ++ bytes)) (data_steady names stream.room) (λ bytes. work_steady (List ℕ) (Ok (stream.bytes ++ bytes))))
+    so_steady StreamRead (List ℕ) (λ t. stream_known t limit name) (λ t stream. put_before stream.bytes (streams_known t stream.room names)) (read_steady limit name)
+    (λ stream. so_steady (List ℕ) (List ℕ) (λ t. streams_known t stream.room names) (λ t bytes. Ok (stream.bytes ++ bytes)) (data_steady names stream.room) (λ bytes. work_steady (List ℕ) (Ok (stream.bytes ++ bytes))))
 
 -- what a text comes to that was read whole
-pub after_text : {A : Type 0} (known : Option Known) (C : Mishap → Type 0) (limit : ℕ) (name text : List ℕ) (next : List ℕ → Result A Event) (got : Result A Event) → IsCaused known C (λ t. whole_in t limit name) (Ok text)
-    → IsCaused known C (λ t. next text) got → IsCaused known C (λ t. and_so (whole_in t limit name) next) got
-after_text known C limit name text next got whole next_due = follows known C C (λ t. whole_in t limit name) (λ t bytes. next bytes) text got (whole_steady limit name) whole next_due
+pub after_text : {A : Type 0} (known : Option Known) (C : Mishap → Type 0) (limit : ℕ) (name text : List ℕ) (next : List ℕ → Result A Event) (got : Result A Event) → IsCaused known C (λ t. whole_known t limit name) (Ok text)
+    → IsCaused known C (λ t. next text) got → IsCaused known C (λ t. and_so (whole_known t limit name) next) got
+after_text known C limit name text next got whole next_due = follows known C C (λ t. whole_known t limit name) (λ t bytes. next bytes) text got (whole_steady limit name) whole next_due
 
 -- an event of a step, under a relation that keeps it
 due_kept : (A B : Type 0) (known : Option Known) (m : Mishap) (due : Known → Result A Event) (event : Event) (Next : Result A Event → Result B Event → Type 0) → ((x : Event) → Next (Err x) (Err x)) → DueBy {A = A} known m (λ t r. due t ≡ r) event → DueBy {A = B} known m (λ t end. Next (due t) end) event
@@ -340,8 +340,8 @@ judged_by name bytes (Ok after) made e = (tt, tt)
 judged_by name bytes (Err event) made e = head_by StreamRead name bytes (header_at bytes) event (sym e)
 
 -- a stream that was read whole, and its header judged
-pub stream_judged : (known : Option Known) (C : Mishap → Type 0) (limit : ℕ) (name whole : List ℕ) (got : Result (List ℕ) Event) → IsCaused known C (λ t. whole_in t limit name) (Ok whole) → got ≡ data_in name whole
-    → IsCaused known C (λ t. read_of t limit name) (and_so got (λ bytes. Ok (record { bytes = bytes; room = limit - length whole })))
+pub stream_judged : (known : Option Known) (C : Mishap → Type 0) (limit : ℕ) (name whole : List ℕ) (got : Result (List ℕ) Event) → IsCaused known C (λ t. whole_known t limit name) (Ok whole) → got ≡ data_in name whole
+    → IsCaused known C (λ t. stream_known t limit name) (and_so got (λ bytes. Ok (record { bytes = bytes; room = limit - length whole })))
 stream_judged known C limit name whole got read e =
     let made : List ℕ → StreamRead = λ bytes. record { bytes = bytes; room = limit - length whole } in
     let judged = judged_by name whole got made e in
@@ -386,7 +386,7 @@ want_or_rest old mid new name taken limit left event r n (inr h) = inr (rest_unr
 
 -- an input that was read to its end
 pub whole_read : (contents : Option (List ℕ → Option (List ℕ))) (flash : Option (List ℕ)) (C : Mishap → Type 0) (name whole : List ℕ) (rest : Option (List ℕ)) (limit : ℕ) → RestIsWhole contents name (preceded whole rest) → AtEnd rest → length whole ≤ limit
-    → IsCaused (with_inputs contents flash) C (λ t. whole_in t limit name) (Ok whole)
+    → IsCaused (with_inputs contents flash) C (λ t. whole_known t limit name) (Ok whole)
 whole_read None flash C name whole rest limit s e h = inr tt
 whole_read (Some inputs) flash C name whole rest limit s e h =
     let all = known_all inputs name whole rest s in
@@ -413,7 +413,7 @@ sum_more first more left limit n l = (omega (arith, n, l, length-append first mo
 -- a stream whose data were read turn by turn
 pub stream_read : (contents : Option (List ℕ → Option (List ℕ))) (flash : Option (List ℕ)) (C : Mishap → Type 0) (name first more after : List ℕ) (mid rest : Option (List ℕ)) (limit left : ℕ) (last : Bool) → RestIsWhole contents name (preceded first mid) → mid ≡ preceded more rest → AtEnd rest
     → (last ≡ true → AtEnd mid) → (last ≡ false → longest_header ≤ length first) → AreBytes first → length more + left ≡ limit - length first → length first ≤ limit → Ok after ≡ data_in name first
-    → IsCaused (with_inputs contents flash) C (λ t. read_of t limit name) (Ok (record { bytes = after ++ more; room = left }))
+    → IsCaused (with_inputs contents flash) C (λ t. stream_known t limit name) (Ok (record { bytes = after ++ more; room = left }))
 stream_read None flash C name first more after mid rest limit left last s e end ends long fits n l head = inr tt
 stream_read (Some inputs) flash C name first more after mid rest limit left last s e end ends long fits n l head =
     let whole = first ++ more in
@@ -421,7 +421,7 @@ stream_read (Some inputs) flash C name first more after mid rest limit left last
     let taken : RestIsWhole (Some inputs) name (preceded whole rest) = subst (λ (r : Option (List ℕ)). RestIsWhole (Some inputs) name r) (ap (preceded first) e ∙ preceded_preceded first more rest) s in
     let judged : data_in name whole ≡ Ok (after ++ more) = data_more name first more fits (enough inputs name first more mid rest last s e ends long) ∙ ap (λ d. and_so d (λ bytes. Ok (bytes ++ more))) (sym head) in
     let read = stream_judged (with_inputs (Some inputs) flash) C limit name whole (Ok (after ++ more)) (whole_read (Some inputs) flash C name whole rest limit taken end sizes.1) (sym judged) in
-    subst (λ (room : ℕ). IsCaused (with_inputs (Some inputs) flash) C (λ t. read_of t limit name) (Ok (record { bytes = after ++ more; room = room }))) (sym sizes.0) read
+    subst (λ (room : ℕ). IsCaused (with_inputs (Some inputs) flash) C (λ t. stream_known t limit name) (Ok (record { bytes = after ++ more; room = room }))) (sym sizes.0) read
 
 -- ---- what ended the reading of an input
 
@@ -431,11 +431,11 @@ broken_by (Held bytes) name limit given h = let short : nat_lt limit (length (ta
 broken_by Absent name limit given h = let short : nat_lt limit 0 ≡ false = grind (arith, nat_tests) in rw short refl
 broken_by (Broken bytes) name limit given h = let short : nat_lt limit (length (take given bytes)) ≡ false = grind (arith, nat_tests, h, length-take given bytes) in rw short refl
 
-pub broken_due : (contents : Option (List ℕ → Option (List ℕ))) (flash : Option (List ℕ)) (name : List ℕ) (limit given : ℕ) → given ≤ limit → DueBy {A = List ℕ} (with_inputs contents flash) (Failing name given) (λ t r. whole_in t limit name ≡ r) (reading_failed name)
+pub broken_due : (contents : Option (List ℕ → Option (List ℕ))) (flash : Option (List ℕ)) (name : List ℕ) (limit given : ℕ) → given ≤ limit → DueBy {A = List ℕ} (with_inputs contents flash) (Failing name given) (λ t r. whole_known t limit name ≡ r) (reading_failed name)
 broken_due None flash name limit given h = tt
-broken_due (Some inputs) flash name limit given h = let here = name_is name in rw here (broken_by (found (inputs name)) name limit given h)
+broken_due (Some inputs) flash name limit given h = let here = name_is name in rw here (broken_by (input_found (inputs name)) name limit given h)
 
-pub absent_due : (contents : Option (List ℕ → Option (List ℕ))) (flash : Option (List ℕ)) (name : List ℕ) (limit : ℕ) → DueBy {A = List ℕ} (with_inputs contents flash) (Lacking name) (λ t r. whole_in t limit name ≡ r) (missing name)
+pub absent_due : (contents : Option (List ℕ → Option (List ℕ))) (flash : Option (List ℕ)) (name : List ℕ) (limit : ℕ) → DueBy {A = List ℕ} (with_inputs contents flash) (Lacking name) (λ t r. whole_known t limit name ≡ r) (missing name)
 absent_due None flash name limit = tt
 absent_due (Some inputs) flash name limit = let here = name_is name in rw here refl
 
@@ -446,34 +446,34 @@ asked_on name opened now a e = subst (λ (k : Option (List ℕ)). IfSome k (λ k
 -- a fault of an input, or its absence, by its count
 pub fault_from : (A : Type 0) (known : Option Known) (old new : InputsState) (name : List ℕ) (Due : Known → Result A Event → Type 0) → FailsAmong (name ∷ []) old new name → DueBy {A = A} known (Failing name new.given) Due (reading_failed name)
     → IsFromOutside {A = A} known (CameIn (step_over (name ∷ []) old new)) Due (Err (reading_failed name))
-fault_from A known old new name Due f d = inr (record { mishap = Failing name new.given; came = (refl, f); is = refl; due = d })
+fault_from A known old new name Due f d = inr (record { mishap = Failing name new.given; came = (refl, f); reports = refl; due = d })
 
 pub absence_from : (A : Type 0) (known : Option Known) (old new : InputsState) (name : List ℕ) (Due : Known → Result A Event → Type 0) → LacksAmong (name ∷ []) old new name → DueBy {A = A} known (Lacking name) Due (missing name)
     → IsFromOutside {A = A} known (CameIn (step_over (name ∷ []) old new)) Due (Err (missing name))
-absence_from A known old new name Due l d = inr (record { mishap = Lacking name; came = l; is = refl; due = d })
+absence_from A known old new name Due l d = inr (record { mishap = Lacking name; came = l; reports = refl; due = d })
 
 -- an input that was not opened
 unopened_free : (old new : InputsState) (flash : Option (List ℕ)) (name : List ℕ) (limit : ℕ) → Asks name new → new.selected ≡ false → Misses old name new
-    → IsCaused (with_inputs old.contents flash) (CameIn (step_over (name ∷ []) old new)) (λ t. whole_in t limit name) (Err (missing name))
+    → IsCaused (with_inputs old.contents flash) (CameIn (step_over (name ∷ []) old new)) (λ t. whole_known t limit name) (Err (missing name))
 unopened_free old new flash name limit a s m = by old.contents refl m
   where
     by : (contents : Option (List ℕ → Option (List ℕ))) → old.contents ≡ contents → MapLacks contents name ⊎ HasRisen old.absences new.absences
-        → IsCaused (with_inputs contents flash) (CameIn (step_over (name ∷ []) old new)) (λ t. whole_in t limit name) (Err (missing name))
+        → IsCaused (with_inputs contents flash) (CameIn (step_over (name ∷ []) old new)) (λ t. whole_known t limit name) (Err (missing name))
     by None e (inl h) = absurd h
     by (Some inputs) e (inl h) = inr (tt, rw h refl)
-    by contents e (inr h) = inl (absence_from (List ℕ) (with_inputs contents flash) old new name (λ t r. whole_in t limit name ≡ r) (record { among = inl refl; over = record { asked = a.asked; selected = s }; risen = h }) (absent_due contents flash name limit))
+    by contents e (inr h) = inl (absence_from (List ℕ) (with_inputs contents flash) old new name (λ t r. whole_known t limit name ≡ r) (record { among = inl refl; deselected = record { asked = a.asked; selected = s }; risen = h }) (absent_due contents flash name limit))
 
 pub open_refused : (old new : InputsState) (flash : Option (List ℕ)) (name : List ℕ) (limit : ℕ) (event : Event) → Unopened old name new event → Asks name new
-    → IsCaused (with_inputs old.contents flash) (CameIn (step_over (name ∷ []) old new)) (λ t. whole_in t limit name) (Err event)
+    → IsCaused (with_inputs old.contents flash) (CameIn (step_over (name ∷ []) old new)) (λ t. whole_known t limit name) (Err event)
 open_refused old new flash name limit event (inl h, s) a =
-    caused_event (with_inputs old.contents flash) (CameIn (step_over (name ∷ []) old new)) (λ t. whole_in t limit name) event (missing name) h.0 (unopened_free old new flash name limit a s h.1)
+    caused_event (with_inputs old.contents flash) (CameIn (step_over (name ∷ []) old new)) (λ t. whole_known t limit name) event (missing name) h.0 (unopened_free old new flash name limit a s h.1)
 open_refused old new flash name limit event (inr h, s) a =
-    caused_event (with_inputs old.contents flash) (CameIn (step_over (name ∷ []) old new)) (λ t. whole_in t limit name) event (reading_failed name) h.0
-    (inl (fault_from (List ℕ) (with_inputs old.contents flash) old new name (λ t r. whole_in t limit name ≡ r) (record { among = inl refl; over = record { asked = a.asked; selected = s }; risen = h.1 }) (broken_due old.contents flash name limit new.given (omega (arith, a.given)))))
+    caused_event (with_inputs old.contents flash) (CameIn (step_over (name ∷ []) old new)) (λ t. whole_known t limit name) event (reading_failed name) h.0
+    (inl (fault_from (List ℕ) (with_inputs old.contents flash) old new name (λ t r. whole_known t limit name ≡ r) (record { among = inl refl; deselected = record { asked = a.asked; selected = s }; risen = h.1 }) (broken_due old.contents flash name limit new.given (omega (arith, a.given)))))
 
 -- an input of which more was taken than its limit
 over_whole : (contents : Option (List ℕ → Option (List ℕ))) (flash : Option (List ℕ)) (C : Mishap → Type 0) (name whole : List ℕ) (rest : Option (List ℕ)) (limit : ℕ) → RestIsWhole contents name (preceded whole rest) → limit < length whole
-    → IsCaused (with_inputs contents flash) C (λ t. whole_in t limit name) (Err (too_large name))
+    → IsCaused (with_inputs contents flash) C (λ t. whole_known t limit name) (Err (too_large name))
 over_whole None flash C name whole rest limit s h = inr tt
 over_whole (Some inputs) flash C name whole rest limit s h =
     let all = known_all inputs name whole rest s in
@@ -482,19 +482,24 @@ over_whole (Some inputs) flash C name whole rest limit s h =
 
 -- an input that was opened and then not read to its end
 pub whole_refused : (old opened new : InputsState) (flash : Option (List ℕ)) (name : List ℕ) (limit : ℕ) (event : Event) → InputsStay old opened → RestIsWhole old.contents name opened.rest → Asks name opened → (event ≡ no_memory) ⊎ UnreadRest opened name new limit event
-    → IsCaused (with_inputs old.contents flash) (CameIn (step_over (name ∷ []) old new)) (λ t. whole_in t limit name) (Err event)
+    → IsCaused (with_inputs old.contents flash) (CameIn (step_over (name ∷ []) old new)) (λ t. whole_known t limit name) (Err event)
 whole_refused old opened new flash name limit event k s a (inl e) =
-    caused_event (with_inputs old.contents flash) (CameIn (step_over (name ∷ []) old new)) (λ t. whole_in t limit name) event no_memory e (inl (inl refl))
+    caused_event (with_inputs old.contents flash) (CameIn (step_over (name ∷ []) old new)) (λ t. whole_known t limit name) event no_memory e (inl (inl refl))
 whole_refused old opened new flash name limit event k s a (inr (inl h, q)) =
-    caused_event (with_inputs old.contents flash) (CameIn (step_over (name ∷ []) old new)) (λ t. whole_in t limit name) event (reading_failed name) h.0
-    (inl (fault_from (List ℕ) (with_inputs old.contents flash) old new name (λ t r. whole_in t limit name ≡ r)
-    (record { among = inl refl; over = record { asked = asked_on name opened new a q; selected = h.1.selected }; risen = risen_from old.faults opened.faults new.faults k.faults h.1.risen })
+    caused_event (with_inputs old.contents flash) (CameIn (step_over (name ∷ []) old new)) (λ t. whole_known t limit name) event (reading_failed name) h.0
+    (inl (fault_from (List ℕ) (with_inputs old.contents flash) old new name (λ t r. whole_known t limit name ≡ r)
+    (record { among = inl refl; deselected = record { asked = asked_on name opened new a q; selected = h.1.selected }; risen = risen_from old.faults opened.faults new.faults k.faults h.1.risen })
     (broken_due old.contents flash name limit new.given (omega (arith, a.given, h.1.given)))))
 whole_refused old opened new flash name limit event k s a (inr (inr h, q)) =
     let more = h.1.0 in
     let taken : RestIsWhole old.contents name (preceded more new.rest) = subst (λ (r : Option (List ℕ)). RestIsWhole old.contents name r) h.1.1.0 s in
-    caused_event (with_inputs old.contents flash) (CameIn (step_over (name ∷ []) old new)) (λ t. whole_in t limit name) event (too_large name) h.0
+    caused_event (with_inputs old.contents flash) (CameIn (step_over (name ∷ []) old new)) (λ t. whole_known t limit name) event (too_large name) h.0
     (over_whole old.contents flash (CameIn (step_over (name ∷ []) old new)) name more new.rest limit taken (omega (arith, h.1.1.1)))
+
+-- no more than these bytes were given of the input of this name, the last that was asked for
+pub record IsAt (name bytes : List ℕ) (now : InputsState) : Type 0 where
+  pub asked : IfSome now.asked (λ kept. kept ≡ name)
+  pub given : now.given ≤ length bytes
 
 -- where an input is at, turn by turn
 pub at_open : (name : List ℕ) (s : InputsState) → Asks name s → IsAt name [] s
@@ -506,38 +511,38 @@ at_on name taken piece mid new a t q = record { asked = subst (λ (k : Option (L
 -- an input that failed within its limit
 pub at_fault : (old mid new : InputsState) (name taken : List ℕ) (left : ℕ) → InputsStay old mid → IsAt name taken mid → Breaks mid (left + 1) new → new.asked ≡ mid.asked → FailsAmong (name ∷ []) old new name × (new.given ≤ length taken + left)
 at_fault old mid new name taken left k a b q =
-    (record { among = inl refl; over = record { asked = subst (λ (k : Option (List ℕ)). IfSome k (λ kept. kept ≡ name)) (sym q) a.asked; selected = b.selected }; risen = risen_from old.faults mid.faults new.faults k.faults b.risen }, omega (arith, a.given, b.given))
+    (record { among = inl refl; deselected = record { asked = subst (λ (k : Option (List ℕ)). IfSome k (λ kept. kept ≡ name)) (sym q) a.asked; selected = b.selected }; risen = risen_from old.faults mid.faults new.faults k.faults b.risen }, omega (arith, a.given, b.given))
 
 -- a turn of an input that was not read
 pub turn_refused : (old mid new : InputsState) (flash : Option (List ℕ)) (name taken : List ℕ) (limit left : ℕ) (event : Event) → InputsStay old mid → RestIsWhole old.contents name (preceded taken mid.rest) → IsAt name taken mid → length taken + left ≡ limit → Unread mid name new left event → new.asked ≡ mid.asked
-    → IsCaused (with_inputs old.contents flash) (CameIn (step_over (name ∷ []) old new)) (λ t. whole_in t limit name) (Err event)
+    → IsCaused (with_inputs old.contents flash) (CameIn (step_over (name ∷ []) old new)) (λ t. whole_known t limit name) (Err event)
 turn_refused old mid new flash name taken limit left event k s a n (inl h) q =
     let f = at_fault old mid new name taken left k a h.1 q in
-    caused_event (with_inputs old.contents flash) (CameIn (step_over (name ∷ []) old new)) (λ t. whole_in t limit name) event (reading_failed name) h.0
-    (inl (fault_from (List ℕ) (with_inputs old.contents flash) old new name (λ t r. whole_in t limit name ≡ r) f.0 (broken_due old.contents flash name limit new.given (omega (arith, f.1, n)))))
+    caused_event (with_inputs old.contents flash) (CameIn (step_over (name ∷ []) old new)) (λ t. whole_known t limit name) event (reading_failed name) h.0
+    (inl (fault_from (List ℕ) (with_inputs old.contents flash) old new name (λ t r. whole_known t limit name ≡ r) f.0 (broken_due old.contents flash name limit new.given (omega (arith, f.1, n)))))
 turn_refused old mid new flash name taken limit left event k s a n (inr h) q =
     let piece = h.1.0 in
     let all : RestIsWhole old.contents name (preceded (taken ++ piece) new.rest) = subst (λ (r : Option (List ℕ)). RestIsWhole old.contents name r) (ap (preceded taken) h.1.1.0 ∙ preceded_preceded taken piece new.rest) s in
-    caused_event (with_inputs old.contents flash) (CameIn (step_over (name ∷ []) old new)) (λ t. whole_in t limit name) event (too_large name) h.0
+    caused_event (with_inputs old.contents flash) (CameIn (step_over (name ∷ []) old new)) (λ t. whole_known t limit name) event (too_large name) h.0
     (over_whole old.contents flash (CameIn (step_over (name ∷ []) old new)) name (taken ++ piece) new.rest limit all (omega (arith, n, h.1.1.1, length-append taken piece)))
 
 -- a stream whose data are read, and whose rest was not
 pub stream_unread : (old opened new : InputsState) (flash : Option (List ℕ)) (name : List ℕ) (limit : ℕ) (event : Event) → InputsStay old opened → RestIsWhole old.contents name opened.rest → Asks name opened → (event ≡ no_memory) ⊎ UnreadRest opened name new limit event
-    → IsCaused (with_inputs old.contents flash) (CameIn (step_over (name ∷ []) old new)) (λ t. read_of t limit name) (Err event)
+    → IsCaused (with_inputs old.contents flash) (CameIn (step_over (name ∷ []) old new)) (λ t. stream_known t limit name) (Err event)
 stream_unread old opened new flash name limit event k s a h =
-    stops (with_inputs old.contents flash) (CameIn (step_over (name ∷ []) old new)) (λ t. whole_in t limit name) (λ t whole. and_so (data_in name whole) (λ bytes. Ok (record { bytes = bytes; room = limit - length whole }))) event
+    stops (with_inputs old.contents flash) (CameIn (step_over (name ∷ []) old new)) (λ t. whole_known t limit name) (λ t whole. and_so (data_in name whole) (λ bytes. Ok (record { bytes = bytes; room = limit - length whole }))) event
     (whole_refused old opened new flash name limit event k s a h)
 
 pub stream_unopened : (old new : InputsState) (flash : Option (List ℕ)) (name : List ℕ) (limit : ℕ) (event : Event) → Unopened old name new event → Asks name new
-    → IsCaused (with_inputs old.contents flash) (CameIn (step_over (name ∷ []) old new)) (λ t. read_of t limit name) (Err event)
+    → IsCaused (with_inputs old.contents flash) (CameIn (step_over (name ∷ []) old new)) (λ t. stream_known t limit name) (Err event)
 stream_unopened old new flash name limit event u a =
-    stops (with_inputs old.contents flash) (CameIn (step_over (name ∷ []) old new)) (λ t. whole_in t limit name) (λ t whole. and_so (data_in name whole) (λ bytes. Ok (record { bytes = bytes; room = limit - length whole }))) event
+    stops (with_inputs old.contents flash) (CameIn (step_over (name ∷ []) old new)) (λ t. whole_known t limit name) (λ t whole. and_so (data_in name whole) (λ bytes. Ok (record { bytes = bytes; room = limit - length whole }))) event
     (open_refused old new flash name limit event u a)
 
 -- a stream whose header is refused, after it was read to its end
 pub stream_refused : (contents : Option (List ℕ → Option (List ℕ))) (flash : Option (List ℕ)) (C : Mishap → Type 0) (name first more : List ℕ) (mid rest : Option (List ℕ)) (limit : ℕ) (last : Bool) (event : Event) → RestIsWhole contents name (preceded first mid) → mid ≡ preceded more rest → AtEnd rest
     → (last ≡ true → AtEnd mid) → (last ≡ false → longest_header ≤ length first) → AreBytes first → length more ≤ limit - length first → length first ≤ limit → Err event ≡ data_in name first
-    → IsCaused (with_inputs contents flash) C (λ t. read_of t limit name) (Err event)
+    → IsCaused (with_inputs contents flash) C (λ t. stream_known t limit name) (Err event)
 stream_refused None flash C name first more mid rest limit last event s e end ends long fits n l head = inr (head_by StreamRead name first (header_at first) event (sym head)).0
 stream_refused (Some inputs) flash C name first more mid rest limit last event s e end ends long fits n l head =
     let whole = first ++ more in

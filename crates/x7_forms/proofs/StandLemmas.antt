@@ -4,11 +4,11 @@ use Rattle.std.specs.Prelude.{IfSome, nat_lt}
 use Rattle.x7_words.specs.Input.{Asks, AsksAtMost, AsksOnce, InputsState}
 use Rattle.x7_forms.specs.declared.bad_input.InputFault.TheVariants as input
 use Rattle.x7_forms.specs.Event.{Event, bad_input, bad_part, missing, no_memory, reading_failed, too_large}
-use Rattle.x7_forms.specs.Known.{Absent, Broken, Found, Held, Mishap, StreamRead, and_so, bytes_found, data_in, found, read_of, taken_whole, with_inputs, within}
+use Rattle.x7_forms.specs.Known.{Absent, Broken, Found, Held, Mishap, StreamRead, and_so, bytes_found, data_in, input_found, stream_known, taken_whole, with_inputs, if_within}
 use Rattle.x7_forms.specs.Step.{IsCaused, IsNoPart, IsUnplayed, IsUnread}
 use Rattle.x7_forms.specs.ReadingStops.{IsAbout, Limited, StopsAmong, limited, limited_together, size_in, size_of}
-use Rattle.x7_forms.specs.Turn.{GivesFew, IsAt, Reads, StandsAt, UnreadBeginning, Unopened}
-use Rattle.x7_forms.proofs.ReadLemmas.{asked_on, left_at}
+use Rattle.x7_forms.specs.Turn.{GivesFew, Reads, StandsAt, UnreadBeginning, Unopened}
+use Rattle.x7_forms.proofs.ReadLemmas.{IsAt, asked_on, left_at}
 
 -- a turn after what was read
 pub gives_on : (old mid new : InputsState) (taken : List ℕ) (limit left : ℕ) → Reads old taken mid → length taken + left ≡ limit → mid.ends ≤ old.ends → GivesFew mid left new → GivesFew old limit new
@@ -71,7 +71,7 @@ unopened_about old new name event (inr h, d) = about_same name event (reading_fa
 pub without_prefix_about : (old new : InputsState) (name : List ℕ) (event : Event) → UnreadBeginning old name new event → IsAbout name event
 without_prefix_about old new name event (inl e) = inl e
 without_prefix_about old new name event (inr (inl h)) = about_same name event (reading_failed name) h.0 refl
-without_prefix_about old new name event (inr (inr h)) = about_same name event (bad_input name (input.Byte h.place)) h.is refl
+without_prefix_about old new name event (inr (inr h)) = about_same name event (bad_input name (input.Byte h.place)) h.reports refl
 
 -- ---- where reading stops
 
@@ -114,21 +114,21 @@ room_found : (name : List ℕ) (limit : ℕ) (f : Found) (s : StreamRead)
     → and_so (taken_whole name limit f) (λ whole. and_so (data_in name whole) (λ given. Ok (record { bytes = given; room = limit - length whole }))) ≡ Ok s → s.room ≡ limit - length (bytes_found f)
 room_found name limit (Held bytes) s e = room_within name bytes limit s (nat_lt limit (length bytes)) e
 room_found name limit Absent s e = absurd cc
-room_found name limit (Broken bytes) s e = absurd (never_read name (λ whole. and_so (data_in name whole) (λ given. Ok (record { bytes = given; room = limit - length whole }))) s (within name limit bytes) e)
+room_found name limit (Broken bytes) s e = absurd (never_read name (λ whole. and_so (data_in name whole) (λ given. Ok (record { bytes = given; room = limit - length whole }))) s (if_within name limit bytes) e)
 
-size_found : (held : Option (List ℕ)) → length (bytes_found (found held)) ≡ size_of held
+size_found : (held : Option (List ℕ)) → length (bytes_found (input_found held)) ≡ size_of held
 size_found None = refl
 size_found (Some bytes) = refl
 
 -- a stream that was read leaves no more of the limit than its bytes do
 pub room_left : (contents now : Option (List ℕ → Option (List ℕ))) (C : Mishap → Type 0) (name : List ℕ) (limit : ℕ) (s : StreamRead) → now ≡ contents → s.room ≤ limit
-    → IsCaused (with_inputs now None) C (λ t. read_of t limit name) (Ok s) → s.room ≤ limit - size_in contents name
-room_left contents now C name limit s same h c = by contents (subst (λ (k : Option (List ℕ → Option (List ℕ))). IsCaused (with_inputs k None) C (λ t. read_of t limit name) (Ok s)) same c)
+    → IsCaused (with_inputs now None) C (λ t. stream_known t limit name) (Ok s) → s.room ≤ limit - size_in contents name
+room_left contents now C name limit s same h c = by contents (subst (λ (k : Option (List ℕ → Option (List ℕ))). IsCaused (with_inputs k None) C (λ t. stream_known t limit name) (Ok s)) same c)
   where
-    by : (k : Option (List ℕ → Option (List ℕ))) → IsCaused (with_inputs k None) C (λ t. read_of t limit name) (Ok s) → s.room ≤ limit - size_in k name
+    by : (k : Option (List ℕ → Option (List ℕ))) → IsCaused (with_inputs k None) C (λ t. stream_known t limit name) (Ok s) → s.room ≤ limit - size_in k name
     by None c = omega (arith, h)
     by (Some map) (inl q) = absurd q
-    by (Some map) (inr q) = omega (arith, room_found name limit (found (map name)) s q.1, size_found (map name))
+    by (Some map) (inr q) = omega (arith, room_found name limit (input_found (map name)) s q.1, size_found (map name))
 
 -- the inputs after some of them, and what may be left of the limit for them
 pub record LimitsFrom (all : List Limited) (contents : Option (List ℕ → Option (List ℕ))) (count left : ℕ) (names : List (List ℕ)) : Type 0 where

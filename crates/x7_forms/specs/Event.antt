@@ -1,5 +1,5 @@
--- What ends a command before its text is whole: the reasons, each with its status, its
--- cause and its words (this project's choice).
+-- What ends a command before its text is whole: the reasons, each with its status, its cause and its line (this
+-- project's choice).
 use Rattle.std.specs.Prelude.{ℕ, List, [], ◌++◌, Option, None, Some, codes, decimal}
 use Rattle.x7_part.specs.declared.fault.PartFault.{PartFault}
 use Rattle.x7_part.specs.declared.fault.PartFault.TheVariants as part
@@ -10,13 +10,18 @@ use Rattle.x7_forms.specs.declared.bad_input.InputFault.{InputFault}
 use Rattle.x7_forms.specs.declared.bad_input.InputFault.TheVariants as input
 use Rattle.x7_forms.specs.declared.status.Status.{Status}
 use Rattle.x7_forms.specs.declared.status.Status.TheVariants as status
+use Rattle.x7_forms.specs.declared.refusal.Refusal.{Refusal}
 use Rattle.x7_forms.specs.declared.refusal.Why.{Why}
 use Rattle.x7_forms.specs.declared.refusal.Why.TheVariants as why
 
--- the reason, and the name of the input concerned; no name where the reason concerns none
+-- the reason, and the name of the input or of the flash concerned; no name where the reason concerns none
 pub record Event : Type 0 where
   pub reason : Why
   pub concerned : List ℕ
+
+-- the event that a refusal of the code reports
+abbrev pub event_of : Refusal → Event
+event_of refusal = record { reason = refusal.reason; concerned = refusal.name.now }
 
 -- what brings a reason about
 pub data Cause : Type 0 where
@@ -44,63 +49,63 @@ placed_key name (Some row) = name ++ codes " in row " ++ decimal row
 abbrev pub which_text : Which → List ℕ
 which_text which = placed_key (name_of which.key) which.row
 
--- why a part file was refused; want of memory is known by another line
-abbrev pub part_text : PartFault → List ℕ
-part_text part.Toml = codes "toml"
-part_text (part.Key which) = codes "key " ++ which_text which
-part_text (part.Range which) = codes "range " ++ which_text which
-part_text (part.SameRow row) = codes "same row " ++ decimal row
-part_text (part.TooMany frames) = codes "too many " ++ decimal frames
-part_text part.NoMemory = codes "no memory"
+-- why a part file was refused; want of memory comes as a reason of its own (`part_event` in `Known`)
+abbrev pub part_fault_text : PartFault → List ℕ
+part_fault_text part.Toml = codes "toml"
+part_fault_text (part.Key which) = codes "key " ++ which_text which
+part_fault_text (part.Range which) = codes "range " ++ which_text which
+part_fault_text (part.SameRow row) = codes "same row " ++ decimal row
+part_fault_text (part.TooMany frames) = codes "too many " ++ decimal frames
+part_fault_text part.NoMemory = codes "no memory"
 
--- why an input has no reading
-abbrev pub input_text : InputFault → List ℕ
-input_text (input.Byte place) = codes "byte " ++ decimal place
-input_text (input.Line line) = codes "line " ++ decimal line
-input_text (input.LongLine line) = codes "long line " ++ decimal line
-input_text (input.Sum line want got) = codes "sum line " ++ (decimal line ++ (codes " want " ++ (hex_byte want ++ (codes " got " ++ hex_byte got))))
-input_text (input.LargeLine line) = codes "large line " ++ decimal line
-input_text (input.Overlap place) = codes "overlap " ++ hex_word place
-input_text input.NoEnd = codes "no end"
-input_text (input.AddressLine line) = codes "address line " ++ decimal line
-input_text (input.TwiceLine line) = codes "twice line " ++ decimal line
-input_text input.Empty = codes "empty"
-input_text input.Foreign = codes "foreign"
-input_text input.Range = codes "range"
-input_text input.Image = codes "image"
-input_text input.Long = codes "long"
-input_text (input.Layout place) = codes "layout byte " ++ decimal place
+-- why an input other than a part file was refused
+abbrev pub input_fault_text : InputFault → List ℕ
+input_fault_text (input.Byte place) = codes "byte " ++ decimal place
+input_fault_text (input.Line line) = codes "line " ++ decimal line
+input_fault_text (input.LongLine line) = codes "long line " ++ decimal line
+input_fault_text (input.Sum line want got) = codes "sum line " ++ (decimal line ++ (codes " want " ++ (hex_byte want ++ (codes " got " ++ hex_byte got))))
+input_fault_text (input.LargeLine line) = codes "large line " ++ decimal line
+input_fault_text (input.Overlap place) = codes "overlap " ++ hex_word place
+input_fault_text input.NoEnd = codes "no end"
+input_fault_text (input.AddressLine line) = codes "address line " ++ decimal line
+input_fault_text (input.TwiceLine line) = codes "twice line " ++ decimal line
+input_fault_text input.Empty = codes "empty"
+input_fault_text input.Foreign = codes "foreign"
+input_fault_text input.Range = codes "range"
+input_fault_text input.Image = codes "image"
+input_fault_text input.Long = codes "long"
+input_fault_text (input.Layout place) = codes "layout byte " ++ decimal place
 
--- a row of the table of reasons: the words stand before the name, the detail after it
-pub record Row : Type 0 where
+-- a row of the table of reasons: the status and the cause of a reason, and what its line says before and after the name
+pub record ReasonRow : Type 0 where
   pub ends_as : Status
   pub cause : Cause
-  pub words : List ℕ
-  pub detail : List ℕ
+  pub before_name : List ℕ
+  pub after_name : List ℕ
 
 -- the table of reasons
-abbrev pub row_of : Why → Row
-row_of why.Usage = record { ends_as = status.Usage; cause = Wording; words = codes "usage"; detail = [] }
-row_of why.Missing = record { ends_as = status.Missing; cause = Absence; words = codes "missing "; detail = [] }
-row_of (why.BadPart fault) = record { ends_as = status.BadPart; cause = Contents; words = codes "bad part "; detail = codes ": " ++ part_text fault }
-row_of (why.BadInput fault) = record { ends_as = status.BadInput; cause = Contents; words = codes "bad input "; detail = codes ": " ++ input_text fault }
-row_of why.ReadFault = record { ends_as = status.ReadFault; cause = Fault; words = codes "read fault "; detail = [] }
-row_of why.WriteFault = record { ends_as = status.WriteFault; cause = Break; words = codes "write fault"; detail = [] }
-row_of why.NoMemory = record { ends_as = status.NoMemory; cause = Want; words = codes "no memory"; detail = [] }
-row_of why.TooLarge = record { ends_as = status.TooLarge; cause = Contents; words = codes "too large "; detail = [] }
-row_of (why.Differs place) = record { ends_as = status.Differs; cause = Difference; words = codes "differs "; detail = codes ": byte " ++ decimal place }
+abbrev pub reason_row : Why → ReasonRow
+reason_row why.Usage = record { ends_as = status.Usage; cause = Wording; before_name = codes "usage"; after_name = [] }
+reason_row why.Missing = record { ends_as = status.Missing; cause = Absence; before_name = codes "missing "; after_name = [] }
+reason_row (why.BadPart fault) = record { ends_as = status.BadPart; cause = Contents; before_name = codes "bad part "; after_name = codes ": " ++ part_fault_text fault }
+reason_row (why.BadInput fault) = record { ends_as = status.BadInput; cause = Contents; before_name = codes "bad input "; after_name = codes ": " ++ input_fault_text fault }
+reason_row why.ReadFault = record { ends_as = status.ReadFault; cause = Fault; before_name = codes "read fault "; after_name = [] }
+reason_row why.WriteFault = record { ends_as = status.WriteFault; cause = Break; before_name = codes "write fault"; after_name = [] }
+reason_row why.NoMemory = record { ends_as = status.NoMemory; cause = Want; before_name = codes "no memory"; after_name = [] }
+reason_row why.TooLarge = record { ends_as = status.TooLarge; cause = Contents; before_name = codes "too large "; after_name = [] }
+reason_row (why.Differs place) = record { ends_as = status.Differs; cause = Difference; before_name = codes "differs "; after_name = codes ": byte " ++ decimal place }
 
 -- what brings an event about
 abbrev pub cause_of_event : Event → Cause
-cause_of_event e = (row_of e.reason).cause
+cause_of_event e = (reason_row e.reason).cause
 
 -- the status of a run that an event ends
 abbrev pub status_of_event : Event → Status
-status_of_event e = (row_of e.reason).ends_as
+status_of_event e = (reason_row e.reason).ends_as
 
--- the line that reports an event, with its end
+-- the line that reports an event, with its line feed
 abbrev pub event_line : Event → List ℕ
-event_line e = codes "x7: " ++ ((row_of e.reason).words ++ (e.concerned ++ ((row_of e.reason).detail ++ codes "\n")))
+event_line e = codes "x7: " ++ ((reason_row e.reason).before_name ++ (e.concerned ++ ((reason_row e.reason).after_name ++ codes "\n")))
 
 -- ---- the events by their reasons
 
@@ -116,7 +121,7 @@ missing name = record { reason = why.Missing; concerned = name }
 abbrev pub bad_part : List ℕ → PartFault → Event
 bad_part name fault = record { reason = why.BadPart fault; concerned = name }
 
--- the input of this name has no reading
+-- the input of this name, which is no part file, is refused; or the flash, for its layout
 abbrev pub bad_input : List ℕ → InputFault → Event
 bad_input name fault = record { reason = why.BadInput fault; concerned = name }
 

@@ -54,8 +54,8 @@ abbrev pub data_in : List ℕ → List ℕ → Result (List ℕ) Event
 data_in name bytes = data_by name bytes (header_at bytes)
 
 -- the bytes of an input that has no more than `limit` of them, or the event of one that is too large
-abbrev pub within : List ℕ → ℕ → List ℕ → Result (List ℕ) Event
-within name limit bytes = if nat_lt limit (length bytes) then Err (too_large name) else Ok bytes
+abbrev pub if_within : List ℕ → ℕ → List ℕ → Result (List ℕ) Event
+if_within name limit bytes = if nat_lt limit (length bytes) then Err (too_large name) else Ok bytes
 
 -- the most bytes of a stream
 abbrev pub stream_limit : ℕ
@@ -64,14 +64,14 @@ stream_limit = 67108864
 -- the bytes of an input that is read whole and has no more than `limit` of them; one that
 -- fails may be over the limit before it does
 abbrev pub taken_whole : List ℕ → ℕ → Found → Result (List ℕ) Event
-taken_whole name limit (Held bytes) = within name limit bytes
+taken_whole name limit (Held bytes) = if_within name limit bytes
 taken_whole name limit Absent = Err (missing name)
-taken_whole name limit (Broken bytes) = and_so (within name limit bytes) (λ _. Err (reading_failed name))
+taken_whole name limit (Broken bytes) = and_so (if_within name limit bytes) (λ _. Err (reading_failed name))
 
 -- the input of this name, where it is known: its bytes, if it has no more than `limit` of
 -- them, or the event of one that isn't read
-abbrev pub whole_in : Known → ℕ → List ℕ → Result (List ℕ) Event
-whole_in known limit name = taken_whole name limit (known.inputs name)
+abbrev pub whole_known : Known → ℕ → List ℕ → Result (List ℕ) Event
+whole_known known limit name = taken_whole name limit (known.inputs name)
 
 -- ---- a part file, and streams
 
@@ -90,8 +90,8 @@ part_by name (Ok part) = Ok part
 part_by name (Err fault) = Err (bad_part name fault)
 
 -- the part of the part file of this name, where that is known, or the event of one that gives none
-abbrev pub part_of : Known → List ℕ → Result PartData Event
-part_of known name = and_so (whole_in known part_limit name) (λ text. part_by name (part_in text))
+abbrev pub part_known : Known → List ℕ → Result PartData Event
+part_known known name = and_so (whole_known known part_limit name) (λ text. part_by name (part_in text))
 
 -- bytes before those that a step gives
 abbrev pub put_before : List ℕ → Result (List ℕ) Event → Result (List ℕ) Event
@@ -103,13 +103,13 @@ pub record StreamRead : Type 0 where
   pub room : ℕ
 
 -- the stream of this name: one that is too large is refused before its header is looked at
-abbrev pub read_of : Known → ℕ → List ℕ → Result StreamRead Event
-read_of known limit name = and_so (whole_in known limit name) (λ whole. and_so (data_in name whole) (λ bytes. Ok (record { bytes = bytes; room = limit - length whole })))
+abbrev pub stream_known : Known → ℕ → List ℕ → Result StreamRead Event
+stream_known known limit name = and_so (whole_known known limit name) (λ whole. and_so (data_in name whole) (λ bytes. Ok (record { bytes = bytes; room = limit - length whole })))
 
 -- the data of streams, one after the other; the streams are within a limit together, headers included
-abbrev pub data_of : Known → ℕ → List (List ℕ) → Result (List ℕ) Event
-data_of known limit [] = Ok []
-data_of known limit (name ∷ names) = and_so (read_of known limit name) (λ stream. put_before stream.bytes (data_of known stream.room names))
+abbrev pub streams_known : Known → ℕ → List (List ℕ) → Result (List ℕ) Event
+streams_known known limit [] = Ok []
+streams_known known limit (name ∷ names) = and_so (stream_known known limit name) (λ stream. put_before stream.bytes (streams_known known stream.room names))
 
 -- the most words that a play reads out
 abbrev pub reads_limit : ℕ
@@ -118,9 +118,9 @@ reads_limit = 16777216
 -- ---- what is known of the outside
 
 -- an input by its bytes, where it has any
-abbrev pub found : Option (List ℕ) → Found
-found None = Absent
-found (Some bytes) = Held bytes
+abbrev pub input_found : Option (List ℕ) → Found
+input_found None = Absent
+input_found (Some bytes) = Held bytes
 
 -- a flash by its bytes, where they are known
 abbrev pub flash_found : Option (List ℕ) → Option Found
@@ -129,7 +129,7 @@ flash_found (Some bytes) = Some (Held bytes)
 
 -- what is known of the inputs, and of the flash, whatever its name
 abbrev pub known_of : (List ℕ → Option (List ℕ)) → Option (List ℕ) → Known
-known_of inputs flash = record { inputs = λ name. found (inputs name); flash = λ name. flash_found flash }
+known_of inputs flash = record { inputs = λ name. input_found (inputs name); flash = λ name. flash_found flash }
 
 -- what is known of the inputs and of the flash, if the inputs are known; else nothing
 abbrev pub with_inputs : Option (List ℕ → Option (List ℕ)) → Option (List ℕ) → Option Known

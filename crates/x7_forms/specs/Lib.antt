@@ -1,7 +1,7 @@
 pub mod Event
 pub mod Form
 pub mod Known
-pub mod Message
+pub mod Status
 pub mod Step
 pub mod ReadingStops
 pub mod Turn

@@ -5,9 +5,8 @@ use Rattle.x7_words.specs.Input.{InputsState}
 use Rattle.x7_forms.specs.declared.refusal.Refusal.{Refusal}
 use Rattle.x7_part.specs.declared.fault.PartFault.{PartFault}
 use Rattle.x7_forms.specs.declared.bad_input.InputFault.TheVariants as input
-use Rattle.x7_forms.specs.Event.{Event, Cause, Absence, Contents, bad_input, bad_part, cause_of_event, missing, no_memory, reading_failed, too_large}
-use Rattle.x7_forms.specs.Known.{Failing, Known, Lacking, Mishap, StreamRead, data_of, mishap_event, read_of, stream_limit, whole_in, with_inputs, with_mishap}
-use Rattle.x7_forms.specs.Message.{event_of}
+use Rattle.x7_forms.specs.Event.{Event, Cause, Absence, Contents, bad_input, bad_part, cause_of_event, event_of, missing, no_memory, reading_failed, too_large}
+use Rattle.x7_forms.specs.Known.{Failing, Known, Lacking, Mishap, StreamRead, streams_known, mishap_event, stream_known, stream_limit, whole_known, with_inputs, with_mishap}
 
 -- the name is one of these
 abbrev pub Among : List (List ℕ) → List ℕ → Type 0
@@ -15,23 +14,23 @@ Among [] name = ⊥
 Among (first ∷ names) name = (name ≡ first) ⊎ Among names name
 
 -- the name is the last that was asked for, where that is kept, and no input is selected any more
-pub record IsOver (name : List ℕ) (now : InputsState) : Type 0 where
+pub record IsDeselected (name : List ℕ) (now : InputsState) : Type 0 where
   pub asked : IfSome now.asked (λ kept. kept ≡ name)
   pub selected : now.selected ≡ false
 
 -- an input of one of these names failed: it was the last that was asked for, and the count of faults rose
 pub record FailsAmong (names : List (List ℕ)) (old new : InputsState) (name : List ℕ) : Type 0 where
   pub among : Among names name
-  pub over : IsOver name new
+  pub deselected : IsDeselected name new
   pub risen : HasRisen old.faults new.faults
 
 -- an input of one of these names was missing, by the count of absences
 pub record LacksAmong (names : List (List ℕ)) (old new : InputsState) (name : List ℕ) : Type 0 where
   pub among : Among names name
-  pub over : IsOver name new
+  pub deselected : IsDeselected name new
   pub risen : HasRisen old.absences new.absences
 
--- a step over inputs: the names that it may ask for, and what the inputs had come to before and after it
+-- a step over inputs: the names that it may ask for, and the states of the inputs before and after it
 pub record InputStep : Type 0 where
   pub names : List (List ℕ)
   pub before : InputsState
@@ -46,7 +45,7 @@ abbrev pub CameIn : InputStep → Mishap → Type 0
 CameIn step (Failing name given) = (given ≡ step.after.given) × FailsAmong step.names step.before step.after name
 CameIn step (Lacking name) = LacksAmong step.names step.before step.after name
 
--- what the result of a call says: a value, or the event of a refusal
+-- the result of a call as definitions see it: what `value` makes of it, or the event of its refusal
 abbrev pub seen : {A B : Type 0} → (A → B) → Result A Refusal → Result B Event
 seen value (Ok a) = Ok (value a)
 seen value (Err refusal) = Err (event_of refusal)
@@ -61,10 +60,10 @@ DueBy (Some known) mishap Due event = Due (with_mishap mishap known) (Err event)
 pub record IsOfMishap (A : Type 0) (known : Option Known) (Came : Mishap → Type 0) (Due : Known → Result A Event → Type 0) (event : Event) : Type 0 where
   pub mishap : Mishap
   pub came : Came mishap
-  pub is : mishap_event mishap ≡ event
+  pub reports : mishap_event mishap ≡ event
   pub due : DueBy known mishap Due event
 
--- an event that may come whatever the contents are: want of memory, or that of a mishap
+-- the result is an event that may come whatever the contents are: want of memory, or that of a mishap
 abbrev pub IsFromOutside : {A : Type 0} → Option Known → (Mishap → Type 0) → (Known → Result A Event → Type 0) → Result A Event → Type 0
 IsFromOutside known Came Due (Ok a) = ⊥
 IsFromOutside {A} known Came Due (Err event) = (event ≡ no_memory) ⊎ IsOfMishap A known Came Due event
@@ -80,13 +79,13 @@ abbrev pub IsDecided : {A : Type 0} → Result A Event → Type 0
 IsDecided (Ok a) = Unit {0}
 IsDecided (Err event) = DecidedBy (cause_of_event event)
 
--- what contents that are not known may come to: an event that lies in them; which name it has, and which
--- reason, a step says by a clause of its own
+-- what contents that are not known may bring about: an event that lies in them; which name it has, and which reason, a
+-- step says by a clause of its own
 abbrev pub PossibleBy : Cause → Type 0
 PossibleBy Contents = Unit {0}
 PossibleBy _ = ⊥
 
--- the result is a value, or an event that contents which aren't known may come to
+-- the result is a value, or an event that contents which aren't known may bring about
 abbrev pub IsPossible : {A : Type 0} → Result A Event → Type 0
 IsPossible (Ok a) = Unit {0}
 IsPossible (Err event) = PossibleBy (cause_of_event event)
@@ -96,7 +95,7 @@ abbrev pub IsDue : {A : Type 0} → Option Known → (Known → Result A Event �
 IsDue None Due got = IsPossible got
 IsDue (Some known) Due got = IsDecided got × Due known got
 
--- the result has a cause: it comes from outside, or it is due
+-- the result has a cause: it comes from outside, or it is due over what is known
 abbrev pub IsCausedBy : {A : Type 0} → Option Known → (Mishap → Type 0) → (Known → Result A Event → Type 0) → Result A Event → Type 0
 IsCausedBy known Came Due got = IsFromOutside known Came Due got ⊎ IsDue known Due got
 
@@ -114,7 +113,7 @@ AnswersBy step Due got = (flash : Option (List ℕ)) → IsCausedBy (with_inputs
 abbrev pub AnswersAs : {A : Type 0} → InputStep → (Known → Result A Event) → Result A Event → Type 0
 AnswersAs step due got = AnswersBy step (λ known end. due known ≡ end) got
 
--- ---- why a step came to nothing, whatever the inputs hold
+-- ---- why a step gives nothing, whatever the inputs hold
 
 -- an input of this name isn't read: want of memory, it isn't there, it failed, or it is over its limit
 abbrev pub IsUnread : List ℕ → Event → Type 0
@@ -136,12 +135,12 @@ IsOneUnplayed names event = (event ≡ no_memory) ⊎ ((name : List ℕ) × (Amo
 
 -- a step reads an input whole, of at most `limit` bytes
 abbrev pub ReadsWhole : InputsState → InputsState → ℕ → List ℕ → Result (List ℕ) Event → Type 0
-ReadsWhole old new limit name got = AnswersAs (step_over (name ∷ []) old new) (λ known. whole_in known limit name) got
+ReadsWhole old new limit name got = AnswersAs (step_over (name ∷ []) old new) (λ known. whole_known known limit name) got
 
 -- a step reads a stream of at most `limit` bytes, and keeps its data
 abbrev pub ReadsStream : InputsState → InputsState → ℕ → List ℕ → Result StreamRead Event → Type 0
-ReadsStream old new limit name got = AnswersAs (step_over (name ∷ []) old new) (λ known. read_of known limit name) got
+ReadsStream old new limit name got = AnswersAs (step_over (name ∷ []) old new) (λ known. stream_known known limit name) got
 
 -- a step reads the data of streams, one after the other
 abbrev pub ReadsStreams : InputsState → InputsState → List (List ℕ) → Result (List ℕ) Event → Type 0
-ReadsStreams old new names got = AnswersAs (step_over names old new) (λ known. data_of known stream_limit names) got
+ReadsStreams old new names got = AnswersAs (step_over names old new) (λ known. streams_known known stream_limit names) got

@@ -38,11 +38,6 @@ pub record Reads (old : InputsState) (bytes : List ℕ) (new : InputsState) : Ty
   pub asked : new.asked ≡ old.asked
   pub stays : InputsStay old new
 
--- no more than these bytes were given of the input of this name, the last that was asked for
-pub record IsAt (name bytes : List ℕ) (now : InputsState) : Type 0 where
-  pub asked : IfSome now.asked (λ kept. kept ≡ name)
-  pub given : now.given ≤ length bytes
-
 -- No input was asked for since, and of the selected one at most `left` bytes and one more
 -- were given, and its end read once at most.
 pub record GivesFew (old : InputsState) (left : ℕ) (new : InputsState) : Type 0 where
@@ -76,8 +71,8 @@ abbrev pub FollowsUnlessLast : Bool → List ℕ → Type 0
 FollowsUnlessLast last rest = last ≡ true → rest ≡ []
 
 -- the data begin at this byte: after a header, or at the first byte where there is none
-abbrev pub BeginAt : List ℕ → ℕ → Type 0
-BeginAt bytes start =
+abbrev pub DataBeginAt : List ℕ → ℕ → Type 0
+DataBeginAt bytes start =
     ((x : Contents) × HaveHeader x × (bytes ≡ header_bytes x ++ drop start bytes) × (start ≡ length (header_bytes x)))
     ⊎ ((start ≡ 0) × ((rest : List ℕ) → bytes ≢ fixed_bytes ++ rest))
 
@@ -101,9 +96,9 @@ HeaderGoesOn bytes last = (last ≡ false) × (length bytes ≤ longest_header) 
 pub record ReadsBeginning (bytes line : List ℕ) (start : ℕ) (last : Bool) (old new : InputsState) : Type 0 where
   pub reads : Reads old bytes new
   pub end : last ≡ true → AtEnd new.rest
-  pub goes : last ≡ false → new.ends ≤ old.ends
+  pub no_end_read : last ≡ false → new.ends ≤ old.ends
   pub within : start ≤ length bytes
-  pub few : length bytes ≤ longest_beginning
+  pub short : length bytes ≤ longest_beginning
   pub holds_few : HoldsFew bytes start
   pub begins : IsBeginning bytes last line start
 
@@ -116,12 +111,12 @@ pub record IsBadBeginning (old new : InputsState) (name : List ℕ) (event : Eve
   pub place : ℕ
   pub bytes : List ℕ
   pub last : Bool
-  pub is : event ≡ bad_input name (input.Byte place)
+  pub reports : event ≡ bad_input name (input.Byte place)
   pub taken : old.rest ≡ preceded bytes new.rest
   pub end : last ≡ true → AtEnd new.rest
   pub refused : IsRefused bytes last place
   -- no byte after the one at which the header is refused
-  pub soon : length bytes ≤ place + 1
+  pub no_byte_after : length bytes ≤ place + 1
 
 -- where the rest of an open input is known, and begins with a header that has another byte in
 -- a letter's place, that byte was not given

@@ -1,4 +1,4 @@
-//! The line that says why an input has no reading. No memory is taken.
+//! The line that says why an input other than a part file was refused. No memory is taken.
 ghost use Rattle.std.specs.Prelude.{◌++◌, codes, decimal};
 ghost use Rattle.x7_words.specs.Sink.{PutsOrFails};
 ghost use Rattle.x7_forms.specs.Event.{bad_input, event_line};
@@ -8,7 +8,7 @@ use itoa::Buffer;
 use x7_text::{hex_of_byte, hex_of_word};
 use x7_words::{Failed, Sink, write_pieces};
 
-/// Why an input has no reading. Lines count from 1, bytes from 0.
+/// Why an input other than a part file was refused. Lines count from 1, bytes and places in a flash from 0.
 #[derive(Clone, Copy, Debug, Drop, PartialEq, Eq)]
 pub enum InputFault {
     /// The byte of a stream's header that should be a field's letter and is not, or the
@@ -18,7 +18,7 @@ pub enum InputFault {
     Line(u64),
     /// The first line at which the result passes its limit.
     LongLine(u64),
-    /// The first line whose sum byte isn't the one that makes the sum 0.
+    /// The first line with a record whose last byte isn't the one that makes the sum of its bytes 0.
     Sum {
         /// The line.
         line: u64,
@@ -27,54 +27,54 @@ pub enum InputFault {
         /// The byte that stands there.
         got: u8,
     },
-    /// The first line with a byte at or past the limit of places.
+    /// The first line with data that end past the end of the largest flash.
     LargeLine(u64),
-    /// The least place of a line that an earlier line gave.
+    /// The least place of a flash that a line gives and an earlier one gave.
     Overlap(u32),
-    /// The line that ends the text is missing.
+    /// There is no end record, the last line of an Intel HEX text.
     NoEnd,
     /// The first line with an address that the part lacks.
     AddressLine(u64),
     /// The first line with an address that an earlier line has.
     TwiceLine(u64),
-    /// The frames text plans nothing.
+    /// The frames text plans no frame.
     Empty,
     /// The part has no frame at the address.
     Foreign,
-    /// The number of slots can't be read: it is 0, or more than there are.
+    /// The number of slots to read is 0, or more than there are from the address on.
     Range,
     /// An image with this update stream would be larger than a flash may be.
     Image,
     /// The stream would end past the end of the flash.
     Long,
-    /// The flash has no layout that can be updated; the place shows where.
+    /// The flash has no layout that can be updated: the first place at which it is otherwise.
     Layout(u64),
 }
 
 /// The start of the line, before the name of the input.
 const START: &[u8] = b"x7: bad input ";
 
-/// Writes the line of a fault that stands at a place.
-fn say_at<'x, E: Sink>(
+/// Writes the line of a fault: its label, and its place, or nothing where it has none.
+fn say_fault<'x, E: Sink>(
     err: &mut E,
     name: &'x str,
-    kind: &'x [u8],
+    label: &'x [u8],
     place: &'x [u8],
 ) -> Result<(), Failed>
-    ensures { PutsOrFails (E.state err.old) (codes "x7: bad input " ++ (name.now ++ (kind.now ++ (place.now ++ codes "\n")))) (E.state err.new) }
+    ensures { PutsOrFails (E.state err.old) (codes "x7: bad input " ++ (name.now ++ (label.now ++ (place.now ++ codes "\n")))) (E.state err.new) }
 {
-    write_pieces(err, &[START, name.as_bytes(), kind, place, b"\n"])
+    write_pieces(err, &[START, name.as_bytes(), label, place, b"\n"])
 }
 
 /// Writes the line of a fault that has a number: that of a line, or of a byte of the input.
-fn say_number<E: Sink>(err: &mut E, name: &str, kind: &[u8], number: u64) -> Result<(), Failed>
-    ensures { PutsOrFails (E.state err.old) (codes "x7: bad input " ++ (name.now ++ (kind.now ++ (decimal number ++ codes "\n")))) (E.state err.new) }
+fn say_number<E: Sink>(err: &mut E, name: &str, label: &[u8], number: u64) -> Result<(), Failed>
+    ensures { PutsOrFails (E.state err.old) (codes "x7: bad input " ++ (name.now ++ (label.now ++ (decimal number ++ codes "\n")))) (E.state err.new) }
 {
     let mut buffer = Buffer::new();
-    say_at(err, name, kind, buffer.format(number).as_bytes())
+    say_fault(err, name, label, buffer.format(number).as_bytes())
 }
 
-/// Writes the line of a sum byte that is another.
+/// Writes the line of a record whose last byte isn't the one that makes the sum 0.
 fn say_sum<E: Sink>(err: &mut E, name: &str, line: u64, want: u8, got: u8) -> Result<(), Failed>
     ensures { PutsOrFails (E.state err.old) (event_line (bad_input name.now (input.Sum line want got))) (E.state err.new) }
 {
@@ -96,7 +96,7 @@ fn say_sum<E: Sink>(err: &mut E, name: &str, line: u64, want: u8, got: u8) -> Re
     )
 }
 
-/// Writes the line of an input that has no reading.
+/// Writes the line of an input that was refused.
 pub(crate) fn say_bad_input<E: Sink>(
     err: &mut E,
     name: &str,
@@ -108,17 +108,17 @@ pub(crate) fn say_bad_input<E: Sink>(
         InputFault::Byte(place) => say_number(err, name, b": byte ", place),
         InputFault::Line(line) => say_number(err, name, b": line ", line),
         InputFault::LongLine(line) => say_number(err, name, b": long line ", line),
+        InputFault::Sum { line, want, got } => say_sum(err, name, line, want, got),
         InputFault::LargeLine(line) => say_number(err, name, b": large line ", line),
-        InputFault::Overlap(place) => say_at(err, name, b": overlap ", &hex_of_word(place)),
-        InputFault::NoEnd => say_at(err, name, b": no end", b""),
+        InputFault::Overlap(place) => say_fault(err, name, b": overlap ", &hex_of_word(place)),
+        InputFault::NoEnd => say_fault(err, name, b": no end", b""),
         InputFault::AddressLine(line) => say_number(err, name, b": address line ", line),
         InputFault::TwiceLine(line) => say_number(err, name, b": twice line ", line),
-        InputFault::Empty => say_at(err, name, b": empty", b""),
-        InputFault::Foreign => say_at(err, name, b": foreign", b""),
-        InputFault::Range => say_at(err, name, b": range", b""),
-        InputFault::Image => say_at(err, name, b": image", b""),
-        InputFault::Long => say_at(err, name, b": long", b""),
+        InputFault::Empty => say_fault(err, name, b": empty", b""),
+        InputFault::Foreign => say_fault(err, name, b": foreign", b""),
+        InputFault::Range => say_fault(err, name, b": range", b""),
+        InputFault::Image => say_fault(err, name, b": image", b""),
+        InputFault::Long => say_fault(err, name, b": long", b""),
         InputFault::Layout(place) => say_number(err, name, b": layout byte ", place),
-        InputFault::Sum { line, want, got } => say_sum(err, name, line, want, got),
     }
 }

@@ -2,39 +2,30 @@
 ghost use Rattle.std.specs.Prelude.{◌≡◌, ◌≤◌, ◌+◌, ◌⊎◌, ℕ, length, true, false, IfErr, IfOk, MatchOption, OnOk};
 ghost use Rattle.x7_header.specs.Header.{fixed_size};
 ghost use Rattle.x7_words.specs.Input.{InputsStay};
-ghost use Rattle.x7_forms.specs.Event.{bad_input, no_memory};
-ghost use Rattle.x7_forms.specs.Message.{event_of};
+ghost use Rattle.x7_forms.specs.Event.{bad_input, event_of, no_memory};
 ghost use Rattle.x7_forms.specs.Known.{stream_limit};
-ghost use Rattle.x7_forms.specs.Turn.{BeginAt, GivesFew, HeaderGoesOn, IsBeginning, IsRefused, ReadsBeginning, RefusedAt, UnreadBeginning, longest_beginning};
+ghost use Rattle.x7_forms.specs.Turn.{DataBeginAt, GivesFew, HeaderGoesOn, IsBeginning, IsRefused, ReadsBeginning, RefusedAt, UnreadBeginning, longest_beginning};
 ghost use Rattle.x7_forms.specs.declared.bad_input.InputFault.TheVariants as input;
 
-use crate::bad_input::InputFault;
-use crate::read::{STREAM_LIMIT, TURN_BYTES, next_turn};
-use crate::refusal::{Refusal, Why};
+use crate::read::{STREAM_LIMIT, TURN_BYTES, next_turn, refused_at};
+use crate::refusal::Refusal;
 use std::alloc::Global;
 use x7_header::{HeaderFault, header_of, wanted};
 use x7_listing::header_line;
 use x7_text::put_text;
 use x7_words::Inputs;
 
-/// The line of a stream's header with its end, or nothing; and where the data begin.
+/// What a stream's first bytes show once its header is judged.
 #[derive(Drop)]
 struct Judged {
+    /// The line of the header with its line feed, or nothing where there is none.
     line: Vec<u8>,
+    /// Where the data begin, in bytes from 0.
     start: usize,
 }
 
-/// A header that is refused at this byte.
-fn refused_at<'w>(name: &'w str, place: usize) -> Refusal<'w>
-    ensures { event_of result ≡ bad_input name.now (input.Byte place) }
-{
-    Refusal {
-        reason: Why::BadInput(InputFault::Byte(place as u64)),
-        name,
-    }
-}
-
-/// Judges the header by a stream's first bytes, its last too or not: `None` where they end inside it and more may come.
+/// Judges the header by the first bytes of a stream, which are all of it where `last` says so: `None` where they end
+/// inside the header and more may come.
 fn judge<'w>(
     alloc: Global,
     name: &'w str,
@@ -44,7 +35,7 @@ fn judge<'w>(
     requires long { last ≡ false → fixed_size ≤ length bytes.now }
     ensures judged { IfOk result (λ found. MatchOption found (HeaderGoesOn bytes.now last)
         (λ judged. (judged.start ≤ length bytes.now) × IsBeginning bytes.now last judged.line.items judged.start)) }
-    ensures begin { IfOk result (λ found. MatchOption found (Unit {0}) (λ judged. BeginAt bytes.now judged.start)) }
+    ensures data_begin { IfOk result (λ found. MatchOption found (Unit {0}) (λ judged. DataBeginAt bytes.now judged.start)) }
     ensures refused { IfErr result (λ r. (event_of r ≡ no_memory)
         ⊎ ((place : ℕ) × (event_of r ≡ bad_input name.now (input.Byte place)) × IsRefused bytes.now last place × RefusedAt bytes.now place)) }
 {
@@ -67,14 +58,14 @@ fn judge<'w>(
     }
 }
 
-/// The first bytes of a stream, whose header is judged.
+/// The first bytes of a stream, by which its header was judged.
 #[derive(Drop)]
 pub struct Beginning {
     /// The bytes that were read.
     pub bytes: Vec<u8>,
-    /// The line of the header with its end, or nothing.
+    /// The line of the header with its line feed, or nothing where there is none.
     pub line: Vec<u8>,
-    /// Where the data begin.
+    /// Where the data begin, in bytes from 0.
     pub start: usize,
     /// Whether the stream ends after these bytes.
     pub last: bool,
@@ -91,7 +82,7 @@ pub fn read_beginning<'w, I: Inputs>(
     ensures selected { OnOk result ((I.state inputs.new).selected ≡ true) }
     ensures begins { IfOk result (λ first. ReadsBeginning first.bytes.items first.line.items first.start first.last (I.state inputs.old) (I.state inputs.new)) }
     ensures err { IfErr result (λ r. UnreadBeginning (I.state inputs.old) stream.now (I.state inputs.new) (event_of r)) }
-    ensures few { GivesFew (I.state inputs.old) stream_limit (I.state inputs.new) }
+    ensures gives_few { GivesFew (I.state inputs.old) stream_limit (I.state inputs.new) }
     ensures short { (I.state inputs.new).given ≤ (I.state inputs.old).given + longest_beginning }
     ensures inputs { InputsStay (I.state inputs.old) (I.state inputs.new) }
 {

@@ -1,8 +1,8 @@
 //! The part of a part file.
 ghost use Rattle.std.specs.Prelude.{◌≡◌, [], ◌∷◌, IfErr};
 ghost use Rattle.x7_words.specs.Input.{AsksAtMost, InputsStay};
-ghost use Rattle.x7_forms.specs.Message.{event_of};
-ghost use Rattle.x7_forms.specs.Known.{part_event, part_limit, part_of as part_due};
+ghost use Rattle.x7_forms.specs.Event.{event_of};
+ghost use Rattle.x7_forms.specs.Known.{part_event, part_known, part_limit};
 ghost use Rattle.x7_forms.specs.Turn.{StandsAt};
 ghost use Rattle.x7_forms.specs.Step.{AnswersAs, IsNoPart, seen, step_over};
 
@@ -28,17 +28,17 @@ fn refusal_of<'w>(name: &'w str, fault: PartFault) -> Refusal<'w>
     }
 }
 
-/// The part of a part file.
+/// Reads the part file of this name, and gives its part.
 pub fn read_part<'w, I: Inputs>(
     alloc: Global,
     inputs: &mut I,
     name: &'w str,
 ) -> Result<Part, Refusal<'w>>
     ensures caused { AnswersAs (step_over (name.now ∷ []) (I.state inputs.old) (I.state inputs.new))
-        (λ known. part_due known name.now) (seen (λ part. part) result) }
+        (λ known. part_known known name.now) (seen (λ part. part) result) }
     ensures named { IfErr result (λ r. IsNoPart name.now (event_of r)) }
     ensures stands { StandsAt name.now part_limit (I.state inputs.new) }
-    ensures once { AsksAtMost (I.state inputs.old) 1 (I.state inputs.new) }
+    ensures asks { AsksAtMost (I.state inputs.old) 1 (I.state inputs.new) }
     ensures inputs { InputsStay (I.state inputs.old) (I.state inputs.new) }
 {
     let text = read_whole(alloc, inputs, name, PART_LIMIT)?;

@@ -2,11 +2,11 @@
 ghost use Rattle.std.specs.Prelude.{◌≡◌, ◌+◌, ◌-◌, ◌<◌, ◌≤◌, ◌++◌, ◌⊎◌, ℕ, List, drop, length, take, true, false, vec_len, IfErr, IfOk, OnOk};
 ghost use Rattle.x7_words.specs.Input.{Asks, AsksAtMost, AsksOnce, AtEnd, Opens, InputsStay, TakesInput};
 ghost use Rattle.x7_words.specs.Word.{AreBytes};
-ghost use Rattle.x7_forms.specs.Message.{event_of};
-ghost use Rattle.x7_forms.specs.Event.{no_memory, reading_failed, too_large};
+ghost use Rattle.x7_forms.specs.Event.{bad_input, event_of, no_memory, reading_failed, too_large};
 ghost use Rattle.x7_forms.specs.Known.{data_in};
 ghost use Rattle.x7_forms.specs.Turn.{Breaks, GivesFew, ReadsRest, StandsAt, Unopened, Unread, UnreadRest};
 ghost use Rattle.x7_forms.specs.Step.{IsUnread, ReadsWhole, seen};
+ghost use Rattle.x7_forms.specs.declared.bad_input.InputFault.TheVariants as input;
 
 use crate::bad_input::InputFault;
 use crate::refusal::{Refusal, Why};
@@ -15,19 +15,19 @@ use x7_header::{HeaderFault, header_of};
 use x7_text::put_text;
 use x7_words::{Inputs, SelectFault};
 
-/// The most bytes of a stream, and of all streams of one command together.
+/// The most bytes of a stream, and of all streams of one `play` together.
 pub const STREAM_LIMIT: usize = 67_108_864;
 
 /// The most bytes of a text: of an assembly, Intel HEX, frames or SVF text.
 pub const TEXT_LIMIT: usize = 536_870_912;
 
-/// How many bytes one turn of a whole input or of a listing reads.
+/// The most bytes that one turn of a whole input or of a listing reads.
 pub const TURN_BYTES: usize = 65_536;
 
 /// How many bytes a turn asks for, where `left` bytes are still within the limit and the buffer holds
 /// `room`: at most one byte over the limit.
-fn turn_len(left: usize, room: usize) -> usize
-    ensures some { 0 < room → 0 < result }
+fn asked_count(left: usize, room: usize) -> usize
+    ensures not_empty { 0 < room → 0 < result }
     ensures within { result ≤ room }
     ensures over { result ≤ left + 1 }
     ensures full { room ≤ left → result ≡ room }
@@ -36,25 +36,29 @@ fn turn_len(left: usize, room: usize) -> usize
     if left < room { left + 1 } else { room }
 }
 
-/// Fills the buffer with the next bytes of the selected input, and answers how many there were:
-/// fewer than it holds only where the input ended.
-fn fill<'w, I: Inputs>(inputs: &mut I, name: &'w str, buf: &mut [u8]) -> Result<usize, Refusal<'w>>
+/// Fills the buffer with the next bytes of the selected input, and answers how many there were: fewer than the buffer
+/// holds only where the input ended.
+fn fill<'w, I: Inputs>(
+    inputs: &mut I,
+    name: &'w str,
+    buffer: &mut [u8],
+) -> Result<usize, Refusal<'w>>
     requires { (I.state inputs.old).selected ≡ true }
-    ensures ok { IfOk result (λ n. TakesInput (I.state inputs.old) (take n buf.new) (I.state inputs.new)) }
-    ensures within { IfOk result (λ n. n ≤ length buf.old) }
-    ensures end { IfOk result (λ n. n < length buf.old → AtEnd (I.state inputs.new).rest) }
-    ensures full { IfOk result (λ n. n ≡ length buf.old → (I.state inputs.new).ends ≤ (I.state inputs.old).ends) }
-    ensures once { (I.state inputs.new).ends ≤ (I.state inputs.old).ends + 1 }
-    ensures length { length buf.new ≡ length buf.old }
-    ensures failed { IfErr result (λ r. (event_of r ≡ reading_failed name.now) × Breaks (I.state inputs.old) (length buf.old) (I.state inputs.new)) }
+    ensures ok { IfOk result (λ n. TakesInput (I.state inputs.old) (take n buffer.new) (I.state inputs.new)) }
+    ensures within { IfOk result (λ n. n ≤ length buffer.old) }
+    ensures end { IfOk result (λ n. n < length buffer.old → AtEnd (I.state inputs.new).rest) }
+    ensures no_end_read { IfOk result (λ n. n ≡ length buffer.old → (I.state inputs.new).ends ≤ (I.state inputs.old).ends) }
+    ensures end_once { (I.state inputs.new).ends ≤ (I.state inputs.old).ends + 1 }
+    ensures length { length buffer.new ≡ length buffer.old }
+    ensures failed { IfErr result (λ r. (event_of r ≡ reading_failed name.now) × Breaks (I.state inputs.old) (length buffer.old) (I.state inputs.new)) }
     ensures asked { (I.state inputs.new).asked ≡ (I.state inputs.old).asked }
-    ensures given { (I.state inputs.new).given ≤ (I.state inputs.old).given + length buf.old }
+    ensures given { (I.state inputs.new).given ≤ (I.state inputs.old).given + length buffer.old }
     ensures selects { (I.state inputs.new).selects ≡ (I.state inputs.old).selects }
     ensures inputs { InputsStay (I.state inputs.old) (I.state inputs.new) }
 {
     let mut at = 0;
-    while at < buf.len() {
-        let count = match inputs.read(&mut buf[at..]) {
+    while at < buffer.len() {
+        let count = match inputs.read(&mut buffer[at..]) {
             Ok(count) => count,
             Err(_) => return Err(Refusal {
                 reason: Why::ReadFault,
@@ -104,26 +108,26 @@ pub fn next_turn<'w, I: Inputs>(
     inputs: &mut I,
     name: &'w str,
     left: usize,
-    buf: &mut [u8],
+    buffer: &mut [u8],
 ) -> Result<Turn, Refusal<'w>>
     requires selected { (I.state inputs.old).selected ≡ true }
-    requires some { 0 < length buf.old }
-    ensures ok { IfOk result (λ turn. TakesInput (I.state inputs.old) (take turn.count buf.new) (I.state inputs.new)) }
-    ensures within { IfOk result (λ turn. (turn.count ≤ left) × (turn.count ≤ length buf.old)) }
-    ensures fills { IfOk result (λ turn. turn.last ≡ false → turn.count ≡ length buf.old) }
+    requires not_empty { 0 < length buffer.old }
+    ensures ok { IfOk result (λ turn. TakesInput (I.state inputs.old) (take turn.count buffer.new) (I.state inputs.new)) }
+    ensures within { IfOk result (λ turn. (turn.count ≤ left) × (turn.count ≤ length buffer.old)) }
+    ensures fills { IfOk result (λ turn. turn.last ≡ false → turn.count ≡ length buffer.old) }
     ensures end { IfOk result (λ turn. turn.last ≡ true → AtEnd (I.state inputs.new).rest) }
-    ensures ends { IfOk result (λ turn. turn.last ≡ false → (I.state inputs.new).ends ≤ (I.state inputs.old).ends) }
-    ensures length { length buf.new ≡ length buf.old }
+    ensures no_end_read { IfOk result (λ turn. turn.last ≡ false → (I.state inputs.new).ends ≤ (I.state inputs.old).ends) }
+    ensures length { length buffer.new ≡ length buffer.old }
     ensures err { IfErr result (λ r. Unread (I.state inputs.old) name.now (I.state inputs.new) left (event_of r)) }
-    ensures soon { IfErr result (λ r. event_of r ≡ reading_failed name.now → (I.state inputs.new).given < (I.state inputs.old).given + length buf.old) }
-    ensures over { IfErr result (λ r. event_of r ≡ too_large name.now → left < length buf.old) }
+    ensures fails_early { IfErr result (λ r. event_of r ≡ reading_failed name.now → (I.state inputs.new).given < (I.state inputs.old).given + length buffer.old) }
+    ensures over { IfErr result (λ r. event_of r ≡ too_large name.now → left < length buffer.old) }
     ensures asked { (I.state inputs.new).asked ≡ (I.state inputs.old).asked }
-    ensures few { GivesFew (I.state inputs.old) left (I.state inputs.new) }
-    ensures turn { (I.state inputs.new).given ≤ (I.state inputs.old).given + length buf.old }
+    ensures gives_few { GivesFew (I.state inputs.old) left (I.state inputs.new) }
+    ensures gives_a_turn { (I.state inputs.new).given ≤ (I.state inputs.old).given + length buffer.old }
     ensures inputs { InputsStay (I.state inputs.old) (I.state inputs.new) }
 {
-    let most = turn_len(left, buf.len());
-    let count = fill(inputs, name, &mut buf[..most])?;
+    let most = asked_count(left, buffer.len());
+    let count = fill(inputs, name, &mut buffer[..most])?;
     if count > left {
         return Err(Refusal {
             reason: Why::TooLarge,
@@ -136,8 +140,8 @@ pub fn next_turn<'w, I: Inputs>(
     })
 }
 
-/// Appends the rest of the open input, of which `limit` bytes are within the limit. Of a
-/// larger rest one byte more is read at most.
+/// Appends the rest of the open input to `onto`, of which `limit` bytes are within the limit. Of a larger rest one byte
+/// more is read at most.
 fn read_rest<'w, I: Inputs>(
     inputs: &mut I,
     name: &'w str,
@@ -147,7 +151,7 @@ fn read_rest<'w, I: Inputs>(
     requires selected { (I.state inputs.old).selected ≡ true }
     ensures ok { OnOk result ((more : List ℕ) × (onto.new.items ≡ onto.old.items ++ more) × (length more ≤ limit) × ReadsRest (I.state inputs.old) (I.state inputs.new) more) }
     ensures err { IfErr result (λ r. (event_of r ≡ no_memory) ⊎ UnreadRest (I.state inputs.old) name.now (I.state inputs.new) limit (event_of r)) }
-    ensures few { GivesFew (I.state inputs.old) limit (I.state inputs.new) }
+    ensures gives_few { GivesFew (I.state inputs.old) limit (I.state inputs.new) }
     ensures inputs { InputsStay (I.state inputs.old) (I.state inputs.new) }
 {
     let mut piece = [0u8; TURN_BYTES];
@@ -173,7 +177,7 @@ pub fn read_whole<'w, I: Inputs>(
     ensures named { IfErr result (λ r. IsUnread name.now (event_of r)) }
     ensures within { IfOk result (λ whole. vec_len whole ≤ limit) }
     ensures stands { StandsAt name.now limit (I.state inputs.new) }
-    ensures once { AsksAtMost (I.state inputs.old) 1 (I.state inputs.new) }
+    ensures asks { AsksAtMost (I.state inputs.old) 1 (I.state inputs.new) }
     ensures inputs { InputsStay (I.state inputs.old) (I.state inputs.new) }
 {
     open(inputs, name)?;
@@ -182,23 +186,23 @@ pub fn read_whole<'w, I: Inputs>(
     Ok(whole)
 }
 
-/// Reads the rest of the open input to its end, of which `limit` bytes are within the
-/// limit; after the last turn there is no rest.
+/// Reads the rest of the open input to its end, of which `limit` bytes are within the limit; where `last` says that the
+/// turn before was the last, there is no rest.
 pub fn skip_rest<'w, I: Inputs>(
     inputs: &mut I,
     name: &'w str,
     limit: usize,
     last: bool,
-    buf: &mut [u8],
+    buffer: &mut [u8],
 ) -> Result<(), Refusal<'w>>
     requires selected { (I.state inputs.old).selected ≡ true }
-    requires some { 0 < length buf.old }
+    requires not_empty { 0 < length buffer.old }
     requires end { last ≡ true → AtEnd (I.state inputs.old).rest }
     ensures ok { OnOk result ((more : List ℕ) × (length more ≤ limit) × ReadsRest (I.state inputs.old) (I.state inputs.new) more) }
     ensures err { IfErr result (λ r. UnreadRest (I.state inputs.old) name.now (I.state inputs.new) limit (event_of r)) }
-    ensures length { length buf.new ≡ length buf.old }
-    ensures few { GivesFew (I.state inputs.old) limit (I.state inputs.new) }
-    ensures ended { last ≡ true → (I.state inputs.new).ends ≤ (I.state inputs.old).ends }
+    ensures length { length buffer.new ≡ length buffer.old }
+    ensures gives_few { GivesFew (I.state inputs.old) limit (I.state inputs.new) }
+    ensures no_end_read { last ≡ true → (I.state inputs.new).ends ≤ (I.state inputs.old).ends }
     ensures inputs { InputsStay (I.state inputs.old) (I.state inputs.new) }
 {
     if last {
@@ -206,7 +210,7 @@ pub fn skip_rest<'w, I: Inputs>(
     }
     let mut left = limit;
     loop {
-        let turn = next_turn(inputs, name, left, buf)?;
+        let turn = next_turn(inputs, name, left, buffer)?;
         left -= turn.count;
         if turn.last {
             return Ok(());
@@ -214,7 +218,17 @@ pub fn skip_rest<'w, I: Inputs>(
     }
 }
 
-/// Where the data of a stream begin: after its header, or at its first byte where it has none.
+/// The stream of this name has a header that is refused at this byte, from 0.
+pub(crate) fn refused_at<'w>(name: &'w str, place: usize) -> Refusal<'w>
+    ensures { event_of result ≡ bad_input name.now (input.Byte place) }
+{
+    Refusal {
+        reason: Why::BadInput(InputFault::Byte(place as u64)),
+        name,
+    }
+}
+
+/// Where the data of a stream begin, in bytes from 0: after its header, or at its first byte where it has none.
 pub fn data_start<'w>(name: &'w str, bytes: &[u8]) -> Result<usize, Refusal<'w>>
     ensures data { seen (λ start. drop start bytes.now) result ≡ data_in name.now bytes.now }
     ensures within { IfOk result (λ start. start ≤ length bytes.now) }
@@ -226,8 +240,5 @@ pub fn data_start<'w>(name: &'w str, bytes: &[u8]) -> Result<usize, Refusal<'w>>
         Err(HeaderFault::Cut(place)) => place,
         Err(HeaderFault::Field(place)) => place,
     };
-    Err(Refusal {
-        reason: Why::BadInput(InputFault::Byte(place as u64)),
-        name,
-    })
+    Err(refused_at(name, place))
 }

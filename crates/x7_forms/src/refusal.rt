@@ -15,30 +15,30 @@ use x7_words::{Failed, NoMemory, Sink, write_pieces};
 pub enum Why {
     /// The words have no form.
     Usage,
-    /// An input that is named isn't there.
+    /// An input or a flash that is named isn't there.
     Missing,
     /// A part file was refused.
     BadPart(PartFault),
-    /// An input has no reading.
+    /// An input other than a part file was refused, or the flash of an update, or the stream for it.
     BadInput(InputFault),
-    /// An input failed at selecting or reading.
+    /// An input or the flash could not be opened or read.
     ReadFault,
-    /// The output failed.
+    /// The output failed, or a write of the flash.
     WriteFault,
     /// There was no memory.
     NoMemory,
-    /// An input has more bytes than its limit; of the name `reads`, too many words were read out.
+    /// An input or the flash has more bytes than its limit; with the name `reads`, too many words were read out.
     TooLarge,
     /// A byte of the flash that was read back, at this place, is another than the one written.
     Differs(u64),
 }
 
 impl Why {
-    ghost use Rattle.x7_forms.specs.Event.{row_of};
+    ghost use Rattle.x7_forms.specs.Event.{reason_row};
 
     /// The status of the reason.
     fn status(self) -> Status
-        ensures { result ≡ (row_of self).ends_as }
+        ensures { result ≡ (reason_row self).ends_as }
     {
         match self {
             Why::Usage => Status::Usage,
@@ -53,9 +53,9 @@ impl Why {
         }
     }
 
-    /// What the reason's line says before the name.
-    fn words(self) -> &'static [u8]
-        ensures { result.now ≡ codes "x7: " ++ (row_of self).words }
+    /// What the line of the reason says before the name.
+    fn before_name(self) -> &'static [u8]
+        ensures { result.now ≡ codes "x7: " ++ (reason_row self).before_name }
     {
         match self {
             Why::Usage => b"x7: usage",
@@ -71,11 +71,11 @@ impl Why {
     }
 }
 
-/// Writes a line that has nothing after the name. No memory is taken.
-fn say_line<'x, E: Sink>(err: &mut E, words: &'x [u8], name: &'x str) -> Result<(), Failed>
-    ensures { PutsOrFails (E.state err.old) (words.now ++ (name.now ++ codes "\n")) (E.state err.new) }
+/// Writes a line that has nothing after the name but its line feed. No memory is taken.
+fn say_line<'x, E: Sink>(err: &mut E, before_name: &'x [u8], name: &'x str) -> Result<(), Failed>
+    ensures { PutsOrFails (E.state err.old) (before_name.now ++ (name.now ++ codes "\n")) (E.state err.new) }
 {
-    write_pieces(err, &[words, name.as_bytes(), b"\n"])
+    write_pieces(err, &[before_name, name.as_bytes(), b"\n"])
 }
 
 /// Writes the line of a byte of a flash that differs. No memory is taken.
@@ -90,20 +90,19 @@ fn say_differs<E: Sink>(err: &mut E, name: &str, place: u64) -> Result<(), Faile
     )
 }
 
-/// Why a command has no whole text, with the name of the input concerned, which is empty where none is.
+/// A command has no whole text: why, and which input or flash is concerned.
 #[derive(Clone, Copy, Drop)]
 pub struct Refusal<'w> {
     /// The reason.
     pub reason: Why,
-    /// The input concerned.
+    /// The name of the input or of the flash concerned; empty where the reason concerns none.
     pub name: &'w str,
 }
 
 impl<'w> Refusal<'w> {
-    ghost use Rattle.x7_forms.specs.Event.{event_line, status_of_event, row_of};
-    ghost use Rattle.x7_forms.specs.Message.{event_of};
+    ghost use Rattle.x7_forms.specs.Event.{event_line, event_of, reason_row, status_of_event};
 
-    /// A reason that concerns no input.
+    /// A refusal for a reason that concerns no input and no flash.
     pub fn unnamed(reason: Why) -> Refusal<'w>
         ensures { event_of result ≡ record { reason = reason; concerned = [] } }
     {
@@ -118,7 +117,7 @@ impl<'w> Refusal<'w> {
             Why::BadPart(fault) => say_bad_part(err, self.name, fault),
             Why::BadInput(fault) => say_bad_input(err, self.name, fault),
             Why::Differs(place) => say_differs(err, self.name, place),
-            _ => say_line(err, self.reason.words(), self.name),
+            _ => say_line(err, self.reason.before_name(), self.name),
         }
     }
 
@@ -134,8 +133,7 @@ impl<'w> Refusal<'w> {
 
 /// Want of memory concerns no input.
 impl<'w> From<NoMemory> for Refusal<'w> {
-    ghost use Rattle.x7_forms.specs.Event.{no_memory};
-    ghost use Rattle.x7_forms.specs.Message.{event_of};
+    ghost use Rattle.x7_forms.specs.Event.{event_of, no_memory};
 
     ghost from_gives = { λ _ refusal. event_of refusal ≡ no_memory };
 

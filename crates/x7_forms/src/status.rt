@@ -1,7 +1,7 @@
 //! How a run ends.
 ghost use Rattle.std.specs.Prelude.{◌≡◌};
 
-/// How a run ended. The program ends with its number.
+/// How a run ended. The program ends with the number of it.
 #[derive(Clone, Copy, Debug, Drop, PartialEq, Eq)]
 pub enum Status {
     /// The whole text was written.
@@ -11,26 +11,26 @@ pub enum Status {
     Stopped,
     /// The words have no form.
     Usage,
-    /// An input that is named isn't there.
+    /// An input or a flash that is named isn't there.
     Missing,
     /// A part file was refused.
     BadPart,
-    /// An input has no reading.
+    /// An input other than a part file was refused, or the flash of an update, or the stream for it.
     BadInput,
-    /// An input failed at selecting or reading.
+    /// An input or the flash could not be opened or read.
     ReadFault,
-    /// The output failed.
+    /// The output failed, or a write of the flash.
     WriteFault,
     /// There was no memory.
     NoMemory,
-    /// An input has more bytes than its limit, or too many words were read out.
+    /// An input or the flash has more bytes than its limit, or too many words were read out.
     TooLarge,
     /// A byte of the flash that was read back is another than the one written.
     Differs,
 }
 
 impl Status {
-    ghost use Rattle.x7_forms.specs.Message.{status_number, text_status};
+    ghost use Rattle.x7_forms.specs.Status.{status_number, text_status};
 
     /// The status after a whole text, by whether what it reports stopped: `Stopped` says at what.
     pub fn of_text(stopped: bool) -> Status

@@ -10,20 +10,20 @@ use Rattle.x7_engine.specs.Standing.{NoWordDue, DeviceState, DeviceStandsFor, re
 use Rattle.x7_engine.specs.State.{memory_in, reads_of, state_of, stop_in}
 use Rattle.x7_engine.specs.Stop.{Stopped}
 use Rattle.x7_forms.specs.Known.{reads_limit}
-use Rattle.x7_playing.specs.Playing.{IsPlayed, emptied, reads_room}
+use Rattle.x7_playing.specs.Playing.{empty_buffer, reads_room}
 use Rattle.x7_engine.proofs.ReadsLemmas.{reads_grow}
 use Rattle.x7_engine.proofs.StateLemmas.{stop_is_final_memory, stop_is_final_reads, stop_is_final_state, stop_is_final_stop}
 use Rattle.x7_engine.specs.declared.fed.Fed.TheVariants as fed
 
 -- ---- one turn of a play
 
-pub words_are : (old new : ReadBufState) (more : List ℕ) → new ≡ with_words old more → old ≡ emptied → new.words ≡ more
+pub words_are : (old new : ReadBufState) (more : List ℕ) → new ≡ with_words old more → old ≡ empty_buffer → new.words ≡ more
 words_are old new more e o = ap (λ (b : ReadBufState). b.words) e ∙ ap (λ (b : ReadBufState). gathered b.most b.words more) o
 
-pub most_is : (old new : ReadBufState) (more : List ℕ) → new ≡ with_words old more → old ≡ emptied → new.most ≡ Some reads_room
+pub most_is : (old new : ReadBufState) (more : List ℕ) → new ≡ with_words old more → old ≡ empty_buffer → new.most ≡ Some reads_room
 most_is old new more e o = ap (λ (b : ReadBufState). b.most) e ∙ ap (λ (b : ReadBufState). b.most) o
 
-pub emptied_again : (full empty : ReadBufState) → empty ≡ record full { words = [] } → full.most ≡ Some reads_room → empty ≡ emptied
+pub emptied_again : (full empty : ReadBufState) → empty ≡ record full { words = [] } → full.most ≡ Some reads_room → empty ≡ empty_buffer
 emptied_again full empty e m = e ∙ ap (λ (most : Option ℕ). record { most = most; words = [] }) m
 
 pub full_words : (b : ReadBufState) → b.most ≡ Some reads_room → IsFull b → length b.words ≡ reads_room
@@ -51,6 +51,18 @@ is_end fed.All h = tt
 is_end (fed.Stopped n) h = tt
 is_end (fed.Iprog n) h = tt
 
+-- The device took a prefix of the data, after which nothing changes: its state, its stop, its memory and the words read
+-- out are those of all data, and no word is due.
+pub record IsPlayed (part : PartData) (bytes : List ℕ) (d : DeviceState) (reads : List ℕ) : Type 0 where
+  pub prefix : List ℕ
+  pub stands : DeviceStandsFor part on_the_bench false d prefix
+  pub stop : stop_in part on_the_bench bytes ≡ stop_in part on_the_bench prefix
+  pub state : state_of part on_the_bench false bytes ≡ state_of part on_the_bench false prefix
+  pub memory : memory_in part on_the_bench bytes ≡ memory_in part on_the_bench prefix
+  pub no_word_due : NoWordDue d
+  pub reads_are : reads ≡ reads_of part on_the_bench bytes
+  pub within_limit : length reads ≤ reads_limit
+
 pub stopped_end : (part : PartData) (bytes prefix rest : List ℕ) (d : DeviceState) (reads : List ℕ) (s : Stopped) → AreBytes bytes → bytes ≡ prefix ++ rest → DeviceStandsFor part on_the_bench false d prefix → reads ≡ reads_given part on_the_bench d prefix → length reads ≤ reads_limit
     → stop_in part on_the_bench prefix ≡ Some s → NoWordDue d → IsPlayed part bytes d reads
 stopped_end part bytes prefix rest d reads s fits split stands known few stop due =
@@ -63,5 +75,5 @@ stopped_end part bytes prefix rest d reads s fits split stands known few stop du
       memory = ap (memory_in part on_the_bench) split ∙ stop_is_final_memory part on_the_bench prefix rest s all stop;
       no_word_due = due;
       reads_are = known ∙ given_all part on_the_bench d prefix due ∙ sym (ap (reads_of part on_the_bench) split ∙ stop_is_final_reads part on_the_bench prefix rest s all stop);
-      few = few;
+      within_limit = few;
     }

@@ -19,9 +19,9 @@ use Rattle.x7_engine.proofs.FrameLemmas.{length_left}
 use Rattle.x7_engine.proofs.ReadsLemmas.{reads_grow}
 use Rattle.x7_engine.proofs.StateLemmas.{stop_is_final_stop}
 use Rattle.x7_forms.specs.Known.{reads_limit}
-use Rattle.x7_playing.specs.Playing.{HasPlayed, HasPlayedBy, IsPlayed, MayPlay, PlayState, Plays, PlaysOn, ReadsOver}
+use Rattle.x7_playing.specs.Playing.{HasPlayed, HasPlayedBy, MayPlay, PlayState, Plays, PlaysOn, ReadsOver}
 use Rattle.x7_playing.specs.declared.player.Player.{Player}
-use Rattle.x7_playing.proofs.PlayLemmas.{IsEnd, over_limit, stopped_end}
+use Rattle.x7_playing.proofs.PlayLemmas.{IsPlayed, IsEnd, over_limit, stopped_end}
 
 some_is : {A : Type 0} (o : Option A) (a : A) → o ≡ Some a → IsSome o
 some_is None a e = absurd (cc)
@@ -47,11 +47,11 @@ rest_of_turn part bytes piece n d reads s still = by s.ends
     by : (s.left ≡ []) ⊎ IsSome (stop_in part on_the_bench s.taken) → (rest : List ℕ) × (bytes ++ piece ≡ (s.taken ++ take n piece) ++ rest)
     by (inl e) = (
       drop n piece,
-      ap (λ b. b ++ piece) (s.parts ∙ ap (λ l. s.taken ++ l) e ∙ append-nil s.taken) ∙ sym (append_assoc s.taken (take n piece) (drop n piece) ∙ ap (λ x. s.taken ++ x) (take-append-drop n piece)),
+      ap (λ b. b ++ piece) (s.split ∙ ap (λ l. s.taken ++ l) e ∙ append-nil s.taken) ∙ sym (append_assoc s.taken (take n piece) (drop n piece) ∙ ap (λ x. s.taken ++ x) (take-append-drop n piece)),
     )
     by (inr i) = (
       s.left ++ piece,
-      ap (λ b. b ++ piece) s.parts ∙ append_assoc s.taken s.left piece ∙ ap (λ t. t ++ (s.left ++ piece)) (sym (ap (λ k. s.taken ++ take k piece) (still i) ∙ append-nil s.taken)),
+      ap (λ b. b ++ piece) s.split ∙ append_assoc s.taken s.left piece ∙ ap (λ t. t ++ (s.left ++ piece)) (sym (ap (λ k. s.taken ++ take k piece) (still i) ∙ append-nil s.taken)),
     )
 
 -- a device that goes on had taken all
@@ -59,14 +59,14 @@ pub went_on : (part : PartData) (bytes piece : List ℕ) (d : DeviceState) (read
 went_on part bytes piece d reads s fits none = by s.ends
   where
     by : (s.left ≡ []) ⊎ IsSome (stop_in part on_the_bench s.taken) → bytes ≡ s.taken
-    by (inl e) = s.parts ∙ ap (λ l. s.taken ++ l) e ∙ append-nil s.taken
+    by (inl e) = s.split ∙ ap (λ l. s.taken ++ l) e ∙ append-nil s.taken
     by (inr i) =
         let st = the_some (stop_in part on_the_bench s.taken) i in
         let later = stop_is_final_stop part on_the_bench s.taken piece st.0 fits st.1 in
         absurd (cc)
 
 taken_fit : (part : PartData) (bytes piece : List ℕ) (d : DeviceState) (reads : List ℕ) → (s : Plays part bytes d reads) → AreBytes piece → AreBytes (s.taken ++ piece)
-taken_fit part bytes piece d reads s fits = all_append (λ b. b < 256) s.taken piece (all_prefix (λ b. b < 256) s.taken s.left (subst (λ x. AreBytes x) s.parts s.fits)) fits
+taken_fit part bytes piece d reads s fits = all_append (λ b. b < 256) s.taken piece (all_prefix (λ b. b < 256) s.taken s.left (subst (λ x. AreBytes x) s.split s.fits)) fits
 
 -- a feed that waits for room
 pub fed_full : (part : PartData) (bytes piece : List ℕ) (d e : DeviceState) (reads now : List ℕ) → (s : Plays part bytes d reads) → AreBytes piece → DeviceStandsFor part on_the_bench false e (s.taken ++ piece) → stop_in part on_the_bench (s.taken ++ piece) ≡ None
@@ -77,12 +77,12 @@ fed_full part bytes piece d e reads now s fits stands none known few =
     record {
       taken = s.taken ++ piece;
       left = [];
-      parts = all ∙ sym (append-nil (s.taken ++ piece));
+      split = all ∙ sym (append-nil (s.taken ++ piece));
       ends = inl refl;
       fits = subst (λ x. AreBytes x) (sym all) fit;
       stands = stands;
       reads_are = known;
-      few = few;
+      within_limit = few;
     }
 
 fed_stopped : (part : PartData) (bytes piece : List ℕ) (n : ℕ) (d e : DeviceState) (reads now : List ℕ) → (s : Plays part bytes d reads) → (IsSome (stop_in part on_the_bench s.taken) → n ≡ 0) → AreBytes (bytes ++ piece) → DeviceStandsFor part on_the_bench false e (s.taken ++ take n piece) → (st : Stopped) → stop_in part on_the_bench (s.taken ++ take n piece) ≡ Some st
@@ -92,12 +92,12 @@ fed_stopped part bytes piece n d e reads now s still fits stands st stop known f
     record {
       taken = s.taken ++ take n piece;
       left = rest.0;
-      parts = rest.1;
+      split = rest.1;
       ends = inr (some_is (stop_in part on_the_bench (s.taken ++ take n piece)) st stop);
       fits = fits;
       stands = stands;
       reads_are = known;
-      few = few;
+      within_limit = few;
     }
 
 -- a feed that ends
@@ -124,7 +124,7 @@ played_all part bytes d reads s due = by s.ends
   where
     by : (s.left ≡ []) ⊎ IsSome (stop_in part on_the_bench s.taken) → IsPlayed part bytes d reads
     by (inl e) =
-        let all : bytes ≡ s.taken = s.parts ∙ ap (λ l. s.taken ++ l) e ∙ append-nil s.taken in
+        let all : bytes ≡ s.taken = s.split ∙ ap (λ l. s.taken ++ l) e ∙ append-nil s.taken in
         record {
           prefix = s.taken;
           stands = s.stands;
@@ -133,11 +133,11 @@ played_all part bytes d reads s due = by s.ends
           memory = rw all refl;
           no_word_due = due;
           reads_are = s.reads_are ∙ given_all part on_the_bench d s.taken due ∙ ap (reads_of part on_the_bench) (sym all);
-          few = s.few;
+          within_limit = s.within_limit;
         }
     by (inr i) =
         let st = the_some (stop_in part on_the_bench s.taken) i in
-        stopped_end part bytes s.taken s.left d reads st.0 s.fits s.parts s.stands s.reads_are s.few st.1 due
+        stopped_end part bytes s.taken s.left d reads st.0 s.fits s.split s.stands s.reads_are s.within_limit st.1 due
 
 -- ---- a player
 
@@ -150,19 +150,19 @@ new_plays part d reads s e =
       record {
         taken = [];
         left = [];
-        parts = refl;
+        split = refl;
         ends = inl refl;
         fits = tt;
         stands = s;
         reads_are = e ∙ sym (given_all part on_the_bench d [] due);
-        few = omega (arith, ap length e);
+        within_limit = omega (arith, ap length e);
       },
       due,
     )
 
 -- a device that was given these bytes may be given more
 pub may_feed : (part : PartData) (bytes : List ℕ) (d : DeviceState) (reads : List ℕ) (count : ℕ) → Plays part bytes d reads → length bytes + count ≤ 2 ^ 63 → d.taken + count ≤ 2 ^ 63
-may_feed part bytes d reads count s few = omega (arith, few, s.stands.taken_is, ap length s.parts, length-append s.taken s.left)
+may_feed part bytes d reads count s few = omega (arith, few, s.stands.taken_is, ap length s.split, length-append s.taken s.left)
 
 pub may_less : (p : Player) (count fewer : ℕ) → fewer ≤ count → MayPlay p count → MayPlay p fewer
 may_less p count fewer l m = (m.0, (m.1.0, (m.1.1.0, omega (arith, l, m.1.1.1))))

@@ -1,11 +1,12 @@
--- What the steps of a play come to (this project's choice).
+-- What the steps of a play come to. A player is over once its device has read out more words than a play may (this
+-- project's choice).
 use Rattle.std.specs.Prelude.{◌≡◌, ◌+◌, ◌^◌, ◌<◌, ◌≤◌, ◌⊎◌, ◌++◌, ℕ, List, [], Some, Bool, true, false, IsSome, length, Result, Ok}
 use Rattle.x7_words.specs.Word.{AreBytes}
 use Rattle.x7_part.specs.Part.{PartData}
 use Rattle.x7_engine.specs.Kept.{on_the_bench}
 use Rattle.x7_engine.specs.ReadBuffer.{ReadBufState}
 use Rattle.x7_engine.specs.Standing.{DeviceState, DeviceStandsFor, NoWordDue, reads_given}
-use Rattle.x7_engine.specs.State.{memory_in, reads_of, state_of, stop_in}
+use Rattle.x7_engine.specs.State.{reads_of, stop_in}
 use Rattle.x7_forms.specs.Known.{reads_limit, StreamRead}
 use Rattle.x7_forms.specs.Event.{Event}
 use Rattle.x7_playing.specs.declared.player.Player.{Player}
@@ -15,12 +16,12 @@ use Rattle.x7_playing.specs.declared.player.Player.{Player}
 pub record Plays (part : PartData) (bytes : List ℕ) (d : DeviceState) (reads : List ℕ) : Type 0 where
   pub taken : List ℕ
   pub left : List ℕ
-  pub parts : bytes ≡ taken ++ left
+  pub split : bytes ≡ taken ++ left
   pub ends : (left ≡ []) ⊎ IsSome (stop_in part on_the_bench taken)
   pub fits : AreBytes bytes
   pub stands : DeviceStandsFor part on_the_bench false d taken
   pub reads_are : reads ≡ reads_given part on_the_bench d taken
-  pub few : length reads ≤ reads_limit
+  pub within_limit : length reads ≤ reads_limit
 
 -- the bytes read out more words than a play may
 pub record ReadsOver (part : PartData) (bytes : List ℕ) : Type 0 where
@@ -32,8 +33,8 @@ abbrev pub reads_room : ℕ
 reads_room = 4096
 
 -- a buffer for words read out that holds none
-abbrev pub emptied : ReadBufState
-emptied = record { most = Some reads_room; words = [] }
+abbrev pub empty_buffer : ReadBufState
+empty_buffer = record { most = Some reads_room; words = [] }
 
 -- what a player has: its device, the words read out that are still in its buffer, and those that were moved out of it
 pub record PlayState : Type 0 where
@@ -45,28 +46,28 @@ pub record PlayState : Type 0 where
 abbrev pub play_state : DeviceState → ReadBufState → List ℕ → PlayState
 play_state device buffer reads = record { device = device; buffer = buffer; reads = reads }
 
--- a player was given these bytes, whether it is over or not
+-- by whether a player is over: it was given these bytes
 abbrev pub HasPlayedBy : Bool → PartData → List ℕ → PlayState → Type 0
 HasPlayedBy true part bytes s = ReadsOver part bytes
-HasPlayedBy false part bytes s = Plays part bytes s.device s.reads × NoWordDue s.device × (s.buffer ≡ emptied)
+HasPlayedBy false part bytes s = Plays part bytes s.device s.reads × NoWordDue s.device × (s.buffer ≡ empty_buffer)
 
--- a player with a device of this part was given these bytes, whether it is over or not
+-- a player with a device of this part was given these bytes; it may be over
 abbrev pub HasPlayed : PartData → List ℕ → Player → Type 0
-HasPlayed part bytes p = HasPlayedBy p.over part bytes (play_state p.device p.buffer p.reads.items)
+HasPlayed part bytes p = HasPlayedBy p.is_over part bytes (play_state p.device p.buffer p.reads.items)
 
--- the player was given these bytes more
+-- the player was given these bytes more; it may be over before or after them
 abbrev pub PlaysOn : Player → Player → List ℕ → Type 0
 PlaysOn old new more = (part : PartData) (bytes : List ℕ) → HasPlayed part bytes old → HasPlayed part (bytes ++ more) new
 
--- a player that was not over was given these bytes more, and may be over now
+-- a player that was not over was given these bytes more; `over` says whether it is now
 abbrev pub FeedsOn : Bool → PlayState → PlayState → List ℕ → Type 0
 FeedsOn over old new more = (part : PartData) (bytes : List ℕ) → HasPlayedBy false part bytes old → HasPlayedBy over part (bytes ++ more) new
 
--- `Holds` is true of a prefix of the piece
+-- there is a prefix of the piece of which `Holds` is true
 pub record OfPrefix (piece : List ℕ) (Holds : List ℕ → Type 0) : Type 0 where
   pub prefix : List ℕ
   pub left : List ℕ
-  pub parts : piece ≡ prefix ++ left
+  pub split : piece ≡ prefix ++ left
   pub holds : Holds prefix
 
 -- the player's device was given these bytes more; words that they read out may still be due
@@ -77,29 +78,18 @@ PlaysPrefix old new prefix = (part : PartData) (bytes : List ℕ) → HasPlayed 
 abbrev pub FeedsPrefix : PlayState → PlayState → List ℕ → Type 0
 FeedsPrefix old new prefix = (part : PartData) (bytes : List ℕ) → HasPlayedBy false part bytes old → Plays part (bytes ++ prefix) new.device new.reads
 
--- with `count` bytes more the player was given no more than a device counts
+-- by whether a player is over: with `count` bytes more it was given no more than a device counts
 abbrev pub MayPlayBy : Bool → PlayState → ℕ → Type 0
 MayPlayBy over s count = (part : PartData) × ((bytes : List ℕ) × (HasPlayedBy over part bytes s × (length bytes + count ≤ 2 ^ 63)))
 
 -- a player may be given `count` bytes more, which with all before are no more than a device counts
 abbrev pub MayPlay : Player → ℕ → Type 0
-MayPlay p count = MayPlayBy p.over (play_state p.device p.buffer p.reads.items) count
+MayPlay p count = MayPlayBy p.is_over (play_state p.device p.buffer p.reads.items) count
 
--- The data of a stream were played, with `left` bytes of the limit left, and are what a step reads.
-pub record PlaysStream (limit left : ℕ) (Plays : List ℕ → Type 0) (Reads : Result StreamRead Event → Type 0) : Type 0 where
+-- The data of a stream were played, as `WerePlayed` says, with `left` of `limit` bytes left for the next streams, and
+-- are what a step reads, as `IsRead` says.
+pub record PlaysStream (limit left : ℕ) (WerePlayed : List ℕ → Type 0) (IsRead : Result StreamRead Event → Type 0) : Type 0 where
   pub bytes : List ℕ
   pub within : length bytes + left ≤ limit
-  pub plays : Plays bytes
-  pub reads : Reads (Ok (record { bytes = bytes; room = left }))
-
--- The device took a prefix of the data, after which nothing changes: its state, its stop, its memory and the words read
--- out are those of all data, and no word is due.
-pub record IsPlayed (part : PartData) (bytes : List ℕ) (d : DeviceState) (reads : List ℕ) : Type 0 where
-  pub prefix : List ℕ
-  pub stands : DeviceStandsFor part on_the_bench false d prefix
-  pub stop : stop_in part on_the_bench bytes ≡ stop_in part on_the_bench prefix
-  pub state : state_of part on_the_bench false bytes ≡ state_of part on_the_bench false prefix
-  pub memory : memory_in part on_the_bench bytes ≡ memory_in part on_the_bench prefix
-  pub no_word_due : NoWordDue d
-  pub reads_are : reads ≡ reads_of part on_the_bench bytes
-  pub few : length reads ≤ reads_limit
+  pub plays : WerePlayed bytes
+  pub reads : IsRead (Ok (record { bytes = bytes; room = left }))

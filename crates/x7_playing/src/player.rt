@@ -1,7 +1,7 @@
 //! A device that plays bytes piece by piece, and the words that it reads out.
 ghost use Rattle.std.specs.Prelude.{◌≡◌, ◌++◌, ◌+◌, ◌<◌, ◌≤◌, [], true, false, Ok, Err, length, vec_capacity, vec_len, IfOk, IsOk, OnErr, OnOk};
 ghost use Rattle.x7_forms.specs.Known.{reads_limit};
-ghost use Rattle.x7_playing.specs.Playing.{HasPlayed, MayPlay, MayPlayBy, PlaysOn, emptied, FeedsOn, FeedsPrefix, OfPrefix, PlaysPrefix, play_state, reads_room};
+ghost use Rattle.x7_playing.specs.Playing.{HasPlayed, MayPlay, MayPlayBy, PlaysOn, empty_buffer, FeedsOn, FeedsPrefix, OfPrefix, PlaysPrefix, play_state, reads_room};
 
 use std::alloc::Global;
 use x7_engine::{Device, Fed, ReadBuf};
@@ -14,10 +14,10 @@ const READS_LIMIT: usize = 16_777_216;
 /// How many words a device reads out before they are moved.
 const READS_ROOM: u32 = 4_096;
 
-/// Moves the words of a buffer after those that were read out before, for which there is room, and says
-/// whether they are over the limit together.
+/// Appends the words of a buffer to those that were read out before, which have room for them, and says whether all
+/// together are over the limit; then none is appended.
 fn gather(buffer: &mut ReadBuf, reads: &mut Vec<u32>) -> bool
-    requires few { vec_len reads.old ≤ reads_limit }
+    requires within { vec_len reads.old ≤ reads_limit }
     requires most { buffer.old.most ≡ Some reads_room }
     requires room { vec_len reads.old + reads_room ≤ vec_capacity reads.old }
     ensures words { result ≡ false → reads.new.items ≡ reads.old.items ++ buffer.old.words }
@@ -46,7 +46,7 @@ fn feed(
     requires { MayPlayBy false (play_state device.old buffer.old reads.old.items) (length piece.now) }
     ensures ok { IfOk result (λ over. FeedsOn over (play_state device.old buffer.old reads.old.items) (play_state device.new buffer.new reads.new.items) piece.now) }
     ensures prefix { OnErr result (OfPrefix piece.now (FeedsPrefix (play_state device.old buffer.old reads.old.items) (play_state device.new buffer.new reads.new.items))) }
-    ensures buffer { OnErr result (buffer.new ≡ emptied) }
+    ensures buffer { OnErr result (buffer.new ≡ empty_buffer) }
 {
     let mut at = 0;
     'feeds: loop {
@@ -73,8 +73,8 @@ pub struct Player {
     pub buffer: ReadBuf,
     /// The words that the device read out.
     pub reads: Vec<u32>,
-    /// Whether more words were read out than their limit: nothing more is played.
-    pub over: bool,
+    /// Whether more words were read out than a play may: then nothing more is played.
+    pub is_over: bool,
 }
 
 impl Player {
@@ -86,26 +86,25 @@ impl Player {
             device: Device::new(alloc, part)?,
             buffer: ReadBuf::new(alloc, READS_ROOM)?,
             reads: Vec::new(alloc),
-            over: false,
+            is_over: false,
         })
     }
 
-    /// Plays the bytes of a piece, up to one that stops the device. A player that
-    /// is over plays nothing and stays as it is.
-    /// After an error the device has taken a prefix of the piece, and has the words that these
-    /// read out but for those that are still due.
+    /// Plays the bytes of a piece, up to one that stops the device. A player that is over plays nothing and stays as it
+    /// is. After want of memory the device has taken a prefix of the piece, and the player has the words that this
+    /// prefix read out, but for those that are still due.
     pub fn play(&mut self, piece: &[u8]) -> Result<(), NoMemory>
         requires { MayPlay self.old (length piece.now) }
         ensures ok { OnOk result (PlaysOn self.old self.new piece.now) }
-        ensures over { self.old.over ≡ true → IsOk result × (self.new ≡ self.old) }
+        ensures over { self.old.is_over ≡ true → IsOk result × (self.new ≡ self.old) }
         ensures prefix { OnErr result (OfPrefix piece.now (PlaysPrefix self.old self.new)) }
-        ensures not_over { OnErr result (self.new.over ≡ false) }
-        ensures buffer { OnErr result (self.new.buffer ≡ emptied) }
+        ensures not_over { OnErr result (self.new.is_over ≡ false) }
+        ensures buffer { OnErr result (self.new.buffer ≡ empty_buffer) }
     {
-        if self.over {
+        if self.is_over {
             return Ok(());
         }
-        self.over = feed(&mut self.device, &mut self.buffer, &mut self.reads, piece)?;
+        self.is_over = feed(&mut self.device, &mut self.buffer, &mut self.reads, piece)?;
         Ok(())
     }
 }

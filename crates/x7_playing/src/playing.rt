@@ -1,8 +1,7 @@
 //! Playing the data of streams while they are read.
 ghost use Rattle.std.specs.Prelude.{◌≡◌, ℕ, List, [], ◌∷◌, ◌+◌, ◌<◌, ◌≤◌, ◌⊎◌, true, length, map, string_bytes, Ok, Err, IfErr, IfOk};
 ghost use Rattle.x7_words.specs.Input.{AsksAtMost, AtEnd, InputsStay};
-ghost use Rattle.x7_forms.specs.Message.{event_of};
-ghost use Rattle.x7_forms.specs.Event.{no_memory};
+ghost use Rattle.x7_forms.specs.Event.{event_of, no_memory};
 ghost use Rattle.x7_forms.specs.Known.{stream_limit};
 ghost use Rattle.x7_playing.specs.Playing.{HasPlayed, MayPlay, PlaysOn, PlaysStream};
 ghost use Rattle.x7_forms.specs.Turn.{GivesFew, ReadsRest, StandsAt, UnreadRest, play_turn_bytes};
@@ -15,13 +14,12 @@ use x7_forms::{Refusal, STREAM_LIMIT, Why, data_start, next_turn, open, skip_res
 use x7_part::Part;
 use x7_words::Inputs;
 
-/// How many bytes one turn of a stream that is played reads: no fewer than the longest
-/// header has, so that the first turn judges it.
+/// The most bytes that one turn of a stream that is played reads: no fewer than the longest header has, so that the
+/// first turn judges it.
 const PLAY_TURN_BYTES: usize = 266_240;
 
-/// Plays the rest of the open stream, of which `limit` bytes are within the
-/// limit; after the last turn there is no rest.
-/// The answer is how many bytes of the limit are left.
+/// Plays the rest of the open stream, of which `limit` bytes are within the limit, and answers how many of these are
+/// left; where `last` says that the turn before was the last, there is no rest.
 fn play_rest<'w, I: Inputs>(
     player: &mut Player,
     inputs: &mut I,
@@ -33,12 +31,12 @@ fn play_rest<'w, I: Inputs>(
     requires selected { (I.state inputs.old).selected ≡ true }
     requires buffer { length piece.old ≡ play_turn_bytes }
     requires end { last ≡ true → AtEnd (I.state inputs.old).rest }
-    requires may { MayPlay player.old limit }
+    requires may_play { MayPlay player.old limit }
     ensures ok { IfOk result (λ left. (more : List ℕ) × (length more + left ≡ limit) × PlaysOn player.old player.new more × ReadsRest (I.state inputs.old) (I.state inputs.new) more) }
     ensures err { IfErr result (λ r. (event_of r ≡ no_memory) ⊎ UnreadRest (I.state inputs.old) name.now (I.state inputs.new) limit (event_of r)) }
     ensures length { length piece.new ≡ length piece.old }
-    ensures few { GivesFew (I.state inputs.old) limit (I.state inputs.new) }
-    ensures ended { last ≡ true → (I.state inputs.new).ends ≤ (I.state inputs.old).ends }
+    ensures gives_few { GivesFew (I.state inputs.old) limit (I.state inputs.new) }
+    ensures no_end_read { last ≡ true → (I.state inputs.new).ends ≤ (I.state inputs.old).ends }
     ensures inputs { InputsStay (I.state inputs.old) (I.state inputs.new) }
 {
     if last {
@@ -67,12 +65,12 @@ fn play_stream<'w, I: Inputs>(
     piece: &mut [u8],
 ) -> Result<usize, Refusal<'w>>
     requires buffer { length piece.old ≡ play_turn_bytes }
-    requires may { MayPlay player.old limit }
+    requires may_play { MayPlay player.old limit }
     ensures ok { IfOk result (λ left. PlaysStream limit left (PlaysOn player.old player.new) (ReadsStream (I.state inputs.old) (I.state inputs.new) limit name.now)) }
     ensures err { IfErr result (λ r. ReadsStream (I.state inputs.old) (I.state inputs.new) limit name.now (Err (event_of r))) }
     ensures named { IfErr result (λ r. IsUnplayed name.now (event_of r)) }
     ensures stands { StandsAt name.now limit (I.state inputs.new) }
-    ensures once { AsksAtMost (I.state inputs.old) 1 (I.state inputs.new) }
+    ensures asks { AsksAtMost (I.state inputs.old) 1 (I.state inputs.new) }
     ensures length { length piece.new ≡ length piece.old }
     ensures inputs { InputsStay (I.state inputs.old) (I.state inputs.new) }
 {
@@ -94,7 +92,7 @@ fn play_stream<'w, I: Inputs>(
 }
 
 /// Plays the data of streams on a new device of the part, one after the other. The streams are
-/// within the limit together, headers included.
+/// within the limit of one stream together, headers included.
 pub fn play_streams<'w, I: Inputs>(
     alloc: Global,
     part: &Part,
@@ -106,7 +104,7 @@ pub fn play_streams<'w, I: Inputs>(
     ensures named { IfErr result (λ r. IsOneUnplayed (map string_bytes streams.now) (event_of r)) }
     ensures stops { IfErr result (λ r. StopsAmong (limited_together (I.state inputs.old).contents stream_limit (map string_bytes streams.now))
         (I.state inputs.old) (I.state inputs.new) (event_of r)) }
-    ensures once { AsksAtMost (I.state inputs.old) (length streams.now) (I.state inputs.new) }
+    ensures asks { AsksAtMost (I.state inputs.old) (length streams.now) (I.state inputs.new) }
     ensures inputs { InputsStay (I.state inputs.old) (I.state inputs.new) }
 {
     let Ok(mut player) = Player::new(alloc, part) else {

@@ -120,7 +120,7 @@ near_by contents stream early late rest old new s few h inputs bytes left before
       early = early;
       late = late;
       split = whole ∙ ap (λ (x : List ℕ). (early ++ late) ++ x) (sym tail) ∙ append_assoc early late left;
-      few = few;
+      not_far = few;
       written = w.0;
       near = omega (arith, ap length whole, ap length tail, length-append (early ++ late) t.0, w.1);
     }
@@ -150,14 +150,14 @@ turn_near contents stream taken piece line content l rest old mid new s close fe
 pub prefix_given : (contents : Option (List ℕ → Option (List ℕ))) (stream : List ℕ) (given : ℕ) (old new : Option (List ℕ)) → given ≤ longest_beginning → Longer old new → GivenBy contents stream given old new
 prefix_given contents stream given old new few l inputs bytes before after c b o n =
     let none : length {A = ℕ} [] ≡ 0 = refl in
-    record { early = []; others = bytes; split = refl; few = omega (arith, none, few); written = nothing_written old new l before after o n }
+    record { early = []; others = bytes; split = refl; not_far = omega (arith, none, few); written = nothing_written old new l before after o n }
 
 pub turn_given : (contents : Option (List ℕ → Option (List ℕ))) (stream taken line content : List ℕ) (given : ℕ) (l : ListerState) (rest old mid new : Option (List ℕ)) → RestIsWhole contents stream (preceded taken rest)
     → given ≤ length taken + turn_bytes → stream_listing taken ≡ Ok (line ++ listing_of content) → Lists l (appended old line) mid content → Longer mid new → GivenBy contents stream given old new
 turn_given contents stream taken line content given l rest old mid new s few e t m inputs bytes before after c b o n =
     let k = known_all inputs stream taken rest (subst (λ (k : Option (List ℕ → Option (List ℕ))). RestIsWhole k stream (preceded taken rest)) c s) in
     let whole : bytes ≡ taken ++ k.0 = let e = k.1.1 in cc in
-    record { early = taken; others = k.0; split = whole; few = omega (arith, few); written = turn_written taken line content l old mid new e t m before after o n }
+    record { early = taken; others = k.0; split = whole; not_far = omega (arith, few); written = turn_written taken line content l old mid new e t m before after o n }
 
 -- ---- what the refusal of a header finds
 
@@ -172,7 +172,7 @@ bad_soon contents stream name m n event s b inputs bytes left place c i r l =
     let whole : bytes ≡ b.bytes ++ t.0 = let e = t.1.1 in cc in
     let refused = b.refused t.0 (may_follow b.last n.rest t.0 t.1.0 b.end) in
     let same = same_place place b.place (stream_listing (b.bytes ++ t.0)) (ap stream_listing (sym whole) ∙ l) refused in
-    omega (arith, b.soon, same, ap length whole, ap length tail, length-append b.bytes t.0)
+    omega (arith, b.no_byte_after, same, ap length whole, ap length tail, length-append b.bytes t.0)
 
 -- ---- what a fault finds
 
@@ -210,7 +210,7 @@ module _ (contents : Option (List ℕ → Option (List ℕ))) (stream : List ℕ
   without_prefix_near m n name event e s a few l (inr (inl h)) =
       as_event n.given event (reading_failed name) h.0 (prefix_unjudged contents stream name m n s a h.3, prefix_given contents stream n.given old new (omega (arith, a.given, few)) l)
   without_prefix_near m n name event e s a few l (inr (inr h)) =
-      as_event n.given event (bad_input name (input.Byte h.place)) h.is (subst (λ (r : Option (List ℕ)). SoonBy contents stream r) e (bad_soon contents stream name m n event s h))
+      as_event n.given event (bad_input name (input.Byte h.place)) h.reports (subst (λ (r : Option (List ℕ)). SoonBy contents stream r) e (bad_soon contents stream name m n event s h))
 
   pub unread_near : (s n : InputsState) (name taken : List ℕ) (l : ListerState) (left : ℕ) (event : Event) → n.rest ≡ rest → RestIsWhole contents stream (preceded taken s.rest) → (t : ListsStream l old new taken)
       → n.given ≤ length taken + turn_bytes → (event ≡ too_large name → left < turn_bytes) → Longer new new → Unread s name n left event → StaysBy (status_of_event event) contents stream n.given rest old new

@@ -8,12 +8,11 @@ use Rattle.x7_forms.specs.declared.status.Status.{Status}
 use Rattle.x7_forms.specs.Event.{Event, event_line, status_of_event, usage}
 use Rattle.x7_forms.specs.Form.{AskedForm, Unused, flash_use, listed_by, updated_by}
 use Rattle.x7_forms.specs.Known.{Answer}
-use Rattle.x7_forms.specs.Message.{text_status}
+use Rattle.x7_forms.specs.Status.{text_status}
 use Rattle.x7_tool.specs.Leaving.{UsesFlash}
 use Rattle.x7_tool.specs.Outside.{Outside, sources}
-use Rattle.x7_tool.specs.Run.{Answered, AnswersOver, JudgesFlash, MakesReady, MakesReadyFrom, Puts}
-use Rattle.x7_tool.specs.Runs.{RanAs}
-use Rattle.x7_tool.proofs.RunLemmas.{ready_ends, streamed, text_ends}
+use Rattle.x7_tool.specs.Run.{Answered, AnswersOver, JudgesFlash, MakesReady, MakesReadyFrom, PutsAnswer}
+use Rattle.x7_tool.proofs.RunLemmas.{RanAs, ready_ends, streamed, text_ends}
 use Rattle.x7_tool.proofs.StopLemmas.{done_judges, puts_stop, refused_judges, unused_judges}
 
 -- ---- a form
@@ -24,7 +23,7 @@ as_asked form asks old new got e a = subst (λ (f : AskedForm). Answered f old n
 
 -- a form that reads inputs alone, and whose text, ready or not, was written
 pub ready_answered : (form asks : AskedForm) (old new : Outside) (whole : Result Answer Event) (got : Result Bool Event) → form ≡ asks → streamed (listed_by (Some asks)) (updated_by (Some asks)) ≡ None → flash_use (Some asks) ≡ Unused
-    → MakesReady asks old.inputs new.inputs whole → Puts whole old.out new.out got → Answered form old new got
+    → MakesReady asks old.inputs new.inputs whole → PutsAnswer whole old.out new.out got → Answered form old new got
 ready_answered form asks old new whole got e l u r p =
     as_asked form asks old new got e (record {
       ends = ready_ends asks old new whole got l u r.caused p;
@@ -36,11 +35,11 @@ ready_answered form asks old new whole got e l u r p =
 
 -- a form that reads a flash too, and whose text, ready or not, was written
 pub flash_answered : (form asks : AskedForm) (old new : Outside) (whole : Result Answer Event) (got : Result Bool Event) → form ≡ asks → streamed (listed_by (Some asks)) (updated_by (Some asks)) ≡ None
-    → JudgesFlash (Some asks) (sources old.inputs old.flash) (sources new.inputs new.flash) got → MakesReadyFrom asks (sources old.inputs old.flash) (sources new.inputs new.flash) whole → AnswersOver asks old new whole → Puts whole old.out new.out got
+    → JudgesFlash (Some asks) (sources old.inputs old.flash) (sources new.inputs new.flash) got → MakesReadyFrom asks (sources old.inputs old.flash) (sources new.inputs new.flash) whole → AnswersOver asks old new whole → PutsAnswer whole old.out new.out got
     → Answered form old new got
 flash_answered form asks old new whole got e l j r d p =
     as_asked form asks old new got e (record {
-      ends = text_ends asks old new whole got l r.measured r.last d p;
+      ends = text_ends asks old new whole got l r.measured r.fails_last d p;
       stops = puts_stop asks old.inputs new.inputs whole old.out new.out got r.stops p;
       judges = j;
       asks = r.asks;
@@ -91,7 +90,7 @@ ran_none form old err s e t w =
       end = Err usage;
       ends_as = t;
       said = w;
-      ends = record { cause = refl; wrote = refl; near = tt; measured = λ name a e. absurd a; last = tt; updates = tt };
+      ends = record { cause = refl; wrote = refl; near = tt; measured = λ name a e. absurd a; fails_last = tt; updates = tt };
       stops = tt;
       judges = tt;
       asks = few_at old.inputs;

@@ -5,13 +5,17 @@ use Rattle.x7_listing.specs.declared.assembler.AsmFault.{AsmFault}
 use Rattle.x7_listing.specs.declared.assembler.AsmFault.TheVariants as fault
 use Rattle.x7_words.specs.Input.{InputsState}
 use Rattle.x7_forms.specs.Event.{Event, no_memory}
-use Rattle.x7_forms.specs.Known.{Answer, whole_in}
-use Rattle.x7_tool.specs.Outcome.{AssembledAs, IsAsmFault, asm_event, text_limit}
+use Rattle.x7_forms.specs.Known.{Answer, whole_known}
+use Rattle.x7_tool.specs.Outcome.{AssembledAs, asm_event, text_limit}
 use Rattle.x7_forms.specs.Step.{IsDecided, IsPossible, ReadsWhole}
 use Rattle.x7_forms.specs.Form.{Assembling}
 use Rattle.x7_tool.specs.Run.{AnswersForm}
 use Rattle.x7_forms.proofs.ReadLemmas.{answers_by}
 use Rattle.x7_tool.proofs.FeedLemmas.{unread_by}
+
+-- the fault is the first of the text, or want of memory, which says nothing of the text
+abbrev pub IsAsmFault : AsmFault → List ℕ → Type 0
+IsAsmFault f text = (f ≡ fault.NoMemory) ⊎ IsAsm text (Err f)
 
 -- want of memory is free, and any other fault is the text's
 faulted_by : (name text : List ℕ) (f : AsmFault) → IsAsmFault f text
@@ -30,10 +34,10 @@ module _ {V : Type 0} (items : V → List ℕ) (old new : InputsState) (name tex
   pub asm_faulted : (f : AsmFault) (event : Event) → read ≡ Err f → asm_event name f ≡ event → AnswersForm (Assembling name) old new (Err event)
   asm_faulted f event r e =
       subst (λ (x : Event). AnswersForm (Assembling name) old new (Err x)) e
-      (answers_by (List ℕ) Answer (name ∷ []) old new (λ t. whole_in t text_limit name) text (AssembledAs name) (Err (asm_event name f)) whole (faulted_by name text f (ended (Err f) r)))
+      (answers_by (List ℕ) Answer (name ∷ []) old new (λ t. whole_known t text_limit name) text (AssembledAs name) (Err (asm_event name f)) whole (faulted_by name text f (ended (Err f) r)))
 
   pub asm_given : (v : V) → read ≡ Ok v → AnswersForm (Assembling name) old new (Ok (record { stopped = false; text = items v }))
-  asm_given v r = answers_by (List ℕ) Answer (name ∷ []) old new (λ t. whole_in t text_limit name) text (AssembledAs name) (Ok (record { stopped = false; text = items v })) whole (inr (tt, tt, (refl, ended (Ok v) r)))
+  asm_given v r = answers_by (List ℕ) Answer (name ∷ []) old new (λ t. whole_known t text_limit name) text (AssembledAs name) (Ok (record { stopped = false; text = items v })) whole (inr (tt, tt, (refl, ended (Ok v) r)))
 
 pub asm_unread : (old new : InputsState) (name : List ℕ) (event : Event) → ReadsWhole old new text_limit name (Err event) → AnswersForm (Assembling name) old new (Err event)
-asm_unread old new name event h = unread_by name text_limit (λ t end. AssembledAs name (whole_in t text_limit name) end) old new event (λ t e. subst (λ (r : Result (List ℕ) Event). AssembledAs name r (Err event)) (sym e) refl) h
+asm_unread old new name event h = unread_by name text_limit (λ t end. AssembledAs name (whole_known t text_limit name) end) old new event (λ t e. subst (λ (r : Result (List ℕ) Event). AssembledAs name r (Err event)) (sym e) refl) h

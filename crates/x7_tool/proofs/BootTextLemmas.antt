@@ -16,14 +16,13 @@ use Rattle.x7_boot.specs.declared.fault.BootFault.{BootFault}
 use Rattle.x7_boot.specs.declared.fault.BootFault.TheVariants as boot_fault
 use Rattle.x7_boot.specs.Text.{boot_lines}
 use Rattle.x7_tool.specs.Boot.{boot_text}
-use Rattle.x7_forms.specs.Event.{Event, no_memory, too_large}
-use Rattle.x7_forms.specs.Message.{event_of}
+use Rattle.x7_forms.specs.Event.{Event, event_of, no_memory, too_large}
 use Rattle.x7_boot.specs.Image.{flash_limit}
 use Rattle.x7_forms.specs.Known.{Answer, flash_found}
 use Rattle.x7_tool.specs.Outcome.{IsBootText, FlashBoots, boot_event, has_failed}
 use Rattle.x7_tool.specs.Outside.{ReadsFlash}
 use Rattle.x7_tool.specs.Run.{FlashComes}
-use Rattle.x7_tool.specs.Play.{text_of_play}
+use Rattle.x7_tool.specs.Play.{play_answer}
 use Rattle.x7_report.specs.Reports.{PlayTextState, report_text}
 use Rattle.x7_forms.specs.Step.{seen}
 use Rattle.x7_forms.specs.declared.refusal.Refusal.{Refusal}
@@ -66,10 +65,10 @@ flash_boots name part (Some all) b answer short boots due answers = (short, λ f
 
 -- the text of a boot was made, or there was no memory for it
 pub text_boots : (name : List ℕ) (part : PartData) (old mid new : FlashState) (b : BootedState) (got : Result PlayTextState Refusal) → ReadsFlash name old mid → IfKnown mid.bytes (λ all. length all ≤ flash_limit)
-    → IfKnown mid.bytes (λ all. AreBytes all → IsBoot part all b) → NoWordDue b.device → IfOk got (λ text. AnswersBoot b (text_of_play text)) → IfErr got (λ r. event_of r ≡ no_memory)
-    → new.extent ≤ flash_limit → FlashComes name part old new (seen text_of_play got)
+    → IfKnown mid.bytes (λ all. AreBytes all → IsBoot part all b) → NoWordDue b.device → IfOk got (λ text. AnswersBoot b (play_answer text)) → IfErr got (λ r. event_of r ≡ no_memory)
+    → new.extent ≤ flash_limit → FlashComes name part old new (seen play_answer got)
 text_boots name part old mid new b (Ok text) r short boots due ok err size =
-    (subst (λ (f : Option (List ℕ)). FlashBoots name part (flash_found f) (Ok (text_of_play text))) r.bytes (flash_boots name part mid.bytes b (text_of_play text) short boots due ok), size)
+    (subst (λ (f : Option (List ℕ)). FlashBoots name part (flash_found f) (Ok (play_answer text))) r.bytes (flash_boots name part mid.bytes b (play_answer text) short boots due ok), size)
 text_boots name part old mid new b (Err x) r short boots due ok err size = inl err
 
 -- a flash is within the limit where it wasn't refused

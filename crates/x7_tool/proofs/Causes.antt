@@ -16,12 +16,12 @@ use Rattle.x7_listing.specs.Listing.{listing_of}
 use Rattle.x7_listing.specs.StreamListing.{stream_listing}
 use Rattle.x7_forms.specs.declared.bad_input.InputFault.TheVariants as input
 use Rattle.x7_forms.specs.Form.{Listing}
-use Rattle.x7_forms.specs.Event.{Event, Cause, Break, bad_input, cause_of_event, missing, no_memory, reading_failed, status_of_event, too_large, writing_failed}
-use Rattle.x7_forms.specs.Message.{event_of, final_status}
+use Rattle.x7_forms.specs.Event.{Event, Cause, Break, bad_input, cause_of_event, event_of, missing, no_memory, reading_failed, status_of_event, too_large, writing_failed}
+use Rattle.x7_forms.specs.Status.{final_status}
 use Rattle.x7_forms.specs.declared.refusal.Refusal.{Refusal}
 use Rattle.x7_forms.specs.declared.refusal.Why.{Why}
 use Rattle.x7_forms.specs.declared.refusal.Why.TheVariants as why
-use Rattle.x7_forms.specs.Known.{Absent, Answer, Broken, Failing, Found, Held, Known, Lacking, Mishap, broken_at, bytes_found, found, known_of, stream_limit, with_inputs}
+use Rattle.x7_forms.specs.Known.{Absent, Answer, Broken, Failing, Found, Held, Known, Lacking, Mishap, broken_at, bytes_found, input_found, known_of, stream_limit, with_inputs}
 use Rattle.x7_tool.specs.Outcome.{listed, listed_bytes, listed_found}
 use Rattle.x7_forms.specs.Turn.{IsRefused, FollowsUnlessLast, UnreadBeginning, Unopened}
 use Rattle.x7_tool.specs.Outside.{Outside, known_in}
@@ -91,8 +91,8 @@ ended_left Break stream old new event h = some_of (known_in old) stream old.out 
 ended_left cause stream old new event h = left_as event.reason stream old new h.1
 
 pub list_ends : (stream : List ℕ) (old new : Outside) (end : Result Answer Event) → EndedIn stream old new end → StaysNear (final_status end) (Some (Listing stream)) old new → Ends (Some (Listing stream)) old new end
-list_ends stream old new (Ok answer) h n = record { cause = has_cause (Listing stream) old new (Ok answer) (answers_over (Listing stream) old new (Ok answer) h.0); wrote = h.1; near = n; measured = λ name a. absurd a; last = tt; updates = tt }
-list_ends stream old new (Err event) h n = record { cause = ended_cause (cause_of_event event) stream old new event refl h; wrote = ended_left (cause_of_event event) stream old new event h; near = n; measured = λ name a e. absurd a; last = λ name a e at. absurd a; updates = tt }
+list_ends stream old new (Ok answer) h n = record { cause = has_cause (Listing stream) old new (Ok answer) (answers_over (Listing stream) old new (Ok answer) h.0); wrote = h.1; near = n; measured = λ name a. absurd a; fails_last = tt; updates = tt }
+list_ends stream old new (Err event) h n = record { cause = ended_cause (cause_of_event event) stream old new event refl h; wrote = ended_left (cause_of_event event) stream old new event h; near = n; measured = λ name a e. absurd a; fails_last = λ name a e at. absurd a; updates = tt }
 
 -- a listing ends as it should, by the result of the call that ended it
 pub list_seen : {A : Type 0} (stream : List ℕ) (old new : Outside) (r : Result A Refusal) → OnOk r ((text : List ℕ) × EndedIn stream old new (Ok (record { stopped = false; text = text })))
@@ -108,7 +108,7 @@ broken_by (Broken bytes) stream given h = let short : nat_lt stream_limit (lengt
 
 broken_due : (contents : Option (List ℕ → Option (List ℕ))) (flash : Option (List ℕ)) (stream : List ℕ) (given : ℕ) → given ≤ stream_limit → DueBy {A = Answer} (with_inputs contents flash) (Failing stream given) (λ t r. listed t stream ≡ r) (reading_failed stream)
 broken_due None flash stream given h = tt
-broken_due (Some inputs) flash stream given h = let here = name_is stream in rw here (broken_by (found (inputs stream)) stream given h)
+broken_due (Some inputs) flash stream given h = let here = name_is stream in rw here (broken_by (input_found (inputs stream)) stream given h)
 
 absent_due : (contents : Option (List ℕ → Option (List ℕ))) (flash : Option (List ℕ)) (stream : List ℕ) → DueBy {A = Answer} (with_inputs contents flash) (Lacking stream) (λ t r. listed t stream ≡ r) (missing stream)
 absent_due None flash stream = tt
@@ -123,7 +123,7 @@ absent old new flash name a s m = by old.contents refl m
         → IsCaused {A = Answer} (with_inputs contents flash) (CameIn (step_over (name ∷ []) old new)) (λ known. listed known name) (Err (missing name))
     by None e (inl h) = absurd h
     by (Some inputs) e (inl h) = inr (tt, rw h refl)
-    by contents e (inr h) = inl (absence_from Answer (with_inputs contents flash) old new name (λ t r. listed t name ≡ r) (record { among = inl refl; over = record { asked = a.asked; selected = s }; risen = h }) (absent_due contents flash name))
+    by contents e (inr h) = inl (absence_from Answer (with_inputs contents flash) old new name (λ t r. listed t name ≡ r) (record { among = inl refl; deselected = record { asked = a.asked; selected = s }; risen = h }) (absent_due contents flash name))
 
 -- a fault of the stream
 pub faulted : (old new : InputsState) (flash : Option (List ℕ)) (stream : List ℕ) → FailsAmong (stream ∷ []) old new stream → new.given ≤ stream_limit
@@ -132,7 +132,7 @@ faulted old new flash stream f g = inl (fault_from Answer (with_inputs old.conte
 
 prefix_none : (contents : Option (List ℕ → Option (List ℕ))) (flash : Option (List ℕ)) (name : List ℕ) → IsPrefixOf (with_inputs contents flash) name []
 prefix_none None flash name = tt
-prefix_none (Some inputs) flash name = (bytes_found (found (inputs name)), refl)
+prefix_none (Some inputs) flash name = (bytes_found (input_found (inputs name)), refl)
 
 none_put : (old : Option (List ℕ)) (text : List ℕ) → PutsPrefix old text old
 none_put old text = ([], (text, refl, sym (appended_nil old)))
@@ -142,7 +142,7 @@ nothing_listed = raw_listed [] ((raw_at [] (starts_with nat_eq [] fixed_bytes) r
 
 -- nothing was put of any listing
 pub nothing_put : (old : Option (List ℕ)) → ListsSoFar [] old old
-nothing_put old = record { has = (listing_of [], nothing_listed); goes = λ rest text fits e. none_put old text }
+nothing_put old = record { has_listing = (listing_of [], nothing_listed); puts_prefix = λ rest text fits e. none_put old text }
 
 -- the bytes that were taken are a prefix of the input
 prefix_taken : (contents : Option (List ℕ → Option (List ℕ))) (flash : Option (List ℕ)) (name taken : List ℕ) (rest : Option (List ℕ)) → RestIsWhole contents name (preceded taken rest) → IsPrefixOf (with_inputs contents flash) name taken
@@ -151,7 +151,7 @@ prefix_taken (Some inputs) flash name taken None s = let h = s.2 in absurd (cc)
 prefix_taken (Some inputs) flash name taken (Some rest) s =
     let h = s.2 in
     let same : taken ++ rest ≡ s.0 = cc in
-    (rest, ap (λ (t : Option (List ℕ)). bytes_found (found t)) s.1 ∙ sym same)
+    (rest, ap (λ (t : Option (List ℕ)). bytes_found (input_found t)) s.1 ∙ sym same)
 
 -- a stream whose reading failed after these bytes
 pub broken : (contents : Option (List ℕ → Option (List ℕ))) (flash : Option (List ℕ)) (C : Mishap → Type 0) (stream taken : List ℕ) (rest : Option (List ℕ)) (Full : Type 0) (old now : Option (List ℕ))
@@ -174,7 +174,7 @@ pub unwritten : (contents : Option (List ℕ → Option (List ℕ))) (flash : Op
 unwritten None flash C stream taken rest last Full old now s e f here p = (refl, f, (here.0, here.1.1))
 unwritten (Some inputs) flash C stream taken rest last Full old now s e f here p =
     let all = known_all inputs stream taken rest s in
-    (refl, f, (taken ++ all.0, (ap found all.1.1, λ fits. p all.0 (may_follow last rest all.0 all.1.0 e) fits)))
+    (refl, f, (taken ++ all.0, (ap input_found all.1.1, λ fits. p all.0 (may_follow last rest all.0 all.1.0 e) fits)))
 
 -- what is due for a stream of these bytes, by its listing and its length
 due_over : (stream bytes text : List ℕ) (b : Bool) → stream_listing bytes ≡ Ok text → nat_lt stream_limit (length bytes) ≡ b → listed_bytes stream bytes ≡ (if b then Err (too_large stream) else Ok (record { stopped = false; text = text }))
@@ -229,7 +229,7 @@ unopened s n flash stream Full old event (inl h, none) a =
     ends_same (with_inputs s.contents flash) (CameIn (step_over (stream ∷ []) s n)) stream Full old old event (missing stream) h.0 (absent s n flash stream a none h.1, refl)
 unopened s n flash stream Full old event (inr h, none) a =
     ends_same (with_inputs s.contents flash) (CameIn (step_over (stream ∷ []) s n)) stream Full old old event (reading_failed stream) h.0
-    (faulted s n flash stream (record { among = inl refl; over = record { asked = a.asked; selected = none }; risen = h.1 }) (omega (arith, a.given)), ([], (prefix_none s.contents flash stream, nothing_put old)))
+    (faulted s n flash stream (record { among = inl refl; deselected = record { asked = a.asked; selected = none }; risen = h.1 }) (omega (arith, a.given)), ([], (prefix_none s.contents flash stream, nothing_put old)))
 
 -- an error by two of its clauses
 pub both_err : {A B : Type 0} (r : Result A B) (P Q R : B → Type 0) → ((e : B) → P e → Q e → R e) → IfErr r P → IfErr r Q → IfErr r R
@@ -253,5 +253,5 @@ without_prefix s m n flash stream Full old event f sel a (inr (inl h)) =
     ends_same (with_inputs s.contents flash) (CameIn (step_over (stream ∷ []) s n)) stream Full old old event (reading_failed stream) h.0
     (broken s.contents flash (CameIn (step_over (stream ∷ []) s n)) stream [] m.rest Full old old (nothing_taken s.contents stream m.rest sel) (faulted s n flash stream fault.0 (omega (arith, fault.1))) (nothing_put old))
 without_prefix s m n flash stream Full old event f sel a (inr (inr h)) =
-    ends_same (with_inputs s.contents flash) (CameIn (step_over (stream ∷ []) s n)) stream Full old old event (bad_input stream (input.Byte h.place)) h.is
+    ends_same (with_inputs s.contents flash) (CameIn (step_over (stream ∷ []) s n)) stream Full old old event (bad_input stream (input.Byte h.place)) h.reports
     (refused s.contents flash (CameIn (step_over (stream ∷ []) s n)) stream h.bytes n.rest h.last h.place Full old (subst (λ r. RestIsWhole s.contents stream r) h.taken sel) h.end h.refused)

@@ -9,13 +9,13 @@ use Rattle.x7_engine.specs.Stop.{stop_fault}
 use Rattle.x7_debug.specs.declared.order.Order.{Order}
 use Rattle.x7_debug.specs.Session.{MovesTo, SessionState}
 use Rattle.x7_debug.specs.Showing.{final_position, transcript_of}
-use Rattle.x7_forms.specs.Known.{Answer, data_in, stream_limit, whole_in}
+use Rattle.x7_forms.specs.Known.{Answer, data_in, stream_limit, whole_known}
 use Rattle.x7_forms.proofs.ReadLemmas.{Steady, so_steady, whole_steady, work_steady}
 use Rattle.x7_tool.specs.Outcome.{shown_of, stream_data}
 
 -- data that were read, with a mishap
 pub stream_steady : (name : List ℕ) → Steady (List ℕ) (λ t. stream_data t name)
-stream_steady name = so_steady (List ℕ) (List ℕ) (λ t. whole_in t stream_limit name) (λ t whole. data_in name whole) (whole_steady stream_limit name) (λ whole. work_steady (List ℕ) (data_in name whole))
+stream_steady name = so_steady (List ℕ) (List ℕ) (λ t. whole_known t stream_limit name) (λ t whole. data_in name whole) (whole_steady stream_limit name) (λ whole. work_steady (List ℕ) (data_in name whole))
 
 -- the first n bytes of a stream have a fault
 abbrev fails_at : PartData → List ℕ → ℕ → Bool

@@ -5,7 +5,7 @@ use Rattle.x7_text.specs.Lines.{split}
 use Rattle.x7_tool.specs.Between.{IsFed}
 use Rattle.x7_words.specs.Input.{InputsState}
 use Rattle.x7_forms.specs.Event.{Event}
-use Rattle.x7_forms.specs.Known.{Answer, Known, Mishap, whole_in, with_inputs, with_mishap}
+use Rattle.x7_forms.specs.Known.{Answer, Known, Mishap, whole_known, with_inputs, with_mishap}
 use Rattle.x7_forms.specs.Step.{AnswersBy, CameIn, DueBy, IsCaused, IsCausedBy, ReadsWhole, step_over}
 use Rattle.x7_forms.proofs.ReadLemmas.{outside_goes}
 
@@ -23,18 +23,18 @@ module _ {T F : Type 0} (took : T → List (List ℕ) → Type 0) (fails : F →
   fed_fault f text e h = subst (λ t. fails f (split t)) (append-nil text) (subst (λ o. IsFed took fails o text) e h [])
 
 -- a text that was not read is the event of whatever is made of it
-pub unread_by : (name : List ℕ) (limit : ℕ) (D : Known → Result Answer Event → Type 0) (old new : InputsState) (event : Event) → ((t : Known) → whole_in t limit name ≡ Err event → D t (Err event)) → ReadsWhole old new limit name (Err event)
+pub unread_by : (name : List ℕ) (limit : ℕ) (D : Known → Result Answer Event → Type 0) (old new : InputsState) (event : Event) → ((t : Known) → whole_known t limit name ≡ Err event → D t (Err event)) → ReadsWhole old new limit name (Err event)
     → AnswersBy (step_over (name ∷ []) old new) D (Err event)
 unread_by name limit D old new event f h = λ flash. by (with_inputs old.contents flash) (h flash)
   where
     C : Mishap → Type 0
     C = CameIn (step_over (name ∷ []) old new)
 
-    due : (known : Option Known) (m : Mishap) → DueBy {A = List ℕ} known m (λ t r. whole_in t limit name ≡ r) event → DueBy {A = Answer} known m D event
+    due : (known : Option Known) (m : Mishap) → DueBy {A = List ℕ} known m (λ t r. whole_known t limit name ≡ r) event → DueBy {A = Answer} known m D event
     due None m x = tt
     due (Some t) m x = f (with_mishap m t) x
 
-    by : (known : Option Known) → IsCaused {A = List ℕ} known C (λ t. whole_in t limit name) (Err event) → IsCausedBy {A = Answer} known C D (Err event)
-    by known (inl x) = inl (outside_goes (List ℕ) Answer known C C (λ t r. whole_in t limit name ≡ r) D event (λ m y. y) (λ m e y. due known m y) x)
+    by : (known : Option Known) → IsCaused {A = List ℕ} known C (λ t. whole_known t limit name) (Err event) → IsCausedBy {A = Answer} known C D (Err event)
+    by known (inl x) = inl (outside_goes (List ℕ) Answer known C C (λ t r. whole_known t limit name ≡ r) D event (λ m y. y) (λ m e y. due known m y) x)
     by None (inr x) = inr x
     by (Some t) (inr x) = inr (x.0, f t x.1)

@@ -32,7 +32,7 @@ use Rattle.x7_effects.proofs.FormLemmas.{full_length}
 use Rattle.x7_effects.proofs.PlannerLemmas.{full_same}
 use Rattle.x7_effects.specs.Played.{PlaysFull, device_after}
 use Rattle.x7_effects.proofs.LawLemmas.{new_law}
-use Rattle.x7_tool.specs.Generate.{count_line, counted, gen_text, generated, head_line, least_planned, next_number, planned_summary, played_summary, row_by, rows_after, sum_line, summary_text, words_sum}
+use Rattle.x7_tool.specs.Generate.{count_line, counted, gen_text, generated, gen_line, least_planned, next_number, planned_summary, played_summary, row_by, rows_after, sum_line, summary_text, words_sum}
 use Rattle.x7_forms.specs.Known.{reads_limit}
 use Rattle.x7_playing.specs.Playing.{HasPlayed, HasPlayedBy, PlayState, Plays, PlaysOn}
 use Rattle.x7_playing.specs.declared.player.Player.{Player}
@@ -154,12 +154,12 @@ five t h a b c s =
     ap (λ (x : List ℕ). ((x ++ b) ++ c) ++ s) (append_assoc t h a) ∙ ap (λ (x : List ℕ). (x ++ c) ++ s) (append_assoc t (h ++ a) b)
     ∙ ap (λ (x : List ℕ). x ++ s) (append_assoc t ((h ++ a) ++ b) c) ∙ append_assoc t (((h ++ a) ++ b) ++ c) s
 
-pub summary_put : (name : List ℕ) (seed planned size phase total : ℕ) (old first second third fourth last : List ℕ) → first ≡ old ++ head_line name seed → second ≡ first ++ count_line (codes "planned ") planned → third ≡ second ++ count_line (codes "stream ") size
+pub summary_put : (name : List ℕ) (seed planned size phase total : ℕ) (old first second third fourth last : List ℕ) → first ≡ old ++ gen_line name seed → second ≡ first ++ count_line (codes "planned ") planned → third ≡ second ++ count_line (codes "stream ") size
     → fourth ≡ third ++ count_line (codes "phase ") phase → last ≡ fourth ++ sum_line total → last ≡ old ++ summary_text name seed (record { planned = planned; size = size; phase = phase; sum = total })
 unfolding summary_text
 summary_put name seed planned size phase total old first second third fourth last a b c d e =
     e ∙ ap (λ (t : List ℕ). t ++ sum_line total) (d ∙ ap (λ (t : List ℕ). t ++ count_line (codes "phase ") phase) (c ∙ ap (λ (t : List ℕ). t ++ count_line (codes "stream ") size) (b ∙ ap (λ (t : List ℕ). t ++ count_line (codes "planned ") planned) a)))
-    ∙ five old (head_line name seed) (count_line (codes "planned ") planned) (count_line (codes "stream ") size) (count_line (codes "phase ") phase) (sum_line total)
+    ∙ five old (gen_line name seed) (count_line (codes "planned ") planned) (count_line (codes "stream ") size) (count_line (codes "phase ") phase) (sum_line total)
 
 pub gen_is : (part : PartData) (seed planned : ℕ) (plan : PlanData) (stream text : List ℕ) → plan ≡ generated part seed → planned ≡ length plan.rows → stream ≡ full_stream part plan → text ≡ played_summary part seed planned stream → text ≡ gen_text part seed
 unfolding gen_text

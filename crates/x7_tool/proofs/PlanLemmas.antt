@@ -16,15 +16,14 @@ use Rattle.x7_planner.specs.declared.fault.PlanFault.{PlanFault}
 use Rattle.x7_planner.specs.declared.fault.PlanFault.TheVariants as planner
 use Rattle.x7_words.specs.Input.{InputsState, InputsStay}
 use Rattle.x7_forms.specs.declared.refusal.Refusal.{Refusal}
-use Rattle.x7_forms.specs.Event.{Event, no_memory}
-use Rattle.x7_forms.specs.Known.{Answer, and_so, part_of, whole_in}
-use Rattle.x7_forms.specs.Message.{event_of}
+use Rattle.x7_forms.specs.Event.{Event, event_of, no_memory}
+use Rattle.x7_forms.specs.Known.{Answer, and_so, part_known, whole_known}
 use Rattle.x7_forms.specs.Step.{AnswersAs, AnswersBy, IsDecided, IsPossible, ReadsWhole, seen, step_over}
 use Rattle.x7_forms.proofs.ReadLemmas.{answers_by, answers_end, answers_go, answers_kept, answers_stop, first_of, part_steady, whole_steady}
-use Rattle.x7_tool.specs.Outcome.{IsUnplanned, PlanTexts, PlannedFull, PlannedPartial, frames_event, plan_texts, planner_event, text_limit}
+use Rattle.x7_tool.specs.Outcome.{IsUnplanned, PartAndText, PlannedFull, PlannedPartial, frames_event, part_and_text, planner_event, text_limit}
 use Rattle.x7_tool.specs.Plan.{HasNoPlan, ReadsPlan}
-use Rattle.x7_tool.specs.FullText.{PlanFor, full_of}
-use Rattle.x7_tool.specs.Ready.{text_of_bytes}
+use Rattle.x7_tool.specs.FullText.{PlanFor, full_answer}
+use Rattle.x7_tool.specs.Ready.{bytes_answer}
 use Rattle.std.specs.Prelude.{Vec}
 use Rattle.std.specs.declared.alloc.Global.{Global}
 use Rattle.x7_tool.specs.Between.{LinesGive}
@@ -55,19 +54,19 @@ module _ (old new : InputsState) (part first : PartData) (name text : List ℕ) 
 
 -- ---- a part and a text
 
-pub texts_read : (part frames : List ℕ) (old mid new : InputsState) (p : PartData) (text : List ℕ) → InputsStay old mid → AnswersAs {A = PartData} (step_over (part ∷ []) old mid) (λ t. part_of t part) (Ok p) → ReadsWhole mid new text_limit frames (Ok text)
-    → AnswersAs {A = PlanTexts} (step_over (part ∷ frames ∷ []) old new) (λ t. plan_texts t part frames) (Ok (record { part = p; text = text }))
+pub texts_read : (part frames : List ℕ) (old mid new : InputsState) (p : PartData) (text : List ℕ) → InputsStay old mid → AnswersAs {A = PartData} (step_over (part ∷ []) old mid) (λ t. part_known t part) (Ok p) → ReadsWhole mid new text_limit frames (Ok text)
+    → AnswersAs {A = PartAndText} (step_over (part ∷ frames ∷ []) old new) (λ t. part_and_text t part frames) (Ok (record { part = p; text = text }))
 texts_read part frames old mid new p text stays h r =
-    answers_go PartData PlanTexts (part ∷ []) (frames ∷ []) (part ∷ frames ∷ []) old mid new (λ t. part_of t part) (λ t q. and_so (whole_in t text_limit frames) (λ bytes. Ok (record { part = q; text = bytes }))) p (Ok (record { part = p; text = text }))
+    answers_go PartData PartAndText (part ∷ []) (frames ∷ []) (part ∷ frames ∷ []) old mid new (λ t. part_known t part) (λ t q. and_so (whole_known t text_limit frames) (λ bytes. Ok (record { part = q; text = bytes }))) p (Ok (record { part = p; text = text }))
     (part_steady part) stays (λ n k. inr k) h
-    (answers_end (List ℕ) PlanTexts (frames ∷ []) mid new (λ t. whole_in t text_limit frames) (λ bytes. Ok (record { part = p; text = bytes })) text (Ok (record { part = p; text = text })) (whole_steady text_limit frames) r (inr (tt, tt, refl)))
+    (answers_end (List ℕ) PartAndText (frames ∷ []) mid new (λ t. whole_known t text_limit frames) (λ bytes. Ok (record { part = p; text = bytes })) text (Ok (record { part = p; text = text })) (whole_steady text_limit frames) r (inr (tt, tt, refl)))
 
-pub texts_unread : (part frames : List ℕ) (old mid new : InputsState) (p : PartData) (event : Event) → InputsStay old mid → AnswersAs {A = PartData} (step_over (part ∷ []) old mid) (λ t. part_of t part) (Ok p) → ReadsWhole mid new text_limit frames (Err event)
-    → AnswersAs {A = PlanTexts} (step_over (part ∷ frames ∷ []) old new) (λ t. plan_texts t part frames) (Err event)
+pub texts_unread : (part frames : List ℕ) (old mid new : InputsState) (p : PartData) (event : Event) → InputsStay old mid → AnswersAs {A = PartData} (step_over (part ∷ []) old mid) (λ t. part_known t part) (Ok p) → ReadsWhole mid new text_limit frames (Err event)
+    → AnswersAs {A = PartAndText} (step_over (part ∷ frames ∷ []) old new) (λ t. part_and_text t part frames) (Err event)
 texts_unread part frames old mid new p event stays h r =
-    answers_go PartData PlanTexts (part ∷ []) (frames ∷ []) (part ∷ frames ∷ []) old mid new (λ t. part_of t part) (λ t q. and_so (whole_in t text_limit frames) (λ bytes. Ok (record { part = q; text = bytes }))) p (Err event)
+    answers_go PartData PartAndText (part ∷ []) (frames ∷ []) (part ∷ frames ∷ []) old mid new (λ t. part_known t part) (λ t q. and_so (whole_known t text_limit frames) (λ bytes. Ok (record { part = q; text = bytes }))) p (Err event)
     (part_steady part) stays (λ n k. inr k) h
-    (answers_stop (List ℕ) PlanTexts (frames ∷ []) (frames ∷ []) mid new (λ t. whole_in t text_limit frames) (λ t bytes. Ok (record { part = p; text = bytes })) event (λ n k. k) r)
+    (answers_stop (List ℕ) PartAndText (frames ∷ []) (frames ∷ []) mid new (λ t. whole_known t text_limit frames) (λ t bytes. Ok (record { part = p; text = bytes })) event (λ n k. k) r)
 
 -- the event of a text without a plan lies in the contents
 no_plan : (name : List ℕ) (part : PartData) (text : List ℕ) (event : Event) → HasNoPlan name part text event → IsPossible {A = Answer} (Err event) × IsDecided {A = Answer} (Err event)
@@ -79,7 +78,7 @@ no_plan name part text event (f, is, same) = subst (λ (e : Event). IsPossible {
     by (fault.Twice n) k = (tt, tt)
     by fault.NoMemory k = absurd k
 
-unplanned : (name : List ℕ) (texts : PlanTexts) (event : Event) → IsUnplanned name texts event → IsPossible {A = Answer} (Err event) × IsDecided {A = Answer} (Err event)
+unplanned : (name : List ℕ) (texts : PartAndText) (event : Event) → IsUnplanned name texts event → IsPossible {A = Answer} (Err event) × IsDecided {A = Answer} (Err event)
 unplanned name texts event (plan, is, f, why, same) = subst (λ (e : Event). IsPossible {A = Answer} (Err e) × IsDecided {A = Answer} (Err e)) same (by plan f why)
   where
     by : (plan : PlanData) (f : PlanFault) → IsPartialFault texts.part plan f → IsPossible {A = Answer} (Err (planner_event name f)) × IsDecided {A = Answer} (Err (planner_event name f))
@@ -89,35 +88,35 @@ unplanned name texts event (plan, is, f, why, same) = subst (λ (e : Event). IsP
     by plan planner.NoMemory k = absurd k
 
 -- what a form that plans comes to
-module _ (part frames : List ℕ) (old mid new : InputsState) (Next : Result PlanTexts Event → Result Answer Event → Type 0) (keeps : (x : Event) → Next (Err x) (Err x)) where
-  pub part_refused : (event : Event) → AnswersAs {A = PartData} (step_over (part ∷ []) old new) (λ t. part_of t part) (Err event) → AnswersBy {A = Answer} (step_over (part ∷ frames ∷ []) old new) (λ t end. Next (plan_texts t part frames) end) (Err event)
+module _ (part frames : List ℕ) (old mid new : InputsState) (Next : Result PartAndText Event → Result Answer Event → Type 0) (keeps : (x : Event) → Next (Err x) (Err x)) where
+  pub part_refused : (event : Event) → AnswersAs {A = PartData} (step_over (part ∷ []) old new) (λ t. part_known t part) (Err event) → AnswersBy {A = Answer} (step_over (part ∷ frames ∷ []) old new) (λ t end. Next (part_and_text t part frames) end) (Err event)
   part_refused event h =
-      answers_kept PlanTexts Answer (part ∷ frames ∷ []) old new (λ t. plan_texts t part frames) Next event keeps
-      (answers_stop PartData PlanTexts (part ∷ []) (part ∷ frames ∷ []) old new (λ t. part_of t part) (λ t p. and_so (whole_in t text_limit frames) (λ bytes. Ok (record { part = p; text = bytes }))) event (first_of part (frames ∷ [])) h)
+      answers_kept PartAndText Answer (part ∷ frames ∷ []) old new (λ t. part_and_text t part frames) Next event keeps
+      (answers_stop PartData PartAndText (part ∷ []) (part ∷ frames ∷ []) old new (λ t. part_known t part) (λ t p. and_so (whole_known t text_limit frames) (λ bytes. Ok (record { part = p; text = bytes }))) event (first_of part (frames ∷ [])) h)
 
-  pub planned_end : (p : PartData) (text : List ℕ) (got : Result Answer Event) → InputsStay old mid → AnswersAs {A = PartData} (step_over (part ∷ []) old mid) (λ t. part_of t part) (Ok p) → ReadsWhole mid new text_limit frames (Ok text)
-      → (got ≡ Err no_memory) ⊎ (IsPossible got × IsDecided got × Next (Ok (record { part = p; text = text })) got) → AnswersBy {A = Answer} (step_over (part ∷ frames ∷ []) old new) (λ t end. Next (plan_texts t part frames) end) got
+  pub planned_end : (p : PartData) (text : List ℕ) (got : Result Answer Event) → InputsStay old mid → AnswersAs {A = PartData} (step_over (part ∷ []) old mid) (λ t. part_known t part) (Ok p) → ReadsWhole mid new text_limit frames (Ok text)
+      → (got ≡ Err no_memory) ⊎ (IsPossible got × IsDecided got × Next (Ok (record { part = p; text = text })) got) → AnswersBy {A = Answer} (step_over (part ∷ frames ∷ []) old new) (λ t end. Next (part_and_text t part frames) end) got
   planned_end p text got stays h r q =
-      answers_by PlanTexts Answer (part ∷ frames ∷ []) old new (λ t. plan_texts t part frames) (record { part = p; text = text }) Next got (texts_read part frames old mid new p text stays h r) q
+      answers_by PartAndText Answer (part ∷ frames ∷ []) old new (λ t. part_and_text t part frames) (record { part = p; text = text }) Next got (texts_read part frames old mid new p text stays h r) q
 
-  pub plan_refused : (p : PartData) (event : Event) → InputsStay old mid → AnswersAs {A = PartData} (step_over (part ∷ []) old mid) (λ t. part_of t part) (Ok p)
+  pub plan_refused : (p : PartData) (event : Event) → InputsStay old mid → AnswersAs {A = PartData} (step_over (part ∷ []) old mid) (λ t. part_known t part) (Ok p)
       → ((text : List ℕ) → HasNoPlan frames p text event → Next (Ok (record { part = p; text = text })) (Err event)) → ReadsPlan mid new p frames (Err event)
-      → AnswersBy {A = Answer} (step_over (part ∷ frames ∷ []) old new) (λ t end. Next (plan_texts t part frames) end) (Err event)
+      → AnswersBy {A = Answer} (step_over (part ∷ frames ∷ []) old new) (λ t end. Next (part_and_text t part frames) end) (Err event)
   plan_refused p event stays h faulty (inl unread) =
-      answers_kept PlanTexts Answer (part ∷ frames ∷ []) old new (λ t. plan_texts t part frames) Next event keeps (texts_unread part frames old mid new p event stays h unread)
+      answers_kept PartAndText Answer (part ∷ frames ∷ []) old new (λ t. part_and_text t part frames) Next event keeps (texts_unread part frames old mid new p event stays h unread)
   plan_refused p event stays h faulty (inr (text, whole, why)) =
       let can = no_plan frames p text event why in
       planned_end p text (Err event) stays h whole (inr (can.0, can.1, faulty text why))
 
 pub full_ended : (name : List ℕ) (part : PartData) (text : List ℕ) (plan : PlanData) (r : Result PlanFor Refusal) → IsPlanOf part text (Ok plan) → IfOk r (λ t. t.part ≡ part) → IfOk r (λ t. t.plan ≡ plan) → IfErr r (λ x. event_of x ≡ no_memory)
-    → (seen full_of r ≡ Err no_memory) ⊎ (IsPossible (seen full_of r) × IsDecided (seen full_of r) × PlannedFull name (Ok (record { part = part; text = text })) (seen full_of r))
+    → (seen full_answer r ≡ Err no_memory) ⊎ (IsPossible (seen full_answer r) × IsDecided (seen full_answer r) × PlannedFull name (Ok (record { part = part; text = text })) (seen full_answer r))
 full_ended name part text plan (Ok t) is same as_planned err = inr (tt, tt, (refl, plan, is, ap (λ p. full_stream p t.plan) same ∙ ap (full_stream part) as_planned))
 full_ended name part text plan (Err x) is same as_planned err = inl (ap Err err)
 
 pub partial_ended : (name : List ℕ) (part : PartData) (text : List ℕ) (plan : PlanData) (r : Result (Vec ℕ Global) Refusal) → IsPlanOf part text (Ok plan)
-    → IfOk r (λ end. (t : List ℕ) → IsPlanOf part t (Ok plan) → PlannedPartial name (Ok (record { part = part; text = t })) (Ok (text_of_bytes end)))
+    → IfOk r (λ end. (t : List ℕ) → IsPlanOf part t (Ok plan) → PlannedPartial name (Ok (record { part = part; text = t })) (Ok (bytes_answer end)))
     → IfErr r (λ x. (event_of x ≡ no_memory) ⊎ ((t : List ℕ) → IsPlanOf part t (Ok plan) → PlannedPartial name (Ok (record { part = part; text = t })) (Err (event_of x))))
-    → (seen text_of_bytes r ≡ Err no_memory) ⊎ (IsPossible (seen text_of_bytes r) × IsDecided (seen text_of_bytes r) × PlannedPartial name (Ok (record { part = part; text = text })) (seen text_of_bytes r))
+    → (seen bytes_answer r ≡ Err no_memory) ⊎ (IsPossible (seen bytes_answer r) × IsDecided (seen bytes_answer r) × PlannedPartial name (Ok (record { part = part; text = text })) (seen bytes_answer r))
 partial_ended name part text plan (Ok end) is ok err = inr (tt, tt, ok text is)
 partial_ended name part text plan (Err x) is ok (inl none) = inl (ap Err none)
 partial_ended name part text plan (Err x) is ok (inr h) = inr (decided (h text is))

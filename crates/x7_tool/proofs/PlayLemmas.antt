@@ -10,14 +10,14 @@ use Rattle.x7_engine.specs.Standing.{DeviceState}
 use Rattle.x7_engine.specs.State.{why_of, memory_in, reads_of, state_of, stop_in}
 use Rattle.x7_engine.specs.Stop.{stop_fault}
 use Rattle.x7_report.specs.Reports.{PlayTextState, report_text}
-use Rattle.x7_forms.specs.Event.{Event, no_memory, too_many_reads}
+use Rattle.x7_forms.specs.Event.{Event, event_of, no_memory, too_many_reads}
 use Rattle.x7_forms.specs.Known.{Answer, reads_limit}
-use Rattle.x7_forms.specs.Message.{event_of}
-use Rattle.x7_playing.specs.Playing.{HasPlayed, IsPlayed}
+use Rattle.x7_playing.specs.Playing.{HasPlayed}
+use Rattle.x7_playing.proofs.PlayLemmas.{IsPlayed}
 use Rattle.x7_forms.specs.Step.{IsDecided, IsPossible, seen}
 use Rattle.x7_playing.specs.declared.player.Player.{Player}
 use Rattle.x7_forms.specs.declared.refusal.Refusal.{Refusal}
-use Rattle.x7_tool.specs.Play.{report_of, reported, text_of_play}
+use Rattle.x7_tool.specs.Play.{report_of, reported, play_answer}
 
 pub reported_over : (part : PartData) (bytes : List ℕ) → reads_limit < length (reads_of part on_the_bench bytes) → reported part bytes ≡ Err too_many_reads
 unfolding reported
@@ -29,7 +29,7 @@ pub reported_is : (part : PartData) (bytes : List ℕ) (d : DeviceState) (reads 
     → text ≡ report_text part (state_of part on_the_bench false p.prefix) reads (memory_in part on_the_bench p.prefix) → reported part bytes ≡ Ok (record { stopped = stopped; text = text })
 unfolding reported
 reported_is part bytes d reads text fault stopped p f s t =
-    let few : length (reads_of part on_the_bench bytes) ≤ reads_limit = subst (λ x. length x ≤ reads_limit) p.reads_are p.few in
+    let few : length (reads_of part on_the_bench bytes) ≤ reads_limit = subst (λ x. length x ≤ reads_limit) p.reads_are p.within_limit in
     let short : nat_lt reads_limit (length (reads_of part on_the_bench bytes)) ≡ false = grind (arith, few, nat_tests) in
     let stop : is_some (stop_fault (why_of (stop_in part on_the_bench bytes))) ≡ stopped = ap (λ x. is_some (stop_fault (why_of x))) p.stop ∙ sym (ap is_some f) ∙ sym s in
     let memory : FrameMap = memory_in part on_the_bench bytes in
@@ -40,9 +40,9 @@ reported_is part bytes d reads text fault stopped p f s t =
     rw short (ap Ok answer)
 
 -- the text of a play, or why there is none
-pub text_ends : (part : PartData) (bytes : List ℕ) (p : Player) (r : Result PlayTextState Refusal) → HasPlayed part bytes p → IfOk r (λ text. (part : PartData) (bytes : List ℕ) → HasPlayed part bytes p → reported part bytes ≡ Ok (text_of_play text))
+pub text_ends : (part : PartData) (bytes : List ℕ) (p : Player) (r : Result PlayTextState Refusal) → HasPlayed part bytes p → IfOk r (λ text. (part : PartData) (bytes : List ℕ) → HasPlayed part bytes p → reported part bytes ≡ Ok (play_answer text))
     → IfErr r (λ x. (event_of x ≡ no_memory) ⊎ ((event_of x ≡ too_many_reads) × ((part : PartData) (bytes : List ℕ) → HasPlayed part bytes p → reported part bytes ≡ Err too_many_reads)))
-    → (seen text_of_play r ≡ Err no_memory) ⊎ (IsPossible (seen text_of_play r) × IsDecided (seen text_of_play r) × (reported part bytes ≡ seen text_of_play r))
+    → (seen play_answer r ≡ Err no_memory) ⊎ (IsPossible (seen play_answer r) × IsDecided (seen play_answer r) × (reported part bytes ≡ seen play_answer r))
 text_ends part bytes p (Ok text) h ok err = inr (tt, tt, ok part bytes h)
 text_ends part bytes p (Err x) h ok (inl e) = inl (ap (λ (event : Event). Err event) e)
 text_ends part bytes p (Err x) h ok (inr (e, many)) = inr (subst (λ (event : Event). IsPossible {A = Answer} (Err event)) (sym e) tt, subst (λ (event : Event). IsDecided {A = Answer} (Err event)) (sym e) tt, many part bytes h ∙ ap (λ (event : Event). Err event) (sym e))

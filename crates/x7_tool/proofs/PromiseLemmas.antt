@@ -33,9 +33,9 @@ use Rattle.x7_effects.proofs.LawLemmas.{full_law, partial_law, read_law}
 use Rattle.x7_forms.specs.declared.bad_input.InputFault.TheVariants as input
 use Rattle.x7_forms.specs.Event.{Event, bad_input, too_many_reads}
 use Rattle.x7_forms.specs.Form.{AskedForm, Booting, Generating, Imaging, ImagingFor, PlanningFull, PlanningPartial, PlanningRead, Playing, PlayingSvf}
-use Rattle.x7_forms.specs.Known.{Answer, Found, Held, Known, and_so, data_of, part_by, part_limit, part_of, reads_limit, stream_limit, whole_in}
+use Rattle.x7_forms.specs.Known.{Answer, Found, Held, Known, and_so, streams_known, part_by, part_limit, part_known, reads_limit, stream_limit, whole_known}
 use Rattle.x7_tool.specs.Play.{report_of, reported}
-use Rattle.x7_tool.specs.Outcome.{BootedAs, IsBootText, FlashBoots, FormGives, ImageStreams, PlanTexts, PlannedFull, PlannedPartial, PlannedRead, PlayedSvf, gen_answer, has_failed, image_by, image_streams, plan_texts, text_limit}
+use Rattle.x7_tool.specs.Outcome.{BootedAs, IsBootText, FlashBoots, FormGives, ImageStreams, PartAndText, PlannedFull, PlannedPartial, PlannedRead, PlayedSvf, gen_answer, has_failed, image_by, image_streams, part_and_text, text_limit}
 use Rattle.x7_tool.specs.Promise.{BootsFromOpen, HoldsOpen, PromiseOf, PromisesFull, PromisesImage, PromisesImageFor, PromisesPartial, PromisesPlayed, PromisesPort, PromisesRead, PromisesStart, PromisesSummary, StartsChecked}
 use Rattle.x7_tool.proofs.GenerateLemmas.{generated_plays, planned_is}
 
@@ -54,21 +54,21 @@ part_whole : (name : List ℕ) (p : PartData) (whole : Result (List ℕ) Event) 
 part_whole name p (Ok text) h = part_read name text p (part_in text) refl h
 part_whole name p (Err event) h = absurd (cc)
 
-part_is : (known : Known) (name : List ℕ) (p : PartData) → part_of known name ≡ Ok p → IsPart p
-part_is known name p h = part_whole name p (whole_in known part_limit name) h
+part_is : (known : Known) (name : List ℕ) (p : PartData) → part_known known name ≡ Ok p → IsPart p
+part_is known name p h = part_whole name p (whole_known known part_limit name) h
 
-part_of_texts : (texts : PlanTexts) → PartData
+part_of_texts : (texts : PartAndText) → PartData
 part_of_texts texts = texts.part
 
-texts_by : (part : Result PartData Event) (whole : Result (List ℕ) Event) (texts : PlanTexts) → and_so part (λ p. and_so whole (λ text. Ok (record { part = p; text = text }))) ≡ Ok texts → part ≡ Ok texts.part
+texts_by : (part : Result PartData Event) (whole : Result (List ℕ) Event) (texts : PartAndText) → and_so part (λ p. and_so whole (λ text. Ok (record { part = p; text = text }))) ≡ Ok texts → part ≡ Ok texts.part
 unfolding value_or part_of_texts
-texts_by (Ok p) (Ok text) texts h = ap (λ (r : Result PlanTexts Event). Ok (part_of_texts (value_or texts r))) h
+texts_by (Ok p) (Ok text) texts h = ap (λ (r : Result PartAndText Event). Ok (part_of_texts (value_or texts r))) h
 texts_by (Ok p) (Err event) texts h = absurd (cc)
 texts_by (Err event) whole texts h = absurd (cc)
 
 -- ---- what each form promises
 
-full_promised : (known : Known) (part frames : List ℕ) (read : Result PlanTexts Event) (answer : Answer) → plan_texts known part frames ≡ read → PlannedFull frames read (Ok answer) → PromisesFull known part frames answer.text
+full_promised : (known : Known) (part frames : List ℕ) (read : Result PartAndText Event) (answer : Answer) → part_and_text known part frames ≡ read → PlannedFull frames read (Ok answer) → PromisesFull known part frames answer.text
 full_promised known part frames (Err event) answer e p = absurd (cc)
 full_promised known part frames (Ok texts) answer e p = record {
   texts = texts;
@@ -76,12 +76,12 @@ full_promised known part frames (Ok texts) answer e p = record {
   read = e;
   planned = p.2;
   plays = λ kept bytes fits rests.
-      let is : IsPart texts.part = part_is known part texts.part (texts_by (part_of known part) (whole_in known text_limit frames) texts e) in
+      let is : IsPart texts.part = part_is known part texts.part (texts_by (part_known known part) (whole_known known text_limit frames) texts e) in
       subst (λ (stream : List ℕ). PlaysFull (device_after texts.part kept bytes) stream p.1) (sym p.3)
       (full_law texts.part kept bytes p.1 fits rests is p.2.is_plan p.2.width (All-permutation (λ row. Contains (addresses_in texts.part) row.far) p.2.rows p.1.rows p.2.same p.2.good.addresses));
 }
 
-partial_promised : (known : Known) (part frames : List ℕ) (read : Result PlanTexts Event) (answer : Answer) → plan_texts known part frames ≡ read → PlannedPartial frames read (Ok answer) → PromisesPartial known part frames answer.text
+partial_promised : (known : Known) (part frames : List ℕ) (read : Result PartAndText Event) (answer : Answer) → part_and_text known part frames ≡ read → PlannedPartial frames read (Ok answer) → PromisesPartial known part frames answer.text
 partial_promised known part frames (Err event) answer e p = absurd (cc)
 partial_promised known part frames (Ok texts) answer e p = record {
   texts = texts;
@@ -89,12 +89,12 @@ partial_promised known part frames (Ok texts) answer e p = record {
   read = e;
   planned = p.2;
   plays = λ kept bytes fits rests.
-      let is : IsPart texts.part = part_is known part texts.part (texts_by (part_of known part) (whole_in known text_limit frames) texts e) in
+      let is : IsPart texts.part = part_is known part texts.part (texts_by (part_known known part) (whole_known known text_limit frames) texts e) in
       subst (λ (stream : List ℕ). PlaysPartial (device_after texts.part kept bytes) stream p.1) (sym p.4)
       (partial_law texts.part kept bytes p.1 fits rests is p.2.is_plan p.2.width (All-permutation (λ row. Contains (addresses_in texts.part) row.far) p.2.rows p.1.rows p.2.same p.2.good.addresses));
 }
 
-read_promised : (known : Known) (part : List ℕ) (far n : ℕ) (read : Result PartData Event) (answer : Answer) → part_of known part ≡ read → PlannedRead part far n read (Ok answer) → PromisesRead known part far n answer.text
+read_promised : (known : Known) (part : List ℕ) (far n : ℕ) (read : Result PartData Event) (answer : Answer) → part_known known part ≡ read → PlannedRead part far n read (Ok answer) → PromisesRead known part far n answer.text
 read_promised known part far n (Err event) answer e p = absurd (cc)
 read_promised known part far n (Ok device) answer e p = record {
   device = device;
@@ -103,7 +103,7 @@ read_promised known part far n (Ok device) answer e p = record {
       subst (λ (stream : List ℕ). PlaysRead (device_after device kept bytes) stream far n) (sym p.2) (read_law device kept bytes far n fits rests (part_is known part device e) p.1);
 }
 
-summary_promised : (known : Known) (part : List ℕ) (seed : ℕ) (read : Result PartData Event) (answer : Answer) → part_of known part ≡ read → and_so read (λ p. Ok (gen_answer p seed)) ≡ Ok answer → PromisesSummary known part seed answer.text
+summary_promised : (known : Known) (part : List ℕ) (seed : ℕ) (read : Result PartData Event) (answer : Answer) → part_known known part ≡ read → and_so read (λ p. Ok (gen_answer p seed)) ≡ Ok answer → PromisesSummary known part seed answer.text
 unfolding value_or
 summary_promised known part seed (Err event) answer e p = absurd (cc)
 summary_promised known part seed (Ok device) answer e p = record {
@@ -138,7 +138,7 @@ opened_known known name part o answer h holds =
     let here : IsBootText o.part o.flash answer = subst (λ (p : PartData). IsBootText p o.flash answer) (sym holds.part_is) boot in
     record { boot = here; comes = boots_open o holds.opened (course_along here.last here.older here.end) (record { older = here.older; leads = here.leads; attempts_are = refl }) }
 
-start_promised : (known : Known) (part flash : List ℕ) (read : Result PartData Event) (answer : Answer) → part_of known part ≡ read → BootedAs flash read (known.flash flash) (Ok answer) → PromisesStart known part flash answer
+start_promised : (known : Known) (part flash : List ℕ) (read : Result PartData Event) (answer : Answer) → part_known known part ≡ read → BootedAs flash read (known.flash flash) (Ok answer) → PromisesStart known part flash answer
 start_promised known part flash (Err event) answer e p = absurd (cc)
 start_promised known part flash (Ok device) answer e p = record {
   device = device;
@@ -158,7 +158,7 @@ reported_is : (part : PartData) (bytes : List ℕ) (answer : Answer) → reporte
 unfolding reported
 reported_is part bytes answer h = report_by (nat_lt reads_limit (length (reads_of part on_the_bench bytes))) too_many_reads (report_of part bytes) answer h
 
-play_promised : (known : Known) (part : List ℕ) (streams : List (List ℕ)) (p : Result PartData Event) (d : Result (List ℕ) Event) (answer : Answer) → part_of known part ≡ p → data_of known stream_limit streams ≡ d
+play_promised : (known : Known) (part : List ℕ) (streams : List (List ℕ)) (p : Result PartData Event) (d : Result (List ℕ) Event) (answer : Answer) → part_known known part ≡ p → streams_known known stream_limit streams ≡ d
     → and_so p (λ q. and_so d (reported q)) ≡ Ok answer → PromisesPlayed known part streams answer
 play_promised known part streams (Err event) d answer e f h = absurd (cc)
 play_promised known part streams (Ok q) (Err event) answer e f h = absurd (cc)
@@ -175,13 +175,13 @@ taken_fits part statements =
     let fits : AreBytes p.queue.given = all_prefix (λ b. b < 256) p.queue.given p.queue.held sound.fits in
     all_prefix (λ b. b < 256) (take n p.queue.given) (drop n p.queue.given) (subst AreBytes (sym (take-append-drop n p.queue.given)) fits)
 
-port_promised : (known : Known) (part text : List ℕ) (read : Result PlanTexts Event) (answer : Answer) → plan_texts known part text ≡ read → PlayedSvf text read (Ok answer) → PromisesPort known part text answer
+port_promised : (known : Known) (part text : List ℕ) (read : Result PartAndText Event) (answer : Answer) → part_and_text known part text ≡ read → PlayedSvf text read (Ok answer) → PromisesPort known part text answer
 port_promised known part text (Err event) answer e p = absurd (cc)
 port_promised known part text (Ok texts) answer e p = record {
   texts = texts;
   statements = p.0;
   read = e;
-  has = p.1;
+  has_statements = p.1;
   shows = sym p.2;
   checked = λ late. checked texts.part on_the_bench false (bytes_taken texts.part (port_played texts.part p.0)) (taken_fits texts.part p.0) late;
 }
@@ -204,20 +204,20 @@ image_promised : (known : Known) (golden update : List ℕ) (s : Result ImageStr
 image_promised known golden update (Err event) answer e h = absurd (cc)
 image_promised known golden update (Ok s) answer e h = record { streams = s; read = e; boots = λ device more part unit. image_has_streams update 1 s device answer more part unit h }
 
-image_for_promised : (known : Known) (part golden update : List ℕ) (p : Result PartData Event) (s : Result ImageStreams Event) (answer : Answer) → part_of known part ≡ p → image_streams known golden update ≡ s
+image_for_promised : (known : Known) (part golden update : List ℕ) (p : Result PartData Event) (s : Result ImageStreams Event) (answer : Answer) → part_known known part ≡ p → image_streams known golden update ≡ s
     → and_so p (λ p. and_so s (image_by update p.start_unit)) ≡ Ok answer → PromisesImageFor known part golden update answer.text
 image_for_promised known part golden update (Err event) s answer e f h = absurd (cc)
 image_for_promised known part golden update (Ok p) (Err event) answer e f h = absurd (cc)
 image_for_promised known part golden update (Ok p) (Ok s) answer e f h = record { device = p; streams = s; part_read = e; read = f; boots = λ more. image_has_streams update p.start_unit s p answer more (part_is known part p e) refl h }
 
 pub promised : (known : Known) (form : AskedForm) (answer : Answer) → FormGives known form (Ok answer) → PromiseOf known form answer
-promised known (PlanningFull part frames) answer a = full_promised known part frames (plan_texts known part frames) answer refl a
-promised known (PlanningPartial part frames) answer a = partial_promised known part frames (plan_texts known part frames) answer refl a
-promised known (PlanningRead part far n) answer a = read_promised known part far n (part_of known part) answer refl a
-promised known (Generating part seed) answer a = summary_promised known part seed (part_of known part) answer refl a
-promised known (Playing part streams) answer a = play_promised known part streams (part_of known part) (data_of known stream_limit streams) answer refl refl a
-promised known (PlayingSvf part text) answer a = port_promised known part text (plan_texts known part text) answer refl a
+promised known (PlanningFull part frames) answer a = full_promised known part frames (part_and_text known part frames) answer refl a
+promised known (PlanningPartial part frames) answer a = partial_promised known part frames (part_and_text known part frames) answer refl a
+promised known (PlanningRead part far n) answer a = read_promised known part far n (part_known known part) answer refl a
+promised known (Generating part seed) answer a = summary_promised known part seed (part_known known part) answer refl a
+promised known (Playing part streams) answer a = play_promised known part streams (part_known known part) (streams_known known stream_limit streams) answer refl refl a
+promised known (PlayingSvf part text) answer a = port_promised known part text (part_and_text known part text) answer refl a
 promised known (Imaging golden update) answer a = image_promised known golden update (image_streams known golden update) answer refl a
-promised known (ImagingFor part golden update) answer a = image_for_promised known part golden update (part_of known part) (image_streams known golden update) answer refl refl a
-promised known (Booting part flash) answer a = start_promised known part flash (part_of known part) answer refl a
+promised known (ImagingFor part golden update) answer a = image_for_promised known part golden update (part_known known part) (image_streams known golden update) answer refl refl a
+promised known (Booting part flash) answer a = start_promised known part flash (part_known known part) answer refl a
 promised known form answer a = tt

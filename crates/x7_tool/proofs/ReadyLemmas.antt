@@ -16,15 +16,14 @@ use Rattle.x7_report.specs.Reports.{PlayTextState}
 use Rattle.x7_forms.specs.declared.bad_input.InputFault.{InputFault}
 use Rattle.x7_forms.specs.declared.bad_input.InputFault.TheVariants as input
 use Rattle.x7_forms.specs.declared.refusal.Refusal.{Refusal}
-use Rattle.x7_forms.specs.Event.{Event, bad_input, no_memory}
+use Rattle.x7_forms.specs.Event.{Event, bad_input, event_of, no_memory}
 use Rattle.x7_forms.specs.Known.{Answer, and_so}
-use Rattle.x7_forms.specs.Message.{event_of}
 use Rattle.x7_forms.specs.Step.{IsDecided, IsPossible, seen}
 use Rattle.x7_forms.proofs.ReadLemmas.{Steady, so_steady, work_steady}
 use Rattle.x7_tool.specs.declared.text.Text.{Text}
-use Rattle.x7_tool.specs.Outcome.{DebugInputs, DebuggedAs, ImageStreams, PlanTexts, PlannedRead, PlayedSvf, image_by, image_streams, planner_event, script_event, stream_data, svf_event}
-use Rattle.x7_tool.specs.Play.{text_of_play}
-use Rattle.x7_tool.specs.Ready.{text_of_bytes, whole_of}
+use Rattle.x7_tool.specs.Outcome.{DebugInputs, DebuggedAs, ImageStreams, PartAndText, PlannedRead, PlayedSvf, image_by, image_streams, planner_event, script_event, stream_data, svf_event}
+use Rattle.x7_tool.specs.Play.{play_answer}
+use Rattle.x7_tool.specs.Ready.{bytes_answer, text_answer}
 use Rattle.x7_tool.proofs.DebugLemmas.{stream_steady}
 
 -- what a last step comes to, that reads nothing: want of memory, or an end that
@@ -47,7 +46,7 @@ want_seen view (Err e) h = ap (λ (event : Event). Err event) h.1
 
 -- ---- a text of a known answer
 
-pub made_due : (answer : Answer) (r : Result (Vec ℕ Global) Refusal) → IfOk r (λ t. text_of_bytes t ≡ answer) → IfErr r (λ x. event_of x ≡ no_memory) → EndsDue (λ got. Ok answer ≡ got) (seen text_of_bytes r)
+pub made_due : (answer : Answer) (r : Result (Vec ℕ Global) Refusal) → IfOk r (λ t. bytes_answer t ≡ answer) → IfErr r (λ x. event_of x ≡ no_memory) → EndsDue (λ got. Ok answer ≡ got) (seen bytes_answer r)
 made_due answer (Ok t) ok err = inr (tt, tt, ap (λ (a : Answer). Ok a) (sym ok))
 made_due answer (Err x) ok err = inl (ap (λ (e : Event). Err e) err)
 
@@ -59,8 +58,8 @@ read_fault_due name part far n event (planner.Foreign at) is e = bad_due (Planne
 read_fault_due name part far n event (planner.Range m) is e = bad_due (PlannedRead name far n (Ok part)) name input.Range event e (planner.Range m, is, e)
 read_fault_due name part far n event planner.NoMemory is e = want_due (PlannedRead name far n (Ok part)) event e
 
-pub read_due : (name : List ℕ) (part : PartData) (far n : ℕ) (r : Result (Vec ℕ Global) Refusal) → IfOk r (λ t. PlannedRead name far n (Ok part) (Ok (text_of_bytes t))) → IfErr r (λ x. (event_of x ≡ no_memory) ⊎ PlannedRead name far n (Ok part) (Err (event_of x)))
-    → EndsDue (PlannedRead name far n (Ok part)) (seen text_of_bytes r)
+pub read_due : (name : List ℕ) (part : PartData) (far n : ℕ) (r : Result (Vec ℕ Global) Refusal) → IfOk r (λ t. PlannedRead name far n (Ok part) (Ok (bytes_answer t))) → IfErr r (λ x. (event_of x ≡ no_memory) ⊎ PlannedRead name far n (Ok part) (Err (event_of x)))
+    → EndsDue (PlannedRead name far n (Ok part)) (seen bytes_answer r)
 read_due name part far n (Ok t) ok err = inr (tt, tt, ok)
 read_due name part far n (Err x) ok (inl e) = inl (ap (λ (event : Event). Err event) e)
 read_due name part far n (Err x) ok (inr h) = read_fault_due name part far n (event_of x) h.0 h.1 h.2
@@ -71,20 +70,20 @@ script_due : (name : List ℕ) (d : DebugInputs) (event : Event) (fault : Script
 script_due name d event (script.Line line) is e = bad_due (DebuggedAs name (Ok d)) name (input.Line line) event e (script.Line line, (is, e))
 script_due name d event script.NoMemory is e = want_due (DebuggedAs name (Ok d)) event e
 
-pub debug_due : (name : List ℕ) (d : DebugInputs) (r : Result Text Refusal) → IfOk r (λ t. DebuggedAs name (Ok d) (Ok (whole_of t))) → IfErr r (λ x. (event_of x ≡ no_memory) ⊎ DebuggedAs name (Ok d) (Err (event_of x)))
-    → EndsDue (DebuggedAs name (Ok d)) (seen whole_of r)
+pub debug_due : (name : List ℕ) (d : DebugInputs) (r : Result Text Refusal) → IfOk r (λ t. DebuggedAs name (Ok d) (Ok (text_answer t))) → IfErr r (λ x. (event_of x ≡ no_memory) ⊎ DebuggedAs name (Ok d) (Err (event_of x)))
+    → EndsDue (DebuggedAs name (Ok d)) (seen text_answer r)
 debug_due name d (Ok t) ok err = inr (tt, tt, ok)
 debug_due name d (Err x) ok (inl e) = inl (ap (λ (event : Event). Err event) e)
 debug_due name d (Err x) ok (inr h) = script_due name d (event_of x) h.0 h.1.0 h.1.1
 
 -- ---- an SVF text
 
-svf_fault_due : (name : List ℕ) (texts : PlanTexts) (event : Event) (fault : SvfFault) → IsSvfOf texts.text (Err fault) → svf_event name fault ≡ event → EndsDue (PlayedSvf name (Ok texts)) (Err event)
+svf_fault_due : (name : List ℕ) (texts : PartAndText) (event : Event) (fault : SvfFault) → IsSvfOf texts.text (Err fault) → svf_event name fault ≡ event → EndsDue (PlayedSvf name (Ok texts)) (Err event)
 svf_fault_due name texts event (svf.Line line) is e = bad_due (PlayedSvf name (Ok texts)) name (input.Line line) event e (svf.Line line, is, e)
 svf_fault_due name texts event svf.NoMemory is e = want_due (PlayedSvf name (Ok texts)) event e
 
-pub svf_due : (name : List ℕ) (texts : PlanTexts) (r : Result PlayTextState Refusal) → IfOk r (λ t. PlayedSvf name (Ok texts) (Ok (text_of_play t))) → IfErr r (λ x. (event_of x ≡ no_memory) ⊎ PlayedSvf name (Ok texts) (Err (event_of x)))
-    → EndsDue (PlayedSvf name (Ok texts)) (seen text_of_play r)
+pub svf_due : (name : List ℕ) (texts : PartAndText) (r : Result PlayTextState Refusal) → IfOk r (λ t. PlayedSvf name (Ok texts) (Ok (play_answer t))) → IfErr r (λ x. (event_of x ≡ no_memory) ⊎ PlayedSvf name (Ok texts) (Err (event_of x)))
+    → EndsDue (PlayedSvf name (Ok texts)) (seen play_answer r)
 svf_due name texts (Ok t) ok err = inr (tt, tt, ok)
 svf_due name texts (Err x) ok (inl e) = inl (ap (λ (event : Event). Err event) e)
 svf_due name texts (Err x) ok (inr h) = svf_fault_due name texts (event_of x) h.0 h.1 h.2
@@ -102,8 +101,8 @@ too_long_due : (name : List ℕ) (event : Event) (answer : Answer) (large : Bool
 too_long_due name event answer true e = let same : bad_input name input.Image ≡ event = cc in bad_due (λ got. Err (bad_input name input.Image) ≡ got) name input.Image event same e
 too_long_due name event answer false e = absurd cc
 
-pub image_due : (name : List ℕ) (unit : ℕ) (s : ImageStreams) (r : Result (Vec ℕ Global) Refusal) → IfOk r (λ t. image_by name unit s ≡ Ok (text_of_bytes t)) → IfErr r (λ x. (event_of x ≡ no_memory) ⊎ (image_by name unit s ≡ Err (event_of x)))
-    → EndsDue (λ got. image_by name unit s ≡ got) (seen text_of_bytes r)
+pub image_due : (name : List ℕ) (unit : ℕ) (s : ImageStreams) (r : Result (Vec ℕ Global) Refusal) → IfOk r (λ t. image_by name unit s ≡ Ok (bytes_answer t)) → IfErr r (λ x. (event_of x ≡ no_memory) ⊎ (image_by name unit s ≡ Err (event_of x)))
+    → EndsDue (λ got. image_by name unit s ≡ got) (seen bytes_answer r)
 image_due name unit s (Ok t) ok err = inr (tt, tt, ok)
 image_due name unit s (Err x) ok (inl e) = inl (ap (λ (event : Event). Err event) e)
 image_due name unit s (Err x) ok (inr h) = too_long_due name (event_of x) _ _ h

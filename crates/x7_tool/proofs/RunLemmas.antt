@@ -3,7 +3,7 @@ use Rattle.std.proofs.Common.{◌≡◌, ◌≤◌, arith, length, ℕ, List, Bo
 use Rattle.std.specs.Prelude.{nat_lt}
 use Rattle.std.proofs.lemmas.Bool.Decides.{nat_tests}
 use Rattle.x7_words.specs.Flash.{FlashState}
-use Rattle.x7_words.specs.Input.{InputsState}
+use Rattle.x7_words.specs.Input.{AsksFew, InputsState, InputsStay}
 use Rattle.x7_words.specs.Sink.{SinkState, PutsSome}
 use Rattle.x7_listing.specs.Assembly.{IsAsm}
 use Rattle.x7_listing.proofs.OutcomeLemmas.{one_outcome}
@@ -16,17 +16,18 @@ use Rattle.x7_mcs.proofs.SizeLemmas.{text_short}
 use Rattle.x7_forms.specs.declared.status.Status.{Status}
 use Rattle.x7_forms.specs.declared.status.Status.TheVariants as status
 use Rattle.x7_forms.specs.Event.{Event, Cause, Wording, Want, Fault, Absence, Break, Contents, Difference, cause_of_event, no_memory, status_of_event, usage, writing_failed}
-use Rattle.x7_forms.specs.Form.{AskedForm, Assembling, FlashUse, FromMcs, Unused, flash_use, listed_by, names_used, updated_by}
-use Rattle.x7_forms.specs.Message.{final_status, text_status}
-use Rattle.x7_forms.specs.Known.{Answer, Failing, Known, Lacking, Mishap, mishap_event, and_so, found, known_of, taken_whole, whole_in, with_inputs, within}
+use Rattle.x7_forms.specs.Form.{AskedForm, Assembling, FlashUse, FromMcs, Unused, flash_use, listed_by, names_of, names_used, updated_by}
+use Rattle.x7_forms.specs.Status.{final_status, text_status}
+use Rattle.x7_forms.specs.Known.{Answer, Failing, Known, Lacking, Mishap, mishap_event, and_so, input_found, known_of, taken_whole, whole_known, with_inputs, if_within}
 use Rattle.x7_forms.specs.Step.{Among, DecidedBy, IsCausedBy, IsDue, IsFromOutside, PossibleBy}
 use Rattle.x7_tool.specs.Ahead.{StaysNear, StaysNearIn}
 use Rattle.x7_tool.specs.Leaving.{Updates}
 use Rattle.x7_tool.specs.Outcome.{AssembledAs, FormGives, IsOutcome, mcs_image, text_limit}
-use Rattle.x7_tool.specs.Outside.{Came, IsQuiet, KeepsFlash, Outside, known_in}
+use Rattle.x7_tool.specs.Outside.{Came, IsQuiet, KeepsFlash, Outside, known_in, sources}
 use Rattle.x7_tool.specs.Promise.{Promise}
-use Rattle.x7_tool.specs.Run.{Agrees, AnswersForm, AnswersOver, CausedBy, EndIsCaused, Ends, EndsAs, FailsLast, GetsBy, GetsPrefix, Happens, IsMeasured, LeavesBy, LeftAtBreak, LeftBy, Puts}
-use Rattle.x7_tool.specs.Runs.{TextsLeadBack, RanAs, Runs}
+use Rattle.x7_tool.specs.Run.{GivesIfKnown, AnswersForm, AnswersOver, CausedBy, EndIsCaused, Ends, EndsAs, FailsLast, GetsBy, GetsPrefix, ReportsMishap, IsMeasured, JudgesFlash, LeavesBy, LeftAtBreak, LeftBy, PutsAnswer, SaysEnd}
+use Rattle.x7_tool.specs.Runs.{TextsLeadBack, Runs}
+use Rattle.x7_tool.specs.Stopping.{Stops}
 use Rattle.x7_tool.proofs.FlashLemmas.{answers_over, not_fault, not_large}
 use Rattle.x7_tool.proofs.PromiseLemmas.{promised}
 
@@ -52,7 +53,7 @@ event_by known form old new event Fault k q h = absurd (never_came form old new 
 event_by known form old new event Absence k q (inl h) = absurd (never_came form old new h.mishap q h.came)
 event_by known form old new event Absence k q (inr h) = inr (rw k at h)
 event_by known form old new event Break k q h = elim h.1 [ inl fails ↦ absurd (q.2 fails) | inr fails ↦ absurd (q.3 fails.0) ]
-event_by known form old new event Difference k q h = let agrees : Agrees (known_in old) form (Err event) = h.1 in inr (rw k at agrees)
+event_by known form old new event Difference k q h = let agrees : GivesIfKnown (known_in old) form (Err event) = h.1 in inr (rw k at agrees)
 event_by known form old new event Contents k q h = inr (rw k at h)
 
 -- the end is the outcome or want of memory
@@ -83,13 +84,13 @@ is_ok (Ok a) = true
 is_ok (Err event) = false
 
 -- an event of a mishap, by that
-mishap_cause : (m : Mishap) (form : AskedForm) (old new : Outside) (event : Event) → mishap_event m ≡ event → Happens form old new event → CausedBy (cause_of_event event) form old new event
+mishap_cause : (m : Mishap) (form : AskedForm) (old new : Outside) (event : Event) → mishap_event m ≡ event → ReportsMishap form old new event → CausedBy (cause_of_event event) form old new event
 mishap_cause (Failing name given) form old new event e h = subst (λ (c : Cause). CausedBy c form old new event) (ap cause_of_event e) h
 mishap_cause (Lacking name) form old new event e h = subst (λ (c : Cause). CausedBy c form old new event) (ap cause_of_event e) (inl h)
 
 outside_cause : (form : AskedForm) (old new : Outside) (event : Event) → IsFromOutside {A = Answer} (known_in old) (Came (Some form) old new) (λ t end. FormGives t form end) (Err event) → CausedBy (cause_of_event event) form old new event
 outside_cause form old new event (inl e) = subst (λ (x : Event). CausedBy (cause_of_event x) form old new x) (sym e) refl
-outside_cause form old new event (inr h) = mishap_cause h.mishap form old new event h.is h
+outside_cause form old new event (inr h) = mishap_cause h.mishap form old new event h.reports h
 
 known_cause : (cause : Cause) (known : Known) (form : AskedForm) (old new : Outside) (event : Event) → known_in old ≡ Some known → DecidedBy cause → FormGives known form (Err event) → CausedBy cause form old new event
 known_cause Absence known form old new event k d h = inr (rw k h)
@@ -115,7 +116,7 @@ has_cause form old new got (inr h) = due_cause (known_in old) form old new got r
 -- ---- texts that lead back
 
 -- a text within its limit
-within_limit : (name text : List ℕ) (limit : ℕ) → length text ≤ limit → within name limit text ≡ Ok text
+within_limit : (name text : List ℕ) (limit : ℕ) → length text ≤ limit → if_within name limit text ≡ Ok text
 within_limit name text limit h = let short : nat_lt limit (length text) ≡ false = grind (arith, h, nat_tests) in rw short refl
 
 asm_back : (name text bytes : List ℕ) (end : Result Answer Event) → IsAsm text (Ok bytes) → AssembledAs name (Ok text) end → end ≡ Ok (record { stopped = false; text = bytes })
@@ -138,13 +139,13 @@ form_back : (form : AskedForm) (old new : Outside) (s : Status) (end : Result An
 form_back (Assembling name) old new s end outcome = λ bytes text fits short listed has quiet.
     let known : Known = known_of has.0 old.flash.bytes in
     let is : known_in old ≡ Some known = ap (λ (i : Option (List ℕ → Option (List ℕ))). with_inputs i old.flash.bytes) has.1.0 in
-    let whole : whole_in known text_limit name ≡ Ok text = ap (λ (i : Option (List ℕ)). taken_whole name text_limit (found i)) has.1.1 ∙ within_limit name text text_limit (omega (arith, short, stream_short bytes text fits listed)) in
+    let whole : whole_known known text_limit name ≡ Ok text = ap (λ (i : Option (List ℕ)). taken_whole name text_limit (input_found i)) has.1.1 ∙ within_limit name text text_limit (omega (arith, short, stream_short bytes text fits listed)) in
     leads_back s (Assembling name) known end (Ok (record { stopped = false; text = bytes })) (outcome known is quiet)
     (λ h. asm_back name text bytes end (stream_back bytes text fits short listed) (subst (λ (r : Result (List ℕ) Event). AssembledAs name r end) whole h))
 form_back (FromMcs name) old new s end outcome = λ bytes fits short has quiet.
     let known : Known = known_of has.0 old.flash.bytes in
     let is : known_in old ≡ Some known = ap (λ (i : Option (List ℕ → Option (List ℕ))). with_inputs i old.flash.bytes) has.1.0 in
-    let whole : whole_in known text_limit name ≡ Ok (mcs_text bytes) = ap (λ (i : Option (List ℕ)). taken_whole name text_limit (found i)) has.1.1 ∙ within_limit name (mcs_text bytes) text_limit (omega (arith, short, text_short bytes)) in
+    let whole : whole_known known text_limit name ≡ Ok (mcs_text bytes) = ap (λ (i : Option (List ℕ)). taken_whole name text_limit (input_found i)) has.1.1 ∙ within_limit name (mcs_text bytes) text_limit (omega (arith, short, text_short bytes)) in
     leads_back s (FromMcs name) known end (Ok (record { stopped = false; text = bytes })) (outcome known is quiet)
     (λ h. mcs_back name (mcs_text bytes) bytes end (text_gives bytes fits short) (sym (ap (λ (r : Result (List ℕ) Event). and_so r (λ text. mcs_image name (mcs_of text))) whole) ∙ h))
 form_back form old new s end outcome = tt
@@ -155,7 +156,7 @@ back_is (Some form) old new s end outcome = form_back form old new s end outcome
 
 -- ---- promises
 
-promise_by : (known : Option Known) (form : AskedForm) (answer : Answer) → Agrees known form (Ok answer) → Promise known (Some form) (Ok answer)
+promise_by : (known : Option Known) (form : AskedForm) (answer : Answer) → GivesIfKnown known form (Ok answer) → Promise known (Some form) (Ok answer)
 promise_by None form answer h = tt
 promise_by (Some known) form answer h = promised known form answer h
 
@@ -175,6 +176,18 @@ promise_is (Some form) old new (Err event) h = no_promise (known_in old) (Some f
 
 -- ---- a run
 
+-- A command ended with this status, for a cause, and said why where there is no whole text. `Runs` follows from it, and
+-- from what the form does with its flash.
+pub record RanAs (form : Option AskedForm) (old new : Outside) (s : Status) : Type 0 where
+  pub end : Result Answer Event
+  pub ends_as : s ≡ final_status end
+  pub said : SaysEnd old.err new.err end
+  pub ends : Ends form old new end
+  pub stops : Stops form old.inputs new.inputs end
+  pub judges : JudgesFlash form (sources old.inputs old.flash) (sources new.inputs new.flash) end
+  pub asks : AsksFew old.inputs (length (names_of form)) new.inputs
+  pub stays : InputsStay old.inputs new.inputs
+
 -- how a command ended is what its run comes to
 pub runs : (form : Option AskedForm) (old new : Outside) (s : Status) → RanAs form old new s → KeepsFlash (flash_use form) old.flash new.flash → Runs form old new s
 runs form old new s r f =
@@ -191,7 +204,7 @@ runs form old new s r f =
       back = back_is form old new s r.end outcome;
       promise = promise_is form old new r.end r.ends.cause;
       measured = r.ends.measured;
-      last = r.ends.last;
+      fails_last = r.ends.fails_last;
       stops = r.stops;
       judges = r.judges;
       asks = r.asks;
@@ -209,7 +222,7 @@ leaves_all form cause old new event l n e = subst (λ (s : Option (List ℕ)). L
 
 outside_by : (known : Option Known) (C : Mishap → Type 0) (Due : Known → Result Answer Event → Type 0) (event : Event) → IsFromOutside {A = Answer} known C Due (Err event) → cause_of_event event ≡ Break → ⊥
 outside_by known C Due event (inl e) b = let c : Want ≡ Break = sym (ap cause_of_event e) ∙ b in absurd (cc)
-outside_by known C Due event (inr h) b = by h.mishap h.is
+outside_by known C Due event (inr h) b = by h.mishap h.reports
   where
     by : (m : Mishap) → mishap_event m ≡ event → ⊥
     by (Failing name given) e = let c : Fault ≡ Break = ap cause_of_event e ∙ b in absurd (cc)
@@ -229,7 +242,7 @@ no_break known C Due event (inl h) = outside_by known C Due event h
 no_break None C Due event (inr h) = open_by (cause_of_event event) h
 no_break (Some t) C Due event (inr h) = decided_by (cause_of_event event) h.0
 
-gets_by : (known : Option Known) (form : AskedForm) (answer : Answer) (old new : SinkState) → listed_by (Some form) ≡ None → Agrees known form (Ok answer) → PutsSome old answer.text new → GetsPrefix known form old new
+gets_by : (known : Option Known) (form : AskedForm) (answer : Answer) (old new : SinkState) → listed_by (Some form) ≡ None → GivesIfKnown known form (Ok answer) → PutsSome old answer.text new → GetsPrefix known form old new
 gets_by None form answer old new l h p = (answer.text, p)
 gets_by (Some known) form answer old new l h p = subst (λ (s : Option (List ℕ)). GetsBy s known form old new) (sym l) (answer, (h, p))
 
@@ -263,7 +276,7 @@ unfailed form old new (Ok answer) u = tt
 unfailed form old new (Err event) u = λ name a e at. absurd (subst (λ (x : FlashUse). Among (names_used x) name) u a)
 
 -- a form whose text is ready before any of it is written ends as it should where its text has its cause and was put
-puts_end : (form : AskedForm) (old new : Outside) (whole : Result Answer Event) (got : Result Bool Event) → listed_by (Some form) ≡ None → updated_by (Some form) ≡ None → IsMeasured (Some form) new.flash whole → FailsLast (Some form) old.inputs new.flash whole → AnswersOver form old new whole → Puts whole old.out new.out got
+puts_end : (form : AskedForm) (old new : Outside) (whole : Result Answer Event) (got : Result Bool Event) → listed_by (Some form) ≡ None → updated_by (Some form) ≡ None → IsMeasured (Some form) new.flash whole → FailsLast (Some form) old.inputs new.flash whole → AnswersOver form old new whole → PutsAnswer whole old.out new.out got
     → EndsAs (Some form) old new got
 puts_end form old new (Ok answer) (Ok stopped) l u m f c p = (
   answer.text,
@@ -272,7 +285,7 @@ puts_end form old new (Ok answer) (Ok stopped) l u m f c p = (
     wrote = p.1;
     near = near_all form (text_status stopped) old new l;
     measured = m;
-    last = tt;
+    fails_last = tt;
     updates = updates_none form old new (Ok (record { stopped = stopped; text = answer.text })) u;
   },
 )
@@ -283,7 +296,7 @@ puts_end form old new (Ok answer) (Err event) l u m f c p =
       wrote = subst (λ (x : Option (List ℕ)). LeftAtBreak x form old new) (sym u) (gets_by (known_in old) form answer old.out new.out l (has_cause form old new (Ok answer) c) p.2);
       near = near_all form status.WriteFault old new l;
       measured = not_large (Some form) new.flash writing_failed (λ r. absurd (cc));
-      last = not_fault (Some form) old.inputs new.flash writing_failed (λ r. absurd (cc));
+      fails_last = not_fault (Some form) old.inputs new.flash writing_failed (λ r. absurd (cc));
       updates = updates_none form old new (Err writing_failed) u;
     })
 puts_end form old new (Err event) (Ok stopped) l u m f c p = let e : true ≡ false = ap is_ok p.0 in absurd (cc)
@@ -294,16 +307,16 @@ puts_end form old new (Err event) (Err other) l u m f c p =
       wrote = leaves_all form (cause_of_event event) old new event l (no_break (known_in old) (Came (Some form) old new) (λ t end. FormGives t form end) event c) p.1;
       near = near_all form (status_of_event event) old new l;
       measured = m;
-      last = f;
+      fails_last = f;
       updates = updates_none form old new (Err event) u;
     })
 
 pub text_ends : (form : AskedForm) (old new : Outside) (whole : Result Answer Event) (got : Result Bool Event)
-    → streamed (listed_by (Some form)) (updated_by (Some form)) ≡ None → IsMeasured (Some form) new.flash whole → FailsLast (Some form) old.inputs new.flash whole → AnswersOver form old new whole → Puts whole old.out new.out got → EndsAs (Some form) old new got
+    → streamed (listed_by (Some form)) (updated_by (Some form)) ≡ None → IsMeasured (Some form) new.flash whole → FailsLast (Some form) old.inputs new.flash whole → AnswersOver form old new whole → PutsAnswer whole old.out new.out got → EndsAs (Some form) old new got
 text_ends form old new whole got n m f c p =
     puts_end form old new whole got (none_listed (listed_by (Some form)) (updated_by (Some form)) n) (none_updated (listed_by (Some form)) (updated_by (Some form)) n) m f c p
 
 -- a form that reads inputs alone ends as it should where its text has its cause and was put
 pub ready_ends : (form : AskedForm) (old new : Outside) (whole : Result Answer Event) (got : Result Bool Event)
-    → streamed (listed_by (Some form)) (updated_by (Some form)) ≡ None → flash_use (Some form) ≡ Unused → AnswersForm form old.inputs new.inputs whole → Puts whole old.out new.out got → EndsAs (Some form) old new got
+    → streamed (listed_by (Some form)) (updated_by (Some form)) ≡ None → flash_use (Some form) ≡ Unused → AnswersForm form old.inputs new.inputs whole → PutsAnswer whole old.out new.out got → EndsAs (Some form) old new got
 ready_ends form old new whole got l u c p = text_ends form old new whole got l (unmeasured form new.flash whole u) (unfailed form old.inputs new.flash whole u) (answers_over form old new whole (c old.flash.bytes)) p

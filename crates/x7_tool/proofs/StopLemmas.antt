@@ -7,13 +7,12 @@ use Rattle.x7_words.specs.Flash.{FlashState}
 use Rattle.x7_words.specs.Sink.{SinkState}
 use Rattle.x7_part.specs.Part.{PartData}
 use Rattle.x7_forms.specs.declared.refusal.Refusal.{Refusal}
-use Rattle.x7_forms.specs.Event.{Absence, Break, Cause, Contents, Difference, Event, Fault, Want, Wording, bad_input, cause_of_event, differs, missing, no_memory, reading_failed, too_large, too_many_reads, writing_failed}
+use Rattle.x7_forms.specs.Event.{Absence, Break, Cause, Contents, Difference, Event, Fault, Want, Wording, bad_input, cause_of_event, differs, event_of, missing, no_memory, reading_failed, too_large, too_many_reads, writing_failed}
 use Rattle.x7_forms.specs.declared.bad_input.InputFault.TheVariants as input
 use Rattle.x7_forms.specs.declared.refusal.Why.{Why}
 use Rattle.x7_forms.specs.declared.refusal.Why.TheVariants as why
 use Rattle.x7_forms.specs.Form.{AskedForm, Booting, Playing, Unused, UpdatingFlash, flash_names, flash_use}
 use Rattle.x7_forms.specs.Known.{Answer, part_limit, stream_limit}
-use Rattle.x7_forms.specs.Message.{event_of}
 use Rattle.x7_forms.specs.Step.{Among, seen}
 use Rattle.x7_forms.specs.ReadingStops.{IsAbout, Limited, StopsAmong, limited, limited_together}
 use Rattle.x7_forms.specs.Turn.{StandsAt}
@@ -30,11 +29,11 @@ use Rattle.x7_debug.specs.declared.fault.ScriptFault.{ScriptFault}
 use Rattle.x7_debug.specs.declared.fault.ScriptFault.TheVariants as script
 use Rattle.x7_svf.specs.declared.fault.SvfFault.{SvfFault}
 use Rattle.x7_svf.specs.declared.fault.SvfFault.TheVariants as svf
-use Rattle.x7_tool.specs.Outcome.{DebugInputs, DebuggedAs, PlanTexts, PlayedSvf, asm_event, frames_event, mcs_event, planner_event, script_event, svf_event, update_event}
+use Rattle.x7_tool.specs.Outcome.{DebugInputs, DebuggedAs, PartAndText, PlayedSvf, asm_event, frames_event, mcs_event, planner_event, script_event, svf_event, update_event}
 use Rattle.x7_update.specs.declared.fault.UpdateFault.{UpdateFault}
 use Rattle.x7_update.specs.declared.fault.UpdateFault.TheVariants as update
 use Rattle.x7_tool.specs.Outside.{Sources}
-use Rattle.x7_tool.specs.Run.{FlashComes, IsUnopened, IsUnusable, JudgesFlash, Puts}
+use Rattle.x7_tool.specs.Run.{FlashComes, IsUnopened, IsUnusable, JudgesFlash, PutsAnswer}
 use Rattle.x7_tool.proofs.FlashLemmas.{flash_open}
 use Rattle.x7_tool.specs.Stopping.{Stops, StopsBy, NamesItsStop, inputs_of}
 
@@ -77,7 +76,7 @@ pub debug_about : (name : List ℕ) (d : DebugInputs) (event : Event) → (event
 debug_about name d event (inl e) = inl e
 debug_about name d event (inr h) = about_by name event (script_event name h.0) (sym h.1.1) (script_about name h.0)
 
-pub svf_played_about : (name : List ℕ) (texts : PlanTexts) (event : Event) → (event ≡ no_memory) ⊎ PlayedSvf name (Ok texts) (Err event) → IsAbout name event
+pub svf_played_about : (name : List ℕ) (texts : PartAndText) (event : Event) → (event ≡ no_memory) ⊎ PlayedSvf name (Ok texts) (Err event) → IsAbout name event
 svf_played_about name texts event (inl e) = inl e
 svf_played_about name texts event (inr h) = about_by name event (svf_event name h.0) (sym h.2) (svf_about name h.0)
 
@@ -191,7 +190,7 @@ written_stops P Q form old now (Err x) h = put_stops form old now (event_of x) h
 -- ---- the words
 
 -- a text that is ready, or none, and how it was written
-pub puts_stop : (form : AskedForm) (first now : InputsState) (whole : Result Answer Event) (old new : SinkState) (got : Result Bool Event) → Stops (Some form) first now whole → Puts whole old new got → Stops (Some form) first now got
+pub puts_stop : (form : AskedForm) (first now : InputsState) (whole : Result Answer Event) (old new : SinkState) (got : Result Bool Event) → Stops (Some form) first now whole → PutsAnswer whole old new got → Stops (Some form) first now got
 puts_stop form first now (Err event) old new got s p = subst (λ (r : Result Bool Event). Stops (Some form) first now r) (sym p.0) s
 puts_stop form first now (Ok answer) old new (Ok stopped) s p = tt
 puts_stop form first now (Ok answer) old new (Err event) s p = subst (λ (x : Event). StopsBy (cause_of_event x) form first now x) (sym p.0) tt

@@ -17,7 +17,7 @@ use Rattle.x7_jtag.specs.Shown.{bytes_taken, fault_shown, memory_shown, state_sh
 use Rattle.x7_jtag.specs.Tap.{TapStandsFor, TapState}
 use Rattle.x7_jtag.proofs.LawLemmas.{shows_is}
 use Rattle.x7_tool.specs.Outcome.{svf_answer, svf_shown}
-use Rattle.x7_tool.specs.Play.{text_of_play}
+use Rattle.x7_tool.specs.Play.{play_answer}
 
 -- the port after the clocks that were played
 abbrev pub played_to : PartData → List Statement → Option Differ → Port
@@ -29,10 +29,10 @@ pub svf_is : (part : PartData) (statements : List Statement) (t : TapState) (d :
       stopped = stopped;
       text = report_text part (state_owing part on_the_bench false (bytes_taken part (played_to part statements differ)) (frames_due d.registers.due)) [] (memory_in part on_the_bench (bytes_taken part (played_to part statements differ)));
     }
-    → text ≡ record { stopped = report.stopped; text = line ++ report.text } → text_of_play text ≡ svf_answer part statements
+    → text ≡ record { stopped = report.stopped; text = line ++ report.text } → play_answer text ≡ svf_answer part statements
 svf_is part statements t d differ fault stopped line report text s e f b l r is =
     let p : Port = played_to part statements differ in
-    ap text_of_play is ∙ ap (λ (x : PlayTextState). record { stopped = x.stopped; text = line ++ x.text }) r
+    ap play_answer is ∙ ap (λ (x : PlayTextState). record { stopped = x.stopped; text = line ++ x.text }) r
     ∙ ap (λ (x : List ℕ). record { stopped = stopped; text = x ++ report_text part (state_owing part on_the_bench false (bytes_taken part p) (frames_due d.registers.due)) [] (memory_shown part p) }) l
     ∙ ap (λ (x : Regs). record { stopped = stopped; text = play_text differ ++ report_text part x [] (memory_shown part p) }) (shows_is part t d (clocks_played statements differ) s)
     ∙ ap (λ (x : Bool). record { stopped = x; text = play_text differ ++ report_text part (state_shown part p) [] (memory_shown part p) }) (b ∙ ap (λ (x : Option Fault). is_some differ || is_some x) f)

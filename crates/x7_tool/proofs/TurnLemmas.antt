@@ -14,12 +14,12 @@ use Rattle.x7_words.proofs.ListLemmas.{all_append, all_back}
 use Rattle.x7_forms.specs.Step.{CameIn, step_over}
 use Rattle.x7_words.proofs.InputLemmas.{preceded_preceded}
 use Rattle.x7_forms.specs.Event.{Event, reading_failed, too_large, writing_failed}
-use Rattle.x7_forms.specs.Known.{Mishap, found, stream_limit, with_inputs}
+use Rattle.x7_forms.specs.Known.{Mishap, input_found, stream_limit, with_inputs}
 use Rattle.x7_tool.specs.Run.{ListsSoFar}
 use Rattle.x7_tool.specs.Between.{Lists, ListsStream}
-use Rattle.x7_forms.specs.Turn.{IsAt, FollowsUnlessLast, Unread}
+use Rattle.x7_forms.specs.Turn.{FollowsUnlessLast, Unread}
 use Rattle.x7_tool.proofs.Causes.{Ended, PutsListed, broken, ends_same, faulted, oversized, unwritten}
-use Rattle.x7_forms.proofs.ReadLemmas.{at_fault, known_all}
+use Rattle.x7_forms.proofs.ReadLemmas.{IsAt, at_fault, known_all}
 
 -- the listing is the one that is found
 pub listing_is : (bytes text : List ℕ) → IsListing bytes text → text ≡ listing_of bytes
@@ -128,8 +128,8 @@ one_text all given r g e = let same : Ok given ≡ r = sym g in cc
 -- what was put is a prefix of the listing of every stream that begins with these bytes
 pub stream_so_far : (l : ListerState) (first now : Option (List ℕ)) (bytes : List ℕ) → ListsStream l first now bytes → ListsSoFar bytes first now
 stream_so_far l first now bytes t = record {
-  has = (t.line ++ listing_of t.content, stream_whole bytes t.line t.content (t.listing []));
-  goes = λ rest text fits e.
+  has_listing = (t.line ++ listing_of t.content, stream_whole bytes t.line t.content (t.listing []));
+  puts_prefix = λ rest text fits e.
       let all_fit : AreBytes (t.content ++ rest) = all_append (λ b. b < 256) t.content rest (stands_fit l t.lists.given t.content t.lists.stands) fits in
       let prefix = line_prefix first now t.line (listing_of (t.content ++ rest)) (lists_prefix l (appended first t.line) now t.content rest t.lists all_fit) in
       subst (λ (x : List ℕ). PutsPrefix first x now) (one_text text (t.line ++ listing_of (t.content ++ rest)) (stream_listing (bytes ++ rest)) (t.listing rest) e) prefix;
@@ -139,8 +139,8 @@ stream_so_far l first now bytes t = record {
 pub prefix_so_far : (taken line content : List ℕ) (old now : Option (List ℕ)) → AreBytes content → ((left : List ℕ) → stream_listing (taken ++ left) ≡ Ok (line ++ listing_of (content ++ left)))
     → ((left : List ℕ) → AreBytes (content ++ left) → PutsPrefix old (line ++ listing_of (content ++ left)) now) → ListsSoFar taken old now
 prefix_so_far taken line content old now fits g p = record {
-  has = (line ++ listing_of content, stream_whole taken line content (g []));
-  goes = λ rest text more e.
+  has_listing = (line ++ listing_of content, stream_whole taken line content (g []));
+  puts_prefix = λ rest text more e.
       subst (λ (x : List ℕ). PutsPrefix old x now) (one_text text (line ++ listing_of (content ++ rest)) (stream_listing (taken ++ rest)) (g rest) e) (p rest (all_append (λ b. b < 256) content rest fits more));
 }
 
@@ -185,7 +185,7 @@ end_failed None flash C stream taken rest Full old now s e f p = (refl, f, (p.0,
 end_failed (Some inputs) flash C stream taken rest Full old now s e f p =
     let all = known_all inputs stream taken rest s in
     let none : all.0 ≡ [] = let end = rw all.1.0 at e in end in
-    (refl, f, (taken, (ap found (all.1.1 ∙ ap (λ t. Some (taken ++ t)) none ∙ ap Some (append-nil taken)), λ fits. p)))
+    (refl, f, (taken, (ap input_found (all.1.1 ∙ ap (λ t. Some (taken ++ t)) none ∙ ap Some (append-nil taken)), λ fits. p)))
 
 -- a turn that could not be read
 pub unread_end : (s m n : InputsState) (flash : Option (List ℕ)) (stream taken : List ℕ) (l : ListerState) (left : ℕ) (Full : Type 0) (old now : Option (List ℕ)) (event : Event)

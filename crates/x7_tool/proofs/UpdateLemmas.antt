@@ -22,14 +22,14 @@ use Rattle.x7_forms.specs.declared.refusal.Why.{Why}
 use Rattle.x7_forms.specs.declared.refusal.Why.TheVariants as why
 use Rattle.x7_forms.specs.Event.{Event, bad_input, cause_of_event, differs, no_memory, reading_failed, status_of_event, too_large, writing_failed}
 use Rattle.x7_forms.specs.Form.{AskedForm, UpdatingFlash, names_of}
-use Rattle.x7_forms.specs.Message.{text_status}
+use Rattle.x7_forms.specs.Status.{text_status}
 use Rattle.x7_forms.specs.Known.{Absent, Answer, Failing, Found, Known, Lacking, Mishap, flash_found, mishap_event, spoiled, spoiled_name, with_inputs, with_mishap}
 use Rattle.x7_forms.specs.Step.{Among, CameIn, DueBy, IsCaused, IsDecided, IsDue, IsPossible, IsUnplayed, step_over}
 use Rattle.x7_forms.proofs.ReadLemmas.{name_is, outside_goes}
 use Rattle.x7_tool.specs.Leaving.{HasData, KeepsBytes, MayBeFound, UsesFlash}
 use Rattle.x7_tool.specs.Outcome.{FlashUpdates, FormGives, IsUpdateFault, UpdateNames, UpdatesBytes, UpdatesWith, no_text, stream_data, update_event}
 use Rattle.x7_tool.specs.Outside.{Came, Outside, known_in, sources}
-use Rattle.x7_tool.specs.Run.{Agrees, AnswersOver, EndsAs, FailsLast, IsMeasured, IsUnopened}
+use Rattle.x7_tool.specs.Run.{GivesIfKnown, AnswersOver, EndsAs, FailsLast, IsMeasured, IsUnopened}
 use Rattle.x7_tool.proofs.FlashLemmas.{bad_small, came_wider, detached, not_fault, not_large, other_fault, known_flash, unattached_measured, unread_last, unread_measured}
 use Rattle.x7_tool.proofs.RunLemmas.{has_cause, leaves_all, near_all, no_break}
 
@@ -66,7 +66,7 @@ update_over : (flash stream : List ℕ) (old new : Outside) (end : Result Answer
 update_over flash stream old new end o h = inr (update_due (known_in old) old.flash.bytes flash stream end (known_flash old.inputs.contents old.flash.bytes flash) o h)
 
 agreed : (known : Option Known) (bytes : Option (List ℕ)) (flash stream : List ℕ) (end : Result Answer Event) → IsTold known flash bytes
-    → ((t : Known) → known ≡ Some t → UpdatesBytes (names flash stream) bytes (stream_data t stream) end) → Agrees known (UpdatingFlash flash stream) end
+    → ((t : Known) → known ≡ Some t → UpdatesBytes (names flash stream) bytes (stream_data t stream) end) → GivesIfKnown known (UpdatingFlash flash stream) end
 agreed None bytes flash stream end same h = tt
 agreed (Some t) bytes flash stream end same h = update_given t bytes flash stream end (same t refl) (h t refl)
 
@@ -145,9 +145,9 @@ fault_measured form n new NoMemory = not_large form new no_memory (λ r. absurd 
 -- a flash that can't be used
 pub unopened_over : (flash stream : List ℕ) (old new : Outside) (event : Event) → IsUnopened flash old.flash new.flash event → AnswersOver (UpdatingFlash flash stream) old new (Err event)
 unopened_over flash stream old new event (inl (inl h, d)) =
-    subst (λ (e : Event). AnswersOver (UpdatingFlash flash stream) old new (Err e)) (sym h.0) (inl (inr (record { mishap = Lacking flash; came = inr h.1; is = refl; due = flash_due (known_in old) (Lacking flash) flash stream refl })))
+    subst (λ (e : Event). AnswersOver (UpdatingFlash flash stream) old new (Err e)) (sym h.0) (inl (inr (record { mishap = Lacking flash; came = inr h.1; reports = refl; due = flash_due (known_in old) (Lacking flash) flash stream refl })))
 unopened_over flash stream old new event (inl (inr h, d)) =
-    subst (λ (e : Event). AnswersOver (UpdatingFlash flash stream) old new (Err e)) (sym h.0) (inl (inr (record { mishap = Failing flash new.inputs.given; came = (refl, inr h.1); is = refl; due = flash_due (known_in old) (Failing flash new.inputs.given) flash stream refl })))
+    subst (λ (e : Event). AnswersOver (UpdatingFlash flash stream) old new (Err e)) (sym h.0) (inl (inr (record { mishap = Failing flash new.inputs.given; came = (refl, inr h.1); reports = refl; due = flash_due (known_in old) (Failing flash new.inputs.given) flash stream refl })))
 unopened_over flash stream old new event (inr h) =
     subst (λ (e : Event). AnswersOver (UpdatingFlash flash stream) old new (Err e)) (sym h.0) (update_over flash stream old new (Err (too_large flash)) (tt, tt) (λ t e. inl (h.2, refl)))
 
@@ -180,7 +180,7 @@ refused_ends flash stream old new event out m l a kept =
       wrote = leaves_all form (cause_of_event event) old new event refl (no_break (known_in old) (Came (Some form) old new) (λ t end. FormGives t form end) event a) (out_same old new out);
       near = near_all form (status_of_event event) old new refl;
       measured = m;
-      last = l;
+      fails_last = l;
       updates = kept;
     }
 
@@ -215,7 +215,7 @@ cause_from bytes a b c (Differs place wrote read) e w f h = (h.0, sym e ∙ h.1,
 cause_from bytes a b c NoMemory e w f h = tt
 
 -- the flash can take the stream's data
-could_end : (flash stream bytes : List ℕ) (old : Outside) → IsWithin old.flash.bytes → HasData (known_in old) stream bytes → IfKnown old.flash.bytes (CanTake bytes) → Agrees (known_in old) (UpdatingFlash flash stream) (Ok no_text)
+could_end : (flash stream bytes : List ℕ) (old : Outside) → IsWithin old.flash.bytes → HasData (known_in old) stream bytes → IfKnown old.flash.bytes (CanTake bytes) → GivesIfKnown (known_in old) (UpdatingFlash flash stream) (Ok no_text)
 could_end flash stream bytes old within has can =
     let known = old.flash.bytes in
     let n = names flash stream in
@@ -223,7 +223,7 @@ could_end flash stream bytes old within has can =
     (λ t e. inr (within, subst (λ (r : Result (List ℕ) Event). UpdatesWith n known r (Ok no_text)) (sym (data_at (known_in old) stream bytes has t e)) (refl, can)))
 
 -- the stream is good, whatever the flash holds
-stream_good : (contents : Option (List ℕ → Option (List ℕ))) (flash stream bytes : List ℕ) → HasData (with_inputs contents None) stream bytes → Agrees (with_inputs contents None) (UpdatingFlash flash stream) (Ok no_text)
+stream_good : (contents : Option (List ℕ → Option (List ℕ))) (flash stream bytes : List ℕ) → HasData (with_inputs contents None) stream bytes → GivesIfKnown (with_inputs contents None) (UpdatingFlash flash stream) (Ok no_text)
 stream_good None flash stream bytes h = tt
 stream_good (Some inputs) flash stream bytes h = inr (tt, subst (λ (r : Result (List ℕ) Event). UpdatesWith (names flash stream) None r (Ok no_text)) (sym h) (refl, tt))
 
@@ -241,10 +241,10 @@ fault_last flash stream bytes inputs new NoMemory has size = not_fault (Some (Up
 pub fault_ends : (flash stream bytes : List ℕ) (old new : Outside) (fault : UpdateFault) → new.out ≡ old.out → IsTrue (new.flash.names flash) → IsWithin old.flash.bytes → HasData (known_in old) stream bytes
     → HasData (with_inputs old.inputs.contents None) stream bytes → new.flash.extent ≤ flash_limit → HasCause bytes old.flash new.flash fault → (IsEarly fault → new.flash.bytes ≡ old.flash.bytes) → EndsAs (Some (UpdatingFlash flash stream)) old new (Err (update_event (names flash stream) fault))
 fault_ends flash stream bytes old new (Failed true) out asked within has reads size h early =
-    record { cause = (refl, inr (h.0, size, could_end flash stream bytes old within has h.2)); last = fault_last flash stream bytes old.inputs new.flash (Failed true) reads size; wrote = out_same old new out; near = near_all (UpdatingFlash flash stream) (status_of_event writing_failed) old new refl; measured = fault_measured (Some (UpdatingFlash flash stream)) (names flash stream) new.flash (Failed true); updates = tt }
+    record { cause = (refl, inr (h.0, size, could_end flash stream bytes old within has h.2)); fails_last = fault_last flash stream bytes old.inputs new.flash (Failed true) reads size; wrote = out_same old new out; near = near_all (UpdatingFlash flash stream) (status_of_event writing_failed) old new refl; measured = fault_measured (Some (UpdatingFlash flash stream)) (names flash stream) new.flash (Failed true); updates = tt }
 fault_ends flash stream bytes old new (Failed false) out asked within has reads size h early =
     refused_ends flash stream old new (reading_failed flash) out (fault_measured (Some (UpdatingFlash flash stream)) (names flash stream) new.flash (Failed false)) (fault_last flash stream bytes old.inputs new.flash (Failed false) reads size)
-    (inl (inr (record { mishap = Failing flash new.inputs.given; came = (refl, inr (record { among = inl refl; asked = asked; risen = h.0 })); is = refl; due = flash_due (known_in old) (Failing flash new.inputs.given) flash stream refl }))) (inl h.0)
+    (inl (inr (record { mishap = Failing flash new.inputs.given; came = (refl, inr (record { among = inl refl; asked = asked; risen = h.0 })); reports = refl; due = flash_due (known_in old) (Failing flash new.inputs.given) flash stream refl }))) (inl h.0)
 fault_ends flash stream bytes old new TooLong out asked within has reads size h early =
     refused_ends flash stream old new (bad_input stream input.Long) out (fault_measured (Some (UpdatingFlash flash stream)) (names flash stream) new.flash TooLong) (fault_last flash stream bytes old.inputs new.flash TooLong reads size)
     (update_over flash stream old new (Err (bad_input stream input.Long)) (tt, tt) (λ t e. fault_known (names flash stream) old.flash.bytes (stream_data t stream) bytes TooLong within (data_at (known_in old) stream bytes has t e) h)) (early tt)
@@ -254,14 +254,14 @@ fault_ends flash stream bytes old new (NoLayout place) out asked within has read
     (λ t e. fault_known (names flash stream) old.flash.bytes (stream_data t stream) bytes (NoLayout place) within (data_at (known_in old) stream bytes has t e) h)) (early tt)
 fault_ends flash stream bytes old new (Differs place wrote read) out asked within has reads size h early = record {
   cause = (
-    (place, refl, h.1, record { bytes = bytes; has = has; wrote = wrote; read = read; wrong = h.0; first = h.2 }),
+    (place, refl, h.1, record { bytes = bytes; has_data = has; wrote = wrote; read = read; wrong = h.0; first = h.2 }),
     agreed (known_in old) old.flash.bytes flash stream (Err (differs flash place)) (known_flash old.inputs.contents old.flash.bytes flash)
         (λ t e. fault_known (names flash stream) old.flash.bytes (stream_data t stream) bytes (Differs place wrote read) within (data_at (known_in old) stream bytes has t e) ((new.flash.extent, h.0), h.1)),
   );
   wrote = out_same old new out;
   near = near_all (UpdatingFlash flash stream) (status_of_event (differs flash place)) old new refl;
   measured = fault_measured (Some (UpdatingFlash flash stream)) (names flash stream) new.flash (Differs place wrote read);
-  last = fault_last flash stream bytes old.inputs new.flash (Differs place wrote read) reads size;
+  fails_last = fault_last flash stream bytes old.inputs new.flash (Differs place wrote read) reads size;
   updates = tt;
 }
 fault_ends flash stream bytes old new NoMemory out asked within has reads size h early = refused_ends flash stream old new no_memory out (fault_measured (Some (UpdatingFlash flash stream)) (names flash stream) new.flash NoMemory) (fault_last flash stream bytes old.inputs new.flash NoMemory reads size) (inl (inl refl)) (early tt)
@@ -281,7 +281,7 @@ done_ends flash stream bytes old new out within has layout size becomes =
         wrote = out_same old new out ∙ sym (appended_nil old.out.written);
         near = near_all (UpdatingFlash flash stream) (text_status false) old new refl;
         measured = λ name a. size;
-        last = tt;
+        fails_last = tt;
         updates = (bytes, has, becomes);
       },
     )

@@ -29,7 +29,7 @@ pub record ReadsNear (bytes left before after : List ℕ) : Type 0 where
   pub early : List ℕ
   pub late : List ℕ
   pub split : bytes ≡ early ++ (late ++ left)
-  pub few : length late ≤ most_ahead
+  pub not_far : length late ≤ most_ahead
   pub written : HasWritten early before after
   pub near : length bytes + length before ≤ length left + length after + most_ahead
 
@@ -38,7 +38,7 @@ pub record GivesNear (bytes : List ℕ) (given : ℕ) (before after : List ℕ) 
   pub early : List ℕ
   pub others : List ℕ
   pub split : bytes ≡ early ++ others
-  pub few : given ≤ length early + most_ahead
+  pub not_far : given ≤ length early + most_ahead
   pub written : HasWritten early before after
 
 -- where the stream, what is left of it, and what the sink got are known, few bytes more were read than are listed
@@ -56,8 +56,8 @@ IsGivenNear stream old new =
 
 -- where the stream and what is left of it are known, and its header is refused
 -- at a byte, no byte after that one was read
-abbrev pub IsSoon : List ℕ → Outside → Outside → Type 0
-IsSoon stream old new =
+abbrev pub IsRefusedSoon : List ℕ → Outside → Outside → Type 0
+IsRefusedSoon stream old new =
     (inputs : List ℕ → Option (List ℕ)) (bytes left : List ℕ) (place : ℕ) → old.inputs.contents ≡ Some inputs → inputs stream ≡ Some bytes → new.inputs.rest ≡ Some left → stream_listing bytes ≡ Err place
     → length bytes ≤ length left + (place + 1)
 
@@ -65,7 +65,8 @@ IsSoon stream old new =
 -- given than stand before that one
 abbrev pub IsUnjudged : List ℕ → Outside → Outside → Type 0
 IsUnjudged stream old new =
-    (inputs : List ℕ → Option (List ℕ)) (bytes : List ℕ) (place : ℕ) → old.inputs.contents ≡ Some inputs → inputs stream ≡ Some bytes → AreBytes bytes → stream_listing bytes ≡ Err place → place < length bytes
+    (inputs : List ℕ → Option (List ℕ)) (bytes : List ℕ) (place : ℕ) → old.inputs.contents ≡ Some inputs → inputs stream ≡ Some bytes
+    → AreBytes bytes → stream_listing bytes ≡ Err place → place < length bytes
     → new.inputs.given ≤ place
 
 -- by the status: where the sink failed, the stream is too large, it failed or memory is wanting, few bytes more were
@@ -74,7 +75,7 @@ IsUnjudged stream old new =
 abbrev pub StaysNearBy : Status → List ℕ → Outside → Outside → Type 0
 StaysNearBy status.WriteFault stream old new = IsNear stream old new
 StaysNearBy status.TooLarge stream old new = IsNear stream old new
-StaysNearBy status.BadInput stream old new = IsSoon stream old new
+StaysNearBy status.BadInput stream old new = IsRefusedSoon stream old new
 StaysNearBy status.ReadFault stream old new = IsUnjudged stream old new × IsGivenNear stream old new
 StaysNearBy status.NoMemory stream old new = IsGivenNear stream old new
 StaysNearBy s stream old new = Unit {0}

@@ -11,21 +11,23 @@ use Rattle.x7_listing.specs.Lister.{ListerState, ListerStandsFor}
 use Rattle.x7_forms.specs.Turn.{longest_beginning}
 use Rattle.x7_forms.specs.Event.{Event, no_memory, writing_failed}
 
--- What was put after the first bytes is the listing so far of these bytes, and the lister keeps no text of it.
+-- What was put after `first` is the listing so far of these bytes, and the lister keeps no text of it.
 pub record Lists (l : ListerState) (first now : Option (List ℕ)) (bytes : List ℕ) : Type 0 where
   pub given : List ℕ
   pub stands : ListerStandsFor l given [] bytes
   pub put : now ≡ appended first given
   pub clear : l.text ≡ []
 
--- a call that writes more of a listing came to nothing: memory was wanting, and nothing was written, or the sink failed
+-- a call that writes more of a listing failed: memory was wanting, and nothing was written, or the sink failed
 abbrev pub IsUnlisted : SinkState → SinkState → Event → Type 0
 IsUnlisted old new event = ((event ≡ no_memory) × (new.written ≡ old.written)) ⊎ ((event ≡ writing_failed) × SinkFails old new)
 
 -- The listing stopped in a piece: whatever was listed before, and may follow, a
 -- prefix of the listing of all of it was put.
 abbrev pub StopsIn : ListerState → Option (List ℕ) → List ℕ → Option (List ℕ) → Type 0
-StopsIn l old piece new = (first : Option (List ℕ)) (bytes rest : List ℕ) → Lists l first old bytes → AreBytes (bytes ++ (piece ++ rest)) → PutsPrefix first (listing_of (bytes ++ (piece ++ rest))) new
+StopsIn l old piece new =
+    (first : Option (List ℕ)) (bytes rest : List ℕ) → Lists l first old bytes → AreBytes (bytes ++ (piece ++ rest))
+    → PutsPrefix first (listing_of (bytes ++ (piece ++ rest))) new
 
 -- What was put after the first bytes is so far the listing of each stream that begins with these bytes: a header's line
 -- or nothing, and the listing of the content, which is the data of the stream so far.
@@ -36,10 +38,10 @@ pub record ListsStream (l : ListerState) (first now : Option (List ℕ)) (bytes 
   pub listing : (rest : List ℕ) → stream_listing (bytes ++ rest) ≡ Ok (line ++ listing_of (content ++ rest))
   pub short_header : length bytes ≤ length content + longest_beginning
 
--- a text was read line by line by this, or a first part of it, in which there was this fault
+-- by the result of reading a text line by line: a reader that took all of it, or the fault of a first part of it
 abbrev pub IsFed : {T F : Type 0} → (T → List (List ℕ) → Type 0) → (F → List (List ℕ) → Type 0) → Result (ReaderState T) F → List ℕ → Type 0
 IsFed took fails read text = MatchResult read (λ reader. StandsFor took reader text) (λ f. FailsFrom (fails f) text)
 
--- the lines of a text give this, or are refused for this fault
+-- by the result of a text that was read to its end: what its lines give, or the fault for which they are refused
 abbrev pub LinesGive : {A F : Type 0} → (A → List (List ℕ) → Type 0) → (F → List (List ℕ) → Type 0) → Result A F → List ℕ → Type 0
 LinesGive gives fails read text = MatchResult read (λ out. gives out (split text)) (λ f. fails f (split text))

@@ -1,4 +1,4 @@
--- What the steps of a debugging come to (this project's choice).
+-- What the command `debug` reads, as its definitions see it (this project's choice).
 use Rattle.x7_tool.specs.declared.debug.Given.{Given}
 use Rattle.x7_tool.specs.Outcome.{DebugInputs}
 

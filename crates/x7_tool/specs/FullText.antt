@@ -17,6 +17,6 @@ pub record IsPlanned (t : PlanFor) (capacity : ℕ) : Type 0 where
   pub addresses : AreAddressed t.part t.plan.rows
   pub room : piece_limit ≤ capacity
 
--- the full stream of the plan as an answer
-abbrev pub full_of : PlanFor → Answer
-full_of t = record { stopped = false; text = full_stream t.part t.plan }
+-- the answer of `plan full`: the full stream of the plan
+abbrev pub full_answer : PlanFor → Answer
+full_answer t = record { stopped = false; text = full_stream t.part t.plan }

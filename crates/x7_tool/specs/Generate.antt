@@ -13,7 +13,7 @@ use Rattle.x7_forms.specs.Known.{reads_limit}
 use Rattle.x7_playing.specs.Playing.{HasPlayed}
 use Rattle.x7_playing.specs.declared.player.Player.{Player}
 
--- the number after this one in the sequence that a seed begins
+-- the number after this one in the sequence that a seed begins: a linear congruence modulo 2^32
 abbrev pub next_number : ℕ → ℕ
 next_number x = (1664525 * x + 1013904223) % 2 ^ 32
 
@@ -44,15 +44,15 @@ abbrev pub words_sum : FrameMap → List ℕ → ℕ
 words_sum memory [] = 0
 words_sum memory (far ∷ fars) = sum (unwrap_or (memory far) []) + words_sum memory fars
 
--- the line of a part's name and a seed
-abbrev pub head_line : List ℕ → ℕ → List ℕ
-head_line name seed = codes "gen " ++ name ++ codes " " ++ decimal seed ++ codes "\n"
+-- the first line of the text of `gen`: the name of the part, and the seed
+abbrev pub gen_line : List ℕ → ℕ → List ℕ
+gen_line name seed = codes "gen " ++ name ++ codes " " ++ decimal seed ++ codes "\n"
 
--- the line of a number, after its key
+-- the line of a number in decimal digits, after its key
 abbrev pub count_line : List ℕ → ℕ → List ℕ
 count_line key n = key ++ decimal n ++ codes "\n"
 
--- the line of a sum
+-- the line of a sum, a word of 32 bits
 abbrev pub sum_line : ℕ → List ℕ
 sum_line n = codes "sum " ++ hex_word n ++ codes "\n"
 
@@ -71,7 +71,7 @@ pub record SummaryData : Type 0 where
 -- the summary of the stream of a part and a seed
 unfoldable pub summary_text : List ℕ → ℕ → SummaryData → List ℕ
 summary_text name seed s =
-    head_line name seed ++ count_line (codes "planned ") s.planned ++ count_line (codes "stream ") s.size ++ count_line (codes "phase ") s.phase ++ sum_line s.sum
+    gen_line name seed ++ count_line (codes "planned ") s.planned ++ count_line (codes "stream ") s.size ++ count_line (codes "phase ") s.phase ++ sum_line s.sum
 
 -- the summary of a plan's stream, played on a new device; the sum is modulo 2^32
 abbrev pub played_summary : PartData → ℕ → ℕ → List ℕ → List ℕ
@@ -87,8 +87,8 @@ played_summary part seed planned stream =
 unfoldable pub gen_text : PartData → ℕ → List ℕ
 gen_text part seed = played_summary part seed (length (generated part seed).rows) (full_stream part (generated part seed))
 
--- the summary by what was planned: the length of the plan's full stream, phase 7, and
--- the sum of the words of the plan over zeros
+-- the summary by what was planned: the bytes of the plan's full stream, phase 7, and the sum modulo 2^32 of the words
+-- of the plan over zeros
 abbrev pub planned_summary : PartData → ℕ → List ℕ
 planned_summary part seed =
     summary_text part.name seed (record {

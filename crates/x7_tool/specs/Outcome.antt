@@ -56,33 +56,48 @@ use Rattle.x7_forms.specs.declared.bad_input.InputFault.TheVariants as input
 use Rattle.x7_forms.specs.Event.{Event, bad_input, differs, missing, no_memory, reading_failed, too_large, usage, writing_failed}
 use Rattle.x7_forms.specs.Form.{AskedForm, Assembling, Booting, Debugging, FromMcs, Imaging, ImagingFor, Listing, PlanningFull, PlanningRead, Playing, PlayingSvf, ToMcs, PlanningPartial, Generating, UpdatingFlash}
 use Rattle.x7_tool.specs.Boot.{boot_text}
-use Rattle.x7_forms.specs.Known.{Absent, Answer, Broken, Found, Held, Known, and_so, data_in, part_of, stream_limit, whole_in, within}
+use Rattle.x7_forms.specs.Known.{Absent, Answer, Broken, Found, Held, Known, and_so, data_in, part_known, stream_limit, whole_known, if_within}
 use Rattle.x7_tool.specs.Play.{played}
 
--- a listing, or the event of a header that is refused
+-- a listing, or the event of a header that is refused at a byte
 abbrev pub text_by : List ℕ → Result (List ℕ) ℕ → Result (List ℕ) Event
 text_by name (Ok text) = Ok text
 text_by name (Err place) = Err (bad_input name (input.Byte place))
 
 -- the listing of a stream's bytes: its header is judged as soon as its bytes are read, and its length after it
 abbrev pub listed_bytes : List ℕ → List ℕ → Result Answer Event
-listed_bytes stream bytes = and_so (text_by stream (stream_listing bytes)) (λ text. and_so (within stream stream_limit bytes) (λ _. Ok (record { stopped = false; text = text })))
+listed_bytes stream bytes = and_so (text_by stream (stream_listing bytes)) (λ text. and_so (if_within stream stream_limit bytes) (λ _. Ok (record { stopped = false; text = text })))
 
 -- the listing of what is found: a stream may be over its limit before it fails
 abbrev pub listed_found : List ℕ → Found → Result Answer Event
 listed_found stream (Held bytes) = listed_bytes stream bytes
 listed_found stream Absent = Err (missing stream)
-listed_found stream (Broken bytes) = and_so (within stream stream_limit bytes) (λ _. Err (reading_failed stream))
+listed_found stream (Broken bytes) = and_so (if_within stream stream_limit bytes) (λ _. Err (reading_failed stream))
 
 -- `list STREAM`: the listing of the stream, its header's line first
 abbrev pub listed : Known → List ℕ → Result Answer Event
 listed known stream = listed_found stream (known.inputs stream)
 
--- ---- texts that stand for bytes
+-- ---- what several forms read
 
 -- the most bytes of a text: of an assembly, Intel HEX, frames or SVF text
 abbrev pub text_limit : ℕ
 text_limit = 536870912
+
+-- a part, and a text for it
+pub record PartAndText : Type 0 where
+  pub part : PartData
+  pub text : List ℕ
+
+-- the part of a part file is read, and then a text for it
+abbrev pub part_and_text : Known → List ℕ → List ℕ → Result PartAndText Event
+part_and_text known part text = and_so (part_known known part) (λ p. and_so (whole_known known text_limit text) (λ bytes. Ok (record { part = p; text = bytes })))
+
+-- the data of a stream that has a limit of its own, which comes before its header
+abbrev pub stream_data : Known → List ℕ → Result (List ℕ) Event
+stream_data known name = and_so (whole_known known stream_limit name) (data_in name)
+
+-- ---- asm
 
 -- the event of a text that assembles to nothing
 abbrev pub asm_event : List ℕ → AsmFault → Event
@@ -90,100 +105,11 @@ asm_event name (asm.Line line) = bad_input name (input.Line line)
 asm_event name (asm.TooLong line) = bad_input name (input.LongLine line)
 asm_event name asm.NoMemory = no_memory
 
--- a text's first fault; want of memory says nothing
-abbrev pub IsAsmFault : AsmFault → List ℕ → Type 0
-IsAsmFault fault text = (fault ≡ asm.NoMemory) ⊎ IsAsm text (Err fault)
-
 -- `asm TEXT`: the bytes that the text assembles to, or its first fault
 abbrev pub AssembledAs : List ℕ → Result (List ℕ) Event → Result Answer Event → Type 0
 AssembledAs name (Err event) end = Err event ≡ end
 AssembledAs name (Ok text) (Ok answer) = (answer.stopped ≡ false) × IsAsm text (Ok answer.text)
 AssembledAs name (Ok text) (Err event) = (fault : AsmFault) × (IsAsm text (Err fault) × (asm_event name fault ≡ event))
-
--- `mcs IMAGE`: the flash text of an image
-abbrev pub mcs_written : Known → List ℕ → Result Answer Event
-mcs_written known image = and_so (whole_in known flash_limit image) (λ bytes. Ok (record { stopped = false; text = mcs_text bytes }))
-
--- the event of a flash text that gives no flash
-abbrev pub mcs_event : List ℕ → McsFault → Event
-mcs_event name (mcs.Line line) = bad_input name (input.Line line)
-mcs_event name (mcs.Sum line want got) = bad_input name (input.Sum line want got)
-mcs_event name (mcs.Overlap place) = bad_input name (input.Overlap place)
-mcs_event name mcs.NoEnd = bad_input name input.NoEnd
-mcs_event name (mcs.TooLarge line) = bad_input name (input.LargeLine line)
-mcs_event name mcs.NoMemory = no_memory
-
--- the image of a flash text
-abbrev pub mcs_image : List ℕ → Result (List ℕ) McsFault → Result Answer Event
-mcs_image name (Ok bytes) = Ok (record { stopped = false; text = bytes })
-mcs_image name (Err fault) = Err (mcs_event name fault)
-
--- `unmcs TEXT`: the flash image of a flash text
-abbrev pub mcs_read : Known → List ℕ → Result Answer Event
-mcs_read known text = and_so (whole_in known text_limit text) (λ bytes. mcs_image text (mcs_of bytes))
-
--- ---- plans
-
--- a part, and a text for it
-pub record PlanTexts : Type 0 where
-  pub part : PartData
-  pub text : List ℕ
-
--- the part of a part file, and then the text for it
-abbrev pub plan_texts : Known → List ℕ → List ℕ → Result PlanTexts Event
-plan_texts known part frames = and_so (part_of known part) (λ p. and_so (whole_in known text_limit frames) (λ text. Ok (record { part = p; text = text })))
-
--- the event of a frames text that gives no plan
-abbrev pub frames_event : List ℕ → FramesFault → Event
-frames_event name (frames.Line line) = bad_input name (input.Line line)
-frames_event name (frames.Address line) = bad_input name (input.AddressLine line)
-frames_event name (frames.Twice line) = bad_input name (input.TwiceLine line)
-frames_event name frames.NoMemory = no_memory
-
--- `plan full PART FRAMES`: the full stream of the plan, or the frames text's first line at fault
-abbrev pub PlannedFull : List ℕ → Result PlanTexts Event → Result Answer Event → Type 0
-PlannedFull name (Err event) end = Err event ≡ end
-PlannedFull name (Ok texts) (Ok answer) = (answer.stopped ≡ false) × (plan : PlanData) × IsPlanOf texts.part texts.text (Ok plan) × (answer.text ≡ full_stream texts.part plan)
-PlannedFull name (Ok texts) (Err event) = (fault : FramesFault) × IsPlanOf texts.part texts.text (Err fault) × (frames_event name fault ≡ event)
-
--- the event of a stream that isn't planned
-abbrev pub planner_event : List ℕ → PlanFault → Event
-planner_event name planner.Empty = bad_input name input.Empty
-planner_event name (planner.Foreign far) = bad_input name input.Foreign
-planner_event name (planner.Range n) = bad_input name input.Range
-planner_event name _ = no_memory
-
--- the plan of a frames text has no partial stream
-abbrev pub IsUnplanned : List ℕ → PlanTexts → Event → Type 0
-IsUnplanned name texts event = (plan : PlanData) × IsPlanOf texts.part texts.text (Ok plan) × (fault : PlanFault) × IsPartialFault texts.part plan fault × (planner_event name fault ≡ event)
-
--- `plan partial PART FRAMES`: the partial stream of the plan, or the frames text's
--- first line at fault, or that it plans nothing
-abbrev pub PlannedPartial : List ℕ → Result PlanTexts Event → Result Answer Event → Type 0
-PlannedPartial name (Err event) end = Err event ≡ end
-PlannedPartial name (Ok texts) (Ok answer) =
-    (answer.stopped ≡ false) × (plan : PlanData) × IsPlanOf texts.part texts.text (Ok plan) × (0 < length plan.rows) × (answer.text ≡ partial_stream texts.part plan.rows)
-PlannedPartial name (Ok texts) (Err event) = ((fault : FramesFault) × IsPlanOf texts.part texts.text (Err fault) × (frames_event name fault ≡ event)) ⊎ IsUnplanned name texts event
-
--- `plan read PART FAR N`: the read stream, or why there is none
-abbrev pub PlannedRead : List ℕ → ℕ → ℕ → Result PartData Event → Result Answer Event → Type 0
-PlannedRead name far n (Err event) end = Err event ≡ end
-PlannedRead name far n (Ok part) (Ok answer) = (answer.stopped ≡ false) × CanRead part far n × (answer.text ≡ read_stream part far n)
-PlannedRead name far n (Ok part) (Err event) = (fault : PlanFault) × IsReadFault part far n fault × (planner_event name fault ≡ event)
-
--- `gen PART SEED`: the summary of the plan of the seed, played
-abbrev pub gen_answer : PartData → ℕ → Answer
-gen_answer part seed = record { stopped = false; text = gen_text part seed }
-
--- `gen PART SEED` over known inputs: the summary, or why there is no part
-abbrev pub gen_made : Known → List ℕ → ℕ → Result Answer Event
-gen_made known part seed = and_so (part_of known part) (λ p. Ok (gen_answer p seed))
-
--- ---- streams of a limit of their own
-
--- the data of a stream that has a limit of its own, which comes before its header
-abbrev pub stream_data : Known → List ℕ → Result (List ℕ) Event
-stream_data known name = and_so (whole_in known stream_limit name) (data_in name)
 
 -- ---- debug
 
@@ -200,9 +126,9 @@ pub record DebugInputs : Type 0 where
 -- the inputs of a debugging are read in the order of its words
 abbrev pub debug_inputs : Known → List ℕ → List ℕ → List ℕ → Result DebugInputs Event
 debug_inputs known part stream script =
-    and_so (part_of known part) (λ p. and_so (stream_data known stream) (λ bytes. and_so (whole_in known script_limit script) (λ text. Ok (record { part = p; stream = bytes; script = text }))))
+    and_so (part_known known part) (λ p. and_so (stream_data known stream) (λ bytes. and_so (whole_known known script_limit script) (λ text. Ok (record { part = p; stream = bytes; script = text }))))
 
--- the event of a text that gives no script
+-- the event of a text that is no script
 abbrev pub script_event : List ℕ → ScriptFault → Event
 script_event name (script.Line line) = bad_input name (input.Line line)
 script_event name script.NoMemory = no_memory
@@ -227,22 +153,71 @@ abbrev pub svf_event : List ℕ → SvfFault → Event
 svf_event name (svf.Line line) = bad_input name (input.Line line)
 svf_event name svf.NoMemory = no_memory
 
--- the line of what differs first, and the report of the device of a port with no words read out
+-- the text of `svf`: the line of the first scan that differs, or that none does, and the report of the device of the
+-- port, with no words read out
 abbrev pub svf_shown : PartData → Option Differ → Port → Answer
 svf_shown part differ p = record {
   stopped = is_some differ || is_some (fault_shown part p);
   text = play_text differ ++ report_text part (state_shown part p) [] (memory_shown part p);
 }
 
--- what statements come to on a new device
+-- the answer of statements that are played on a new device of the part
 abbrev pub svf_answer : PartData → List Statement → Answer
 svf_answer part statements = svf_shown part (first_difference part statements) (port_played part statements)
 
--- `svf PART TEXT`: what the text's statements come to, or the line of the first that is none
-abbrev pub PlayedSvf : List ℕ → Result PlanTexts Event → Result Answer Event → Type 0
+-- `svf PART TEXT`: the answer of the text's statements, or the event of its first line that is no statement
+abbrev pub PlayedSvf : List ℕ → Result PartAndText Event → Result Answer Event → Type 0
 PlayedSvf name (Err event) end = Err event ≡ end
 PlayedSvf name (Ok texts) (Ok answer) = (statements : List Statement) × IsSvfOf texts.text (Ok statements) × (svf_answer texts.part statements ≡ answer)
 PlayedSvf name (Ok texts) (Err event) = (fault : SvfFault) × IsSvfOf texts.text (Err fault) × (svf_event name fault ≡ event)
+
+-- ---- plans
+
+-- the event of a frames text that gives no plan, by its first line at fault
+abbrev pub frames_event : List ℕ → FramesFault → Event
+frames_event name (frames.Line line) = bad_input name (input.Line line)
+frames_event name (frames.Address line) = bad_input name (input.AddressLine line)
+frames_event name (frames.Twice line) = bad_input name (input.TwiceLine line)
+frames_event name frames.NoMemory = no_memory
+
+-- `plan full PART FRAMES`: the full stream of the plan, or the frames text's first line at fault
+abbrev pub PlannedFull : List ℕ → Result PartAndText Event → Result Answer Event → Type 0
+PlannedFull name (Err event) end = Err event ≡ end
+PlannedFull name (Ok texts) (Ok answer) = (answer.stopped ≡ false) × (plan : PlanData) × IsPlanOf texts.part texts.text (Ok plan) × (answer.text ≡ full_stream texts.part plan)
+PlannedFull name (Ok texts) (Err event) = (fault : FramesFault) × IsPlanOf texts.part texts.text (Err fault) × (frames_event name fault ≡ event)
+
+-- the event of a stream that isn't planned
+abbrev pub planner_event : List ℕ → PlanFault → Event
+planner_event name planner.Empty = bad_input name input.Empty
+planner_event name (planner.Foreign far) = bad_input name input.Foreign
+planner_event name (planner.Range n) = bad_input name input.Range
+planner_event name _ = no_memory
+
+-- the plan of a frames text has no partial stream
+abbrev pub IsUnplanned : List ℕ → PartAndText → Event → Type 0
+IsUnplanned name texts event = (plan : PlanData) × IsPlanOf texts.part texts.text (Ok plan) × (fault : PlanFault) × IsPartialFault texts.part plan fault × (planner_event name fault ≡ event)
+
+-- `plan partial PART FRAMES`: the partial stream of the plan, or the frames text's
+-- first line at fault, or that it plans nothing
+abbrev pub PlannedPartial : List ℕ → Result PartAndText Event → Result Answer Event → Type 0
+PlannedPartial name (Err event) end = Err event ≡ end
+PlannedPartial name (Ok texts) (Ok answer) =
+    (answer.stopped ≡ false) × (plan : PlanData) × IsPlanOf texts.part texts.text (Ok plan) × (0 < length plan.rows) × (answer.text ≡ partial_stream texts.part plan.rows)
+PlannedPartial name (Ok texts) (Err event) = ((fault : FramesFault) × IsPlanOf texts.part texts.text (Err fault) × (frames_event name fault ≡ event)) ⊎ IsUnplanned name texts event
+
+-- `plan read PART FAR N`: the read stream, or why there is none
+abbrev pub PlannedRead : List ℕ → ℕ → ℕ → Result PartData Event → Result Answer Event → Type 0
+PlannedRead name far n (Err event) end = Err event ≡ end
+PlannedRead name far n (Ok part) (Ok answer) = (answer.stopped ≡ false) × CanRead part far n × (answer.text ≡ read_stream part far n)
+PlannedRead name far n (Ok part) (Err event) = (fault : PlanFault) × IsReadFault part far n fault × (planner_event name fault ≡ event)
+
+-- the summary of the plan of a seed, played on a new device of the part
+abbrev pub gen_answer : PartData → ℕ → Answer
+gen_answer part seed = record { stopped = false; text = gen_text part seed }
+
+-- `gen PART SEED`: the summary, or why there is no part
+abbrev pub gen_made : Known → List ℕ → ℕ → Result Answer Event
+gen_made known part seed = and_so (part_known known part) (λ p. Ok (gen_answer p seed))
 
 -- ---- images
 
@@ -268,7 +243,7 @@ imaged known golden update = and_so (image_streams known golden update) (image_b
 
 -- `image PART GOLDEN UPDATE`: the flash image of both streams' data for a part, by its start unit
 abbrev pub imaged_for : Known → List ℕ → List ℕ → List ℕ → Result Answer Event
-imaged_for known part golden update = and_so (part_of known part) (λ p. and_so (image_streams known golden update) (image_by update p.start_unit))
+imaged_for known part golden update = and_so (part_known known part) (λ p. and_so (image_streams known golden update) (image_by update p.start_unit))
 
 -- ---- boots
 
@@ -278,7 +253,8 @@ has_failed boot_end.Started = false
 has_failed boot_end.Stopped = true
 has_failed boot_end.Loop = true
 
--- the text is that of the boot of a part from a flash of these bytes
+-- The text is that of the boot of a part from a flash of these bytes: `last` is its last attempt, `older` those before
+-- it, the newest first.
 pub record IsBootText (part : PartData) (flash : List ℕ) (answer : Answer) : Type 0 where
   pub last : AttemptCourse
   pub older : List AttemptCourse
@@ -287,8 +263,8 @@ pub record IsBootText (part : PartData) (flash : List ℕ) (answer : Answer) : T
   pub stopped : answer.stopped ≡ has_failed end
   pub text : answer.text ≡ boot_text part (reverse (map tried (last ∷ older))) end last
 
--- the boot of a part from a flash of this name, which is no larger than a flash may
--- be; where its bytes aren't known, of any
+-- the boot of a part from what is found under the name of a flash; where nothing is known of it, any text, or that it
+-- is too large
 abbrev pub FlashBoots : List ℕ → PartData → Option Found → Result Answer Event → Type 0
 FlashBoots name part None (Ok answer) = Unit {0}
 FlashBoots name part None (Err event) = event ≡ too_large name
@@ -302,7 +278,7 @@ abbrev pub BootedAs : List ℕ → Result PartData Event → Option Found → Re
 BootedAs name (Err event) flash end = Err event ≡ end
 BootedAs name (Ok part) flash end = FlashBoots name part flash end
 
--- the event of a boot that came to no end
+-- the event of a boot that could not be finished
 abbrev pub boot_event : List ℕ → BootFault → Event
 boot_event name fault.Failed = reading_failed name
 boot_event name fault.TooLarge = too_large name
@@ -310,7 +286,7 @@ boot_event name fault.NoMemory = no_memory
 
 -- ---- updates
 
--- the names of an update: its flash, and the stream that the flash gets
+-- the names of an update: of its flash, and of the stream that the flash gets
 pub record UpdateNames : Type 0 where
   pub flash : List ℕ
   pub stream : List ℕ
@@ -319,7 +295,7 @@ pub record UpdateNames : Type 0 where
 abbrev pub no_text : Answer
 no_text = record { stopped = false; text = [] }
 
--- the event of an update that came to no end
+-- the event of an update that was not done
 abbrev pub update_event : UpdateNames → UpdateFault → Event
 update_event names (update_fault.Failed true) = writing_failed
 update_event names (update_fault.Failed false) = reading_failed names.flash
@@ -360,25 +336,51 @@ FlashUpdates names (Some (Broken bytes)) stream end = end ≡ Err (reading_faile
 abbrev pub UpdatedAs : Known → UpdateNames → Result Answer Event → Type 0
 UpdatedAs known names end = FlashUpdates names (known.flash names.flash) (stream_data known names.stream) end
 
--- a form comes to this end, each form one case
+-- ---- Intel HEX
+
+-- `mcs IMAGE`: the Intel HEX text of an image
+abbrev pub mcs_written : Known → List ℕ → Result Answer Event
+mcs_written known image = and_so (whole_known known flash_limit image) (λ bytes. Ok (record { stopped = false; text = mcs_text bytes }))
+
+-- the event of an Intel HEX text that gives no image
+abbrev pub mcs_event : List ℕ → McsFault → Event
+mcs_event name (mcs.Line line) = bad_input name (input.Line line)
+mcs_event name (mcs.Sum line want got) = bad_input name (input.Sum line want got)
+mcs_event name (mcs.Overlap place) = bad_input name (input.Overlap place)
+mcs_event name mcs.NoEnd = bad_input name input.NoEnd
+mcs_event name (mcs.TooLarge line) = bad_input name (input.LargeLine line)
+mcs_event name mcs.NoMemory = no_memory
+
+-- the image of an Intel HEX text, or the event of its fault
+abbrev pub mcs_image : List ℕ → Result (List ℕ) McsFault → Result Answer Event
+mcs_image name (Ok bytes) = Ok (record { stopped = false; text = bytes })
+mcs_image name (Err fault) = Err (mcs_event name fault)
+
+-- `unmcs TEXT`: the flash image of an Intel HEX text
+abbrev pub mcs_read : Known → List ℕ → Result Answer Event
+mcs_read known text = and_so (whole_known known text_limit text) (λ bytes. mcs_image text (mcs_of bytes))
+
+-- ---- all forms
+
+-- a form comes to this end over what is known: one case a form
 abbrev pub FormGives : Known → AskedForm → Result Answer Event → Type 0
 FormGives known (Listing stream) end = listed known stream ≡ end
+FormGives known (Assembling text) end = AssembledAs text (whole_known known text_limit text) end
 FormGives known (Playing part streams) end = played known part streams ≡ end
-FormGives known (Assembling text) end = AssembledAs text (whole_in known text_limit text) end
-FormGives known (ToMcs image) end = mcs_written known image ≡ end
-FormGives known (FromMcs text) end = mcs_read known text ≡ end
-FormGives known (PlanningFull part frames) end = PlannedFull frames (plan_texts known part frames) end
-FormGives known (PlanningPartial part frames) end = PlannedPartial frames (plan_texts known part frames) end
-FormGives known (PlanningRead part far n) end = PlannedRead part far n (part_of known part) end
+FormGives known (Debugging part stream script) end = DebuggedAs script (debug_inputs known part stream script) end
+FormGives known (PlayingSvf part text) end = PlayedSvf text (part_and_text known part text) end
+FormGives known (PlanningFull part frames) end = PlannedFull frames (part_and_text known part frames) end
+FormGives known (PlanningPartial part frames) end = PlannedPartial frames (part_and_text known part frames) end
+FormGives known (PlanningRead part far n) end = PlannedRead part far n (part_known known part) end
 FormGives known (Generating part seed) end = gen_made known part seed ≡ end
 FormGives known (Imaging golden update) end = imaged known golden update ≡ end
 FormGives known (ImagingFor part golden update) end = imaged_for known part golden update ≡ end
-FormGives known (Debugging part stream script) end = DebuggedAs script (debug_inputs known part stream script) end
-FormGives known (PlayingSvf part text) end = PlayedSvf text (plan_texts known part text) end
-FormGives known (Booting part flash) end = BootedAs flash (part_of known part) (known.flash flash) end
+FormGives known (Booting part flash) end = BootedAs flash (part_known known part) (known.flash flash) end
 FormGives known (UpdatingFlash flash stream) end = UpdatedAs known (record { flash = flash; stream = stream }) end
+FormGives known (ToMcs image) end = mcs_written known image ≡ end
+FormGives known (FromMcs text) end = mcs_read known text ≡ end
 
--- the words come to this end: words without a form are a wrong usage
+-- the words come to this end over what is known: words without a form are a wrong usage
 abbrev pub IsOutcome : Known → Option AskedForm → Result Answer Event → Type 0
 IsOutcome known None end = Err usage ≡ end
 IsOutcome known (Some form) end = FormGives known form end

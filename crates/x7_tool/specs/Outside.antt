@@ -8,14 +8,14 @@ use Rattle.x7_forms.specs.Form.{AskedForm, FlashUse, Read, Unused, Updated, flas
 use Rattle.x7_forms.specs.Known.{Failing, Known, Lacking, Mishap, with_inputs}
 use Rattle.x7_forms.specs.Step.{Among, FailsAmong, LacksAmong}
 
--- the outside at one moment: what the inputs, the flash and both sinks have come to
+-- the outside at one moment: the states of the inputs, the flash, the output and the sink of messages
 pub record Outside : Type 0 where
   pub inputs : InputsState
   pub flash : FlashState
   pub out : SinkState
   pub err : SinkState
 
--- what a command reads, at one moment: what the inputs and the flash have come to
+-- what a command reads, at one moment: the states of the inputs and of the flash
 pub record Sources : Type 0 where
   pub inputs : InputsState
   pub flash : FlashState
@@ -32,7 +32,7 @@ known_from s = with_inputs s.inputs.contents s.flash.bytes
 abbrev pub with_sources : Outside → Sources → Outside
 with_sources o s = record o { inputs = s.inputs; flash = s.flash }
 
--- what a listing reads and writes, at one moment: what the inputs and the output have come to
+-- what a listing reads and writes, at one moment: the states of the inputs and of the output
 pub record Transfer : Type 0 where
   pub inputs : InputsState
   pub out : SinkState

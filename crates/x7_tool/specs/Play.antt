@@ -6,7 +6,7 @@ use Rattle.x7_engine.specs.State.{why_of, memory_in, reads_of, state_of, stop_in
 use Rattle.x7_engine.specs.Stop.{stop_fault}
 use Rattle.x7_report.specs.Reports.{PlayTextState, report_text}
 use Rattle.x7_forms.specs.Event.{Event, too_many_reads}
-use Rattle.x7_forms.specs.Known.{Answer, Known, and_so, data_of, part_of, reads_limit, stream_limit}
+use Rattle.x7_forms.specs.Known.{Answer, Known, and_so, streams_known, part_known, reads_limit, stream_limit}
 
 -- the report of a new device of the part that took the data, and whether a fault stopped it
 abbrev pub report_of : PartData → List ℕ → Answer
@@ -21,8 +21,8 @@ reported part bytes = if nat_lt reads_limit (length (reads_of part on_the_bench 
 
 -- `play PART STREAM..`: the report of the streams' data, one after the other
 abbrev pub played : Known → List ℕ → List (List ℕ) → Result Answer Event
-played known part streams = and_so (part_of known part) (λ p. and_so (data_of known stream_limit streams) (reported p))
+played known part streams = and_so (part_known known part) (λ p. and_so (streams_known known stream_limit streams) (reported p))
 
--- a report that is ready to be written, as an answer
-abbrev pub text_of_play : PlayTextState → Answer
-text_of_play text = record { stopped = text.stopped; text = text.text }
+-- the answer of a report that is ready to be written
+abbrev pub play_answer : PlayTextState → Answer
+play_answer text = record { stopped = text.stopped; text = text.text }

@@ -1,5 +1,5 @@
--- What a planned stream that was written does on a device at rest, and what a boot that started
--- has been through (this project's choice).
+-- What the whole text of a form promises: what a planned stream does on a device at rest, which checks a device made
+-- that a report shows, and how a device boots from an image or a flash (this project's choice).
 use Rattle.std.specs.Prelude.{◌≡◌, ◌<◌, ℕ, List, [], ◌++◌, false, Option, Some, Result, Ok}
 use Rattle.x7_words.specs.Word.{AreBytes}
 use Rattle.x7_part.specs.Part.{PartData}
@@ -24,25 +24,44 @@ use Rattle.x7_effects.specs.Played.{PlaysFull, PlaysPartial, PlaysRead, device_a
 use Rattle.x7_forms.specs.Event.{Event}
 use Rattle.x7_tool.specs.Generate.{generated, planned_summary}
 use Rattle.x7_forms.specs.Form.{AskedForm, Booting, Generating, Imaging, ImagingFor, PlanningFull, PlanningPartial, PlanningRead, Playing, PlayingSvf}
-use Rattle.x7_forms.specs.Known.{Answer, Held, Known, data_of, part_of, stream_limit}
+use Rattle.x7_forms.specs.Known.{Answer, Held, Known, streams_known, part_known, stream_limit}
 use Rattle.x7_tool.specs.Play.{report_of}
-use Rattle.x7_tool.specs.Outcome.{ImageStreams, PlanTexts, image_streams, plan_texts, svf_answer, IsBootText}
+use Rattle.x7_tool.specs.Outcome.{ImageStreams, PartAndText, image_streams, part_and_text, svf_answer, IsBootText}
+
+-- The report of `play`: it is that of the streams' data, and startup has begun only where these made their checks.
+pub record PromisesPlayed (known : Known) (part : List ℕ) (streams : List (List ℕ)) (answer : Answer) : Type 0 where
+  pub device : PartData
+  pub bytes : List ℕ
+  pub read : part_known known part ≡ Ok device
+  pub joined : streams_known known stream_limit streams ≡ Ok bytes
+  pub report : answer ≡ report_of device bytes
+  pub checked : AreBytes bytes → 0 < (state_of device on_the_bench false bytes).phase → HasChecked device on_the_bench bytes
+
+-- The text of `svf`: it is that of the statements of the SVF text, and startup has begun only where the bytes that the
+-- device took made their checks.
+pub record PromisesPort (known : Known) (part text : List ℕ) (answer : Answer) : Type 0 where
+  pub texts : PartAndText
+  pub statements : List Statement
+  pub read : part_and_text known part text ≡ Ok texts
+  pub has_statements : IsSvfOf texts.text (Ok statements)
+  pub shows : answer ≡ svf_answer texts.part statements
+  pub checked : 0 < (state_shown texts.part (port_played texts.part statements)).phase → HasChecked texts.part on_the_bench (bytes_taken texts.part (port_played texts.part statements))
 
 -- The stream of `plan full`: after any bytes at rest it leaves the plan of the frames text over zeros and ends startup,
 -- and the device is at rest again.
 pub record PromisesFull (known : Known) (part frames stream : List ℕ) : Type 0 where
-  pub texts : PlanTexts
+  pub texts : PartAndText
   pub plan : PlanData
-  pub read : plan_texts known part frames ≡ Ok texts
+  pub read : part_and_text known part frames ≡ Ok texts
   pub planned : IsPlanOf texts.part texts.text (Ok plan)
   pub plays : (kept : Kept) (bytes : List ℕ) → AreBytes bytes → AtRest texts.part kept bytes → PlaysFull (device_after texts.part kept bytes) stream plan
 
 -- The stream of `plan partial`: after any bytes at rest it overrides just the frames of the plan of the frames text;
 -- the phase stays, and the device is at rest again.
 pub record PromisesPartial (known : Known) (part frames stream : List ℕ) : Type 0 where
-  pub texts : PlanTexts
+  pub texts : PartAndText
   pub plan : PlanData
-  pub read : plan_texts known part frames ≡ Ok texts
+  pub read : part_and_text known part frames ≡ Ok texts
   pub planned : IsPlanOf texts.part texts.text (Ok plan)
   pub plays : (kept : Kept) (bytes : List ℕ) → AreBytes bytes → AtRest texts.part kept bytes → PlaysPartial (device_after texts.part kept bytes) stream plan
 
@@ -50,35 +69,16 @@ pub record PromisesPartial (known : Known) (part frames stream : List ℕ) : Typ
 -- memory and phase stay, and the device is at rest again.
 pub record PromisesRead (known : Known) (part : List ℕ) (far n : ℕ) (stream : List ℕ) : Type 0 where
   pub device : PartData
-  pub read : part_of known part ≡ Ok device
+  pub read : part_known known part ≡ Ok device
   pub plays : (kept : Kept) (bytes : List ℕ) → AreBytes bytes → AtRest device kept bytes → PlaysRead (device_after device kept bytes) stream far n
 
 -- The text of `gen`: the full stream of the seed's plan, played on a new device, leaves the plan over zeros and ends
 -- startup, and the summary is that of such a play.
 pub record PromisesSummary (known : Known) (part : List ℕ) (seed : ℕ) (text : List ℕ) : Type 0 where
   pub device : PartData
-  pub read : part_of known part ≡ Ok device
+  pub read : part_known known part ≡ Ok device
   pub plays : PlaysFull (device_after device on_the_bench []) (full_stream device (generated device seed)) (generated device seed)
   pub played : text ≡ planned_summary device seed
-
--- The report of `play`: it is that of the streams' data, and startup has begun only where these made their checks.
-pub record PromisesPlayed (known : Known) (part : List ℕ) (streams : List (List ℕ)) (answer : Answer) : Type 0 where
-  pub device : PartData
-  pub bytes : List ℕ
-  pub read : part_of known part ≡ Ok device
-  pub joined : data_of known stream_limit streams ≡ Ok bytes
-  pub report : answer ≡ report_of device bytes
-  pub checked : AreBytes bytes → 0 < (state_of device on_the_bench false bytes).phase → HasChecked device on_the_bench bytes
-
--- The text of `svf`: it is that of the statements of the SVF text, and startup has begun only where the bytes that the
--- device took made their checks.
-pub record PromisesPort (known : Known) (part text : List ℕ) (answer : Answer) : Type 0 where
-  pub texts : PlanTexts
-  pub statements : List Statement
-  pub read : plan_texts known part text ≡ Ok texts
-  pub has : IsSvfOf texts.text (Ok statements)
-  pub shows : answer ≡ svf_answer texts.part statements
-  pub checked : 0 < (state_shown texts.part (port_played texts.part statements)).phase → HasChecked texts.part on_the_bench (bytes_taken texts.part (port_played texts.part statements))
 
 -- The bytes of `image GOLDEN UPDATE`: a flash that begins with them has both streams, for each part whose start address
 -- counts bytes, and a boot from it tries the update, and falls back where that fails.
@@ -92,7 +92,7 @@ pub record PromisesImage (known : Known) (golden update image : List ℕ) : Type
 pub record PromisesImageFor (known : Known) (part golden update image : List ℕ) : Type 0 where
   pub device : PartData
   pub streams : ImageStreams
-  pub part_read : part_of known part ≡ Ok device
+  pub part_read : part_known known part ≡ Ok device
   pub read : image_streams known golden update ≡ Ok streams
   pub boots : (more : List ℕ) → HasStreams device streams.golden streams.update (image ++ more)
 
@@ -121,18 +121,18 @@ pub record BootsFromOpen (o : OpenFlash) (answer : Answer) : Type 0 where
 -- golden stream is one that starts so.
 pub record PromisesStart (known : Known) (part flash : List ℕ) (answer : Answer) : Type 0 where
   pub device : PartData
-  pub read : part_of known part ≡ Ok device
+  pub read : part_known known part ≡ Ok device
   pub starts : (all : List ℕ) → known.flash flash ≡ Some (Held all) → AreBytes all → StartsChecked device all answer
   pub opened : (o : OpenFlash) → HoldsOpen known flash device o → BootsFromOpen o answer
 
 -- what a whole text of a form promises over what is known
 abbrev pub PromiseOf : Known → AskedForm → Answer → Type 0
+PromiseOf known (Playing part streams) answer = PromisesPlayed known part streams answer
+PromiseOf known (PlayingSvf part text) answer = PromisesPort known part text answer
 PromiseOf known (PlanningFull part frames) answer = PromisesFull known part frames answer.text
 PromiseOf known (PlanningPartial part frames) answer = PromisesPartial known part frames answer.text
 PromiseOf known (PlanningRead part far n) answer = PromisesRead known part far n answer.text
 PromiseOf known (Generating part seed) answer = PromisesSummary known part seed answer.text
-PromiseOf known (Playing part streams) answer = PromisesPlayed known part streams answer
-PromiseOf known (PlayingSvf part text) answer = PromisesPort known part text answer
 PromiseOf known (Imaging golden update) answer = PromisesImage known golden update answer.text
 PromiseOf known (ImagingFor part golden update) answer = PromisesImageFor known part golden update answer.text
 PromiseOf known (Booting part flash) answer = PromisesStart known part flash answer

@@ -14,7 +14,7 @@ use Rattle.x7_forms.specs.Event.{Event, Cause, Wording, Want, Fault, Absence, Br
 use Rattle.x7_forms.specs.Form.{AskedForm, Listing, UpdatingFlash, flash_names, listed_by, names_of, updated_by}
 use Rattle.x7_forms.specs.Known.{Answer, Held, Known, bytes_found, flash_found, with_inputs}
 use Rattle.x7_part.specs.Part.{PartData}
-use Rattle.x7_forms.specs.Message.{final_status}
+use Rattle.x7_forms.specs.Status.{final_status}
 use Rattle.x7_forms.specs.Step.{Among, AnswersBy, IsCausedBy, IsOfMishap, seen, step_over}
 use Rattle.x7_tool.specs.Ahead.{StaysNear}
 use Rattle.x7_tool.specs.Outcome.{FlashBoots, FormGives, no_text}
@@ -25,25 +25,25 @@ use Rattle.x7_tool.specs.Stopping.{Stops}
 -- ---- why
 
 -- the contents are known, and the form comes to this end; where they aren't, never
-abbrev pub Shows : Option Known → AskedForm → Result Answer Event → Type 0
-Shows None form end = ⊥
-Shows (Some known) form end = FormGives known form end
+abbrev pub IsKnownToGive : Option Known → AskedForm → Result Answer Event → Type 0
+IsKnownToGive None form end = ⊥
+IsKnownToGive (Some known) form end = FormGives known form end
 
 -- where the contents are known, the form comes to this end; where they aren't, always
-abbrev pub Agrees : Option Known → AskedForm → Result Answer Event → Type 0
-Agrees None form end = Unit {0}
-Agrees (Some known) form end = FormGives known form end
+abbrev pub GivesIfKnown : Option Known → AskedForm → Result Answer Event → Type 0
+GivesIfKnown None form end = Unit {0}
+GivesIfKnown (Some known) form end = FormGives known form end
 
--- the event reports a mishap that came, and where the contents are known, the form comes to it over them with that
--- mishap; where they aren't, the mishap is all that is said
-abbrev pub Happens : AskedForm → Outside → Outside → Event → Type 0
-Happens form old new event = IsOfMishap Answer (known_in old) (Came (Some form) old new) (λ known end. FormGives known form end) event
+-- The event reports a mishap that came; where the contents are known, the form comes to the event over them with that
+-- mishap.
+abbrev pub ReportsMishap : AskedForm → Outside → Outside → Event → Type 0
+ReportsMishap form old new event = IsOfMishap Answer (known_in old) (Came (Some form) old new) (λ known end. FormGives known form end) event
 
--- a byte was read that is another than the one that an update with the stream's data writes at this place of the flash,
--- and is the first of the update or of its slot's switch word that is; with some data, where the contents aren't known
+-- At this place of the flash another byte was read than an update with the stream's data writes there, and it is the
+-- first such byte of the update or of its slot's switch word. Where the contents aren't known, it is so for some data.
 pub record ReadsWrongAt (known : Option Known) (stream : List ℕ) (new : FlashState) (place : ℕ) : Type 0 where
   pub bytes : List ℕ
-  pub has : HasData known stream bytes
+  pub has_data : HasData known stream bytes
   pub wrote : ℕ
   pub read : ℕ
   pub wrong : IsReadWrong new.extent bytes place wrote read
@@ -57,23 +57,23 @@ IsDifference _ old new event = ⊥
 -- A write of the flash of a form failed once all else was done: the flash is within the limit, and over
 -- what is known the form comes to its end.
 abbrev pub WritesLast : AskedForm → Outside → Outside → Type 0
-WritesLast form old new = WritesFail (updated_by (Some form)) old.flash new.flash × (new.flash.extent ≤ flash_limit) × Agrees (known_in old) form (Ok no_text)
+WritesLast form old new = WritesFail (updated_by (Some form)) old.flash new.flash × (new.flash.extent ≤ flash_limit) × GivesIfKnown (known_in old) form (Ok no_text)
 
--- what a cause says of an event: a fault, or an absence by its count, is the first event that comes
+-- by its cause, what is so of an event: a fault, or an absence by its count, is the first event that comes
 abbrev pub CausedBy : Cause → AskedForm → Outside → Outside → Event → Type 0
 CausedBy Wording form old new event = ⊥
 CausedBy Want form old new event = event ≡ no_memory
-CausedBy Fault form old new event = Happens form old new event
-CausedBy Absence form old new event = Happens form old new event ⊎ Shows (known_in old) form (Err event)
+CausedBy Fault form old new event = ReportsMishap form old new event
+CausedBy Absence form old new event = ReportsMishap form old new event ⊎ IsKnownToGive (known_in old) form (Err event)
 CausedBy Break form old new event = (event ≡ writing_failed) × (SinkFails old.out new.out ⊎ WritesLast form old new)
-CausedBy Difference form old new event = IsDifference form old new event × Agrees (known_in old) form (Err event)
-CausedBy Contents form old new event = Agrees (known_in old) form (Err event)
+CausedBy Difference form old new event = IsDifference form old new event × GivesIfKnown (known_in old) form (Err event)
+CausedBy Contents form old new event = GivesIfKnown (known_in old) form (Err event)
 
 -- why a command ended so: words without a form are a wrong usage, a whole text is that of the
 -- known contents, and an event has its cause
 abbrev pub EndIsCaused : Option AskedForm → Outside → Outside → Result Answer Event → Type 0
 EndIsCaused None old new end = end ≡ Err usage
-EndIsCaused (Some form) old new (Ok answer) = Agrees (known_in old) form (Ok answer)
+EndIsCaused (Some form) old new (Ok answer) = GivesIfKnown (known_in old) form (Ok answer)
 EndIsCaused (Some form) old new (Err event) = CausedBy (cause_of_event event) form old new event
 
 -- ---- what the output got
@@ -90,8 +90,8 @@ PutsListing bytes old new = (text : List ℕ) × ((stream_listing bytes ≡ Ok t
 -- The bytes have a listing, and what was put is a prefix of the listing of every list of
 -- bytes that begins with them and has one.
 pub record ListsSoFar (bytes : List ℕ) (old new : Option (List ℕ)) : Type 0 where
-  pub has : (text : List ℕ) × (stream_listing bytes ≡ Ok text)
-  pub goes : (rest text : List ℕ) → AreBytes rest → stream_listing (bytes ++ rest) ≡ Ok text → PutsPrefix old text new
+  pub has_listing : (text : List ℕ) × (stream_listing bytes ≡ Ok text)
+  pub puts_prefix : (rest text : List ℕ) → AreBytes rest → stream_listing (bytes ++ rest) ≡ Ok text → PutsPrefix old text new
 
 -- the output got a prefix of the listing of bytes that are a prefix of the stream, and of whatever may follow them
 abbrev pub ListsPrefix : List ℕ → Outside → Outside → Type 0
@@ -156,7 +156,7 @@ IsMeasured form new (Err event) = (name : List ℕ) → Among (flash_names form)
 -- a form has all that it needs but for its flash, which is within the limit: whatever that holds, there
 -- is a whole text over what the inputs hold
 abbrev pub NeedsOnlyFlash : AskedForm → InputsState → FlashState → Type 0
-NeedsOnlyFlash form old new = (new.extent ≤ flash_limit) × ((answer : Answer) × Agrees (with_inputs old.contents None) form (Ok answer))
+NeedsOnlyFlash form old new = (new.extent ≤ flash_limit) × ((answer : Answer) × GivesIfKnown (with_inputs old.contents None) form (Ok answer))
 
 -- a fault of a form's flash that is attached comes once the form needs only the flash; it may
 -- be that of an input of the same name too
@@ -177,23 +177,23 @@ JudgesFlash form old new end = Unit {0}
 
 -- ---- the end of a command
 
--- how a command ended: why, what the output got, how far was read, how large the flash is, what was judged where it
--- failed, and what an update left
+-- how a command ended: why, what the output got, how far `list` read ahead, how large the flash is, what was in order
+-- before the flash failed, and what an update left
 pub record Ends (form : Option AskedForm) (old new : Outside) (end : Result Answer Event) : Type 0 where
   pub cause : EndIsCaused form old new end
   pub wrote : Wrote form old new end
   pub near : StaysNear (final_status end) form old new
   pub measured : IsMeasured form new.flash end
-  pub last : FailsLast form old.inputs new.flash end
+  pub fails_last : FailsLast form old.inputs new.flash end
   pub updates : Updates (updated_by form) old new end
 
--- how a command ended, by whether what it wrote reports a fault, or by the event
+-- how a command ended, by whether what it wrote reports that something stopped, or by the event
 abbrev pub EndsAs : Option AskedForm → Outside → Outside → Result Bool Event → Type 0
 EndsAs form old new (Ok stopped) = (text : List ℕ) × Ends form old new (Ok (record { stopped = stopped; text = text }))
 EndsAs form old new (Err event) = Ends form old new (Err event)
 
--- A form came to this end, but for what is said of it: how it ended, where reading stopped, what was judged where its
--- flash can't be used, how often inputs were asked for, and that every input keeps its bytes.
+-- What a form did, up to the line that is said of its end: how it ended, where reading stopped, that an update whose
+-- flash can't be used asks for no stream, how often inputs were asked for, and that every input keeps its bytes.
 pub record Answered (form : AskedForm) (old new : Outside) (got : Result Bool Event) : Type 0 where
   pub ends : EndsAs (Some form) old new got
   pub stops : Stops (Some form) old.inputs new.inputs got
@@ -201,15 +201,15 @@ pub record Answered (form : AskedForm) (old new : Outside) (got : Result Bool Ev
   pub asks : AsksAtMost old.inputs (length (names_of (Some form))) new.inputs
   pub stays : InputsStay old.inputs new.inputs
 
--- a form that writes no text came to this end, whatever the sinks hold
+-- what a form that writes no text did, whatever the sinks hold
 abbrev pub AnsweredSilently : AskedForm → Sources → Sources → Result Bool Event → Type 0
 AnsweredSilently form old new got = (before after : Outside) → after.out ≡ before.out → Answered form (with_sources before old) (with_sources after new) got
 
--- a listing came to this end, whatever the flash and the sink of messages hold
+-- what a listing did, whatever the flash and the sink of messages hold
 abbrev pub AnsweredListing : List ℕ → Transfer → Transfer → Result Bool Event → Type 0
 AnsweredListing stream old new got = (before after : Outside) → Answered (Listing stream) (with_transfer before old) (with_transfer after new) got
 
--- whether what a call wrote reports a fault, or the event of its refusal
+-- by the result of a call that writes: whether what it reports stopped, or the event of its refusal
 abbrev pub written_by : Result Bool Refusal → Result Bool Event
 written_by result = seen (λ stopped. stopped) result
 
@@ -219,14 +219,15 @@ abbrev pub SaysEnd : SinkState → SinkState → Result Answer Event → Type 0
 SaysEnd old new (Ok answer) = new.written ≡ old.written
 SaysEnd old new (Err event) = PutsOrFails old (event_line event) new
 
--- how a text that is ready, or none, was written: whether it reports a fault, or the event
-abbrev pub Puts : Result Answer Event → SinkState → SinkState → Result Bool Event → Type 0
-Puts (Err event) old new got = (got ≡ Err event) × (new.written ≡ old.written)
-Puts (Ok answer) old new (Ok stopped) = (stopped ≡ answer.stopped) × PutsAll old answer.text new
-Puts (Ok answer) old new (Err event) = (event ≡ writing_failed) × SinkFails old new × PutsSome old answer.text new
+-- how a text that is ready was written, or the event in place of one: the answer of the call is whether what the text
+-- reports stopped, or an event
+abbrev pub PutsAnswer : Result Answer Event → SinkState → SinkState → Result Bool Event → Type 0
+PutsAnswer (Err event) old new got = (got ≡ Err event) × (new.written ≡ old.written)
+PutsAnswer (Ok answer) old new (Ok stopped) = (stopped ≡ answer.stopped) × PutsAll old answer.text new
+PutsAnswer (Ok answer) old new (Err event) = (event ≡ writing_failed) × SinkFails old new × PutsSome old answer.text new
 
--- a text of the form that is ready has its cause: it is what the known contents come to, or
--- what the form names failed or was missing
+-- a text of the form that is ready, or the event in place of it, has its cause: the form gives it over the known
+-- contents, or what the form names failed or was missing, or memory was wanting
 abbrev pub AnswersOver : AskedForm → Outside → Outside → Result Answer Event → Type 0
 AnswersOver form old new got = IsCausedBy (known_in old) (Came (Some form) old new) (λ known end. FormGives known form end) got
 
@@ -252,7 +253,7 @@ pub record MakesReadyFrom (form : AskedForm) (old new : Sources) (got : Result A
   pub caused : AnswersFrom form old new got
   pub stops : Stops (Some form) old.inputs new.inputs got
   pub measured : IsMeasured (Some form) new.flash got
-  pub last : FailsLast (Some form) old.inputs new.flash got
+  pub fails_last : FailsLast (Some form) old.inputs new.flash got
   pub asks : AsksAtMost old.inputs (length (names_of (Some form))) new.inputs
   pub stays : InputsStay old.inputs new.inputs
 

@@ -9,7 +9,7 @@ use Rattle.x7_forms.specs.declared.status.Status.{Status}
 use Rattle.x7_forms.specs.declared.status.Status.TheVariants as status
 use Rattle.x7_forms.specs.Event.{Event}
 use Rattle.x7_forms.specs.Form.{AskedForm, Assembling, FromMcs, flash_use, names_of, updated_by}
-use Rattle.x7_forms.specs.Message.{final_status}
+use Rattle.x7_forms.specs.Status.{final_status}
 use Rattle.x7_forms.specs.Known.{Answer, Known, stream_limit}
 use Rattle.x7_tool.specs.Ahead.{StaysNear}
 use Rattle.x7_tool.specs.Leaving.{Updates}
@@ -17,41 +17,33 @@ use Rattle.x7_tool.specs.Outcome.{IsOutcome}
 use Rattle.x7_tool.specs.Outside.{IsQuiet, KeepsFlash, Outside, known_in, sources}
 use Rattle.x7_tool.specs.Promise.{Promise}
 use Rattle.x7_tool.specs.Stopping.{Stops}
-use Rattle.x7_tool.specs.Run.{EndIsCaused, Ends, FailsLast, IsMeasured, JudgesFlash, SaysEnd, Wrote}
+use Rattle.x7_tool.specs.Run.{EndIsCaused, FailsLast, IsMeasured, JudgesFlash, SaysEnd, Wrote}
 
 -- an input has this text
 abbrev pub HasText : Outside → List ℕ → List ℕ → Type 0
 HasText o name text = (contents : List ℕ → Option (List ℕ)) × ((o.inputs.contents ≡ Some contents) × (contents name ≡ Some text))
 
--- the run ended with these bytes, or for want of memory
+-- the run ended with these bytes as its text, or for want of memory
 abbrev pub LeadsBack : Status → Result Answer Event → List ℕ → Type 0
 LeadsBack s end bytes = (s ≡ status.NoMemory) ⊎ (end ≡ Ok (record { stopped = false; text = bytes }))
 
 -- where nothing failed, the listing of a stream assembles to the stream, its header included
 abbrev pub ListingAssembles : List ℕ → Outside → Outside → Status → Result Answer Event → Type 0
-ListingAssembles name old new s end = (bytes text : List ℕ) → AreBytes bytes → length bytes ≤ stream_limit → stream_listing bytes ≡ Ok text → HasText old name text → IsQuiet (Some (Assembling name)) old new → LeadsBack s end bytes
+ListingAssembles name old new s end =
+    (bytes text : List ℕ) → AreBytes bytes → length bytes ≤ stream_limit → stream_listing bytes ≡ Ok text
+    → HasText old name text → IsQuiet (Some (Assembling name)) old new → LeadsBack s end bytes
 
--- where nothing failed, the flash text of an image gives the image
+-- where nothing failed, the Intel HEX text of an image gives the image
 abbrev pub GivesImage : List ℕ → Outside → Outside → Status → Result Answer Event → Type 0
-GivesImage name old new s end = (bytes : List ℕ) → AreBytes bytes → length bytes ≤ flash_limit → HasText old name (mcs_text bytes) → IsQuiet (Some (FromMcs name)) old new → LeadsBack s end bytes
+GivesImage name old new s end =
+    (bytes : List ℕ) → AreBytes bytes → length bytes ≤ flash_limit
+    → HasText old name (mcs_text bytes) → IsQuiet (Some (FromMcs name)) old new → LeadsBack s end bytes
 
--- texts lead back
+-- what the text of `asm` or `unmcs` was made from comes back: of a listing the stream, of an Intel HEX text the image
 abbrev pub TextsLeadBack : Option AskedForm → Outside → Outside → Status → Result Answer Event → Type 0
 TextsLeadBack (Some (Assembling name)) old new s end = ListingAssembles name old new s end
 TextsLeadBack (Some (FromMcs name)) old new s end = GivesImage name old new s end
 TextsLeadBack form old new s end = Unit {0}
-
--- A command ended so, with this status, and said why where there is no whole text: what is shown of it before `Runs`,
--- which follows from it.
-pub record RanAs (form : Option AskedForm) (old new : Outside) (s : Status) : Type 0 where
-  pub end : Result Answer Event
-  pub ends_as : s ≡ final_status end
-  pub said : SaysEnd old.err new.err end
-  pub ends : Ends form old new end
-  pub stops : Stops form old.inputs new.inputs end
-  pub judges : JudgesFlash form (sources old.inputs old.flash) (sources new.inputs new.flash) end
-  pub asks : AsksAtMost old.inputs (length (names_of form)) new.inputs
-  pub stays : InputsStay old.inputs new.inputs
 
 -- a run of the command that the words ask for
 pub record Runs (form : Option AskedForm) (old new : Outside) (s : Status) : Type 0 where
@@ -72,16 +64,17 @@ pub record Runs (form : Option AskedForm) (old new : Outside) (s : Status) : Typ
   pub outcome : (known : Known) → known_in old ≡ Some known → IsQuiet form old new → (s ≡ status.NoMemory) ⊎ IsOutcome known form end
   -- words without a form are a wrong usage
   pub no_form : form ≡ None → s ≡ status.Usage
-  -- what other forms wrote leads back
+  -- what `list` or `mcs` wrote gives back the stream or the image
   pub back : TextsLeadBack form old new s end
-  -- a planned stream that was written does on a device at rest what was planned
+  -- a whole text over known contents keeps the promise of its form: a planned stream does on a device at rest what was
+  -- planned, a report shows no startup without its checks, a device boots from an image or a flash as is said
   pub promise : Promise (known_in old) form end
   -- the flash of the form is within the limit after a whole text, and over it where it is too
   -- large, whether its bytes are known or not
   pub measured : IsMeasured form new.flash end
   -- a fault of a flash that is attached comes last: the flash is within the limit, and
   -- all that the form reads of inputs is good
-  pub last : FailsLast form old.inputs new.flash end
+  pub fails_last : FailsLast form old.inputs new.flash end
   -- where an input ends the command, no later one was asked for, and no more than a byte over its limit was given of it
   pub stops : Stops form old.inputs new.inputs end
   -- an update whose flash isn't there, wasn't attached or is too large asks for no stream

@@ -13,20 +13,20 @@ use Rattle.x7_tool.specs.Outcome.{script_limit, text_limit}
 -- the inputs that a form reads, in the order of its words, each with the most bytes that it may have
 abbrev pub inputs_of : Option (List ℕ → Option (List ℕ)) → AskedForm → List Limited
 inputs_of contents (Listing stream) = limited stream_limit stream ∷ []
-inputs_of contents (Playing part streams) = limited part_limit part ∷ limited_together contents stream_limit streams
 inputs_of contents (Assembling text) = limited text_limit text ∷ []
-inputs_of contents (ToMcs image) = limited flash_limit image ∷ []
-inputs_of contents (FromMcs text) = limited text_limit text ∷ []
+inputs_of contents (Playing part streams) = limited part_limit part ∷ limited_together contents stream_limit streams
+inputs_of contents (Debugging part stream script) = limited part_limit part ∷ limited stream_limit stream ∷ limited script_limit script ∷ []
+inputs_of contents (PlayingSvf part text) = limited part_limit part ∷ limited text_limit text ∷ []
 inputs_of contents (PlanningFull part frames) = limited part_limit part ∷ limited text_limit frames ∷ []
 inputs_of contents (PlanningPartial part frames) = limited part_limit part ∷ limited text_limit frames ∷ []
 inputs_of contents (PlanningRead part far n) = limited part_limit part ∷ []
 inputs_of contents (Generating part seed) = limited part_limit part ∷ []
 inputs_of contents (Imaging golden update) = limited stream_limit golden ∷ limited stream_limit update ∷ []
 inputs_of contents (ImagingFor part golden update) = limited part_limit part ∷ limited stream_limit golden ∷ limited stream_limit update ∷ []
-inputs_of contents (Debugging part stream script) = limited part_limit part ∷ limited stream_limit stream ∷ limited script_limit script ∷ []
-inputs_of contents (PlayingSvf part text) = limited part_limit part ∷ limited text_limit text ∷ []
 inputs_of contents (Booting part flash) = limited part_limit part ∷ []
 inputs_of contents (UpdatingFlash flash stream) = limited stream_limit stream ∷ []
+inputs_of contents (ToMcs image) = limited flash_limit image ∷ []
+inputs_of contents (FromMcs text) = limited text_limit text ∷ []
 
 -- an event names the form's flash, the words that were read out, or the input at which reading stopped
 abbrev pub NamesItsStop : AskedForm → InputsState → InputsState → Event → Type 0

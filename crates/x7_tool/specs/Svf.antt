@@ -1,7 +1,7 @@
--- What playing an SVF text reads, as the definitions see it (this project's choice).
+-- What the command `svf` reads, a part and an SVF text, as its definitions see them (this project's choice).
 use Rattle.x7_tool.specs.declared.svf.Given.{Given}
-use Rattle.x7_tool.specs.Outcome.{PlanTexts}
+use Rattle.x7_tool.specs.Outcome.{PartAndText}
 
--- a part and an SVF text that were read, as the texts of a form
-abbrev pub svf_texts : Given → PlanTexts
-svf_texts g = record { part = g.part; text = g.text.items }
+-- a part and an SVF text that were read
+abbrev pub svf_given : Given → PartAndText
+svf_given g = record { part = g.part; text = g.text.items }

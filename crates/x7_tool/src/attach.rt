@@ -2,7 +2,7 @@
 ghost use Rattle.std.specs.Prelude.{◌≡◌, ◌≤◌, IfErr, OnOk, length, true, false};
 ghost use Rattle.x7_words.specs.Flash.{AsksFor, FlashStays, IsSized, IfKnown};
 ghost use Rattle.x7_boot.specs.Image.{flash_limit};
-ghost use Rattle.x7_forms.specs.Message.{event_of};
+ghost use Rattle.x7_forms.specs.Event.{event_of};
 ghost use Rattle.x7_tool.specs.Outside.{ReadsFlash};
 ghost use Rattle.x7_tool.specs.Run.{IsUnattached, IsUnopened};
 
@@ -13,7 +13,7 @@ use x7_words::{FLASH_LIMIT, Flash, SelectFault};
 pub(crate) fn attach<'w, F: Flash>(flash: &mut F, name: &'w str) -> Result<(), Refusal<'w>>
     ensures attached { OnOk result ((F.state flash.new).attached ≡ true) }
     ensures err { IfErr result (λ r. IsUnattached name.now (F.state flash.old) (F.state flash.new) (event_of r)) }
-    ensures none { IfErr result (λ r. (F.state flash.new).attached ≡ false) }
+    ensures unattached { IfErr result (λ r. (F.state flash.new).attached ≡ false) }
     ensures reads { ReadsFlash name.now (F.state flash.old) (F.state flash.new) }
     ensures stays { FlashStays (F.state flash.old) (F.state flash.new) (F.found_since flash.old) (F.found_since flash.new) }
     ensures asks { AsksFor (F.state flash.old) name.now (F.state flash.new) }
@@ -32,7 +32,7 @@ pub(crate) fn attach<'w, F: Flash>(flash: &mut F, name: &'w str) -> Result<(), R
     }
 }
 
-/// Attaches the flash of this name, which is no larger than a flash may be.
+/// Attaches the flash of this name, and refuses one that is larger than a flash may be.
 pub(crate) fn open_flash<'w, F: Flash>(flash: &mut F, name: &'w str) -> Result<(), Refusal<'w>>
     ensures attached { OnOk result ((F.state flash.new).attached ≡ true) }
     ensures within { OnOk result (IfKnown (F.state flash.new).bytes (λ all. length all ≤ flash_limit)) }

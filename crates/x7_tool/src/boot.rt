@@ -6,13 +6,12 @@ ghost use Rattle.x7_boot.specs.Boot.{IsBoot};
 ghost use Rattle.x7_engine.specs.Standing.{NoWordDue};
 ghost use Rattle.x7_forms.specs.Form.{Booting};
 ghost use Rattle.x7_boot.specs.Image.{flash_limit};
-ghost use Rattle.x7_forms.specs.Event.{no_memory, reading_failed};
-ghost use Rattle.x7_forms.specs.Message.{event_of};
+ghost use Rattle.x7_forms.specs.Event.{event_of, no_memory, reading_failed};
 ghost use Rattle.x7_tool.specs.Outcome.{IsBootText, boot_event, has_failed};
 ghost use Rattle.x7_tool.specs.Boot.{OfBoot, boot_text};
 ghost use Rattle.x7_forms.specs.Step.{seen};
 ghost use Rattle.x7_tool.specs.Outside.{ReadsFlash, sources};
-ghost use Rattle.x7_tool.specs.Play.{text_of_play};
+ghost use Rattle.x7_tool.specs.Play.{play_answer};
 ghost use Rattle.x7_tool.specs.Run.{FlashComes, MakesReadyFrom};
 
 use crate::attach::attach;
@@ -72,13 +71,13 @@ fn ready_text(alloc: Global, booted: Booted) -> Result<PlayText, NoMemory>
 
 /// The text of a boot, or want of memory.
 fn text_of<'w>(alloc: Global, booted: Booted) -> Result<PlayText, Refusal<'w>>
-    ensures ok { IfOk result (λ text. (part : PartData) (flash : List ℕ) → IsBoot part flash booted → NoWordDue booted.device → IsBootText part flash (text_of_play text)) }
+    ensures ok { IfOk result (λ text. (part : PartData) (flash : List ℕ) → IsBoot part flash booted → NoWordDue booted.device → IsBootText part flash (play_answer text)) }
     ensures err { IfErr result (λ r. event_of r ≡ no_memory) }
 {
     Ok(ready_text(alloc, booted)?)
 }
 
-/// Why a boot came to no end.
+/// Why a boot could not be finished.
 fn refusal_of<'w>(name: &'w str, fault: BootFault) -> Refusal<'w>
     ensures { event_of result ≡ boot_event name.now fault }
 {
@@ -100,17 +99,17 @@ fn boot_from<'w, F: Flash>(
     alloc: Global,
     part: &Part,
     flash: &mut F,
-    name: &'w str,
+    flash_name: &'w str,
 ) -> Result<PlayText, Refusal<'w>>
-    ensures caused { FlashComes name.now part.now (F.state flash.old) (F.state flash.new) (seen text_of_play result) }
-    ensures failed { IfErr result (λ r. event_of r ≡ reading_failed name.now → (F.state flash.new).attached ≡ true → (F.state flash.new).extent ≤ flash_limit) }
-    ensures reads { ReadsFlash name.now (F.state flash.old) (F.state flash.new) }
+    ensures caused { FlashComes flash_name.now part.now (F.state flash.old) (F.state flash.new) (seen play_answer result) }
+    ensures failed { IfErr result (λ r. event_of r ≡ reading_failed flash_name.now → (F.state flash.new).attached ≡ true → (F.state flash.new).extent ≤ flash_limit) }
+    ensures reads { ReadsFlash flash_name.now (F.state flash.old) (F.state flash.new) }
     ensures unwritten { Unwritten (F.state flash.old) (F.state flash.new) (F.found_since flash.old) (F.found_since flash.new) }
 {
-    attach(flash, name)?;
+    attach(flash, flash_name)?;
     match x7_boot::boot(alloc, part, flash) {
         Ok(booted) => text_of(alloc, booted),
-        Err(fault) => Err(refusal_of(name, fault)),
+        Err(fault) => Err(refusal_of(flash_name, fault)),
     }
 }
 
@@ -120,13 +119,13 @@ pub(crate) fn boot<'w, I: Inputs, F: Flash>(
     inputs: &mut I,
     flash: &mut F,
     part: &'w str,
-    name: &'w str,
+    flash_name: &'w str,
 ) -> Result<PlayText, Refusal<'w>>
-    ensures ready { MakesReadyFrom (Booting part.now name.now) (sources (I.state inputs.old) (F.state flash.old))
-        (sources (I.state inputs.new) (F.state flash.new)) (seen text_of_play result) }
-    ensures reads { ReadsFlash name.now (F.state flash.old) (F.state flash.new) }
+    ensures ready { MakesReadyFrom (Booting part.now flash_name.now) (sources (I.state inputs.old) (F.state flash.old))
+        (sources (I.state inputs.new) (F.state flash.new)) (seen play_answer result) }
+    ensures reads { ReadsFlash flash_name.now (F.state flash.old) (F.state flash.new) }
     ensures unwritten { Unwritten (F.state flash.old) (F.state flash.new) (F.found_since flash.old) (F.found_since flash.new) }
 {
     let part = read_part(alloc, inputs, part)?;
-    boot_from(alloc, &part, flash, name)
+    boot_from(alloc, &part, flash, flash_name)
 }

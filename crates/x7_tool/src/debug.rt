@@ -3,12 +3,11 @@ ghost use Rattle.x7_forms.specs.ReadingStops.{StopsAmong, limited};
 ghost use Rattle.std.specs.Prelude.{◌≡◌, ◌⊎◌, [], ◌∷◌, Ok, Err, IfErr, IfOk};
 ghost use Rattle.x7_words.specs.Input.{AsksAtMost, InputsStay};
 ghost use Rattle.x7_tool.specs.Debug.{debug_given};
-ghost use Rattle.x7_forms.specs.Message.{event_of};
-ghost use Rattle.x7_forms.specs.Event.{no_memory};
+ghost use Rattle.x7_forms.specs.Event.{event_of, no_memory};
 ghost use Rattle.x7_tool.specs.Outcome.{DebuggedAs, debug_inputs, script_event, script_limit, shown_of};
 ghost use Rattle.x7_forms.specs.Known.{part_limit, stream_limit};
 ghost use Rattle.x7_forms.specs.Turn.{StandsAt};
-ghost use Rattle.x7_tool.specs.Ready.{whole_of};
+ghost use Rattle.x7_tool.specs.Ready.{text_answer};
 ghost use Rattle.x7_forms.specs.Form.{Debugging};
 ghost use Rattle.x7_forms.specs.Step.{AnswersAs, seen, step_over};
 ghost use Rattle.x7_tool.specs.Run.{MakesReady};
@@ -24,7 +23,7 @@ use x7_words::Inputs;
 /// The most bytes of a script.
 const SCRIPT_LIMIT: usize = 1_048_576;
 
-/// What a debugging reads: a part, the data of a stream, and the text of a script.
+/// What the command `debug` reads: a part, the data of a stream, and the text of a script.
 #[derive(Drop)]
 pub(crate) struct Given {
     part: Part,
@@ -74,7 +73,7 @@ fn read_given<'w, I: Inputs>(
 /// What a script shows of a session at its first position, and whether the device has a fault where the script ends.
 fn shown<'w>(alloc: Global, session: &mut Session, script: &Script) -> Result<Text, Refusal<'w>>
     requires { session.old.at ≡ 0 }
-    ensures ok { IfOk result (λ text. shown_of session.old.part session.old.stream script.now ≡ whole_of text) }
+    ensures ok { IfOk result (λ text. shown_of session.old.part session.old.stream script.now ≡ text_answer text) }
     ensures err { IfErr result (λ r. event_of r ≡ no_memory) }
 {
     let text = transcript(alloc, session, script)?;
@@ -86,7 +85,7 @@ fn shown<'w>(alloc: Global, session: &mut Session, script: &Script) -> Result<Te
 
 /// What a script shows of a stream, and whether the device has a fault where it ends.
 fn text_of<'w>(alloc: Global, given: Given, name: &'w str) -> Result<Text, Refusal<'w>>
-    ensures ok { IfOk result (λ text. DebuggedAs name.now (Ok (debug_given given)) (Ok (whole_of text))) }
+    ensures ok { IfOk result (λ text. DebuggedAs name.now (Ok (debug_given given)) (Ok (text_answer text))) }
     ensures err { IfErr result (λ r. (event_of r ≡ no_memory) ⊎ DebuggedAs name.now (Ok (debug_given given)) (Err (event_of r))) }
 {
     let Given {
@@ -112,7 +111,7 @@ pub(crate) fn debug<'w, I: Inputs>(
     stream: &'w str,
     script: &'w str,
 ) -> Result<Text, Refusal<'w>>
-    ensures { MakesReady (Debugging part.now stream.now script.now) (I.state inputs.old) (I.state inputs.new) (seen whole_of result) }
+    ensures { MakesReady (Debugging part.now stream.now script.now) (I.state inputs.old) (I.state inputs.new) (seen text_answer result) }
 {
     let given = read_given(alloc, inputs, part, stream, script)?;
     text_of(alloc, given, script)

@@ -1,7 +1,7 @@
 //! Texts that are read line by line while they come.
 ghost use Rattle.std.specs.Prelude.{ℕ, ◌^◌, ◌<◌, List, [], ◌++◌, length, Ok, Err, IfOk, IfErr, ◌+◌};
 ghost use Rattle.x7_words.specs.Input.{AsksAtMost, InputsStay};
-ghost use Rattle.x7_forms.specs.Message.{event_of};
+ghost use Rattle.x7_forms.specs.Event.{event_of};
 ghost use Rattle.x7_forms.specs.Step.{IsUnread, ReadsWhole};
 ghost use Rattle.x7_forms.specs.Turn.{StandsAt};
 ghost use Rattle.x7_tool.specs.Outcome.{text_limit};

@@ -5,9 +5,8 @@ ghost use Rattle.x7_part.specs.Part.{frame_words};
 ghost use Rattle.x7_memory.specs.Plan.{AreAddressed};
 ghost use Rattle.x7_planner.specs.FullStream.{full_stream};
 ghost use Rattle.x7_planner.specs.FullStreamPieces.{HasGiven, piece_limit};
-ghost use Rattle.x7_forms.specs.Event.{no_memory};
-ghost use Rattle.x7_forms.specs.Message.{event_of};
-ghost use Rattle.x7_tool.specs.FullText.{full_of};
+ghost use Rattle.x7_forms.specs.Event.{event_of, no_memory};
+ghost use Rattle.x7_tool.specs.FullText.{full_answer};
 
 use crate::text::Ready;
 use std::alloc::Global;
@@ -18,7 +17,7 @@ use x7_part::Part;
 use x7_planner::FullStream;
 use x7_words::{Failed, Sink, write_all};
 
-/// The most bytes of a piece of a full stream.
+/// The most bytes of a piece of a full stream (`piece_limit`).
 const PIECE_LIMIT: usize = 163_200;
 
 /// A part, a plan for it, and room for a piece of its full stream.
@@ -104,7 +103,7 @@ fn write_full<O: Sink>(
 }
 
 impl Ready for FullText {
-    ghost answer = { full_of };
+    ghost answer = { full_answer };
 
     fn is_stopped(&self) -> bool {
         false

@@ -8,14 +8,13 @@ ghost use Rattle.x7_memory.specs.Frames.{AreFramesOf, frame_at};
 ghost use Rattle.x7_memory.specs.Plan.{AreAddressed, IsPlan};
 ghost use Rattle.x7_planner.specs.FullStream.{full_stream};
 ghost use Rattle.x7_planner.specs.FullStreamPieces.{HasGiven};
-ghost use Rattle.x7_tool.specs.Generate.{TookStream, count_line, counted, gen_text, head_line, sum_line, generated, next_number, planned_summary, played_summary, row_by, summary_text, words_sum};
-ghost use Rattle.x7_forms.specs.Event.{no_memory};
-ghost use Rattle.x7_forms.specs.Message.{event_of};
+ghost use Rattle.x7_tool.specs.Generate.{TookStream, count_line, counted, gen_text, gen_line, sum_line, generated, next_number, planned_summary, played_summary, row_by, summary_text, words_sum};
+ghost use Rattle.x7_forms.specs.Event.{event_of, no_memory};
 ghost use Rattle.x7_tool.specs.Outcome.{gen_answer};
 ghost use Rattle.x7_tool.specs.Run.{MakesReady};
 ghost use Rattle.x7_forms.specs.Form.{Generating};
 ghost use Rattle.x7_playing.specs.Playing.{HasPlayed};
-ghost use Rattle.x7_tool.specs.Ready.{text_of_bytes};
+ghost use Rattle.x7_tool.specs.Ready.{bytes_answer};
 ghost use Rattle.x7_forms.specs.Step.{seen};
 
 use std::alloc::Global;
@@ -30,14 +29,15 @@ use x7_words::{Inputs, NoMemory};
 /// The least number with which a frame is planned: with a smaller one it is not.
 const LEAST_PLANNED: u32 = 1 << 31;
 
-/// The number after this one in the sequence that a seed begins (this project's choice).
+/// The number after this one in the sequence that a seed begins: a linear congruence modulo 2^32 (this project's
+/// choice).
 fn next_number(x: u32) -> u32
     ensures { result ≡ next_number x }
 {
     x.wrapping_mul(1_664_525).wrapping_add(1_013_904_223)
 }
 
-/// Makes the words of a frame count up from a number.
+/// Makes the words of a frame count up from a number, modulo 2^32.
 fn count_up(frame: &mut Vec<u32>, n: u32)
     ensures words { frame.new.items ≡ counted (length frame.old.items) n }
     ensures room { length frame.new.items ≡ length frame.old.items }
@@ -119,10 +119,12 @@ fn memory_sum(part: &Part, memory: &Memory) -> u32
     total
 }
 
-/// A device that took a stream, and the bytes of that stream.
+/// A stream that was played.
 #[derive(Drop)]
 struct Played {
+    /// The player whose device took the stream.
     player: Player,
+    /// The bytes of the stream.
     size: u64,
 }
 
@@ -184,7 +186,7 @@ struct Summary {
     sum: u32,
 }
 
-/// Appends the line of a number.
+/// Appends the line of a number: its key, and its decimal digits.
 fn put_count(text: &mut Vec<u8>, key: &[u8], number: u64) -> Result<(), NoMemory>
     ensures { OnOk result (text.new.items ≡ text.old.items ++ count_line key.now number) }
 {
@@ -192,9 +194,9 @@ fn put_count(text: &mut Vec<u8>, key: &[u8], number: u64) -> Result<(), NoMemory
     put_number(text, number)
 }
 
-/// Appends the line of a part's name and a seed.
-fn put_head(text: &mut Vec<u8>, name: &str, seed: u32) -> Result<(), NoMemory>
-    ensures { OnOk result (text.new.items ≡ text.old.items ++ head_line name.now seed) }
+/// Appends the first line of the text of `gen`: the name of the part, and the seed.
+fn put_gen_line(text: &mut Vec<u8>, name: &str, seed: u32) -> Result<(), NoMemory>
+    ensures { OnOk result (text.new.items ≡ text.old.items ++ gen_line name.now seed) }
 {
     put_text(text, b"gen ")?;
     put_text(text, name.as_bytes())?;
@@ -202,7 +204,7 @@ fn put_head(text: &mut Vec<u8>, name: &str, seed: u32) -> Result<(), NoMemory>
     put_number(text, u64::from(seed))
 }
 
-/// Appends the line of a sum.
+/// Appends the line of a sum, a word of 32 bits.
 fn put_sum(text: &mut Vec<u8>, sum: u32) -> Result<(), NoMemory>
     ensures { OnOk result (text.new.items ≡ text.old.items ++ sum_line sum) }
 {
@@ -215,7 +217,7 @@ fn put_sum(text: &mut Vec<u8>, sum: u32) -> Result<(), NoMemory>
 fn put_summary(text: &mut Vec<u8>, name: &str, seed: u32, summary: Summary) -> Result<(), NoMemory>
     ensures { OnOk result (text.new.items ≡ text.old.items ++ summary_text name.now seed (record { planned = summary.planned; size = summary.size; phase = summary.phase; sum = summary.sum })) }
 {
-    put_head(text, name, seed)?;
+    put_gen_line(text, name, seed)?;
     put_count(text, b"planned ", summary.planned)?;
     put_count(text, b"stream ", summary.size)?;
     put_count(text, b"phase ", u64::from(summary.phase))?;
@@ -260,9 +262,9 @@ pub fn gen_text(alloc: Global, part: &Part, seed: u32) -> Result<Vec<u8>, NoMemo
     summarized(alloc, seed, planned, &played)
 }
 
-/// The whole text of a part and a seed.
+/// The text of `gen` for a part and a seed, or that memory was wanting.
 fn summary_of<'w>(alloc: Global, part: &Part, seed: u32) -> Result<Vec<u8>, Refusal<'w>>
-    ensures ok { IfOk result (λ text. text_of_bytes text ≡ gen_answer part.now seed) }
+    ensures ok { IfOk result (λ text. bytes_answer text ≡ gen_answer part.now seed) }
     ensures err { IfErr result (λ r. event_of r ≡ no_memory) }
 {
     Ok(gen_text(alloc, part, seed)?)
@@ -272,11 +274,11 @@ fn summary_of<'w>(alloc: Global, part: &Part, seed: u32) -> Result<Vec<u8>, Refu
 pub(crate) fn generate<'w, I: Inputs>(
     alloc: Global,
     inputs: &mut I,
-    name: &'w str,
+    part_name: &'w str,
     seed: u32,
 ) -> Result<Vec<u8>, Refusal<'w>>
-    ensures { MakesReady (Generating name.now seed) (I.state inputs.old) (I.state inputs.new) (seen text_of_bytes result) }
+    ensures { MakesReady (Generating part_name.now seed) (I.state inputs.old) (I.state inputs.new) (seen bytes_answer result) }
 {
-    let part = read_part(alloc, inputs, name)?;
+    let part = read_part(alloc, inputs, part_name)?;
     summary_of(alloc, &part, seed)
 }

@@ -3,14 +3,13 @@ ghost use Rattle.x7_forms.specs.ReadingStops.{IsAbout, StopsAmong, limited};
 ghost use Rattle.std.specs.Prelude.{◌≡◌, ◌⊎◌, ◌≤◌, [], ◌∷◌, Ok, Err, IfOk, IfErr, length};
 ghost use Rattle.x7_words.specs.Input.{AsksAtMost, InputsStay};
 ghost use Rattle.x7_forms.specs.Known.{stream_limit};
-ghost use Rattle.x7_forms.specs.Message.{event_of};
 ghost use Rattle.x7_forms.specs.Turn.{StandsAt};
-ghost use Rattle.x7_forms.specs.Event.{bad_input, no_memory};
+ghost use Rattle.x7_forms.specs.Event.{bad_input, event_of, no_memory};
 ghost use Rattle.x7_forms.specs.declared.bad_input.InputFault.TheVariants as input;
 ghost use Rattle.x7_tool.specs.Outcome.{image_by, image_streams};
 ghost use Rattle.x7_tool.specs.Run.{MakesReady};
 ghost use Rattle.x7_forms.specs.Form.{Imaging, ImagingFor};
-ghost use Rattle.x7_tool.specs.Ready.{text_of_bytes};
+ghost use Rattle.x7_tool.specs.Ready.{bytes_answer};
 ghost use Rattle.x7_tool.specs.Stream.{streams_of};
 ghost use Rattle.x7_forms.specs.Step.{AnswersAs, seen, step_over};
 
@@ -49,7 +48,7 @@ fn read_streams<'w, I: Inputs>(
     Ok(Streams { golden, update })
 }
 
-/// The update stream, which has this name, would end past the end of the largest flash.
+/// The refusal of an update stream of this name, with which the image would be larger than a flash may be.
 fn too_long<'w>(name: &'w str) -> Refusal<'w>
     ensures { event_of result ≡ bad_input name.now input.Image }
 {
@@ -60,10 +59,14 @@ fn too_long<'w>(name: &'w str) -> Refusal<'w>
 }
 
 /// The image of two streams for parts whose start address counts bytes.
-fn plain_text<'w>(alloc: Global, streams: &Streams, name: &'w str) -> Result<Vec<u8>, Refusal<'w>>
+fn image_by_bytes<'w>(
+    alloc: Global,
+    streams: &Streams,
+    name: &'w str,
+) -> Result<Vec<u8>, Refusal<'w>>
     requires golden { streams.now.golden.start ≤ length streams.now.golden.bytes.items }
     requires update { streams.now.update.start ≤ length streams.now.update.bytes.items }
-    ensures ok { IfOk result (λ text. image_by name.now 1 (streams_of streams.now) ≡ Ok (text_of_bytes text)) }
+    ensures ok { IfOk result (λ text. image_by name.now 1 (streams_of streams.now) ≡ Ok (bytes_answer text)) }
     ensures err { IfErr result (λ r. (event_of r ≡ no_memory) ⊎ (image_by name.now 1 (streams_of streams.now) ≡ Err (event_of r))) }
     ensures about { IfErr result (λ r. IsAbout name.now (event_of r)) }
 {
@@ -77,7 +80,7 @@ fn plain_text<'w>(alloc: Global, streams: &Streams, name: &'w str) -> Result<Vec
 }
 
 /// The image of two streams for a part.
-fn part_text<'w>(
+fn image_by_part<'w>(
     alloc: Global,
     part: &Part,
     streams: &Streams,
@@ -85,7 +88,7 @@ fn part_text<'w>(
 ) -> Result<Vec<u8>, Refusal<'w>>
     requires golden { streams.now.golden.start ≤ length streams.now.golden.bytes.items }
     requires update { streams.now.update.start ≤ length streams.now.update.bytes.items }
-    ensures ok { IfOk result (λ text. image_by name.now part.now.start_unit (streams_of streams.now) ≡ Ok (text_of_bytes text)) }
+    ensures ok { IfOk result (λ text. image_by name.now part.now.start_unit (streams_of streams.now) ≡ Ok (bytes_answer text)) }
     ensures err { IfErr result (λ r. (event_of r ≡ no_memory) ⊎ (image_by name.now part.now.start_unit (streams_of streams.now) ≡ Err (event_of r))) }
     ensures about { IfErr result (λ r. IsAbout name.now (event_of r)) }
 {
@@ -105,10 +108,10 @@ pub(crate) fn image<'w, I: Inputs>(
     golden: &'w str,
     update: &'w str,
 ) -> Result<Vec<u8>, Refusal<'w>>
-    ensures { MakesReady (Imaging golden.now update.now) (I.state inputs.old) (I.state inputs.new) (seen text_of_bytes result) }
+    ensures { MakesReady (Imaging golden.now update.now) (I.state inputs.old) (I.state inputs.new) (seen bytes_answer result) }
 {
     let streams = read_streams(alloc, inputs, golden, update)?;
-    plain_text(alloc, &streams, update)
+    image_by_bytes(alloc, &streams, update)
 }
 
 /// The image of `image PART GOLDEN UPDATE`.
@@ -119,9 +122,9 @@ pub(crate) fn image_for<'w, I: Inputs>(
     golden: &'w str,
     update: &'w str,
 ) -> Result<Vec<u8>, Refusal<'w>>
-    ensures { MakesReady (ImagingFor part.now golden.now update.now) (I.state inputs.old) (I.state inputs.new) (seen text_of_bytes result) }
+    ensures { MakesReady (ImagingFor part.now golden.now update.now) (I.state inputs.old) (I.state inputs.new) (seen bytes_answer result) }
 {
     let part = read_part(alloc, inputs, part)?;
     let streams = read_streams(alloc, inputs, golden, update)?;
-    part_text(alloc, &part, &streams, update)
+    image_by_part(alloc, &part, &streams, update)
 }

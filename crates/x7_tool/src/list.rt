@@ -4,8 +4,7 @@ ghost use Rattle.x7_words.specs.Sink.{SinkFaultsRise, PutsPrefix, SinkFails, app
 ghost use Rattle.x7_words.specs.Word.{AreBytes};
 ghost use Rattle.x7_listing.specs.Listing.{listing_of};
 ghost use Rattle.x7_tool.specs.Ahead.{IsLonger};
-ghost use Rattle.x7_forms.specs.Message.{event_of};
-ghost use Rattle.x7_forms.specs.Event.{no_memory, writing_failed};
+ghost use Rattle.x7_forms.specs.Event.{event_of, no_memory, writing_failed};
 ghost use Rattle.x7_listing.specs.Lister.{ListerStandsFor};
 ghost use Rattle.x7_tool.specs.Outside.{transfer};
 ghost use Rattle.x7_tool.specs.Run.{AnsweredListing};

@@ -1,10 +1,10 @@
 //! The commands `mcs` and `unmcs`: flash images as Intel HEX texts, and back.
 ghost use Rattle.std.specs.Prelude.{◌≡◌};
-ghost use Rattle.x7_forms.specs.Message.{event_of};
+ghost use Rattle.x7_forms.specs.Event.{event_of};
 ghost use Rattle.x7_tool.specs.Outcome.{mcs_event};
 ghost use Rattle.x7_tool.specs.Run.{MakesReady};
 ghost use Rattle.x7_forms.specs.Form.{FromMcs, ToMcs};
-ghost use Rattle.x7_tool.specs.Ready.{text_of_bytes, text_of_image};
+ghost use Rattle.x7_tool.specs.Ready.{bytes_answer, mcs_answer};
 ghost use Rattle.x7_forms.specs.Step.{seen};
 
 use crate::feeding::feed_whole;
@@ -13,7 +13,7 @@ use x7_forms::{InputFault, Refusal, Why, read_whole};
 use x7_mcs::{FLASH_LIMIT, McsFault, McsLines, McsText};
 use x7_words::Inputs;
 
-/// Why a text gives no flash.
+/// Why an Intel HEX text gives no image.
 fn refusal_of<'w>(name: &'w str, fault: McsFault) -> Refusal<'w>
     ensures { event_of result ≡ mcs_event name.now fault }
 {
@@ -37,7 +37,7 @@ pub(crate) fn mcs<'w, I: Inputs>(
     inputs: &mut I,
     image: &'w str,
 ) -> Result<McsText, Refusal<'w>>
-    ensures { MakesReady (ToMcs image.now) (I.state inputs.old) (I.state inputs.new) (seen text_of_image result) }
+    ensures { MakesReady (ToMcs image.now) (I.state inputs.old) (I.state inputs.new) (seen mcs_answer result) }
 {
     let bytes = read_whole(alloc, inputs, image, FLASH_LIMIT)?;
     Ok(McsText::new(alloc, bytes)?)
@@ -49,7 +49,7 @@ pub(crate) fn unmcs<'w, I: Inputs>(
     inputs: &mut I,
     name: &'w str,
 ) -> Result<Vec<u8>, Refusal<'w>>
-    ensures { MakesReady (FromMcs name.now) (I.state inputs.old) (I.state inputs.new) (seen text_of_bytes result) }
+    ensures { MakesReady (FromMcs name.now) (I.state inputs.old) (I.state inputs.new) (seen bytes_answer result) }
 {
     let read = feed_whole(alloc, inputs, name, McsLines::new(alloc))?;
     match read {

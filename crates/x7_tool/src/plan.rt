@@ -4,14 +4,13 @@ ghost use Rattle.std.specs.Prelude.{◌≡◌, ◌⊎◌, ◌∷◌, [], ℕ, Li
 ghost use Rattle.x7_words.specs.Input.{AsksAtMost, InputsStay};
 ghost use Rattle.x7_part.specs.Part.{frame_words};
 ghost use Rattle.x7_frames.specs.FramesText.{IsPlanOf};
-ghost use Rattle.x7_forms.specs.Message.{event_of};
-ghost use Rattle.x7_forms.specs.Event.{no_memory};
+ghost use Rattle.x7_forms.specs.Event.{event_of, no_memory};
 ghost use Rattle.x7_tool.specs.Outcome.{PlannedPartial, PlannedRead, frames_event, planner_event, text_limit};
 ghost use Rattle.x7_forms.specs.Turn.{StandsAt};
 ghost use Rattle.x7_forms.specs.Form.{PlanningFull, PlanningPartial, PlanningRead};
 ghost use Rattle.x7_tool.specs.Plan.{ReadsPlan};
-ghost use Rattle.x7_tool.specs.FullText.{full_of};
-ghost use Rattle.x7_tool.specs.Ready.{text_of_bytes};
+ghost use Rattle.x7_tool.specs.FullText.{full_answer};
+ghost use Rattle.x7_tool.specs.Ready.{bytes_answer};
 ghost use Rattle.x7_forms.specs.Step.{seen};
 ghost use Rattle.x7_tool.specs.Run.{MakesReady};
 
@@ -41,7 +40,7 @@ fn frames_refusal<'w>(name: &'w str, fault: FramesFault) -> Refusal<'w>
     }
 }
 
-/// Why the planner refuses.
+/// Why the planner gives no stream.
 fn planner_refusal<'w>(name: &'w str, fault: PlanFault) -> Refusal<'w>
     ensures { event_of result ≡ planner_event name.now fault }
 {
@@ -57,7 +56,7 @@ fn planner_refusal<'w>(name: &'w str, fault: PlanFault) -> Refusal<'w>
     }
 }
 
-/// The plan of a frames text, which is read turn by turn, so that nobody has to hold it whole.
+/// The plan of a frames text, which is read turn by turn, so that it is never held whole.
 fn read_plan<'w, I: Inputs>(
     alloc: Global,
     inputs: &mut I,
@@ -87,11 +86,11 @@ pub(crate) fn plan_full<'w, I: Inputs>(
     part: &'w str,
     frames: &'w str,
 ) -> Result<FullText, Refusal<'w>>
-    ensures { MakesReady (PlanningFull part.now frames.now) (I.state inputs.old) (I.state inputs.new) (seen full_of result) }
+    ensures { MakesReady (PlanningFull part.now frames.now) (I.state inputs.old) (I.state inputs.new) (seen full_answer result) }
 {
-    let known = read_part(alloc, inputs, part)?;
-    let plan = read_plan(alloc, inputs, &known, frames)?;
-    FullText::new(alloc, known, plan)
+    let part = read_part(alloc, inputs, part)?;
+    let plan = read_plan(alloc, inputs, &part, frames)?;
+    FullText::new(alloc, part, plan)
 }
 
 /// The partial stream of the plan of a frames text.
@@ -102,7 +101,7 @@ fn partial_text<'w>(
     frames: &'w str,
 ) -> Result<Vec<u8>, Refusal<'w>>
     requires { plan.now.width ≡ frame_words part.now }
-    ensures ok { IfOk result (λ end. (text : List ℕ) → IsPlanOf part.now text (Ok plan.now) → PlannedPartial frames.now (Ok (record { part = part.now; text = text })) (Ok (text_of_bytes end))) }
+    ensures ok { IfOk result (λ end. (text : List ℕ) → IsPlanOf part.now text (Ok plan.now) → PlannedPartial frames.now (Ok (record { part = part.now; text = text })) (Ok (bytes_answer end))) }
     ensures err { IfErr result (λ r. (event_of r ≡ no_memory)
         ⊎ ((text : List ℕ) → IsPlanOf part.now text (Ok plan.now) → PlannedPartial frames.now (Ok (record { part = part.now; text = text })) (Err (event_of r)))) }
     ensures about { IfErr result (λ r. IsAbout frames.now (event_of r)) }
@@ -120,22 +119,22 @@ pub(crate) fn plan_partial<'w, I: Inputs>(
     part: &'w str,
     frames: &'w str,
 ) -> Result<Vec<u8>, Refusal<'w>>
-    ensures { MakesReady (PlanningPartial part.now frames.now) (I.state inputs.old) (I.state inputs.new) (seen text_of_bytes result) }
+    ensures { MakesReady (PlanningPartial part.now frames.now) (I.state inputs.old) (I.state inputs.new) (seen bytes_answer result) }
 {
-    let known = read_part(alloc, inputs, part)?;
-    let plan = read_plan(alloc, inputs, &known, frames)?;
-    partial_text(alloc, &known, &plan, frames)
+    let part = read_part(alloc, inputs, part)?;
+    let plan = read_plan(alloc, inputs, &part, frames)?;
+    partial_text(alloc, &part, &plan, frames)
 }
 
-/// The read stream of n slots from an address on.
-fn read_text<'w>(
+/// The read stream of `n` slots from the frame address `far` on.
+fn readback_text<'w>(
     alloc: Global,
     part: &Part,
     name: &'w str,
     far: u32,
     n: u32,
 ) -> Result<Vec<u8>, Refusal<'w>>
-    ensures ok { IfOk result (λ text. PlannedRead name.now far n (Ok part.now) (Ok (text_of_bytes text))) }
+    ensures ok { IfOk result (λ text. PlannedRead name.now far n (Ok part.now) (Ok (bytes_answer text))) }
     ensures err { IfErr result (λ r. (event_of r ≡ no_memory) ⊎ PlannedRead name.now far n (Ok part.now) (Err (event_of r))) }
     ensures about { IfErr result (λ r. IsAbout name.now (event_of r)) }
 {
@@ -149,12 +148,12 @@ fn read_text<'w>(
 pub(crate) fn plan_read<'w, I: Inputs>(
     alloc: Global,
     inputs: &mut I,
-    name: &'w str,
+    part_name: &'w str,
     far: u32,
     n: u32,
 ) -> Result<Vec<u8>, Refusal<'w>>
-    ensures { MakesReady (PlanningRead name.now far n) (I.state inputs.old) (I.state inputs.new) (seen text_of_bytes result) }
+    ensures { MakesReady (PlanningRead part_name.now far n) (I.state inputs.old) (I.state inputs.new) (seen bytes_answer result) }
 {
-    let part = read_part(alloc, inputs, name)?;
-    read_text(alloc, &part, name, far, n)
+    let part = read_part(alloc, inputs, part_name)?;
+    readback_text(alloc, &part, part_name, far, n)
 }

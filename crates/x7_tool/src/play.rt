@@ -1,12 +1,11 @@
 //! The command `play`.
 ghost use Rattle.std.specs.Prelude.{◌≡◌, ◌⊎◌, ℕ, List, map, string_bytes, Ok, Err, IfErr, IfOk};
 ghost use Rattle.x7_part.specs.Part.{PartData};
-ghost use Rattle.x7_forms.specs.Event.{no_memory, too_many_reads};
-ghost use Rattle.x7_forms.specs.Message.{event_of};
+ghost use Rattle.x7_forms.specs.Event.{event_of, no_memory, too_many_reads};
 ghost use Rattle.x7_playing.specs.Playing.{HasPlayed};
 ghost use Rattle.x7_forms.specs.Form.{Playing};
 ghost use Rattle.x7_forms.specs.Step.{seen};
-ghost use Rattle.x7_tool.specs.Play.{reported, text_of_play};
+ghost use Rattle.x7_tool.specs.Play.{reported, play_answer};
 ghost use Rattle.x7_tool.specs.Run.{MakesReady};
 
 use std::alloc::Global;
@@ -17,11 +16,11 @@ use x7_words::Inputs;
 
 /// The text of a play, ready to be written, or that too many words were read out.
 fn text_of<'w>(alloc: Global, player: Player) -> Result<PlayText, Refusal<'w>>
-    ensures ok { IfOk result (λ text. (part : PartData) (bytes : List ℕ) → HasPlayed part bytes player → reported part bytes ≡ Ok (text_of_play text)) }
+    ensures ok { IfOk result (λ text. (part : PartData) (bytes : List ℕ) → HasPlayed part bytes player → reported part bytes ≡ Ok (play_answer text)) }
     ensures err { IfErr result (λ r. (event_of r ≡ no_memory)
         ⊎ ((event_of r ≡ too_many_reads) × ((part : PartData) (bytes : List ℕ) → HasPlayed part bytes player → reported part bytes ≡ Err too_many_reads))) }
 {
-    if player.over {
+    if player.is_over {
         return Err(Refusal {
             reason: Why::TooLarge,
             name: "reads",
@@ -39,7 +38,7 @@ pub(crate) fn play<'w, I: Inputs>(
     part: &'w str,
     streams: &'w [String],
 ) -> Result<PlayText, Refusal<'w>>
-    ensures { MakesReady (Playing part.now (map string_bytes streams.now)) (I.state inputs.old) (I.state inputs.new) (seen text_of_play result) }
+    ensures { MakesReady (Playing part.now (map string_bytes streams.now)) (I.state inputs.old) (I.state inputs.new) (seen play_answer result) }
 {
     let part = read_part(alloc, inputs, part)?;
     let player = play_streams(alloc, &part, inputs, streams)?;

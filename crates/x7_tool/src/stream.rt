@@ -3,7 +3,7 @@ ghost use Rattle.std.specs.Prelude.{◌≡◌, ◌≤◌, [], ◌∷◌, IfErr, 
 ghost use Rattle.x7_words.specs.Input.{AsksAtMost, InputsStay};
 ghost use Rattle.x7_tool.specs.Outcome.{stream_data};
 ghost use Rattle.x7_forms.specs.Known.{stream_limit};
-ghost use Rattle.x7_forms.specs.Message.{event_of};
+ghost use Rattle.x7_forms.specs.Event.{event_of};
 ghost use Rattle.x7_forms.specs.Turn.{StandsAt};
 ghost use Rattle.x7_forms.specs.Step.{AnswersAs, IsUnplayed, seen, step_over};
 ghost use Rattle.x7_tool.specs.Stream.{data_from};
@@ -15,11 +15,13 @@ use x7_words::Inputs;
 /// A stream that was read whole, and where its data begin.
 #[derive(Drop)]
 pub(crate) struct Stream {
+    /// All bytes of the stream.
     pub(crate) bytes: Vec<u8>,
+    /// Where the data begin, in bytes from 0.
     pub(crate) start: usize,
 }
 
-/// A stream, read whole: one that is too large is refused before its header is looked at.
+/// Reads a stream whole: one that is too large is refused before its header is looked at.
 pub(crate) fn read_stream<'w, I: Inputs>(
     alloc: Global,
     inputs: &mut I,
@@ -39,7 +41,7 @@ pub(crate) fn read_stream<'w, I: Inputs>(
 }
 
 /// The data of a stream, in the room of its bytes.
-fn data_of(stream: Stream) -> Vec<u8>
+fn into_data(stream: Stream) -> Vec<u8>
     requires { stream.start ≤ length stream.bytes.items }
     ensures { result.items ≡ data_from stream }
 {
@@ -53,7 +55,7 @@ fn data_of(stream: Stream) -> Vec<u8>
     bytes
 }
 
-/// The data of a stream, alone: what follows its header, where it has one.
+/// Reads a stream, and keeps its data alone: what follows its header, where it has one.
 pub(crate) fn read_data<'w, I: Inputs>(
     alloc: Global,
     inputs: &mut I,
@@ -67,5 +69,5 @@ pub(crate) fn read_data<'w, I: Inputs>(
     ensures inputs { InputsStay (I.state inputs.old) (I.state inputs.new) }
 {
     let stream = read_stream(alloc, inputs, name)?;
-    Ok(data_of(stream))
+    Ok(into_data(stream))
 }

@@ -2,18 +2,17 @@
 ghost use Rattle.x7_forms.specs.ReadingStops.{StopsAmong, limited};
 ghost use Rattle.std.specs.Prelude.{◌≡◌, ◌⊎◌, ◌≤◌, ◌||◌, [], ◌∷◌, Ok, Err, IfErr, IfOk, vec_len};
 ghost use Rattle.x7_words.specs.Input.{AsksAtMost, InputsStay};
-ghost use Rattle.x7_forms.specs.Message.{event_of};
-ghost use Rattle.x7_forms.specs.Event.{no_memory};
+ghost use Rattle.x7_forms.specs.Event.{event_of, no_memory};
 ghost use Rattle.x7_forms.specs.Step.{AnswersAs, seen, step_over};
 ghost use Rattle.x7_forms.specs.Form.{PlayingSvf};
 ghost use Rattle.x7_tool.specs.Run.{MakesReady};
 ghost use Rattle.x7_svf.specs.Svf.{IsSvfOf};
 ghost use Rattle.x7_svf.specs.declared.fault.SvfFault.{SvfFault as FaultData};
-ghost use Rattle.x7_tool.specs.Outcome.{PlayedSvf, plan_texts, svf_answer, svf_event, text_limit};
+ghost use Rattle.x7_tool.specs.Outcome.{PlayedSvf, part_and_text, svf_answer, svf_event, text_limit};
 ghost use Rattle.x7_forms.specs.Known.{part_limit};
 ghost use Rattle.x7_forms.specs.Turn.{StandsAt};
-ghost use Rattle.x7_tool.specs.Play.{text_of_play};
-ghost use Rattle.x7_tool.specs.Svf.{svf_texts};
+ghost use Rattle.x7_tool.specs.Play.{play_answer};
+ghost use Rattle.x7_tool.specs.Svf.{svf_given};
 
 use std::alloc::Global;
 use x7_engine::Device;
@@ -24,7 +23,7 @@ use x7_report::PlayText;
 use x7_svf::{Svf, SvfFault, svf_from};
 use x7_words::{Inputs, NoMemory};
 
-/// What playing an SVF text reads: a part, and the text.
+/// What the command `svf` reads: a part, and the bytes of an SVF text.
 #[derive(Drop)]
 pub(crate) struct Given {
     part: Part,
@@ -51,8 +50,8 @@ fn read_given<'w, I: Inputs>(
     part: &'w str,
     text: &'w str,
 ) -> Result<Given, Refusal<'w>>
-    ensures given { AnswersAs (step_over (part.now ∷ text.now ∷ []) (I.state inputs.old) (I.state inputs.new))
-        (λ known. plan_texts known part.now text.now) (seen svf_texts result) }
+    ensures caused { AnswersAs (step_over (part.now ∷ text.now ∷ []) (I.state inputs.old) (I.state inputs.new))
+        (λ known. part_and_text known part.now text.now) (seen svf_given result) }
     ensures stands { IfOk result (λ given. StandsAt text.now text_limit (I.state inputs.new)) }
     ensures stops { IfErr result (λ r. StopsAmong (limited part_limit part.now ∷ limited text_limit text.now ∷ []) (I.state inputs.old) (I.state inputs.new) (event_of r)) }
     ensures within { IfOk result (λ given. vec_len given.text ≤ text_limit) }
@@ -83,10 +82,10 @@ fn either(one: bool, other: bool) -> bool
     one || other
 }
 
-/// What statements come to on a new device of the part, ready to be written: the line of
-/// what differs first, and the device's report.
-fn played(alloc: Global, part: &Part, svf: &Svf) -> Result<PlayText, NoMemory>
-    ensures { IfOk result (λ text. text_of_play text ≡ svf_answer part.now svf.now) }
+/// The text of statements that are played on a new device of the part, ready to be written: the line of the first scan
+/// that differs, or that none does, and the report of the device.
+fn played_text(alloc: Global, part: &Part, svf: &Svf) -> Result<PlayText, NoMemory>
+    ensures { IfOk result (λ text. play_answer text ≡ svf_answer part.now svf.now) }
 {
     let mut device = Device::new(alloc, part)?;
     let mut tap = Tap::new();
@@ -99,15 +98,15 @@ fn played(alloc: Global, part: &Part, svf: &Svf) -> Result<PlayText, NoMemory>
     Ok(text)
 }
 
-/// The text of an SVF text's part and bytes.
+/// The text of `svf` for a part and an SVF text.
 fn text_of<'w>(alloc: Global, given: Given, name: &'w str) -> Result<PlayText, Refusal<'w>>
     requires { vec_len given.text ≤ text_limit }
-    ensures ok { IfOk result (λ text. PlayedSvf name.now (Ok (svf_texts given)) (Ok (text_of_play text))) }
-    ensures err { IfErr result (λ r. (event_of r ≡ no_memory) ⊎ PlayedSvf name.now (Ok (svf_texts given)) (Err (event_of r))) }
+    ensures ok { IfOk result (λ text. PlayedSvf name.now (Ok (svf_given given)) (Ok (play_answer text))) }
+    ensures err { IfErr result (λ r. (event_of r ≡ no_memory) ⊎ PlayedSvf name.now (Ok (svf_given given)) (Err (event_of r))) }
 {
     let Given { part, text } = given;
     let svf = statements_of(alloc, text, name)?;
-    Ok(played(alloc, &part, &svf)?)
+    Ok(played_text(alloc, &part, &svf)?)
 }
 
 /// The text of `svf PART TEXT`: what the SVF text does, played on the test access port of a new device.
@@ -117,7 +116,7 @@ pub(crate) fn svf<'w, I: Inputs>(
     part: &'w str,
     text: &'w str,
 ) -> Result<PlayText, Refusal<'w>>
-    ensures { MakesReady (PlayingSvf part.now text.now) (I.state inputs.old) (I.state inputs.new) (seen text_of_play result) }
+    ensures { MakesReady (PlayingSvf part.now text.now) (I.state inputs.old) (I.state inputs.new) (seen play_answer result) }
 {
     let given = read_given(alloc, inputs, part, text)?;
     text_of(alloc, given, text)

@@ -2,9 +2,9 @@
 ghost use Rattle.std.specs.Prelude.{◌≡◌, OnErr, OnOk};
 ghost use Rattle.x7_words.specs.Sink.{PutsPrefix, SinkFails, appended};
 ghost use Rattle.x7_forms.specs.Known.{Answer};
-ghost use Rattle.x7_tool.specs.Play.{text_of_play};
-ghost use Rattle.x7_tool.specs.Ready.{text_of_bytes, text_of_image, whole_of};
-ghost use Rattle.x7_tool.specs.Run.{Puts};
+ghost use Rattle.x7_tool.specs.Play.{play_answer};
+ghost use Rattle.x7_tool.specs.Ready.{bytes_answer, mcs_answer, text_answer};
+ghost use Rattle.x7_tool.specs.Run.{PutsAnswer};
 ghost use Rattle.x7_forms.specs.Step.{seen};
 
 use x7_forms::{Refusal, Why};
@@ -36,7 +36,7 @@ pub(crate) struct Text {
 }
 
 impl Ready for Text {
-    ghost answer = { whole_of };
+    ghost answer = { text_answer };
 
     fn is_stopped(&self) -> bool {
         self.stopped
@@ -47,9 +47,9 @@ impl Ready for Text {
     }
 }
 
-/// A text that was made whole, and that reports nothing that could stop.
+/// Bytes that are a whole text, which reports nothing that could stop.
 impl Ready for Vec<u8> {
-    ghost answer = { text_of_bytes };
+    ghost answer = { bytes_answer };
 
     fn is_stopped(&self) -> bool {
         false
@@ -62,7 +62,7 @@ impl Ready for Vec<u8> {
 
 /// The text of a flash image, which is made as it is written.
 impl Ready for McsText {
-    ghost answer = { text_of_image };
+    ghost answer = { mcs_answer };
 
     fn is_stopped(&self) -> bool {
         false
@@ -75,7 +75,7 @@ impl Ready for McsText {
 
 /// The report of a device, after the lines that stand before it; the lines of its frames are made as they are written.
 impl Ready for PlayText {
-    ghost answer = { text_of_play };
+    ghost answer = { play_answer };
 
     fn is_stopped(&self) -> bool {
         PlayText::is_stopped(self)
@@ -86,12 +86,12 @@ impl Ready for PlayText {
     }
 }
 
-/// Writes a text that is ready, and nothing where none is.
+/// Writes a text that is ready, and nothing where none is. The answer says whether what it reports stopped.
 pub(crate) fn put_whole<'w, T: Ready + Drop, O: Sink>(
     whole: Result<T, Refusal<'w>>,
     out: &mut O,
 ) -> Result<bool, Refusal<'w>>
-    ensures { Puts (seen T.answer whole.entry) (O.state out.old) (O.state out.new) (seen (λ stopped. stopped) result) }
+    ensures { PutsAnswer (seen T.answer whole.entry) (O.state out.old) (O.state out.new) (seen (λ stopped. stopped) result) }
 {
     let mut text = whole?;
     let stopped = text.is_stopped();

@@ -1,11 +1,11 @@
 //! The top call.
 ghost use Rattle.std.specs.Prelude.{ℕ, List, Some};
 ghost use Rattle.x7_words.specs.Sink.{SinkState};
-ghost use Rattle.x7_forms.specs.Form.{asked_by, form_in};
+ghost use Rattle.x7_forms.specs.Form.{asked_by, form_of_strings};
 ghost use Rattle.x7_tool.specs.Leaving.{EachBoots, PowerLossMayLeave, UsesFlash};
 ghost use Rattle.x7_tool.specs.Outside.{outside, sources};
 ghost use Rattle.x7_tool.specs.Run.{Answered, written_by};
-ghost use Rattle.x7_tool.specs.Runs.{RanAs, Runs};
+ghost use Rattle.x7_tool.specs.Runs.{Runs};
 
 use crate::asm::asm;
 use crate::boot::boot;
@@ -31,8 +31,8 @@ fn answer<'w, I: Inputs, O: Sink, F: Flash>(
     flash: &mut F,
     out: &mut O,
 ) -> Result<bool, Refusal<'w>>
-    ensures answered { (e f : SinkState) → Answered (asked_by form.entry) (outside (I.state inputs.old) (F.state flash.old) (O.state out.old) e)
-        (outside (I.state inputs.new) (F.state flash.new) (O.state out.new) f) (written_by result) }
+    ensures answered { (before after : SinkState) → Answered (asked_by form.entry) (outside (I.state inputs.old) (F.state flash.old) (O.state out.old) before)
+        (outside (I.state inputs.new) (F.state flash.new) (O.state out.new) after) (written_by result) }
     ensures flash { UsesFlash (Some (asked_by form.entry)) (sources (I.state inputs.old) (F.state flash.old)) (F.state flash.new)
         (F.found_since flash.old) (F.found_since flash.new) }
 {
@@ -41,9 +41,14 @@ fn answer<'w, I: Inputs, O: Sink, F: Flash>(
             list(alloc, inputs, out, stream)?;
             Ok(false)
         }
-        Form::Play { part, streams } => put_whole(play(alloc, inputs, part, streams), out),
         Form::Asm { text } => put_whole(asm(alloc, inputs, text), out),
-        Form::Mcs { image } => put_whole(mcs(alloc, inputs, image), out),
+        Form::Play { part, streams } => put_whole(play(alloc, inputs, part, streams), out),
+        Form::Debug {
+            part,
+            stream,
+            script,
+        } => put_whole(debug(alloc, inputs, part, stream, script), out),
+        Form::Svf { part, text } => put_whole(svf(alloc, inputs, part, text), out),
         Form::PlanFull { part, frames } => put_whole(plan_full(alloc, inputs, part, frames), out),
         Form::PlanPartial { part, frames } => {
             put_whole(plan_partial(alloc, inputs, part, frames), out)
@@ -56,13 +61,6 @@ fn answer<'w, I: Inputs, O: Sink, F: Flash>(
             golden,
             update,
         } => put_whole(image_for(alloc, inputs, part, golden, update), out),
-        Form::Unmcs { text } => put_whole(unmcs(alloc, inputs, text), out),
-        Form::Debug {
-            part,
-            stream,
-            script,
-        } => put_whole(debug(alloc, inputs, part, stream, script), out),
-        Form::Svf { part, text } => put_whole(svf(alloc, inputs, part, text), out),
         Form::Boot { part, flash: name } => put_whole(boot(alloc, inputs, flash, part, name), out),
         Form::Update {
             flash: name,
@@ -71,10 +69,12 @@ fn answer<'w, I: Inputs, O: Sink, F: Flash>(
             update(alloc, inputs, flash, name, stream)?;
             Ok(false)
         }
+        Form::Mcs { image } => put_whole(mcs(alloc, inputs, image), out),
+        Form::Unmcs { text } => put_whole(unmcs(alloc, inputs, text), out),
     }
 }
 
-/// Runs the command; its contract is the one fact whose parts are the clauses of `run`.
+/// Runs the command. The other two clauses of `run`, on a power loss, follow from `flash`.
 fn carry_out<I: Inputs, O: Sink, E: Sink, F: Flash>(
     alloc: Global,
     words: &Vec<String>,
@@ -83,9 +83,9 @@ fn carry_out<I: Inputs, O: Sink, E: Sink, F: Flash>(
     out: &mut O,
     err: &mut E,
 ) -> Status
-    ensures ran { RanAs (form_in words.now.items) (outside (I.state inputs.old) (F.state flash.old) (O.state out.old) (E.state err.old))
+    ensures ran { Runs (form_of_strings words.now.items) (outside (I.state inputs.old) (F.state flash.old) (O.state out.old) (E.state err.old))
         (outside (I.state inputs.new) (F.state flash.new) (O.state out.new) (E.state err.new)) result }
-    ensures flash { UsesFlash (form_in words.now.items) (sources (I.state inputs.old) (F.state flash.old)) (F.state flash.new)
+    ensures flash { UsesFlash (form_of_strings words.now.items) (sources (I.state inputs.old) (F.state flash.old)) (F.state flash.new)
         (F.found_since flash.old) (F.found_since flash.new) }
 {
     let form = match words_of(words) {
@@ -117,14 +117,14 @@ pub fn run<I: Inputs, O: Sink, E: Sink, F: Flash>(
     out: &mut O,
     err: &mut E,
 ) -> Status
-    ensures ran { Runs (form_in words.now.items) (outside (I.state inputs.old) (F.state flash.old) (O.state out.old) (E.state err.old))
+    ensures ran { Runs (form_of_strings words.now.items) (outside (I.state inputs.old) (F.state flash.old) (O.state out.old) (E.state err.old))
         (outside (I.state inputs.new) (F.state flash.new) (O.state out.new) (E.state err.new)) result }
-    ensures flash { UsesFlash (form_in words.now.items) (sources (I.state inputs.old) (F.state flash.old)) (F.state flash.new)
+    ensures flash { UsesFlash (form_of_strings words.now.items) (sources (I.state inputs.old) (F.state flash.old)) (F.state flash.new)
         (F.found_since flash.old) (F.found_since flash.new) }
     ensures found { (found : List ℕ) → F.found_since flash.new (F.state flash.old).moments found
-        → PowerLossMayLeave (form_in words.now.items) (sources (I.state inputs.old) (F.state flash.old)) found }
+        → PowerLossMayLeave (form_of_strings words.now.items) (sources (I.state inputs.old) (F.state flash.old)) found }
     ensures boots { (found : List ℕ) → F.found_since flash.new (F.state flash.old).moments found
-        → EachBoots (form_in words.now.items) (sources (I.state inputs.old) (F.state flash.old)) found }
+        → EachBoots (form_of_strings words.now.items) (sources (I.state inputs.old) (F.state flash.old)) found }
 {
     carry_out(alloc, words, inputs, flash, out, err)
 }

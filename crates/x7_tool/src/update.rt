@@ -1,7 +1,7 @@
 //! The command `update`: a flash gets another update stream, and may lose its power at any moment.
 ghost use Rattle.std.specs.Prelude.{◌≡◌, ℕ, List, Some, false};
 ghost use Rattle.x7_forms.specs.Form.{UpdatingFlash};
-ghost use Rattle.x7_forms.specs.Message.{event_of};
+ghost use Rattle.x7_forms.specs.Event.{event_of};
 ghost use Rattle.x7_forms.specs.Step.{seen};
 ghost use Rattle.x7_tool.specs.Leaving.{UsesFlash};
 ghost use Rattle.x7_tool.specs.Outcome.{update_event};
@@ -56,18 +56,18 @@ pub(crate) fn update<'w, I: Inputs, F: Flash>(
     alloc: Global,
     inputs: &mut I,
     flash: &mut F,
-    name: &'w str,
+    flash_name: &'w str,
     stream: &'w str,
 ) -> Result<(), Refusal<'w>>
-    ensures answered { AnsweredSilently (UpdatingFlash name.now stream.now) (sources (I.state inputs.old) (F.state flash.old))
+    ensures answered { AnsweredSilently (UpdatingFlash flash_name.now stream.now) (sources (I.state inputs.old) (F.state flash.old))
         (sources (I.state inputs.new) (F.state flash.new)) (seen (λ _. false) result) }
-    ensures flash { UsesFlash (Some (UpdatingFlash name.now stream.now)) (sources (I.state inputs.old) (F.state flash.old)) (F.state flash.new)
+    ensures flash { UsesFlash (Some (UpdatingFlash flash_name.now stream.now)) (sources (I.state inputs.old) (F.state flash.old)) (F.state flash.new)
         (F.found_since flash.old) (F.found_since flash.new) }
 {
-    open_flash(flash, name)?;
+    open_flash(flash, flash_name)?;
     let read = read_stream(alloc, inputs, stream)?;
     match x7_update::update(alloc, flash, &read.bytes[read.start..]) {
         Ok(()) => Ok(()),
-        Err(fault) => Err(refusal_of(name, stream, fault)),
+        Err(fault) => Err(refusal_of(flash_name, stream, fault)),
     }
 }

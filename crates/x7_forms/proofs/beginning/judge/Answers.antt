@@ -28,5 +28,5 @@ returns-then-last-clause-refused c =
     let here = (c.in-Err-Cut.ensures.cut c.in-Err-Cut.place).0 (ap Err c.in-Err-Cut.field-0-is) in
     inr (c.in-Err-Cut.place, c.refused_at-then-last.ensures, cut_refused c.args.bytes.now c.args.last c.in-Err-Cut.place c.if-last.true (c.in-Err-Cut.ensures.exact ∙ ap Err c.in-Err-Cut.field-0-is), inl here.0)
 
-pub returns-in-Err-Raw-clause-begin : goal.returns-in-Err-Raw-clause-begin
-returns-in-Err-Raw-clause-begin c = inr (refl, c.in-Err-Raw.ensures.raw.0 (ap Err c.in-Err-Raw.field-0-is))
+pub returns-in-Err-Raw-clause-data_begin : goal.returns-in-Err-Raw-clause-data_begin
+returns-in-Err-Raw-clause-data_begin c = inr (refl, c.in-Err-Raw.ensures.raw.0 (ap Err c.in-Err-Raw.field-0-is))

@@ -2,9 +2,9 @@ use Rattle.std.proofs.Common.{◌≤◌, ◌++◌, ◌-◌, ◌≡◌, ◌∙◌
 use Rattle.x7_header.specs.Header.{EndsInHeader, longest_header}
 use Rattle.x7_words.proofs.InputLemmas.{stays_on}
 use Rattle.x7_forms.specs.declared.beginning.Judged.{Judged}
-use Rattle.x7_forms.specs.Message.{event_of}
+use Rattle.x7_forms.specs.Event.{event_of}
 use Rattle.x7_forms.specs.Known.{stream_limit}
-use Rattle.x7_forms.specs.Turn.{BeginAt, IsBeginning}
+use Rattle.x7_forms.specs.Turn.{DataBeginAt, IsBeginning}
 use Rattle.std.proofs.lemmas.List.{take-append-le}
 use Rattle.x7_forms.proofs.BeginningLemmas.{found_none, found_some, beginning_read, joined_taken, none_given, piece_of, reads_by, refused_soon, unread_turn}
 use Rattle.x7_forms.proofs.StandLemmas.{gives_on}
@@ -17,27 +17,27 @@ returns-in-Some-clause-begins g c =
     let v = c.loop-bytes.invariant in
     let count = c.in_ok-turn.turn.count in
     let old = c.loop-bytes.bytes.items in
-    let piece = take count c.next_turn.new.buf in
+    let piece = take count c.next_turn.new.buffer in
     let mid = c.put_text.new.text.items in
     let bytes = c.deref-in-loop-bytes.result.now in
-    let within : count ≤ length c.next_turn.new.buf = omega (arith, c.in_ok-turn.ensures.within.1, c.next_turn.ensures.length) in
-    let joined = c.in_ok-put_text.ensures.text ∙ ap (λ t. old ++ t) (take-append-le count c.next_turn.new.buf _ within) in
-    let long = length-take-le count c.next_turn.new.buf within in
+    let within : count ≤ length c.next_turn.new.buffer = omega (arith, c.in_ok-turn.ensures.within.1, c.next_turn.ensures.length) in
+    let joined = c.in_ok-put_text.ensures.text ∙ ap (λ t. old ++ t) (take-append-le count c.next_turn.new.buffer _ within) in
+    let long = length-take-le count c.next_turn.new.buffer within in
     let p = piece_of old mid piece c.deref.result.now bytes c.wanted.result joined c.deref-in-loop-bytes.ensures.value (omega (arith, long, c.in_ok-turn.ensures.within.1, c.min-count.ensures, length-take-le c.min-count.result c.loop-bytes.piece (omega (arith, c.min-count.ensures, v.piece)))) c.wanted.ensures.some c.deref.ensures.value c.wanted.ensures.fixed c.wanted.ensures.waits v.waiting in
     beginning_read old mid piece bytes c.in-Some.judged.line.items c.wanted.result c.in-Some.judged.start c.in_ok-turn.turn.last (i.state c.args.inputs.now) (i.state c.loop-bytes.inputs) (i.state c.next_turn.new.inputs)
-    p joined c.deref-in-loop-bytes.ensures.value (reads_by (i.state c.args.inputs.now) (i.state c.loop-bytes.inputs) old v.selected v.taken v.given v.asked v.inputs v.selects) c.in_ok-turn.ensures.ok c.next_turn.ensures.asked c.next_turn.ensures.inputs c.in_ok-turn.ensures.end (λ e. omega (arith, v.ends, c.in_ok-turn.ensures.ends e)) v.few (omega (arith, long, c.in_ok-turn.ensures.within.1, c.min-count.ensures, length-take-le c.min-count.result c.loop-bytes.piece (omega (arith, c.min-count.ensures, v.piece)))) (found_some c.in_ok-judged.field-0 c.in-Some.judged _ (λ (j : Judged). (j.start ≤ length bytes) × IsBeginning bytes c.in_ok-turn.turn.last j.line.items j.start) c.in-Some.is c.in_ok-judged.ensures.judged) (found_some c.in_ok-judged.field-0 c.in-Some.judged _ (λ (j : Judged). BeginAt bytes j.start) c.in-Some.is c.in_ok-judged.ensures.begin)
+    p joined c.deref-in-loop-bytes.ensures.value (reads_by (i.state c.args.inputs.now) (i.state c.loop-bytes.inputs) old v.selected v.taken v.given v.asked v.inputs v.selects) c.in_ok-turn.ensures.ok c.next_turn.ensures.asked c.next_turn.ensures.inputs c.in_ok-turn.ensures.end (λ e. omega (arith, v.ends, c.in_ok-turn.ensures.no_end_read e)) v.few (omega (arith, long, c.in_ok-turn.ensures.within.1, c.min-count.ensures, length-take-le c.min-count.result c.loop-bytes.piece (omega (arith, c.min-count.ensures, v.piece)))) (found_some c.in_ok-judged.field-0 c.in-Some.judged _ (λ (j : Judged). (j.start ≤ length bytes) × IsBeginning bytes c.in_ok-turn.turn.last j.line.items j.start) c.in-Some.is c.in_ok-judged.ensures.judged) (found_some c.in_ok-judged.field-0 c.in-Some.judged _ (λ (j : Judged). DataBeginAt bytes j.start) c.in-Some.is c.in_ok-judged.ensures.data_begin)
 
 pub returns-in_err-judged-clause-err : goal.returns-in_err-judged-clause-err
 returns-in_err-judged-clause-err g c = rw (handed_on c.from_residual-in_err-judged.result c.in_err-judged.field-0.0 c.from_residual-in_err-judged.ensures) (let i = g.I.Inputs in
     let v = c.loop-bytes.invariant in
     let count = c.in_ok-turn.turn.count in
     let old = c.loop-bytes.bytes.items in
-    let piece = take count c.next_turn.new.buf in
+    let piece = take count c.next_turn.new.buffer in
     let mid = c.put_text.new.text.items in
     let bytes = c.deref-in-loop-bytes.result.now in
-    let within : count ≤ length c.next_turn.new.buf = omega (arith, c.in_ok-turn.ensures.within.1, c.next_turn.ensures.length) in
-    let joined = c.in_ok-put_text.ensures.text ∙ ap (λ t. old ++ t) (take-append-le count c.next_turn.new.buf _ within) in
-    let long = length-take-le count c.next_turn.new.buf within in
+    let within : count ≤ length c.next_turn.new.buffer = omega (arith, c.in_ok-turn.ensures.within.1, c.next_turn.ensures.length) in
+    let joined = c.in_ok-put_text.ensures.text ∙ ap (λ t. old ++ t) (take-append-le count c.next_turn.new.buffer _ within) in
+    let long = length-take-le count c.next_turn.new.buffer within in
     let p = piece_of old mid piece c.deref.result.now bytes c.wanted.result joined c.deref-in-loop-bytes.ensures.value (omega (arith, long, c.in_ok-turn.ensures.within.1, c.min-count.ensures, length-take-le c.min-count.result c.loop-bytes.piece (omega (arith, c.min-count.ensures, v.piece)))) c.wanted.ensures.some c.deref.ensures.value c.wanted.ensures.fixed c.wanted.ensures.waits v.waiting in
     elim c.in_err-judged.ensures.refused [
       | inl h ↦ inl h
@@ -45,11 +45,11 @@ returns-in_err-judged-clause-err g c = rw (handed_on c.from_residual-in_err-judg
         place = h.0;
         bytes = bytes;
         last = c.in_ok-turn.turn.last;
-        is = h.1;
+        reports = h.1;
         taken = joined_taken (i.state c.args.inputs.now).rest (i.state c.loop-bytes.inputs).rest (i.state c.next_turn.new.inputs).rest old piece mid bytes v.taken c.in_ok-turn.ensures.ok.taken joined c.deref-in-loop-bytes.ensures.value;
         end = c.in_ok-turn.ensures.end;
         refused = h.2;
-        soon = refused_soon old piece bytes c.wanted.result h.0 p h.3;
+        no_byte_after = refused_soon old piece bytes c.wanted.result h.0 p h.3;
       }))
     ])
 
@@ -62,7 +62,7 @@ returns-in_err-turn-clause-err g c = rw (handed_on c.from_residual.result c.in_e
     (λ e. absurd (omega (arith, c.in_err-turn.ensures.over e, v.few, c.len-left.ensures, v.piece, c.min-count.ensures, length-take-le c.min-count.result c.loop-bytes.piece (omega (arith, c.min-count.ensures, v.piece)))))
     (λ e. none_given (i.state c.args.inputs.now) (i.state c.loop-bytes.inputs) (i.state c.next_turn.new.inputs) old c.deref.result.now c.wanted.result (length (take c.min-count.result c.loop-bytes.piece)) c.wanted.ensures.some
     (omega (arith, c.min-count.ensures, length-take-le c.min-count.result c.loop-bytes.piece (omega (arith, c.min-count.ensures, v.piece)))) c.deref.ensures.value c.wanted.ensures.fixed c.wanted.ensures.waits v.waiting
-    (reads_by (i.state c.args.inputs.now) (i.state c.loop-bytes.inputs) old v.selected v.taken v.given v.asked v.inputs v.selects) (c.in_err-turn.ensures.soon e)) c.in_err-turn.ensures.err)
+    (reads_by (i.state c.args.inputs.now) (i.state c.loop-bytes.inputs) old v.selected v.taken v.given v.asked v.inputs v.selects) (c.in_err-turn.ensures.fails_early e)) c.in_err-turn.ensures.err)
 
 pub loop-bytes-preserved : goal.loop-bytes-preserved
 loop-bytes-preserved g c =
@@ -70,7 +70,7 @@ loop-bytes-preserved g c =
     let v = c.loop-bytes.invariant in
     let count = c.in_ok-turn.turn.count in
     let old = c.loop-bytes.bytes.items in
-    let buf = c.next_turn.new.buf in
+    let buf = c.next_turn.new.buffer in
     let piece = take count buf in
     let mid = c.put_text.new.text.items in
     let bytes = c.deref-in-loop-bytes.result.now in
@@ -86,67 +86,67 @@ loop-bytes-preserved g c =
       waiting = λ some. subst EndsInHeader c.deref-in-loop-bytes.ensures.value none.2;
       asked = c.next_turn.ensures.asked ∙ v.asked;
       selects = c.in_ok-turn.ensures.ok.selects ∙ v.selects;
-      ends = omega (arith, v.ends, c.in_ok-turn.ensures.ends none.0);
+      ends = omega (arith, v.ends, c.in_ok-turn.ensures.no_end_read none.0);
       given = omega (arith, v.given, c.in_ok-turn.ensures.ok.given, ap length joined, length-append old piece);
       taken = joined_taken (i.state c.args.inputs.now).rest (i.state c.loop-bytes.inputs).rest (i.state c.next_turn.new.inputs).rest old piece mid mid v.taken c.in_ok-turn.ensures.ok.taken joined refl;
     }
 
-pub returns-in_err-turn-clause-few : goal.returns-in_err-turn-clause-few
-returns-in_err-turn-clause-few g c =
+pub returns-in_err-turn-clause-gives_few : goal.returns-in_err-turn-clause-gives_few
+returns-in_err-turn-clause-gives_few g c =
     let i = g.I.Inputs in
     let v = c.loop-bytes.invariant in
     gives_on (i.state c.args.inputs.now) (i.state c.loop-bytes.inputs) (i.state c.next_turn.new.inputs) c.loop-bytes.bytes.items stream_limit (stream_limit - c.len-left.result)
-    (reads_by (i.state c.args.inputs.now) (i.state c.loop-bytes.inputs) c.loop-bytes.bytes.items v.selected v.taken v.given v.asked v.inputs v.selects) (omega (arith, v.few, c.len-left.ensures)) v.ends c.next_turn.ensures.few
+    (reads_by (i.state c.args.inputs.now) (i.state c.loop-bytes.inputs) c.loop-bytes.bytes.items v.selected v.taken v.given v.asked v.inputs v.selects) (omega (arith, v.few, c.len-left.ensures)) v.ends c.next_turn.ensures.gives_few
 
 pub returns-in_err-turn-clause-short : goal.returns-in_err-turn-clause-short
 returns-in_err-turn-clause-short g c =
     let v = c.loop-bytes.invariant in
-    omega (arith, v.given, v.few, c.next_turn.ensures.turn, v.piece, c.min-count.ensures, length-take-le c.min-count.result c.loop-bytes.piece (omega (arith, c.min-count.ensures, v.piece)))
+    omega (arith, v.given, v.few, c.next_turn.ensures.gives_a_turn, v.piece, c.min-count.ensures, length-take-le c.min-count.result c.loop-bytes.piece (omega (arith, c.min-count.ensures, v.piece)))
 
 pub returns-in_err-turn-clause-inputs : goal.returns-in_err-turn-clause-inputs
 returns-in_err-turn-clause-inputs g c = stays_on _ _ _ c.loop-bytes.invariant.inputs c.next_turn.ensures.inputs
 
-pub returns-in_err-put_text-clause-few : goal.returns-in_err-put_text-clause-few
-returns-in_err-put_text-clause-few g c =
+pub returns-in_err-put_text-clause-gives_few : goal.returns-in_err-put_text-clause-gives_few
+returns-in_err-put_text-clause-gives_few g c =
     let i = g.I.Inputs in
     let v = c.loop-bytes.invariant in
     gives_on (i.state c.args.inputs.now) (i.state c.loop-bytes.inputs) (i.state c.next_turn.new.inputs) c.loop-bytes.bytes.items stream_limit (stream_limit - c.len-left.result)
-    (reads_by (i.state c.args.inputs.now) (i.state c.loop-bytes.inputs) c.loop-bytes.bytes.items v.selected v.taken v.given v.asked v.inputs v.selects) (omega (arith, v.few, c.len-left.ensures)) v.ends c.next_turn.ensures.few
+    (reads_by (i.state c.args.inputs.now) (i.state c.loop-bytes.inputs) c.loop-bytes.bytes.items v.selected v.taken v.given v.asked v.inputs v.selects) (omega (arith, v.few, c.len-left.ensures)) v.ends c.next_turn.ensures.gives_few
 
 pub returns-in_err-put_text-clause-short : goal.returns-in_err-put_text-clause-short
 returns-in_err-put_text-clause-short g c =
     let v = c.loop-bytes.invariant in
-    omega (arith, v.given, v.few, c.next_turn.ensures.turn, v.piece, c.min-count.ensures, length-take-le c.min-count.result c.loop-bytes.piece (omega (arith, c.min-count.ensures, v.piece)))
+    omega (arith, v.given, v.few, c.next_turn.ensures.gives_a_turn, v.piece, c.min-count.ensures, length-take-le c.min-count.result c.loop-bytes.piece (omega (arith, c.min-count.ensures, v.piece)))
 
 pub returns-in_err-put_text-clause-inputs : goal.returns-in_err-put_text-clause-inputs
 returns-in_err-put_text-clause-inputs g c = stays_on _ _ _ c.loop-bytes.invariant.inputs c.next_turn.ensures.inputs
 
-pub returns-in-Some-clause-few : goal.returns-in-Some-clause-few
-returns-in-Some-clause-few g c =
+pub returns-in-Some-clause-gives_few : goal.returns-in-Some-clause-gives_few
+returns-in-Some-clause-gives_few g c =
     let i = g.I.Inputs in
     let v = c.loop-bytes.invariant in
     gives_on (i.state c.args.inputs.now) (i.state c.loop-bytes.inputs) (i.state c.next_turn.new.inputs) c.loop-bytes.bytes.items stream_limit (stream_limit - c.len-left.result)
-    (reads_by (i.state c.args.inputs.now) (i.state c.loop-bytes.inputs) c.loop-bytes.bytes.items v.selected v.taken v.given v.asked v.inputs v.selects) (omega (arith, v.few, c.len-left.ensures)) v.ends c.next_turn.ensures.few
+    (reads_by (i.state c.args.inputs.now) (i.state c.loop-bytes.inputs) c.loop-bytes.bytes.items v.selected v.taken v.given v.asked v.inputs v.selects) (omega (arith, v.few, c.len-left.ensures)) v.ends c.next_turn.ensures.gives_few
 
 pub returns-in-Some-clause-short : goal.returns-in-Some-clause-short
 returns-in-Some-clause-short g c =
     let v = c.loop-bytes.invariant in
-    omega (arith, v.given, v.few, c.next_turn.ensures.turn, v.piece, c.min-count.ensures, length-take-le c.min-count.result c.loop-bytes.piece (omega (arith, c.min-count.ensures, v.piece)))
+    omega (arith, v.given, v.few, c.next_turn.ensures.gives_a_turn, v.piece, c.min-count.ensures, length-take-le c.min-count.result c.loop-bytes.piece (omega (arith, c.min-count.ensures, v.piece)))
 
 pub returns-in-Some-clause-inputs : goal.returns-in-Some-clause-inputs
 returns-in-Some-clause-inputs g c = stays_on _ _ _ c.loop-bytes.invariant.inputs c.next_turn.ensures.inputs
 
-pub returns-in_err-judged-clause-few : goal.returns-in_err-judged-clause-few
-returns-in_err-judged-clause-few g c =
+pub returns-in_err-judged-clause-gives_few : goal.returns-in_err-judged-clause-gives_few
+returns-in_err-judged-clause-gives_few g c =
     let i = g.I.Inputs in
     let v = c.loop-bytes.invariant in
     gives_on (i.state c.args.inputs.now) (i.state c.loop-bytes.inputs) (i.state c.next_turn.new.inputs) c.loop-bytes.bytes.items stream_limit (stream_limit - c.len-left.result)
-    (reads_by (i.state c.args.inputs.now) (i.state c.loop-bytes.inputs) c.loop-bytes.bytes.items v.selected v.taken v.given v.asked v.inputs v.selects) (omega (arith, v.few, c.len-left.ensures)) v.ends c.next_turn.ensures.few
+    (reads_by (i.state c.args.inputs.now) (i.state c.loop-bytes.inputs) c.loop-bytes.bytes.items v.selected v.taken v.given v.asked v.inputs v.selects) (omega (arith, v.few, c.len-left.ensures)) v.ends c.next_turn.ensures.gives_few
 
 pub returns-in_err-judged-clause-short : goal.returns-in_err-judged-clause-short
 returns-in_err-judged-clause-short g c =
     let v = c.loop-bytes.invariant in
-    omega (arith, v.given, v.few, c.next_turn.ensures.turn, v.piece, c.min-count.ensures, length-take-le c.min-count.result c.loop-bytes.piece (omega (arith, c.min-count.ensures, v.piece)))
+    omega (arith, v.given, v.few, c.next_turn.ensures.gives_a_turn, v.piece, c.min-count.ensures, length-take-le c.min-count.result c.loop-bytes.piece (omega (arith, c.min-count.ensures, v.piece)))
 
 pub returns-in_err-judged-clause-inputs : goal.returns-in_err-judged-clause-inputs
 returns-in_err-judged-clause-inputs g c = stays_on _ _ _ c.loop-bytes.invariant.inputs c.next_turn.ensures.inputs

@@ -10,11 +10,11 @@ loop-at-preserved g c =
     let i = c.loop-at.invariant in
     let read = c.in-Ok.ensures in
     let at = c.loop-at.at in
-    let part = take-put_mid at (length c.loop-at.buf - at) c.loop-at.buf c.read.new.buf (at + length c.read.new.buf) refl i.within in
+    let part = take-put_mid at (length c.loop-at.buffer - at) c.loop-at.buffer c.read.new.buf (at + length c.read.new.buf) refl i.within in
     record {
       within = grind (arith, overwrites, read.length, read.within);
       length = grind (arith, overwrites, read.length, i.length);
-      took = takes_as _ _ _ _ (filled c.loop-at.buf c.read.new.buf _ at c.in-Ok.count i.within (omega (arith, read.length, read.within)) part) (takes_on _ _ _ _ _ i.took read.ok);
+      took = takes_as _ _ _ _ (filled c.loop-at.buffer c.read.new.buf _ at c.in-Ok.count i.within (omega (arith, read.length, read.within)) part) (takes_on _ _ _ _ _ i.took read.ok);
       asked = c.read.ensures.asks.asked ∙ i.asked;
       ends = omega (arith, i.ends, read.no_end (omega arith));
       inputs = stays_on _ _ _ i.inputs read.stays;
@@ -28,6 +28,6 @@ returns-in-Err-clause-failed g c =
       record {
         risen = risen_from (i.state c.args.inputs.now).faults (i.state c.loop-at.inputs).faults (i.state c.read.new.self).faults v.inputs.faults c.in-Err.ensures.failed.faults;
         selected = c.in-Err.ensures.failed.selected;
-        given = omega (arith, v.took.given, c.in-Err.ensures.failed.given, length-take-le c.loop-at.at c.loop-at.buf v.within, v.length, c.loop-at-test.true);
+        given = omega (arith, v.took.given, c.in-Err.ensures.failed.given, length-take-le c.loop-at.at c.loop-at.buffer v.within, v.length, c.loop-at-test.true);
       },
     )

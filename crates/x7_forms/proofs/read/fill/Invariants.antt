@@ -6,13 +6,13 @@ abbrev pub invariant-loop-at : goal.invariant-loop-at
 invariant-loop-at g l =
     let i = g.I.Inputs in
     record {
-      within : l.at ≤ length l.buf;
-      length : length l.buf ≡ length l.fn.buf;
-      took : TakesInput (i.state l.fn.inputs) (take l.at l.buf) (i.state l.inputs);
+      within : l.at ≤ length l.buffer;
+      length : length l.buffer ≡ length l.fn.buffer;
+      took : TakesInput (i.state l.fn.inputs) (take l.at l.buffer) (i.state l.inputs);
       asked : (i.state l.inputs).asked ≡ (i.state l.fn.inputs).asked;
       ends : (i.state l.inputs).ends ≤ (i.state l.fn.inputs).ends;
       inputs : InputsStay (i.state l.fn.inputs) (i.state l.inputs);
     }
 
 abbrev pub decreases-loop-at : goal.decreases-loop-at
-decreases-loop-at g l = length l.buf - l.at
+decreases-loop-at g l = length l.buffer - l.at

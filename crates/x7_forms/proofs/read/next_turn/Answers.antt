@@ -6,42 +6,42 @@ use Rattle.x7_forms.proofs.read.next_turn.Goals as goal
 
 pub returns-in_err-count-clause-err : goal.returns-in_err-count-clause-err
 returns-in_err-count-clause-err g c = rw (handed_on c.from_residual.result c.in_err-count.field-0.0 c.from_residual.ensures)
-    (let most = c.turn_len-most in
+    (let most = c.asked_count-most in
     let failed = c.in_err-count.ensures.failed in
-    let size = length-take-le most.result c.args.buf.now (omega (arith, most.ensures.within)) in
+    let size = length-take-le most.result c.args.buffer.now (omega (arith, most.ensures.within)) in
     inl (failed.0, record { risen = failed.1.risen; selected = failed.1.selected; given = omega (arith, failed.1.given, size, most.ensures.over) }))
 
-pub returns-in_err-count-clause-soon : goal.returns-in_err-count-clause-soon
-returns-in_err-count-clause-soon g c = rw (handed_on c.from_residual.result c.in_err-count.field-0.0 c.from_residual.ensures)
-    (λ e. omega (arith, c.in_err-count.ensures.failed.1.given, length-take-le c.turn_len-most.result c.args.buf.now (omega (arith, c.turn_len-most.ensures.within)), c.turn_len-most.ensures.within))
+pub returns-in_err-count-clause-fails_early : goal.returns-in_err-count-clause-fails_early
+returns-in_err-count-clause-fails_early g c = rw (handed_on c.from_residual.result c.in_err-count.field-0.0 c.from_residual.ensures)
+    (λ e. omega (arith, c.in_err-count.ensures.failed.1.given, length-take-le c.asked_count-most.result c.args.buffer.now (omega (arith, c.asked_count-most.ensures.within)), c.asked_count-most.ensures.within))
 
-pub returns-in_err-count-clause-few : goal.returns-in_err-count-clause-few
-returns-in_err-count-clause-few g c =
-    let size = length-take-le c.turn_len-most.result c.args.buf.now (omega (arith, c.turn_len-most.ensures.within)) in
-    record { asked = c.fill.ensures.asked; selects = c.fill.ensures.selects; ends = c.fill.ensures.once; given = omega (arith, c.fill.ensures.given, size, c.turn_len-most.ensures.over) }
+pub returns-in_err-count-clause-gives_few : goal.returns-in_err-count-clause-gives_few
+returns-in_err-count-clause-gives_few g c =
+    let size = length-take-le c.asked_count-most.result c.args.buffer.now (omega (arith, c.asked_count-most.ensures.within)) in
+    record { asked = c.fill.ensures.asked; selects = c.fill.ensures.selects; ends = c.fill.ensures.end_once; given = omega (arith, c.fill.ensures.given, size, c.asked_count-most.ensures.over) }
 
-pub returns-in_err-count-clause-turn : goal.returns-in_err-count-clause-turn
-returns-in_err-count-clause-turn g c =
-    omega (arith, c.fill.ensures.given, length-take-le c.turn_len-most.result c.args.buf.now (omega (arith, c.turn_len-most.ensures.within)), c.turn_len-most.ensures.within)
+pub returns-in_err-count-clause-gives_a_turn : goal.returns-in_err-count-clause-gives_a_turn
+returns-in_err-count-clause-gives_a_turn g c =
+    omega (arith, c.fill.ensures.given, length-take-le c.asked_count-most.result c.args.buffer.now (omega (arith, c.asked_count-most.ensures.within)), c.asked_count-most.ensures.within)
 
-pub returns-then-count-left-clause-few : goal.returns-then-count-left-clause-few
-returns-then-count-left-clause-few g c =
-    let size = length-take-le c.turn_len-most.result c.args.buf.now (omega (arith, c.turn_len-most.ensures.within)) in
-    record { asked = c.fill.ensures.asked; selects = c.fill.ensures.selects; ends = c.fill.ensures.once; given = omega (arith, c.fill.ensures.given, size, c.turn_len-most.ensures.over) }
+pub returns-then-count-left-clause-gives_few : goal.returns-then-count-left-clause-gives_few
+returns-then-count-left-clause-gives_few g c =
+    let size = length-take-le c.asked_count-most.result c.args.buffer.now (omega (arith, c.asked_count-most.ensures.within)) in
+    record { asked = c.fill.ensures.asked; selects = c.fill.ensures.selects; ends = c.fill.ensures.end_once; given = omega (arith, c.fill.ensures.given, size, c.asked_count-most.ensures.over) }
 
-pub returns-clause-few : goal.returns-clause-few
-returns-clause-few g c =
-    let size = length-take-le c.turn_len-most.result c.args.buf.now (omega (arith, c.turn_len-most.ensures.within)) in
-    record { asked = c.fill.ensures.asked; selects = c.fill.ensures.selects; ends = c.fill.ensures.once; given = omega (arith, c.fill.ensures.given, size, c.turn_len-most.ensures.over) }
+pub returns-clause-gives_few : goal.returns-clause-gives_few
+returns-clause-gives_few g c =
+    let size = length-take-le c.asked_count-most.result c.args.buffer.now (omega (arith, c.asked_count-most.ensures.within)) in
+    record { asked = c.fill.ensures.asked; selects = c.fill.ensures.selects; ends = c.fill.ensures.end_once; given = omega (arith, c.fill.ensures.given, size, c.asked_count-most.ensures.over) }
 
 pub returns-clause-ok : goal.returns-clause-ok
 returns-clause-ok g c =
     let i = g.I.Inputs in
-    subst (λ (bytes : List ℕ). TakesInput (i.state c.args.inputs.now) bytes (i.state c.fill.new.inputs)) (sym (take-append-le c.in_ok-count.count c.fill.new.buf _ (omega (arith, c.in_ok-count.ensures.within, c.fill.ensures.length)))) c.in_ok-count.ensures.ok
+    subst (λ (bytes : List ℕ). TakesInput (i.state c.args.inputs.now) bytes (i.state c.fill.new.inputs)) (sym (take-append-le c.in_ok-count.count c.fill.new.buffer _ (omega (arith, c.in_ok-count.ensures.within, c.fill.ensures.length)))) c.in_ok-count.ensures.ok
 
 pub returns-then-count-left-clause-err : goal.returns-then-count-left-clause-err
 returns-then-count-left-clause-err g c =
     let count = c.in_ok-count.count in
-    let size = length-take-le c.turn_len-most.result c.args.buf.now (omega (arith, c.turn_len-most.ensures.within)) in
-    let taken = length-take-le count c.fill.new.buf (omega (arith, c.in_ok-count.ensures.within, c.fill.ensures.length)) in
-    inr (refl, (take count c.fill.new.buf, (c.in_ok-count.ensures.ok.taken, omega (arith, taken, size, c.in_ok-count.ensures.within, c.turn_len-most.ensures.over, c.if-count-left.true))))
+    let size = length-take-le c.asked_count-most.result c.args.buffer.now (omega (arith, c.asked_count-most.ensures.within)) in
+    let taken = length-take-le count c.fill.new.buffer (omega (arith, c.in_ok-count.ensures.within, c.fill.ensures.length)) in
+    inr (refl, (take count c.fill.new.buffer, (c.in_ok-count.ensures.ok.taken, omega (arith, taken, size, c.in_ok-count.ensures.within, c.asked_count-most.ensures.over, c.if-count-left.true))))

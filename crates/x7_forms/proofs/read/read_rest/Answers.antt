@@ -1,6 +1,6 @@
 use Rattle.std.proofs.Common.{◌≡◌, ◌++◌, [], append_assoc, append-nil, ap, length, take, length-append, length-take-le, arith, inr, refl, sym, ◌∙◌}
 use Rattle.x7_words.proofs.InputLemmas.{stays_at, stays_on}
-use Rattle.x7_forms.specs.Message.{event_of}
+use Rattle.x7_forms.specs.Event.{event_of}
 use Rattle.x7_forms.proofs.ReadLemmas.{reads_none, reads_on, rest_unread}
 use Rattle.x7_forms.proofs.StandLemmas.{gives_on}
 use Rattle.x7_forms.proofs.ResultLemmas.{handed_on}
@@ -22,8 +22,8 @@ returns-then-turn-clause-ok g c =
     let i = g.I.Inputs in
     let v = c.loop-turn.invariant in
     let n = c.in_ok-turn.turn.count in
-    let piece = take n c.next_turn.new.buf in
-    let size : length piece ≡ n = length-take-le n c.next_turn.new.buf (omega (arith, c.in_ok-turn.ensures.within.1, c.next_turn.ensures.length)) in
+    let piece = take n c.next_turn.new.buffer in
+    let size : length piece ≡ n = length-take-le n c.next_turn.new.buffer (omega (arith, c.in_ok-turn.ensures.within.1, c.next_turn.ensures.length)) in
     let reads = reads_on (i.state c.args.inputs.now) (i.state c.loop-turn.inputs) (i.state c.next_turn.new.inputs) v.known.0 piece v.known.1.2 c.in_ok-turn.ensures.ok c.next_turn.ensures.asked c.next_turn.ensures.inputs in
     (v.known.0 ++ piece, c.in_ok-put_text.ensures.text ∙ ap (λ t. t ++ piece) v.known.1.0 ∙ append_assoc _ v.known.0 piece, omega (arith, v.known.1.1, size, length-append v.known.0 piece, c.in_ok-turn.ensures.within.0), (reads.takes.taken, c.in_ok-turn.ensures.end c.if-turn.true))
 
@@ -32,32 +32,32 @@ loop-turn-preserved g c =
     let i = g.I.Inputs in
     let v = c.loop-turn.invariant in
     let n = c.in_ok-turn.turn.count in
-    let piece = take n c.next_turn.new.buf in
-    let size : length piece ≡ n = length-take-le n c.next_turn.new.buf (omega (arith, c.in_ok-turn.ensures.within.1, c.next_turn.ensures.length)) in
+    let piece = take n c.next_turn.new.buffer in
+    let size : length piece ≡ n = length-take-le n c.next_turn.new.buffer (omega (arith, c.in_ok-turn.ensures.within.1, c.next_turn.ensures.length)) in
     let reads = reads_on (i.state c.args.inputs.now) (i.state c.loop-turn.inputs) (i.state c.next_turn.new.inputs) v.known.0 piece v.known.1.2 c.in_ok-turn.ensures.ok c.next_turn.ensures.asked c.next_turn.ensures.inputs in
     record {
       selected = c.in_ok-turn.ensures.ok.selected;
       inputs = stays_on _ _ _ v.inputs c.next_turn.ensures.inputs;
-      ends = omega (arith, v.ends, c.in_ok-turn.ensures.ends c.if-turn.false);
+      ends = omega (arith, v.ends, c.in_ok-turn.ensures.no_end_read c.if-turn.false);
       left = omega (arith, v.left);
       piece = c.next_turn.ensures.length ∙ v.piece;
       known = (v.known.0 ++ piece, (c.in_ok-put_text.ensures.text ∙ ap (λ t. t ++ piece) v.known.1.0 ∙ append_assoc _ v.known.0 piece, omega (arith, v.known.1.1, size, length-append v.known.0 piece, c.in_ok-turn.ensures.within.0), reads));
     }
 
-pub returns-in_err-turn-clause-few : goal.returns-in_err-turn-clause-few
-returns-in_err-turn-clause-few g c =
+pub returns-in_err-turn-clause-gives_few : goal.returns-in_err-turn-clause-gives_few
+returns-in_err-turn-clause-gives_few g c =
     let i = g.I.Inputs in
     let v = c.loop-turn.invariant in
-    gives_on (i.state c.args.inputs.now) (i.state c.loop-turn.inputs) (i.state c.next_turn.new.inputs) v.known.0 c.args.limit c.loop-turn.left v.known.1.2 v.known.1.1 v.ends c.next_turn.ensures.few
+    gives_on (i.state c.args.inputs.now) (i.state c.loop-turn.inputs) (i.state c.next_turn.new.inputs) v.known.0 c.args.limit c.loop-turn.left v.known.1.2 v.known.1.1 v.ends c.next_turn.ensures.gives_few
 
-pub returns-in_err-put_text-clause-few : goal.returns-in_err-put_text-clause-few
-returns-in_err-put_text-clause-few g c =
+pub returns-in_err-put_text-clause-gives_few : goal.returns-in_err-put_text-clause-gives_few
+returns-in_err-put_text-clause-gives_few g c =
     let i = g.I.Inputs in
     let v = c.loop-turn.invariant in
-    gives_on (i.state c.args.inputs.now) (i.state c.loop-turn.inputs) (i.state c.next_turn.new.inputs) v.known.0 c.args.limit c.loop-turn.left v.known.1.2 v.known.1.1 v.ends c.next_turn.ensures.few
+    gives_on (i.state c.args.inputs.now) (i.state c.loop-turn.inputs) (i.state c.next_turn.new.inputs) v.known.0 c.args.limit c.loop-turn.left v.known.1.2 v.known.1.1 v.ends c.next_turn.ensures.gives_few
 
-pub returns-then-turn-clause-few : goal.returns-then-turn-clause-few
-returns-then-turn-clause-few g c =
+pub returns-then-turn-clause-gives_few : goal.returns-then-turn-clause-gives_few
+returns-then-turn-clause-gives_few g c =
     let i = g.I.Inputs in
     let v = c.loop-turn.invariant in
-    gives_on (i.state c.args.inputs.now) (i.state c.loop-turn.inputs) (i.state c.next_turn.new.inputs) v.known.0 c.args.limit c.loop-turn.left v.known.1.2 v.known.1.1 v.ends c.next_turn.ensures.few
+    gives_on (i.state c.args.inputs.now) (i.state c.loop-turn.inputs) (i.state c.next_turn.new.inputs) v.known.0 c.args.limit c.loop-turn.left v.known.1.2 v.known.1.1 v.ends c.next_turn.ensures.gives_few

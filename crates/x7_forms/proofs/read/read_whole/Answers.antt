@@ -1,8 +1,8 @@
 use Rattle.std.proofs.Common.{◌≡◌, [], ◌∷◌, ◌++◌, Ok, Err, ap, subst, sym, ◌∙◌}
 use Rattle.x7_words.specs.Input.{RestIsWhole}
-use Rattle.x7_forms.specs.Message.{event_of}
+use Rattle.x7_forms.specs.Event.{event_of}
 use Rattle.x7_forms.specs.Step.{CameIn, IsCaused, step_over}
-use Rattle.x7_forms.specs.Known.{whole_in, with_inputs}
+use Rattle.x7_forms.specs.Known.{whole_known, with_inputs}
 use Rattle.x7_forms.proofs.ReadLemmas.{open_refused, unopened_unread, want_unread, whole_read, whole_refused}
 use Rattle.x7_forms.proofs.StandLemmas.{few_read, stands_opened, stands_read}
 use Rattle.x7_words.proofs.InputLemmas.{few_once}
@@ -23,7 +23,7 @@ returns-clause-caused g c = λ flash.
     let sel : RestIsWhole contents name _ = subst (λ r. RestIsWhole contents name r) p.3.0 c.in_ok-open.ensures.ok.found in
     let C = CameIn (step_over (name ∷ []) (i.state c.args.inputs.now) (i.state c.read_rest.new.inputs)) in
     let is : c.read_rest.new.onto.items ≡ p.0 = p.1 ∙ ap (λ x. x ++ p.0) c.new-whole.ensures.items in
-    subst (λ x. IsCaused (with_inputs contents flash) C (λ t. whole_in t c.args.limit name) (Ok x)) (sym is)
+    subst (λ x. IsCaused (with_inputs contents flash) C (λ t. whole_known t c.args.limit name) (Ok x)) (sym is)
     (whole_read contents flash C name p.0 (i.state c.read_rest.new.inputs).rest c.args.limit sel p.3.1 p.2)
 
 pub returns-in_err-read_rest-clause-caused : goal.returns-in_err-read_rest-clause-caused
@@ -44,16 +44,16 @@ pub returns-in_err-open-clause-stands : goal.returns-in_err-open-clause-stands
 returns-in_err-open-clause-stands g c = stands_opened c.args.name.now c.args.limit (g.I.Inputs.state c.open.new.inputs) c.open.ensures.asks
 
 pub returns-clause-stands : goal.returns-clause-stands
-returns-clause-stands g c = stands_read c.args.name.now c.args.limit (g.I.Inputs.state c.open.new.inputs) (g.I.Inputs.state c.read_rest.new.inputs) c.open.ensures.asks c.read_rest.ensures.few
+returns-clause-stands g c = stands_read c.args.name.now c.args.limit (g.I.Inputs.state c.open.new.inputs) (g.I.Inputs.state c.read_rest.new.inputs) c.open.ensures.asks c.read_rest.ensures.gives_few
 
 pub returns-in_err-read_rest-clause-stands : goal.returns-in_err-read_rest-clause-stands
-returns-in_err-read_rest-clause-stands g c = stands_read c.args.name.now c.args.limit (g.I.Inputs.state c.open.new.inputs) (g.I.Inputs.state c.read_rest.new.inputs) c.open.ensures.asks c.read_rest.ensures.few
+returns-in_err-read_rest-clause-stands g c = stands_read c.args.name.now c.args.limit (g.I.Inputs.state c.open.new.inputs) (g.I.Inputs.state c.read_rest.new.inputs) c.open.ensures.asks c.read_rest.ensures.gives_few
 
-pub returns-in_err-open-clause-once : goal.returns-in_err-open-clause-once
-returns-in_err-open-clause-once g c = few_once (g.I.Inputs.state c.args.inputs.now) (g.I.Inputs.state c.open.new.inputs) c.open.ensures.once
+pub returns-in_err-open-clause-asks : goal.returns-in_err-open-clause-asks
+returns-in_err-open-clause-asks g c = few_once (g.I.Inputs.state c.args.inputs.now) (g.I.Inputs.state c.open.new.inputs) c.open.ensures.once
 
-pub returns-clause-once : goal.returns-clause-once
-returns-clause-once g c = few_read (g.I.Inputs.state c.args.inputs.now) (g.I.Inputs.state c.open.new.inputs) (g.I.Inputs.state c.read_rest.new.inputs) c.args.limit c.open.ensures.once c.read_rest.ensures.few
+pub returns-clause-asks : goal.returns-clause-asks
+returns-clause-asks g c = few_read (g.I.Inputs.state c.args.inputs.now) (g.I.Inputs.state c.open.new.inputs) (g.I.Inputs.state c.read_rest.new.inputs) c.args.limit c.open.ensures.once c.read_rest.ensures.gives_few
 
-pub returns-in_err-read_rest-clause-once : goal.returns-in_err-read_rest-clause-once
-returns-in_err-read_rest-clause-once g c = few_read (g.I.Inputs.state c.args.inputs.now) (g.I.Inputs.state c.open.new.inputs) (g.I.Inputs.state c.read_rest.new.inputs) c.args.limit c.open.ensures.once c.read_rest.ensures.few
+pub returns-in_err-read_rest-clause-asks : goal.returns-in_err-read_rest-clause-asks
+returns-in_err-read_rest-clause-asks g c = few_read (g.I.Inputs.state c.args.inputs.now) (g.I.Inputs.state c.open.new.inputs) (g.I.Inputs.state c.read_rest.new.inputs) c.args.limit c.open.ensures.once c.read_rest.ensures.gives_few

@@ -1,6 +1,6 @@
 use Rattle.std.proofs.Common.{◌≡◌, [], refl, ◌++◌, length, take, length-append, length-take-le, arith, ◌∙◌, false, true, sym}
 use Rattle.x7_words.proofs.InputLemmas.{stays_at, stays_on}
-use Rattle.x7_forms.specs.Message.{event_of}
+use Rattle.x7_forms.specs.Event.{event_of}
 use Rattle.x7_forms.proofs.ReadLemmas.{reads_none, reads_on, rest_unread}
 use Rattle.x7_forms.proofs.StandLemmas.{gives_on}
 use Rattle.x7_forms.proofs.ResultLemmas.{handed_on}
@@ -17,8 +17,8 @@ returns-then-turn-clause-ok g c =
     let i = g.I.Inputs in
     let v = c.loop-turn.invariant in
     let n = c.in_ok-turn.turn.count in
-    let piece = take n c.next_turn.new.buf in
-    let size : length piece ≡ n = length-take-le n c.next_turn.new.buf (omega (arith, c.in_ok-turn.ensures.within.1, c.next_turn.ensures.length)) in
+    let piece = take n c.next_turn.new.buffer in
+    let size : length piece ≡ n = length-take-le n c.next_turn.new.buffer (omega (arith, c.in_ok-turn.ensures.within.1, c.next_turn.ensures.length)) in
     let reads = reads_on (i.state c.args.inputs.now) (i.state c.loop-turn.inputs) (i.state c.next_turn.new.inputs) v.known.0 piece v.known.1.1 c.in_ok-turn.ensures.ok c.next_turn.ensures.asked c.next_turn.ensures.inputs in
     (v.known.0 ++ piece, omega (arith, v.known.1.0, size, length-append v.known.0 piece, c.in_ok-turn.ensures.within.0), (reads.takes.taken, c.in_ok-turn.ensures.end c.if-turn.true))
 
@@ -27,35 +27,35 @@ loop-turn-preserved g c =
     let i = g.I.Inputs in
     let v = c.loop-turn.invariant in
     let n = c.in_ok-turn.turn.count in
-    let piece = take n c.next_turn.new.buf in
-    let size : length piece ≡ n = length-take-le n c.next_turn.new.buf (omega (arith, c.in_ok-turn.ensures.within.1, c.next_turn.ensures.length)) in
+    let piece = take n c.next_turn.new.buffer in
+    let size : length piece ≡ n = length-take-le n c.next_turn.new.buffer (omega (arith, c.in_ok-turn.ensures.within.1, c.next_turn.ensures.length)) in
     let reads = reads_on (i.state c.args.inputs.now) (i.state c.loop-turn.inputs) (i.state c.next_turn.new.inputs) v.known.0 piece v.known.1.1 c.in_ok-turn.ensures.ok c.next_turn.ensures.asked c.next_turn.ensures.inputs in
     record {
       selected = c.in_ok-turn.ensures.ok.selected;
       inputs = stays_on _ _ _ v.inputs c.next_turn.ensures.inputs;
-      ends = omega (arith, v.ends, c.in_ok-turn.ensures.ends c.if-turn.false);
+      ends = omega (arith, v.ends, c.in_ok-turn.ensures.no_end_read c.if-turn.false);
       left = omega (arith, v.left);
-      buf = c.next_turn.ensures.length ∙ v.buf;
+      buffer = c.next_turn.ensures.length ∙ v.buffer;
       known = (v.known.0 ++ piece, (omega (arith, v.known.1.0, size, length-append v.known.0 piece, c.in_ok-turn.ensures.within.0), reads));
     }
 
 pub loop-turn-init : goal.loop-turn-init
-loop-turn-init g c = record { selected = c.requires.selected; inputs = stays_at _; ends = omega arith; left = omega arith; buf = refl; known = ([], (omega arith, reads_none (g.I.Inputs.state c.args.inputs.now) c.requires.selected)) }
+loop-turn-init g c = record { selected = c.requires.selected; inputs = stays_at _; ends = omega arith; left = omega arith; buffer = refl; known = ([], (omega arith, reads_none (g.I.Inputs.state c.args.inputs.now) c.requires.selected)) }
 
-pub returns-in_err-turn-clause-few : goal.returns-in_err-turn-clause-few
-returns-in_err-turn-clause-few g c =
+pub returns-in_err-turn-clause-gives_few : goal.returns-in_err-turn-clause-gives_few
+returns-in_err-turn-clause-gives_few g c =
     let i = g.I.Inputs in
     let v = c.loop-turn.invariant in
-    gives_on (i.state c.args.inputs.now) (i.state c.loop-turn.inputs) (i.state c.next_turn.new.inputs) v.known.0 c.args.limit c.loop-turn.left v.known.1.1 v.known.1.0 v.ends c.next_turn.ensures.few
+    gives_on (i.state c.args.inputs.now) (i.state c.loop-turn.inputs) (i.state c.next_turn.new.inputs) v.known.0 c.args.limit c.loop-turn.left v.known.1.1 v.known.1.0 v.ends c.next_turn.ensures.gives_few
 
-pub returns-then-turn-clause-few : goal.returns-then-turn-clause-few
-returns-then-turn-clause-few g c =
+pub returns-then-turn-clause-gives_few : goal.returns-then-turn-clause-gives_few
+returns-then-turn-clause-gives_few g c =
     let i = g.I.Inputs in
     let v = c.loop-turn.invariant in
-    gives_on (i.state c.args.inputs.now) (i.state c.loop-turn.inputs) (i.state c.next_turn.new.inputs) v.known.0 c.args.limit c.loop-turn.left v.known.1.1 v.known.1.0 v.ends c.next_turn.ensures.few
+    gives_on (i.state c.args.inputs.now) (i.state c.loop-turn.inputs) (i.state c.next_turn.new.inputs) v.known.0 c.args.limit c.loop-turn.left v.known.1.1 v.known.1.0 v.ends c.next_turn.ensures.gives_few
 
-pub returns-in_err-turn-clause-ended : goal.returns-in_err-turn-clause-ended
-returns-in_err-turn-clause-ended g c = λ e. let never : false ≡ true = sym c.if-last.false ∙ e in absurd cc
+pub returns-in_err-turn-clause-no_end_read : goal.returns-in_err-turn-clause-no_end_read
+returns-in_err-turn-clause-no_end_read g c = λ e. let never : false ≡ true = sym c.if-last.false ∙ e in absurd cc
 
-pub returns-then-turn-clause-ended : goal.returns-then-turn-clause-ended
-returns-then-turn-clause-ended g c = λ e. let never : false ≡ true = sym c.if-last.false ∙ e in absurd cc
+pub returns-then-turn-clause-no_end_read : goal.returns-then-turn-clause-no_end_read
+returns-then-turn-clause-no_end_read g c = λ e. let never : false ≡ true = sym c.if-last.false ∙ e in absurd cc

@@ -11,7 +11,7 @@ invariant-loop-turn g l =
       inputs : InputsStay (i.state l.fn.inputs) (i.state l.inputs);
       ends : (i.state l.inputs).ends ≤ (i.state l.fn.inputs).ends;
       left : l.left ≤ l.limit;
-      buf : length l.buf ≡ length l.fn.buf;
+      buffer : length l.buffer ≡ length l.fn.buffer;
       known : (taken : List ℕ) × ((length taken + l.left ≡ l.limit) × Reads (i.state l.fn.inputs) taken (i.state l.inputs));
     }
 

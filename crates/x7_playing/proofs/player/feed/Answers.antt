@@ -50,7 +50,7 @@ returns-in_default-clause-prefix c =
     record {
       prefix = take at piece;
       left = drop at piece;
-      parts = sym (take-append-drop at piece);
+      split = sym (take-append-drop at piece);
       holds = λ part bytes h. subst (λ (reads : List ℕ). Plays part (bytes ++ take at piece) c.feeds.device reads) (sym c.reserve.ensures.items) (c.feeds.invariant.plays part bytes h);
     }
 

@@ -1,6 +1,6 @@
 use Rattle.std.proofs.Common.{◌≡◌, [], ◌++◌, ◌-◌, length, take, length-append, length-take-le, arith, inr, sym, ◌∙◌, false, true}
 use Rattle.x7_words.proofs.InputLemmas.{stays_at, stays_on}
-use Rattle.x7_forms.specs.Message.{event_of}
+use Rattle.x7_forms.specs.Event.{event_of}
 use Rattle.x7_playing.specs.Playing.{PlaysOn}
 use Rattle.x7_playing.proofs.PlayerLemmas.{may_less, may_on, on_none, on_on}
 use Rattle.x7_forms.proofs.ReadLemmas.{reads_none, reads_on, rest_unread}
@@ -17,16 +17,16 @@ returns-in_err-turn-clause-err g c = rw (handed_on c.from_residual.result c.in_e
 pub play-requires : goal.play-requires
 play-requires g c =
     let n = c.in_ok-turn.turn.count in
-    let size : length (take n c.next_turn.new.buf) ≡ n = length-take-le n c.next_turn.new.buf (omega (arith, c.in_ok-turn.ensures.within.1, c.next_turn.ensures.length)) in
-    may_less c.loop-turn.player c.loop-turn.left (length (take n c.next_turn.new.buf)) (omega (arith, size, c.in_ok-turn.ensures.within.0)) c.loop-turn.invariant.may
+    let size : length (take n c.next_turn.new.buffer) ≡ n = length-take-le n c.next_turn.new.buffer (omega (arith, c.in_ok-turn.ensures.within.1, c.next_turn.ensures.length)) in
+    may_less c.loop-turn.player c.loop-turn.left (length (take n c.next_turn.new.buffer)) (omega (arith, size, c.in_ok-turn.ensures.within.0)) c.loop-turn.invariant.may
 
 pub returns-then-turn-clause-ok : goal.returns-then-turn-clause-ok
 returns-then-turn-clause-ok g c =
     let i = g.I.Inputs in
     let v = c.loop-turn.invariant in
     let n = c.in_ok-turn.turn.count in
-    let piece = take n c.next_turn.new.buf in
-    let size : length piece ≡ n = length-take-le n c.next_turn.new.buf (omega (arith, c.in_ok-turn.ensures.within.1, c.next_turn.ensures.length)) in
+    let piece = take n c.next_turn.new.buffer in
+    let size : length piece ≡ n = length-take-le n c.next_turn.new.buffer (omega (arith, c.in_ok-turn.ensures.within.1, c.next_turn.ensures.length)) in
     let reads = reads_on (i.state c.args.inputs.now) (i.state c.loop-turn.inputs) (i.state c.next_turn.new.inputs) v.known.0 piece v.known.1.2 c.in_ok-turn.ensures.ok c.next_turn.ensures.asked c.next_turn.ensures.inputs in
     let plays : PlaysOn c.loop-turn.player c.play.new.self piece = from_ok c.play.result (sym c.is_err.ensures.value ∙ c.if-is_err.false) c.play.ensures.ok in
     (v.known.0 ++ piece, omega (arith, v.known.1.0, size, length-append v.known.0 piece, c.in_ok-turn.ensures.within.0), on_on c.args.player.now c.loop-turn.player c.play.new.self v.known.0 piece v.known.1.1 plays, (reads.takes.taken, c.in_ok-turn.ensures.end c.if-turn.true))
@@ -36,14 +36,14 @@ loop-turn-preserved g c =
     let i = g.I.Inputs in
     let v = c.loop-turn.invariant in
     let n = c.in_ok-turn.turn.count in
-    let piece = take n c.next_turn.new.buf in
-    let size : length piece ≡ n = length-take-le n c.next_turn.new.buf (omega (arith, c.in_ok-turn.ensures.within.1, c.next_turn.ensures.length)) in
+    let piece = take n c.next_turn.new.buffer in
+    let size : length piece ≡ n = length-take-le n c.next_turn.new.buffer (omega (arith, c.in_ok-turn.ensures.within.1, c.next_turn.ensures.length)) in
     let reads = reads_on (i.state c.args.inputs.now) (i.state c.loop-turn.inputs) (i.state c.next_turn.new.inputs) v.known.0 piece v.known.1.2 c.in_ok-turn.ensures.ok c.next_turn.ensures.asked c.next_turn.ensures.inputs in
     let plays : PlaysOn c.loop-turn.player c.play.new.self piece = from_ok c.play.result (sym c.is_err.ensures.value ∙ c.if-is_err.false) c.play.ensures.ok in
     record {
       selected = c.in_ok-turn.ensures.ok.selected;
       inputs = stays_on _ _ _ v.inputs c.next_turn.ensures.inputs;
-      ends = omega (arith, v.ends, c.in_ok-turn.ensures.ends c.if-turn.false);
+      ends = omega (arith, v.ends, c.in_ok-turn.ensures.no_end_read c.if-turn.false);
       left = omega (arith, v.left);
       piece = c.next_turn.ensures.length ∙ v.piece;
       may = may_on c.loop-turn.player c.play.new.self piece c.loop-turn.left (c.loop-turn.left - n) (omega (arith, size, c.in_ok-turn.ensures.within.0)) plays v.may;
@@ -51,25 +51,25 @@ loop-turn-preserved g c =
     }
 
 pub loop-turn-init : goal.loop-turn-init
-loop-turn-init g c = record { selected = c.requires.selected; inputs = stays_at _; ends = omega arith; left = omega arith; piece = c.requires.buffer; may = c.requires.may; known = ([], (omega arith, on_none c.args.player.now, reads_none (g.I.Inputs.state c.args.inputs.now) c.requires.selected)) }
+loop-turn-init g c = record { selected = c.requires.selected; inputs = stays_at _; ends = omega arith; left = omega arith; piece = c.requires.buffer; may = c.requires.may_play; known = ([], (omega arith, on_none c.args.player.now, reads_none (g.I.Inputs.state c.args.inputs.now) c.requires.selected)) }
 
-pub returns-in_err-turn-clause-few : goal.returns-in_err-turn-clause-few
-returns-in_err-turn-clause-few g c =
+pub returns-in_err-turn-clause-gives_few : goal.returns-in_err-turn-clause-gives_few
+returns-in_err-turn-clause-gives_few g c =
     let i = g.I.Inputs in
     let v = c.loop-turn.invariant in
-    gives_on (i.state c.args.inputs.now) (i.state c.loop-turn.inputs) (i.state c.next_turn.new.inputs) v.known.0 c.args.limit c.loop-turn.left v.known.1.2 v.known.1.0 v.ends c.next_turn.ensures.few
+    gives_on (i.state c.args.inputs.now) (i.state c.loop-turn.inputs) (i.state c.next_turn.new.inputs) v.known.0 c.args.limit c.loop-turn.left v.known.1.2 v.known.1.0 v.ends c.next_turn.ensures.gives_few
 
-pub returns-then-turn-clause-few : goal.returns-then-turn-clause-few
-returns-then-turn-clause-few g c =
+pub returns-then-turn-clause-gives_few : goal.returns-then-turn-clause-gives_few
+returns-then-turn-clause-gives_few g c =
     let i = g.I.Inputs in
     let v = c.loop-turn.invariant in
-    gives_on (i.state c.args.inputs.now) (i.state c.loop-turn.inputs) (i.state c.next_turn.new.inputs) v.known.0 c.args.limit c.loop-turn.left v.known.1.2 v.known.1.0 v.ends c.next_turn.ensures.few
+    gives_on (i.state c.args.inputs.now) (i.state c.loop-turn.inputs) (i.state c.next_turn.new.inputs) v.known.0 c.args.limit c.loop-turn.left v.known.1.2 v.known.1.0 v.ends c.next_turn.ensures.gives_few
 
-pub returns-in_err-turn-clause-ended : goal.returns-in_err-turn-clause-ended
-returns-in_err-turn-clause-ended g c = λ e. let never : false ≡ true = sym c.if-last.false ∙ e in absurd cc
+pub returns-in_err-turn-clause-no_end_read : goal.returns-in_err-turn-clause-no_end_read
+returns-in_err-turn-clause-no_end_read g c = λ e. let never : false ≡ true = sym c.if-last.false ∙ e in absurd cc
 
-pub returns-then-is_err-clause-ended : goal.returns-then-is_err-clause-ended
-returns-then-is_err-clause-ended g c = λ e. let never : false ≡ true = sym c.if-last.false ∙ e in absurd cc
+pub returns-then-is_err-clause-no_end_read : goal.returns-then-is_err-clause-no_end_read
+returns-then-is_err-clause-no_end_read g c = λ e. let never : false ≡ true = sym c.if-last.false ∙ e in absurd cc
 
-pub returns-then-turn-clause-ended : goal.returns-then-turn-clause-ended
-returns-then-turn-clause-ended g c = λ e. let never : false ≡ true = sym c.if-last.false ∙ e in absurd cc
+pub returns-then-turn-clause-no_end_read : goal.returns-then-turn-clause-no_end_read
+returns-then-turn-clause-no_end_read g c = λ e. let never : false ≡ true = sym c.if-last.false ∙ e in absurd cc

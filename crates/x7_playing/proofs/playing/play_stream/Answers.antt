@@ -3,8 +3,8 @@ use Rattle.x7_header.specs.Header.{longest_header}
 use Rattle.std.proofs.lemmas.List.{length-take}
 use Rattle.x7_words.specs.Input.{RestIsWhole, preceded}
 use Rattle.x7_words.specs.Word.{AreBytes}
-use Rattle.x7_forms.specs.Message.{event_of}
-use Rattle.x7_forms.specs.Known.{read_of, with_inputs}
+use Rattle.x7_forms.specs.Event.{event_of}
+use Rattle.x7_forms.specs.Known.{stream_known, with_inputs}
 use Rattle.x7_playing.specs.Playing.{PlaysOn}
 use Rattle.x7_forms.specs.Step.{CameIn, IsCaused, step_over}
 use Rattle.x7_forms.proofs.ResultLemmas.{handed_on, err_weaker, ok_weaker, from_ok}
@@ -18,16 +18,16 @@ pub play-requires : goal.play-requires
 play-requires g c =
     let count = c.in_ok-first.first.count in
     let start = c.in-Ok.start in
-    let slice = take (count - start) (drop start c.next_turn.new.buf) in
-    may_less c.args.player.now c.args.limit (length slice) (omega (arith, c.in_ok-first.ensures.within.0, length-take (count - start) (drop start c.next_turn.new.buf))) c.requires.may
+    let slice = take (count - start) (drop start c.next_turn.new.buffer) in
+    may_less c.args.player.now c.args.limit (length slice) (omega (arith, c.in_ok-first.ensures.within.0, length-take (count - start) (drop start c.next_turn.new.buffer))) c.requires.may_play
 
-pub play_rest-requires-clause-may : goal.play_rest-requires-clause-may
-play_rest-requires-clause-may g c =
+pub play_rest-requires-clause-may_play : goal.play_rest-requires-clause-may_play
+play_rest-requires-clause-may_play g c =
     let count = c.in_ok-first.first.count in
     let start = c.in-Ok.start in
-    let slice = take (count - start) (drop start c.next_turn.new.buf) in
+    let slice = take (count - start) (drop start c.next_turn.new.buffer) in
     let plays : PlaysOn c.args.player.now c.play.new.self slice = from_ok c.play.result (sym c.is_err.ensures.value ∙ c.if-is_err.false) c.play.ensures.ok in
-    may_on c.args.player.now c.play.new.self slice c.args.limit (c.args.limit - count) (omega (arith, c.in_ok-first.ensures.within.0, length-take (count - start) (drop start c.next_turn.new.buf))) plays c.requires.may
+    may_on c.args.player.now c.play.new.self slice c.args.limit (c.args.limit - count) (omega (arith, c.in_ok-first.ensures.within.0, length-take (count - start) (drop start c.next_turn.new.buffer))) plays c.requires.may_play
 
 pub returns-else-is_err-clause-ok : goal.returns-else-is_err-clause-ok
 returns-else-is_err-clause-ok g c =
@@ -35,7 +35,7 @@ returns-else-is_err-clause-ok g c =
     let contents = (i.state c.args.inputs.now).contents in
     let name = c.args.name.now in
     let count = c.in_ok-first.first.count in
-    let buf = c.next_turn.new.buf in
+    let buf = c.next_turn.new.buffer in
     let first = take count buf in
     let size : length first ≡ count = length-take-le count buf (omega (arith, c.in_ok-first.ensures.within.1, c.next_turn.ensures.length)) in
     let fits : AreBytes first = c.data_start.ensures.fits in
@@ -53,7 +53,7 @@ returns-else-is_err-clause-ok g c =
       bytes = slice ++ more;
       within = omega (arith, p.1, within, size, length-append slice more, length-take (count - start) (drop start buf));
       plays = on_on c.args.player.now c.play.new.self c.play_rest.new.player slice more plays p.2;
-      reads = λ flash. subst (λ (bytes : List ℕ). IsCaused (with_inputs contents flash) C (λ t. read_of t c.args.limit name) (Ok (record { bytes = bytes; room = left }))) bytes
+      reads = λ flash. subst (λ (bytes : List ℕ). IsCaused (with_inputs contents flash) C (λ t. stream_known t c.args.limit name) (Ok (record { bytes = bytes; room = left }))) bytes
           (stream_read contents flash C name first more (drop start first) (i.state c.next_turn.new.inputs).rest (i.state c.play_rest.new.inputs).rest c.args.limit left c.in_ok-first.first.last select p.3.0 p.3.1 c.in_ok-first.ensures.end long fits (omega (arith, p.1, size)) within c.in-Ok.ensures.data);
     }) c.play_rest.ensures.ok
 
@@ -72,8 +72,8 @@ pub returns-else-is_err-clause-err : goal.returns-else-is_err-clause-err
 returns-else-is_err-clause-err g c =
     let i = g.I.Inputs in
     let count = c.in_ok-first.first.count in
-    let first = take count c.next_turn.new.buf in
-    let size : length first ≡ count = length-take-le count c.next_turn.new.buf (omega (arith, c.in_ok-first.ensures.within.1, c.next_turn.ensures.length)) in
+    let first = take count c.next_turn.new.buffer in
+    let size : length first ≡ count = length-take-le count c.next_turn.new.buffer (omega (arith, c.in_ok-first.ensures.within.1, c.next_turn.ensures.length)) in
     let reads = reads_first (i.state c.open.new.inputs) (i.state c.next_turn.new.inputs) first c.in_ok-first.ensures.ok c.next_turn.ensures.asked c.next_turn.ensures.inputs in
     err_weaker c.play_rest.result (λ r h. λ flash.
     stream_unread (i.state c.args.inputs.now) (i.state c.open.new.inputs) (i.state c.play_rest.new.inputs) flash c.args.name.now c.args.limit (event_of r)
@@ -84,8 +84,8 @@ pub returns-in_err-skip_rest-in-Err-clause-err : goal.returns-in_err-skip_rest-i
 returns-in_err-skip_rest-in-Err-clause-err g c = rw (handed_on c.from_residual-in_err-skip_rest-in-Err.result c.in_err-skip_rest-in-Err.field-0.0 c.from_residual-in_err-skip_rest-in-Err.ensures) (λ flash.
     let i = g.I.Inputs in
     let count = c.in_ok-first.first.count in
-    let first = take count c.next_turn.new.buf in
-    let size : length first ≡ count = length-take-le count c.next_turn.new.buf (omega (arith, c.in_ok-first.ensures.within.1, c.next_turn.ensures.length)) in
+    let first = take count c.next_turn.new.buffer in
+    let size : length first ≡ count = length-take-le count c.next_turn.new.buffer (omega (arith, c.in_ok-first.ensures.within.1, c.next_turn.ensures.length)) in
     let reads = reads_first (i.state c.open.new.inputs) (i.state c.next_turn.new.inputs) first c.in_ok-first.ensures.ok c.next_turn.ensures.asked c.next_turn.ensures.inputs in
     stream_unread (i.state c.args.inputs.now) (i.state c.open.new.inputs) (i.state c.skip_rest.new.inputs) flash c.args.name.now c.args.limit (event_of c.in_err-skip_rest-in-Err.field-0.0)
     c.open.ensures.inputs c.in_ok-open.ensures.ok.found c.open.ensures.asks
@@ -97,7 +97,7 @@ returns-in_ok-skip_rest-in-Err-clause-err g c = λ flash.
     let contents = (i.state c.args.inputs.now).contents in
     let name = c.args.name.now in
     let count = c.in_ok-first.first.count in
-    let buf = c.next_turn.new.buf in
+    let buf = c.next_turn.new.buffer in
     let first = take count buf in
     let size : length first ≡ count = length-take-le count buf (omega (arith, c.in_ok-first.ensures.within.1, c.next_turn.ensures.length)) in
     let fits : AreBytes first = c.data_start.ensures.fits in
@@ -127,25 +127,25 @@ returns-in_err-skip_rest-in-Err-clause-named g c = rw (handed_on c.from_residual
 
 pub returns-in_ok-skip_rest-in-Err-clause-named : goal.returns-in_ok-skip_rest-in-Err-clause-named
 returns-in_ok-skip_rest-in-Err-clause-named g c =
-    header_refused c.args.name.now (take c.in_ok-first.first.count c.next_turn.new.buf) (event_of c.in-Err.refusal) c.in-Err.ensures.data
+    header_refused c.args.name.now (take c.in_ok-first.first.count c.next_turn.new.buffer) (event_of c.in-Err.refusal) c.in-Err.ensures.data
 
 pub returns-in_err-open-clause-stands : goal.returns-in_err-open-clause-stands
 returns-in_err-open-clause-stands g c = stands_opened c.args.name.now c.args.limit (g.I.Inputs.state c.open.new.inputs) c.open.ensures.asks
 
 pub returns-in_err-first-clause-stands : goal.returns-in_err-first-clause-stands
-returns-in_err-first-clause-stands g c = stands_read c.args.name.now c.args.limit (g.I.Inputs.state c.open.new.inputs) (g.I.Inputs.state c.next_turn.new.inputs) c.open.ensures.asks c.next_turn.ensures.few
+returns-in_err-first-clause-stands g c = stands_read c.args.name.now c.args.limit (g.I.Inputs.state c.open.new.inputs) (g.I.Inputs.state c.next_turn.new.inputs) c.open.ensures.asks c.next_turn.ensures.gives_few
 
-pub returns-in_err-first-clause-once : goal.returns-in_err-first-clause-once
-returns-in_err-first-clause-once g c = few_read (g.I.Inputs.state c.args.inputs.now) (g.I.Inputs.state c.open.new.inputs) (g.I.Inputs.state c.next_turn.new.inputs) c.args.limit c.open.ensures.once c.next_turn.ensures.few
+pub returns-in_err-first-clause-asks : goal.returns-in_err-first-clause-asks
+returns-in_err-first-clause-asks g c = few_read (g.I.Inputs.state c.args.inputs.now) (g.I.Inputs.state c.open.new.inputs) (g.I.Inputs.state c.next_turn.new.inputs) c.args.limit c.open.ensures.once c.next_turn.ensures.gives_few
 
 pub returns-in_err-first-clause-inputs : goal.returns-in_err-first-clause-inputs
 returns-in_err-first-clause-inputs g c = stays_on _ _ _ c.open.ensures.inputs c.next_turn.ensures.inputs
 
 pub returns-then-is_err-clause-stands : goal.returns-then-is_err-clause-stands
-returns-then-is_err-clause-stands g c = stands_read c.args.name.now c.args.limit (g.I.Inputs.state c.open.new.inputs) (g.I.Inputs.state c.next_turn.new.inputs) c.open.ensures.asks c.next_turn.ensures.few
+returns-then-is_err-clause-stands g c = stands_read c.args.name.now c.args.limit (g.I.Inputs.state c.open.new.inputs) (g.I.Inputs.state c.next_turn.new.inputs) c.open.ensures.asks c.next_turn.ensures.gives_few
 
-pub returns-then-is_err-clause-once : goal.returns-then-is_err-clause-once
-returns-then-is_err-clause-once g c = few_read (g.I.Inputs.state c.args.inputs.now) (g.I.Inputs.state c.open.new.inputs) (g.I.Inputs.state c.next_turn.new.inputs) c.args.limit c.open.ensures.once c.next_turn.ensures.few
+pub returns-then-is_err-clause-asks : goal.returns-then-is_err-clause-asks
+returns-then-is_err-clause-asks g c = few_read (g.I.Inputs.state c.args.inputs.now) (g.I.Inputs.state c.open.new.inputs) (g.I.Inputs.state c.next_turn.new.inputs) c.args.limit c.open.ensures.once c.next_turn.ensures.gives_few
 
 pub returns-then-is_err-clause-inputs : goal.returns-then-is_err-clause-inputs
 returns-then-is_err-clause-inputs g c = stays_on _ _ _ c.open.ensures.inputs c.next_turn.ensures.inputs
@@ -154,17 +154,17 @@ pub returns-else-is_err-clause-stands : goal.returns-else-is_err-clause-stands
 returns-else-is_err-clause-stands g c =
     let i = g.I.Inputs in
     let count = c.in_ok-first.first.count in
-    let first = take count c.next_turn.new.buf in
-    let size : length first ≡ count = length-take-le count c.next_turn.new.buf (omega (arith, c.in_ok-first.ensures.within.1, c.next_turn.ensures.length)) in
+    let first = take count c.next_turn.new.buffer in
+    let size : length first ≡ count = length-take-le count c.next_turn.new.buffer (omega (arith, c.in_ok-first.ensures.within.1, c.next_turn.ensures.length)) in
     let reads = reads_first (i.state c.open.new.inputs) (i.state c.next_turn.new.inputs) first c.in_ok-first.ensures.ok c.next_turn.ensures.asked c.next_turn.ensures.inputs in
     stands_rest c.args.name.now first c.args.limit (c.args.limit - count) (i.state c.open.new.inputs) (i.state c.next_turn.new.inputs) (i.state c.play_rest.new.inputs)
-    c.open.ensures.asks reads (omega (arith, size, c.in_ok-first.ensures.within.0)) c.play_rest.ensures.few
+    c.open.ensures.asks reads (omega (arith, size, c.in_ok-first.ensures.within.0)) c.play_rest.ensures.gives_few
 
-pub returns-else-is_err-clause-once : goal.returns-else-is_err-clause-once
-returns-else-is_err-clause-once g c =
+pub returns-else-is_err-clause-asks : goal.returns-else-is_err-clause-asks
+returns-else-is_err-clause-asks g c =
     let i = g.I.Inputs in
     few_after c.in_ok-first.first.last (i.state c.args.inputs.now) (i.state c.open.new.inputs) (i.state c.next_turn.new.inputs) (i.state c.play_rest.new.inputs) c.args.limit (c.args.limit - c.in_ok-first.first.count)
-    c.open.ensures.once c.next_turn.ensures.few c.in_ok-first.ensures.ends c.play_rest.ensures.few c.play_rest.ensures.ended
+    c.open.ensures.once c.next_turn.ensures.gives_few c.in_ok-first.ensures.no_end_read c.play_rest.ensures.gives_few c.play_rest.ensures.no_end_read
 
 pub returns-else-is_err-clause-inputs : goal.returns-else-is_err-clause-inputs
 returns-else-is_err-clause-inputs g c = stays_on _ _ _ (stays_on _ _ _ c.open.ensures.inputs c.next_turn.ensures.inputs) c.play_rest.ensures.inputs
@@ -173,17 +173,17 @@ pub returns-in_err-skip_rest-in-Err-clause-stands : goal.returns-in_err-skip_res
 returns-in_err-skip_rest-in-Err-clause-stands g c =
     let i = g.I.Inputs in
     let count = c.in_ok-first.first.count in
-    let first = take count c.next_turn.new.buf in
-    let size : length first ≡ count = length-take-le count c.next_turn.new.buf (omega (arith, c.in_ok-first.ensures.within.1, c.next_turn.ensures.length)) in
+    let first = take count c.next_turn.new.buffer in
+    let size : length first ≡ count = length-take-le count c.next_turn.new.buffer (omega (arith, c.in_ok-first.ensures.within.1, c.next_turn.ensures.length)) in
     let reads = reads_first (i.state c.open.new.inputs) (i.state c.next_turn.new.inputs) first c.in_ok-first.ensures.ok c.next_turn.ensures.asked c.next_turn.ensures.inputs in
     stands_rest c.args.name.now first c.args.limit (c.args.limit - count) (i.state c.open.new.inputs) (i.state c.next_turn.new.inputs) (i.state c.skip_rest.new.inputs)
-    c.open.ensures.asks reads (omega (arith, size, c.in_ok-first.ensures.within.0)) c.skip_rest.ensures.few
+    c.open.ensures.asks reads (omega (arith, size, c.in_ok-first.ensures.within.0)) c.skip_rest.ensures.gives_few
 
-pub returns-in_err-skip_rest-in-Err-clause-once : goal.returns-in_err-skip_rest-in-Err-clause-once
-returns-in_err-skip_rest-in-Err-clause-once g c =
+pub returns-in_err-skip_rest-in-Err-clause-asks : goal.returns-in_err-skip_rest-in-Err-clause-asks
+returns-in_err-skip_rest-in-Err-clause-asks g c =
     let i = g.I.Inputs in
     few_after c.in_ok-first.first.last (i.state c.args.inputs.now) (i.state c.open.new.inputs) (i.state c.next_turn.new.inputs) (i.state c.skip_rest.new.inputs) c.args.limit (c.args.limit - c.in_ok-first.first.count)
-    c.open.ensures.once c.next_turn.ensures.few c.in_ok-first.ensures.ends c.skip_rest.ensures.few c.skip_rest.ensures.ended
+    c.open.ensures.once c.next_turn.ensures.gives_few c.in_ok-first.ensures.no_end_read c.skip_rest.ensures.gives_few c.skip_rest.ensures.no_end_read
 
 pub returns-in_err-skip_rest-in-Err-clause-inputs : goal.returns-in_err-skip_rest-in-Err-clause-inputs
 returns-in_err-skip_rest-in-Err-clause-inputs g c = stays_on _ _ _ (stays_on _ _ _ c.open.ensures.inputs c.next_turn.ensures.inputs) c.skip_rest.ensures.inputs
@@ -192,20 +192,20 @@ pub returns-in_ok-skip_rest-in-Err-clause-stands : goal.returns-in_ok-skip_rest-
 returns-in_ok-skip_rest-in-Err-clause-stands g c =
     let i = g.I.Inputs in
     let count = c.in_ok-first.first.count in
-    let first = take count c.next_turn.new.buf in
-    let size : length first ≡ count = length-take-le count c.next_turn.new.buf (omega (arith, c.in_ok-first.ensures.within.1, c.next_turn.ensures.length)) in
+    let first = take count c.next_turn.new.buffer in
+    let size : length first ≡ count = length-take-le count c.next_turn.new.buffer (omega (arith, c.in_ok-first.ensures.within.1, c.next_turn.ensures.length)) in
     let reads = reads_first (i.state c.open.new.inputs) (i.state c.next_turn.new.inputs) first c.in_ok-first.ensures.ok c.next_turn.ensures.asked c.next_turn.ensures.inputs in
     stands_rest c.args.name.now first c.args.limit (c.args.limit - count) (i.state c.open.new.inputs) (i.state c.next_turn.new.inputs) (i.state c.skip_rest.new.inputs)
-    c.open.ensures.asks reads (omega (arith, size, c.in_ok-first.ensures.within.0)) c.skip_rest.ensures.few
+    c.open.ensures.asks reads (omega (arith, size, c.in_ok-first.ensures.within.0)) c.skip_rest.ensures.gives_few
 
-pub returns-in_ok-skip_rest-in-Err-clause-once : goal.returns-in_ok-skip_rest-in-Err-clause-once
-returns-in_ok-skip_rest-in-Err-clause-once g c =
+pub returns-in_ok-skip_rest-in-Err-clause-asks : goal.returns-in_ok-skip_rest-in-Err-clause-asks
+returns-in_ok-skip_rest-in-Err-clause-asks g c =
     let i = g.I.Inputs in
     few_after c.in_ok-first.first.last (i.state c.args.inputs.now) (i.state c.open.new.inputs) (i.state c.next_turn.new.inputs) (i.state c.skip_rest.new.inputs) c.args.limit (c.args.limit - c.in_ok-first.first.count)
-    c.open.ensures.once c.next_turn.ensures.few c.in_ok-first.ensures.ends c.skip_rest.ensures.few c.skip_rest.ensures.ended
+    c.open.ensures.once c.next_turn.ensures.gives_few c.in_ok-first.ensures.no_end_read c.skip_rest.ensures.gives_few c.skip_rest.ensures.no_end_read
 
 pub returns-in_ok-skip_rest-in-Err-clause-inputs : goal.returns-in_ok-skip_rest-in-Err-clause-inputs
 returns-in_ok-skip_rest-in-Err-clause-inputs g c = stays_on _ _ _ (stays_on _ _ _ c.open.ensures.inputs c.next_turn.ensures.inputs) c.skip_rest.ensures.inputs
 
-pub returns-in_err-open-clause-once : goal.returns-in_err-open-clause-once
-returns-in_err-open-clause-once g c = few_once (g.I.Inputs.state c.args.inputs.now) (g.I.Inputs.state c.open.new.inputs) c.open.ensures.once
+pub returns-in_err-open-clause-asks : goal.returns-in_err-open-clause-asks
+returns-in_err-open-clause-asks g c = few_once (g.I.Inputs.state c.args.inputs.now) (g.I.Inputs.state c.open.new.inputs) c.open.ensures.once

@@ -1,7 +1,7 @@
 use Rattle.std.proofs.Common.{◌≡◌, ℕ, List, [], ◌∷◌, ◌++◌, ◌+◌, None, arith, drop, length, length-append, length-take-le, map, string_bytes, refl, ◌∙◌, ap}
 use Rattle.x7_words.proofs.InputLemmas.{few_at, few_more, few_on, stays_at, stays_on}
 use Rattle.x7_forms.specs.Turn.{play_turn_bytes}
-use Rattle.x7_forms.specs.Message.{event_of}
+use Rattle.x7_forms.specs.Event.{event_of}
 use Rattle.x7_forms.specs.Known.{StreamRead, stream_limit}
 use Rattle.x7_forms.specs.Step.{CameIn, step_over}
 use Rattle.x7_forms.proofs.ReadLemmas.{one_unplayed, rests_all, rests_none, stream_err, stream_next}
@@ -22,8 +22,8 @@ loop-name-init g c =
       played = ([], (c.in-Ok.ensures, omega arith, rests_none (i.state c.args.inputs.now).contents (map string_bytes c.args.streams.now) stream_limit));
     }
 
-pub play_stream-requires-clause-may : goal.play_stream-requires-clause-may
-play_stream-requires-clause-may g c =
+pub play_stream-requires-clause-may_play : goal.play_stream-requires-clause-may_play
+play_stream-requires-clause-may_play g c =
     let v = c.loop-name.invariant in
     (c.args.part.now, (v.played.0, (v.played.1.0, omega (arith, v.played.1.1))))
 
@@ -49,7 +49,7 @@ loop-name-preserved g c =
     let size : length new ≡ play_turn_bytes = c.play_stream.ensures.length ∙ ap length c.deref_mut.ensures.value ∙ v.piece in
     record {
       inputs = stays_on _ _ _ v.inputs c.play_stream.ensures.inputs;
-      asks = few_on _ _ _ c.loop-name.name-index 1 v.asks c.play_stream.ensures.once;
+      asks = few_on _ _ _ c.loop-name.name-index 1 v.asks c.play_stream.ensures.asks;
       within = omega (arith, c.loop-name-test.true);
       limits = limits_next string_bytes (limited_together (i.state c.args.inputs.now).contents stream_limit (map string_bytes c.args.streams.now)) (i.state c.args.inputs.now).contents c.args.streams.now c.loop-name.name-index c.loop-name.left c.in_ok-left.left c.name-item.result name
           c.loop-name-test.true c.name-item.is c.as_str.ensures.value v.limits (room_left (i.state c.args.inputs.now).contents (i.state c.loop-name.inputs).contents C name c.loop-name.left read v.inputs.map (omega (arith, p.within)) (p.reads None));
@@ -75,15 +75,15 @@ returns-in_err-left-clause-stops g c = rw (handed_on c.from_residual.result c.in
     let v = c.loop-name.invariant in
     let old = i.state c.args.inputs.now in
     limits_stop string_bytes (limited_together old.contents stream_limit (map string_bytes c.args.streams.now)) old.contents c.args.streams.now c.loop-name.name-index c.loop-name.left c.name-item.result c.as_str.result.now
-    old (i.state c.loop-name.inputs) (i.state c.play_stream.new.inputs) (event_of c.in_err-left.field-0.0) c.loop-name-test.true c.name-item.is c.as_str.ensures.value v.limits v.asks c.play_stream.ensures.once c.play_stream.ensures.stands c.in_err-left.ensures.named)
+    old (i.state c.loop-name.inputs) (i.state c.play_stream.new.inputs) (event_of c.in_err-left.field-0.0) c.loop-name-test.true c.name-item.is c.as_str.ensures.value v.limits v.asks c.play_stream.ensures.asks c.play_stream.ensures.stands c.in_err-left.ensures.named)
 
-pub returns-in_err-left-clause-once : goal.returns-in_err-left-clause-once
-returns-in_err-left-clause-once g c =
+pub returns-in_err-left-clause-asks : goal.returns-in_err-left-clause-asks
+returns-in_err-left-clause-asks g c =
     let i = g.I.Inputs in
     let first = i.state c.args.inputs.now in
     let last = i.state c.play_stream.new.inputs in
     let count = c.loop-name.name-index in
-    few_more first last (count + 1) (length c.args.streams.now) (omega (arith, c.loop-name-test.true)) (few_on first (i.state c.loop-name.inputs) last count 1 c.loop-name.invariant.asks c.play_stream.ensures.once)
+    few_more first last (count + 1) (length c.args.streams.now) (omega (arith, c.loop-name-test.true)) (few_on first (i.state c.loop-name.inputs) last count 1 c.loop-name.invariant.asks c.play_stream.ensures.asks)
 
-pub returns-clause-once : goal.returns-clause-once
-returns-clause-once g c = few_more (g.I.Inputs.state c.args.inputs.now) (g.I.Inputs.state c.loop-name.inputs) c.loop-name.name-index (length c.args.streams.now) (omega (arith, c.loop-name.invariant.within)) c.loop-name.invariant.asks
+pub returns-clause-asks : goal.returns-clause-asks
+returns-clause-asks g c = few_more (g.I.Inputs.state c.args.inputs.now) (g.I.Inputs.state c.loop-name.inputs) c.loop-name.name-index (length c.args.streams.now) (omega (arith, c.loop-name.invariant.within)) c.loop-name.invariant.asks

@@ -2,7 +2,7 @@ use Rattle.std.proofs.Common.{◌<◌, rules, arith, ap, inl, inr}
 use Rattle.std.specs.Prelude.{Err}
 use Rattle.x7_words.proofs.FlashLemmas.{unwritten_on}
 use Rattle.x7_boot.specs.Image.{flash_limit}
-use Rattle.x7_forms.specs.Message.{event_of}
+use Rattle.x7_forms.specs.Event.{event_of}
 use Rattle.x7_tool.proofs.FlashLemmas.{reads_on}
 use Rattle.x7_tool.proofs.BootTextLemmas.{text_boots, short_flash, fault_boots}
 use Rattle.x7_forms.proofs.ResultLemmas.{handed_on}
@@ -13,7 +13,7 @@ returns-in_err-attach-clause-caused g c = rw (handed_on c.from_residual.result c
 
 pub returns-in-Ok-clause-reads : goal.returns-in-Ok-clause-reads
 returns-in-Ok-clause-reads g c = let f = g.F.Flash in
-    reads_on c.args.name.now (f.state c.args.flash.now) (f.state c.attach.new.flash) (f.state c.boot.new.flash) (f.found_since c.attach.new.flash) (f.found_since c.boot.new.flash) c.in_ok-attach.ensures.reads c.in-Ok.ensures.flash
+    reads_on c.args.flash_name.now (f.state c.args.flash.now) (f.state c.attach.new.flash) (f.state c.boot.new.flash) (f.found_since c.attach.new.flash) (f.found_since c.boot.new.flash) c.in_ok-attach.ensures.reads c.in-Ok.ensures.flash
 
 pub returns-in-Ok-clause-unwritten : goal.returns-in-Ok-clause-unwritten
 returns-in-Ok-clause-unwritten g c = let f = g.F.Flash in
@@ -21,7 +21,7 @@ returns-in-Ok-clause-unwritten g c = let f = g.F.Flash in
 
 pub returns-in-Err-clause-reads : goal.returns-in-Err-clause-reads
 returns-in-Err-clause-reads g c = let f = g.F.Flash in
-    reads_on c.args.name.now (f.state c.args.flash.now) (f.state c.attach.new.flash) (f.state c.boot.new.flash) (f.found_since c.attach.new.flash) (f.found_since c.boot.new.flash) c.in_ok-attach.ensures.reads c.in-Err.ensures.flash
+    reads_on c.args.flash_name.now (f.state c.args.flash.now) (f.state c.attach.new.flash) (f.state c.boot.new.flash) (f.found_since c.attach.new.flash) (f.found_since c.boot.new.flash) c.in_ok-attach.ensures.reads c.in-Err.ensures.flash
 
 pub returns-in-Err-clause-unwritten : goal.returns-in-Err-clause-unwritten
 returns-in-Err-clause-unwritten g c = let f = g.F.Flash in
@@ -30,7 +30,7 @@ returns-in-Err-clause-unwritten g c = let f = g.F.Flash in
 pub returns-in-Err-clause-caused : goal.returns-in-Err-clause-caused
 returns-in-Err-clause-caused g c = let f = g.F.Flash in
     let b = c.in-Err.ensures in
-    fault_boots c.args.name.now c.args.part.now (f.state c.args.flash.now) (f.state c.attach.new.flash) (f.state c.boot.new.flash) (f.found_since c.attach.new.flash) (f.found_since c.boot.new.flash) c.in-Err.fault (event_of c.refusal_of.result)
+    fault_boots c.args.flash_name.now c.args.part.now (f.state c.args.flash.now) (f.state c.attach.new.flash) (f.state c.boot.new.flash) (f.found_since c.attach.new.flash) (f.found_since c.boot.new.flash) c.in-Err.fault (event_of c.refusal_of.result)
     c.in_ok-attach.ensures.reads c.in_ok-attach.ensures.asks c.in_ok-attach.ensures.sized b.flash c.refusal_of.ensures (λ e. b.failed (search (rules, e))) (λ e. b.too_large.0 (ap Err e))
 
 pub returns-in-Ok-clause-caused : goal.returns-in-Ok-clause-caused
@@ -38,5 +38,5 @@ returns-in-Ok-clause-caused g c = let f = g.F.Flash in
     let mid = f.state c.attach.new.flash in
     let b = c.in-Ok.ensures in
     let small : flash_limit < mid.extent → ⊥ = λ large. grind (arith, b.too_large.1 large) in
-    text_boots c.args.name.now c.args.part.now (f.state c.args.flash.now) mid (f.state c.boot.new.flash) c.in-Ok.booted c.text_of.result
+    text_boots c.args.flash_name.now c.args.part.now (f.state c.args.flash.now) mid (f.state c.boot.new.flash) c.in-Ok.booted c.text_of.result
     c.in_ok-attach.ensures.reads (short_flash mid c.in_ok-attach.ensures.sized small) b.booted b.no_word_due c.text_of.ensures.ok c.text_of.ensures.err (grind (arith, b.flash.extent, small))

@@ -1,10 +1,10 @@
 use Rattle.std.proofs.Common.{ap}
 use Rattle.x7_report.specs.Reports.{PlayTextState}
-use Rattle.x7_tool.specs.Play.{text_of_play}
+use Rattle.x7_tool.specs.Play.{play_answer}
 use Rattle.x7_tool.proofs.BootTextLemmas.{boots_as}
 use Rattle.x7_tool.proofs.boot.text_of.Goals as goal
 
 pub returns-clause-ok : goal.returns-clause-ok
 returns-clause-ok c = λ part flash is due.
     let whole = c.in_ok-ready_text.ensures part is.last is.device due in
-    boots_as part flash c.args.booted (text_of_play c.in_ok-ready_text.field-0) is (ap (λ (a : PlayTextState). a.stopped) whole) (ap (λ (a : PlayTextState). a.text) whole)
+    boots_as part flash c.args.booted (play_answer c.in_ok-ready_text.field-0) is (ap (λ (a : PlayTextState). a.stopped) whole) (ap (λ (a : PlayTextState). a.text) whole)

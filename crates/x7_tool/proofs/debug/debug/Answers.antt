@@ -1,13 +1,13 @@
 use Rattle.std.proofs.Common.{refl, ◌∷◌, []}
 use Rattle.x7_forms.specs.Form.{Debugging}
 use Rattle.x7_forms.specs.Known.{Answer, part_limit, stream_limit}
-use Rattle.x7_forms.specs.Message.{event_of}
+use Rattle.x7_forms.specs.Event.{event_of}
 use Rattle.x7_forms.specs.ReadingStops.{limited}
 use Rattle.x7_forms.proofs.ReadLemmas.{answers_by, answers_kept}
 use Rattle.x7_forms.proofs.ResultLemmas.{handed_on, err_weaker}
 use Rattle.x7_tool.specs.Debug.{debug_given}
 use Rattle.x7_tool.specs.Outcome.{DebugInputs, DebuggedAs, debug_inputs, script_limit}
-use Rattle.x7_tool.specs.Ready.{whole_of}
+use Rattle.x7_tool.specs.Ready.{text_answer}
 use Rattle.x7_forms.specs.Step.{seen}
 use Rattle.x7_tool.proofs.ReadyLemmas.{debug_due}
 use Rattle.x7_tool.proofs.StopLemmas.{debug_about, result_stops, among_stops, third_stops}
@@ -23,8 +23,8 @@ returns g c =
     let given = debug_given c.in_ok-given.given in
     let made = c.text_of.result in
     record {
-      caused = answers_by DebugInputs Answer (part ∷ stream ∷ script ∷ []) old new (λ t. debug_inputs t part stream script) given (DebuggedAs script) (seen whole_of made) c.in_ok-given.ensures.caused (debug_due script given made c.text_of.ensures.ok c.text_of.ensures.err);
-      stops = result_stops whole_of (Debugging part stream script) old new made (err_weaker made
+      caused = answers_by DebugInputs Answer (part ∷ stream ∷ script ∷ []) old new (λ t. debug_inputs t part stream script) given (DebuggedAs script) (seen text_answer made) c.in_ok-given.ensures.caused (debug_due script given made c.text_of.ensures.ok c.text_of.ensures.err);
+      stops = result_stops text_answer (Debugging part stream script) old new made (err_weaker made
           (λ r h. third_stops (Debugging part stream script) (limited part_limit part) (limited stream_limit stream) (limited script_limit script) [] old new (event_of r) refl c.in_ok-given.ensures.stands c.read_given.ensures.asks (debug_about script given (event_of r) h))
           c.text_of.ensures.err);
       asks = c.read_given.ensures.asks;

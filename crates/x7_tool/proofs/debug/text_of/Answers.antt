@@ -1,7 +1,7 @@
 use Rattle.std.proofs.Common.{ℕ, List, inl, subst, Ok}
 use Rattle.x7_debug.specs.Script.{IsScriptOf}
 use Rattle.x7_forms.proofs.ResultLemmas.{err_weaker, ok_weaker}
-use Rattle.x7_tool.specs.Ready.{whole_of}
+use Rattle.x7_tool.specs.Ready.{text_answer}
 use Rattle.x7_tool.proofs.DebugLemmas.{shown_as}
 use Rattle.x7_tool.proofs.debug.text_of.Goals as goal
 
@@ -12,7 +12,7 @@ returns-clause-ok c =
     let session = c.in-Ok-new.session in
     let begins = c.in-Ok-new.ensures.begins in
     let script = subst (λ (t : List ℕ). IsScriptOf t (Ok orders)) c.deref.ensures.value c.in-Ok.ensures.script in
-    ok_weaker c.shown.result (λ text h. (orders, (script, shown_as given.part session.part given.stream.items session.stream orders (whole_of text) begins.0 begins.1 h))) c.shown.ensures.ok
+    ok_weaker c.shown.result (λ text h. (orders, (script, shown_as given.part session.part given.stream.items session.stream orders (text_answer text) begins.0 begins.1 h))) c.shown.ensures.ok
 
 pub returns-clause-err : goal.returns-clause-err
 returns-clause-err c = err_weaker c.shown.result (λ r e. inl e) c.shown.ensures.err

@@ -1,6 +1,6 @@
 use Rattle.std.proofs.Common.{◌≡◌, ◌∷◌, [], ◌+◌, ◌^◌, ◌<◌, ◌≤◌, ◌++◌, length, length-append, length-take-le, take, arith, ap, ◌∙◌}
 use Rattle.x7_words.proofs.InputLemmas.{few_once, once_on, stays_on}
-use Rattle.x7_forms.specs.Message.{event_of}
+use Rattle.x7_forms.specs.Event.{event_of}
 use Rattle.x7_tool.specs.Outcome.{text_limit}
 use Rattle.x7_forms.specs.Step.{CameIn, step_over}
 use Rattle.x7_forms.proofs.ReadLemmas.{at_on, open_refused, turn_refused, whole_read, turn_unread, unopened_unread}
@@ -17,9 +17,9 @@ returns-then-turn-clause-ok g c =
     let v = c.loop-read.invariant in
     let taken = v.known.0 in
     let n = c.in_ok-turn.turn.count in
-    let piece = take n c.next_turn.new.buf in
+    let piece = take n c.next_turn.new.buffer in
     let sel = taken_more contents name taken piece (i.state c.loop-read.inputs).rest (i.state c.next_turn.new.inputs).rest v.known.1.0 c.in_ok-turn.ensures.ok.taken in
-    let size : length (taken ++ piece) ≡ length taken + n = length-append taken piece ∙ ap (λ k. length taken + k) (length-take-le n c.next_turn.new.buf (omega (arith, c.in_ok-turn.ensures.within.1, c.next_turn.ensures.length, v.piece))) in
+    let size : length (taken ++ piece) ≡ length taken + n = length-append taken piece ∙ ap (λ k. length taken + k) (length-take-le n c.next_turn.new.buffer (omega (arith, c.in_ok-turn.ensures.within.1, c.next_turn.ensures.length, v.piece))) in
     let short : length (taken ++ piece) ≤ text_limit = omega (arith, size, c.in_ok-turn.ensures.within.0, v.known.1.2) in
     let fits : length (taken ++ piece) < 2 ^ 63 = omega (arith, short) in (
       taken ++ piece,
@@ -36,14 +36,14 @@ loop-read-preserved g c =
     let v = c.loop-read.invariant in
     let taken = v.known.0 in
     let n = c.in_ok-turn.turn.count in
-    let piece = take n c.next_turn.new.buf in
+    let piece = take n c.next_turn.new.buffer in
     let sel = taken_more contents name taken piece (i.state c.loop-read.inputs).rest (i.state c.next_turn.new.inputs).rest v.known.1.0 c.in_ok-turn.ensures.ok.taken in
-    let size : length (taken ++ piece) ≡ length taken + n = length-append taken piece ∙ ap (λ k. length taken + k) (length-take-le n c.next_turn.new.buf (omega (arith, c.in_ok-turn.ensures.within.1, c.next_turn.ensures.length, v.piece))) in
+    let size : length (taken ++ piece) ≡ length taken + n = length-append taken piece ∙ ap (λ k. length taken + k) (length-take-le n c.next_turn.new.buffer (omega (arith, c.in_ok-turn.ensures.within.1, c.next_turn.ensures.length, v.piece))) in
     let fits : length (taken ++ piece) < 2 ^ 63 = omega (arith, size, c.in_ok-turn.ensures.within.0, v.known.1.2) in
     record {
       selected = c.in_ok-turn.ensures.ok.selected;
       inputs = stays_on _ _ _ v.inputs c.next_turn.ensures.inputs;
-      once = once_on _ _ _ v.once c.in_ok-turn.ensures.ok.selects (c.in_ok-turn.ensures.ends c.if-turn.false);
+      once = once_on _ _ _ v.once c.in_ok-turn.ensures.ok.selects (c.in_ok-turn.ensures.no_end_read c.if-turn.false);
       left = omega (arith, v.left);
       piece = c.next_turn.ensures.length ∙ v.piece;
       known = (taken ++ piece, (sel, c.take_turn-read.ensures c.args.taker taken fits v.known.1.1, omega (arith, size, v.known.1.2, c.in_ok-turn.ensures.within.0), at_on name taken piece (i.state c.loop-read.inputs) (i.state c.next_turn.new.inputs) v.known.1.3 c.in_ok-turn.ensures.ok c.next_turn.ensures.asked));
@@ -71,16 +71,16 @@ pub returns-in_err-open-clause-stands : goal.returns-in_err-open-clause-stands
 returns-in_err-open-clause-stands g c = stands_opened c.args.name.now text_limit (g.I.Inputs.state c.open.new.inputs) c.open.ensures.asks
 
 pub returns-in_err-turn-clause-stands : goal.returns-in_err-turn-clause-stands
-returns-in_err-turn-clause-stands g c = let v = c.loop-read.invariant in stands_turn c.args.name.now v.known.0 text_limit c.loop-read.left (g.I.Inputs.state c.loop-read.inputs) (g.I.Inputs.state c.next_turn.new.inputs) v.known.1.3 v.known.1.2 c.next_turn.ensures.few
+returns-in_err-turn-clause-stands g c = let v = c.loop-read.invariant in stands_turn c.args.name.now v.known.0 text_limit c.loop-read.left (g.I.Inputs.state c.loop-read.inputs) (g.I.Inputs.state c.next_turn.new.inputs) v.known.1.3 v.known.1.2 c.next_turn.ensures.gives_few
 
 pub returns-then-turn-clause-stands : goal.returns-then-turn-clause-stands
-returns-then-turn-clause-stands g c = let v = c.loop-read.invariant in stands_turn c.args.name.now v.known.0 text_limit c.loop-read.left (g.I.Inputs.state c.loop-read.inputs) (g.I.Inputs.state c.next_turn.new.inputs) v.known.1.3 v.known.1.2 c.next_turn.ensures.few
+returns-then-turn-clause-stands g c = let v = c.loop-read.invariant in stands_turn c.args.name.now v.known.0 text_limit c.loop-read.left (g.I.Inputs.state c.loop-read.inputs) (g.I.Inputs.state c.next_turn.new.inputs) v.known.1.3 v.known.1.2 c.next_turn.ensures.gives_few
 
 pub returns-in_err-open-clause-asks : goal.returns-in_err-open-clause-asks
 returns-in_err-open-clause-asks g c = few_once _ _ c.open.ensures.once
 
 pub returns-in_err-turn-clause-asks : goal.returns-in_err-turn-clause-asks
-returns-in_err-turn-clause-asks g c = few_read _ _ _ c.loop-read.left c.loop-read.invariant.once c.next_turn.ensures.few
+returns-in_err-turn-clause-asks g c = few_read _ _ _ c.loop-read.left c.loop-read.invariant.once c.next_turn.ensures.gives_few
 
 pub returns-then-turn-clause-asks : goal.returns-then-turn-clause-asks
-returns-then-turn-clause-asks g c = few_read _ _ _ c.loop-read.left c.loop-read.invariant.once c.next_turn.ensures.few
+returns-then-turn-clause-asks g c = few_read _ _ _ c.loop-read.left c.loop-read.invariant.once c.next_turn.ensures.gives_few

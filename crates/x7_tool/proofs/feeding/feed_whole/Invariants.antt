@@ -1,7 +1,8 @@
 use Rattle.std.proofs.Common.{◌≡◌, ℕ, List, ◌+◌, ◌≤◌, length, true}
 use Rattle.x7_words.specs.Input.{AsksOnce, RestIsWhole, InputsStay, preceded}
 use Rattle.x7_tool.specs.Outcome.{text_limit}
-use Rattle.x7_forms.specs.Turn.{IsAt, turn_bytes}
+use Rattle.x7_forms.specs.Turn.{turn_bytes}
+use Rattle.x7_forms.proofs.ReadLemmas.{IsAt}
 use Rattle.x7_tool.specs.Between.{IsFed}
 use Rattle.x7_tool.proofs.feeding.feed_whole.Given as goal
 

@@ -11,7 +11,7 @@ use Rattle.x7_tool.proofs.generate.summarized.Goals as goal
 pub returns : goal.returns
 returns c = λ part stream took.
     let p = c.args.played.now.player in
-    let on = sure p.over part stream (play_state p.device p.buffer p.reads.items) took.2 took.0 in
+    let on = sure p.is_over part stream (play_state p.device p.buffer p.reads.items) took.2 took.0 in
     let all = played_all part stream p.device p.reads.items on.0 on.1 in
     let stands = all.stands in
     let state = c.state.ensures.value part on_the_bench false all.prefix stands all.no_word_due ∙ sym all.state in

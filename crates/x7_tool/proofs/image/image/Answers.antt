@@ -1,13 +1,13 @@
 use Rattle.std.proofs.Common.{refl, ◌∷◌, []}
 use Rattle.x7_forms.specs.Form.{Imaging}
 use Rattle.x7_forms.specs.Known.{Answer, stream_limit}
-use Rattle.x7_forms.specs.Message.{event_of}
+use Rattle.x7_forms.specs.Event.{event_of}
 use Rattle.x7_forms.specs.ReadingStops.{limited}
 use Rattle.x7_forms.specs.Step.{seen}
 use Rattle.x7_forms.proofs.ReadLemmas.{answers_end, answers_stop}
 use Rattle.x7_forms.proofs.ResultLemmas.{handed_on, err_weaker}
 use Rattle.x7_tool.specs.Outcome.{ImageStreams, image_by, image_streams}
-use Rattle.x7_tool.specs.Ready.{text_of_bytes}
+use Rattle.x7_tool.specs.Ready.{bytes_answer}
 use Rattle.x7_tool.specs.Stream.{streams_of}
 use Rattle.x7_tool.proofs.ReadyLemmas.{image_due, streams_steady}
 use Rattle.x7_tool.proofs.StopLemmas.{result_stops, among_stops, second_stops}
@@ -20,11 +20,11 @@ returns g c =
     let golden = c.args.golden.now in
     let update = c.args.update.now in
     let streams = streams_of c.in_ok-streams.streams in
-    let made = c.plain_text.result in
+    let made = c.image_by_bytes.result in
     record {
-      caused = answers_end ImageStreams Answer (golden ∷ update ∷ []) old new (λ t. image_streams t golden update) (image_by update 1) streams (seen text_of_bytes made) (streams_steady golden update) c.in_ok-streams.ensures.caused (image_due update 1 streams made c.plain_text.ensures.ok c.plain_text.ensures.err);
-      stops = result_stops text_of_bytes (Imaging golden update) old new made (err_weaker made
-          (λ r a. second_stops (Imaging golden update) (limited stream_limit golden) (limited stream_limit update) [] old new (event_of r) refl c.in_ok-streams.ensures.stands c.read_streams.ensures.asks a) c.plain_text.ensures.about);
+      caused = answers_end ImageStreams Answer (golden ∷ update ∷ []) old new (λ t. image_streams t golden update) (image_by update 1) streams (seen bytes_answer made) (streams_steady golden update) c.in_ok-streams.ensures.caused (image_due update 1 streams made c.image_by_bytes.ensures.ok c.image_by_bytes.ensures.err);
+      stops = result_stops bytes_answer (Imaging golden update) old new made (err_weaker made
+          (λ r a. second_stops (Imaging golden update) (limited stream_limit golden) (limited stream_limit update) [] old new (event_of r) refl c.in_ok-streams.ensures.stands c.read_streams.ensures.asks a) c.image_by_bytes.ensures.about);
       asks = c.read_streams.ensures.asks;
       stays = c.read_streams.ensures.inputs;
     }

@@ -1,6 +1,5 @@
 use Rattle.std.proofs.Common.{ℕ, List, [], ◌∷◌, Result, Ok, Err, arith, inr, refl}
-use Rattle.x7_forms.specs.Event.{Event}
-use Rattle.x7_forms.specs.Message.{event_of}
+use Rattle.x7_forms.specs.Event.{Event, event_of}
 use Rattle.x7_forms.specs.Known.{and_so, stream_limit}
 use Rattle.x7_forms.proofs.ReadLemmas.{answers_end, answers_go, answers_stop, first_of}
 use Rattle.x7_tool.specs.Outcome.{ImageStreams, stream_data}

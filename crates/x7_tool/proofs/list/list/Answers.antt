@@ -7,8 +7,7 @@ use Rattle.x7_words.proofs.InputLemmas.{few_once, once_on, stays_on}
 use Rattle.x7_words.proofs.CountLemmas.{risen_from}
 use Rattle.x7_listing.specs.Listing.{listing_of}
 use Rattle.x7_listing.specs.StreamListing.{stream_listing}
-use Rattle.x7_forms.specs.Event.{no_memory, status_of_event, writing_failed}
-use Rattle.x7_forms.specs.Message.{event_of}
+use Rattle.x7_forms.specs.Event.{event_of, no_memory, status_of_event, writing_failed}
 use Rattle.x7_forms.specs.Known.{stream_limit, with_inputs}
 use Rattle.x7_forms.specs.Step.{CameIn, step_over}
 use Rattle.x7_forms.specs.declared.refusal.Refusal.{Refusal}
@@ -53,12 +52,12 @@ returns-in_err-beginning g c = rw (handed_on c.from_residual-in_err-beginning.re
     let new = record after { inputs = i.state c.read_beginning.new.inputs; out = o.state c.args.out.now } in
     let stream = c.args.stream.now in
     let event = event_of c.in_err-beginning.field-0.0 in
-    let asks = few_read (i.state c.args.inputs.now) (i.state c.open.new.inputs) (i.state c.read_beginning.new.inputs) stream_limit c.open.ensures.once c.read_beginning.ensures.few in
+    let asks = few_read (i.state c.args.inputs.now) (i.state c.open.new.inputs) (i.state c.read_beginning.new.inputs) stream_limit c.open.ensures.once c.read_beginning.ensures.gives_few in
     record {
       ends = list_ends stream old new (Err event)
           (without_prefix old.inputs (i.state c.open.new.inputs) new.inputs old.flash.bytes stream (SinkFails old.out new.out) old.out.written event c.open.ensures.inputs c.in_ok-open.ensures.ok.found c.open.ensures.asks c.in_err-beginning.ensures.err)
           (stays_near event stream old new (without_prefix_near old.inputs.contents stream new.inputs.rest old.out.written new.out.written (i.state c.open.new.inputs) new.inputs stream event refl c.in_ok-open.ensures.ok.found c.open.ensures.asks c.read_beginning.ensures.short (same_now old.out) c.in_err-beginning.ensures.err));
-      stops = first_stops (Listing c.args.stream.now) (limited stream_limit c.args.stream.now) [] (g.I.Inputs.state c.args.inputs.now) (g.I.Inputs.state c.read_beginning.new.inputs) (event_of c.in_err-beginning.field-0.0) refl (stands_read c.args.stream.now stream_limit (g.I.Inputs.state c.open.new.inputs) (g.I.Inputs.state c.read_beginning.new.inputs) c.open.ensures.asks c.read_beginning.ensures.few) asks (without_prefix_about (g.I.Inputs.state c.open.new.inputs) (g.I.Inputs.state c.read_beginning.new.inputs) c.args.stream.now (event_of c.in_err-beginning.field-0.0) c.in_err-beginning.ensures.err);
+      stops = first_stops (Listing c.args.stream.now) (limited stream_limit c.args.stream.now) [] (g.I.Inputs.state c.args.inputs.now) (g.I.Inputs.state c.read_beginning.new.inputs) (event_of c.in_err-beginning.field-0.0) refl (stands_read c.args.stream.now stream_limit (g.I.Inputs.state c.open.new.inputs) (g.I.Inputs.state c.read_beginning.new.inputs) c.open.ensures.asks c.read_beginning.ensures.gives_few) asks (without_prefix_about (g.I.Inputs.state c.open.new.inputs) (g.I.Inputs.state c.read_beginning.new.inputs) c.args.stream.now (event_of c.in_err-beginning.field-0.0) c.in_err-beginning.ensures.err);
       judges = tt;
       asks = asks;
       stays = stays_on _ _ _ c.open.ensures.inputs c.read_beginning.ensures.inputs;
@@ -97,8 +96,8 @@ returns-in_err-put_beginning g c = rw (handed_on c.from_residual-in_err-put_begi
     let put = c.in_err-put_beginning.ensures.err [] (subst AreBytes (sym (append-nil _)) c.put_beginning.ensures.fits) in
     let longer = longer_prefix old now _ put in
     let few : given ≤ longest_beginning = omega (arith, c.open.ensures.asks.given, c.read_beginning.ensures.short) in
-    let near = unwritten_near contents stream rest old now _ given r (prefix_given contents stream given old now few longer) (prefix_near contents stream taken rest old now sel f.few longer) c.in_err-put_beginning.ensures.why in
-    let asks = few_read (i.state c.args.inputs.now) (i.state c.open.new.inputs) (i.state c.read_beginning.new.inputs) stream_limit c.open.ensures.once c.read_beginning.ensures.few in
+    let near = unwritten_near contents stream rest old now _ given r (prefix_given contents stream given old now few longer) (prefix_near contents stream taken rest old now sel f.short longer) c.in_err-put_beginning.ensures.why in
+    let asks = few_read (i.state c.args.inputs.now) (i.state c.open.new.inputs) (i.state c.read_beginning.new.inputs) stream_limit c.open.ensures.once c.read_beginning.ensures.gives_few in
     record {
       ends = list_ends stream (record before { inputs = i.state c.args.inputs.now; out = o.state c.args.out.now }) (record after { inputs = i.state c.read_beginning.new.inputs; out = o.state c.put_beginning.new.out }) (Err r) (end c.in_err-put_beginning.ensures.why) (stays_near r stream (record before { inputs = i.state c.args.inputs.now; out = o.state c.args.out.now }) (record after { inputs = i.state c.read_beginning.new.inputs; out = o.state c.put_beginning.new.out }) near);
       stops = prefix_stops (Listing c.args.stream.now) (g.I.Inputs.state c.args.inputs.now) (g.I.Inputs.state c.read_beginning.new.inputs) (event_of c.in_err-put_beginning.field-0.0) c.in_err-put_beginning.ensures.why;
@@ -135,7 +134,7 @@ returns-then-beginning g c = λ before after.
     let flash = before.flash.bytes in
     let first = record before { inputs = i.state c.args.inputs.now; out = o.state c.args.out.now } in
     let later = record after { inputs = i.state c.read_beginning.new.inputs; out = o.state c.put_short.new.out } in
-    let ok = on_ok_weaker c.put_short.result (λ h. (text, listed_whole contents flash C stream taken text rest Full old now sel end same (omega (arith, f.few)) h)) c.put_short.ensures.ok in
+    let ok = on_ok_weaker c.put_short.result (λ h. (text, listed_whole contents flash C stream taken text rest Full old now sel end same (omega (arith, f.short)) h)) c.put_short.ensures.ok in
     let Why : Refusal → Type 0 = λ r. ((event_of r ≡ no_memory) × (now ≡ old)) ⊎ ((event_of r ≡ writing_failed) × Full) in
     let err = both_err c.put_short.result (λ r. PutsPrefix old text now) Why (λ r. Ended (with_inputs contents flash) C stream Full old now (Err (event_of r)))
     (λ r p w.
@@ -153,9 +152,9 @@ returns-then-beginning g c = λ before after.
     (λ r p w.
     let longer = longer_prefix old now text p in
     let few : given ≤ longest_beginning = omega (arith, c.open.ensures.asks.given, c.read_beginning.ensures.short) in
-    stays_near (event_of r) stream first later (unwritten_near contents stream rest old now _ given (event_of r) (prefix_given contents stream given old now few longer) (prefix_near contents stream taken rest old now sel f.few longer) (why_weaker w)))
+    stays_near (event_of r) stream first later (unwritten_near contents stream rest old now _ given (event_of r) (prefix_given contents stream given old now few longer) (prefix_near contents stream taken rest old now sel f.short longer) (why_weaker w)))
     c.put_short.ensures.err c.put_short.ensures.why in
-    let asks = few_read (i.state c.args.inputs.now) (i.state c.open.new.inputs) (i.state c.read_beginning.new.inputs) stream_limit c.open.ensures.once c.read_beginning.ensures.few in
+    let asks = few_read (i.state c.args.inputs.now) (i.state c.open.new.inputs) (i.state c.read_beginning.new.inputs) stream_limit c.open.ensures.once c.read_beginning.ensures.gives_few in
     record {
       ends = list_seen stream first later c.put_short.result ok err near;
       stops = written_stops _ _ (Listing c.args.stream.now) (g.I.Inputs.state c.args.inputs.now) (g.I.Inputs.state c.read_beginning.new.inputs) c.put_short.result c.put_short.ensures.why;
@@ -174,14 +173,14 @@ returns-in_err-turn g c = rw (handed_on c.from_residual-in_err-turn.result c.in_
     let stream = c.args.stream.now in
     let event = event_of c.in_err-turn.field-0.0 in
     let t = v.known.1.1 in
-    let asks = few_read (i.state c.args.inputs.now) (i.state c.loop-lister.inputs) (i.state c.next_turn.new.inputs) c.loop-lister.left c.loop-lister.invariant.once c.next_turn.ensures.few in
+    let asks = few_read (i.state c.args.inputs.now) (i.state c.loop-lister.inputs) (i.state c.next_turn.new.inputs) c.loop-lister.left c.loop-lister.invariant.once c.next_turn.ensures.gives_few in
     record {
       ends = list_ends stream old new (Err event)
           (unread_end old.inputs (i.state c.loop-lister.inputs) new.inputs old.flash.bytes stream v.known.0 c.loop-lister.lister c.loop-lister.left (SinkFails old.out new.out) old.out.written new.out.written event
           v.inputs v.known.1.0 v.known.1.3 v.known.1.1 v.known.1.2 c.in_err-turn.ensures.err c.next_turn.ensures.asked)
           (stays_near event stream old new (unread_near old.inputs.contents stream new.inputs.rest old.out.written new.out.written (i.state c.loop-lister.inputs) new.inputs stream v.known.0 c.loop-lister.lister c.loop-lister.left event refl v.known.1.0 t
-          (omega (arith, v.known.1.3.given, c.next_turn.ensures.turn, v.piece)) (λ e. omega (arith, c.in_err-turn.ensures.over e, v.piece)) (same_now (o.state c.loop-lister.out)) c.in_err-turn.ensures.err));
-      stops = let v = c.loop-lister.invariant in first_stops (Listing c.args.stream.now) (limited stream_limit c.args.stream.now) [] (g.I.Inputs.state c.args.inputs.now) (g.I.Inputs.state c.next_turn.new.inputs) (event_of c.in_err-turn.field-0.0) refl (stands_turn c.args.stream.now v.known.0 stream_limit c.loop-lister.left (g.I.Inputs.state c.loop-lister.inputs) (g.I.Inputs.state c.next_turn.new.inputs) v.known.1.3 v.known.1.2 c.next_turn.ensures.few) asks (unread_about c.args.stream.now (event_of c.in_err-turn.field-0.0) (turn_unread (g.I.Inputs.state c.loop-lister.inputs) (g.I.Inputs.state c.next_turn.new.inputs) c.args.stream.now c.loop-lister.left (event_of c.in_err-turn.field-0.0) c.in_err-turn.ensures.err));
+          (omega (arith, v.known.1.3.given, c.next_turn.ensures.gives_a_turn, v.piece)) (λ e. omega (arith, c.in_err-turn.ensures.over e, v.piece)) (same_now (o.state c.loop-lister.out)) c.in_err-turn.ensures.err));
+      stops = let v = c.loop-lister.invariant in first_stops (Listing c.args.stream.now) (limited stream_limit c.args.stream.now) [] (g.I.Inputs.state c.args.inputs.now) (g.I.Inputs.state c.next_turn.new.inputs) (event_of c.in_err-turn.field-0.0) refl (stands_turn c.args.stream.now v.known.0 stream_limit c.loop-lister.left (g.I.Inputs.state c.loop-lister.inputs) (g.I.Inputs.state c.next_turn.new.inputs) v.known.1.3 v.known.1.2 c.next_turn.ensures.gives_few) asks (unread_about c.args.stream.now (event_of c.in_err-turn.field-0.0) (turn_unread (g.I.Inputs.state c.loop-lister.inputs) (g.I.Inputs.state c.next_turn.new.inputs) c.args.stream.now c.loop-lister.left (event_of c.in_err-turn.field-0.0) c.in_err-turn.ensures.err));
       judges = tt;
       asks = asks;
       stays = stays_on _ _ _ c.loop-lister.invariant.inputs c.next_turn.ensures.inputs;
@@ -199,7 +198,7 @@ returns-in_err-put_turn g c = rw (handed_on c.from_residual-in_err-put_turn.resu
     let v = c.loop-lister.invariant in
     let taken = v.known.0 in
     let t = v.known.1.1 in
-    let piece = take c.in_ok-turn.turn.count c.next_turn.new.buf in
+    let piece = take c.in_ok-turn.turn.count c.next_turn.new.buffer in
     let sel = taken_more contents stream taken piece (i.state c.loop-lister.inputs).rest (i.state c.next_turn.new.inputs).rest v.known.1.0 c.in_ok-turn.ensures.ok.taken in
     let now = (o.state c.put_turn.new.out).written in
     let Full : Type 0 = SinkFails (o.state c.args.out.now) (o.state c.put_turn.new.out) in
@@ -219,11 +218,11 @@ returns-in_err-put_turn g c = rw (handed_on c.from_residual-in_err-put_turn.resu
     ] in
     let n = c.in_ok-turn.turn.count in
     let rest = (i.state c.next_turn.new.inputs).rest in
-    let few : length piece ≤ turn_bytes = omega (arith, length-take-le n c.next_turn.new.buf (omega (arith, c.in_ok-turn.ensures.within.1, c.next_turn.ensures.length, v.piece)), c.in_ok-turn.ensures.within.1, v.piece) in
+    let few : length piece ≤ turn_bytes = omega (arith, length-take-le n c.next_turn.new.buffer (omega (arith, c.in_ok-turn.ensures.within.1, c.next_turn.ensures.length, v.piece)), c.in_ok-turn.ensures.within.1, v.piece) in
     let known = stream_whole taken t.line t.content (t.listing []) in
     let near = turn_near contents stream taken piece t.line t.content c.loop-lister.lister rest old (o.state c.loop-lister.out).written now sel t.short_header few known t.lists c.put_turn.ensures.longer in
-    let gives = turn_given contents stream taken t.line t.content given c.loop-lister.lister (i.state c.loop-lister.inputs).rest old (o.state c.loop-lister.out).written now v.known.1.0 (omega (arith, v.known.1.3.given, c.next_turn.ensures.turn, v.piece)) known t.lists c.put_turn.ensures.longer in
-    let asks = few_read (i.state c.args.inputs.now) (i.state c.loop-lister.inputs) (i.state c.next_turn.new.inputs) c.loop-lister.left c.loop-lister.invariant.once c.next_turn.ensures.few in
+    let gives = turn_given contents stream taken t.line t.content given c.loop-lister.lister (i.state c.loop-lister.inputs).rest old (o.state c.loop-lister.out).written now v.known.1.0 (omega (arith, v.known.1.3.given, c.next_turn.ensures.gives_a_turn, v.piece)) known t.lists c.put_turn.ensures.longer in
+    let asks = few_read (i.state c.args.inputs.now) (i.state c.loop-lister.inputs) (i.state c.next_turn.new.inputs) c.loop-lister.left c.loop-lister.invariant.once c.next_turn.ensures.gives_few in
     record {
       ends = list_ends stream (record before { inputs = i.state c.args.inputs.now; out = o.state c.args.out.now }) (record after { inputs = i.state c.next_turn.new.inputs; out = o.state c.put_turn.new.out }) (Err r) (end c.in_err-put_turn.ensures.why) (stays_near r stream (record before { inputs = i.state c.args.inputs.now; out = o.state c.args.out.now }) (record after { inputs = i.state c.next_turn.new.inputs; out = o.state c.put_turn.new.out }) (unwritten_near contents stream rest old now _ given r gives near (why_weaker c.in_err-put_turn.ensures.why)));
       stops = put_stops (Listing c.args.stream.now) (g.I.Inputs.state c.args.inputs.now) (g.I.Inputs.state c.next_turn.new.inputs) (event_of c.in_err-put_turn.field-0.0) c.in_err-put_turn.ensures.why;
@@ -245,13 +244,13 @@ returns-then-turn g c = λ before after.
     let taken = v.known.0 in
     let t = v.known.1.1 in
     let n = c.in_ok-turn.turn.count in
-    let piece = take n c.next_turn.new.buf in
+    let piece = take n c.next_turn.new.buffer in
     let sel = taken_more contents stream taken piece (i.state c.loop-lister.inputs).rest (i.state c.next_turn.new.inputs).rest v.known.1.0 c.in_ok-turn.ensures.ok.taken in
     let lists : Lists c.put_turn.new.lister (appended old t.line) (o.state c.put_turn.new.out).written (t.content ++ piece) = c.in_ok-put_turn.ensures.ok (appended old t.line) t.content t.lists in
     let listing = goes_on taken piece t.line t.content t.listing in
     let now = (o.state c.put_end.new.out).written in
     let Full : Type 0 = SinkFails (o.state c.args.out.now) (o.state c.put_end.new.out) in
-    let size : length (taken ++ piece) ≡ length taken + n = length-append taken piece ∙ ap (λ k. length taken + k) (length-take-le n c.next_turn.new.buf (omega (arith, c.in_ok-turn.ensures.within.1, c.next_turn.ensures.length, v.piece))) in
+    let size : length (taken ++ piece) ≡ length taken + n = length-append taken piece ∙ ap (λ k. length taken + k) (length-take-le n c.next_turn.new.buffer (omega (arith, c.in_ok-turn.ensures.within.1, c.next_turn.ensures.length, v.piece))) in
     let short : length (taken ++ piece) ≤ stream_limit = omega (arith, size, c.in_ok-turn.ensures.within.0, v.known.1.2) in
     let end = c.in_ok-turn.ensures.end c.if-turn.true in
     let text = t.line ++ listing_of (t.content ++ piece) in
@@ -276,13 +275,13 @@ returns-then-turn g c = λ before after.
     ] in
     end w)
     c.put_end.ensures.err c.put_end.ensures.why in
-    let few : length piece ≤ turn_bytes = omega (arith, length-take-le n c.next_turn.new.buf (omega (arith, c.in_ok-turn.ensures.within.1, c.next_turn.ensures.length, v.piece)), c.in_ok-turn.ensures.within.1, v.piece) in
+    let few : length piece ≤ turn_bytes = omega (arith, length-take-le n c.next_turn.new.buffer (omega (arith, c.in_ok-turn.ensures.within.1, c.next_turn.ensures.length, v.piece)), c.in_ok-turn.ensures.within.1, v.piece) in
     let longer = longer_twice (o.state c.loop-lister.out).written (o.state c.put_turn.new.out).written now c.put_turn.ensures.longer c.put_end.ensures.longer in
     let whole = stream_whole taken t.line t.content (t.listing []) in
     let near = turn_near contents stream taken piece t.line t.content c.loop-lister.lister (i.state c.next_turn.new.inputs).rest old (o.state c.loop-lister.out).written now sel t.short_header few whole t.lists longer in
-    let gives = turn_given contents stream taken t.line t.content given c.loop-lister.lister (i.state c.loop-lister.inputs).rest old (o.state c.loop-lister.out).written now v.known.1.0 (omega (arith, v.known.1.3.given, c.next_turn.ensures.turn, v.piece)) whole t.lists longer in
+    let gives = turn_given contents stream taken t.line t.content given c.loop-lister.lister (i.state c.loop-lister.inputs).rest old (o.state c.loop-lister.out).written now v.known.1.0 (omega (arith, v.known.1.3.given, c.next_turn.ensures.gives_a_turn, v.piece)) whole t.lists longer in
     let close = err_weaker c.put_end.result (λ r w. stays_near (event_of r) stream (record before { inputs = i.state c.args.inputs.now; out = o.state c.args.out.now }) (record after { inputs = i.state c.next_turn.new.inputs; out = o.state c.put_end.new.out }) (unwritten_near contents stream (i.state c.next_turn.new.inputs).rest old now _ given (event_of r) gives near (why_weaker w))) c.put_end.ensures.why in
-    let asks = few_read (i.state c.args.inputs.now) (i.state c.loop-lister.inputs) (i.state c.next_turn.new.inputs) c.loop-lister.left c.loop-lister.invariant.once c.next_turn.ensures.few in
+    let asks = few_read (i.state c.args.inputs.now) (i.state c.loop-lister.inputs) (i.state c.next_turn.new.inputs) c.loop-lister.left c.loop-lister.invariant.once c.next_turn.ensures.gives_few in
     record {
       ends = list_seen stream (record before { inputs = i.state c.args.inputs.now; out = o.state c.args.out.now }) (record after { inputs = i.state c.next_turn.new.inputs; out = o.state c.put_end.new.out }) c.put_end.result ok err close;
       stops = written_stops _ _ (Listing c.args.stream.now) (g.I.Inputs.state c.args.inputs.now) (g.I.Inputs.state c.next_turn.new.inputs) c.put_end.result c.put_end.ensures.why;
@@ -302,16 +301,16 @@ loop-lister-preserved g c =
     let taken = v.known.0 in
     let t = v.known.1.1 in
     let n = c.in_ok-turn.turn.count in
-    let piece = take n c.next_turn.new.buf in
+    let piece = take n c.next_turn.new.buffer in
     let sel = taken_more contents stream taken piece (i.state c.loop-lister.inputs).rest (i.state c.next_turn.new.inputs).rest v.known.1.0 c.in_ok-turn.ensures.ok.taken in
     let lists : Lists c.put_turn.new.lister (appended old t.line) (o.state c.put_turn.new.out).written (t.content ++ piece) = c.in_ok-put_turn.ensures.ok (appended old t.line) t.content t.lists in
     let listing = goes_on taken piece t.line t.content t.listing in
-    let size : length (taken ++ piece) ≡ length taken + n = length-append taken piece ∙ ap (λ k. length taken + k) (length-take-le n c.next_turn.new.buf (omega (arith, c.in_ok-turn.ensures.within.1, c.next_turn.ensures.length, v.piece))) in
+    let size : length (taken ++ piece) ≡ length taken + n = length-append taken piece ∙ ap (λ k. length taken + k) (length-take-le n c.next_turn.new.buffer (omega (arith, c.in_ok-turn.ensures.within.1, c.next_turn.ensures.length, v.piece))) in
     let full : n ≡ turn_bytes = c.in_ok-turn.ensures.fills c.if-turn.false ∙ v.piece in
     record {
       selected = c.in_ok-turn.ensures.ok.selected;
       inputs = stays_on _ _ _ v.inputs c.next_turn.ensures.inputs;
-      once = once_on _ _ _ v.once c.in_ok-turn.ensures.ok.selects (c.in_ok-turn.ensures.ends c.if-turn.false);
+      once = once_on _ _ _ v.once c.in_ok-turn.ensures.ok.selects (c.in_ok-turn.ensures.no_end_read c.if-turn.false);
       written = omega (arith, v.written, c.put_turn.ensures.counts.faults);
       left = omega (arith, v.left);
       piece = omega (arith, c.next_turn.ensures.length, v.piece);
@@ -340,8 +339,8 @@ loop-lister-init g c =
       selected = c.in_ok-beginning.ensures.selected;
       inputs = stays_on _ _ _ c.open.ensures.inputs c.read_beginning.ensures.inputs;
       written = c.put_beginning.ensures.counts.faults;
-      once = once_on _ _ _ c.open.ensures.once c.read_beginning.ensures.few.selects (f.goes c.if-beginning.false);
+      once = once_on _ _ _ c.open.ensures.once c.read_beginning.ensures.gives_few.selects (f.no_end_read c.if-beginning.false);
       left = omega arith;
       piece = refl;
-      known = (taken, (sel, record { line = line; content = content; lists = c.in_ok-put_beginning.ensures.ok; listing = listing; short_header = omega (arith, f.few) }, omega (arith, f.few, c.len-left.ensures), record { asked = asked_on stream (i.state c.open.new.inputs) now c.open.ensures.asks f.reads.asked; given = omega (arith, c.open.ensures.asks.given, f.reads.takes.given) }));
+      known = (taken, (sel, record { line = line; content = content; lists = c.in_ok-put_beginning.ensures.ok; listing = listing; short_header = omega (arith, f.short) }, omega (arith, f.short, c.len-left.ensures), record { asked = asked_on stream (i.state c.open.new.inputs) now c.open.ensures.asks f.reads.asked; given = omega (arith, c.open.ensures.asks.given, f.reads.takes.given) }));
     }

@@ -1,5 +1,5 @@
 use Rattle.std.proofs.Common.{sym, refl, []}
-use Rattle.x7_forms.specs.Message.{event_of}
+use Rattle.x7_forms.specs.Event.{event_of}
 use Rattle.x7_forms.specs.ReadingStops.{limited}
 use Rattle.x7_forms.specs.Form.{FromMcs}
 use Rattle.x7_forms.proofs.StandLemmas.{about_by, unread_about}

@@ -1,4 +1,4 @@
-use Rattle.x7_forms.specs.Message.{event_of}
+use Rattle.x7_forms.specs.Event.{event_of}
 use Rattle.x7_tool.specs.Outcome.{planner_event}
 use Rattle.x7_forms.proofs.StandLemmas.{about_by}
 use Rattle.x7_tool.proofs.StopLemmas.{planner_about}

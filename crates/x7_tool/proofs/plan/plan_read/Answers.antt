@@ -1,15 +1,15 @@
 use Rattle.std.proofs.Common.{refl, ◌∷◌, []}
 use Rattle.x7_part.specs.Part.{PartData}
 use Rattle.x7_forms.specs.Form.{PlanningRead}
-use Rattle.x7_forms.specs.Known.{Answer, part_limit, part_of}
-use Rattle.x7_forms.specs.Message.{event_of}
+use Rattle.x7_forms.specs.Known.{Answer, part_limit, part_known}
+use Rattle.x7_forms.specs.Event.{event_of}
 use Rattle.x7_forms.specs.ReadingStops.{limited}
 use Rattle.x7_forms.specs.Step.{seen}
 use Rattle.x7_forms.proofs.ReadLemmas.{answers_by, answers_kept}
 use Rattle.x7_forms.proofs.ResultLemmas.{handed_on, err_weaker}
 use Rattle.x7_forms.proofs.StandLemmas.{no_part_about}
 use Rattle.x7_tool.specs.Outcome.{PlannedRead}
-use Rattle.x7_tool.specs.Ready.{text_of_bytes}
+use Rattle.x7_tool.specs.Ready.{bytes_answer}
 use Rattle.x7_tool.proofs.ReadyLemmas.{read_due}
 use Rattle.x7_tool.proofs.StopLemmas.{result_stops, first_stops}
 use Rattle.x7_tool.proofs.plan.plan_read.Goals as goal
@@ -17,12 +17,12 @@ use Rattle.x7_tool.proofs.plan.plan_read.Goals as goal
 pub returns-in_err-part : goal.returns-in_err-part
 returns-in_err-part g c = rw (handed_on c.from_residual.result c.in_err-part.field-0.0 c.from_residual.ensures) (let old = g.I.Inputs.state c.args.inputs.now in
     let new = g.I.Inputs.state c.read_part.new.inputs in
-    let name = c.args.name.now in
+    let name = c.args.part_name.now in
     let event = event_of c.in_err-part.field-0.0 in
     record {
-      caused = answers_kept PartData Answer (name ∷ []) old new (λ t. part_of t name) (PlannedRead name c.args.far c.args.n) event (λ x. refl) c.in_err-part.ensures.caused;
-      stops = first_stops (PlanningRead name c.args.far c.args.n) (limited part_limit name) [] old new event refl c.read_part.ensures.stands c.read_part.ensures.once (no_part_about name event c.in_err-part.ensures.named);
-      asks = c.read_part.ensures.once;
+      caused = answers_kept PartData Answer (name ∷ []) old new (λ t. part_known t name) (PlannedRead name c.args.far c.args.n) event (λ x. refl) c.in_err-part.ensures.caused;
+      stops = first_stops (PlanningRead name c.args.far c.args.n) (limited part_limit name) [] old new event refl c.read_part.ensures.stands c.read_part.ensures.asks (no_part_about name event c.in_err-part.ensures.named);
+      asks = c.read_part.ensures.asks;
       stays = c.read_part.ensures.inputs;
     })
 
@@ -30,12 +30,12 @@ pub returns : goal.returns
 returns g c =
     let old = g.I.Inputs.state c.args.inputs.now in
     let new = g.I.Inputs.state c.read_part.new.inputs in
-    let name = c.args.name.now in
+    let name = c.args.part_name.now in
     let part = c.in_ok-part.part in
-    let made = c.read_text.result in
+    let made = c.readback_text.result in
     record {
-      caused = answers_by PartData Answer (name ∷ []) old new (λ t. part_of t name) part (PlannedRead name c.args.far c.args.n) (seen text_of_bytes made) c.in_ok-part.ensures.caused (read_due name part c.args.far c.args.n made c.read_text.ensures.ok c.read_text.ensures.err);
-      stops = result_stops text_of_bytes (PlanningRead name c.args.far c.args.n) old new made (err_weaker made (λ r a. first_stops (PlanningRead name c.args.far c.args.n) (limited part_limit name) [] old new (event_of r) refl c.read_part.ensures.stands c.read_part.ensures.once a) c.read_text.ensures.about);
-      asks = c.read_part.ensures.once;
+      caused = answers_by PartData Answer (name ∷ []) old new (λ t. part_known t name) part (PlannedRead name c.args.far c.args.n) (seen bytes_answer made) c.in_ok-part.ensures.caused (read_due name part c.args.far c.args.n made c.readback_text.ensures.ok c.readback_text.ensures.err);
+      stops = result_stops bytes_answer (PlanningRead name c.args.far c.args.n) old new made (err_weaker made (λ r a. first_stops (PlanningRead name c.args.far c.args.n) (limited part_limit name) [] old new (event_of r) refl c.read_part.ensures.stands c.read_part.ensures.asks a) c.readback_text.ensures.about);
+      asks = c.read_part.ensures.asks;
       stays = c.read_part.ensures.inputs;
     }

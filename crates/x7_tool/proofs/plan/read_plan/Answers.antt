@@ -1,5 +1,5 @@
 use Rattle.std.proofs.Common.{inl, ◌∷◌, [], refl}
-use Rattle.x7_forms.specs.Message.{event_of}
+use Rattle.x7_forms.specs.Event.{event_of}
 use Rattle.x7_forms.specs.ReadingStops.{limited}
 use Rattle.x7_forms.proofs.StandLemmas.{about_among, about_by, unread_about}
 use Rattle.x7_forms.proofs.ResultLemmas.{handed_on}

@@ -1,18 +1,21 @@
-use Rattle.std.proofs.Common.{ap, refl, subst, sym, ◌∙◌}
+use Rattle.std.proofs.Common.{◌≡◌, Some, ap, refl, subst, sym, ◌∙◌}
 use Rattle.x7_words.specs.Sink.{PutsOrFails}
-use Rattle.x7_forms.specs.Event.{Event, event_line, status_of_event}
-use Rattle.x7_forms.specs.Form.{asked_by, form_asked}
-use Rattle.x7_forms.specs.Message.{event_of}
+use Rattle.x7_forms.specs.Event.{Event, event_line, event_of, status_of_event}
+use Rattle.x7_forms.specs.Form.{asked_by, flash_use, form_asked, form_of_strings}
 use Rattle.x7_tool.specs.Outside.{outside}
 use Rattle.x7_tool.proofs.AnswerLemmas.{ran_done, ran_none, ran_refused, uses_as}
-use Rattle.x7_tool.proofs.FlashLemmas.{uses_same}
+use Rattle.x7_tool.proofs.FlashLemmas.{kept_same, uses_same}
+use Rattle.x7_tool.proofs.RunLemmas.{runs}
 use Rattle.x7_tool.proofs.top.carry_out.Goals as goal
 
 pub returns-in-None-clause-ran : goal.returns-in-None-clause-ran
 returns-in-None-clause-ran g c =
     let old = outside (g.I.Inputs.state c.args.inputs.now) (g.F.Flash.state c.args.flash.now) (g.O.Sink.state c.args.out.now) (g.E.Sink.state c.args.err.now) in
     let line = subst (λ (event : Event). PutsOrFails (g.E.Sink.state c.args.err.now) (event_line event) (g.E.Sink.state c.tell.new.err)) c.unnamed.ensures c.tell.ensures.line in
-    ran_none _ old (g.E.Sink.state c.tell.new.err) _ (sym c.words_of.ensures ∙ ap form_asked c.in-None.is) (c.tell.ensures.status ∙ ap status_of_event c.unnamed.ensures) line
+    let form = form_of_strings c.args.words.now.items in
+    runs form old (record old { err = g.E.Sink.state c.tell.new.err }) _
+    (ran_none form old (g.E.Sink.state c.tell.new.err) _ (sym c.words_of.ensures ∙ ap form_asked c.in-None.is) (c.tell.ensures.status ∙ ap status_of_event c.unnamed.ensures) line)
+    (kept_same (flash_use form) (g.F.Flash.state c.args.flash.now))
 
 pub returns-in-None-clause-flash : goal.returns-in-None-clause-flash
 returns-in-None-clause-flash g c = uses_same _ _ (g.F.Flash.state c.args.flash.now) _
@@ -24,7 +27,10 @@ returns-in-Ok-clause-ran g c =
     let new = outside (g.I.Inputs.state c.answer.new.inputs) (g.F.Flash.state c.answer.new.flash) (g.O.Sink.state c.answer.new.out) err in
     let here = c.answer.ensures.answered err err in
     let answered = rw c.in-Ok.is at here in
-    ran_done _ (asked_by c.in-Some.form) old new _ c.in-Ok.stopped (sym c.words_of.ensures ∙ ap form_asked c.in-Some.is) c.of_text.ensures refl answered
+    let form = form_of_strings c.args.words.now.items in
+    let asked : form ≡ Some (asked_by c.in-Some.form) = sym c.words_of.ensures ∙ ap form_asked c.in-Some.is in
+    runs form old new _ (ran_done form (asked_by c.in-Some.form) old new _ c.in-Ok.stopped asked c.of_text.ensures refl answered)
+    (uses_as form (asked_by c.in-Some.form) _ _ _ _ _ asked c.answer.ensures.flash).keeps
 
 pub returns-in-Ok-clause-flash : goal.returns-in-Ok-clause-flash
 returns-in-Ok-clause-flash g c = uses_as _ (asked_by c.in-Some.form) _ _ _ _ _ (sym c.words_of.ensures ∙ ap form_asked c.in-Some.is) c.answer.ensures.flash
@@ -35,7 +41,10 @@ returns-in-Err-clause-ran g c =
     let new = outside (g.I.Inputs.state c.answer.new.inputs) (g.F.Flash.state c.answer.new.flash) (g.O.Sink.state c.answer.new.out) (g.E.Sink.state c.tell-in-Err.new.err) in
     let here = c.answer.ensures.answered (g.E.Sink.state c.args.err.now) (g.E.Sink.state c.tell-in-Err.new.err) in
     let answered = rw c.in-Err.is at here in
-    ran_refused _ (asked_by c.in-Some.form) old new _ (event_of c.in-Err.refusal) (sym c.words_of.ensures ∙ ap form_asked c.in-Some.is) c.tell-in-Err.ensures.status c.tell-in-Err.ensures.line answered
+    let form = form_of_strings c.args.words.now.items in
+    let asked : form ≡ Some (asked_by c.in-Some.form) = sym c.words_of.ensures ∙ ap form_asked c.in-Some.is in
+    runs form old new _ (ran_refused form (asked_by c.in-Some.form) old new _ (event_of c.in-Err.refusal) asked c.tell-in-Err.ensures.status c.tell-in-Err.ensures.line answered)
+    (uses_as form (asked_by c.in-Some.form) _ _ _ _ _ asked c.answer.ensures.flash).keeps
 
 pub returns-in-Err-clause-flash : goal.returns-in-Err-clause-flash
 returns-in-Err-clause-flash g c = uses_as _ (asked_by c.in-Some.form) _ _ _ _ _ (sym c.words_of.ensures ∙ ap form_asked c.in-Some.is) c.answer.ensures.flash

@@ -1,18 +1,6 @@
-use Rattle.x7_forms.specs.Form.{form_in}
-use Rattle.x7_tool.specs.Outside.{outside}
+use Rattle.x7_forms.specs.Form.{form_of_strings}
 use Rattle.x7_tool.proofs.FoundLemmas.{found_run_boots, found_since_run}
-use Rattle.x7_tool.proofs.RunLemmas.{runs}
 use Rattle.x7_tool.proofs.top.run.Goals as goal
-
-pub returns-clause-ran : goal.returns-clause-ran
-returns-clause-ran g c =
-    let i = g.I.Inputs in
-    let o = g.O.Sink in
-    let e = g.E.Sink in
-    let f = g.F.Flash in
-    runs (form_in c.args.words.now.items) (outside (i.state c.args.inputs.now) (f.state c.args.flash.now) (o.state c.args.out.now) (e.state c.args.err.now))
-    (outside (i.state c.carry_out.new.inputs) (f.state c.carry_out.new.flash) (o.state c.carry_out.new.out) (e.state c.carry_out.new.err))
-    c.carry_out.result c.carry_out.ensures.ran c.carry_out.ensures.flash.keeps
 
 pub returns-clause-found : goal.returns-clause-found
 returns-clause-found g c =
@@ -22,7 +10,7 @@ returns-clause-found g c =
 pub returns-clause-boots : goal.returns-clause-boots
 returns-clause-boots g c = λ found had u b w boot.
     let f = g.F.Flash in
-    let form = form_in c.args.words.now.items in
+    let form = form_of_strings c.args.words.now.items in
     let inputs = g.I.Inputs.state c.args.inputs.now in
     let first = f.state c.args.flash.now in
     let left = found_since_run form inputs first (f.state c.carry_out.new.flash) _ _ (λ found had. g.met.F.Flash.only_now c.args.flash.now found had) c.carry_out.ensures.flash found had in

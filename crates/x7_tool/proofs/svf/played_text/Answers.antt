@@ -9,7 +9,7 @@ use Rattle.x7_jtag.specs.Shown.{bytes_taken}
 use Rattle.x7_jtag.specs.Tap.{TapStandsFor}
 use Rattle.x7_jtag.proofs.LawLemmas.{device_is}
 use Rattle.x7_tool.proofs.SvfLemmas.{played_to, svf_is}
-use Rattle.x7_tool.proofs.svf.played.Goals as goal
+use Rattle.x7_tool.proofs.svf.played_text.Goals as goal
 
 pub returns : goal.returns
 returns c =

@@ -2,7 +2,7 @@ use Rattle.std.proofs.Common.{◌≡◌, ◌+◌, ◌-◌, ℕ, List, take, drop
 use Rattle.std.proofs.lemmas.List.{take_all}
 use Rattle.std.specs.List.{copy_within}
 use Rattle.x7_svf.proofs.SourceLemmas.{kept_more}
-use Rattle.x7_tool.proofs.stream.data_of.Goals as goal
+use Rattle.x7_tool.proofs.stream.into_data.Goals as goal
 
 pub returns-then-start-eq0 : goal.returns-then-start-eq0
 returns-then-start-eq0 c = ap (λ (at : ℕ). drop at c.args.stream.bytes.items) (sym c.if-start-eq0.true)

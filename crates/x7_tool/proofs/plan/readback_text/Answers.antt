@@ -1,8 +1,8 @@
-use Rattle.x7_forms.specs.Message.{event_of}
+use Rattle.x7_forms.specs.Event.{event_of}
 use Rattle.x7_tool.specs.Outcome.{planner_event}
 use Rattle.x7_forms.proofs.StandLemmas.{about_by}
 use Rattle.x7_tool.proofs.StopLemmas.{planner_about}
-use Rattle.x7_tool.proofs.plan.read_text.Goals as goal
+use Rattle.x7_tool.proofs.plan.readback_text.Goals as goal
 
 pub returns-in-Err-clause-about : goal.returns-in-Err-clause-about
 returns-in-Err-clause-about c = about_by c.args.name.now (event_of c.planner_refusal.result) (planner_event c.args.name.now c.in-Err.fault) c.planner_refusal.ensures (planner_about c.args.name.now c.in-Err.fault)

@@ -1,8 +1,7 @@
--- The status of a whole outcome, and the number that the program ends with (this project's choice).
+-- The status of a run, by how it ended, and its number, with which the program ends (this project's choice).
 use Rattle.std.specs.Prelude.{ℕ, Result, Ok, Err, Bool, true, false}
 use Rattle.x7_forms.specs.declared.status.Status.{Status}
 use Rattle.x7_forms.specs.declared.status.Status.TheVariants as status
-use Rattle.x7_forms.specs.declared.refusal.Refusal.{Refusal}
 use Rattle.x7_forms.specs.Event.{Event, status_of_event}
 use Rattle.x7_forms.specs.Known.{Answer}
 
@@ -25,11 +24,7 @@ abbrev pub text_status : Bool → Status
 text_status true = status.Stopped
 text_status false = status.Done
 
--- the status of a whole outcome
+-- the status of a run, by its whole text or the event that ended it
 abbrev pub final_status : Result Answer Event → Status
 final_status (Ok answer) = text_status answer.stopped
 final_status (Err event) = status_of_event event
-
--- the event that a refusal reports
-abbrev pub event_of : Refusal → Event
-event_of r = record { reason = r.reason; concerned = r.name.now }
