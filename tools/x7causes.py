@@ -170,7 +170,7 @@ def of_header(source):
 
 
 def of_family(source):
-    """The cause where the identification is another family's, or none."""
+    """The cause where the IDCODE is another family's, or none."""
     words = idcodes_of(source)
     if words and not is_7_series(words[0][1]) and idcode_of_name(source.part) is None:
         text = f"the stream is for the IDCODE {words[0][1]:08X}, which is one of no 7-series device: other families have other frames"
@@ -180,7 +180,7 @@ def of_family(source):
 
 
 def idcodes_of(source):
-    """The identifications that a stream writes, each with the place after it."""
+    """The IDCODEs that a stream writes, each with the place after it."""
     found = []
     for step in x7.steps(source.data):
         if step.kind == "write" and step.register == x7.IDCODE and step.present:
