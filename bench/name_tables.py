@@ -20,19 +20,23 @@ SPREAD_FACTOR = 0x3F20_35EB
 
 
 def register_name(number):
+    """A register's name, or R and two digits."""
     return REGISTERS.get(number, f"R{number:02}")
 
 
 def by_letters(name, _after):
+    """The place in a table of x7_regs."""
     return (ord(name[0]) + 13 * ord(name[1]) + 3 * ord(name[-1]) + 2 * len(name)) % 64
 
 
 def by_four_bytes(name, after):
+    """The place in a table of x7_listing; `after` is the byte that comes after a name."""
     four = (name + after).encode()[:4]
     return (int.from_bytes(four, "little") * SPREAD_FACTOR % 2**32) >> 26
 
 
 def table(what, names, place, after):
+    """The table: each number at the place of its name. It ends the script where two names have one place."""
     result = [0] * 64
     taken = {}
     for number, name in names.items():
@@ -45,6 +49,7 @@ def table(what, names, place, after):
 
 
 def table_in(path, name):
+    """The table of this name in a file."""
     text = open(path).read()
     body = re.search(name + r": \[u8; 64\] = \[(.*?)\];", text, re.S).group(1)
     return [int(n) for n in re.findall(r"\d+", body)]

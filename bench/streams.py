@@ -6,7 +6,7 @@ import sys
 
 SYNC = b"\xaa\x99\x55\x66"
 WORDS = 13_893_632
-# A part of one row: so many columns of so many frames each, of 101 words.
+# A part of one row: its columns, the frames of each, and the words of a frame.
 COLUMNS, MINORS, WIDTH = 1024, 64, 101
 IDCODE = 0x0362D093
 FAR, FDRI, CMD, MFWR, IDCODE_REGISTER = 1, 2, 4, 10, 12

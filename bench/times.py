@@ -29,6 +29,7 @@ def cost(command):
 
 
 def list_times(folder):
+    """Prints the times of the lister beside xxd and cat."""
     print("list     x7 s    xxd s   cat s   xxd/x7  x7/cat  x7 MiB")
     for name in ["long", "writes", "nops", "gap"]:
         stream = str(folder / f"{name}.bin")
@@ -42,6 +43,7 @@ def list_times(folder):
 
 
 def play_times(folder, tiny):
+    """Prints the times of the player beside md5sum."""
     print("play       x7 s    md5sum s  x7/md5sum  x7 MiB")
     for name in ["registers", "payload", "frames", "compressed", "nops", "gap"]:
         stream = str(folder / f"{name}.bin")

@@ -170,7 +170,7 @@ def of_header(source):
 
 
 def of_family(source):
-    """The cause where the identification is another family's, or none."""
+    """The cause where the IDCODE is another family's, or none."""
     words = idcodes_of(source)
     if words and not is_7_series(words[0][1]) and idcode_of_name(source.part) is None:
         text = f"the stream is for the IDCODE {words[0][1]:08X}, which is one of no 7-series device: other families have other frames"
@@ -180,7 +180,7 @@ def of_family(source):
 
 
 def idcodes_of(source):
-    """The identifications that a stream writes, each with the place after it."""
+    """The IDCODEs that a stream writes, each with the place after it."""
     found = []
     for step in x7.steps(source.data):
         if step.kind == "write" and step.register == x7.IDCODE and step.present:
@@ -324,13 +324,14 @@ def of_fault(subject):
     after = subject.fate.taken
     source = subject.source_at(after) or subject.sources[-1]
     take = {
-        "Crc": of_check, "Id": of_identification, "Packet": of_packet, "Encrypted": of_encryption, "Watchdog": of_watchdog,
+        "Crc": of_check, "Id": of_idcode, "Packet": of_packet, "Encrypted": of_encryption, "Watchdog": of_watchdog,
         "Address": of_address, "Overrun": of_overrun, "Multi": of_copy,
     }
     return take[kind](subject, source, words, after)
 
 
 def of_check(subject, source, words, after):
+    """The cause of a fault Crc."""
     return cause(
         f"a check fails (INIT_B goes low): the words before it have {words[0]}, the stream says {words[1]}; one of them, or the "
         "check, is damaged or lost",
@@ -340,7 +341,8 @@ def of_check(subject, source, words, after):
     )
 
 
-def of_identification(subject, source, words, after):
+def of_idcode(subject, source, words, after):
+    """The cause of a fault Id."""
     section = "A stream for another device"
     if words[1] == "00000000":
         return cause(
@@ -368,6 +370,7 @@ def named(idcode):
 
 
 def of_packet(subject, source, words, after):
+    """The cause of a fault Packet."""
     if of_text_mode(source):
         return cause(
             f"{words[0]} stands where a packet's header should: the file went through a transfer as text, which puts 0D "
@@ -381,10 +384,12 @@ def of_packet(subject, source, words, after):
 
 
 def of_encryption(subject, source, words, after):
+    """The cause of a fault Encrypted."""
     return cause("the stream is encrypted, which x7 doesn't read", "write it without encryption", "Further faults", after, source)
 
 
 def of_watchdog(subject, source, words, after):
+    """The cause of a fault Watchdog."""
     count = 4 * (subject.fate.registers["TIMER"] & 0x3FFFFFFF)
     return cause(
         f"the watchdog fires: startup hasn't ended {count} bytes after the write to TIMER",
@@ -393,6 +398,7 @@ def of_watchdog(subject, source, words, after):
 
 
 def of_address(subject, source, words, after):
+    """The cause of a fault Address."""
     return cause(
         f"frames go to {words[0]}, an address that the part file doesn't have",
         "the part file lacks a column or a row, or is another device's; or the address is damaged: compare with a good copy",
@@ -401,6 +407,7 @@ def of_address(subject, source, words, after):
 
 
 def of_overrun(subject, source, words, after):
+    """The cause of a fault Overrun."""
     return cause(
         "there are more frames than the part file has places", "the part file lacks columns or rows, or is another device's",
         "Further faults", after, source,
@@ -408,7 +415,7 @@ def of_overrun(subject, source, words, after):
 
 
 def of_copy(subject, source, words, after):
-    """A copy needs MFW after WCFG; the command that stands there tells what was damaged."""
+    """The cause of a fault Multi. A copy needs MFW after WCFG; the command that stands there tells what was damaged."""
     commands = [it for it in subject.device.written if it.register == "CMD" and it.after <= after]
     if commands and commands[-1].word != "MFW":
         text = (

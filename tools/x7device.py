@@ -15,7 +15,7 @@ Written = namedtuple("Written", "after register word")
 
 
 def phase_after(ticks, cor0, lock, match):
-    """The phase of startup after so many ticks, with COR0, and the ticks that lock and match take."""
+    """The phase of startup after a number of ticks, with COR0, and the ticks that lock and match take."""
     phase, tick = 0, 0
     while tick < ticks and phase < 7:
         waits = cor0 >> 6 & 7 == phase and tick < lock or cor0 >> 9 & 7 == phase and tick < match
@@ -186,7 +186,7 @@ class Device:
             self.take_shutdown(after)
 
     def identify(self, word, after):
-        """Compares the identification, where the device is known."""
+        """Compares a word of IDCODE, where the device is known."""
         if self.idcode is not None and (word ^ self.idcode) & 0xFFFFFFF:
             self.stop(after, "fault", "Id", f"{self.idcode:08X}", f"{word:08X}")
         self.matched = True

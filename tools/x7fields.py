@@ -9,7 +9,7 @@ PHASE_OF_STATE = {state: phase for phase, state in enumerate(STARTUP_STATES)}
 
 
 def field_of(low, width, word):
-    """The number in so many bits of a word, from bit `low` up."""
+    """The number in `width` bits of a word, from bit `low` up."""
     return word >> low & (1 << width) - 1
 
 

@@ -198,7 +198,7 @@ def command_line(word):
 
 
 def rows(name, digits, width, blanks):
-    """Lines of so many digits, with a blank before every so many."""
+    """Lines of `width` digits at most, with a blank before every `blanks` of them."""
     for at in range(0, len(digits), width):
         row = digits[at : at + width]
         yield name + "".join(f" {row[it:it + blanks]}" for it in range(0, len(row), blanks))
@@ -353,7 +353,7 @@ POLYNOMIAL = 0x82F63B78
 
 
 def shifted(value, count):
-    """A check after so many bits that are 0."""
+    """The check after `count` bits that are 0."""
     for _ in range(count):
         value = value >> 1 ^ (POLYNOMIAL if value & 1 else 0)
     return value
@@ -623,7 +623,7 @@ def check_number(table, key, least, most, where=""):
 
 
 def check_list(values, count, least, most, what):
-    """Refuses what is no list of so many whole numbers of a range."""
+    """Refuses what is no list of `count[0]` to `count[1]` whole numbers of a range."""
     if not isinstance(values, list) or not count[0] <= len(values) <= count[1]:
         raise Refused(f"{what} is no list of {count[0]} to {count[1]} whole numbers")
     for value in values:

@@ -71,12 +71,12 @@ def kind_of(raw):
 MIRRORED = bytes(int(f"{byte:08b}"[::-1], 2) for byte in range(256))
 NIBBLES = bytes(byte >> 4 | (byte & 15) << 4 for byte in range(256))
 INVERTED = bytes(255 - byte for byte in range(256))
-# by so many first bytes a way is judged
+# how many of its first bytes a file is judged by
 JUDGED = 1 << 18
 
 
 def exchanged(data, size, order):
-    """Groups of so many bytes with their bytes in another order; those of no whole group stay."""
+    """The data with the bytes of each group of `size` in another order; bytes of no whole group stay."""
     whole = len(data) // size * size
     turned = bytearray(data)
     for place, source in enumerate(order):

@@ -112,7 +112,7 @@ def data_of(lines):
 
 
 def header(length, part_name="7a35tcpg236", design="made"):
-    """A header that tells of so many bytes."""
+    """A header that gives `length` as the bytes of the data."""
     fields = [design.encode() + b"\0", part_name.encode() + b"\0", b"2026/11/29\0", b"10:00:00\0"]
     texts = b"".join(bytes([letter]) + len(field).to_bytes(2, "big") + field for letter, field in zip(b"abcd", fields))
     return x7.FIXED + texts + b"e" + length.to_bytes(4, "big")

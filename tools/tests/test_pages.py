@@ -1,5 +1,6 @@
 #!/usr/bin/env python3
-"""Tests the pages against the tree: what MAP and the READMEs name is there, what is there is named, and links lead somewhere."""
+"""Tests the pages against the tree: what MAP and the READMEs name is there, what is there is named, and links lead somewhere;
+and that crates.txt names no library that a crate doesn't cite."""
 import glob
 import os
 import re
@@ -133,8 +134,20 @@ def check_clauses(tally):
             tally.check(f"{crate}: its README's specs/{name}", os.path.isfile(f"{path}.antt") or os.path.isdir(path), name)
 
 
+def check_libraries(tally):
+    """Each library that crates.txt names for a crate is cited by its code, its definitions or its proofs."""
+    for line in text_of("crates.txt").splitlines():
+        crate, _, libraries = line.partition("#")[0].partition(":")
+        paths = [f"{crate}/{part}/{it}{ending}" for part, ending in (("src", ".rt"), ("specs", ".antt"), ("proofs", ".antt"))
+                 for it in names_in(f"{crate}/{part}", ending)]
+        words = {word for path in paths for word in re.findall(r"\w+", text_of("crates", path))}
+        for library in libraries.split():
+            tally.check(f"{crate} cites {library}", library in words, f"no file of crates/{crate} names it")
+
+
 tally = Tally()
 check_map(tally)
+check_libraries(tally)
 check_links(tally)
 check_seconds(tally)
 check_readme(tally)

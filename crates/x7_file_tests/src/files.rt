@@ -8,7 +8,7 @@ use x7_files::{FileFlash, FileInputs, KnownSink, StdSink};
 use x7_in_memory::MemoryInputs;
 use x7_words::{Failed, Flash, Inputs, SelectFault, Sink, write_all};
 
-/// Selects, and reads three times into four bytes of the buffer each.
+/// Selects an input, and reads it three times, into four bytes of the buffer each: how many bytes each read gave.
 fn three_reads<I: Inputs>(
     inputs: &mut I,
     name: &str,
@@ -68,7 +68,7 @@ fn a_put_leaves_what_is_being_read(rt: HostRuntime) -> Result<(), Fail> {
     Ok(())
 }
 
-/// Attaches, asks the size, and reads three bytes from the place on.
+/// Attaches a flash: its size, and three bytes from the place on, zeros where it has fewer there.
 fn size_and_bytes<F: Flash>(
     flash: &mut F,
     name: &str,
@@ -137,7 +137,8 @@ fn a_path_below_a_file_is_a_fault(rt: HostRuntime) -> Result<(), Fail> {
     Ok(())
 }
 
-/// Reads the bytes 2 to 4 of a file of five bytes, cuts it to three, and reads 2 to 4 and 0 to 2.
+/// Attaches a file of five bytes, reads its bytes 2 to 4, cuts it to three bytes, and reads 2 to 4 and 0 to 2: what
+/// each read gave, if it succeeded.
 fn reads_of_a_cut_file<R: Files>(rt: &R, name: &str) -> Result<[Option<[u8; 3]>; 3], Fail> {
     fs::write(rt, name, b"hello")?;
     let mut flash = FileFlash::new(rt);
@@ -169,7 +170,7 @@ fn a_file_that_shrank_is_a_fault(rt: HostRuntime) -> Result<(), Fail> {
 }
 
 #[test]
-fn a_name_is_opened_as_it_is(rt: HostRuntime) -> Result<(), Fail> {
+fn a_space_at_the_end_of_a_name_counts(rt: HostRuntime) -> Result<(), Fail> {
     let path = path_of(&rt, "name ")?;
     let trimmed = path_of(&rt, "name")?;
     fs::write(&rt, path.as_path(), b"hello")?;
@@ -227,10 +228,12 @@ fn a_file_is_written_as_a_flash(rt: HostRuntime) -> Result<(), Fail> {
     Ok(())
 }
 
-/// A writer that takes one byte a call, and after this many bytes nothing.
+/// A writer that takes one byte a call, up to a number of bytes.
 #[derive(Drop)]
 struct Narrow {
+    /// How many bytes it still takes.
     left: u8,
+    /// The error of each call after these; such a call takes nothing where there is none.
     then: Option<ErrorKind>,
 }
 

@@ -1,7 +1,7 @@
 //! A run beside what it should come to.
 use crate::expected::{Expected, Extent};
+use crate::given::{Given, Object};
 use crate::notes::{Notes, common_length};
-use crate::outside::{Object, Outside};
 use crate::running::{Ending, Turn};
 
 /// The line of the text that begins most as the one given does.
@@ -22,12 +22,6 @@ fn nearest<'a>(text: &'a str, line: &[u8]) -> &'a [u8] {
     best
 }
 
-/// Compares a text with a line that it should have.
-fn compare_line(notes: &mut Notes, line: &str, text: &str) {
-    let line = line.as_bytes();
-    notes.compare_lines("out has no such line", line, nearest(text, line));
-}
-
 /// The bytes as text, or none of it where they are none.
 fn text_of(bytes: &[u8]) -> &str {
     std::str::from_utf8(bytes).unwrap_or("")
@@ -37,7 +31,8 @@ fn text_of(bytes: &[u8]) -> &str {
 fn compare_parts(notes: &mut Notes, lines: &[u8], came: &[u8]) {
     let text = text_of(came);
     for line in text_of(lines).lines() {
-        compare_line(notes, line, text);
+        let line = line.as_bytes();
+        notes.compare_lines("out has no such line", line, nearest(text, line));
     }
 }
 
@@ -49,13 +44,13 @@ fn compare_out(notes: &mut Notes, expected: &Expected, came: &[u8]) {
     match expected.extent {
         Extent::Whole => notes.compare_texts("out", &expected.out, came),
         Extent::Prefix => notes.compare_prefix("out", &expected.out, came),
-        Extent::Parts => compare_parts(notes, &expected.lines, came),
+        Extent::Parts => compare_parts(notes, &expected.out, came),
         Extent::Any => {}
     }
 }
 
 /// What the flash should hold afterwards.
-fn flash_after<'a>(expected: &'a Expected, given: &'a Outside) -> &'a [u8] {
+fn flash_after<'a>(expected: &'a Expected, given: &'a Given) -> &'a [u8] {
     if expected.has_flash {
         return &expected.flash;
     }
@@ -88,7 +83,7 @@ fn compare_answer(notes: &mut Notes, expected: &Expected, turn: &Turn, ending: &
 /// Compares all that a run left with what it should come to.
 pub(crate) fn compare(
     notes: &mut Notes,
-    given: &Outside,
+    given: &Given,
     expected: &Expected,
     turn: &Turn,
     ending: &Ending,

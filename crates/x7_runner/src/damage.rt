@@ -5,7 +5,7 @@ use crate::token::{first_word, range_of};
 use std::alloc::Global;
 
 /// How an input is damaged.
-#[derive(Clone, Copy, Drop, PartialEq, Eq)]
+#[derive(Clone, Copy, Drop)]
 pub(crate) enum Damage {
     /// The input ends after this number of bytes.
     Cut,

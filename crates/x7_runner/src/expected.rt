@@ -22,9 +22,9 @@ pub(crate) struct Expected {
     alloc: Global,
     pub(crate) status: u8,
     pub(crate) extent: Extent,
+    /// The text, or under `Extent::Parts` lines that it has, each with its end.
     pub(crate) out: Vec<u8>,
-    /// Lines that the text has, each with its end.
-    pub(crate) lines: Vec<u8>,
+    /// The number of the text's bytes, where it is given.
     pub(crate) length: Option<u32>,
     pub(crate) err: Vec<u8>,
     /// Whether the flash isn't as it was, and what it is then.
@@ -40,7 +40,6 @@ impl Expected {
             status: 0,
             extent: Extent::Whole,
             out: Vec::new(alloc),
-            lines: Vec::new(alloc),
             length: None,
             err: Vec::new(alloc),
             has_flash: false,
@@ -48,16 +47,16 @@ impl Expected {
         }
     }
 
+    /// Takes how much of the text is given.
+    fn put_extent(&mut self, extent: Extent) -> Result<(), Fault> {
+        self.extent = extent;
+        Ok(())
+    }
+
     /// Appends a line that the text has.
     fn put_has(&mut self, line: &str) -> Result<(), Fault> {
         self.extent = Extent::Parts;
-        put_line(self.alloc, &mut self.lines, line)
-    }
-
-    /// Whatever a run comes to.
-    fn put_any(&mut self) -> Result<(), Fault> {
-        self.extent = Extent::Any;
-        Ok(())
+        put_line(self.alloc, &mut self.out, line)
     }
 
     /// Takes the number of bytes of the text.
@@ -73,29 +72,20 @@ impl Expected {
         put_tokens(self.alloc, &mut self.flash, tokens)
     }
 
-    /// Takes the status.
-    fn put_status(&mut self, number: &str) -> Result<(), Fault> {
-        self.status = number.parse::<u8>()?;
-        Ok(())
-    }
-
-    /// Takes that what comes is a prefix of the text.
-    fn put_prefix(&mut self) -> Result<(), Fault> {
-        self.extent = Extent::Prefix;
-        Ok(())
-    }
-
     /// Takes a line that says what a run comes to.
     pub(crate) fn take(&mut self, key: &str, rest: &str) -> Result<(), Fault> {
         match key {
-            "status" => self.put_status(rest),
+            "status" => {
+                self.status = rest.parse::<u8>()?;
+                Ok(())
+            }
             "out" => put_line(self.alloc, &mut self.out, rest),
             "out_lines" => put_lines(self.alloc, &mut self.out, rest),
             "out_bytes" => put_tokens(self.alloc, &mut self.out, rest),
             "has" => self.put_has(rest),
             "length" => self.put_length(rest),
-            "prefix" => self.put_prefix(),
-            "any" => self.put_any(),
+            "prefix" => self.put_extent(Extent::Prefix),
+            "any" => self.put_extent(Extent::Any),
             "err" => put_line(self.alloc, &mut self.err, rest),
             "flash_after" => self.put_flash(rest),
             _ => Err(Fault::Key),

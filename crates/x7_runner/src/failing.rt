@@ -1,7 +1,7 @@
 //! A run in which a call failed, beside the one in which none did.
+use crate::given::Object;
 use crate::named::{Named, has_name};
 use crate::notes::Notes;
-use crate::outside::Object;
 use crate::running::Ending;
 use std::alloc::Global;
 
@@ -80,8 +80,9 @@ impl Blamed {
     /// Whether a message named this input.
     fn has(&self, words: &[String], name: &str) -> bool {
         for place in &self.places {
-            if words.get(*place).is_some_and(|word| word.as_str() == name) {
-                return true;
+            match words.get(*place) {
+                Some(word) if word.as_str() == name => return true,
+                _ => {}
             }
         }
         false
@@ -98,11 +99,11 @@ impl Blamed {
     }
 }
 
-/// What `out` may hold after a failed read: a prefix of a listing, and nothing of any other text.
-fn out_after_read_fault<'a>(words: &[String], whole: &'a Ending) -> &'a [u8] {
+/// Whether the words begin with the name of this command.
+fn is_of(words: &[String], command: &str) -> bool {
     match words.first() {
-        Some(word) if word.as_str() == "list" => &whole.out,
-        _ => &[],
+        Some(word) => word.as_str() == command,
+        None => false,
     }
 }
 
@@ -115,7 +116,12 @@ fn compare_read_failed(
     came: &Ending,
 ) {
     notes.compare_numbers("status", READ_FAULT, u64::from(came.status));
-    notes.compare_prefix("out", out_after_read_fault(words, whole), &came.out);
+    let listed: &[u8] = if is_of(words, "list") {
+        &whole.out
+    } else {
+        &[]
+    };
+    notes.compare_prefix("out", listed, &came.out);
     let is_named = match name_of(&came.err) {
         Some(name) => blamed.take(notes, words, name),
         None => false,
@@ -131,14 +137,6 @@ fn compare_write_failed(notes: &mut Notes, came: &Ending) {
     notes.compare_texts("err", b"x7: write fault\n", &came.err);
 }
 
-/// Whether a call of the flash that failed may be a write.
-fn is_write(words: &[String], came: &Ending) -> bool {
-    match words.first() {
-        Some(word) => word.as_str() == "update" && u64::from(came.status) == WRITE_FAULT,
-        None => false,
-    }
-}
-
 /// Notes where a run in which a call of the object failed didn't end as it should.
 pub(crate) fn compare_failed(
     notes: &mut Notes,
@@ -151,7 +149,10 @@ pub(crate) fn compare_failed(
     match object {
         Object::Err => compare_err_failed(notes, whole, came),
         Object::Out => compare_out_failed(notes, whole, came),
-        Object::Flash if is_write(words, came) => compare_write_failed(notes, came),
+        // an update that ends so failed at a write of its flash
+        Object::Flash if is_of(words, "update") && u64::from(came.status) == WRITE_FAULT => {
+            compare_write_failed(notes, came)
+        }
         Object::In | Object::Flash => compare_read_failed(notes, words, blamed, whole, came),
     }
 }

@@ -1,7 +1,6 @@
 //! Runs worked cases of a command over objects in memory.
 #![tactic(auto)]
 
-mod bench;
 mod case;
 mod command;
 mod comparing;
@@ -9,12 +8,13 @@ mod damage;
 mod expected;
 mod failing;
 mod fault;
+mod given;
 mod named;
 mod notes;
-mod outside;
 mod running;
 mod subject;
 mod token;
+mod trial;
 mod writing;
 
 pub use command::Command;

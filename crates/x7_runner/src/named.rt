@@ -93,13 +93,19 @@ pub(crate) fn put_texts(alloc: Global, list: &mut Vec<Named>, line: &str) -> Res
 }
 
 /// The bytes of `NAME FROM TO` in the list: from the one place to before the other.
-pub(crate) fn slice_of<'a>(list: &'a [Named], line: &str) -> Result<&'a [u8], Fault> {
+fn slice_of<'a>(list: &'a [Named], line: &str) -> Result<&'a [u8], Fault> {
     let (name, places) = first_word(line);
     let (from, to) = range_of(places)?;
     match bytes_of(list, name)?.get(from as usize..to as usize) {
         Some(bytes) => Ok(bytes),
         None => Err(Fault::Line),
     }
+}
+
+/// Appends the bytes of `NAME FROM TO` in the list.
+pub(crate) fn append_slice(bytes: &mut Vec<u8>, list: &[Named], line: &str) -> Result<(), Fault> {
+    bytes.extend_from_slice(slice_of(list, line)?)?;
+    Ok(())
 }
 
 /// Appends to the input of `NAME OTHER FROM TO` bytes of the other, which stands in `others`.
@@ -110,5 +116,5 @@ pub(crate) fn put_slice(
     line: &str,
 ) -> Result<(), Fault> {
     let (name, other) = first_word(line);
-    put_under(alloc, list, name, slice_of(others, other)?)
+    append_slice(bytes_under(alloc, list, name)?, others, other)
 }

@@ -2,9 +2,9 @@
 use crate::command::Command;
 use crate::damage::Damaged;
 use crate::fault::Fault;
+use crate::given::{Given, Object};
 use crate::named::Named;
 use crate::notes::Notes;
-use crate::outside::{Object, Outside};
 use std::alloc::Global;
 use x7_in_memory::{MemoryFlash, MemoryInputs, MemorySink};
 use x7_words::{Flash, Inputs, SelectFault, Sink};
@@ -149,7 +149,7 @@ fn put_inputs(
     inputs: &mut MemoryInputs,
     alloc: Global,
     shared: &[Named],
-    given: &Outside,
+    given: &Given,
     turn: &Turn,
 ) -> Result<(), Fault> {
     put_all(inputs, shared)?;
@@ -188,7 +188,7 @@ fn replace(old: &mut Vec<u8>, bytes: &[u8]) -> Result<(), Fault> {
 
 impl Objects {
     /// Objects without inputs, and no call that fails.
-    fn new(alloc: Global, given: &Outside) -> Result<Objects, Fault> {
+    fn new(alloc: Global, given: &Given) -> Result<Objects, Fault> {
         let out = MemorySink::new(alloc, given.room as usize)?;
         let err = MemorySink::new(alloc, ERR_ROOM)?;
         let flash = flash_of(alloc, &given.flash)?;
@@ -206,7 +206,7 @@ impl Objects {
         &mut self,
         alloc: Global,
         shared: &[Named],
-        given: &Outside,
+        given: &Given,
         turn: &Turn,
     ) -> Result<(), Fault> {
         put_inputs(&mut self.inputs, alloc, shared, given, turn)?;
@@ -242,7 +242,7 @@ impl Objects {
         command: &C,
         alloc: Global,
         shared: &[Named],
-        given: &Outside,
+        given: &Given,
         turn: &Turn,
         ending: &mut Ending,
     ) -> Result<(), Fault> {
@@ -264,7 +264,7 @@ pub(crate) fn ran<C: Command>(
     command: &C,
     alloc: Global,
     shared: &[Named],
-    given: &Outside,
+    given: &Given,
     turn: &Turn,
     ending: &mut Ending,
 ) -> Result<(), Fault> {

@@ -1,13 +1,14 @@
 //! A file of cases: its shared inputs, and its cases one after the other.
-use crate::bench::Bench;
 use crate::case::Case;
 use crate::command::Command;
 use crate::fault::Fault;
 use crate::named::{Named, has_name, put_bytes, put_under};
 use crate::notes::Notes;
-use crate::running::{Ending, Turn, ran};
+use crate::running::Ending;
 use crate::token::first_word;
+use crate::trial::Trial;
 use std::alloc::Global;
+use std::mem::swap;
 
 /// A file of cases, by the lines taken so far.
 #[derive(Drop)]
@@ -23,53 +24,30 @@ struct Subject {
     good: u32,
 }
 
-/// Runs the case, and makes its text, or what its flash holds, an input of later cases, under a name that none has yet.
-fn keep<C: Command>(
-    command: &C,
-    alloc: Global,
-    shared: &mut Vec<Named>,
-    case: &Case,
-) -> Result<(), Fault> {
+/// Makes the text of a case's run, or what its flash holds, an input of later cases, under a name that none has yet.
+fn keep(alloc: Global, shared: &mut Vec<Named>, case: &Case, ending: &Ending) -> Result<(), Fault> {
     let name = case.kept.as_str();
     if has_name(shared, name) {
         return Err(Fault::Line);
     }
-    let whole = Turn::new(None, u32::MAX);
-    let turn = match case.outside.failing.first() {
-        Some(failing) => whole.failing(failing.object, failing.call),
-        None => whole,
-    };
-    let mut ending = Ending::new(alloc);
-    let done = ran(command, alloc, shared, &case.outside, &turn, &mut ending);
-    put_ending(alloc, shared, case, done, &ending)
-}
-
-/// Makes the text of a run that was done, or what its flash holds, an input of later cases.
-fn put_ending(
-    alloc: Global,
-    shared: &mut Vec<Named>,
-    case: &Case,
-    done: Result<(), Fault>,
-    ending: &Ending,
-) -> Result<(), Fault> {
-    done?;
     let bytes = if case.keeps_flash {
         &ending.flash
     } else {
         &ending.out
     };
-    put_under(alloc, shared, case.kept.as_str(), bytes)
+    put_under(alloc, shared, name, bytes)
 }
 
-/// All runs of a case.
+/// All runs of a case. The ending takes what later cases may have of it.
 fn run_case<C: Command>(
     command: &C,
     alloc: Global,
     shared: &[Named],
     case: &Case,
     notes: &mut Notes,
+    ending: &mut Ending,
 ) {
-    let mut bench = Bench {
+    let mut trial = Trial {
         command,
         alloc,
         shared,
@@ -78,7 +56,8 @@ fn run_case<C: Command>(
         whole: Ending::new(alloc),
         came: Ending::new(alloc),
     };
-    bench.run();
+    trial.run();
+    swap(ending, &mut trial.whole);
 }
 
 impl Subject {
@@ -94,8 +73,8 @@ impl Subject {
         }
     }
 
-    /// Runs the case, and keeps its text where it says so.
-    fn run<C: Command>(&mut self, command: &C) -> Result<(), Fault> {
+    /// Runs the case, and counts it where it came as it is written. The ending takes what later cases may have of it.
+    fn run<C: Command>(&mut self, command: &C, ending: &mut Ending) {
         let length = self.notes.text.len();
         run_case(
             command,
@@ -103,14 +82,22 @@ impl Subject {
             &self.shared,
             &self.case,
             &mut self.notes,
+            ending,
         );
         if self.notes.text.len() == length {
             self.good = self.good.saturating_add(1);
         }
-        if self.case.is_kept {
-            return keep(command, self.alloc, &mut self.shared, &self.case);
+    }
+
+    /// Runs the case, and keeps what it left where it says so.
+    fn close<C: Command>(&mut self, command: &C) -> Result<(), Fault> {
+        self.is_open = false;
+        let mut ending = Ending::new(self.alloc);
+        self.run(command, &mut ending);
+        if self.case.kept.is_empty() {
+            return Ok(());
         }
-        Ok(())
+        keep(self.alloc, &mut self.shared, &self.case, &ending)
     }
 
     /// Opens a case of this name.
@@ -140,8 +127,7 @@ impl Subject {
             return self.take_outside(key, rest);
         }
         if line == "end" {
-            self.is_open = false;
-            return self.run(command);
+            return self.close(command);
         }
         self.case.take(&self.shared, key, rest)
     }

@@ -44,6 +44,7 @@ fn sixteen_attempts_read_a_small_flash_once(rt: HostRuntime) {
     let Some((end, attempts, calls)) = booted(rt.alloc(), &LOOP) else {
         panic!(rt; "no memory")
     };
+    // two calls: the attach, and one read
     assert!(rt; (end, attempts, calls) == (BootEnd::Loop, 16, 2));
 }
 
@@ -64,5 +65,6 @@ fn a_fallback_reads_each_page_once(rt: HostRuntime) {
     let Some((end, attempts, calls)) = booted(rt.alloc(), &image) else {
         panic!(rt; "no memory")
     };
+    // the attach, and at most 18 reads of the image's 48 pages
     assert!(rt; (end, attempts, calls <= 19) == (BootEnd::Started, 3, true));
 }

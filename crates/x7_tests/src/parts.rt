@@ -4,7 +4,7 @@ use std::alloc::Global;
 use std::test::Fail;
 use x7_part::{Part, Slot, part_of};
 
-/// Five columns of logic with 172 frames, and one of block memory with 128.
+/// A part with five columns of logic, of 172 frames, and one column of block memory, of 128.
 const COLUMNS: &[u8] =
     b"name = \"columns\"\nidcode = 1\nrow = [{block = 0, half = 0, row = 0, minors = [42, 30, 36, 36, 28]}, {block = 1, half = 0, row = 0, minors = [128]}]\n";
 
@@ -24,20 +24,22 @@ fn slots_from(part: &Part, far: u32) -> Option<u64> {
     Some(part.slots_from(far))
 }
 
-/// What a part answers: the address after each of three, the ranks of two, and the addresses of two ranks.
+/// What the tiny part answers: the address after each of three, the ranks of two, and the addresses of two ranks.
+#[rattlefmt::skip]
 fn answers(part: &Part) -> [Option<u32>; 7] {
     [
-        part.next(0x0000_0001),
-        part.next(0x0040_0001),
-        part.next(0x0000_0002),
-        part.rank(0x0040_0000),
-        part.rank(0x0000_0002),
-        part.address(2),
-        part.address(4),
+        part.next(0x0000_0001), // after the last address of the top row
+        part.next(0x0040_0001), // after the part's last address
+        part.next(0x0000_0002), // after what is no address
+        part.rank(0x0040_0000), // of the first address of the bottom row
+        part.rank(0x0000_0002), // of what is no address
+        part.address(2),        // the third address
+        part.address(4),        // past the last one
     ]
 }
 
-/// Five slots of a part.
+/// Slots 0 to 3 from the last address of the tiny part's top row on, and slot 8 from its first address on.
+#[rattlefmt::skip]
 fn slots(part: &Part) -> [Option<Slot>; 5] {
     [
         slot_from(part, 0x0000_0001, 0),
@@ -51,9 +53,10 @@ fn slots(part: &Part) -> [Option<Slot>; 5] {
 #[test]
 fn two_rows_have_their_addresses_ranks_and_slots_in_order(rt: HostRuntime) -> Result<(), Fail> {
     let part = part_of(rt.alloc(), TINY)?;
-    let top = Some(0x0040_0000);
-    assert!(rt; answers(&part) == [top, None, None, Some(2), None, top, None]);
-    // two pads stand after each row
+    // the first address of the bottom row, whose rank is 2
+    let third = Some(0x0040_0000);
+    assert!(rt; answers(&part) == [third, None, None, Some(2), None, third, None]);
+    // two pads stand after each row; four frames and four pads are all slots
     let pad = Some(Slot::Pad);
     assert!(rt;
         slots(&part)
@@ -65,34 +68,37 @@ fn two_rows_have_their_addresses_ranks_and_slots_in_order(rt: HostRuntime) -> Re
                 Some(Slot::End)
             ]
     );
+    // all eight slots but that of the first address
     assert!(rt; slots_from(&part, 0x0000_0001) == Some(7));
     Ok(())
 }
 
-/// What a copy of the part of the columns answers: its IDCODE and the number of its frames, two next
-/// addresses, two ranks, and the last address.
+/// What a copy of the part of the columns answers: its IDCODE and the number of its frames, the address after each of
+/// two, the ranks of two, and the address of the last rank.
+#[rattlefmt::skip]
 fn copy_answers(alloc: Global) -> Option<[Option<u32>; 7]> {
     let part = part_of(alloc, COLUMNS).ok()?;
     let copy = part.copy(alloc).ok()?;
     Some([
         Some(copy.idcode()),
         Some(copy.frames()),
-        copy.next(0x0000_0029),
-        copy.next(0x0000_021B),
-        copy.rank(0x0080_0000),
-        copy.rank(0x0080_007F),
-        copy.address(299),
+        copy.next(0x0000_0029), // after the last frame of column 0
+        copy.next(0x0000_021B), // after the last frame of block type 0
+        copy.rank(0x0080_0000), // of the first frame of block type 1
+        copy.rank(0x0080_007F), // of the part's last frame
+        copy.address(299),      // the last one
     ])
 }
 
 #[test]
-fn addresses_of_several_columns_and_block_types_in_a_copy(rt: HostRuntime) {
+#[rattlefmt::skip]
+fn a_copy_has_the_addresses_of_all_columns_and_block_types(rt: HostRuntime) {
     let wanted = [
-        Some(1),
-        Some(300),
-        Some(0x0000_0080),
-        Some(0x0080_0000),
-        Some(172),
+        Some(1),           // the IDCODE
+        Some(300),         // the number of frames
+        Some(0x0000_0080), // the first frame of column 1
+        Some(0x0080_0000), // the first frame of block type 1
+        Some(172),         // as many frames have block type 0
         Some(299),
         Some(0x0080_007F),
     ];

@@ -67,5 +67,6 @@ fn moves_back(alloc: Global) -> Option<[(u64, bool); 3]> {
 
 #[test]
 fn a_move_back_within_the_records_feeds_nothing(rt: HostRuntime) {
+    // to bytes 840 and 588, which records reach, and to byte 88, up to which the stream is played again
     assert!(rt; moves_back(rt.alloc()) == Some([(0, true), (0, true), (88, true)]));
 }

@@ -13,7 +13,7 @@ const TINY: &[u8] =
 /// A sync word and a wrong check.
 const WRONG_CHECK: &[u8] = b"\xAA\x99\x55\x66\x30\0\0\x01\0\0\0\x01";
 
-/// The first lines of a boot whose two attempts end at a wrong check.
+/// The first lines of the text of a boot whose two attempts end at a wrong check.
 const CRC: &[u8] =
     b"boot tiny\nattempt 1 power 00000000 crc\nattempt 2 fallback 00000000 crc\nend stopped\npart tiny\ntaken 12\nend fault Crc 00000000 00000001\n";
 
@@ -31,5 +31,6 @@ fn a_boot_that_stops_tells_both_attempts(rt: HostRuntime) {
     let Some(text) = booted(rt.alloc(), WRONG_CHECK) else {
         panic!(rt; "no memory")
     };
+    // after these lines come the phase, fifteen registers, no reads and no frames
     assert!(rt; text.len() == 453 && text.starts_with(CRC));
 }

@@ -122,6 +122,7 @@ fn a_byte_that_was_lost_differs(rt: HostRuntime) {
         panic!(rt; "no memory")
     };
     let mut flash = Forgetful { flash };
+    // the first 16 bytes of the stream are FF, as an erase leaves them
     let message = b"x7: differs i: byte 131088\n";
     assert!(rt; run_over(rt.alloc(), &mut flash, "i", message) == Some((11, true)));
     let left = flash.flash.bytes();
@@ -230,6 +231,7 @@ fn linked(rt: &HostRuntime) -> Option<((u8, u8, u8), bool)> {
 
 #[test]
 fn a_link_is_its_file_and_a_folder_is_none(rt: HostRuntime) {
+    // done, missing, a read fault; and the slot is open
     assert!(rt; linked(&rt) == Some(((0, 3, 6), true)));
 }
 

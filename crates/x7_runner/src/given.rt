@@ -50,7 +50,7 @@ pub(crate) struct Failing {
 
 /// What a case gives to a run.
 #[derive(Drop)]
-pub(crate) struct Outside {
+pub(crate) struct Given {
     alloc: Global,
     pub(crate) words: Vec<String>,
     pub(crate) inputs: Vec<Named>,
@@ -73,10 +73,10 @@ pub(crate) struct Outside {
     pub(crate) room: u32,
 }
 
-impl Outside {
+impl Given {
     /// No words and no inputs, and nothing fails.
-    pub(crate) fn new(alloc: Global) -> Outside {
-        Outside {
+    pub(crate) fn new(alloc: Global) -> Given {
+        Given {
             alloc,
             words: Vec::new(alloc),
             inputs: Vec::new(alloc),
@@ -150,18 +150,6 @@ impl Outside {
         Ok(())
     }
 
-    /// Takes the most bytes of one write.
-    fn put_write_piece(&mut self, number: &str) -> Result<(), Fault> {
-        self.write_piece = positive(number)?;
-        Ok(())
-    }
-
-    /// Takes the most bytes that `out` takes.
-    fn put_room(&mut self, number: &str) -> Result<(), Fault> {
-        self.room = positive(number)?;
-        Ok(())
-    }
-
     /// Takes a line that says what fails.
     fn take_failing(&mut self, key: &str, rest: &str) -> Result<(), Fault> {
         match key {
@@ -186,8 +174,14 @@ impl Outside {
             "flash_tears" => self.writing.put_tear(rest),
             "piece" => put_numbers(&mut self.pieces, rest),
             "alike" => put_numbers(&mut self.alike, rest),
-            "write_piece" => self.put_write_piece(rest),
-            "room" => self.put_room(rest),
+            "write_piece" => {
+                self.write_piece = positive(rest)?;
+                Ok(())
+            }
+            "room" => {
+                self.room = positive(rest)?;
+                Ok(())
+            }
             _ => self.take_failing(key, rest),
         }
     }

@@ -3,9 +3,9 @@ use crate::case::Case;
 use crate::command::Command;
 use crate::comparing::compare;
 use crate::failing::{Blamed, compare_failed, compare_spared};
+use crate::given::Object;
 use crate::named::Named;
 use crate::notes::Notes;
-use crate::outside::Object;
 use crate::running::{Ending, Turn, ran};
 use std::alloc::Global;
 use std::mem::swap;
@@ -15,24 +15,26 @@ const MOST_CALLS: u64 = 1_000_000;
 
 /// A case and the inputs that it shares with others of its file, the command, and what its runs left.
 #[derive(Drop)]
-pub(crate) struct Bench<'a, C: Command> {
+pub(crate) struct Trial<'a, C: Command> {
     pub(crate) command: &'a C,
     pub(crate) alloc: Global,
     pub(crate) shared: &'a [Named],
     pub(crate) case: &'a Case,
     pub(crate) notes: &'a mut Notes,
-    /// What the run without a failing call left, and what the last run did.
+    /// What the run without a failing call left, beside which others stand; of a case in which a call fails, what
+    /// the run with it left.
     pub(crate) whole: Ending,
+    /// What the last run left.
     pub(crate) came: Ending,
 }
 
-impl<'a, C: Command> Bench<'a, C> {
+impl<'a, C: Command> Trial<'a, C> {
     /// One run, which the notes that follow are of.
     fn ran(&mut self, turn: &Turn) {
         let case = self.case;
         self.notes.begin(case.name.as_str());
         turn.put_name(self.notes);
-        let given = &case.outside;
+        let given = &case.given;
         let done = ran(
             self.command,
             self.alloc,
@@ -48,7 +50,7 @@ impl<'a, C: Command> Bench<'a, C> {
     fn compared(&mut self, turn: &Turn) {
         self.ran(turn);
         let case = self.case;
-        compare(self.notes, &case.outside, &case.expected, turn, &self.came);
+        compare(self.notes, &case.given, &case.expected, turn, &self.came);
     }
 
     /// One run in which a call fails, beside the whole run. True where the run had no such call, or memory lacks.
@@ -57,7 +59,7 @@ impl<'a, C: Command> Bench<'a, C> {
         if self.came.is_spared {
             compare_spared(self.notes, &self.whole, &self.came);
         } else {
-            let words = &self.case.outside.words;
+            let words = &self.case.given.words;
             let object = turn.object;
             compare_failed(self.notes, words, blamed, object, &self.whole, &self.came);
         }
@@ -80,7 +82,7 @@ impl<'a, C: Command> Bench<'a, C> {
         let mut blamed = Blamed::new(self.alloc);
         self.run_calls(turn, &mut blamed);
         if turn.object == Object::In && self.whole.status <= 1 {
-            let given = &self.case.outside;
+            let given = &self.case.given;
             blamed.compare_all(self.notes, &given.words, self.shared);
             blamed.compare_all(self.notes, &given.words, &given.inputs);
         }
@@ -88,7 +90,7 @@ impl<'a, C: Command> Bench<'a, C> {
 
     /// Runs in pieces of other sizes, which should come to the same as the whole run.
     fn run_alike(&mut self, turn: &Turn) {
-        for piece in &self.case.outside.alike {
+        for piece in &self.case.given.alike {
             self.ran(&turn.in_pieces(*piece));
             compare_spared(self.notes, &self.whole, &self.came);
         }
@@ -99,7 +101,7 @@ impl<'a, C: Command> Bench<'a, C> {
         self.compared(turn);
         swap(&mut self.whole, &mut self.came);
         self.run_alike(turn);
-        for object in &self.case.outside.each {
+        for object in &self.case.given.each {
             self.run_each(&turn.failing(*object, 0));
         }
     }
@@ -107,34 +109,35 @@ impl<'a, C: Command> Bench<'a, C> {
     /// A run in which a call fails, and where `err` is among those that fail in turn, one in which it fails too.
     fn run_failing(&mut self, turn: &Turn) {
         self.compared(turn);
-        if self.case.outside.each.contains(&Object::Err) {
+        swap(&mut self.whole, &mut self.came);
+        if self.case.given.each.contains(&Object::Err) {
             self.compared(&turn.mute());
         }
     }
 
     /// All runs with the reads and the damage of one turn.
     fn run_piece(&mut self, turn: &Turn) {
-        if self.case.outside.failing.is_empty() {
+        if self.case.given.failing.is_empty() {
             self.run_whole(turn);
         }
-        for failing in &self.case.outside.failing {
+        for failing in &self.case.given.failing {
             self.run_failing(&turn.failing(failing.object, failing.call));
         }
     }
 
     /// All runs with one damage of an input, or with none.
     fn run_pieces(&mut self, damage: Option<u32>) {
-        if self.case.outside.pieces.is_empty() {
+        if self.case.given.pieces.is_empty() {
             self.run_piece(&Turn::new(damage, u32::MAX));
         }
-        for piece in &self.case.outside.pieces {
+        for piece in &self.case.given.pieces {
             self.run_piece(&Turn::new(damage, *piece));
         }
     }
 
     /// All runs of the case.
     pub(crate) fn run(&mut self) {
-        let Some(damaged) = self.case.outside.damaged.first() else {
+        let Some(damaged) = self.case.given.damaged.first() else {
             return self.run_pieces(None);
         };
         for number in damaged.from..damaged.to {
