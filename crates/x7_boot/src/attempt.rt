@@ -7,7 +7,7 @@ use x7_engine::{Device, Fault, Fed, ReadBuf, UntilStarted};
 use x7_regs::Cause;
 
 /// How an attempt ended.
-#[derive(Clone, Copy, Debug, PartialEq, Eq)]
+#[derive(Clone, Copy)]
 pub enum Ending {
     /// By the end of startup.
     Started,

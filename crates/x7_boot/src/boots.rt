@@ -19,7 +19,7 @@ use x7_regs::Kind;
 use x7_words::{FLASH_LIMIT, Flash};
 
 /// An attempt of a boot.
-#[derive(Clone, Copy, Debug, PartialEq, Eq)]
+#[derive(Clone, Copy)]
 pub struct Tried {
     /// What began the attempt.
     pub kind: Kind,
@@ -30,7 +30,7 @@ pub struct Tried {
 }
 
 /// How a boot ended.
-#[derive(Clone, Copy, Debug, PartialEq, Eq)]
+#[derive(Clone, Copy, PartialEq, Eq)]
 pub enum BootEnd {
     /// The last attempt started.
     Started,

@@ -3,7 +3,7 @@
 use thiserror::Error;
 
 /// Why two streams make no image.
-#[derive(Clone, Copy, Debug, Drop, PartialEq, Eq, Error)]
+#[derive(Clone, Copy, Debug, Drop, Error)]
 pub enum ImageFault {
     /// The image would be larger than a flash may be.
     #[error("the image would be larger than a flash may be")]
@@ -14,7 +14,7 @@ pub enum ImageFault {
 }
 
 /// Why a boot came to no end.
-#[derive(Clone, Copy, Debug, Drop, PartialEq, Eq, Error)]
+#[derive(Clone, Copy, Debug, Drop, Error)]
 pub enum BootFault {
     /// A read of the flash failed.
     #[error("a read of the flash failed")]

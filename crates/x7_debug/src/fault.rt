@@ -2,7 +2,7 @@
 use thiserror::Error;
 
 /// Why a script was refused. Lines count from 1.
-#[derive(Clone, Copy, Debug, Drop, PartialEq, Eq, Error)]
+#[derive(Clone, Copy, Debug, Drop, Error)]
 pub enum ScriptFault {
     /// The first line that is neither empty, nor a comment, nor an order.
     #[error("line {0} is no order")]

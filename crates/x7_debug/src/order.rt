@@ -1,7 +1,7 @@
 //! The orders of a script.
 
 /// What holds at the position that an order `until` goes forward to.
-#[derive(Clone, Copy, Debug, Drop, PartialEq, Eq)]
+#[derive(Clone, Copy, Drop)]
 pub enum Stop {
     /// The bytes end in a session.
     Synced,
@@ -14,7 +14,7 @@ pub enum Stop {
 }
 
 /// What a line of a script asks for.
-#[derive(Clone, Copy, Debug, Drop, PartialEq, Eq)]
+#[derive(Clone, Copy, Drop)]
 pub enum Order {
     /// Goes forward by this many bytes.
     Step(u32),

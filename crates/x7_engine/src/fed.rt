@@ -1,7 +1,7 @@
 //! What a feed answers.
 
 /// What a feed came to. Each number is that of the bytes taken of this piece.
-#[derive(Clone, Copy, Debug, PartialEq, Eq)]
+#[derive(Clone, Copy, PartialEq, Eq)]
 pub enum Fed {
     /// Every byte was taken, and no word is due.
     All,

@@ -6,7 +6,7 @@ use x7_regs::{Attempt, Kind};
 
 /// What a device keeps over a reset (this project's choice): three registers, the kind of
 /// its boot attempt, and the attempt before.
-#[derive(Clone, Copy, Debug, PartialEq, Eq)]
+#[derive(Clone, Copy)]
 pub struct Kept {
     /// The word of WBSTAR.
     pub wbstar: u32,

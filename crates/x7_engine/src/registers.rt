@@ -48,7 +48,7 @@ fn counted_in(stop: Option<StopCause>, taken: usize) -> usize
 }
 
 /// How many of the words looked at were taken: not the last one, where it is refused.
-fn words_before(count: usize, refused: Option<RunFault>) -> usize
+fn count_taken(count: usize, refused: Option<RunFault>) -> usize
     ensures value { result ≡ count_taken count refused }
     ensures within { result ≤ count }
 {
@@ -309,7 +309,7 @@ impl Registers {
         let (count, refused) = self
             .frames
             .write_bytes(settings, reg, &bytes[..before], part);
-        let taken = words_before(count, refused) * 4;
+        let taken = count_taken(count, refused) * 4;
         let prefix = &bytes[..taken];
         // No firing: the bytes before one are all that was looked at.
         let _ = self.clock.bytes(part, taken);

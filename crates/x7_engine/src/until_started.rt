@@ -3,7 +3,7 @@
 use crate::fed::Fed;
 
 /// What a feed up to the end of startup came to.
-#[derive(Clone, Copy, Debug, PartialEq, Eq)]
+#[derive(Clone, Copy)]
 pub enum UntilStarted {
     /// Startup has ended, at the last of the bytes taken of this piece, whose number this is, or before this call where
     /// the number is 0. No word is due.

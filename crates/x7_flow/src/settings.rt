@@ -1,7 +1,7 @@
 //! What decides whether an access concerns frames.
 
 /// What decides what an access asks of frames (UG470, configuration registers).
-#[derive(Clone, Copy, Debug, Drop, PartialEq, Eq)]
+#[derive(Clone, Copy, Drop)]
 pub struct FrameSettings {
     /// Whether an IDCODE that was written is the part's, but for bits 31:28.
     pub is_matched: bool,

@@ -9,7 +9,7 @@ use x7_text::{hex_of_byte, hex_of_word};
 use x7_words::{Failed, Sink, write_pieces};
 
 /// Why an input other than a part file was refused. Lines count from 1, bytes and places in a flash from 0.
-#[derive(Clone, Copy, Debug, Drop, PartialEq, Eq)]
+#[derive(Clone, Copy, Drop)]
 pub enum InputFault {
     /// The byte of a stream's header that should be a field's letter and is not, or the
     /// stream's length where it ends inside the header.

@@ -11,7 +11,7 @@ use x7_part::PartFault;
 use x7_words::{Failed, NoMemory, Sink, write_pieces};
 
 /// Why a command has no whole text. Each reason has one status and one message.
-#[derive(Clone, Copy, Debug, Drop, PartialEq, Eq)]
+#[derive(Clone, Copy, Drop)]
 pub enum Why {
     /// The words have no form.
     Usage,

@@ -5,7 +5,7 @@ use thiserror::Error;
 use x7_words::NoMemory;
 
 /// Why a frames text was refused: its first line at fault. Lines count from 1.
-#[derive(Clone, Copy, Debug, Drop, PartialEq, Eq, Error)]
+#[derive(Clone, Copy, Debug, Drop, Error)]
 pub enum FramesFault {
     /// The line is neither empty, nor a comment, nor `frame FAR DIGITS`.
     #[error("line {0} is no frame line")]

@@ -1,7 +1,7 @@
 //! Why bytes have no header.
 
 /// Why no header was read. Places count from 0.
-#[derive(Clone, Copy, Debug, Drop, PartialEq, Eq)]
+#[derive(Clone, Copy, Drop)]
 pub enum HeaderFault {
     /// The input doesn't begin with the thirteen fixed bytes.
     Raw,

@@ -1,7 +1,7 @@
 //! What a header holds.
 
 /// The header before a stream's data: its fields, lent from where they were read.
-#[derive(Clone, Copy, Debug, PartialEq, Eq)]
+#[derive(Clone, Copy)]
 pub struct Head<'b> {
     /// The design.
     pub a: &'b [u8],

@@ -15,7 +15,7 @@ use x7_engine::Device;
 use x7_svf::{Bits, Scan, ScannedRegister, Statement, Svf};
 
 /// The first scan whose TDO differs from the wanted bits.
-#[derive(Clone, Copy, Debug, PartialEq, Eq)]
+#[derive(Clone, Copy)]
 pub struct Differ {
     /// The statement, from 1.
     pub statement: u32,

@@ -16,7 +16,7 @@ use x7_words::NoMemory;
 pub const ASM_LIMIT: usize = 67_108_864;
 
 /// Why a text stands for no bytes. Lines count from 1.
-#[derive(Clone, Copy, Debug, Drop, PartialEq, Eq, Error)]
+#[derive(Clone, Copy, Debug, Drop, Error)]
 pub enum AsmFault {
     /// The first line that is none of the assembler's.
     #[error("line {0} is no line")]

@@ -1,7 +1,7 @@
 //! Why a text gives no flash.
 
 /// The fault of the first bad line, or what the whole text lacks. Lines count from 1.
-#[derive(Clone, Copy, Debug, Drop, PartialEq, Eq)]
+#[derive(Clone, Copy, Drop)]
 pub enum McsFault {
     /// The line is no record, or the record may not stand there.
     Line(u64),

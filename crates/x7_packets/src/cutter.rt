@@ -33,7 +33,7 @@ pub(crate) enum Stage {
 }
 
 /// A run of a stream.
-#[derive(Clone, Copy, Debug)]
+#[derive(Clone, Copy)]
 pub enum Cut<'p> {
     /// The piece is used up; up to three bytes of a word may be kept.
     Need,

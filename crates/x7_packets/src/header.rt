@@ -12,7 +12,7 @@ use crate::packet_words::{
 use x7_regs::{Command, Reg};
 
 /// What a word of a session is, by its place among the packets.
-#[derive(Clone, Copy, Debug, PartialEq, Eq)]
+#[derive(Clone, Copy)]
 pub enum Step {
     /// A word in a header's place without effect.
     Filler,

@@ -13,7 +13,7 @@ use std::marker::Model;
 use x7_words::word_of;
 
 /// Takes the words of a session, and says what each word is.
-#[derive(Clone, Copy, Debug)]
+#[derive(Clone, Copy)]
 pub struct Machine {
     due: u32,
     register: u8,

@@ -17,7 +17,7 @@ use x7_words::{Failed, Inputs, NoMemory};
 const PIECE_SIZE: usize = 65_536;
 
 /// A run of a stream.
-#[derive(Clone, Copy, Debug)]
+#[derive(Clone, Copy)]
 pub enum Run<'b> {
     /// One or more bytes taken while searching, the sync word's bytes included.
     Skip(&'b [u8]),

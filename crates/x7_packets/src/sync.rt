@@ -36,7 +36,7 @@ pub(crate) fn near_sync(bytes: &[u8]) -> Option<usize>
 }
 
 /// A search for the sync word, byte by byte: the last three bytes taken, 0 for each that isn't there.
-#[derive(Clone, Copy, Debug)]
+#[derive(Clone, Copy)]
 pub struct Matcher {
     first: u8,
     second: u8,

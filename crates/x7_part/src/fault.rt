@@ -8,7 +8,7 @@ use std::fmt;
 use thiserror::Error;
 
 /// A key of a part file, or any other.
-#[derive(Clone, Copy, Debug, Drop, PartialEq, Eq)]
+#[derive(Clone, Copy, Debug, Drop)]
 pub enum PartKey {
     Name,
     Idcode,
@@ -51,7 +51,7 @@ impl PartKey {
 }
 
 /// The place of a key in a part file.
-#[derive(Clone, Copy, Debug, Drop, PartialEq, Eq)]
+#[derive(Clone, Copy, Debug, Drop)]
 pub struct Which {
     /// The number of the row that the key belongs to, from 1, none for a key of the top table.
     pub row: Option<u32>,
@@ -91,7 +91,7 @@ impl fmt::Display for Which {
 }
 
 /// Why a part file was refused.
-#[derive(Clone, Copy, Debug, Drop, PartialEq, Eq, Error)]
+#[derive(Clone, Copy, Debug, Drop, Error)]
 pub enum PartFault {
     /// The text is no TOML, or no UTF-8.
     #[error("the text is no TOML")]

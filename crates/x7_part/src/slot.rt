@@ -1,7 +1,7 @@
 //! Slots of frame data.
 
 /// A place in write order: of a frame, of a pad frame, or past the last one.
-#[derive(Clone, Copy, Debug, Drop, PartialEq, Eq)]
+#[derive(Clone, Copy, Drop, PartialEq, Eq)]
 pub enum Slot {
     /// The frame at this address.
     Frame(u32),

@@ -5,7 +5,7 @@ use thiserror::Error;
 use x7_words::NoMemory;
 
 /// Why a planner refuses.
-#[derive(Clone, Copy, Debug, Drop, PartialEq, Eq, Error)]
+#[derive(Clone, Copy, Debug, Drop, Error)]
 pub enum PlanFault {
     /// The plan has no frame.
     #[error("the plan has no frame")]

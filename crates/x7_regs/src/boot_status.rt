@@ -3,7 +3,7 @@ ghost use Rattle.std.specs.Prelude.{◌≡◌, ◌<◌, ◌≤◌, ◌^◌};
 ghost use Rattle.x7_regs.specs.BootStatus.{attempt_bits_of, before_bits_of, boot_status_of, cause_bits_of, kind_bits_of};
 
 /// What began a boot attempt.
-#[derive(Clone, Copy, Debug, PartialEq, Eq, Hash)]
+#[derive(Clone, Copy)]
 pub enum Kind {
     /// Nothing: the device is on a bench and takes a stream.
     Bench,
@@ -16,7 +16,7 @@ pub enum Kind {
 }
 
 /// What a boot attempt failed by.
-#[derive(Clone, Copy, Debug, PartialEq, Eq, Hash)]
+#[derive(Clone, Copy)]
 pub enum Cause {
     /// The watchdog fired.
     Watchdog,
@@ -29,7 +29,7 @@ pub enum Cause {
 }
 
 /// A boot attempt.
-#[derive(Clone, Copy, Debug, PartialEq, Eq, Hash)]
+#[derive(Clone, Copy)]
 pub struct Attempt {
     /// What began the attempt.
     pub kind: Kind,

@@ -4,7 +4,7 @@ ghost use Rattle.x7_regs.specs.Register.{number_of, reg_with};
 ghost use Rattle.x7_regs.specs.declared.register.Reg.{Reg};
 
 /// The configuration registers, in the order of their numbers.
-#[derive(Clone, Copy, Debug, PartialEq, Eq, Hash)]
+#[derive(Clone, Copy)]
 pub enum Reg {
     /// The running check; a written word is compared with it.
     Crc,

@@ -4,7 +4,7 @@ ghost use Rattle.x7_regs.specs.Status.{flag_of, startup_state_of, status_of};
 ghost use Rattle.x7_words.specs.Word.{field_of};
 
 /// What the status register shows, bit by bit (UG470, status register).
-#[derive(Clone, Copy, Debug, PartialEq, Eq, Hash)]
+#[derive(Clone, Copy)]
 pub struct StatParts {
     /// A check word that was written differed from the running check.
     pub crc_error: bool,

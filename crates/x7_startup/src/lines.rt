@@ -5,7 +5,7 @@ ghost use Rattle.x7_startup.specs.Lines.{done_rise, line_rise, has_risen, done_l
 use x7_regs::{DONE_CYCLE, GTS_CYCLE, GWE_CYCLE};
 
 /// The three lines that startup releases.
-#[derive(Clone, Copy, Debug, PartialEq, Eq, Hash)]
+#[derive(Clone, Copy, PartialEq, Eq)]
 pub struct Lines {
     /// DONE.
     pub done: bool,

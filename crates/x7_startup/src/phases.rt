@@ -8,12 +8,6 @@ use x7_regs::{LOCK_CYCLE, MATCH_CYCLE};
 /// The number up to which ticks are counted, the last of 16 bits: no part waits for more.
 const TICK_LIMIT: u64 = 65_535;
 
-/// The number of LOCK_CYCLE's lowest bit of three in COR0.
-const LOCK_CYCLE: u32 = 6;
-
-/// The number of MATCH_CYCLE's lowest bit of three in COR0.
-const MATCH_CYCLE: u32 = 9;
-
 /// A phase of at most 7, and the ticks since startup began, at most 65,535.
 #[derive(Clone, Copy)]
 pub(crate) struct Reached {

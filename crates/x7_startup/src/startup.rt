@@ -9,7 +9,7 @@ use crate::phases::{Reached, pass_ticks, tick};
 use std::marker::Model;
 
 /// Startup as the calls so far have left it (UG470, startup).
-#[derive(Clone, Copy, Debug, PartialEq, Eq)]
+#[derive(Clone, Copy)]
 pub struct Startup {
     armed: bool,
     // COR0 as it stood where startup began, if it has begun

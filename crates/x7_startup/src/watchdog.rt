@@ -11,7 +11,7 @@ const CFG_MON: u32 = 30;
 const TIMER_VALUE: u32 = 0x3FFF_FFFF;
 
 /// The watchdog of one attempt, as the calls so far have left it.
-#[derive(Clone, Copy, Debug, PartialEq, Eq)]
+#[derive(Clone, Copy)]
 pub struct Watchdog {
     off: bool,
     // the count at which it fires: four times TIMER's value, or 0 where TIMER or the attempt has it off

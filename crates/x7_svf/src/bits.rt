@@ -10,7 +10,7 @@ use std::marker::Model;
 const MOST_BYTES_AT_ONCE: usize = 1024;
 
 /// Some bits, lowest first, lent as the hexadecimal digits that a text gives for them.
-#[derive(Debug, Drop)]
+#[derive(Drop)]
 pub struct Bits<'t> {
     count: u32,
     digits: &'t [u8],

@@ -3,7 +3,7 @@ ghost use Rattle.std.specs.Prelude.{◌≡◌, ◌≤◌, ◌-◌, ◌^◌, leng
 ghost use Rattle.x7_svf.specs.Span.{bytes_in, span_end};
 
 /// Bytes that are kept one after another: how many come before them, and how many they are.
-#[derive(Clone, Copy, Debug)]
+#[derive(Clone, Copy)]
 pub(crate) struct Span {
     from: u32,
     count: u32,

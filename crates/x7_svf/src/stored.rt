@@ -9,7 +9,7 @@ use crate::span::Span;
 use crate::statement::{Scan, ScannedRegister, Statement};
 
 /// A statement in few bytes, as a long text has many statements. The digits of a scan are kept apart.
-#[derive(Clone, Copy, Debug)]
+#[derive(Clone, Copy)]
 pub(crate) enum Stored {
     Reset,
     Idle,
@@ -19,7 +19,7 @@ pub(crate) enum Stored {
 }
 
 /// A scan: how many bits each of its fields has, and where the digits of each are kept.
-#[derive(Clone, Copy, Debug)]
+#[derive(Clone, Copy)]
 pub(crate) struct StoredScan {
     pub(crate) register: ScannedRegister,
     pub(crate) bit_count: u32,

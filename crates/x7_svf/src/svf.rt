@@ -17,7 +17,7 @@ use std::alloc::Global;
 use std::marker::Model;
 
 /// The statements of a text, fewer than 2^29.
-#[derive(Debug, Drop)]
+#[derive(Drop)]
 pub struct Svf {
     statements: Vec<Stored>,
     // the digits of their scans, among keywords and the words of other statements

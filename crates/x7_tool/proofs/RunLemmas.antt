@@ -3,7 +3,7 @@ use Rattle.std.proofs.Common.{◌≡◌, ◌≤◌, arith, length, ℕ, List, Bo
 use Rattle.std.specs.Prelude.{nat_lt}
 use Rattle.std.proofs.lemmas.Bool.Decides.{nat_tests}
 use Rattle.x7_words.specs.Flash.{FlashState}
-use Rattle.x7_words.specs.Input.{AsksFew, InputsState, InputsStay}
+use Rattle.x7_words.specs.Input.{AsksAtMost, InputsState, InputsStay}
 use Rattle.x7_words.specs.Sink.{SinkState, PutsSome}
 use Rattle.x7_listing.specs.Assembly.{IsAsm}
 use Rattle.x7_listing.proofs.OutcomeLemmas.{one_outcome}
@@ -185,7 +185,7 @@ pub record RanAs (form : Option AskedForm) (old new : Outside) (s : Status) : Ty
   pub ends : Ends form old new end
   pub stops : Stops form old.inputs new.inputs end
   pub judges : JudgesFlash form (sources old.inputs old.flash) (sources new.inputs new.flash) end
-  pub asks : AsksFew old.inputs (length (names_of form)) new.inputs
+  pub asks : AsksAtMost old.inputs (length (names_of form)) new.inputs
   pub stays : InputsStay old.inputs new.inputs
 
 -- how a command ended is what its run comes to

@@ -14,7 +14,7 @@ use x7_regs::{command_of, command_text, name_of};
 use x7_text::{hex_of_word, put, put_close, put_decimal};
 
 /// The line of a word in a header's place.
-#[derive(Clone, Copy, Debug, PartialEq, Eq)]
+#[derive(Clone, Copy)]
 pub enum HeadLine {
     /// The no-op.
     Nop,

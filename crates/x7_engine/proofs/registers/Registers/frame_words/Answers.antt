@@ -27,7 +27,7 @@ returns c = record {
   within = (
       let b : ℕ = c.before_firing.result / 4 in
       let inner : length (take (b * 4) c.args.bytes.now) ≡ b * 4 = length-take-le (b * 4) c.args.bytes.now (omega (arith, c.before_firing.ensures.within)) in
-      omega (arith, inner, c.words_before-taken.ensures.within, c.write_bytes-count.ensures.within, c.before_firing.ensures.within));
+      omega (arith, inner, c.count_taken-taken.ensures.within, c.write_bytes-count.ensures.within, c.before_firing.ensures.within));
   whole = omega arith;
   going = c.requires.ready.going;
   leaves = record { due = refl; frames = c.write_bytes-count.ensures.part };
@@ -37,14 +37,14 @@ returns c = record {
       let r : Reg = c.args.reg in
       let register : ℕ = number_of r in
       let b : ℕ = c.before_firing.result / 4 in
-      let k : ℕ = c.words_before-taken.result in
+      let k : ℕ = c.count_taken-taken.result in
       let m : ℕ = n + k * 4 in
       let looked : List ℕ = words_of_bytes (take (b * 4) bytes) in
       let prefix : List ℕ = words_of_bytes (take (k * 4) bytes) in
       let all : History = entered_all n (payload_steps register prefix) h in
       let clock : ClockState = clock_in c.bytes.new.self in
       let inner : length (take (b * 4) bytes) ≡ b * 4 = length-take-le (b * 4) bytes (omega (arith, c.before_firing.ensures.within)) in
-      let few : k ≤ b = omega (arith, inner, c.words_before-taken.ensures.within, c.write_bytes-count.ensures.within) in
+      let few : k ≤ b = omega (arith, inner, c.count_taken-taken.ensures.within, c.write_bytes-count.ensures.within) in
       let same : take k looked ≡ prefix = ap (take k) (words_prefix b bytes) ∙ take-take k b (words_of_bytes bytes) few ∙ sym (words_prefix k bytes) in
       let size : length prefix ≡ k = length_of_words (take (k * 4) bytes) ∙ omega (arith, length-take-le (k * 4) bytes (omega (arith, few, c.before_firing.ensures.within))) in
       let newest : newest_place h ≤ n = newest_within n h s.places in
@@ -53,7 +53,7 @@ returns c = record {
       let after = ticked part kept (registers_in c.args.self.now) clock h n (k * 4) m refl c.requires.ready.going s ticks in
       let are : FramesStandFor part c.args.self.now.frames h 0 = standing_frames part c.args.self.now.frames c.args.self.now.stop h c.args.self.now.due c.requires.ready.going c.requires.ready.no_word_due s.frames in
       let words = given part c.write_bytes-count.new.self h (words_to r n (take (b * 4) bytes)) c.write_bytes-count.result (c.write_bytes-count.ensures.taken n h (c.settings-settings.ensures.after part kept h n s) are) in
-      let before : take _ looked ≡ prefix = ap (λ (j : ℕ). take j looked) (sym c.words_before-taken.ensures.value) ∙ same in
+      let before : take _ looked ≡ prefix = ap (λ (j : ℕ). take j looked) (sym c.count_taken-taken.ensures.value) ∙ same in
       let unrefused : NoneRefused part r n prefix h = subst (λ (x : List ℕ). NoneRefused part r n x h) before words.0 in
       let frames : FramesStandFor part c.write_bytes-count.new.self all 0 = subst (λ (x : List ℕ). FramesStandFor part c.write_bytes-count.new.self (with_words_to r n x h) 0) before words.1 in
       let quiet : IsQuiet register = data_quiet r c.requires.register in
