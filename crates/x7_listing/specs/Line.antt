@@ -6,7 +6,7 @@ use Rattle.x7_regs.specs.Register.{number_of, reg_name}
 use Rattle.x7_regs.specs.Command.{code_of, command_by, command_name_of}
 use Rattle.x7_regs.specs.declared.command.Command.{Command}
 use Rattle.x7_regs.specs.declared.register.Reg.TheVariants.{Crc}
-use Rattle.x7_packets.specs.PacketWords.{no_op, sync_word, type1_read, type1_write, type2_read, type2_write}
+use Rattle.x7_packets.specs.PacketWords.{no_op, sync_word, type1_read_header, type1_write_header, type2_read_header, type2_write_header}
 use Rattle.x7_text.specs.Digits.{hex_byte, hex_word}
 use Rattle.x7_text.specs.Row.{IsByteRow, IsWordRow, spaced}
 
@@ -82,14 +82,14 @@ line_bytes check (Comment text) = []
 line_bytes check (Bytes bytes) = bytes
 line_bytes check Sync = bytes_of_word sync_word
 line_bytes check Nop = bytes_of_word no_op
-line_bytes check (Write register count) = bytes_of_word (type1_write register count)
-line_bytes check (Read register count) = bytes_of_word (type1_read register count)
-line_bytes check (Write2 count) = bytes_of_word (type2_write count)
-line_bytes check (Read2 count) = bytes_of_word (type2_read count)
+line_bytes check (Write register count) = bytes_of_word (type1_write_header register count)
+line_bytes check (Read register count) = bytes_of_word (type1_read_header register count)
+line_bytes check (Write2 count) = bytes_of_word (type2_write_header count)
+line_bytes check (Read2 count) = bytes_of_word (type2_read_header count)
 line_bytes check (Word word) = bytes_of_word word
 line_bytes check (Data words) = flat_map bytes_of_word words
 line_bytes check (Cmd command) = bytes_of_word (code_of command)
-line_bytes check Check = bytes_of_word (type1_write (number_of Crc) 1) ++ bytes_of_word check
+line_bytes check Check = bytes_of_word (type1_write_header (number_of Crc) 1) ++ bytes_of_word check
 
 -- the line is neither a comment nor the check, as each line of a listing
 abbrev pub IsListed : Line → Type 0

@@ -1,5 +1,5 @@
--- The listing of a stream as it is: its header's line, where it has a header, and the
--- listing of its data (this project's choice).
+-- The listing of a stream as it is: its header's line, where it has a header, and the listing of its data (this
+-- project's choice).
 use Rattle.std.specs.Prelude.{ℕ, List, ◌∷◌, ◌++◌, drop, Result, Ok, Err}
 use Rattle.x7_header.specs.Header.{Contents}
 use Rattle.x7_header.specs.Reading.{header_at}

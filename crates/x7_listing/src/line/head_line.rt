@@ -8,7 +8,7 @@ ghost use Rattle.x7_listing.specs.HeadLine.{command_line, line_of_head, text_of_
 
 use x7_packets::{
     NO_OP, SYNC_WORD, Step, TYPE2_READ_KIND, TYPE2_WRITE_KIND, kind_in, register_in,
-    type1_count_in, type1_read, type1_write, type2_count_in,
+    type1_count_in, type1_read_header, type1_write_header, type2_count_in,
 };
 use x7_regs::{command_of, command_text, name_of};
 use x7_text::{hex_of_word, put, put_close, put_decimal};
@@ -50,9 +50,9 @@ impl HeadLine {
             HeadLine::Nop
         } else if w == SYNC_WORD {
             HeadLine::Sync
-        } else if w == type1_write(register, count) {
+        } else if w == type1_write_header(register, count) {
             HeadLine::Write(register, count)
-        } else if w == type1_read(register, count) {
+        } else if w == type1_read_header(register, count) {
             HeadLine::Read(register, count)
         } else if kind_in(w) == TYPE2_WRITE_KIND {
             HeadLine::Write2(type2_count_in(w))
