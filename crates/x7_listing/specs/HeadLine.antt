@@ -8,7 +8,7 @@ use Rattle.x7_packets.specs.declared.header.Step.{Step}
 use Rattle.x7_packets.specs.declared.header.Step.TheVariants.{Bad}
 use Rattle.x7_listing.specs.declared.line.head_line.HeadLine.{HeadLine}
 use Rattle.x7_listing.specs.declared.line.head_line.HeadLine.TheVariants.{Nop, Sync, Write, Read, Write2, Read2, Word}
-use Rattle.x7_listing.specs.Line.{Line, ended_text}
+use Rattle.x7_listing.specs.Line.{Line, ended_text, line_end_byte}
 use Rattle.x7_listing.specs.Line as line
 
 -- the word that a line stands for
@@ -67,5 +67,5 @@ text_of_head step w = line_text (line_of_head step w)
 -- the text of the line of a payload word of CMD, with its end: the command whose code the whole word is, else the word
 abbrev pub command_line : ℕ → List ℕ
 command_line w =
-    if code_of (command_by w) == w then codes "cmd " ++ command_name_of (command_by w) ++ 10 ∷ [] else
-    codes "data " ++ hex_word w ++ 10 ∷ []
+    if code_of (command_by w) == w then codes "cmd " ++ command_name_of (command_by w) ++ line_end_byte ∷ [] else
+    codes "data " ++ hex_word w ++ line_end_byte ∷ []

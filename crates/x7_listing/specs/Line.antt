@@ -10,6 +10,14 @@ use Rattle.x7_packets.specs.PacketWords.{no_op, sync_word, type1_read_header, ty
 use Rattle.x7_text.specs.Digits.{hex_byte, hex_word}
 use Rattle.x7_text.specs.Row.{IsByteRow, IsWordRow, spaced}
 
+-- the byte of a space
+abbrev pub space_byte : ℕ
+space_byte = 32
+
+-- the byte that ends a line
+abbrev pub line_end_byte : ℕ
+line_end_byte = 10
+
 -- a line: nothing, a comment, bytes, a header word, payload words, a command, or
 -- the check of the bytes of the lines before
 pub data Line : Type 0 where
@@ -33,7 +41,7 @@ IsType1 a = (a.0 < 32) × (a.1 < 2 ^ 11)
 
 -- the fields of a type 1 header as text: the register's name, a space and the word count
 abbrev pub type1_text : ℕ × ℕ → List ℕ
-type1_text a = reg_name a.0 ++ 32 ∷ decimal a.1
+type1_text a = reg_name a.0 ++ space_byte ∷ decimal a.1
 
 -- the text of a line, without its end
 abbrev pub text_of : Line → List ℕ
@@ -103,7 +111,7 @@ cmd_line w = if code_of (command_by w) == w then Cmd (command_by w) else Data (w
 
 -- the text of a line with its end
 abbrev pub ended_text : Line → List ℕ
-ended_text l = text_of l ++ 10 ∷ []
+ended_text l = text_of l ++ line_end_byte ∷ []
 
 -- the texts of lines, each with its end
 abbrev pub ended_texts : List Line → List ℕ

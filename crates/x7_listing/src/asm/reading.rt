@@ -8,7 +8,7 @@ ghost use Rattle.x7_packets.specs.PacketWords.{type1_read_header, type1_write_he
 ghost use Rattle.x7_text.specs.Appends.{Appends};
 ghost use Rattle.x7_text.specs.Digits.{hex_word};
 ghost use Rattle.x7_listing.specs.Assembling.{HasRoomForLine};
-ghost use Rattle.x7_listing.specs.Line.{type1_text, line_bytes, FitsLine, IsType1, IsPlain, text_of};
+ghost use Rattle.x7_listing.specs.Line.{type1_text, line_bytes, FitsLine, IsType1, IsPlain, text_of, space_byte};
 ghost use Rattle.x7_listing.specs.BitLine.{IsFirstSpace};
 ghost use Rattle.x7_listing.specs.OneWord.{IsWordOf, PutsWord};
 ghost use Rattle.x7_text.specs.Reads.{Reads, StaysWithin};
@@ -33,7 +33,7 @@ const TYPE2_COUNTS: u32 = 1 << 27;
 /// The place of the first space, if one stands among the first ten bytes, which the name of a register never fills.
 #[inline(always)]
 fn space_in(text: &[u8]) -> Option<usize>
-    ensures { MatchOption result ((j : ℕ) → j < 10 → j < length text.now → slice_index text.now j ≢ 32)
+    ensures { MatchOption result ((j : ℕ) → j < 10 → j < length text.now → slice_index text.now j ≢ space_byte)
         (IsFirstSpace text.now) }
 {
     let most = text.len().min(10);
@@ -47,8 +47,8 @@ fn space_in(text: &[u8]) -> Option<usize>
 
 /// The number of the register whose name stands before the first space, and what stands after the space.
 fn register_before(text: &[u8]) -> Option<(u8, &[u8])>
-    ensures { MatchOption result ((n : ℕ) (rest : List ℕ) → n < 32 → text.now ≢ reg_name n ++ 32 ∷ rest)
-        (λ r. (r.0 < 32) × (text.now ≡ reg_name r.0 ++ 32 ∷ r.1.now)) }
+    ensures { MatchOption result ((n : ℕ) (rest : List ℕ) → n < 32 → text.now ≢ reg_name n ++ space_byte ∷ rest)
+        (λ r. (r.0 < 32) × (text.now ≡ reg_name r.0 ++ space_byte ∷ r.1.now)) }
 {
     let Some(at) = space_in(text) else {
         return None;

@@ -12,6 +12,7 @@ ghost use Rattle.x7_listing.specs.Fast.AtOnce.{command_lines};
 ghost use Rattle.x7_listing.specs.Fast.OnSheet.{ShowsWords, ListsMoreAfter, on_sheet, one_write_lines_size, head_line_size, short_write_lines_size, nop_lines_size, gap_lines_size};
 ghost use Rattle.x7_listing.specs.Fast.TakingAtOnce.{TakesAtOnce, TakesOnSheet};
 ghost use Rattle.x7_listing.specs.HeadLine.{text_of_head};
+ghost use Rattle.x7_listing.specs.Line.{line_end_byte};
 ghost use Rattle.x7_listing.specs.Pens.{TakesHead, ListsMore, lister_with};
 ghost use Rattle.x7_listing.specs.declared.list.pen.state.Pen.{Pen};
 ghost use Rattle.x7_listing.specs.Lister.{in_line_after_words, open_words};
@@ -104,7 +105,7 @@ fn put_count(sheet: &mut [u8; SHEET_SIZE], len: usize, count: usize) -> usize
     requires two_digits { count < 20 }
     requires room { len + 3 ≤ SHEET_SIZE }
     ensures within { result ≤ len + 3 }
-    ensures appends { take result sheet.new ≡ take len sheet.old ++ (decimal count ++ 10 ∷ []) }
+    ensures appends { take result sheet.new ≡ take len sheet.old ++ (decimal count ++ line_end_byte ∷ []) }
 {
     if count < 10 {
         return put_whole(sheet, len, &[b'0' + count as u8, b'\n']);
