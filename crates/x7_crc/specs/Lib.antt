@@ -1,6 +1,6 @@
-pub mod Checker
-pub mod Table
-pub mod RunningCheck
-pub mod Polynomial
 pub mod Check
+pub mod Checker
+pub mod Polynomial
+pub mod RunningCheck
 pub mod ShiftRegister
+pub mod Table

@@ -12,7 +12,7 @@ use x7_words::word_of;
 pub fn fold(before: u32, register: u8, word: u32) -> u32
     requires { register < 32 }
     ensures value { result ≡ check_after before ((register, word) ∷ []) }
-    ensures last { (writes : List (ℕ × ℕ)) → before ≡ check_of writes → result ≡ check_of (writes ++ (register, word) ∷ []) }
+    ensures goes_on { (writes : List (ℕ × ℕ)) → before ≡ check_of writes → result ≡ check_of (writes ++ (register, word) ∷ []) }
     ensures linear { result ≡ check_after 0 ((register, bit_xor word before) ∷ []) }
 {
     fold_by_tables(before, register, word)
@@ -23,7 +23,7 @@ pub fn fold_slice(before: u32, register: u8, bytes: &[u8]) -> u32
     requires register { register < 32 }
     requires whole { length bytes.now % 4 ≡ 0 }
     ensures value { result ≡ check_after before (writes_to register (words_of_bytes bytes.now)) }
-    ensures last { (writes : List (ℕ × ℕ)) → before ≡ check_of writes → result ≡ check_of (writes ++ writes_to register (words_of_bytes bytes.now)) }
+    ensures goes_on { (writes : List (ℕ × ℕ)) → before ≡ check_of writes → result ≡ check_of (writes ++ writes_to register (words_of_bytes bytes.now)) }
 {
     let (blocks, rest) = bytes.as_chunks::<16>();
     fold_words(fold_blocks(before, register, blocks), register, rest)
@@ -60,7 +60,7 @@ fn fold_words(before: u32, register: u8, bytes: &[u8]) -> u32
 /// The four words of a block.
 fn words_of(block: &[u8; 16]) -> [u32; 4]
     ensures value { result ≡ words_of_bytes block.now }
-    ensures four { length result ≡ 4 }
+    ensures length { length result ≡ 4 }
 {
     let [a, b, c, d, e, f, g, h, i, j, k, l, m, n, o, p] = *block;
     [

@@ -68,8 +68,8 @@ fn steers_check(reg: Reg) -> bool
 
 /// The register with this number, where a write to it may do more than lengthen the check.
 fn steering_register(register: u8) -> Option<Reg>
-    ensures some { IfSome result (λ reg. number_of reg ≡ register) }
-    ensures none { IfNone result (steers_check register ≡ false) }
+    ensures number { IfSome result (λ reg. number_of reg ≡ register) }
+    ensures not_steering { IfNone result (steers_check register ≡ false) }
 {
     match reg_of(register) {
         Some(reg) if steers_check(reg) => Some(reg),

@@ -11,7 +11,7 @@ ghost use Rattle.x7_crc.specs.Check.{bits_of_writes, check_after, check_of, chec
 /// The check of writes is the remainder, by the polynomial of CRC-32C, of their bits times x^32; so it is after any
 /// check before them, whose polynomial is added above; and nothing else is.
 pub fn checks_are_remainders()
-    ensures fits { (before : ℕ) (writes : List (ℕ × ℕ)) → check_after before writes < 2 ^ 32 }
+    ensures most { (before : ℕ) (writes : List (ℕ × ℕ)) → check_after before writes < 2 ^ 32 }
     ensures remainder { (writes : List (ℕ × ℕ)) → IsRemainder (from_highest (bits_of_writes writes) * 2 ^ 32) generator 32 (mirrored 32 (check_of writes)) }
     ensures continued { (before : ℕ) (writes : List (ℕ × ℕ)) → before < 2 ^ 32 → IsCheckAfter before writes (check_after before writes) }
     ensures only { (before check : ℕ) (writes : List (ℕ × ℕ)) → before < 2 ^ 32 → check < 2 ^ 32 → IsCheckAfter before writes check → check ≡ check_after before writes }
@@ -19,7 +19,7 @@ pub fn checks_are_remainders()
 
 /// The check of no writes is the check before them, and writes in two parts have the check of both.
 pub fn checks_continue()
-    ensures none { (before : ℕ) → before < 2 ^ 32 → check_after before [] ≡ before }
+    ensures no_writes { (before : ℕ) → before < 2 ^ 32 → check_after before [] ≡ before }
     ensures parts { (before : ℕ) (first second : List (ℕ × ℕ)) → before < 2 ^ 32 → check_after before (first ++ second) ≡ check_after (check_after before first) second }
 {}
 

@@ -4,7 +4,7 @@ use Rattle.std.proofs.lemmas.Bool.Decides.{nat_tests}
 use Rattle.std.proofs.lemmas.Grind.{flat_map-append}
 use Rattle.std.specs.List.{flat_map}
 use Rattle.x7_words.specs.Word.{AreWords}
-use Rattle.x7_packets.specs.PacketWords.{no_op, type1_read, type1_write, type2_read, type2_write}
+use Rattle.x7_packets.specs.PacketWords.{no_op, type1_read_header, type1_write_header, type2_read_header, type2_write_header}
 use Rattle.x7_packets.specs.declared.header.Step.{Step}
 use Rattle.x7_packets.specs.declared.header.Step.TheVariants as step
 use Rattle.x7_packets.specs.Packet.{Packet, EachPacket, IsPacket, IsWhole, NoneEnds, OnlyLastEnds, latest_after, count_of, named_by, words, payload_steps, stepped, meaning, ended, last_ends}
@@ -15,16 +15,16 @@ use Rattle.x7_packets.proofs.HistoryLemmas.{entered_all_append}
 use Rattle.x7_effects.proofs.Items.{Item, Noop, Dummy, Write, WriteLong, Read, ReadLong, item_words, items_words, IsItem, AreItems, writes_entered, item_entered, items_entered}
 
 -- what header words mean
-pub write_means : (latest : Option ℕ) (r n : ℕ) → r < 2 ^ 5 → n < 2 ^ 11 → meaning latest (type1_write r n) ≡ step.Open r n
+pub write_means : (latest : Option ℕ) (r n : ℕ) → r < 2 ^ 5 → n < 2 ^ 11 → meaning latest (type1_write_header r n) ≡ step.Open r n
 write_means latest r n f g = grind (arith, nat_tests)
 
-pub read_means : (latest : Option ℕ) (r n : ℕ) → r < 2 ^ 5 → n < 2 ^ 11 → meaning latest (type1_read r n) ≡ step.Read r n
+pub read_means : (latest : Option ℕ) (r n : ℕ) → r < 2 ^ 5 → n < 2 ^ 11 → meaning latest (type1_read_header r n) ≡ step.Read r n
 read_means latest r n f g = grind (arith, nat_tests)
 
-pub long_write_means : (r n : ℕ) → n < 2 ^ 27 → meaning (Some r) (type2_write n) ≡ step.Open r n
+pub long_write_means : (r n : ℕ) → n < 2 ^ 27 → meaning (Some r) (type2_write_header n) ≡ step.Open r n
 long_write_means r n g = grind (arith, nat_tests)
 
-pub long_read_means : (r n : ℕ) → n < 2 ^ 27 → meaning (Some r) (type2_read n) ≡ step.Read r n
+pub long_read_means : (r n : ℕ) → n < 2 ^ 27 → meaning (Some r) (type2_read_header n) ≡ step.Read r n
 long_read_means r n g = grind (arith, nat_tests)
 
 -- the packets of an item
@@ -34,10 +34,10 @@ packet head s payload = record { head = head; step = s; payload = payload }
 abbrev pub item_packets : Item → List Packet
 item_packets Noop = packet no_op step.Nop [] ∷ []
 item_packets Dummy = packet 0xFFFFFFFF step.Filler [] ∷ []
-item_packets (Write r ws) = packet (type1_write r (length ws)) (step.Open r (length ws)) ws ∷ []
-item_packets (WriteLong r ws) = packet (type1_write r 0) (step.Open r 0) [] ∷ packet (type2_write (length ws)) (step.Open r (length ws)) ws ∷ []
-item_packets (Read r n) = packet (type1_read r n) (step.Read r n) [] ∷ []
-item_packets (ReadLong r n) = packet (type1_read r 0) (step.Read r 0) [] ∷ packet (type2_read n) (step.Read r n) [] ∷ []
+item_packets (Write r ws) = packet (type1_write_header r (length ws)) (step.Open r (length ws)) ws ∷ []
+item_packets (WriteLong r ws) = packet (type1_write_header r 0) (step.Open r 0) [] ∷ packet (type2_write_header (length ws)) (step.Open r (length ws)) ws ∷ []
+item_packets (Read r n) = packet (type1_read_header r n) (step.Read r n) [] ∷ []
+item_packets (ReadLong r n) = packet (type1_read_header r 0) (step.Read r 0) [] ∷ packet (type2_read_header n) (step.Read r n) [] ∷ []
 
 abbrev pub items_packets : List Item → List Packet
 items_packets items = flat_map item_packets items
@@ -65,17 +65,17 @@ full_whole w r ws n = record { all = refl; none_ends = n }
 item_whole : (l : Option ℕ) (i : Item) → IsItem i → AllWhole l (item_packets i)
 item_whole l Noop f = (bare l no_op step.Nop (omega arith) refl, bare_whole no_op step.Nop refl, tt)
 item_whole l Dummy f = (bare l 0xFFFFFFFF step.Filler (omega arith) refl, bare_whole 0xFFFFFFFF step.Filler refl, tt)
-item_whole l (Write r ws) f = (full l (type1_write r (length ws)) r ws (omega (arith, f.0, f.1)) (sym (write_means l r (length ws) f.0 f.1)) f.2 f.3, full_whole (type1_write r (length ws)) r ws f.3, tt)
+item_whole l (Write r ws) f = (full l (type1_write_header r (length ws)) r ws (omega (arith, f.0, f.1)) (sym (write_means l r (length ws) f.0 f.1)) f.2 f.3, full_whole (type1_write_header r (length ws)) r ws f.3, tt)
 item_whole l (WriteLong r ws) f = (
-  bare l (type1_write r 0) (step.Open r 0) (omega (arith, f.0)) (sym (write_means l r 0 f.0 (omega arith))),
-  bare_whole (type1_write r 0) (step.Open r 0) refl,
-  (full (Some r) (type2_write (length ws)) r ws (omega (arith, f.1)) (sym (long_write_means r (length ws) f.1)) f.2 f.3, full_whole (type2_write (length ws)) r ws f.3, tt),
+  bare l (type1_write_header r 0) (step.Open r 0) (omega (arith, f.0)) (sym (write_means l r 0 f.0 (omega arith))),
+  bare_whole (type1_write_header r 0) (step.Open r 0) refl,
+  (full (Some r) (type2_write_header (length ws)) r ws (omega (arith, f.1)) (sym (long_write_means r (length ws) f.1)) f.2 f.3, full_whole (type2_write_header (length ws)) r ws f.3, tt),
 )
-item_whole l (Read r n) f = (bare l (type1_read r n) (step.Read r n) (omega (arith, f.0, f.2)) (sym (read_means l r n f.0 f.2)), bare_whole (type1_read r n) (step.Read r n) refl, tt)
+item_whole l (Read r n) f = (bare l (type1_read_header r n) (step.Read r n) (omega (arith, f.0, f.2)) (sym (read_means l r n f.0 f.2)), bare_whole (type1_read_header r n) (step.Read r n) refl, tt)
 item_whole l (ReadLong r n) f = (
-  bare l (type1_read r 0) (step.Read r 0) (omega (arith, f.0)) (sym (read_means l r 0 f.0 (omega arith))),
-  bare_whole (type1_read r 0) (step.Read r 0) refl,
-  (bare (Some r) (type2_read n) (step.Read r n) (omega (arith, f.2)) (sym (long_read_means r n f.2)), bare_whole (type2_read n) (step.Read r n) refl, tt),
+  bare l (type1_read_header r 0) (step.Read r 0) (omega (arith, f.0)) (sym (read_means l r 0 f.0 (omega arith))),
+  bare_whole (type1_read_header r 0) (step.Read r 0) refl,
+  (bare (Some r) (type2_read_header n) (step.Read r n) (omega (arith, f.2)) (sym (long_read_means r n f.2)), bare_whole (type2_read_header n) (step.Read r n) refl, tt),
 )
 
 whole_append : (l : Option ℕ) (ps qs : List Packet) → AllWhole l ps → ((k : Option ℕ) → AllWhole k qs) → AllWhole l (ps ++ qs)
@@ -106,8 +106,8 @@ whole_goes_on l (p ∷ q ∷ ps) a = whole_goes_on (latest_after l p.step) (q �
 pub item_same : (i : Item) → flat_map words (item_packets i) ≡ item_words i
 item_same Noop = refl
 item_same Dummy = refl
-item_same (Write r ws) = ap (λ t. type1_write r (length ws) ∷ t) (append-nil ws)
-item_same (WriteLong r ws) = ap (λ t. type1_write r 0 ∷ type2_write (length ws) ∷ t) (append-nil ws)
+item_same (Write r ws) = ap (λ t. type1_write_header r (length ws) ∷ t) (append-nil ws)
+item_same (WriteLong r ws) = ap (λ t. type1_write_header r 0 ∷ type2_write_header (length ws) ∷ t) (append-nil ws)
 item_same (Read r n) = refl
 item_same (ReadLong r n) = refl
 

@@ -3,7 +3,7 @@ use Rattle.std.specs.Prelude.{ℕ, ◌+◌, ◌*◌, ◌^◌, ◌<◌, List, [],
 use Rattle.std.specs.List.{flat_map, AllByRecursion}
 use Rattle.x7_words.specs.Word.{AreWords, bytes_of_word}
 use Rattle.x7_packets.specs.Appended.{LacksFirst}
-use Rattle.x7_packets.specs.PacketWords.{bus_width_detect, bus_width_sync, dummy_word, no_op, sync_word, type1_read, type1_write, type2_read, type2_write}
+use Rattle.x7_packets.specs.PacketWords.{bus_width_detect, bus_width_sync, dummy_word, no_op, sync_word, type1_read_header, type1_write_header, type2_read_header, type2_write_header}
 use Rattle.x7_packets.specs.Packet.{NoneEnds}
 use Rattle.x7_packets.specs.History as access
 use Rattle.x7_packets.specs.History.{History, entry}
@@ -22,10 +22,10 @@ pub data Item : Type 0 where
 abbrev pub item_words : Item → List ℕ
 item_words Noop = no_op ∷ []
 item_words Dummy = dummy_word ∷ []
-item_words (Write register ws) = type1_write register (length ws) ∷ ws
-item_words (WriteLong register ws) = type1_write register 0 ∷ type2_write (length ws) ∷ ws
-item_words (Read register count) = type1_read register count ∷ []
-item_words (ReadLong register count) = type1_read register 0 ∷ type2_read count ∷ []
+item_words (Write register ws) = type1_write_header register (length ws) ∷ ws
+item_words (WriteLong register ws) = type1_write_header register 0 ∷ type2_write_header (length ws) ∷ ws
+item_words (Read register count) = type1_read_header register count ∷ []
+item_words (ReadLong register count) = type1_read_header register 0 ∷ type2_read_header count ∷ []
 
 abbrev pub items_words : List Item → List ℕ
 items_words items = flat_map item_words items

@@ -123,7 +123,7 @@ closing = Check ∷ command Lfrm ∷ command Start ∷ Check ∷ []
 abbrev words_before : PartData → ℕ → List ℕ
 words_before part count =
     planner.opening_words ++ ((packet_words.command Shutdown) ++ ((packet_words.command Rcrc) ++ (packet_words.no_op ∷ (packet_words.write_one Idcode part.idcode ++ (packet_words.write_one Cor0 0x02003FE5 ++ (packet_words.write_one Mask 0x501 ++ (packet_words.write_one Ctl0 0x101
-    ++ ((packet_words.command Wcfg) ++ (packet_words.write_one Far (get_or (addresses_in part) 0 0) ++ packet_words.frame_data count)))))))))
+    ++ ((packet_words.command Wcfg) ++ (packet_words.write_one Far (get_or (addresses_in part) 0 0) ++ packet_words.frame_data_headers count)))))))))
 
 opening_same : (part : PartData) (ws : List ℕ) → opened bus_width_head (with_checks at_first (opening part ws)) ≡ words_before part (length ws) ++ (ws ++ [])
 opening_same part ws = refl
@@ -175,13 +175,13 @@ HasWidth part (section.Rows rows) = AllByRecursion (λ row. length row.words ≡
 section_spelled : (part : PartData) (c : Checking) (s : Section) → HasWidth part s → items_words (with_checks c (section_pieces part s)) ≡ section_words part s
 section_spelled part c (section.Copies words fars) w =
     let first : Checking = after_pieces c (command Wcfg ∷ one Far (get_or fars 0 0) ∷ Put (WriteLong (number_of Fdri) words) ∷ command Mfw ∷ []) in
-    ap (λ t. (packet_words.command Wcfg) ++ (packet_words.write_one Far (get_or fars 0 0) ++ (packet_words.frame_data (length words) ++ (words ++ ((packet_words.command Mfw) ++ t))))) (copies_spelled first fars)
-    ∙ ap (λ (k : ℕ). (packet_words.command Wcfg) ++ (packet_words.write_one Far (get_or fars 0 0) ++ (packet_words.frame_data k ++ (words ++ ((packet_words.command Mfw) ++ flat_map copy_words fars))))) w
+    ap (λ t. (packet_words.command Wcfg) ++ (packet_words.write_one Far (get_or fars 0 0) ++ (packet_words.frame_data_headers (length words) ++ (words ++ ((packet_words.command Mfw) ++ t))))) (copies_spelled first fars)
+    ∙ ap (λ (k : ℕ). (packet_words.command Wcfg) ++ (packet_words.write_one Far (get_or fars 0 0) ++ (packet_words.frame_data_headers k ++ (words ++ ((packet_words.command Mfw) ++ flat_map copy_words fars))))) w
 section_spelled part c (section.Rows rows) w =
     let ws : List ℕ = joined (row_frames rows ++ zero_frame part ∷ []) in
     let far : ℕ = get_or (planned_addresses rows) 0 0 in
-    ap (λ t. (packet_words.command Wcfg) ++ (packet_words.write_one Far far ++ (packet_words.frame_data (length ws) ++ t))) (append-nil ws ∙ run_words part rows)
-    ∙ ap (λ (k : ℕ). (packet_words.command Wcfg) ++ (packet_words.write_one Far far ++ (packet_words.frame_data k ++ (frames_words rows ++ zero_frame part)))) (run_length part rows w)
+    ap (λ t. (packet_words.command Wcfg) ++ (packet_words.write_one Far far ++ (packet_words.frame_data_headers (length ws) ++ t))) (append-nil ws ∙ run_words part rows)
+    ∙ ap (λ (k : ℕ). (packet_words.command Wcfg) ++ (packet_words.write_one Far far ++ (packet_words.frame_data_headers k ++ (frames_words rows ++ zero_frame part)))) (run_length part rows w)
 
 sections_spelled : (part : PartData) (c : Checking) (sections : List Section) → AllByRecursion (HasWidth part) sections → items_words (with_checks c (sections_pieces part sections)) ≡ flat_map (section_words part) sections
 sections_spelled part c [] w = refl

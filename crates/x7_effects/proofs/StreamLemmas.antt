@@ -5,7 +5,7 @@ use Rattle.std.specs.List.{flat_map}
 use Rattle.x7_words.specs.Word.{AreBytes, bytes_of_word}
 use Rattle.x7_words.proofs.ListLemmas.{all_append}
 use Rattle.x7_packets.specs.SyncWord.{sync_bytes}
-use Rattle.x7_packets.specs.PacketWords.{no_op, sync_word, type1_write}
+use Rattle.x7_packets.specs.PacketWords.{no_op, sync_word, type1_write_header}
 use Rattle.x7_packets.specs.declared.header.Step.TheVariants as step
 use Rattle.x7_packets.specs.Packet.{Packet, IsPacket, words, stepped, latest_of}
 use Rattle.x7_packets.specs.Machine.{AllWhole}
@@ -56,32 +56,32 @@ opened_history leading items m f =
     ∙ ap (λ (x : ℕ). entered_all x (flat_map stepped (items_packets items)) []) (omega (arith, bytes_count leading))
     ∙ items_enter (4 * length leading + 4) items [] f
 
-is_last : (l : Option ℕ) → IsPacket l (packet (type1_write 4 1) (step.Open 4 1) (13 ∷ []))
+is_last : (l : Option ℕ) → IsPacket l (packet (type1_write_header 4 1) (step.Open 4 1) (13 ∷ []))
 is_last l = record { fits = (omega arith, (omega arith, tt)); means = sym (write_means l 4 1 (omega arith) (omega arith)); most = omega arith; goes_on = tt }
 
 -- the session of items that DESYNC ends
 abbrev pub session_of : List ℕ → List Item → Session
-session_of leading items = record { gap = bytes_of_words leading; packets = items_packets items ++ packet (type1_write 4 1) (step.Open 4 1) (13 ∷ []) ∷ [] }
+session_of leading items = record { gap = bytes_of_words leading; packets = items_packets items ++ packet (type1_write_header 4 1) (step.Open 4 1) (13 ∷ []) ∷ [] }
 
 is_session : (leading : List ℕ) (items : List Item) → MayLead leading → AreItems items → IsSession (session_of leading items)
 is_session leading items m f = record {
   first = first_without (bytes_of_words leading) m.lacks;
-  packets = each_more None (items_packets items) (packet (type1_write 4 1) (step.Open 4 1) (13 ∷ [])) (items_whole None items f) (is_last (latest_of None (items_packets items)));
-  ended = ended_more (items_packets items) (packet (type1_write 4 1) (step.Open 4 1) (13 ∷ []));
+  packets = each_more None (items_packets items) (packet (type1_write_header 4 1) (step.Open 4 1) (13 ∷ [])) (items_whole None items f) (is_last (latest_of None (items_packets items)));
+  ended = ended_more (items_packets items) (packet (type1_write_header 4 1) (step.Open 4 1) (13 ∷ []));
 }
 
-session_words : (items : List Item) → items_words (items ++ desync ∷ []) ≡ flat_map words (items_packets items ++ packet (type1_write 4 1) (step.Open 4 1) (13 ∷ []) ∷ [])
+session_words : (items : List Item) → items_words (items ++ desync ∷ []) ≡ flat_map words (items_packets items ++ packet (type1_write_header 4 1) (step.Open 4 1) (13 ∷ []) ∷ [])
 session_words items =
     flat_map-append item_words items (desync ∷ [])
     ∙ ap (λ t. t ++ item_words desync) (sym (items_same items))
-    ∙ sym (flat_map-append words (items_packets items) (packet (type1_write 4 1) (step.Open 4 1) (13 ∷ []) ∷ []))
+    ∙ sym (flat_map-append words (items_packets items) (packet (type1_write_header 4 1) (step.Open 4 1) (13 ∷ []) ∷ []))
 
 pub closed_reading : (leading : List ℕ) (items : List Item) (k : ℕ) → MayLead leading → AreItems items
     → IsReading (bytes_of_words (closed leading items k)) (session_of leading items ∷ []) (Searching (bytes_of_words (replicate k no_op)))
 closed_reading leading items k m f =
     let gap : List ℕ = bytes_of_words leading in
     let rest : List ℕ = bytes_of_words (replicate k no_op) in
-    let ps : List Packet = items_packets items ++ packet (type1_write 4 1) (step.Open 4 1) (13 ∷ []) ∷ [] in
+    let ps : List Packet = items_packets items ++ packet (type1_write_header 4 1) (step.Open 4 1) (13 ∷ []) ∷ [] in
     let regrouped : (gap ++ (sync_bytes ++ packet_bytes ps)) ++ rest ≡ ((gap ++ sync_bytes ++ packet_bytes ps) ++ []) ++ rest = simp (append_assoc, append-nil) in
     record {
       fits = bytes_fit (closed leading items k);
@@ -103,7 +103,7 @@ pub closed_history : (leading : List ℕ) (items : List Item) (k : ℕ) → MayL
 closed_history leading items k m f =
     let n : ℕ = 4 * length leading + 4 in
     let ps : List Packet = items_packets items in
-    let d : Packet = packet (type1_write 4 1) (step.Open 4 1) (13 ∷ []) in
+    let d : Packet = packet (type1_write_header 4 1) (step.Open 4 1) (13 ∷ []) in
     sym (history_is (bytes_of_words (closed leading items k)) (session_of leading items ∷ []) (Searching (bytes_of_words (replicate k no_op))) (closed_reading leading items k m f))
     ∙ ap (λ (x : ℕ). entered_all x (flat_map stepped (ps ++ d ∷ [])) []) (omega (arith, bytes_count leading))
     ∙ ap (λ t. entered_all n t []) (flat_map-append stepped ps (d ∷ []))

@@ -2,7 +2,7 @@
 use Rattle.std.proofs.Common.{◌≡◌, ◌+◌, ◌-◌, ℕ, Bool, None, List, [], ◌∷◌, ◌++◌, length, take, drop, refl, ap, sym, subst, ◌∙◌, append_assoc, append-nil, arith, length-append}
 use Rattle.std.proofs.lemmas.List.{length-take-le, take-append-drop, take_rest}
 use Rattle.x7_words.specs.Word.{AreBytes, bytes_of_word}
-use Rattle.x7_packets.specs.PacketWords.{type1_write}
+use Rattle.x7_packets.specs.PacketWords.{type1_write_header}
 use Rattle.x7_packets.specs.declared.cutter.Cut.TheVariants as run
 use Rattle.x7_packets.specs.declared.header.Step.TheVariants as step
 use Rattle.x7_packets.specs.AtOnce.{WritesOne}
@@ -38,13 +38,13 @@ record Written (c : CutterState) (bytes more : List ℕ) (register w : ℕ) : Ty
 
 written_one : (c n : CutterState) (bytes rest : List ℕ) (register w : ℕ) → IsCutterOf c bytes → WritesOne c n rest register w → Written n bytes (take 8 rest) register w
 written_one c n bytes rest register w cutter one =
-    let head : List ℕ = bytes_of_word (type1_write register 1) in
+    let head : List ℕ = bytes_of_word (type1_write_header register 1) in
     let word : List ℕ = bytes_of_word w in
-    let first : AfterRun c one.middle (bytes ++ head) cutter.sessions cutter.place (run.Head (type1_write register 1) (step.Open register 1)) = one.head bytes cutter.sessions cutter.place cutter.stands in
+    let first : AfterRun c one.middle (bytes ++ head) cutter.sessions cutter.place (run.Head (type1_write_header register 1) (step.Open register 1)) = one.head bytes cutter.sessions cutter.place cutter.stands in
     let next : AfterRun one.middle n ((bytes ++ head) ++ word) first.new_sessions first.new_place (run.Word register w) = one.word (bytes ++ head) first.new_sessions first.new_place first.stands in
     let joined : (bytes ++ head) ++ word ≡ bytes ++ take 8 rest = append_assoc bytes head word ∙ ap (λ (t : List ℕ). bytes ++ t) (sym one.bytes) in
     let quiet : history_of (bytes ++ head) ≡ history_of bytes =
-    cut_enters c one.middle bytes head cutter.sessions cutter.place (run.Head (type1_write register 1) (step.Open register 1)) (next_word cutter.sessions cutter.place) cutter.stands first (next_word_is bytes cutter.sessions cutter.place cutter.stands.reading) in
+    cut_enters c one.middle bytes head cutter.sessions cutter.place (run.Head (type1_write_header register 1) (step.Open register 1)) (next_word cutter.sessions cutter.place) cutter.stands first (next_word_is bytes cutter.sessions cutter.place cutter.stands.reading) in
     let from : ℕ = next_word first.new_sessions first.new_place in
     let place : from + 4 ≡ length bytes + 8 = omega (arith, word_ends one.middle n (bytes ++ head) word first.new_sessions first.new_place register w first.stands next, length-append bytes head) in
     let longer : history_of ((bytes ++ head) ++ word) ≡ entry (Write register w) (from + 4) ∷ history_of (bytes ++ head) =

@@ -136,7 +136,7 @@ listed_long true line held all start place m t p = omega (arith, ap length (sure
 pub few_taken : (l : ListerState) (given before bytes : List ℕ) (due : Mode) → TakerStandsFor l given before bytes due → length before + length bytes ≤ length (given ++ l.text) + 4
 few_taken l given before bytes due t =
     let r = t.reading in
-    omega (arith, listed_long l.synced l.in_line l.held (given ++ l.text) (before ++ flat_map session_text t.sessions) t.at due t.listed r.ends, length-append before (flat_map session_text t.sessions), ap length r.joined, length-append (flat_map session_bytes t.sessions) (place_bytes t.at), sessions_long t.sessions r.each)
+    omega (arith, listed_long l.is_synced l.in_line l.held (given ++ l.text) (before ++ flat_map session_text t.sessions) t.at due t.listed r.ends, length-append before (flat_map session_text t.sessions), ap length r.joined, length-append (flat_map session_bytes t.sessions) (place_bytes t.at), sessions_long t.sessions r.each)
 
 -- ---- how little is held back
 

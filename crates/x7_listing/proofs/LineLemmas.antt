@@ -9,7 +9,7 @@ use Rattle.x7_regs.specs.Command.{code_of, command_name_of, command_with}
 use Rattle.x7_regs.specs.declared.command.Command.{Command}
 use Rattle.x7_text.specs.Digits.{hex_byte, hex_word}
 use Rattle.x7_text.specs.Row.{spaced}
-use Rattle.x7_packets.specs.PacketWords.{type1_read, type1_write, type2_read, type2_write}
+use Rattle.x7_packets.specs.PacketWords.{type1_read_header, type1_write_header, type2_read_header, type2_write_header}
 use Rattle.x7_listing.specs.Line.{Line, Empty, Comment, Bytes, Sync, Nop, Write, Read, Write2, Read2, Word, Data, Cmd, Check, type1_text, line_bytes, FitsLine, IsType1, IsLine, IsPlain, text_of}
 use Rattle.x7_listing.specs.OneWord.{IsWordOf, PutsWord}
 use Rattle.x7_text.specs.Row.{IsByteRow, IsWordRow}
@@ -51,17 +51,17 @@ module _ (check : ℕ) (b : Bool) (t rest old new : List ℕ) where
     pub cmd_line : t ≡ codes "cmd " ++ rest → IsWordOf (λ (c : Command). Unit {0}) command_name_of code_of rest found → Reads FitsLine text_of (line_bytes check) b t old new
     cmd_line e i = lift (λ (c : Command). Unit {0}) command_name_of (λ c. bytes_of_word (code_of c)) check (codes "cmd ") Cmd b t rest old new e (λ x h. h) (λ x h. h) (λ x. refl) (λ x. refl) (λ l i. (command_with (place_in command_names rest), line_is _ l i)) (found_read (λ (c : Command). Unit {0}) command_name_of code_of found b rest old new i put)
 
-    pub write_line : t ≡ codes "write " ++ rest → IsWordOf IsType1 type1_text (λ (a : ℕ × ℕ). type1_write a.0 a.1) rest found → Reads FitsLine text_of (line_bytes check) b t old new
-    write_line e i = lift IsType1 type1_text (λ (a : ℕ × ℕ). bytes_of_word (type1_write a.0 a.1)) check (codes "write ") (λ (a : ℕ × ℕ). Write a.0 a.1) b t rest old new e (λ x h. h) (λ x h. h) (λ x. refl) (λ x. refl) (λ l i. ((register_in rest, count_in rest), line_is _ l i)) (found_read IsType1 type1_text (λ (a : ℕ × ℕ). type1_write a.0 a.1) found b rest old new i put)
+    pub write_line : t ≡ codes "write " ++ rest → IsWordOf IsType1 type1_text (λ (a : ℕ × ℕ). type1_write_header a.0 a.1) rest found → Reads FitsLine text_of (line_bytes check) b t old new
+    write_line e i = lift IsType1 type1_text (λ (a : ℕ × ℕ). bytes_of_word (type1_write_header a.0 a.1)) check (codes "write ") (λ (a : ℕ × ℕ). Write a.0 a.1) b t rest old new e (λ x h. h) (λ x h. h) (λ x. refl) (λ x. refl) (λ l i. ((register_in rest, count_in rest), line_is _ l i)) (found_read IsType1 type1_text (λ (a : ℕ × ℕ). type1_write_header a.0 a.1) found b rest old new i put)
 
-    pub read_line : t ≡ codes "read " ++ rest → IsWordOf IsType1 type1_text (λ (a : ℕ × ℕ). type1_read a.0 a.1) rest found → Reads FitsLine text_of (line_bytes check) b t old new
-    read_line e i = lift IsType1 type1_text (λ (a : ℕ × ℕ). bytes_of_word (type1_read a.0 a.1)) check (codes "read ") (λ (a : ℕ × ℕ). Read a.0 a.1) b t rest old new e (λ x h. h) (λ x h. h) (λ x. refl) (λ x. refl) (λ l i. ((register_in rest, count_in rest), line_is _ l i)) (found_read IsType1 type1_text (λ (a : ℕ × ℕ). type1_read a.0 a.1) found b rest old new i put)
+    pub read_line : t ≡ codes "read " ++ rest → IsWordOf IsType1 type1_text (λ (a : ℕ × ℕ). type1_read_header a.0 a.1) rest found → Reads FitsLine text_of (line_bytes check) b t old new
+    read_line e i = lift IsType1 type1_text (λ (a : ℕ × ℕ). bytes_of_word (type1_read_header a.0 a.1)) check (codes "read ") (λ (a : ℕ × ℕ). Read a.0 a.1) b t rest old new e (λ x h. h) (λ x h. h) (λ x. refl) (λ x. refl) (λ l i. ((register_in rest, count_in rest), line_is _ l i)) (found_read IsType1 type1_text (λ (a : ℕ × ℕ). type1_read_header a.0 a.1) found b rest old new i put)
 
-    pub write2_line : t ≡ codes "write2 " ++ rest → IsWordOf (λ n. n < 2 ^ 27) decimal type2_write rest found → Reads FitsLine text_of (line_bytes check) b t old new
-    write2_line e i = lift (λ n. n < 2 ^ 27) decimal (λ n. bytes_of_word (type2_write n)) check (codes "write2 ") Write2 b t rest old new e (λ x h. h) (λ x h. h) (λ x. refl) (λ x. refl) (λ l i. (decimal_after 0 rest, line_is _ l i)) (found_read (λ n. n < 2 ^ 27) decimal type2_write found b rest old new i put)
+    pub write2_line : t ≡ codes "write2 " ++ rest → IsWordOf (λ n. n < 2 ^ 27) decimal type2_write_header rest found → Reads FitsLine text_of (line_bytes check) b t old new
+    write2_line e i = lift (λ n. n < 2 ^ 27) decimal (λ n. bytes_of_word (type2_write_header n)) check (codes "write2 ") Write2 b t rest old new e (λ x h. h) (λ x h. h) (λ x. refl) (λ x. refl) (λ l i. (decimal_after 0 rest, line_is _ l i)) (found_read (λ n. n < 2 ^ 27) decimal type2_write_header found b rest old new i put)
 
-    pub read2_line : t ≡ codes "read2 " ++ rest → IsWordOf (λ n. n < 2 ^ 27) decimal type2_read rest found → Reads FitsLine text_of (line_bytes check) b t old new
-    read2_line e i = lift (λ n. n < 2 ^ 27) decimal (λ n. bytes_of_word (type2_read n)) check (codes "read2 ") Read2 b t rest old new e (λ x h. h) (λ x h. h) (λ x. refl) (λ x. refl) (λ l i. (decimal_after 0 rest, line_is _ l i)) (found_read (λ n. n < 2 ^ 27) decimal type2_read found b rest old new i put)
+    pub read2_line : t ≡ codes "read2 " ++ rest → IsWordOf (λ n. n < 2 ^ 27) decimal type2_read_header rest found → Reads FitsLine text_of (line_bytes check) b t old new
+    read2_line e i = lift (λ n. n < 2 ^ 27) decimal (λ n. bytes_of_word (type2_read_header n)) check (codes "read2 ") Read2 b t rest old new e (λ x h. h) (λ x h. h) (λ x. refl) (λ x. refl) (λ l i. (decimal_after 0 rest, line_is _ l i)) (found_read (λ n. n < 2 ^ 27) decimal type2_read_header found b rest old new i put)
 
 -- the text begins with this word
 abbrev pub NotAfter : List ℕ → List ℕ → Type 0

@@ -5,7 +5,7 @@ use Rattle.std.specs.List.{AllByRecursion, flat_map}
 use Rattle.x7_words.specs.Word.{AreBytes, AreWords, bytes_of_word}
 use Rattle.x7_words.proofs.ListLemmas.{all_append, all_back, all_prefix}
 use Rattle.x7_packets.specs.Packet.{named_by, Packet, register_of, type_and_opcode_of, words}
-use Rattle.x7_packets.specs.PacketWords.{no_op, sync_word, type1_read, type1_write, type2_read_kind, type2_write_kind}
+use Rattle.x7_packets.specs.PacketWords.{no_op, sync_word, type1_read_header, type1_write_header, type2_read_kind, type2_write_kind}
 use Rattle.x7_packets.specs.Reading.{IsPlace, IsReading, IsSession, packet_bytes, Place, place_bytes, Searching, Session, session_bytes, Synced}
 use Rattle.x7_packets.specs.SyncWord.{sync_bytes}
 use Rattle.x7_packets.specs.ByHand.{reading_of}
@@ -94,8 +94,8 @@ best w h =
     let r : register_of w < 32 = omega arith in
     pick (IsHeadOf w) (w == no_op) head.Nop _ (λ e. (sym (is_eq w no_op e), (tt, tt)))
     (pick (IsHeadOf w) (w == sync_word) head.Sync _ (λ e. (sym (is_eq w sync_word e), (tt, tt)))
-    (pick (IsHeadOf w) (w == type1_write (register_of w) (w % 2 ^ 11)) (head.Write (register_of w) (w % 2 ^ 11)) _ (λ e. (sym (is_eq w (type1_write (register_of w) (w % 2 ^ 11)) e), ((r, omega arith), tt)))
-    (pick (IsHeadOf w) (w == type1_read (register_of w) (w % 2 ^ 11)) (head.Read (register_of w) (w % 2 ^ 11)) _ (λ e. (sym (is_eq w (type1_read (register_of w) (w % 2 ^ 11)) e), ((r, omega arith), tt)))
+    (pick (IsHeadOf w) (w == type1_write_header (register_of w) (w % 2 ^ 11)) (head.Write (register_of w) (w % 2 ^ 11)) _ (λ e. (sym (is_eq w (type1_write_header (register_of w) (w % 2 ^ 11)) e), ((r, omega arith), tt)))
+    (pick (IsHeadOf w) (w == type1_read_header (register_of w) (w % 2 ^ 11)) (head.Read (register_of w) (w % 2 ^ 11)) _ (λ e. (sym (is_eq w (type1_read_header (register_of w) (w % 2 ^ 11)) e), ((r, omega arith), tt)))
     (pick (IsHeadOf w) (type_and_opcode_of w == type2_write_kind) (head.Write2 (w % 2 ^ 27)) _ (λ e. let k : w / 2 ^ 27 ≡ 10 = is_eq (w / 2 ^ 27) 10 e in (omega arith, (omega arith, tt)))
     (pick (IsHeadOf w) (type_and_opcode_of w == type2_read_kind) (head.Read2 (w % 2 ^ 27)) (head.Word w) (λ e. let k : w / 2 ^ 27 ≡ 9 = is_eq (w / 2 ^ 27) 9 e in (omega arith, (omega arith, tt))) (refl, (h, tt)))))))
 

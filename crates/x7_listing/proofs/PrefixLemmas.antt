@@ -240,7 +240,7 @@ pub listed_sure : (l : ListerState) (given bytes : List ℕ) → ListerStandsFor
 listed_sure l given bytes s =
     let t = s.has_listed in
     let e : (t.sessions ≡ (reading_of bytes).sessions) × (t.at ≡ (reading_of bytes).place) = reading_is bytes t.sessions t.at t.cut.reading in
-    place_sure l.synced l.in_line l.held (given ++ l.text) (flat_map session_text t.sessions) t.at l.cutter.mode s.ready t.listed
+    place_sure l.is_synced l.in_line l.held (given ++ l.text) (flat_map session_text t.sessions) t.at l.cutter.mode s.ready t.listed
     ∙ ap (λ x. flat_map session_text x ++ sure_place t.at) e.0 ∙ ap (λ x. flat_map session_text (reading_of bytes).sessions ++ sure_place x) e.1
 
 -- what a lister has listed of bytes is a prefix of the listing of those bytes with any further ones
@@ -252,7 +252,7 @@ listed_prefix l given bytes rest s f =
 
 -- what a lister has listed after other listings is the sure text of its bytes
 pub listed_after : (l : ListerState) (given before bytes : List ℕ) (s : ListerStandsFor l given before bytes) → given ++ l.text ≡ (before ++ flat_map session_text s.has_listed.sessions) ++ sure_place s.has_listed.at
-listed_after l given before bytes s = place_sure l.synced l.in_line l.held (given ++ l.text) (before ++ flat_map session_text s.has_listed.sessions) s.has_listed.at l.cutter.mode s.ready s.has_listed.listed
+listed_after l given before bytes s = place_sure l.is_synced l.in_line l.held (given ++ l.text) (before ++ flat_map session_text s.has_listed.sessions) s.has_listed.at l.cutter.mode s.ready s.has_listed.listed
 
 pub sure_after : (l : ListerState) (given before bytes : List ℕ) → ListerStandsFor l given before bytes → given ++ l.text ≡ before ++ sure_text bytes
 sure_after l given before bytes s =

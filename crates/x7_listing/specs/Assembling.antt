@@ -129,7 +129,7 @@ abbrev pub IsOutputOf : Output → List (List ℕ) → Type 0
 IsOutputOf b lines = (left : List (List ℕ)) → AreReadOrUnbegun (has_any lines) (lines ++ left) left (state_of_output b (length lines))
 
 -- these first lines of a text gave this output, and once one was read there is room for the next
-pub record AreReadWithRoom (b : Output) (lines : List (List ℕ)) : Type 0 where
+pub record HasReadWithRoom (b : Output) (lines : List (List ℕ)) : Type 0 where
   pub read : IsOutputOf b lines
   pub room : has_any lines ≡ true → HasLineRoom b
 

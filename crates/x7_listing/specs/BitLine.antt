@@ -4,6 +4,7 @@ use Rattle.std.specs.List.{flat_map}
 use Rattle.x7_words.specs.Word.{AreBytes}
 use Rattle.x7_header.specs.Header.{Contents, HaveHeader, header_bytes}
 use Rattle.x7_text.specs.Digits.{hex_byte}
+use Rattle.x7_listing.specs.Line.{space_byte}
 
 -- the text of a header's field: two digits for each byte, or `-` where it holds nothing
 abbrev pub field_text : List ℕ → List ℕ
@@ -12,7 +13,7 @@ field_text (x ∷ xs) = flat_map hex_byte (x ∷ xs)
 
 -- the text of a header's line, without its end: the four fields and the length of the data in bytes
 abbrev pub bit_text : Contents → List ℕ
-bit_text x = codes "bit " ++ (field_text x.a ++ 32 ∷ (field_text x.b ++ 32 ∷ (field_text x.c ++ 32 ∷ (field_text x.d ++ 32 ∷ decimal x.data_length))))
+bit_text x = codes "bit " ++ (field_text x.a ++ space_byte ∷ (field_text x.b ++ space_byte ∷ (field_text x.c ++ space_byte ∷ (field_text x.d ++ space_byte ∷ decimal x.data_length))))
 
 -- a header can hold these contents: each field fits its length, and is of bytes
 pub record FitsHeader (x : Contents) : Type 0 where
@@ -29,7 +30,7 @@ pub record IsField (field : List ℕ) : Type 0 where
 
 -- the text begins with that of this field and a space, after which the rest stands
 abbrev pub HasFieldFirst : List ℕ → List ℕ → List ℕ → Type 0
-HasFieldFirst text field rest = IsField field × (text ≡ field_text field ++ 32 ∷ rest)
+HasFieldFirst text field rest = IsField field × (text ≡ field_text field ++ space_byte ∷ rest)
 
 -- `bytes` are those of a header whose line is `line`
 pub record IsHeaderOf (line bytes : List ℕ) : Type 0 where
@@ -41,13 +42,13 @@ pub record IsHeaderOf (line bytes : List ℕ) : Type 0 where
 -- no byte of the text is a space
 abbrev pub has_no_space : List ℕ → Bool
 has_no_space [] = true
-has_no_space (c ∷ cs) = if c == 32 then false else has_no_space cs
+has_no_space (c ∷ cs) = if c == space_byte then false else has_no_space cs
 
 -- the first space stands at this place
 abbrev pub IsFirstSpace : List ℕ → ℕ → Type 0
-IsFirstSpace text at = (at < length text) × (slice_index text at ≡ 32) × ((j : ℕ) → j < at → slice_index text j ≢ 32)
+IsFirstSpace text at = (at < length text) × (slice_index text at ≡ space_byte) × ((j : ℕ) → j < at → slice_index text j ≢ space_byte)
 
 -- the text stands before the first space of all, and the rest after it
 pub record IsCutAtSpace (all text rest : List ℕ) : Type 0 where
-  pub parts : all ≡ text ++ 32 ∷ rest
+  pub parts : all ≡ text ++ space_byte ∷ rest
   pub free : has_no_space text ≡ true

@@ -3,22 +3,22 @@ use Rattle.std.specs.Prelude.{ℕ, ◌<◌, ◌==◌, if◌then◌else◌, List,
 use Rattle.x7_regs.specs.Command.{code_of, command_by, command_name_of}
 use Rattle.x7_text.specs.Digits.{hex_word}
 use Rattle.x7_packets.specs.Packet.{register_of, type1_count_of, type2_count_of, type_and_opcode_of}
-use Rattle.x7_packets.specs.PacketWords.{no_op, sync_word, type1_read, type1_write, type2_read, type2_read_kind, type2_write, type2_write_kind}
+use Rattle.x7_packets.specs.PacketWords.{no_op, sync_word, type1_read_header, type1_write_header, type2_read_header, type2_read_kind, type2_write_header, type2_write_kind}
 use Rattle.x7_packets.specs.declared.header.Step.{Step}
 use Rattle.x7_packets.specs.declared.header.Step.TheVariants.{Bad}
 use Rattle.x7_listing.specs.declared.line.head_line.HeadLine.{HeadLine}
 use Rattle.x7_listing.specs.declared.line.head_line.HeadLine.TheVariants.{Nop, Sync, Write, Read, Write2, Read2, Word}
-use Rattle.x7_listing.specs.Line.{Line, ended_text}
+use Rattle.x7_listing.specs.Line.{Line, ended_text, line_end_byte}
 use Rattle.x7_listing.specs.Line as line
 
 -- the word that a line stands for
 abbrev pub line_word : HeadLine → ℕ
 line_word Nop = no_op
 line_word Sync = sync_word
-line_word (Write register count) = type1_write register count
-line_word (Read register count) = type1_read register count
-line_word (Write2 count) = type2_write count
-line_word (Read2 count) = type2_read count
+line_word (Write register count) = type1_write_header register count
+line_word (Read register count) = type1_read_header register count
+line_word (Write2 count) = type2_write_header count
+line_word (Read2 count) = type2_read_header count
 line_word (Word w) = w
 
 -- the line that stands for just this word: a named one where there is one, else the word itself
@@ -26,8 +26,8 @@ abbrev pub best_line : ℕ → HeadLine
 best_line w =
     if w == no_op then Nop else
     if w == sync_word then Sync else
-    if w == type1_write (register_of w) (type1_count_of w) then Write (register_of w) (type1_count_of w) else
-    if w == type1_read (register_of w) (type1_count_of w) then Read (register_of w) (type1_count_of w) else
+    if w == type1_write_header (register_of w) (type1_count_of w) then Write (register_of w) (type1_count_of w) else
+    if w == type1_read_header (register_of w) (type1_count_of w) then Read (register_of w) (type1_count_of w) else
     if type_and_opcode_of w == type2_write_kind then Write2 (type2_count_of w) else
     if type_and_opcode_of w == type2_read_kind then Read2 (type2_count_of w) else Word w
 
@@ -67,5 +67,5 @@ text_of_head step w = line_text (line_of_head step w)
 -- the text of the line of a payload word of CMD, with its end: the command whose code the whole word is, else the word
 abbrev pub command_line : ℕ → List ℕ
 command_line w =
-    if code_of (command_by w) == w then codes "cmd " ++ command_name_of (command_by w) ++ 10 ∷ [] else
-    codes "data " ++ hex_word w ++ 10 ∷ []
+    if code_of (command_by w) == w then codes "cmd " ++ command_name_of (command_by w) ++ line_end_byte ∷ [] else
+    codes "data " ++ hex_word w ++ line_end_byte ∷ []

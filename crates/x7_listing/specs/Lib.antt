@@ -5,9 +5,9 @@ pub mod Fast
 pub mod HeadLine
 pub mod Line
 pub mod Listed
+pub mod Lister
 pub mod ListerOfRuns
 pub mod Listing
 pub mod OneWord
 pub mod Pens
 pub mod StreamListing
-pub mod Lister

@@ -6,9 +6,17 @@ use Rattle.x7_regs.specs.Register.{number_of, reg_name}
 use Rattle.x7_regs.specs.Command.{code_of, command_by, command_name_of}
 use Rattle.x7_regs.specs.declared.command.Command.{Command}
 use Rattle.x7_regs.specs.declared.register.Reg.TheVariants.{Crc}
-use Rattle.x7_packets.specs.PacketWords.{no_op, sync_word, type1_read, type1_write, type2_read, type2_write}
+use Rattle.x7_packets.specs.PacketWords.{no_op, sync_word, type1_read_header, type1_write_header, type2_read_header, type2_write_header}
 use Rattle.x7_text.specs.Digits.{hex_byte, hex_word}
 use Rattle.x7_text.specs.Row.{IsByteRow, IsWordRow, spaced}
+
+-- the byte of a space
+abbrev pub space_byte : ℕ
+space_byte = 32
+
+-- the byte that ends a line
+abbrev pub line_end_byte : ℕ
+line_end_byte = 10
 
 -- a line: nothing, a comment, bytes, a header word, payload words, a command, or
 -- the check of the bytes of the lines before
@@ -33,7 +41,7 @@ IsType1 a = (a.0 < 32) × (a.1 < 2 ^ 11)
 
 -- the fields of a type 1 header as text: the register's name, a space and the word count
 abbrev pub type1_text : ℕ × ℕ → List ℕ
-type1_text a = reg_name a.0 ++ 32 ∷ decimal a.1
+type1_text a = reg_name a.0 ++ space_byte ∷ decimal a.1
 
 -- the text of a line, without its end
 abbrev pub text_of : Line → List ℕ
@@ -82,14 +90,14 @@ line_bytes check (Comment text) = []
 line_bytes check (Bytes bytes) = bytes
 line_bytes check Sync = bytes_of_word sync_word
 line_bytes check Nop = bytes_of_word no_op
-line_bytes check (Write register count) = bytes_of_word (type1_write register count)
-line_bytes check (Read register count) = bytes_of_word (type1_read register count)
-line_bytes check (Write2 count) = bytes_of_word (type2_write count)
-line_bytes check (Read2 count) = bytes_of_word (type2_read count)
+line_bytes check (Write register count) = bytes_of_word (type1_write_header register count)
+line_bytes check (Read register count) = bytes_of_word (type1_read_header register count)
+line_bytes check (Write2 count) = bytes_of_word (type2_write_header count)
+line_bytes check (Read2 count) = bytes_of_word (type2_read_header count)
 line_bytes check (Word word) = bytes_of_word word
 line_bytes check (Data words) = flat_map bytes_of_word words
 line_bytes check (Cmd command) = bytes_of_word (code_of command)
-line_bytes check Check = bytes_of_word (type1_write (number_of Crc) 1) ++ bytes_of_word check
+line_bytes check Check = bytes_of_word (type1_write_header (number_of Crc) 1) ++ bytes_of_word check
 
 -- the line is neither a comment nor the check, as each line of a listing
 abbrev pub IsListed : Line → Type 0
@@ -103,7 +111,7 @@ cmd_line w = if code_of (command_by w) == w then Cmd (command_by w) else Data (w
 
 -- the text of a line with its end
 abbrev pub ended_text : Line → List ℕ
-ended_text l = text_of l ++ 10 ∷ []
+ended_text l = text_of l ++ line_end_byte ∷ []
 
 -- the texts of lines, each with its end
 abbrev pub ended_texts : List Line → List ℕ

@@ -60,7 +60,7 @@ pub record SessionListed (all start : List ℕ) (in_line : ℕ) (gap : List ℕ)
 -- what is written of a listing: its text so far, and what stands in its open line or is held
 pub record WrittenSoFar : Type 0 where
   -- whether the last bytes listed are a session's
-  pub synced : Bool
+  pub is_synced : Bool
   -- how many elements stand in the open line
   pub in_line : ℕ
   -- the bytes that are held: of a gap, or of no whole word where runs are taken
@@ -69,7 +69,7 @@ pub record WrittenSoFar : Type 0 where
 
 -- what is written of a listing, by its parts
 abbrev pub written_of : Bool → ℕ → List ℕ → List ℕ → WrittenSoFar
-written_of synced in_line held text = record { synced = synced; in_line = in_line; held = held; text = text }
+written_of is_synced in_line held text = record { is_synced = is_synced; in_line = in_line; held = held; text = text }
 
 -- the text of what comes before the place is `start`; after it stand, by whether the last bytes listed are a session's,
 -- the lines of the session, or those of the gap but for what is held
@@ -81,7 +81,7 @@ HasListedBy true w start (Synced gap packets tail) m = (m ≡ Mode.Due → ⊥) 
 
 -- the text of what comes before the place is `start`, and after it stands what is listed at the place
 abbrev pub HasListedAt : WrittenSoFar → List ℕ → Place → Mode → Type 0
-HasListedAt w start place m = HasListedBy w.synced w start place m
+HasListedAt w start place m = HasListedBy w.is_synced w start place m
 
 -- what is written are the listings before, and then what is listed of these ended sessions and this place
 abbrev pub HasListed : WrittenSoFar → List ℕ → List Session → Place → Mode → Type 0
@@ -106,7 +106,7 @@ WritesRun run w w2 =
 pub record ListerState : Type 0 where
   pub cutter : CutterState
   -- whether the last bytes listed are a session's
-  pub synced : Bool
+  pub is_synced : Bool
   -- how many elements stand in the open line
   pub in_line : ℕ
   -- the bytes that are held: of a gap, or of no whole word where runs are taken
@@ -116,11 +116,11 @@ pub record ListerState : Type 0 where
 
 -- a lister by its parts
 abbrev pub lister_of : CutterState → Bool → ℕ → List ℕ → List ℕ → ListerState
-lister_of cutter synced in_line held text = record { cutter = cutter; synced = synced; in_line = in_line; held = held; text = text }
+lister_of cutter is_synced in_line held text = record { cutter = cutter; is_synced = is_synced; in_line = in_line; held = held; text = text }
 
 -- what a lister has written, the texts given and then its own
 abbrev pub listing_written : ListerState → List ℕ → WrittenSoFar
-listing_written l given = written_of l.synced l.in_line l.held (given ++ l.text)
+listing_written l given = written_of l.is_synced l.in_line l.held (given ++ l.text)
 
 -- The texts given and the lister's are those of listings before, and then what is listed of these bytes.
 pub record HasListedJust (l : ListerState) (given before bytes : List ℕ) : Type 0 where
@@ -143,7 +143,7 @@ pub record TakerStandsFor (l : ListerState) (given before bytes : List ℕ) (due
   pub at : Place
   pub reading : IsReading bytes sessions at
   pub listed : HasListed (listing_written l given) before sessions at due
-  pub tail : l.synced ≡ true → l.held ≡ tail_of at
+  pub tail : l.is_synced ≡ true → l.held ≡ tail_of at
   pub cutter : CutterStandsFor l.cutter [] [] (Searching [])
 
 -- The texts given and the lister's text are those of listings before and the listing of these bytes, and a

@@ -70,7 +70,7 @@ pub fn listing_is_short()
 
 /// A header's line is that of no other header, and no other line.
 pub fn header_line_is_its_own()
-    ensures one { (x y : Contents) → FitsHeader x → FitsHeader y → bit_text x ≡ bit_text y → x ≡ y }
+    ensures no_other_header { (x y : Contents) → FitsHeader x → FitsHeader y → bit_text x ≡ bit_text y → x ≡ y }
     ensures no_line { (x : Contents) (line : Line) → IsLine (bit_text x) line → ⊥ }
 {}
 

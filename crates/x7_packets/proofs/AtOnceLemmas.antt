@@ -14,7 +14,7 @@ use Rattle.x7_packets.specs.declared.cutter.Cut.TheVariants.{Body, Head, Skip}
 use Rattle.x7_packets.specs.Mode.{Mode}
 use Rattle.x7_packets.specs.AtOnce.{BeginsWrite, EndsGap, in_write, longest_gap_and_sync, longest_short_write, most_short_words, short_gap_room, WritesShort, WritesOne}
 use Rattle.x7_packets.specs.Cutter.{AtPlace, CutterState, CutterStandsFor, LongerSession, AfterRun, TakesAsOneRun}
-use Rattle.x7_packets.specs.PacketWords.{dummy_word, no_op, sync_word, type1_write, type1_write_kind}
+use Rattle.x7_packets.specs.PacketWords.{dummy_word, no_op, sync_word, type1_write_header, type1_write_kind}
 use Rattle.x7_packets.specs.Packet.{Packet, ends_session, meaning, payload_steps, register_of}
 use Rattle.x7_packets.specs.Reading.{Place, Searching, Session, Synced, packet_bytes, session_bytes}
 use Rattle.x7_packets.specs.Machine.{Grows, MachineStandsFor, MachineState, ends_by, is_end}
@@ -26,19 +26,19 @@ use Rattle.x7_packets.proofs.TakeLemmas.{calm_words, header_opens, payload_ends,
 
 -- ---- a machine
 
-write_means : (latest : Option ℕ) (register count : ℕ) → register < 32 → count < 2 ^ 11 → Open register count ≡ meaning latest (type1_write register count)
+write_means : (latest : Option ℕ) (register count : ℕ) → register < 32 → count < 2 ^ 11 → Open register count ≡ meaning latest (type1_write_header register count)
 write_means latest register count h k =
-    let sync : (type1_write register count == sync_word) ≡ false = grind (arith, nat_tests) in
-    let ones : (type1_write register count == dummy_word) ≡ false = grind (arith, nat_tests) in
-    let zero_type : (type1_write register count / 2 ^ 29 == 0) ≡ false = grind (arith, nat_tests) in
-    let kind : type1_write register count / 2 ^ 27 ≡ type1_write_kind = omega arith in
-    let named : register_of (type1_write register count) ≡ register = omega arith in
-    let number : type1_write register count % 2 ^ 11 ≡ count = omega arith in
+    let sync : (type1_write_header register count == sync_word) ≡ false = grind (arith, nat_tests) in
+    let ones : (type1_write_header register count == dummy_word) ≡ false = grind (arith, nat_tests) in
+    let zero_type : (type1_write_header register count / 2 ^ 29 == 0) ≡ false = grind (arith, nat_tests) in
+    let kind : type1_write_header register count / 2 ^ 27 ≡ type1_write_kind = omega arith in
+    let named : register_of (type1_write_header register count) ≡ register = omega arith in
+    let number : type1_write_header register count % 2 ^ 11 ≡ count = omega arith in
     rw (sync, ones, zero_type, kind, named, number) refl
 
 pub write_opens : (m : MachineState) (ps : List Packet) (register count : ℕ) → register < 32 → 0 < count → count < 2 ^ 11 → m.due ≡ 0 → MachineStandsFor m ps
-    → Grows ps ((type1_write register count, Open register count) ∷ []) (in_write register count)
-write_opens m ps register count h some few none (inl a) = header_opens m (in_write register count) ps (type1_write register count) register count (omega arith) a (write_means m.latest register count h few) some refl refl refl
+    → Grows ps ((type1_write_header register count, Open register count) ∷ []) (in_write register count)
+write_opens m ps register count h some few none (inl a) = header_opens m (in_write register count) ps (type1_write_header register count) register count (omega arith) a (write_means m.latest register count h few) some refl refl refl
 write_opens m ps register count h some few none (inr a) = absurd (omega (arith, none, a.more))
 
 pub write_goes_on : (n : MachineState) (ps : List Packet) (register w : ℕ) → w < 2 ^ 32 → ends_session register w ≡ false → n.latest ≡ Some register → n.register ≡ register → n.due ≡ 0
@@ -101,16 +101,16 @@ pub takes_nop : (c : CutterState) → c.mode ≡ Mode.Synced → c.kept ≡ [] �
 takes_nop c is none due = takes_head c c no_op Nop is is none none refl (λ ps s. nop_grows c.machine ps due s)
 
 -- a header and a word that begin bytes
-pub begins_write : (bytes head word rest : List ℕ) (register h w : ℕ) → head ≡ take 4 bytes → rest ≡ drop 4 bytes → word ≡ take 4 rest → 8 ≤ length bytes → bytes_of_word h ≡ head → bytes_of_word w ≡ word → h ≡ type1_write register 1 → register < 32 → w < 2 ^ 32 → BeginsWrite bytes register w
+pub begins_write : (bytes head word rest : List ℕ) (register h w : ℕ) → head ≡ take 4 bytes → rest ≡ drop 4 bytes → word ≡ take 4 rest → 8 ≤ length bytes → bytes_of_word h ≡ head → bytes_of_word w ≡ word → h ≡ type1_write_header register 1 → register < 32 → w < 2 ^ 32 → BeginsWrite bytes register w
 begins_write bytes head word rest register h w a r b long e f g range fits = record {
   range = range;
   fits = fits;
   whole = long;
-  are = take-add 4 4 bytes ∙ ap (λ t. t ++ take 4 (drop 4 bytes)) (sym a ∙ sym e ∙ ap bytes_of_word g) ∙ ap (λ t. bytes_of_word (type1_write register 1) ++ t) (ap (take 4) (sym r) ∙ sym b ∙ sym f);
+  are = take-add 4 4 bytes ∙ ap (λ t. t ++ take 4 (drop 4 bytes)) (sym a ∙ sym e ∙ ap bytes_of_word g) ∙ ap (λ t. bytes_of_word (type1_write_header register 1) ++ t) (ap (take 4) (sym r) ∙ sym b ∙ sym f);
 }
 
 pub writes_one : (old new : CutterState) (bs : List ℕ) (register w : ℕ) → old.mode ≡ Mode.Synced → new.mode ≡ (if ends_session register w then Mode.Searching else Mode.Synced) → (ends_session register w ≡ true → MatcherStandsFor new.matcher []) → old.kept ≡ [] → new.kept ≡ [] → BeginsWrite bs register w
-    → ((ps : List Packet) → MachineStandsFor old.machine ps → Grows ps ((type1_write register 1, Open register 1) ∷ []) (in_write register 1))
+    → ((ps : List Packet) → MachineStandsFor old.machine ps → Grows ps ((type1_write_header register 1, Open register 1) ∷ []) (in_write register 1))
     → ((ps : List Packet) → MachineStandsFor (in_write register 1) ps → Grows ps ((w, Payload register w) ∷ []) new.machine)
     → WritesOne old new bs register w
 writes_one old new bs register w is to matcher none none2 begins opens ends =
@@ -120,7 +120,7 @@ writes_one old new bs register w is to matcher none none2 begins opens ends =
       range = begins.range;
       whole = begins.whole;
       bytes = begins.are;
-      head = takes_head old middle (type1_write register 1) (Open register 1) is refl none refl refl opens;
+      head = takes_head old middle (type1_write_header register 1) (Open register 1) is refl none refl refl opens;
       word = λ bytes sessions place s. word_more middle new bytes (bytes_of_word w) sessions place register w s refl ends (fits_word w) refl none2 to matcher;
       none_kept = none2;
     }
@@ -148,8 +148,8 @@ takes_words c n register count run is to none none2 fits long some other machine
     body_more c n bytes run.now sessions place register run s is all fits word none2 (to ∙ ap (λ (b : Bool). if b then Mode.Searching else Mode.Synced) (sym calm)) (λ e. absurd (let f : true ≡ false = sym e ∙ calm in cc))
 
 pub writes_short : (old new : CutterState) (bs : List ℕ) (head register count : ℕ) → old.mode ≡ Mode.Synced → new.mode ≡ Mode.Synced → old.kept ≡ [] → new.kept ≡ [] → longest_short_write ≤ length bs → AreBytes bs
-    → bytes_of_word head ≡ get_or bs 0 0 ∷ get_or bs 1 0 ∷ get_or bs 2 0 ∷ get_or bs 3 0 ∷ [] → head ≡ type1_write register count → register < 32 → (register ≡ 4 → ⊥) → 0 < count → count ≤ most_short_words
-    → ((ps : List Packet) (n : ℕ) → 0 < n → n < 2 ^ 11 → MachineStandsFor old.machine ps → Grows ps ((type1_write register n, Open register n) ∷ []) (in_write register n))
+    → bytes_of_word head ≡ get_or bs 0 0 ∷ get_or bs 1 0 ∷ get_or bs 2 0 ∷ get_or bs 3 0 ∷ [] → head ≡ type1_write_header register count → register < 32 → (register ≡ 4 → ⊥) → 0 < count → count ≤ most_short_words
+    → ((ps : List Packet) (n : ℕ) → 0 < n → n < 2 ^ 11 → MachineStandsFor old.machine ps → Grows ps ((type1_write_header register n, Open register n) ∷ []) (in_write register n))
     → ((ps : List Packet) (ws : List ℕ) → AreWords ws → 0 < length ws → MachineStandsFor (in_write register (length ws)) ps → Grows ps (payload_steps register ws) new.machine)
     → WritesShort old new bs register count
 writes_short old new bs head register count is to none none2 long fits e g range other some few opens goes =
@@ -164,7 +164,7 @@ writes_short old new bs head register count is to none none2 long fits e g range
       few = few;
       long = long;
       bytes = first_four bs (omega (arith, long)) ∙ sym e ∙ ap bytes_of_word g;
-      head = takes_head old middle (type1_write register count) (Open register count) is refl none refl refl (λ ps t. opens ps count some (omega (arith, few)) t);
+      head = takes_head old middle (type1_write_header register count) (Open register count) is refl none refl refl (λ ps t. opens ps count some (omega (arith, few)) t);
       words = λ run f. takes_words middle new register count run refl to refl none2 (subst AreBytes (sym f) (all_take (λ b. b < 256) (4 * count) (drop 4 bs) after)) (ap length f ∙ size) some other refl goes;
       none_kept = none2;
     }

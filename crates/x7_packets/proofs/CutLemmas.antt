@@ -65,7 +65,7 @@ sync_given c n bytes sessions (Synced gap packets tail) s is to same none =
       mode_changes = (is, λ e. absurd (let f : Mode.Synced ≡ Mode.Due = sym to ∙ e in cc));
     }
 
--- bytes taken while searching, up to and with a sync word
+-- bytes taken while searching, up to and including a sync word
 pub skip_found : (c n : CutterState) (bytes rest : List ℕ) (run : Bor (List ℕ)) (count : ℕ) (sessions : List Session) (place : Place)
     → CutterStandsFor c bytes sessions place → c.mode ≡ Mode.Searching → n.mode ≡ Mode.Due → n.machine ≡ c.machine
     → ((gap : List ℕ) → MatcherStandsFor c.matcher gap → HasNoSync gap → Searched gap rest (Some count) n.matcher) → run.now ≡ take count rest → AreBytes (take count rest)
@@ -204,7 +204,7 @@ body_more c n bytes new sessions (Synced gap packets tail) register run s is gro
     let m = words_more c n bytes new sessions gap tail packets (run_steps (Body register run)) s is grows fits word none to matcher in
     record { new_sessions = m.0; new_place = m.1; stands = m.2; adds = m.3; mode_changes = (λ e. absurd (let f : Mode.Synced ≡ Mode.Due = sym is ∙ e in cc), λ e. absurd (not_due (ends_by (run_steps (Body register run))) to e)) }
 
--- a call that skipped bytes, up to and with a sync word
+-- a call that skipped bytes, up to and including a sync word
 pub cuts_found : (c n : CutterState) (rest : List ℕ) (run : Bor (List ℕ)) (count taken : ℕ)
     → c.mode ≡ Mode.Searching → n.mode ≡ Mode.Due → n.machine ≡ c.machine → c.kept ≡ [] → n.kept ≡ [] → 0 < count → count ≤ length rest → taken ≡ count
     → ((gap : List ℕ) → MatcherStandsFor c.matcher gap → HasNoSync gap → Searched gap rest (Some count) n.matcher) → run.now ≡ take count rest → AreBytes (take count rest)

@@ -234,7 +234,7 @@ need_turns (cut.Head w step) old new place n t = absurd n
 need_turns (cut.Word register w) old new place n t = absurd n
 need_turns (cut.Body register bytes) old new place n t = absurd n
 
-unknown_on : (p : PacketsState) → p.done ≡ false → not_given p ≡ p.cutter.kept
+unknown_on : (p : PacketsState) → p.is_done ≡ false → not_given p ≡ p.cutter.kept
 unknown_on p e = rw e refl
 
 tail_on : (place : Place) (done : Bool) (kept : List ℕ) → done ≡ false → tail_of place ≡ (if done then kept else []) → tail_of place ≡ []
@@ -246,11 +246,11 @@ parted : (given kept left : List ℕ) (n : ℕ) → given ++ (kept ++ left) ≡ 
 parted given kept left n = ap (λ t. given ++ (kept ++ t)) (sym (take-append-drop n left)) ∙ simp append_assoc
 
 -- after a call that needs more bytes the reader stands for the same bytes
-pub needs : (old new : PacketsState) (bytes given : List ℕ) (s : CutsNext old new false) → old.done ≡ false → PacketsStandFor old bytes given
+pub needs : (old new : PacketsState) (bytes given : List ℕ) (s : CutsNext old new false) → old.is_done ≡ false → PacketsStandFor old bytes given
     → PacketsStandFor new bytes given × (old.cutter.mode ≡ Mode.Due → ⊥) × (new.cutter.mode ≡ Mode.Due → ⊥)
 needs old new bytes given s on p =
     let none : not_given old ≡ old.cutter.kept = unknown_on old on in
-    let still : new.done ≡ false = s.done ∙ on in
+    let still : new.is_done ≡ false = s.done ∙ on in
     let w : AfterRun old.cutter new.cutter ((given ++ not_given old) ++ take s.count old.left) p.sessions (with_tail old.cutter.kept p.place) s.run = s.cuts.adds _ p.sessions _ p.cutter in
     let k : new.cutter.kept ≡ tail_of w.new_place = s.kept _ w.new_sessions w.new_place w.stands in
     let at : (w.new_sessions ≡ p.sessions) × (w.new_place ≡ with_tail new.cutter.kept p.place) = need_place s.run p.sessions w.new_sessions p.place w.new_place old.cutter.kept new.cutter.kept s.is w.adds k in
@@ -263,7 +263,7 @@ needs old new bytes given s on p =
         place = p.place;
         split = p.split ∙ parted given (not_given old) old.left s.count ∙ ap (λ x. x ++ drop s.count old.left) taken ∙ append_assoc given (not_given new) (drop s.count old.left) ∙ ap (λ x. given ++ (not_given new ++ x)) (sym s.left);
         reading = p.reading;
-        tail = tail_on p.place old.done old.cutter.kept on p.tail ∙ rw still refl;
+        tail = tail_on p.place old.is_done old.cutter.kept on p.tail ∙ rw still refl;
         cutter = stands;
         kept = k ∙ ap tail_of at.1;
         all = λ e. absurd (let f : false ≡ true = sym still ∙ e in cc);
@@ -274,13 +274,13 @@ needs old new bytes given s on p =
     )
 
 -- after a call that gave a run the reader stands for the same bytes, of which the run's are given
-pub runs : (old new : PacketsState) (bytes given : List ℕ) (r : Run) (s : CutsNext old new true) → old.done ≡ false → IsLastFound new r → PacketsStandFor old bytes given
+pub runs : (old new : PacketsState) (bytes given : List ℕ) (r : Run) (s : CutsNext old new true) → old.is_done ≡ false → IsLastFound new r → PacketsStandFor old bytes given
     → PacketsStandFor new bytes (given ++ bytes_of_run r) × IsNext given old.cutter.mode r new.cutter.mode × (old.cutter.kept ++ old.left ≡ bytes_of_run r ++ new.left)
     × (IsLent old.cutter (length old.left) (cut_of r) × SkipsAll new.cutter (length old.left) (cut_of r))
 runs old new bytes given r s on last p =
     let never : IsNeed s.run → ⊥ = found_needs_none new.found s.run s.is in
     let none : not_given old ≡ old.cutter.kept = unknown_on old on in
-    let still : new.done ≡ false = s.done ∙ on in
+    let still : new.is_done ≡ false = s.done ∙ on in
     let w : AfterRun old.cutter new.cutter ((given ++ not_given old) ++ take s.count old.left) p.sessions (with_tail old.cutter.kept p.place) s.run = s.cuts.adds _ p.sessions _ p.cutter in
     let k : new.cutter.kept ≡ tail_of w.new_place = s.kept _ w.new_sessions w.new_place w.stands in
     let bare : tail_of w.new_place ≡ [] = bare_after s.run p.sessions (with_tail old.cutter.kept p.place) w.new_sessions w.new_place never w.adds in
@@ -313,7 +313,7 @@ runs old new bytes given r s on last p =
         new_place = w.new_place;
         before = p.reading;
         after = after;
-        adds = same.adds p.sessions w.new_sessions p.place w.new_place (adds_bare s.run old.cutter.kept p.sessions p.place w.new_sessions w.new_place never (tail_on p.place old.done old.cutter.kept on p.tail) w.adds);
+        adds = same.adds p.sessions w.new_sessions p.place w.new_place (adds_bare s.run old.cutter.kept p.sessions p.place w.new_sessions w.new_place never (tail_on p.place old.is_done old.cutter.kept on p.tail) w.adds);
         mode_changes = same.mode_changes old.cutter.mode new.cutter.mode w.new_place w.mode_changes;
         fits = same.is s.cuts.run;
       },
@@ -339,7 +339,7 @@ pub needs_all : (old new : PacketsState) (s : CutsNext old new false) → new.le
 needs_all old new s = s.left ∙ all_dropped s.count old.left (need_goes s.run _ _ _ s.is s.cuts.nearer)
 
 -- the reader stands for the bytes of a piece more
-pub fills : (old : PacketsState) (bytes given piece : List ℕ) → old.left ≡ [] → old.done ≡ false → PacketsStandFor old bytes given → PacketsStandFor (filled old piece) (bytes ++ piece) given
+pub fills : (old : PacketsState) (bytes given piece : List ℕ) → old.left ≡ [] → old.is_done ≡ false → PacketsStandFor old bytes given → PacketsStandFor (filled old piece) (bytes ++ piece) given
 fills old bytes given piece none on p = record {
   sessions = p.sessions;
   place = p.place;
@@ -378,7 +378,7 @@ same_due : (old now new : Mode) → SameDue old now → (now ≡ Mode.Due → �
 same_due old now new s n m = (λ e. absurd (n (s.0 e)), λ e. absurd (m e))
 
 -- after a call that needs more bytes, and a read
-pub reads_on : (first old new : PacketsState) (more piece : List ℕ) (s : CutsNext old new false) → old.done ≡ false → TookBytes first old more → TookBytes first (filled new piece) (more ++ piece)
+pub reads_on : (first old new : PacketsState) (more piece : List ℕ) (s : CutsNext old new false) → old.is_done ≡ false → TookBytes first old more → TookBytes first (filled new piece) (more ++ piece)
 reads_on first old new more piece s on r = record {
   count = ap (λ t. t + length piece) (s.taken ∙ r.count) ∙ omega (arith, length-append more piece);
   stands = λ bytes given p.
@@ -423,7 +423,7 @@ kind_goes_on (FoundRun.Body register) c r bytes kept i l = ap is_last l.1
 kind_goes_on FoundRun.Tail c r bytes kept i l = absurd i
 kind_goes_on FoundRun.End c r bytes kept i l = absurd i
 
-pub tells_run : (first old new : PacketsState) (more : List ℕ) (r : Run) (s : CutsNext old new true) → old.done ≡ false → old.failed ≡ false → IsLastFound new r → TookBytes first old more → ReadsAndGives first new more r
+pub tells_run : (first old new : PacketsState) (more : List ℕ) (r : Run) (s : CutsNext old new true) → old.is_done ≡ false → old.has_failed ≡ false → IsLastFound new r → TookBytes first old more → ReadsAndGives first new more r
 tells_run first old new more r s on good last reads =
     let goes : is_last r ≡ false = kind_goes_on new.found s.run r new.bytes new.cutter.kept s.is last in
     record {
@@ -452,11 +452,11 @@ short_tail kept (Searching gap) p k = omega (arith, ap length k)
 short_tail kept (Synced gap packets tail) p k = p.3
 
 -- the reader stands for its bytes, all given, once it is done
-ends_tail : (p : PacketsState) (bytes given : List ℕ) (lent : Bor (List ℕ)) → p.done ≡ false → p.left ≡ [] → 0 < length p.cutter.kept → lent.now ≡ p.cutter.kept → (p.cutter.mode ≡ Mode.Due → ⊥) → PacketsStandFor p bytes given
-    → PacketsStandFor (record p { found = FoundRun.Tail; done = true }) bytes (given ++ lent.now) × IsNext given p.cutter.mode (run.Tail lent) p.cutter.mode × (given ++ lent.now ≡ bytes)
+ends_tail : (p : PacketsState) (bytes given : List ℕ) (lent : Bor (List ℕ)) → p.is_done ≡ false → p.left ≡ [] → 0 < length p.cutter.kept → lent.now ≡ p.cutter.kept → (p.cutter.mode ≡ Mode.Due → ⊥) → PacketsStandFor p bytes given
+    → PacketsStandFor (record p { found = FoundRun.Tail; is_done = true }) bytes (given ++ lent.now) × IsNext given p.cutter.mode (run.Tail lent) p.cutter.mode × (given ++ lent.now ≡ bytes)
 ends_tail p bytes given lent on none some e due s =
     let keeps : not_given p ≡ p.cutter.kept = unknown_on p on in
-    let bare : tail_of s.place ≡ [] = tail_on s.place p.done p.cutter.kept on s.tail in
+    let bare : tail_of s.place ≡ [] = tail_on s.place p.is_done p.cutter.kept on s.tail in
     let now : given ++ not_given p ≡ given ++ lent.now = ap (λ t. given ++ t) (keeps ∙ sym e) in
     let after : IsReading (given ++ lent.now) s.sessions (with_tail p.cutter.kept s.place) = subst (λ t. IsReading t s.sessions (with_tail p.cutter.kept s.place)) now s.cutter.reading in
     let all : bytes ≡ given ++ lent.now = s.split ∙ ap (λ t. given ++ (not_given p ++ t)) none ∙ ap (λ t. given ++ t) (append-nil (not_given p)) ∙ now in
@@ -489,7 +489,7 @@ ends_tail p bytes given lent on none some e due s =
 
 -- the end, of a reader that has no byte more to tell
 ends_none : (p : PacketsState) (bytes given : List ℕ) → p.left ≡ [] → not_given p ≡ [] → (p.cutter.mode ≡ Mode.Due → ⊥) → (s : PacketsStandFor p bytes given) → tail_of s.place ≡ p.cutter.kept
-    → PacketsStandFor (record p { found = FoundRun.End; done = true }) bytes (given ++ []) × IsNext given p.cutter.mode run.End p.cutter.mode × (given ++ [] ≡ bytes)
+    → PacketsStandFor (record p { found = FoundRun.End; is_done = true }) bytes (given ++ []) × IsNext given p.cutter.mode run.End p.cutter.mode × (given ++ [] ≡ bytes)
 ends_none p bytes given none nothing due s own =
     let now : given ++ not_given p ≡ given ++ [] = ap (λ t. given ++ t) nothing in
     let all : bytes ≡ given ++ [] = s.split ∙ ap (λ t. given ++ (not_given p ++ t)) none ∙ ap (λ t. given ++ t) (append-nil (not_given p)) ∙ now in
@@ -522,33 +522,33 @@ ends_none p bytes given none nothing due s own =
 -- what a reader is when it was given that the input ended
 record Ends (old new : PacketsState) (r : Run) : Type 0 where
   pub last : is_last r ≡ true
-  pub done : new.done ≡ true
-  pub failed : new.failed ≡ old.failed
+  pub done : new.is_done ≡ true
+  pub failed : new.has_failed ≡ old.has_failed
   pub taken : new.taken ≡ old.taken
   pub stands : (bytes given : List ℕ) → (old.cutter.mode ≡ Mode.Due → ⊥) → PacketsStandFor old bytes given
       → PacketsStandFor new bytes (given ++ bytes_of_run r) × IsNext given old.cutter.mode r new.cutter.mode × (given ++ bytes_of_run r ≡ bytes)
 
-tail_ends : (p : PacketsState) (lent : Bor (List ℕ)) → p.done ≡ false → p.left ≡ [] → 0 < length p.cutter.kept → lent.now ≡ p.cutter.kept → Ends p (record p { found = FoundRun.Tail; done = true }) (run.Tail lent)
+tail_ends : (p : PacketsState) (lent : Bor (List ℕ)) → p.is_done ≡ false → p.left ≡ [] → 0 < length p.cutter.kept → lent.now ≡ p.cutter.kept → Ends p (record p { found = FoundRun.Tail; is_done = true }) (run.Tail lent)
 tail_ends p lent on none some e = record { last = refl; done = refl; failed = refl; taken = refl; stands = λ bytes given due s. ends_tail p bytes given lent on none some e due s }
 
-none_ends : (p : PacketsState) → p.left ≡ [] → not_given p ≡ [] → ((bytes given : List ℕ) (s : PacketsStandFor p bytes given) → tail_of s.place ≡ p.cutter.kept) → Ends p (record p { found = FoundRun.End; done = true }) run.End
+none_ends : (p : PacketsState) → p.left ≡ [] → not_given p ≡ [] → ((bytes given : List ℕ) (s : PacketsStandFor p bytes given) → tail_of s.place ≡ p.cutter.kept) → Ends p (record p { found = FoundRun.End; is_done = true }) run.End
 none_ends p none nothing own = record { last = refl; done = refl; failed = refl; taken = refl; stands = λ bytes given due s. ends_none p bytes given none nothing due s (own bytes given s) }
 
 -- the end after bytes of no whole word, or after none
-finishes : (p new : PacketsState) (r : Run) (kept : List ℕ) → p.cutter.kept ≡ kept → p.done ≡ false → p.left ≡ []
-    → (p.cutter.kept ≢ [] → new ≡ record p { found = FoundRun.Tail; done = true }) → (p.cutter.kept ≡ [] → new ≡ record p { found = FoundRun.End; done = true }) → IsLastFound new r → Ends p new r
+finishes : (p new : PacketsState) (r : Run) (kept : List ℕ) → p.cutter.kept ≡ kept → p.is_done ≡ false → p.left ≡ []
+    → (p.cutter.kept ≢ [] → new ≡ record p { found = FoundRun.Tail; is_done = true }) → (p.cutter.kept ≡ [] → new ≡ record p { found = FoundRun.End; is_done = true }) → IsLastFound new r → Ends p new r
 finishes p new r [] k on none tail end last =
-    let is : new ≡ record p { found = FoundRun.End; done = true } = end k in
+    let is : new ≡ record p { found = FoundRun.End; is_done = true } = end k in
     let at : r ≡ run.End = subst (λ (x : PacketsState). IsLastFound x r) is last in
-    rw (is, at) (none_ends p none (unknown_on p on ∙ k) (λ bytes given s. tail_on s.place p.done p.cutter.kept on s.tail ∙ sym k))
+    rw (is, at) (none_ends p none (unknown_on p on ∙ k) (λ bytes given s. tail_on s.place p.is_done p.cutter.kept on s.tail ∙ sym k))
 finishes p new r (x ∷ xs) k on none tail end last =
-    let is : new ≡ record p { found = FoundRun.Tail; done = true } = tail (λ e. absurd (let f : x ∷ xs ≡ [] = sym k ∙ e in cc)) in
+    let is : new ≡ record p { found = FoundRun.Tail; is_done = true } = tail (λ e. absurd (let f : x ∷ xs ≡ [] = sym k ∙ e in cc)) in
     let at : (lent : Bor (List ℕ)) × (r ≡ run.Tail lent) × (lent.now ≡ p.cutter.kept) = subst (λ (x : PacketsState). IsLastFound x r) is last in
     rw (is, at.1) (tail_ends p at.0 on none (omega (arith, ap length k)) at.2)
 
 -- after a call that needs more bytes, and a read that gave none
-pub tells_end : (first old now new : PacketsState) (more : List ℕ) (r : Run) (s : CutsNext old now false) → old.done ≡ false → old.failed ≡ false → TookBytes first old more
-    → (now.cutter.kept ≢ [] → new ≡ record (filled now []) { found = FoundRun.Tail; done = true }) → (now.cutter.kept ≡ [] → new ≡ record (filled now []) { found = FoundRun.End; done = true })
+pub tells_end : (first old now new : PacketsState) (more : List ℕ) (r : Run) (s : CutsNext old now false) → old.is_done ≡ false → old.has_failed ≡ false → TookBytes first old more
+    → (now.cutter.kept ≢ [] → new ≡ record (filled now []) { found = FoundRun.Tail; is_done = true }) → (now.cutter.kept ≡ [] → new ≡ record (filled now []) { found = FoundRun.End; is_done = true })
     → IsLastFound new r → ReadsAndGives first new more r × (is_last r ≡ true)
 tells_end first old now new more r s on good reads tail end last =
     let e : Ends (filled now []) new r = finishes (filled now []) new r now.cutter.kept refl (s.done ∙ on) refl tail end last in (
@@ -578,39 +578,39 @@ own_tail : (place : Place) (done : Bool) (kept : List ℕ) → done ≡ true →
 own_tail place true kept e h = h
 own_tail place false kept e h = absurd (cc)
 
-unknown_off : (p : PacketsState) → p.done ≡ true → not_given p ≡ []
+unknown_off : (p : PacketsState) → p.is_done ≡ true → not_given p ≡ []
 unknown_off p e = rw e refl
 
 -- the end is given again
-again : (p : PacketsState) → p.done ≡ true → p.failed ≡ false → ReadsAndGives p (record p { found = FoundRun.End; done = true }) [] run.End
+again : (p : PacketsState) → p.is_done ≡ true → p.has_failed ≡ false → ReadsAndGives p (record p { found = FoundRun.End; is_done = true }) [] run.End
 again p off good = record {
   count = omega arith;
   stands = λ bytes given s.
       let due = s.all off in
-      let t = ends_none p bytes given due.0 (unknown_off p off) due.1 s (own_tail s.place p.done p.cutter.kept off s.tail) in
-      (subst (λ x. PacketsStandFor (record p { found = FoundRun.End; done = true }) x (given ++ [])) (sym (append-nil bytes)) t.0, t.1);
+      let t = ends_none p bytes given due.0 (unknown_off p off) due.1 s (own_tail s.place p.is_done p.cutter.kept off s.tail) in
+      (subst (λ x. PacketsStandFor (record p { found = FoundRun.End; is_done = true }) x (given ++ [])) (sym (append-nil bytes)) t.0, t.1);
   all = λ _ bytes given s.
       let due = s.all off in
-      (ends_none p bytes given due.0 (unknown_off p off) due.1 s (own_tail s.place p.done p.cutter.kept off s.tail)).2 ∙ sym (append-nil bytes);
+      (ends_none p bytes given due.0 (unknown_off p off) due.1 s (own_tail s.place p.is_done p.cutter.kept off s.tail)).2 ∙ sym (append-nil bytes);
   lends = λ f. absurd (let g : true ≡ false = f in cc);
   done = refl;
   good = good;
 }
 
-pub gives_again : (p : PacketsState) (rest : Option (List ℕ)) (r : Run) → p.done ≡ true → p.failed ≡ false → AtEnd rest → r ≡ run.End → GivesRun p (record p { found = FoundRun.End }) rest rest r
+pub gives_again : (p : PacketsState) (rest : Option (List ℕ)) (r : Run) → p.is_done ≡ true → p.has_failed ≡ false → AtEnd rest → r ≡ run.End → GivesRun p (record p { found = FoundRun.End }) rest rest r
 gives_again p rest r off good end at =
-    let same : record p { found = FoundRun.End } ≡ record p { found = FoundRun.End; done = true } = ap (λ (d : Bool). record p { found = FoundRun.End; done = d }) off in
+    let same : record p { found = FoundRun.End } ≡ record p { found = FoundRun.End; is_done = true } = ap (λ (d : Bool). record p { found = FoundRun.End; is_done = d }) off in
     rw (same, at) (record { more = []; taken = sym (preceded_nil rest); tells = again p off good; end = λ _. end })
 
 -- a read that gave none, and then the end
-pub gives_end : (first old now mid new : PacketsState) (more piece : List ℕ) (rest rest_mid rest_now : Option (List ℕ)) (r : Run) (s : CutsNext old now false) → old.done ≡ false → old.failed ≡ false → TookBytes first old more
+pub gives_end : (first old now mid new : PacketsState) (more piece : List ℕ) (rest rest_mid rest_now : Option (List ℕ)) (r : Run) (s : CutsNext old now false) → old.is_done ≡ false → old.has_failed ≡ false → TookBytes first old more
     → rest ≡ preceded more rest_mid → rest_mid ≡ preceded piece rest_now → mid ≡ filled now piece → piece ≡ [] → AtEnd rest_now
-    → (mid.cutter.kept ≢ [] → new ≡ record mid { found = FoundRun.Tail; done = true }) → (mid.cutter.kept ≡ [] → new ≡ record mid { found = FoundRun.End; done = true })
+    → (mid.cutter.kept ≢ [] → new ≡ record mid { found = FoundRun.Tail; is_done = true }) → (mid.cutter.kept ≡ [] → new ≡ record mid { found = FoundRun.End; is_done = true })
     → IsLastFound new r → GivesRun first new rest rest_now r
 gives_end first old now mid new more piece rest rest_mid rest_now r s on good reads t u is none end tail no_tail last =
     let at : mid ≡ filled now [] = is ∙ ap (filled now) none in
-    let by_tail : now.cutter.kept ≢ [] → new ≡ record (filled now []) { found = FoundRun.Tail; done = true } = subst (λ (m : PacketsState). m.cutter.kept ≢ [] → new ≡ record m { found = FoundRun.Tail; done = true }) at tail in
-    let by_none : now.cutter.kept ≡ [] → new ≡ record (filled now []) { found = FoundRun.End; done = true } = subst (λ (m : PacketsState). m.cutter.kept ≡ [] → new ≡ record m { found = FoundRun.End; done = true }) at no_tail in
+    let by_tail : now.cutter.kept ≢ [] → new ≡ record (filled now []) { found = FoundRun.Tail; is_done = true } = subst (λ (m : PacketsState). m.cutter.kept ≢ [] → new ≡ record m { found = FoundRun.Tail; is_done = true }) at tail in
+    let by_none : now.cutter.kept ≡ [] → new ≡ record (filled now []) { found = FoundRun.End; is_done = true } = subst (λ (m : PacketsState). m.cutter.kept ≡ [] → new ≡ record m { found = FoundRun.End; is_done = true }) at no_tail in
     record {
       more = more;
       taken = t ∙ ap (preceded more) (u ∙ ap (λ (p : List ℕ). preceded p rest_now) none ∙ preceded_nil rest_now);
@@ -619,7 +619,7 @@ gives_end first old now mid new more piece rest rest_mid rest_now r s on good re
     }
 
 -- a read that failed
-pub gives_up : (first old now new : PacketsState) (more : List ℕ) (s : CutsNext old now false) → old.done ≡ false → TookBytes first old more → new ≡ record now { bytes = []; failed = true } → GivesUp first new
+pub gives_up : (first old now new : PacketsState) (more : List ℕ) (s : CutsNext old now false) → old.is_done ≡ false → TookBytes first old more → new ≡ record now { bytes = []; has_failed = true } → GivesUp first new
 gives_up first old now new more s on reads e = rw e (record {
   more = more;
   reads = record {
@@ -641,7 +641,7 @@ pub room_on : (old now new : PacketsState) (s : CutsNext old now false) (piece :
 room_on old now new s piece limit e some most room = rw e (omega (arith, s.taken, most, room, turns_go old now s piece some))
 
 -- a reader that has given nothing yet
-pub starts : (p : PacketsState) (first : List ℕ) → CutterStandsFor p.cutter [] [] (Searching []) → p.cutter.kept ≡ [] → p.left ≡ first → p.done ≡ false → p.taken ≡ length first → PacketsStandFor p first []
+pub starts : (p : PacketsState) (first : List ℕ) → CutterStandsFor p.cutter [] [] (Searching []) → p.cutter.kept ≡ [] → p.left ≡ first → p.is_done ≡ false → p.taken ≡ length first → PacketsStandFor p first []
 starts p first c k l on t = record {
   sessions = [];
   place = Searching [];

@@ -7,7 +7,7 @@ use Rattle.x7_regs.specs.Register.{number_of}
 use Rattle.x7_regs.specs.declared.register.Reg.TheVariants.{Cmd}
 pub use Rattle.x7_packets.specs.Cutter.{TakesAsOneRun}
 use Rattle.x7_packets.specs.Cutter.{CutterState}
-use Rattle.x7_packets.specs.PacketWords.{type1_write}
+use Rattle.x7_packets.specs.PacketWords.{type1_write_header}
 use Rattle.x7_packets.specs.Machine.{MachineState}
 use Rattle.x7_packets.specs.SyncWord.{sync_bytes}
 use Rattle.x7_packets.specs.declared.cutter.Cut.TheVariants.{Body, Head, Skip, Sync, Word}
@@ -35,7 +35,7 @@ pub record BeginsWrite (bytes : List ℕ) (register w : ℕ) : Type 0 where
   pub range : register < 32
   pub fits : w < 2 ^ 32
   pub whole : 8 ≤ length bytes
-  pub are : take 8 bytes ≡ bytes_of_word (type1_write register 1) ++ bytes_of_word w
+  pub are : take 8 bytes ≡ bytes_of_word (type1_write_header register 1) ++ bytes_of_word w
 
 -- a machine between the header of a type 1 write and its words
 abbrev pub in_write : ℕ → ℕ → MachineState
@@ -46,8 +46,8 @@ pub record WritesOne (old new : CutterState) (rest : List ℕ) (register w : ℕ
   pub middle : CutterState
   pub range : register < 32
   pub whole : 8 ≤ length rest
-  pub bytes : take 8 rest ≡ bytes_of_word (type1_write register 1) ++ bytes_of_word w
-  pub head : TakesAsOneRun old middle (bytes_of_word (type1_write register 1)) (Head (type1_write register 1) (Open register 1))
+  pub bytes : take 8 rest ≡ bytes_of_word (type1_write_header register 1) ++ bytes_of_word w
+  pub head : TakesAsOneRun old middle (bytes_of_word (type1_write_header register 1)) (Head (type1_write_header register 1) (Open register 1))
   pub word : TakesAsOneRun middle new (bytes_of_word w) (Word register w)
   pub none_kept : new.kept ≡ []
 
@@ -60,8 +60,8 @@ pub record WritesShort (old new : CutterState) (rest : List ℕ) (register count
   pub some : 0 < count
   pub few : count ≤ most_short_words
   pub long : longest_short_write ≤ length rest
-  pub bytes : take 4 rest ≡ bytes_of_word (type1_write register count)
-  pub head : TakesAsOneRun old middle (bytes_of_word (type1_write register count)) (Head (type1_write register count) (Open register count))
+  pub bytes : take 4 rest ≡ bytes_of_word (type1_write_header register count)
+  pub head : TakesAsOneRun old middle (bytes_of_word (type1_write_header register count)) (Head (type1_write_header register count) (Open register count))
   pub words : (run : Bor (List ℕ)) → run.now ≡ take (4 * count) (drop 4 rest) → TakesAsOneRun middle new run.now (Body register run)
   pub none_kept : new.kept ≡ []
 

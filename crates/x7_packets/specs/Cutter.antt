@@ -24,7 +24,8 @@ pub record CutterState : Type 0 where
   pub machine : MachineState
   pub kept : List ℕ
 
--- the cutter stands at this place, and its matcher, its machine and the bytes that it keeps stand for what the place has
+-- the cutter stands at this place, and its matcher, its machine and the bytes that it keeps stand for what the place
+-- has
 abbrev pub AtPlace : CutterState → Mode → Place → Type 0
 AtPlace c Mode.Searching (Searching gap) = MatcherStandsFor c.matcher gap × MachineStandsFor c.machine []
 AtPlace c Mode.Due (Synced gap packets tail) = (packets ≡ []) × (tail ≡ []) × MachineStandsFor c.machine []

@@ -91,14 +91,14 @@ session_with_tail packets tail = reading_of_place (Synced [] packets tail)
 abbrev pub then_gap : List Session → List ℕ → Reading
 then_gap sessions gap = reading_with sessions (Searching gap)
 
--- a write of a word, with the number of bytes up to and with its last one
+-- a write of a word, with the number of bytes up to and including its last one
 abbrev pub write_at : ℕ → ℕ → ℕ → Entry
 write_at register word place = entry (Write register word) place
 
--- a read, with the number of bytes up to and with its header
+-- a read, with the number of bytes up to and including its header
 abbrev pub read_at : ℕ → ℕ → ℕ → Entry
 read_at register count place = entry (access.Read register count) place
 
--- a word that is no header, with the number of bytes up to and with its last one
+-- a word that is no header, with the number of bytes up to and including its last one
 abbrev pub bad_at : ℕ → ℕ → Entry
 bad_at word place = entry (access.Bad word) place

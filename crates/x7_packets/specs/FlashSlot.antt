@@ -7,7 +7,7 @@ use Rattle.x7_words.specs.Word.{bytes_of_word}
 use Rattle.x7_regs.specs.Register.{number_of}
 use Rattle.x7_regs.specs.declared.command.Command.TheVariants.{Desync, Iprog}
 use Rattle.x7_regs.specs.declared.register.Reg.TheVariants.{Wbstar}
-use Rattle.x7_packets.specs.PacketWords.{command, no_op, type1_write}
+use Rattle.x7_packets.specs.PacketWords.{command, no_op, type1_write_header}
 
 -- how many bytes a slot has
 abbrev pub slot_bytes : ℕ
@@ -21,4 +21,4 @@ slot_count = 2048
 -- WBSTAR, IPROG, and then DESYNC for a fallback, which ignores IPROG
 abbrev pub flash_slot : List ℕ → List ℕ → List ℕ
 flash_slot switch start =
-    switch ++ (bytes_of_word no_op ++ (bytes_of_word (type1_write (number_of Wbstar) 1) ++ (start ++ flat_map bytes_of_word (command Iprog ++ command Desync))))
+    switch ++ (bytes_of_word no_op ++ (bytes_of_word (type1_write_header (number_of Wbstar) 1) ++ (start ++ flat_map bytes_of_word (command Iprog ++ command Desync))))

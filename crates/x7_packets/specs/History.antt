@@ -20,7 +20,7 @@ pub data Access : Type 0 where
   Read : (register count : ℕ) → Access
   Bad : (word : ℕ) → Access
 
--- an access, and its place: the number of bytes of the stream up to and with its last byte
+-- an access, and its place: the number of bytes of the stream up to and including its last byte
 pub record Entry : Type 0 where
   pub access : Access
   pub place : ℕ

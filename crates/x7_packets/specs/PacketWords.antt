@@ -53,35 +53,35 @@ abbrev pub no_op : ℕ
 no_op = 0x20000000
 
 -- the header of a type 1 read of `count` words, by the register's number
-abbrev pub type1_read : ℕ → ℕ → ℕ
-type1_read register count = 0x28000000 + 2 ^ 13 * register + count
+abbrev pub type1_read_header : ℕ → ℕ → ℕ
+type1_read_header register count = 0x28000000 + 2 ^ 13 * register + count
 
 -- the header of a type 1 write of `count` words, by the register's number
-abbrev pub type1_write : ℕ → ℕ → ℕ
-type1_write register count = 0x30000000 + 2 ^ 13 * register + count
+abbrev pub type1_write_header : ℕ → ℕ → ℕ
+type1_write_header register count = 0x30000000 + 2 ^ 13 * register + count
 
 -- the header of a type 2 read of `count` words
-abbrev pub type2_read : ℕ → ℕ
-type2_read count = 0x48000000 + count
+abbrev pub type2_read_header : ℕ → ℕ
+type2_read_header count = 0x48000000 + count
 
 -- the header of a type 2 write of `count` words
-abbrev pub type2_write : ℕ → ℕ
-type2_write count = 0x50000000 + count
+abbrev pub type2_write_header : ℕ → ℕ
+type2_write_header count = 0x50000000 + count
 
 -- ---- packets
 
 -- one word written to a register: a header and the word
 abbrev pub write_one : Reg → ℕ → List ℕ
-write_one register word = type1_write (number_of register) 1 ∷ word ∷ []
+write_one register word = type1_write_header (number_of register) 1 ∷ word ∷ []
 
 -- a command: its code written to CMD
 abbrev pub command : Command → List ℕ
 command c = write_one Cmd (code_of c)
 
 -- the headers of a write of `count` words to FDRI: an empty type 1 packet, and a type 2 packet
-abbrev pub frame_data : ℕ → List ℕ
-frame_data count = type1_write (number_of Fdri) 0 ∷ type2_write count ∷ []
+abbrev pub frame_data_headers : ℕ → List ℕ
+frame_data_headers count = type1_write_header (number_of Fdri) 0 ∷ type2_write_header count ∷ []
 
 -- the headers of a read of `count` words from FDRO: an empty type 1 packet, and a type 2 packet
-abbrev pub frame_read : ℕ → List ℕ
-frame_read count = type1_read (number_of Fdro) 0 ∷ type2_read count ∷ []
+abbrev pub frame_read_headers : ℕ → List ℕ
+frame_read_headers count = type1_read_header (number_of Fdro) 0 ∷ type2_read_header count ∷ []

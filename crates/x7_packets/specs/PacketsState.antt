@@ -17,8 +17,8 @@ pub record PacketsState : Type 0 where
   -- the bytes of the last run that stand in the buffer
   pub bytes : List ℕ
   -- whether the last run was the tail or the end
-  pub done : Bool
+  pub is_done : Bool
   -- whether a read failed
-  pub failed : Bool
+  pub has_failed : Bool
   -- how many bytes were read
   pub taken : ℕ

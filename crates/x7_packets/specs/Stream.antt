@@ -24,7 +24,7 @@ with_tail tail (Synced gap packets old) = Synced gap packets tail
 
 -- the bytes that the cutter took and that no run gave yet
 abbrev pub not_given : PacketsState → List ℕ
-not_given p = if p.done then [] else p.cutter.kept
+not_given p = if p.is_done then [] else p.cutter.kept
 
 -- The reader stands for these bytes: those that its runs gave, those that its cutter keeps, and those in
 -- the buffer that the cutter hasn't taken.
@@ -33,10 +33,10 @@ pub record PacketsStandFor (p : PacketsState) (bytes given : List ℕ) : Type 0 
   pub place : Place
   pub split : bytes ≡ given ++ (not_given p ++ p.left)
   pub reading : IsReading given sessions place
-  pub tail : tail_of place ≡ (if p.done then p.cutter.kept else [])
+  pub tail : tail_of place ≡ (if p.is_done then p.cutter.kept else [])
   pub cutter : CutterStandsFor p.cutter (given ++ not_given p) sessions (with_tail p.cutter.kept place)
   pub kept : p.cutter.kept ≡ tail_of (with_tail p.cutter.kept place)
-  pub all : p.done ≡ true → (p.left ≡ []) × (p.cutter.mode ≡ Mode.Due → ⊥)
+  pub all : p.is_done ≡ true → (p.left ≡ []) × (p.cutter.mode ≡ Mode.Due → ⊥)
   pub count : p.taken ≡ length bytes
 
 -- the run that was found is the one that the cutter gave, whatever bytes that lends
@@ -76,8 +76,8 @@ pub record CutsNext (old new : PacketsState) (found_run : Bool) : Type 0 where
   pub left : new.left ≡ drop count old.left
   pub bytes : new.bytes ≡ take count old.left
   pub is : IsRunOrNeed found_run new.found run
-  pub done : new.done ≡ old.done
-  pub failed : new.failed ≡ old.failed
+  pub done : new.is_done ≡ old.is_done
+  pub failed : new.has_failed ≡ old.has_failed
   pub taken : new.taken ≡ old.taken
 
 -- a reader whose bytes were all taken, with a piece more
@@ -117,8 +117,8 @@ pub record ReadsAndGives (old new : PacketsState) (more : List ℕ) (r : Run) : 
   pub stands : (bytes given : List ℕ) → PacketsStandFor old bytes given → PacketsStandFor new (bytes ++ more) (given ++ bytes_of_run r) × IsNext given old.cutter.mode r new.cutter.mode
   pub all : is_last r ≡ true → (bytes given : List ℕ) → PacketsStandFor old bytes given → given ++ bytes_of_run r ≡ bytes ++ more
   pub lends : is_last r ≡ false → (bytes given : List ℕ) → PacketsStandFor old bytes given → LendsRun old new more r
-  pub done : new.done ≡ is_last r
-  pub good : new.failed ≡ false
+  pub done : new.is_done ≡ is_last r
+  pub good : new.has_failed ≡ false
 
 -- the call gave a run: the tail and the end only where the input's rest, if it is known, is empty
 pub record GivesRun (old new : PacketsState) (rest rest_now : Option (List ℕ)) (r : Run) : Type 0 where
@@ -130,23 +130,23 @@ pub record GivesRun (old new : PacketsState) (rest rest_now : Option (List ℕ))
 -- a call may come: the input is selected unless an earlier call failed, it is at its end once the tail or the end was
 -- given, and the count of bytes taken can still grow
 pub record MayCall (p : PacketsState) (input : InputsState) : Type 0 where
-  pub selected : p.failed ≡ false → input.selected ≡ true
-  pub end : p.done ≡ true → AtEnd input.rest
+  pub selected : p.has_failed ≡ false → input.selected ≡ true
+  pub end : p.is_done ≡ true → AtEnd input.rest
   pub count : p.taken ≤ 2 ^ 63
 
 -- what holds of the inputs and of a call's result: an input is still selected after a run, and the call fails only
 -- where a read failed in it or an earlier call failed; after an earlier failure it always fails
 pub record CallsOn {T : Type 0} (p : PacketsState) (old new : InputsState) (result : Result T Failed) : Type 0 where
-  pub failed : OnErr result ((p.failed ≡ true) ⊎ InputsFail old new)
+  pub failed : OnErr result ((p.has_failed ≡ true) ⊎ InputsFail old new)
   pub selected : OnOk result (new.selected ≡ true)
-  pub stays : p.failed ≡ true → OnOk result ⊥
+  pub stays : p.has_failed ≡ true → OnOk result ⊥
   pub inputs : InputsStay old new
 
 -- the call failed: what it took before that still counts
 pub record GivesUp (old new : PacketsState) : Type 0 where
   pub more : List ℕ
   pub reads : TookBytes old new more
-  pub failed : new.failed ≡ true
+  pub failed : new.has_failed ≡ true
 
 -- a call gave a run, or failed
 abbrev pub EndsCall : PacketsState → PacketsState → Option (List ℕ) → Option (List ℕ) → Result Run Failed → Type 0

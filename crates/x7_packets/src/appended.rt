@@ -11,8 +11,9 @@ ghost use Rattle.x7_packets.specs.Reading.{Searching, is_synced, tail_of};
 ghost use Rattle.x7_packets.specs.SyncWord.{HasNoSync, sync_bytes};
 ghost use Rattle.x7_packets.specs.Machine.{AllWhole};
 
-/// After bytes that end searching, bytes that begin with a dummy word are read as they are alone, and so is each prefix
-/// of them: the reading of both is one after the other, and so is their history, whose places are moved.
+/// After bytes that end searching, with no open gap or before bytes that begin with a dummy word, the later bytes are
+/// read as they are alone, and each prefix of them asks the same: the reading of both is one after the other, and so is
+/// their history, whose places are moved; both end in a session, and with a tail, as the later ones do.
 pub fn streams_append()
     ensures reading { (bytes more : List ℕ) → AreBytes (bytes ++ more) → MayFollow (reading_of bytes).place more
         → reading_of (bytes ++ more) ≡ after (reading_of bytes) (reading_of more) }
@@ -42,7 +43,8 @@ pub fn gaps_are_passed()
     ensures alike { (one other more : List ℕ) (k : ℕ) → AreGaps one other more → AreAlike (take k (one ++ more)) (take k (other ++ more)) }
 {}
 
-/// Words that end in no open payload, and then those of a packet: the packets are one more.
+/// Words that end in no open payload, and then those of a packet that may come next: the packets are one more, and end
+/// in no open payload where that packet is whole.
 pub fn packets_append()
     ensures packets { (ws : List ℕ) (packets : List Packet) (packet : Packet) → Packets ws packets → AllWhole None packets → MayComeNext packets packet
         → Packets (ws ++ words packet) (packets ++ packet ∷ []) }

@@ -16,7 +16,7 @@ mod copied;
 use crate::header::{Step, is_cmd};
 use crate::machine::Machine;
 use crate::nops::count_equal;
-use crate::packet_words::{NO_OP, register_in, type1_count_in, type1_write};
+use crate::packet_words::{NO_OP, register_in, type1_count_in, type1_write_header};
 use crate::sync::{Matcher, near_sync};
 use std::marker::Model;
 use x7_words::word_of;
@@ -99,7 +99,7 @@ fn first_write(bytes: &[u8]) -> Option<(u8, u32)>
     };
     let head = word_of(*head);
     let register = register_in(head);
-    if head != type1_write(register, 1) {
+    if head != type1_write_header(register, 1) {
         return None;
     }
     Some((register, word_of(*word)))
@@ -156,7 +156,7 @@ impl Cutter {
     /// The bytes of no whole word that the cutter keeps: at most three, and none while searching.
     pub fn kept(&self) -> &[u8]
         ensures kept { result.now ≡ self.now.kept }
-        ensures short { length result.now ≤ 3 }
+        ensures most { length result.now ≤ 3 }
         ensures tail { (bytes : List ℕ) (sessions : List Session) (place : Place) → CutterStandsFor self.now bytes sessions place → result.now ≡ tail_of place }
     {
         &self.kept[..self.count]
@@ -187,7 +187,7 @@ impl Cutter {
     pub fn nop_count(&self, rest: &[u8]) -> usize
         ensures within { 4 * result ≤ length rest.now }
         ensures nops { take (4 * result) rest.now ≡ nop_bytes result }
-        ensures same { 0 < result → TakesAsOneRun self.now self.now (bytes_of_word no_op) (Cut.Head no_op Step.Nop) }
+        ensures takes_no_op { 0 < result → TakesAsOneRun self.now self.now (bytes_of_word no_op) (Cut.Head no_op Step.Nop) }
         ensures idles { (bytes : List ℕ) (sessions : List Session) (place : Place) → CutterStandsFor self.now bytes sessions place
             → Idles self.now (bytes ++ take (4 * result) rest.now) sessions place }
     {
@@ -201,8 +201,8 @@ impl Cutter {
     /// reserved bits 0. Gives its register and its word.
     #[inline(always)]
     pub fn take_write(&mut self, rest: &[u8]) -> Option<(u8, u32)>
-        ensures some { IfSome result (λ write. WritesOne self.old self.new rest.now write.0 write.1) }
-        ensures none { IfNone result (self.new ≡ self.old) }
+        ensures writes { IfSome result (λ write. WritesOne self.old self.new rest.now write.0 write.1) }
+        ensures unchanged { IfNone result (self.new ≡ self.old) }
     {
         if !self.is_at_header() {
             return None;
@@ -224,8 +224,8 @@ impl Cutter {
     /// Gives its register and how many words it has.
     #[inline(always)]
     pub fn take_short_write(&mut self, rest: &[u8]) -> Option<(u8, usize)>
-        ensures some { IfSome result (λ write. WritesShort self.old self.new rest.now write.0 write.1) }
-        ensures none { IfNone result (self.new ≡ self.old) }
+        ensures writes { IfSome result (λ write. WritesShort self.old self.new rest.now write.0 write.1) }
+        ensures unchanged { IfNone result (self.new ≡ self.old) }
     {
         if !self.is_at_header() {
             return None;
@@ -236,7 +236,7 @@ impl Cutter {
         let head = word_of([rest[0], rest[1], rest[2], rest[3]]);
         let register = register_in(head);
         let count = type1_count_in(head);
-        if head != type1_write(register, count) {
+        if head != type1_write_header(register, count) {
             return None;
         }
         if is_cmd(register) {
@@ -253,8 +253,8 @@ impl Cutter {
     /// `rest` and `rest` is long enough to see it. Gives how many bytes of the gap stand in `rest`.
     #[inline(always)]
     pub fn take_gap(&mut self, rest: &[u8]) -> Option<usize>
-        ensures some { IfSome result (λ count. EndsGap self.old self.new rest.now count) }
-        ensures none { IfNone result (self.new ≡ self.old) }
+        ensures ends_gap { IfSome result (λ count. EndsGap self.old self.new rest.now count) }
+        ensures unchanged { IfNone result (self.new ≡ self.old) }
     {
         if !self.is_in_clear_gap() {
             return None;
@@ -286,7 +286,7 @@ impl Cutter {
     fn is_at_header(&self) -> bool
         ensures mode { IsTrue result → self.now.mode ≡ Mode.Synced }
         ensures kept { IsTrue result → self.now.kept ≡ [] }
-        ensures none_due { IsTrue result → self.now.machine.due ≡ 0 }
+        ensures no_word_due { IsTrue result → self.now.machine.due ≡ 0 }
     {
         let Stage::Synced = self.stage else {
             return false;
@@ -322,7 +322,7 @@ impl Cutter {
         }
     }
 
-    /// Takes bytes of a gap, up to and with a sync word.
+    /// Takes bytes of a gap, up to and including a sync word.
     #[inline(never)]
     fn skip<'p>(&mut self, rest: &'p [u8], at: &mut usize) -> Cut<'p>
         requires searching { self.old.mode ≡ Mode.Searching }
@@ -372,7 +372,7 @@ impl Cutter {
     fn hold(&mut self, rest: &[u8])
         requires synced { self.old.mode ≡ Mode.Synced }
         requires short { length self.old.kept + length rest.now < 4 }
-        ensures same { self.new ≡ record self.old { kept = self.old.kept ++ rest.now } }
+        ensures appends { self.new ≡ record self.old { kept = self.old.kept ++ rest.now } }
         ensures adds { TakesAsOneRun self.old self.new rest.now Cut.Need }
     {
         self.count = keep(&mut self.kept, self.count, rest);

@@ -8,7 +8,7 @@ ghost use Rattle.x7_packets.specs.CheckedWrites.{open_writes};
 
 /// Where the sync word is found.
 pub fn examples_of_the_search()
-    ensures none { reading_of (0xAA ∷ 0x99 ∷ 0x55 ∷ 0xAA ∷ []) ≡ reading_of_place (Searching (0xAA ∷ 0x99 ∷ 0x55 ∷ 0xAA ∷ [])) }
+    ensures three_bytes_alone { reading_of (0xAA ∷ 0x99 ∷ 0x55 ∷ 0xAA ∷ []) ≡ reading_of_place (Searching (0xAA ∷ 0x99 ∷ 0x55 ∷ 0xAA ∷ [])) }
     ensures inside_a_failed_match { reading_of (0xFF ∷ 0xAA ∷ synced (0x20000000 ∷ []))
         ≡ reading_of_place (Synced (0xFF ∷ 0xAA ∷ []) (nop 0x20000000 ∷ []) []) }
     ensures in_the_place_of_a_header { reading_of (synced (0x30004000 ∷ 0xAA995566 ∷ 0x50000001 ∷ 5 ∷ []))
@@ -52,7 +52,8 @@ pub fn examples_of_ends()
         ≡ session_with_tail (nop 0x20000000 ∷ []) (0x30 ∷ 0 ∷ 0x80 ∷ []) }
 {}
 
-/// What a stream asks of the registers: a write to FAR executes RCRC again.
+/// What a stream asks of the registers: each access at its place, the newest first; the commands that it executes,
+/// where a write to FAR executes RCRC again, and DESYNC not; and the writes that no RCRC has cleared since.
 pub fn examples_of_the_history()
     ensures accesses { history_of (synced (0x30008001 ∷ 7 ∷ 0x30002001 ∷ 0 ∷ [])) ≡ write_at 1 0 20 ∷ write_at 4 7 12 ∷ [] }
     ensures commands { executed (history_of (synced (0x30008001 ∷ 7 ∷ 0x30002001 ∷ 0 ∷ []))) ≡ 7 ∷ 7 ∷ [] }
@@ -60,6 +61,6 @@ pub fn examples_of_the_history()
         ≡ bad_at 0xE0000000 33 ∷ read_at 3 2 29 ∷ write_at 1 5 25 ∷ write_at 4 13 13 ∷ [] }
     ensures desync_once { executed (history_of (0xFF ∷ synced (desync ++ 0xAA995566 ∷ 0x30002001 ∷ 5 ∷ []))) ≡ 13 ∷ [] }
     ensures cleared { open_writes (history_of (synced (0x30008001 ∷ 7 ∷ 0x30002001 ∷ 0 ∷ []))) ≡ [] }
-    ensures open { open_writes (history_of (synced (0x30008001 ∷ 7 ∷ 0x30018001 ∷ 9 ∷ 0x30010001 ∷ 1 ∷ 0x30008001 ∷ 1 ∷ [])))
+    ensures still_open { open_writes (history_of (synced (0x30008001 ∷ 7 ∷ 0x30018001 ∷ 9 ∷ 0x30010001 ∷ 1 ∷ 0x30008001 ∷ 1 ∷ [])))
         ≡ write_of 4 1 ∷ write_of 12 9 ∷ [] }
 {}

@@ -34,8 +34,10 @@ pub fn reading_is_found()
         → (ss ≡ (reading_of bytes).sessions) × (p ≡ (reading_of bytes).place) }
 {}
 
-/// Where a session has further words, the history has their accesses too, each at its place; so has it those of a run
-/// of a cutter.
+/// Where a session has further words, the history has their accesses too, each at its place, the next word's place is
+/// that many bytes on, and no tail is left; so has it those of a run of a cutter, and the history of bytes those of the
+/// run cut after them. The place of the next word and the tail make up all bytes, and the history of a reading is that
+/// of its bytes.
 pub fn words_enter()
     ensures words { (old new : Reading) (more : List (ℕ × Step)) → GoesOnBy more old new → history_in new ≡ entered_all (next_in old) more (history_in old) }
     ensures next { (old new : Reading) (more : List (ℕ × Step)) → GoesOnBy more old new → next_in new ≡ next_in old + 4 * length more }
@@ -69,7 +71,8 @@ pub fn accesses_fit()
     ensures { (bytes : List ℕ) (sessions : List Session) (place : Place) → IsReading bytes sessions place → AllFit (history sessions place) }
 {}
 
-/// The history of bytes grows byte by byte: by one access at most, which that byte ends.
+/// The history of bytes grows byte by byte: by one access at most, which that byte ends. Further bytes enter newer
+/// accesses alone, so that up to the old bytes' count it stays the same; and each access of bytes ends within them.
 pub fn histories_grow()
     ensures access { (bytes : List ℕ) (x : ℕ) → AreBytes (bytes ++ x ∷ [])
         → EntersNone bytes (x ∷ []) ⊎ ((access : Access) × EntersOne bytes (x ∷ []) (entry access (length bytes + 1))) }

@@ -4,7 +4,7 @@ ghost use Rattle.x7_words.specs.Word.{AreWords, words_of_bytes};
 ghost use Rattle.x7_regs.specs.Register.{number_of};
 ghost use Rattle.x7_regs.specs.declared.register.Reg.TheVariants.{Cmd};
 ghost use Rattle.x7_packets.specs.AtOnce.{in_write};
-ghost use Rattle.x7_packets.specs.PacketWords.{type1_write};
+ghost use Rattle.x7_packets.specs.PacketWords.{type1_write_header};
 ghost use Rattle.x7_packets.specs.Packet.{Packet, ends_session, payload_steps};
 ghost use Rattle.x7_packets.specs.Machine.{ends_by, Grows, MachineStandsFor};
 
@@ -116,9 +116,9 @@ impl Machine {
     #[inline(always)]
     pub(crate) fn take_write_of_one(&mut self, register: u8, w: u32) -> bool
         requires at_header { self.old.due ≡ 0 }
-        requires range { register < 32 }
+        requires register { register < 32 }
         ensures ends { result ≡ ends_session register w }
-        ensures head { (ps : List Packet) → MachineStandsFor self.old ps → Grows ps ((type1_write register 1, Step.Open register 1) ∷ []) (in_write register 1) }
+        ensures head { (ps : List Packet) → MachineStandsFor self.old ps → Grows ps ((type1_write_header register 1, Step.Open register 1) ∷ []) (in_write register 1) }
         ensures word { (ps : List Packet) → MachineStandsFor (in_write register 1) ps → Grows ps ((w, Step.Payload register w) ∷ []) self.new }
     {
         if ends_session(register, w) {
@@ -134,10 +134,10 @@ impl Machine {
     #[inline(always)]
     pub(crate) fn take_write_to_other(&mut self, register: u8)
         requires at_header { self.old.due ≡ 0 }
-        requires range { register < 32 }
-        requires other { register ≡ number_of Cmd → ⊥ }
+        requires register { register < 32 }
+        requires not_cmd { register ≡ number_of Cmd → ⊥ }
         ensures head { (ps : List Packet) (count : ℕ) → 0 < count → count < 2 ^ 11 → MachineStandsFor self.old ps
-            → Grows ps ((type1_write register count, Step.Open register count) ∷ []) (in_write register count) }
+            → Grows ps ((type1_write_header register count, Step.Open register count) ∷ []) (in_write register count) }
         ensures words { (ps : List Packet) (ws : List ℕ) → AreWords ws → 0 < length ws → MachineStandsFor (in_write register (length ws)) ps
             → Grows ps (payload_steps register ws) self.new }
     {
@@ -148,7 +148,7 @@ impl Machine {
     /// The register whose payload words are due.
     pub(crate) fn register(&self) -> u8
         ensures value { result ≡ self.now.register }
-        ensures range { result < 32 }
+        ensures most { result < 32 }
     {
         self.register
     }

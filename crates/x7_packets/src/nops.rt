@@ -26,19 +26,19 @@ fn count_words(bytes: &[u8], w: u32) -> usize
     words.len()
 }
 
-/// The 32 bytes of the word `w` eight times.
+/// A block that has no word but `w`.
 #[inline(always)]
-fn block_of(w: u32) -> [u8; 32]
+fn block_of(w: u32) -> [u8; BLOCK_BYTES]
     ensures { result ≡ equal_bytes w 8 }
 {
-    let mut block = [0; 32];
+    let mut block = [0; BLOCK_BYTES];
     block.copy_from_slice([bytes_of(w); BLOCK_WORDS].as_flattened());
     block
 }
 
-/// Whether two blocks of 32 bytes are equal, compared at once.
+/// True only for equal blocks, compared at once; that equal ones give true is not promised.
 #[inline(always)]
-fn are_equal(a: &[u8; 32], b: &[u8; 32]) -> bool
+fn are_equal(a: &[u8; BLOCK_BYTES], b: &[u8; BLOCK_BYTES]) -> bool
     ensures { IsTrue result → a.now ≡ b.now }
 {
     u8x32::from_array(*a)
@@ -47,14 +47,14 @@ fn are_equal(a: &[u8; 32], b: &[u8; 32]) -> bool
         == 0
 }
 
-/// How many of the first blocks of eight words have no word but `w`.
+/// How many of the first blocks have no word but `w`, one after the other.
 #[inline(always)]
 fn count_blocks(bytes: &[u8], w: u32) -> usize
-    ensures within { 32 * result ≤ length bytes.now }
-    ensures equal { take (32 * result) bytes.now ≡ equal_bytes w (8 * result) }
+    ensures within { BLOCK_BYTES * result ≤ length bytes.now }
+    ensures equal { take (BLOCK_BYTES * result) bytes.now ≡ equal_bytes w (BLOCK_WORDS * result) }
 {
     let block = block_of(w);
-    let (blocks, _) = bytes.as_chunks::<32>();
+    let (blocks, _) = bytes.as_chunks::<BLOCK_BYTES>();
     for (i, next) in blocks.iter().enumerate() {
         if !are_equal(next, &block) {
             return i;

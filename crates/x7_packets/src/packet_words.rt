@@ -1,7 +1,7 @@
 //! The words of packets, and those that stand between packets (UG470, packet types; configuration sequence).
 ghost use Rattle.std.specs.Prelude.{◌≡◌, ◌<◌, ◌^◌};
 ghost use Rattle.x7_packets.specs.Packet.{register_of, type1_count_of, type2_count_of, type_and_opcode_of};
-ghost use Rattle.x7_packets.specs.PacketWords.{command, frame_data, frame_read, type1_read, type1_write, type2_read, type2_write, write_one};
+ghost use Rattle.x7_packets.specs.PacketWords.{command, frame_data_headers, frame_read_headers, type1_read_header, type1_write_header, type2_read_header, type2_write_header, write_one};
 
 use x7_regs::{Command, Reg};
 
@@ -56,7 +56,7 @@ pub fn kind_in(header: u32) -> u32
 #[inline(always)]
 pub fn register_in(header: u32) -> u8
     ensures value { result ≡ register_of header }
-    ensures range { result < 32 }
+    ensures most { result < 32 }
 {
     (header >> BELOW_REGISTER & 31) as u8
 }
@@ -65,7 +65,7 @@ pub fn register_in(header: u32) -> u8
 #[inline(always)]
 pub fn type1_count_in(header: u32) -> u32
     ensures value { result ≡ type1_count_of header }
-    ensures range { result < 2 ^ 11 }
+    ensures most { result < 2 ^ 11 }
 {
     header & 0x7FF
 }
@@ -74,45 +74,45 @@ pub fn type1_count_in(header: u32) -> u32
 #[inline(always)]
 pub fn type2_count_in(header: u32) -> u32
     ensures value { result ≡ type2_count_of header }
-    ensures range { result < 2 ^ 27 }
+    ensures most { result < 2 ^ 27 }
 {
     header & 0x7FF_FFFF
 }
 
 /// The header of a type 1 read of `count` words, by the register's number. The reserved bits are 0.
 #[inline(always)]
-pub fn type1_read(register: u8, count: u32) -> u32
+pub fn type1_read_header(register: u8, count: u32) -> u32
     requires register { register < 32 }
     requires count { count < 2 ^ 11 }
-    ensures { result ≡ type1_read register count }
+    ensures { result ≡ type1_read_header register count }
 {
     (TYPE1_READ_KIND << BELOW_KIND) + (u32::from(register) << BELOW_REGISTER) + count
 }
 
 /// The header of a type 1 write of `count` words, by the register's number. The reserved bits are 0.
 #[inline(always)]
-pub fn type1_write(register: u8, count: u32) -> u32
+pub fn type1_write_header(register: u8, count: u32) -> u32
     requires register { register < 32 }
     requires count { count < 2 ^ 11 }
-    ensures { result ≡ type1_write register count }
+    ensures { result ≡ type1_write_header register count }
 {
     (TYPE1_WRITE_KIND << BELOW_KIND) + (u32::from(register) << BELOW_REGISTER) + count
 }
 
 /// The header of a type 2 read of `count` words.
 #[inline(always)]
-pub fn type2_read(count: u32) -> u32
+pub fn type2_read_header(count: u32) -> u32
     requires { count < 2 ^ 27 }
-    ensures { result ≡ type2_read count }
+    ensures { result ≡ type2_read_header count }
 {
     (TYPE2_READ_KIND << BELOW_KIND) + count
 }
 
 /// The header of a type 2 write of `count` words.
 #[inline(always)]
-pub fn type2_write(count: u32) -> u32
+pub fn type2_write_header(count: u32) -> u32
     requires { count < 2 ^ 27 }
-    ensures { result ≡ type2_write count }
+    ensures { result ≡ type2_write_header count }
 {
     (TYPE2_WRITE_KIND << BELOW_KIND) + count
 }
@@ -122,7 +122,7 @@ pub fn type2_write(count: u32) -> u32
 pub fn write_one(register: Reg, word: u32) -> [u32; 2]
     ensures { result ≡ write_one register word }
 {
-    [type1_write(register.number(), 1), word]
+    [type1_write_header(register.number(), 1), word]
 }
 
 /// A command: its code written to CMD.
@@ -135,18 +135,24 @@ pub fn command(c: Command) -> [u32; 2]
 
 /// The headers of a write of `count` words to FDRI: an empty type 1 packet, and a type 2 packet.
 #[inline(always)]
-pub fn frame_data(count: u32) -> [u32; 2]
+pub fn frame_data_headers(count: u32) -> [u32; 2]
     requires { count < 2 ^ 27 }
-    ensures { result ≡ frame_data count }
+    ensures { result ≡ frame_data_headers count }
 {
-    [type1_write(Reg::Fdri.number(), 0), type2_write(count)]
+    [
+        type1_write_header(Reg::Fdri.number(), 0),
+        type2_write_header(count),
+    ]
 }
 
 /// The headers of a read of `count` words from FDRO: an empty type 1 packet, and a type 2 packet.
 #[inline(always)]
-pub fn frame_read(count: u32) -> [u32; 2]
+pub fn frame_read_headers(count: u32) -> [u32; 2]
     requires { count < 2 ^ 27 }
-    ensures { result ≡ frame_read count }
+    ensures { result ≡ frame_read_headers count }
 {
-    [type1_read(Reg::Fdro.number(), 0), type2_read(count)]
+    [
+        type1_read_header(Reg::Fdro.number(), 0),
+        type2_read_header(count),
+    ]
 }

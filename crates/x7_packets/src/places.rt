@@ -50,9 +50,9 @@ fn top_bits(bytes: u8x32) -> u64
 #[inline(always)]
 fn lowest_bit(bits: u64) -> usize
     requires { bits ≢ 0 }
-    ensures bound { result < 64 }
+    ensures most { result < 64 }
     ensures set { bit_at bits result ≡ 1 }
-    ensures below { (k : ℕ) → k < result → bit_at bits k ≡ 0 }
+    ensures none_below { (k : ℕ) → k < result → bit_at bits k ≡ 0 }
 {
     bits.trailing_zeros() as usize
 }
@@ -61,7 +61,7 @@ fn lowest_bit(bits: u64) -> usize
 #[inline(always)]
 fn sync_bits(bytes: &[u8], at: usize) -> u64
     requires { at + places_reach ≤ length bytes.now }
-    ensures some { (k : ℕ) → bit_at result k ≡ 1 → (k < 32) × OccursAt bytes.now sync_bytes (at + k) }
+    ensures only { (k : ℕ) → bit_at result k ≡ 1 → (k < 32) × OccursAt bytes.now sync_bytes (at + k) }
     ensures all { (k : ℕ) → k < 32 → OccursAt bytes.now sync_bytes (at + k) → bit_at result k ≡ 1 }
 {
     let first_two = both(

@@ -2,7 +2,7 @@
 ghost use Rattle.std.specs.Prelude.{◌≡◌};
 ghost use Rattle.x7_packets.specs.FlashSlot.{flash_slot};
 
-use crate::packet_words::{NO_OP, type1_write};
+use crate::packet_words::{NO_OP, type1_write_header};
 use x7_regs::{Command, Reg};
 use x7_words::bytes_of;
 
@@ -17,11 +17,11 @@ pub const SLOT_COUNT: u64 = 2048;
 pub fn flash_slot(switch: [u8; 4], start: [u8; 4]) -> [u8; 32]
     ensures { result ≡ flash_slot switch start }
 {
-    let write_command = bytes_of(type1_write(Reg::Cmd.number(), 1));
+    let write_command = bytes_of(type1_write_header(Reg::Cmd.number(), 1));
     let words = [
         switch,
         bytes_of(NO_OP),
-        bytes_of(type1_write(Reg::Wbstar.number(), 1)),
+        bytes_of(type1_write_header(Reg::Wbstar.number(), 1)),
         start,
         write_command,
         bytes_of(Command::Iprog.code()),

@@ -50,8 +50,8 @@ pub(crate) enum LastRun {
 
 /// The run that the cutter gave, without its bytes; `None` where the cutter needs more bytes.
 fn last_run_of(cut: Cut) -> Option<LastRun>
-    ensures some { IfSome result (λ run. IsFoundRun (found_of run) cut.entry) }
-    ensures none { IfNone result (IsNeed cut.entry) }
+    ensures found { IfSome result (λ run. IsFoundRun (found_of run) cut.entry) }
+    ensures need { IfNone result (IsNeed cut.entry) }
 {
     match cut {
         Cut::Need => None,
@@ -85,8 +85,8 @@ pub struct Packets {
     at: usize,
     end: usize,
     found: LastRun,
-    done: bool,
-    failed: bool,
+    is_done: bool,
+    has_failed: bool,
     taken: u64,
 }
 
@@ -98,7 +98,7 @@ impl Model for Packets {
 
     ghost Value = { PacketsState };
 
-    ghost view = { λ p. record { cutter = p.cutter; left = between p.buffer.items p.at p.end; found = found_of p.found; bytes = between p.buffer.items p.start p.at; done = p.done; failed = p.failed; taken = p.taken } };
+    ghost view = { λ p. record { cutter = p.cutter; left = between p.buffer.items p.at p.end; found = found_of p.found; bytes = between p.buffer.items p.start p.at; is_done = p.is_done; has_failed = p.has_failed; taken = p.taken } };
 
     ghost invariant = { λ p. (p.start ≤ p.at) × (p.at ≤ p.end) × (p.end ≤ vec_len p.buffer) × (vec_len p.buffer ≡ piece_size) };
 }
@@ -110,8 +110,8 @@ impl Packets {
     /// The packets of these bytes and then of what an input gives.
     pub fn new(alloc: Global, first: &[u8]) -> Result<Packets, NoMemory>
         requires { length first.now ≤ piece_size }
-        ensures ok { IfOk result (λ p. PacketsStandFor p first.now []) }
-        ensures fresh { IfOk result (λ p. (p.done ≡ false) × (p.failed ≡ false) × (p.cutter.mode ≡ Mode.Searching)) }
+        ensures stands { IfOk result (λ p. PacketsStandFor p first.now []) }
+        ensures fresh { IfOk result (λ p. (p.is_done ≡ false) × (p.has_failed ≡ false) × (p.cutter.mode ≡ Mode.Searching)) }
     {
         let buffer = buffer_of(alloc, first)?;
         let cutter = Cutter::new();
@@ -123,8 +123,8 @@ impl Packets {
             at: 0,
             end: first.len(),
             found: LastRun::End,
-            done: false,
-            failed: false,
+            is_done: false,
+            has_failed: false,
             taken: first.len() as u64,
         })
     }
@@ -140,14 +140,14 @@ impl Packets {
     /// Gives the next run. The call reads where it must, and no more once the tail or the end was given; the end is
     /// then given again. After a failed read each call fails.
     pub fn next_run<'b, I: Inputs>(&'b mut self, inputs: &mut I) -> Result<Run<'b>, Failed>
-        requires selected { self.old.failed ≡ false → (I.state inputs.old).selected ≡ true }
-        requires end { self.old.done ≡ true → AtEnd (I.state inputs.old).rest }
+        requires selected { self.old.has_failed ≡ false → (I.state inputs.old).selected ≡ true }
+        requires end { self.old.is_done ≡ true → AtEnd (I.state inputs.old).rest }
         requires count { self.old.taken ≤ 2 ^ 63 }
         ensures* next { sem 𝓛 (EndsNextCall self.entry (I.state inputs.old).rest (I.state inputs.new).rest result) }
-        ensures failed { OnErr result ((self.old.failed ≡ true) ⊎ InputsFail (I.state inputs.old) (I.state inputs.new)) }
+        ensures failed { OnErr result ((self.old.has_failed ≡ true) ⊎ InputsFail (I.state inputs.old) (I.state inputs.new)) }
         ensures selected { OnOk result ((I.state inputs.new).selected ≡ true) }
-        ensures stays { self.old.failed ≡ true → OnOk result ⊥ }
-        ensures ended { self.old.done ≡ true → inputs.new ≡ inputs.old }
+        ensures stays_failed { self.old.has_failed ≡ true → OnOk result ⊥ }
+        ensures reads_no_more { self.old.is_done ≡ true → inputs.new ≡ inputs.old }
         ensures inputs { InputsStay (I.state inputs.old) (I.state inputs.new) }
     {
         self.advance(inputs)?;
@@ -160,12 +160,12 @@ impl Packets {
         ensures ok { OnOk result ((r : Run) → IsLastFound self.new r → GivesRun self.old self.new (I.state inputs.old).rest (I.state inputs.new).rest r) }
         ensures err { OnErr result (GivesUp self.old self.new) }
         ensures call { CallsOn self.old (I.state inputs.old) (I.state inputs.new) result }
-        ensures ended { self.old.done ≡ true → inputs.new ≡ inputs.old }
+        ensures reads_no_more { self.old.is_done ≡ true → inputs.new ≡ inputs.old }
     {
-        if self.failed {
+        if self.has_failed {
             return Err(Failed);
         }
-        if self.done {
+        if self.is_done {
             self.found = LastRun::End;
             return Ok(());
         }
@@ -224,7 +224,7 @@ impl Packets {
         requires none { self.old.left ≡ [] }
         requires count { self.old.taken + piece_size < 2 ^ 64 }
         ensures ok { IfOk result (λ gave_bytes. Fills self.old self.new (I.state inputs.old).rest (I.state inputs.new).rest gave_bytes) }
-        ensures err { OnErr result (self.new ≡ record self.old { bytes = []; failed = true }) }
+        ensures err { OnErr result (self.new ≡ record self.old { bytes = []; has_failed = true }) }
         ensures failed { OnErr result (InputsFail (I.state inputs.old) (I.state inputs.new)) }
         ensures selected { OnOk result ((I.state inputs.new).selected ≡ true) }
         ensures inputs { InputsStay (I.state inputs.old) (I.state inputs.new) }
@@ -239,7 +239,7 @@ impl Packets {
                 Ok(count > 0)
             }
             Err(failed) => {
-                self.failed = true;
+                self.has_failed = true;
                 Err(failed)
             }
         }
@@ -247,10 +247,10 @@ impl Packets {
 
     /// Ends the runs: with the tail where the cutter keeps bytes of no whole word, else with the end.
     fn finish(&mut self)
-        ensures kept { self.old.cutter.kept ≢ [] → self.new ≡ record self.old { found = FoundRun.Tail; done = true } }
-        ensures none { self.old.cutter.kept ≡ [] → self.new ≡ record self.old { found = FoundRun.End; done = true } }
+        ensures tail { self.old.cutter.kept ≢ [] → self.new ≡ record self.old { found = FoundRun.Tail; is_done = true } }
+        ensures end { self.old.cutter.kept ≡ [] → self.new ≡ record self.old { found = FoundRun.End; is_done = true } }
     {
-        self.done = true;
+        self.is_done = true;
         self.found = if self.cutter.kept().is_empty() {
             LastRun::End
         } else {

@@ -7,6 +7,9 @@ ghost use Rattle.x7_packets.specs.Matching.{IsClear, IsFirstSync, MatcherStandsF
 use crate::places::{PLACES_REACH, first_of_places, first_sync};
 use std::marker::Model;
 
+/// How many bytes the sync word has.
+const SYNC_SIZE: usize = 4;
+
 /// How many bytes of a sync word that began before a piece stand in the piece, at most.
 const SYNC_REST: usize = 3;
 
@@ -27,10 +30,10 @@ fn is_sync(bytes: [u8; 4]) -> bool
 pub(crate) fn near_sync(bytes: &[u8]) -> Option<usize>
     requires { places_reach ≤ length bytes.now }
     ensures first { IfSome result (λ at. IsFirstSync bytes.now at) }
-    ensures near { IfSome result (λ at. at + 4 ≤ longest_gap_and_sync) }
+    ensures most { IfSome result (λ at. at + 4 ≤ longest_gap_and_sync) }
 {
     match first_of_places(bytes, 0) {
-        Some(at) if at + 4 <= LONGEST_GAP_AND_SYNC => Some(at),
+        Some(at) if at + SYNC_SIZE <= LONGEST_GAP_AND_SYNC => Some(at),
         _ => None,
     }
 }
@@ -82,7 +85,7 @@ impl Matcher {
     /// Takes a byte, and says whether the bytes since `new` or since the last true end with the sync word.
     pub fn feed(&mut self, byte: u8) -> bool
         ensures found { (bytes : List ℕ) → MatcherStandsFor self.old bytes → IsTrue result ↔ EndsWithSync (bytes ++ byte ∷ []) }
-        ensures after { (bytes : List ℕ) → MatcherStandsFor self.old bytes → MatcherStandsFor self.new (if result then [] else bytes ++ byte ∷ []) }
+        ensures stands { (bytes : List ℕ) → MatcherStandsFor self.old bytes → MatcherStandsFor self.new (if result then [] else bytes ++ byte ∷ []) }
     {
         let found = is_sync([self.first, self.second, self.third, byte]);
         *self = if found {
@@ -97,8 +100,8 @@ impl Matcher {
         found
     }
 
-    /// Takes bytes up to and with the end of the first sync word, and says how many; or takes
-    /// them all, where no sync word ends in them.
+    /// Takes bytes up to and including the first sync word's last byte, and says how many; or takes them all, where no
+    /// sync word ends in them.
     pub(crate) fn search(&mut self, bytes: &[u8]) -> Option<usize>
         ensures within { IfSome result (λ n. (0 < n) × (n ≤ length bytes.now)) }
         ensures found { (gap : List ℕ) → MatcherStandsFor self.old gap → HasNoSync gap → Searched gap bytes.now result self.new }
@@ -106,12 +109,13 @@ impl Matcher {
         if bytes.len() < PLACES_REACH {
             return self.search_bytewise(bytes);
         }
+        // A sync word that began before these bytes ends in the first three.
         let near = self.search_bytewise(&bytes[..SYNC_REST]);
         if near.is_some() {
             return near;
         }
         match first_sync(bytes) {
-            Some(at) => Some(at + 4),
+            Some(at) => Some(at + SYNC_SIZE),
             None => {
                 *self = Matcher::after(bytes);
                 None
@@ -119,8 +123,8 @@ impl Matcher {
         }
     }
 
-    /// Takes bytes, one by one, up to and with the end of the first sync word, and says how many; or takes them all,
-    /// where no sync word ends in them.
+    /// Takes bytes, one by one, up to and including the first sync word's last byte, and says how many; or takes them
+    /// all, where no sync word ends in them.
     fn search_bytewise(&mut self, bytes: &[u8]) -> Option<usize>
         ensures within { IfSome result (λ n. (0 < n) × (n ≤ length bytes.now)) }
         ensures found { (gap : List ℕ) → MatcherStandsFor self.old gap → HasNoSync gap → Searched gap bytes.now result self.new }

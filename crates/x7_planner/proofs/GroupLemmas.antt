@@ -9,7 +9,7 @@ use Rattle.x7_memory.specs.Plan.{PlanRow, planned_addresses}
 use Rattle.x7_part.specs.Part.{PartData, frame_words}
 use Rattle.x7_regs.specs.declared.command.Command.TheVariants.{Mfw, Wcfg}
 use Rattle.x7_regs.specs.declared.register.Reg.TheVariants.{Far}
-use Rattle.x7_packets.specs.PacketWords.{command, frame_data, write_one}
+use Rattle.x7_packets.specs.PacketWords.{command, frame_data_headers, write_one}
 use Rattle.x7_planner.specs.Content.{AreFirsts, AreGrouped, AreStarts, AreTogether, IsFirst, planned_row, planned_rows}
 use Rattle.x7_planner.specs.PartialStream.{Copies, copy_words, groups_led, is_shared, leads_group, others, section_words, with_content}
 use Rattle.x7_planner.specs.Writer.{bytes_of_words}
@@ -170,16 +170,16 @@ copies_end frames words firsts old new a k x t m f l inner n h =
     (sym (up_to (planned_rows frames) words a k t f l (λ d. place_other (planned_rows frames) words firsts a k d t m f inside (λ e. n (known ∙ e)))))
 
 pub group_written : (part : PartData) (old one two three new words fars : List ℕ) (first width : ℕ) → width ≡ frame_words part → get_or fars 0 0 ≡ first
-    → one ≡ old ++ bytes_of_words (command Wcfg ++ (write_one Far first ++ frame_data width)) → two ≡ one ++ bytes_of_words words → three ≡ two ++ bytes_of_words (command Mfw)
+    → one ≡ old ++ bytes_of_words (command Wcfg ++ (write_one Far first ++ frame_data_headers width)) → two ≡ one ++ bytes_of_words words → three ≡ two ++ bytes_of_words (command Mfw)
     → new ≡ three ++ bytes_of_words (flat_map copy_words fars) → new ≡ old ++ bytes_of_words (section_words part (Copies words fars))
 group_written part old one two three new words fars first width w f a b c d =
-    let opening : List ℕ = command Wcfg ++ (write_one Far first ++ frame_data width) in
+    let opening : List ℕ = command Wcfg ++ (write_one Far first ++ frame_data_headers width) in
     let copies : List ℕ = flat_map copy_words fars in
     written_on old three new ((opening ++ words) ++ command Mfw) copies (written_on old two three (opening ++ words) (command Mfw) (written_on old one two opening words a b) c) d
     ∙ ap (λ t. old ++ bytes_of_words t)
     (append_assoc (opening ++ words) (command Mfw) copies ∙ append_assoc opening words (command Mfw ++ copies)
-    ∙ ap (λ (x : ℕ). command Wcfg ++ (write_one Far x ++ (frame_data width ++ (words ++ (command Mfw ++ copies))))) (sym f)
-    ∙ ap (λ (x : ℕ). command Wcfg ++ (write_one Far (get_or fars 0 0) ++ (frame_data x ++ (words ++ (command Mfw ++ copies))))) w)
+    ∙ ap (λ (x : ℕ). command Wcfg ++ (write_one Far x ++ (frame_data_headers width ++ (words ++ (command Mfw ++ copies))))) (sym f)
+    ∙ ap (λ (x : ℕ). command Wcfg ++ (write_one Far (get_or fars 0 0) ++ (frame_data_headers x ++ (words ++ (command Mfw ++ copies))))) w)
 
 pub led_none : (part : PartData) (old : List ℕ) (all : List PlanRow) (r : PlanRow) (b : Bool) → b ≡ leads_group all r → b ≡ false → old ≡ old ++ bytes_of_words (flat_map (section_words part) (groups_led all (r ∷ [])))
 led_none part old all r b e y = rw (sym e ∙ y) (sym (append-nil old))

@@ -14,7 +14,7 @@ use Rattle.x7_memory.specs.Plan.{AreInOrder, PlanRow, planned_addresses}
 use Rattle.x7_part.specs.Part.{PartData, frame_words}
 use Rattle.x7_regs.specs.declared.command.Command.TheVariants.{Wcfg}
 use Rattle.x7_regs.specs.declared.register.Reg.TheVariants.{Far}
-use Rattle.x7_packets.specs.PacketWords.{command, frame_data, write_one}
+use Rattle.x7_packets.specs.PacketWords.{command, frame_data_headers, write_one}
 use Rattle.x7_planner.specs.Content.{planned_row, planned_rows}
 use Rattle.x7_planner.specs.PartialStream.{IsRunLength, Rows, follows, frames_words, groups_led, is_shared, others, partial_ending, partial_opening, partial_stream, sections_of, runs_of, runs_words, section_words, with_row}
 use Rattle.x7_planner.specs.Writer.{Check, Words, bytes_of_words, with_piece}
@@ -94,16 +94,16 @@ run_whole part frames k l h m p = record {
 }
 
 pub run_written : (part : PartData) (old one two new : List ℕ) (rows : List PlanRow) (first width count : ℕ) → width ≡ frame_words part → get_or (planned_addresses rows) 0 0 ≡ first → count ≡ length rows
-    → one ≡ old ++ bytes_of_words (command Wcfg ++ (write_one Far first ++ frame_data (width * (count + 1)))) → two ≡ one ++ bytes_of_words (frames_words rows) → new ≡ two ++ bytes_of_words (replicate width 0)
+    → one ≡ old ++ bytes_of_words (command Wcfg ++ (write_one Far first ++ frame_data_headers (width * (count + 1)))) → two ≡ one ++ bytes_of_words (frames_words rows) → new ≡ two ++ bytes_of_words (replicate width 0)
     → new ≡ old ++ bytes_of_words (section_words part (Rows rows))
 run_written part old one two new rows first width count w f n a b c =
-    let opening : List ℕ = command Wcfg ++ (write_one Far first ++ frame_data (width * (count + 1))) in
+    let opening : List ℕ = command Wcfg ++ (write_one Far first ++ frame_data_headers (width * (count + 1))) in
     written_on old two new (opening ++ frames_words rows) (replicate width 0) (written_on old one two opening (frames_words rows) a b) c
     ∙ ap (λ t. old ++ bytes_of_words t)
     (append_assoc opening (frames_words rows) (replicate width 0)
-    ∙ ap (λ (x : ℕ). command Wcfg ++ (write_one Far x ++ (frame_data (width * (count + 1)) ++ (frames_words rows ++ replicate width 0)))) (sym f)
-    ∙ ap (λ (x : ℕ). command Wcfg ++ (write_one Far (get_or (planned_addresses rows) 0 0) ++ (frame_data (width * (x + 1)) ++ (frames_words rows ++ replicate width 0)))) n
-    ∙ ap (λ (x : ℕ). command Wcfg ++ (write_one Far (get_or (planned_addresses rows) 0 0) ++ (frame_data (x * (length rows + 1)) ++ (frames_words rows ++ replicate x 0)))) w)
+    ∙ ap (λ (x : ℕ). command Wcfg ++ (write_one Far x ++ (frame_data_headers (width * (count + 1)) ++ (frames_words rows ++ replicate width 0)))) (sym f)
+    ∙ ap (λ (x : ℕ). command Wcfg ++ (write_one Far (get_or (planned_addresses rows) 0 0) ++ (frame_data_headers (width * (x + 1)) ++ (frames_words rows ++ replicate width 0)))) n
+    ∙ ap (λ (x : ℕ). command Wcfg ++ (write_one Far (get_or (planned_addresses rows) 0 0) ++ (frame_data_headers (x * (length rows + 1)) ++ (frames_words rows ++ replicate x 0)))) w)
 
 pub address_at : (part : PartData) (frames : List PlannedFrame) (k : ℕ) (e : PlannedFrame) → All (λ row. Contains (addresses_in part) row.far) (planned_rows frames) → k < length frames → Contains (addresses_in part) (get_or frames k e).far
 address_at part frames k e a l = subst (λ (r : PlanRow). Contains (addresses_in part) r.far) (row_at frames k (planned_row e) e l) (a k (planned_row e) (omega (arith, l, length-map frames planned_row)))

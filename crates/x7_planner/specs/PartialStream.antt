@@ -9,7 +9,7 @@ use Rattle.x7_part.specs.declared.slot.Slot.TheVariants.{Frame, Pad, End}
 use Rattle.x7_memory.specs.Plan.{AreApart, PlanRow, planned, planned_addresses}
 use Rattle.x7_regs.specs.declared.command.Command.TheVariants.{Desync, Mfw, Rcrc, Wcfg}
 use Rattle.x7_regs.specs.declared.register.Reg.TheVariants.{Far, Idcode, Mfwr}
-use Rattle.x7_packets.specs.PacketWords.{command, frame_data, no_op, write_one}
+use Rattle.x7_packets.specs.PacketWords.{command, frame_data_headers, no_op, write_one}
 use Rattle.x7_planner.specs.Writer.{Words, Check, opening_words, stream_of}
 use Rattle.x7_planner.specs.FullStream.{zero_frame}
 
@@ -102,9 +102,9 @@ frames_words rows = flat_map (λ row. row.words) rows
 -- of zeros
 abbrev pub section_words : PartData → Section → List ℕ
 section_words part (Copies words fars) =
-    command Wcfg ++ (write_one Far (slice_index fars 0) ++ (frame_data (frame_words part) ++ (words ++ (command Mfw ++ flat_map copy_words fars))))
+    command Wcfg ++ (write_one Far (slice_index fars 0) ++ (frame_data_headers (frame_words part) ++ (words ++ (command Mfw ++ flat_map copy_words fars))))
 section_words part (Rows rows) =
-    command Wcfg ++ (write_one Far (slice_index (planned_addresses rows) 0) ++ (frame_data (frame_words part * (length rows + 1)) ++ (frames_words rows ++ zero_frame part)))
+    command Wcfg ++ (write_one Far (slice_index (planned_addresses rows) 0) ++ (frame_data_headers (frame_words part * (length rows + 1)) ++ (frames_words rows ++ zero_frame part)))
 
 -- what a partial stream begins with, before the groups
 abbrev pub partial_opening : PartData → List ℕ

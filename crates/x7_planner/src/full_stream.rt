@@ -21,7 +21,7 @@ use std::alloc::Global;
 use std::marker::Model;
 use x7_crc::PieceChecker;
 use x7_memory::Plan;
-use x7_packets::{NO_OP, command, frame_data, write_one};
+use x7_packets::{NO_OP, command, frame_data_headers, write_one};
 use x7_part::{Part, Slot};
 use x7_regs::{Command, Reg};
 use x7_words::NoMemory;
@@ -78,7 +78,7 @@ fn put_settings(out: &mut Vec<u8>, part: &Part) -> Result<(), NoMemory>
             write_one(Reg::Ctl0, CONTROL),
             command(Command::Wcfg),
             write_one(Reg::Far, first_address(part)),
-            frame_data(words),
+            frame_data_headers(words),
         ],
     )
 }

@@ -10,7 +10,7 @@ use crate::content::{ByContent, PlannedFrame};
 use crate::writer::Writer;
 use std::alloc::{AllocError, Global};
 use x7_memory::Plan;
-use x7_packets::{command, frame_data, write_one};
+use x7_packets::{command, frame_data_headers, write_one};
 use x7_part::Part;
 use x7_regs::{Command, Reg};
 use x7_words::NoMemory;
@@ -77,7 +77,7 @@ fn put_group(
     writer.packets(&[
         command(Command::Wcfg),
         write_one(Reg::Far, far),
-        frame_data(part.words()),
+        frame_data_headers(part.words()),
     ])?;
     writer.words(words)?;
     writer.words(&command(Command::Mfw))?;

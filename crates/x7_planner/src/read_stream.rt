@@ -7,7 +7,7 @@ ghost use Rattle.x7_planner.specs.declared.fault.PlanFault.{PlanFault};
 use crate::fault::PlanFault;
 use crate::writer::{OPENING_WORDS, Writer};
 use std::alloc::Global;
-use x7_packets::{NO_OP, command, frame_read, write_one};
+use x7_packets::{NO_OP, command, frame_read_headers, write_one};
 use x7_part::Part;
 use x7_regs::{Command, Reg};
 use x7_words::NoMemory;
@@ -27,7 +27,7 @@ fn read_of(alloc: Global, far: u32, words: u32) -> Result<Vec<u8>, NoMemory>
     writer.packets(&[
         command(Command::Rcfg),
         write_one(Reg::Far, far),
-        frame_read(words),
+        frame_read_headers(words),
         command(Command::Desync),
     ])?;
     writer.words(&[NO_OP; 4])?;

@@ -9,7 +9,7 @@ ghost use Rattle.x7_planner.specs.Writer.{with_piece, Words};
 use crate::content::PlannedFrame;
 use crate::full_stream::zeros;
 use crate::writer::Writer;
-use x7_packets::{command, frame_data, write_one};
+use x7_packets::{command, frame_data_headers, write_one};
 use x7_part::{Part, Slot};
 use x7_regs::{Command, Reg};
 use x7_words::NoMemory;
@@ -59,7 +59,7 @@ fn put_run(writer: &mut Writer, part: &Part, run: &[PlannedFrame]) -> Result<(),
     writer.packets(&[
         command(Command::Wcfg),
         write_one(Reg::Far, run[0].far),
-        frame_data(words),
+        frame_data_headers(words),
     ])?;
     put_frames(writer, run)?;
     writer.words(zeros(part.words()))?;

@@ -12,7 +12,7 @@ use Rattle.x7_header.specs.Header.{Contents, longest_header}
 use Rattle.x7_text.specs.Lines.{split}
 use Rattle.x7_text.proofs.LineReaderLemmas.{HasTaken, each_fault}
 use Rattle.x7_listing.specs.Assembly.{AreHeadedAsm}
-use Rattle.x7_listing.specs.Assembling.{AreReadWithRoom, AsmState, FailsFirst, FailsNext, TextsAreRead, HasAsmFault, HasLineRoom, IsOutputOf, IsFirstOrGood, IsSoundOutput, Output, ReadsFirst, ReadsNext, AppendsLines, Unbegun, AreReadOrUnbegun, LinesAreRead, state_of_output, asm_state, has_any}
+use Rattle.x7_listing.specs.Assembling.{HasReadWithRoom, AsmState, FailsFirst, FailsNext, TextsAreRead, HasAsmFault, HasLineRoom, IsOutputOf, IsFirstOrGood, IsSoundOutput, Output, ReadsFirst, ReadsNext, AppendsLines, Unbegun, AreReadOrUnbegun, LinesAreRead, state_of_output, asm_state, has_any}
 use Rattle.x7_listing.specs.BitLine.{bit_text, IsHeaderOf, FitsHeader}
 use Rattle.x7_text.specs.Reads.{Reads}
 use Rattle.x7_listing.specs.Line.{Line, Empty, Comment, Bytes, Sync, Nop, Write, Read, Write2, Read2, Word, Data, Cmd, Check, line_bytes, FitsLine, text_of}
@@ -108,15 +108,15 @@ still_begun check b t old new start r h = let g = grown check b t old new r in o
 pub keeps_begun : (check : ℕ) (b : Bool) (t old new : List ℕ) (start : ℕ) (checker : CheckerState) → Reads FitsLine text_of (line_bytes check) b t old new → start ≤ length old → KeepsCheckOf checker (drop start old) → KeepsCheckOf checker (drop start new)
 keeps_begun check b t old new start checker r h k = let g = grown check b t old new r in still_keeps checker (drop start old) g.0 (drop start new) (ap (drop start) g.1 ∙ drop-append-le start old g.0 h) k
 
-pub first_read : {A : Type 0} (r : Result A AsmFault) (old new : Output) (line : List ℕ) (lines : List (List ℕ)) → length lines ≡ 0 → OnOk r (ReadsFirst old new line) → OnOk r (HasLineRoom new) → IfErr r (FailsFirst old line) → AreReadWithRoom old lines
-    → MatchResult r (λ _. AreReadWithRoom new (lines ++ line ∷ [])) (λ f. (left : List (List ℕ)) → HasAsmFault f (lines ++ line ∷ left))
+pub first_read : {A : Type 0} (r : Result A AsmFault) (old new : Output) (line : List ℕ) (lines : List (List ℕ)) → length lines ≡ 0 → OnOk r (ReadsFirst old new line) → OnOk r (HasLineRoom new) → IfErr r (FailsFirst old line) → HasReadWithRoom old lines
+    → MatchResult r (λ _. HasReadWithRoom new (lines ++ line ∷ [])) (λ f. (left : List (List ℕ)) → HasAsmFault f (lines ++ line ∷ left))
 first_read (Ok _) old new line [] none reads room fails h = record { read = λ left. reads (line ∷ left) left (h.read (line ∷ left)); room = λ _. room }
 first_read (Err f) old new line [] none reads room (inl want) h = λ left. inl want
 first_read (Err f) old new line [] none reads room (inr bad) h = λ left. inr (bad (line ∷ left) left (h.read (line ∷ left)))
 first_read r old new line (t ∷ ts) none reads room fails h = absurd (omega (arith, none))
 
-pub next_read : {A : Type 0} (r : Result A AsmFault) (old new : Output) (n : ℕ) (line : List ℕ) (lines : List (List ℕ)) → n ≡ length lines + 1 → (n ≡ 1 → ⊥) → OnOk r (ReadsNext old new n line) → OnOk r (HasLineRoom new) → IfErr r (FailsNext old n line) → AreReadWithRoom old lines
-    → MatchResult r (λ _. AreReadWithRoom new (lines ++ line ∷ [])) (λ f. (left : List (List ℕ)) → HasAsmFault f (lines ++ line ∷ left))
+pub next_read : {A : Type 0} (r : Result A AsmFault) (old new : Output) (n : ℕ) (line : List ℕ) (lines : List (List ℕ)) → n ≡ length lines + 1 → (n ≡ 1 → ⊥) → OnOk r (ReadsNext old new n line) → OnOk r (HasLineRoom new) → IfErr r (FailsNext old n line) → HasReadWithRoom old lines
+    → MatchResult r (λ _. HasReadWithRoom new (lines ++ line ∷ [])) (λ f. (left : List (List ℕ)) → HasAsmFault f (lines ++ line ∷ left))
 next_read r old new n line [] m more reads room fails h = absurd (more m)
 next_read (Ok _) old new n line (t ∷ ts) m more reads room fails h =
     let read : IsOutputOf new ((t ∷ ts) ++ line ∷ []) = λ left.
@@ -127,8 +127,8 @@ next_read (Ok _) old new n line (t ∷ ts) m more reads room fails h =
 next_read (Err f) old new n line (t ∷ ts) m more reads room (inl want) h = λ left. inl want
 next_read (Err f) old new n line (t ∷ ts) m more reads room (inr bad) h = λ left. inr (bad ((t ∷ ts) ++ line ∷ left) left (length (t ∷ ts)) m (h.read (line ∷ left)))
 
-pub with_more : {A : Type 0} (r : Result A AsmFault) (new : Output) (line : List ℕ) (lines : List (List ℕ)) → MatchResult r (λ _. AreReadWithRoom new (lines ++ line ∷ [])) (λ f. (left : List (List ℕ)) → HasAsmFault f (lines ++ line ∷ left))
-    → MatchResult r (λ _. AreReadWithRoom new (lines ++ line ∷ [])) (λ f. (more : List ℕ) → HasAsmFault f (lines ++ line ∷ split more))
+pub with_more : {A : Type 0} (r : Result A AsmFault) (new : Output) (line : List ℕ) (lines : List (List ℕ)) → MatchResult r (λ _. HasReadWithRoom new (lines ++ line ∷ [])) (λ f. (left : List (List ℕ)) → HasAsmFault f (lines ++ line ∷ left))
+    → MatchResult r (λ _. HasReadWithRoom new (lines ++ line ∷ [])) (λ f. (more : List ℕ) → HasAsmFault f (lines ++ line ∷ split more))
 with_more (Ok _) new line lines h = h
 with_more (Err f) new line lines h = λ more. h (split more)
 
@@ -142,7 +142,7 @@ first_wants r line [] none = each_fault r (λ f. f ≡ fault.NoMemory → IsFirs
 first_wants r line (t ∷ ts) none = absurd (omega (arith, none))
 
 pub next_wants : {A : Type 0} (r : Result A AsmFault) (old new : Output) (n : ℕ) (line : List ℕ) (lines : List (List ℕ)) → n ≡ length lines + 1 → (n ≡ 1 → ⊥)
-    → IfErr r (λ f. f ≡ fault.NoMemory → HasLineRoom old → ReadsNext old new n line) → AreReadWithRoom old lines → IfErr r (λ f. f ≡ fault.NoMemory → IsFirstOrGood lines line)
+    → IfErr r (λ f. f ≡ fault.NoMemory → HasLineRoom old → ReadsNext old new n line) → HasReadWithRoom old lines → IfErr r (λ f. f ≡ fault.NoMemory → IsFirstOrGood lines line)
 next_wants (Ok _) old new n line lines m more reads h = tt
 next_wants (Err f) old new n line [] m more reads h = absurd (more m)
 next_wants (Err f) old new n line (t ∷ ts) m more reads h = λ want.
@@ -192,7 +192,7 @@ any_before [] (l ∷ more) none e = absurd (omega (arith, none refl))
 any_before (t ∷ ts) more none e = refl
 
 all_read : (old new : Output) (text rest : List ℕ) (k : ℕ) (lines : List (List ℕ)) (t : AppendsLines text rest old.out new.out k) → new.start ≡ old.start → new.checker ≡ old.checker → (length lines ≡ 0 → k ≡ 0)
-    → (length old.out ≤ 67108864 → length new.out ≤ 67108864) → (HasLineRoom old → HasLineRoom new) → AreReadWithRoom old lines → AreReadWithRoom new (lines ++ map text_of t.lines)
+    → (length old.out ≤ 67108864 → length new.out ≤ 67108864) → (HasLineRoom old → HasLineRoom new) → HasReadWithRoom old lines → HasReadWithRoom new (lines ++ map text_of t.lines)
 all_read old new text rest k lines t start checker none limit room h = record {
   read = subst (λ (s : ℕ). IsOutputOf (output_by new.out s new.checker) (lines ++ map text_of t.lines)) (sym start)
       (subst (λ (x : CheckerState). IsOutputOf (output_by new.out old.start x) (lines ++ map text_of t.lines)) (sym checker) (quick_read old.out new.out text rest old.start k old.checker lines t none limit h.read));
@@ -201,11 +201,11 @@ all_read old new text rest k lines t start checker none limit room h = record {
 
 -- the lines that AsmLines takes at once
 pub at_once_taken : (old new : Output) (text rest left : List ℕ) (k n c size : ℕ) (lines : List (List ℕ)) → left ≡ drop size rest → AppendsLines rest (drop size rest) old.out new.out k → new.start ≡ old.start → new.checker ≡ old.checker
-    → (n ≡ 0 → k ≡ 0) → (length old.out ≤ 67108864 → length new.out ≤ 67108864) → (HasLineRoom old → HasLineRoom new) → c ≡ n + k → HasTaken AreReadWithRoom lines text rest old n → HasTaken AreReadWithRoom lines text left new c
+    → (n ≡ 0 → k ≡ 0) → (length old.out ≤ 67108864 → length new.out ≤ 67108864) → (HasLineRoom old → HasLineRoom new) → c ≡ n + k → HasTaken HasReadWithRoom lines text rest old n → HasTaken HasReadWithRoom lines text left new c
 at_once_taken old new text rest left k n c size lines is t start checker none limit room up h = record {
   more = h.more ++ map text_of t.lines;
   texts = h.texts ∙ ap (λ ls. h.more ++ ls) (quick_texts rest (drop size rest) old.out new.out k t ∙ ap (λ x. map text_of t.lines ++ split x) (sym is)) ∙ sym (append_assoc h.more (map text_of t.lines) (split left));
-  took = subst (AreReadWithRoom new) (append_assoc lines h.more (map text_of t.lines))
+  took = subst (HasReadWithRoom new) (append_assoc lines h.more (map text_of t.lines))
       (all_read old new rest (drop size rest) k (lines ++ h.more) t start checker (λ e. none (h.counts ∙ e)) limit room h.took);
   counts = up ∙ ap (λ (j : ℕ). j + k) h.counts ∙ ap (λ (j : ℕ). length (lines ++ h.more) + j) (t.count_is ∙ sym (length-map t.lines text_of)) ∙ sym (length-append (lines ++ h.more) (map text_of t.lines)) ∙ ap length (append_assoc lines h.more (map text_of t.lines));
 }

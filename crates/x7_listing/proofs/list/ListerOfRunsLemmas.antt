@@ -58,15 +58,15 @@ takes_as run.End l given before bytes due e t = absurd (let g : true ≡ false =
 
 -- what was listed of bytes, by any reading of them
 listed_by : (l : ListerState) (given before bytes : List ℕ) (due : Mode) (t : TakerStandsFor l given before bytes due) (sessions : List Session) (place : Place) → IsReading bytes sessions place
-    → HasListed (written_of l.synced l.in_line l.held (given ++ l.text)) before sessions place due × (t.at ≡ place)
+    → HasListed (written_of l.is_synced l.in_line l.held (given ++ l.text)) before sessions place due × (t.at ≡ place)
 listed_by l given before bytes due t sessions place r =
     let e : (t.sessions ≡ sessions) × (t.at ≡ place) = one_reading bytes t.sessions sessions t.at place t.reading r in (
-      subst (λ p. HasListed (written_of l.synced l.in_line l.held (given ++ l.text)) before sessions p due) e.1 (subst (λ (s : List Session). HasListed (written_of l.synced l.in_line l.held (given ++ l.text)) before s t.at due) e.0 t.listed),
+      subst (λ p. HasListed (written_of l.is_synced l.in_line l.held (given ++ l.text)) before sessions p due) e.1 (subst (λ (s : List Session). HasListed (written_of l.is_synced l.in_line l.held (given ++ l.text)) before s t.at due) e.0 t.listed),
       e.1,
     )
 
 pub takes_run : (l n : ListerState) (r : Run) (given before bytes : List ℕ) (due next : Mode) → is_last r ≡ false → n.cutter ≡ l.cutter
-    → WritesRun (cut_of r) (written_of l.synced l.in_line l.held (given ++ l.text)) (written_of n.synced n.in_line n.held (given ++ n.text)) → ((IsNeed (cut_of r) → ⊥) → n.synced ≡ true → n.held ≡ [])
+    → WritesRun (cut_of r) (written_of l.is_synced l.in_line l.held (given ++ l.text)) (written_of n.is_synced n.in_line n.held (given ++ n.text)) → ((IsNeed (cut_of r) → ⊥) → n.is_synced ≡ true → n.held ≡ [])
     → TakerStandsFor l given before bytes due → IsNext bytes due r next → TakesRun r n (runs_listed given before (bytes ++ bytes_of_run r) next)
 takes_run l n r given before bytes due next on same writes none t x =
     let listed = (listed_by l given before bytes due t x.sessions x.place x.before).0 in
@@ -82,12 +82,12 @@ takes_run l n r given before bytes due next on same writes none t x =
 
 -- a run that is no tail and no end is taken as the run of a cutter
 pub takes_cut : (l n : ListerState) (r : Run) (k : Cut) (given before bytes : List ℕ) (due next : Mode) → ((tail : Bor (List ℕ)) → r ≡ run.Tail tail → ⊥) → (r ≡ run.End → ⊥) → n.cutter ≡ l.cutter → k ≡ cut_of r
-    → WritesRun k (written_of l.synced l.in_line l.held (given ++ l.text)) (written_of n.synced n.in_line n.held (given ++ n.text)) → ((IsNeed k → ⊥) → n.synced ≡ true → n.held ≡ [])
+    → WritesRun k (written_of l.is_synced l.in_line l.held (given ++ l.text)) (written_of n.is_synced n.in_line n.held (given ++ n.text)) → ((IsNeed k → ⊥) → n.is_synced ≡ true → n.held ≡ [])
     → TakerStandsFor l given before bytes due → IsNext bytes due r next → TakesRun r n (runs_listed given before (bytes ++ bytes_of_run r) next)
 takes_cut l n r k given before bytes due next no_tail no_end same e writes none t x =
     takes_run l n r given before bytes due next (goes_if r no_tail no_end) same
-    (subst (λ c. WritesRun c (written_of l.synced l.in_line l.held (given ++ l.text)) (written_of n.synced n.in_line n.held (given ++ n.text))) e writes)
-    (subst (λ c. (IsNeed c → ⊥) → n.synced ≡ true → n.held ≡ []) e none) t x
+    (subst (λ c. WritesRun c (written_of l.is_synced l.in_line l.held (given ++ l.text)) (written_of n.is_synced n.in_line n.held (given ++ n.text))) e writes)
+    (subst (λ c. (IsNeed c → ⊥) → n.is_synced ≡ true → n.held ≡ []) e none) t x
   where
     goes_if : (r : Run) → ((tail : Bor (List ℕ)) → r ≡ run.Tail tail → ⊥) → (r ≡ run.End → ⊥) → is_last r ≡ false
     goes_if (run.Skip bytes) a b = refl
@@ -111,11 +111,11 @@ listed_tail true line l2 held all before bytes sessions ns (Synced gap packets t
   ap tail_of a.2,
 )
 
-pub takes_tail : (l n : ListerState) (tail : Bor (List ℕ)) (given before bytes : List ℕ) (due next : Mode) → n.cutter ≡ l.cutter → n.synced ≡ true → (l.synced ≡ true → n.in_line ≡ l.in_line) → n.held ≡ tail.now → n.text ≡ l.text
+pub takes_tail : (l n : ListerState) (tail : Bor (List ℕ)) (given before bytes : List ℕ) (due next : Mode) → n.cutter ≡ l.cutter → n.is_synced ≡ true → (l.is_synced ≡ true → n.in_line ≡ l.in_line) → n.held ≡ tail.now → n.text ≡ l.text
     → TakerStandsFor l given before bytes due → IsNext bytes due (run.Tail tail) next → TakerStandsFor n given before (bytes ++ tail.now) next
 takes_tail l n tail given before bytes due next c s i h e t x =
     let listed = (listed_by l given before bytes due t x.sessions x.place x.before).0 in
-    let now = listed_tail l.synced l.in_line n.in_line l.held (given ++ l.text) before tail x.sessions x.new_sessions x.place x.new_place due next i listed x.adds x.mode_changes.0 x.mode_changes.1 in
+    let now = listed_tail l.is_synced l.in_line n.in_line l.held (given ++ l.text) before tail x.sessions x.new_sessions x.place x.new_place due next i listed x.adds x.mode_changes.0 x.mode_changes.1 in
     record {
       sessions = x.new_sessions;
       at = x.new_place;
@@ -128,7 +128,7 @@ takes_tail l n tail given before bytes due next c s i h e t x =
 -- ---- the end
 
 -- a listing that begins
-pub starts : (l : ListerState) (given before : List ℕ) → CutterStandsFor l.cutter [] [] (Searching []) → l.synced ≡ false → l.in_line ≡ 0 → l.held ≡ [] → given ++ l.text ≡ before → TakerStandsFor l given before [] Mode.Searching
+pub starts : (l : ListerState) (given before : List ℕ) → CutterStandsFor l.cutter [] [] (Searching []) → l.is_synced ≡ false → l.in_line ≡ 0 → l.held ≡ [] → given ++ l.text ≡ before → TakerStandsFor l given before [] Mode.Searching
 starts l given before c s i h e = record {
   sessions = [];
   at = Searching [];
@@ -138,9 +138,9 @@ starts l given before c s i h e = record {
   cutter = c;
 }
 
-pub takes_end : (l n : ListerState) (given before bytes : List ℕ) (due next : Mode) → n.cutter ≡ l.cutter → n.synced ≡ false → n.in_line ≡ 0 → n.held ≡ []
-    → ((given before bytes : List ℕ) (sessions : List Session) (place : Place) (m : Mode) → HasListed (written_of l.synced l.in_line l.held (given ++ l.text)) before sessions place m → (m ≡ Mode.Due → ⊥) → IsReading bytes sessions place
-    → (l.synced ≡ true → l.held ≡ tail_of place) → given ++ n.text ≡ before ++ reading_text sessions place)
+pub takes_end : (l n : ListerState) (given before bytes : List ℕ) (due next : Mode) → n.cutter ≡ l.cutter → n.is_synced ≡ false → n.in_line ≡ 0 → n.held ≡ []
+    → ((given before bytes : List ℕ) (sessions : List Session) (place : Place) (m : Mode) → HasListed (written_of l.is_synced l.in_line l.held (given ++ l.text)) before sessions place m → (m ≡ Mode.Due → ⊥) → IsReading bytes sessions place
+    → (l.is_synced ≡ true → l.held ≡ tail_of place) → given ++ n.text ≡ before ++ reading_text sessions place)
     → TakerStandsFor l given before bytes due → IsNext bytes due run.End next → Finished n given before (bytes ++ [])
 takes_end l n given before bytes due next c s i h writes t x =
     let cutter : CutterStandsFor n.cutter [] [] (Searching []) = rw c t.cutter in
@@ -150,7 +150,7 @@ takes_end l n given before bytes due next c s i h writes t x =
       listing = listing;
       listing_is = record { sessions = t.sessions; place = t.at; reading = rw (append-nil bytes) t.reading; text_is = refl };
       listed = listed;
-      stands = begins n.cutter n.synced n.in_line n.held n.text given (before ++ listing) cutter s i h listed (not_due n.cutter cutter);
+      stands = begins n.cutter n.is_synced n.in_line n.held n.text given (before ++ listing) cutter s i h listed (not_due n.cutter cutter);
       takes = starts n given (before ++ listing) cutter s i h listed;
     }
 

@@ -1,5 +1,5 @@
--- The lines of what is listed at once: no-ops in a row, short writes, and a gap
--- with its sync word (this project's choice).
+-- The lines of what is listed at once: no-ops in a row, and short writes; the rows of the tables that hold them; and
+-- where a `data` line has its digits (this project's choice).
 use Rattle.std.specs.Prelude.{◌≡◌, ◌==◌, Bool, not, ℕ, zero, suc, ◌+◌, List, [], ◌∷◌, ◌++◌, codes, drop, get_or, take}
 use Rattle.x7_packets.specs.PacketWords.{no_op}
 use Rattle.x7_packets.specs.declared.header.Step.{Step}

@@ -10,25 +10,27 @@ use Rattle.x7_listing.specs.declared.list.pen.state.Pen.TheVariants.{Session}
 
 -- ---- how many bytes of text a step puts on a sheet at most
 
--- the lines of a write of one word, after an open line's end: a row, eight digits and a line end
-abbrev pub one_write_size : ℕ
-one_write_size = 42
+-- how many bytes the lines of a write of one word have at most, with an open line's end before them: that end, a row,
+-- eight digits and a line end
+abbrev pub one_write_lines_size : ℕ
+one_write_lines_size = 42
 
--- the line of a short write's header, after an open line's end: a row, two digits and a line end
-abbrev pub head_size : ℕ
-head_size = 36
+-- how many bytes the line of a short write's header has at most, with an open line's end before it: that end, a row,
+-- two digits and a line end
+abbrev pub head_line_size : ℕ
+head_line_size = 36
 
--- the lines of a short write: its header's, and two full `data` lines
-abbrev pub short_write_size : ℕ
-short_write_size = head_size + 2 * data_line_size
+-- how many bytes the lines of a short write have at most: its header's, and two full `data` lines
+abbrev pub short_write_lines_size : ℕ
+short_write_lines_size = head_line_size + 2 * data_line_size
 
--- the lines of 32 no-ops, four bytes each, after an open line's end
-abbrev pub nops_size : ℕ
-nops_size = 129
+-- how many bytes the lines of 32 no-ops have, four each, with an open line's end before them
+abbrev pub nop_lines_size : ℕ
+nop_lines_size = 129
 
--- the lines of a gap of 31 bytes, and of the sync word after it
-abbrev pub gap_size : ℕ
-gap_size = 74
+-- how many bytes the lines of a gap of 31 bytes and of the sync word after it have
+abbrev pub gap_lines_size : ℕ
+gap_lines_size = 74
 
 -- ---- what stands there
 

@@ -5,6 +5,7 @@ ghost use Rattle.x7_words.specs.Word.{AreBytes};
 ghost use Rattle.x7_header.specs.Header.{Contents, longest_header};
 ghost use Rattle.x7_text.specs.Digits.{hex_byte};
 ghost use Rattle.x7_listing.specs.BitLine.{bit_text, field_text, HasFieldFirst, IsCutAtSpace, IsField, IsHeaderOf, FitsHeader};
+ghost use Rattle.x7_listing.specs.Line.{space_byte};
 
 use memchr::memchr;
 use std::alloc::Global;
@@ -46,7 +47,7 @@ fn field_of(alloc: Global, text: &[u8]) -> Result<Option<Vec<u8>>, NoMemory>
 
 /// The text before the first space, and the text after it; `None` where no space stands.
 fn at_space(text: &[u8]) -> Option<(&[u8], &[u8])>
-    ensures { MatchOption result ((word rest : List ℕ) → text.now ≢ word ++ 32 ∷ rest) (λ parts. IsCutAtSpace text.now parts.0.now parts.1.now) }
+    ensures { MatchOption result ((word rest : List ℕ) → text.now ≢ word ++ space_byte ∷ rest) (λ parts. IsCutAtSpace text.now parts.0.now parts.1.now) }
 {
     let Some(at) = memchr(b' ', text) else {
         return None;
@@ -56,7 +57,7 @@ fn at_space(text: &[u8]) -> Option<(&[u8], &[u8])>
 
 /// The bytes that the text's first field holds, and the text after the space that follows it.
 fn first_field(alloc: Global, text: &[u8]) -> Result<Option<(Vec<u8>, &[u8])>, NoMemory>
-    ensures { IfOk result (λ found. MatchOption found ((field rest : List ℕ) → IsField field → text.now ≢ field_text field ++ 32 ∷ rest)
+    ensures { IfOk result (λ found. MatchOption found ((field rest : List ℕ) → IsField field → text.now ≢ field_text field ++ space_byte ∷ rest)
         (λ parts. HasFieldFirst text.now parts.0.items parts.1.now)) }
 {
     let Some((digits, rest)) = at_space(text) else {
@@ -71,7 +72,7 @@ fn first_field(alloc: Global, text: &[u8]) -> Result<Option<(Vec<u8>, &[u8])>, N
 /// The header whose line this is, as bytes; `None` where the text is no header's line.
 pub(crate) fn header_of_line(alloc: Global, line: &[u8]) -> Result<Option<Vec<u8>>, NoMemory>
     ensures found { IfOk result (λ found. MatchOption found ((x : Contents) → FitsHeader x → line.now ≢ bit_text x) (λ bytes. IsHeaderOf line.now bytes.items)) }
-    ensures short { IfOk result (λ found. IfSome found (λ bytes. vec_len bytes ≤ longest_header)) }
+    ensures most { IfOk result (λ found. IfSome found (λ bytes. vec_len bytes ≤ longest_header)) }
 {
     let Some(fields) = after(line, b"bit ") else {
         return Ok(None);

@@ -3,13 +3,13 @@ ghost use Rattle.std.specs.Prelude.{◌≡◌, ℕ, List, [], ◌∷◌, ◌++�
 ghost use Rattle.x7_text.specs.Reads.{Reads};
 ghost use Rattle.x7_crc.specs.Checker.{check_of_bytes, KeepsCheckOf};
 ghost use Rattle.x7_listing.specs.Assembly.{AreHeadedAsm};
-ghost use Rattle.x7_listing.specs.Assembling.{AreReadWithRoom, FailsFirst, FailsNext, HasAsmFault, HasLineRoom, HasRoomForLine, IsFirstOrGood, Output, ReadsFirst, ReadsNext, AppendsLines};
+ghost use Rattle.x7_listing.specs.Assembling.{HasReadWithRoom, FailsFirst, FailsNext, HasAsmFault, HasLineRoom, HasRoomForLine, IsFirstOrGood, Output, ReadsFirst, ReadsNext, AppendsLines};
 ghost use Rattle.x7_listing.specs.Line.{line_bytes, FitsLine, text_of};
 ghost use Rattle.x7_listing.specs.declared.assembler.AsmFault.{AsmFault};
 
-use super::fast::{WholeLines, next_line, put_quick_after};
+use super::fast::{WholeLines, next_line, put_quick_after_first_line};
 use super::header::header_of_line;
-use super::reading::put_line;
+use super::reading::{MOST_LINE_BYTES, put_line};
 use crate::assembler::{ASM_LIMIT, AsmFault};
 use std::alloc::Global;
 use std::marker::Model;
@@ -57,7 +57,7 @@ impl Model for AsmLines {
 impl AsmLines {
     /// An assembler that has taken no line.
     pub fn new(alloc: Global) -> AsmLines
-        ensures { AreReadWithRoom result [] }
+        ensures { HasReadWithRoom result [] }
     {
         AsmLines {
             alloc,
@@ -70,25 +70,25 @@ impl AsmLines {
     /// Appends the bytes of line `n`, counted from 1, which is no header's, and makes room for those of the next. Where
     /// there was room for this one, memory is wanting only once it is read.
     fn put_one(&mut self, n: u64, line: &[u8]) -> Result<(), AsmFault>
-        ensures ok { OnOk result (ReadsNext self.old self.new n line.now) }
+        ensures reads { OnOk result (ReadsNext self.old self.new n line.now) }
         ensures room { OnOk result (HasLineRoom self.new) }
         ensures fault { IfErr result (FailsNext self.old n line.now) }
         ensures memory { IfErr result (λ fault. fault ≡ AsmFault.NoMemory → HasLineRoom self.old → ReadsNext self.old self.new n line.now) }
     {
-        self.out.reserve(32)?;
+        self.out.reserve(MOST_LINE_BYTES)?;
         if !put_checked(&mut self.out, self.start, &mut self.checker, line) {
             return Err(AsmFault::Line(n));
         }
         if self.out.len() > ASM_LIMIT {
             return Err(AsmFault::TooLong(n));
         }
-        self.out.reserve(32)?;
+        self.out.reserve(MOST_LINE_BYTES)?;
         Ok(())
     }
 
     /// Appends the bytes of the first line, which may be a header's, and makes room for those of the next.
     fn put_first(&mut self, line: &[u8]) -> Result<(), AsmFault>
-        ensures ok { OnOk result (ReadsFirst self.old self.new line.now) }
+        ensures reads { OnOk result (ReadsFirst self.old self.new line.now) }
         ensures room { OnOk result (HasLineRoom self.new) }
         ensures fault { IfErr result (FailsFirst self.old line.now) }
     {
@@ -96,7 +96,7 @@ impl AsmLines {
             self.start = header.len();
             self.out = header;
             self.checker = Checker::new();
-            self.out.reserve(32)?;
+            self.out.reserve(MOST_LINE_BYTES)?;
             return Ok(());
         }
         self.put_one(1, line)
@@ -105,9 +105,9 @@ impl AsmLines {
     /// Appends the bytes of line `n`, counted from 1. Memory is wanting only at the first line, or where all lines up
     /// to this one are good.
     fn put_next(&mut self, n: u64, line: &[u8]) -> Result<(), AsmFault>
-        ensures read { (lines : List (List ℕ)) → n ≡ length lines + 1 → AreReadWithRoom self.old lines
-            → MatchResult result (λ _. AreReadWithRoom self.new (lines ++ line.now ∷ [])) (λ f. (left : List (List ℕ)) → HasAsmFault f (lines ++ line.now ∷ left)) }
-        ensures memory { (lines : List (List ℕ)) → n ≡ length lines + 1 → AreReadWithRoom self.old lines
+        ensures read { (lines : List (List ℕ)) → n ≡ length lines + 1 → HasReadWithRoom self.old lines
+            → MatchResult result (λ _. HasReadWithRoom self.new (lines ++ line.now ∷ [])) (λ f. (left : List (List ℕ)) → HasAsmFault f (lines ++ line.now ∷ left)) }
+        ensures memory { (lines : List (List ℕ)) → n ≡ length lines + 1 → HasReadWithRoom self.old lines
             → IfErr result (λ fault. fault ≡ AsmFault.NoMemory → IsFirstOrGood lines line.now) }
     {
         if n == 1 {
@@ -118,16 +118,16 @@ impl AsmLines {
 
     /// Appends the bytes of the text's first lines after `n` lines, as far as they are read at once.
     fn put_at_once(&mut self, n: u64, text: &[u8]) -> WholeLines
-        ensures takes { AppendsLines text.now (drop result.size text.now) self.old.out self.new.out result.count }
+        ensures appends { AppendsLines text.now (drop result.size text.now) self.old.out self.new.out result.count }
         ensures start { self.new.start ≡ self.old.start }
         ensures room { HasLineRoom self.old → HasLineRoom self.new }
         ensures checker { self.new.checker ≡ self.old.checker }
         ensures within { result.size ≤ length text.now }
-        ensures counted { result.count ≤ result.size }
-        ensures limit { length self.old.out ≤ ASM_LIMIT → length self.new.out ≤ ASM_LIMIT }
-        ensures none { n ≡ 0 → result.count ≡ 0 }
+        ensures count_within { result.count ≤ result.size }
+        ensures most { length self.old.out ≤ ASM_LIMIT → length self.new.out ≤ ASM_LIMIT }
+        ensures no_first_line { n ≡ 0 → result.count ≡ 0 }
     {
-        put_quick_after(&mut self.out, n, text)
+        put_quick_after_first_line(&mut self.out, n, text)
     }
 }
 
@@ -136,7 +136,7 @@ impl TakesLines for AsmLines {
 
     type Out = Vec<u8>;
 
-    ghost took = { λ first. AreReadWithRoom };
+    ghost took = { λ first. HasReadWithRoom };
 
     ghost fails = { λ first. HasAsmFault };
 

@@ -4,20 +4,25 @@ ghost use Rattle.x7_words.specs.Word.{bytes_of_word};
 ghost use Rattle.x7_regs.specs.Command.{code_of, command_name_of};
 ghost use Rattle.x7_regs.specs.Register.{reg_name};
 ghost use Rattle.x7_regs.specs.declared.command.Command.{Command};
-ghost use Rattle.x7_packets.specs.PacketWords.{type1_read, type1_write, type2_read, type2_write};
+ghost use Rattle.x7_packets.specs.PacketWords.{type1_read_header, type1_write_header, type2_read_header, type2_write_header};
 ghost use Rattle.x7_text.specs.Appends.{Appends};
 ghost use Rattle.x7_text.specs.Digits.{hex_word};
 ghost use Rattle.x7_listing.specs.Assembling.{HasRoomForLine};
-ghost use Rattle.x7_listing.specs.Line.{type1_text, line_bytes, FitsLine, IsType1, IsPlain, text_of};
+ghost use Rattle.x7_listing.specs.Line.{type1_text, line_bytes, FitsLine, IsType1, IsPlain, text_of, space_byte};
 ghost use Rattle.x7_listing.specs.BitLine.{IsFirstSpace};
 ghost use Rattle.x7_listing.specs.OneWord.{IsWordOf, PutsWord};
 ghost use Rattle.x7_text.specs.Reads.{Reads, StaysWithin};
 ghost use Rattle.x7_text.specs.Row.{row_bytes};
 
-use x7_packets::{NO_OP, SYNC_WORD, type1_read, type1_write, type2_read, type2_write};
+use x7_packets::{
+    NO_OP, SYNC_WORD, type1_read_header, type1_write_header, type2_read_header, type2_write_header,
+};
 use x7_regs::{Reg, command_named, reg_named};
 use x7_text::{after, decimal_below, put, put_byte_row, put_word_row, word_of_hex};
 use x7_words::{bytes_of, is_same};
+
+/// How many bytes a line stands for at most: those of a full row.
+pub(crate) const MOST_LINE_BYTES: usize = 32;
 
 /// How many word counts a type 1 header can say: each is below this (UG470, packet types).
 const TYPE1_COUNTS: u32 = 1 << 11;
@@ -28,7 +33,7 @@ const TYPE2_COUNTS: u32 = 1 << 27;
 /// The place of the first space, if one stands among the first ten bytes, which the name of a register never fills.
 #[inline(always)]
 fn space_in(text: &[u8]) -> Option<usize>
-    ensures { MatchOption result ((j : ℕ) → j < 10 → j < length text.now → slice_index text.now j ≢ 32)
+    ensures { MatchOption result ((j : ℕ) → j < 10 → j < length text.now → slice_index text.now j ≢ space_byte)
         (IsFirstSpace text.now) }
 {
     let most = text.len().min(10);
@@ -42,8 +47,8 @@ fn space_in(text: &[u8]) -> Option<usize>
 
 /// The number of the register whose name stands before the first space, and what stands after the space.
 fn register_before(text: &[u8]) -> Option<(u8, &[u8])>
-    ensures { MatchOption result ((n : ℕ) (rest : List ℕ) → n < 32 → text.now ≢ reg_name n ++ 32 ∷ rest)
-        (λ r. (r.0 < 32) × (text.now ≡ reg_name r.0 ++ 32 ∷ r.1.now)) }
+    ensures { MatchOption result ((n : ℕ) (rest : List ℕ) → n < 32 → text.now ≢ reg_name n ++ space_byte ∷ rest)
+        (λ r. (r.0 < 32) × (text.now ≡ reg_name r.0 ++ space_byte ∷ r.1.now)) }
 {
     let Some(at) = space_in(text) else {
         return None;
@@ -116,22 +121,22 @@ fn command_word(name: &[u8]) -> Option<u32>
 
 /// The header of a type 2 write, by the digits of its word count; `None` for any other text.
 fn write2_of(digits: &[u8]) -> Option<u32>
-    ensures { IsWordOf (λ n. n < 2 ^ 27) decimal type2_write digits.now result }
+    ensures { IsWordOf (λ n. n < 2 ^ 27) decimal type2_write_header digits.now result }
 {
     let Some(count) = decimal_below(digits, TYPE2_COUNTS) else {
         return None;
     };
-    Some(type2_write(count))
+    Some(type2_write_header(count))
 }
 
 /// The header of a type 2 read, by the digits of its word count; `None` for any other text.
 fn read2_of(digits: &[u8]) -> Option<u32>
-    ensures { IsWordOf (λ n. n < 2 ^ 27) decimal type2_read digits.now result }
+    ensures { IsWordOf (λ n. n < 2 ^ 27) decimal type2_read_header digits.now result }
 {
     let Some(count) = decimal_below(digits, TYPE2_COUNTS) else {
         return None;
     };
-    Some(type2_read(count))
+    Some(type2_read_header(count))
 }
 
 /// The register's number and the word count of `NAME N`; `None` for any other text.
@@ -149,22 +154,22 @@ fn type1_of(text: &[u8]) -> Option<(u8, u32)>
 
 /// The header of a type 1 write, by its register's name and its word count; `None` for any other text.
 fn write_of(text: &[u8]) -> Option<u32>
-    ensures { IsWordOf IsType1 type1_text (λ (a : ℕ × ℕ). type1_write a.0 a.1) text.now result }
+    ensures { IsWordOf IsType1 type1_text (λ (a : ℕ × ℕ). type1_write_header a.0 a.1) text.now result }
 {
     let Some((register, count)) = type1_of(text) else {
         return None;
     };
-    Some(type1_write(register, count))
+    Some(type1_write_header(register, count))
 }
 
 /// The header of a type 1 read, by its register's name and its word count; `None` for any other text.
 fn read_of(text: &[u8]) -> Option<u32>
-    ensures { IsWordOf IsType1 type1_text (λ (a : ℕ × ℕ). type1_read a.0 a.1) text.now result }
+    ensures { IsWordOf IsType1 type1_text (λ (a : ℕ × ℕ). type1_read_header a.0 a.1) text.now result }
 {
     let Some((register, count)) = type1_of(text) else {
         return None;
     };
-    Some(type1_read(register, count))
+    Some(type1_read_header(register, count))
 }
 
 /// Appends the bytes of a line that is empty, `sync` or `crc`, where the bytes of the lines before have this check.
@@ -182,7 +187,7 @@ fn put_plain(out: &mut Vec<u8>, check: u32, line: &[u8]) -> bool
         return true;
     }
     if is_same(line, b"crc") {
-        put_word(out, type1_write(Reg::Crc.number(), 1));
+        put_word(out, type1_write_header(Reg::Crc.number(), 1));
         put(out, &bytes_of(check));
         return true;
     }

@@ -4,6 +4,7 @@ ghost use Rattle.std.specs.List.{flat_map};
 ghost use Rattle.x7_header.specs.Header.{contents_of};
 ghost use Rattle.x7_text.specs.Digits.{hex_byte};
 ghost use Rattle.x7_listing.specs.BitLine.{bit_text, field_text};
+ghost use Rattle.x7_listing.specs.Line.{line_end_byte, space_byte};
 
 use std::alloc::Global;
 use x7_header::Head;
@@ -22,7 +23,7 @@ fn append_digits(text: &mut Vec<u8>, bytes: &[u8]) -> Result<(), NoMemory>
 
 /// Appends the digits of a field, or `-` where it holds nothing, and a space.
 fn append_field(text: &mut Vec<u8>, field: &[u8]) -> Result<(), NoMemory>
-    ensures { OnOk result (text.new.items ≡ text.old.items ++ (field_text field.now ++ 32 ∷ [])) }
+    ensures { OnOk result (text.new.items ≡ text.old.items ++ (field_text field.now ++ space_byte ∷ [])) }
 {
     if field.is_empty() {
         return put_text(text, b"- ");
@@ -33,7 +34,7 @@ fn append_field(text: &mut Vec<u8>, field: &[u8]) -> Result<(), NoMemory>
 
 /// The line of a `.bit` header, with its end. The header's size in bytes (`head.size`) is not in it.
 pub fn header_line(alloc: Global, head: &Head<'_>) -> Result<Vec<u8>, NoMemory>
-    ensures { IfOk result (λ text. text.items ≡ bit_text (contents_of head.now) ++ 10 ∷ []) }
+    ensures { IfOk result (λ text. text.items ≡ bit_text (contents_of head.now) ++ line_end_byte ∷ []) }
 {
     let mut text = Vec::new(alloc);
     put_text(&mut text, b"bit ")?;

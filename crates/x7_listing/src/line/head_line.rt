@@ -5,10 +5,11 @@ ghost use Rattle.x7_text.specs.Appends.{Appends, HasSpareRoom};
 ghost use Rattle.x7_text.specs.Digits.{hex_word};
 ghost use Rattle.x7_text.specs.Row.{close};
 ghost use Rattle.x7_listing.specs.HeadLine.{command_line, line_of_head, text_of_head, line_size};
+ghost use Rattle.x7_listing.specs.Line.{line_end_byte, space_byte};
 
 use x7_packets::{
     NO_OP, SYNC_WORD, Step, TYPE2_READ_KIND, TYPE2_WRITE_KIND, kind_in, register_in,
-    type1_count_in, type1_read, type1_write, type2_count_in,
+    type1_count_in, type1_read_header, type1_write_header, type2_count_in,
 };
 use x7_regs::{command_of, command_text, name_of};
 use x7_text::{hex_of_word, put, put_close, put_decimal};
@@ -50,9 +51,9 @@ impl HeadLine {
             HeadLine::Nop
         } else if w == SYNC_WORD {
             HeadLine::Sync
-        } else if w == type1_write(register, count) {
+        } else if w == type1_write_header(register, count) {
             HeadLine::Write(register, count)
-        } else if w == type1_read(register, count) {
+        } else if w == type1_read_header(register, count) {
             HeadLine::Read(register, count)
         } else if kind_in(w) == TYPE2_WRITE_KIND {
             HeadLine::Write2(type2_count_in(w))
@@ -86,7 +87,7 @@ fn put_type1(text: &mut Vec<u8>, word: &[u8], register: u8, count: u32)
     requires room { HasSpareRoom text.old line_size }
     requires short { length word.now ≤ 6 }
     requires register { register < 32 }
-    ensures appends { Appends text.old text.new (word.now ++ reg_name register ++ 32 ∷ decimal count ++ 10 ∷ []) line_size }
+    ensures appends { Appends text.old text.new (word.now ++ reg_name register ++ space_byte ∷ decimal count ++ line_end_byte ∷ []) line_size }
 {
     put(text, word);
     put(text, name_of(register).bytes());
@@ -99,7 +100,7 @@ fn put_type1(text: &mut Vec<u8>, word: &[u8], register: u8, count: u32)
 fn put_count(text: &mut Vec<u8>, word: &[u8], count: u32)
     requires room { HasSpareRoom text.old line_size }
     requires short { length word.now ≤ 7 }
-    ensures appends { Appends text.old text.new (word.now ++ decimal count ++ 10 ∷ []) line_size }
+    ensures appends { Appends text.old text.new (word.now ++ decimal count ++ line_end_byte ∷ []) line_size }
 {
     put(text, word);
     put_decimal(text, u64::from(count));
@@ -109,7 +110,7 @@ fn put_count(text: &mut Vec<u8>, word: &[u8], count: u32)
 /// Appends a line of one word: a keyword of four letters, a space and eight digits.
 fn put_whole_word(text: &mut Vec<u8>, word: &[u8; 5], w: u32)
     requires { HasSpareRoom text.old line_size }
-    ensures appends { Appends text.old text.new (word.now ++ hex_word w ++ 10 ∷ []) line_size }
+    ensures appends { Appends text.old text.new (word.now ++ hex_word w ++ line_end_byte ∷ []) line_size }
 {
     let mut line = [b'\n'; 14];
     line[5..13].copy_from_slice(&hex_of_word(w));

@@ -85,7 +85,7 @@ impl Lister {
         &self.text
     }
 
-    /// Clears the text.
+    /// Clears the text, which from then on counts as given.
     pub fn clear_text(&mut self)
         ensures cleared { self.new.text ≡ [] }
         ensures given { (given before bytes : List ℕ) → ListerStandsFor self.old given before bytes → ListerStandsFor self.new (given ++ self.old.text) before bytes }
@@ -96,8 +96,8 @@ impl Lister {
 
     /// Takes a piece. `NoMemory` changes nothing.
     pub fn feed(&mut self, piece: &[u8]) -> Result<(), NoMemory>
-        ensures ok { OnOk result ((given before bytes : List ℕ) → ListerStandsFor self.old given before bytes → ListerStandsFor self.new given before (bytes ++ piece.now)) }
-        ensures err { OnErr result (self.new ≡ self.old) }
+        ensures stands { OnOk result ((given before bytes : List ℕ) → ListerStandsFor self.old given before bytes → ListerStandsFor self.new given before (bytes ++ piece.now)) }
+        ensures unchanged { OnErr result (self.new ≡ self.old) }
     {
         let Some(room) = piece.len().checked_mul(BYTE_ROOM) else {
             return Err(NoMemory);
@@ -112,8 +112,8 @@ impl Lister {
 
     /// Ends the listing of the bytes that were fed, and begins a new one. `NoMemory` changes nothing.
     pub fn finish(&mut self) -> Result<(), NoMemory>
-        ensures ok { OnOk result ((given before bytes : List ℕ) → ListerStandsFor self.old given before bytes → Finished self.new given before bytes) }
-        ensures err { OnErr result (self.new ≡ self.old) }
+        ensures finished { OnOk result ((given before bytes : List ℕ) → ListerStandsFor self.old given before bytes → Finished self.new given before bytes) }
+        ensures unchanged { OnErr result (self.new ≡ self.old) }
     {
         self.text.reserve(CALL_ROOM)?;
         put_end(&mut self.text, self.pen, self.cutter.kept());

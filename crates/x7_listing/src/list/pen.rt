@@ -163,7 +163,7 @@ pub(crate) fn put_run(text: &mut Vec<u8>, pen: Pen, run: Cut) -> Pen
     requires room { HasSpareRoom text.old (CALL_ROOM + 3 * length (run_bytes run)) }
     ensures room { StaysWithin text.old text.new (CALL_ROOM + 3 * length (run_bytes run.entry)) }
     ensures listed { (given : List ℕ) → WritesRun run.entry (written_with pen (given ++ text.old.items)) (written_with result (given ++ text.new.items)) }
-    ensures held { (IsNeed run.entry → ⊥) → is_in_session result ≡ true → held_by result ≡ [] }
+    ensures none_held { (IsNeed run.entry → ⊥) → is_in_session result ≡ true → held_by result ≡ [] }
 {
     match run {
         Cut::Need => pen,
@@ -184,7 +184,7 @@ pub(crate) fn put_run(text: &mut Vec<u8>, pen: Pen, run: Cut) -> Pen
 /// Appends what is left of a gap.
 fn end_gap(text: &mut Vec<u8>, pen: GapPen)
     requires room { HasSpareRoom text.old CALL_ROOM }
-    ensures items { text.new.items ≡ text.old.items ++ open_bytes pen.in_line (take pen.count pen.held) ++ close (in_line_after row_bytes pen.in_line (take pen.count pen.held)) }
+    ensures appends { text.new.items ≡ text.old.items ++ open_bytes pen.in_line (take pen.count pen.held) ++ close (in_line_after row_bytes pen.in_line (take pen.count pen.held)) }
 {
     let in_line = put_bytes(text, pen.in_line, &pen.held[..pen.count]);
     put_close(text, in_line);
@@ -194,7 +194,7 @@ fn end_gap(text: &mut Vec<u8>, pen: GapPen)
 fn end_session(text: &mut Vec<u8>, in_line: usize, kept: &[u8])
     requires short { length kept.now ≤ 3 }
     requires room { HasSpareRoom text.old CALL_ROOM }
-    ensures items { text.new.items ≡ text.old.items ++ close in_line ++ open_bytes 0 kept.now ++ close (in_line_after row_bytes 0 kept.now) }
+    ensures appends { text.new.items ≡ text.old.items ++ close in_line ++ open_bytes 0 kept.now ++ close (in_line_after row_bytes 0 kept.now) }
 {
     put_close(text, in_line);
     let count = put_bytes(text, 0, kept);

@@ -7,7 +7,7 @@ use Rattle.x7_crc.proofs.check.fold_blocks.Goals as goal
 pub loop-block-preserved : goal.loop-block-preserved
 loop-block-preserved c =
     let next = c.fold_four-folded.ensures c.args.register c.requires.register c.check_of_zeros-zeros.ensures
-    ∙ ap (λ ws. check_after c.loop-block.folded (writes_to c.args.register ws)) (four_of c.words_of.result c.words_of.ensures.four ∙ c.words_of.ensures.value) in (
+    ∙ ap (λ ws. check_after c.loop-block.folded (writes_to c.args.register ws)) (four_of c.words_of.result c.words_of.ensures.length ∙ c.words_of.ensures.value) in (
       block_taken c.loop-block.folded c.args.register c.loop-block.block-index c.fold_four-folded.result _ c.args.blocks.now c.loop-block.invariant.1 c.loop-block-test.true next c.loop-block.invariant.0,
       rw next (check_after_fits c.loop-block.folded (writes_to c.args.register _)),
     )

@@ -12,8 +12,8 @@ returns-clause-value c =
     (c.fold_blocks.ensures ∙ ap (λ bs. check_after c.args.before (writes_to c.args.register (flat_map words_of_bytes bs))) c.as_chunks.ensures.front)
     (c.fold_words.ensures ∙ ap (λ bs. check_after c.fold_blocks.result (writes_to c.args.register (words_of_bytes bs))) c.as_chunks.ensures.back)
 
-pub returns-clause-last : goal.returns-clause-last
-returns-clause-last c writes e =
+pub returns-clause-goes_on : goal.returns-clause-goes_on
+returns-clause-goes_on c writes e =
     blocks_and_rest c.args.before c.args.register c.fold_blocks.result _ (length c.args.bytes.now / 16) c.args.bytes.now c.ranges.before.fits (omega arith)
     (c.fold_blocks.ensures ∙ ap (λ bs. check_after c.args.before (writes_to c.args.register (flat_map words_of_bytes bs))) c.as_chunks.ensures.front)
     (c.fold_words.ensures ∙ ap (λ bs. check_after c.fold_blocks.result (writes_to c.args.register (words_of_bytes bs))) c.as_chunks.ensures.back)

@@ -6,7 +6,7 @@ use Rattle.x7_crc.proofs.checker.after_word.Goals as goal
 
 pub returns : goal.returns
 returns c = λ h place s.
-    subst (λ (r : ℕ). IsCheckState c.after_steering_word.result.check c.after_steering_word.result.held (entry (Write r c.args.word) place ∷ h)) c.in-Some.ensures.some (c.after_steering_word.ensures h place s)
+    subst (λ (r : ℕ). IsCheckState c.after_steering_word.result.check c.after_steering_word.result.held (entry (Write r c.args.word) place ∷ h)) c.in-Some.ensures.number (c.after_steering_word.ensures h place s)
 
 pub returns-in_default : goal.returns-in_default
-returns-in_default c = λ h place s. plain_word c.args.register place c.args.state.check c.args.state.held c.fold.result c.args.word h c.in_default.ensures.none c.fold.ensures.value s
+returns-in_default c = λ h place s. plain_word c.args.register place c.args.state.check c.args.state.held c.fold.result c.args.word h c.in_default.ensures.not_steering c.fold.ensures.value s

@@ -11,7 +11,7 @@ use mir.Val.{bits, hbits}
 use Rattle.x7_words.specs.Word.{bytes_of_word}
 use Rattle.x7_regs.specs.Register.{reg_name}
 use Rattle.x7_text.specs.Digits.{hex_word}
-use Rattle.x7_packets.specs.PacketWords.{type1_write}
+use Rattle.x7_packets.specs.PacketWords.{type1_write_header}
 use Rattle.x7_listing.specs.Assembling.{AppendsFirstLines}
 use Rattle.x7_listing.specs.Fast.AtOnce.{command_lines, bytes_differ, write_line, write_start}
 use Rattle.x7_listing.specs.HeadLine.{command_line}
@@ -72,15 +72,15 @@ write_text register =
     ap (λ t. (codes "write " ++ reg_name register ++ 32 ∷ t) ++ 10 ∷ []) (decimal_digit 1 (omega arith)) ∙ append_assoc (codes "write " ++ reg_name register) (32 ∷ 49 ∷ []) (10 ∷ [])
 
 -- a write of a word to CMD
-pub takes_command : (w size : ℕ) (text old new : List ℕ) → w < 32 → size ≤ length text → take size text ≡ command_lines w → new ≡ old ++ (bytes_of_word (type1_write 4 1) ++ bytes_of_word w) → AppendsFirstLines text old new size 2
+pub takes_command : (w size : ℕ) (text old new : List ℕ) → w < 32 → size ≤ length text → take size text ≡ command_lines w → new ≡ old ++ (bytes_of_word (type1_write_header 4 1) ++ bytes_of_word w) → AppendsFirstLines text old new size 2
 takes_command w size text old new h within e n =
     let p : IsLineOf w (cmd_line w) = cmd_stands w (omega (arith, h)) in
     let is : take size text ≡ ended_text (Write 4 1) ++ ended_text (cmd_line w) = e ∙ ap (λ t. t ++ command_line w) (sym (write_text 4)) ∙ ap (λ t. ended_text (Write 4 1) ++ t) (sym (cmd_text w)) in
-    takes_two (Write 4 1) (cmd_line w) text old new size within ((omega arith, omega arith), tt) p.1 is (n ∙ ap (λ t. old ++ (bytes_of_word (type1_write 4 1) ++ t)) (sym p.0))
+    takes_two (Write 4 1) (cmd_line w) text old new size within ((omega arith, omega arith), tt) p.1 is (n ∙ ap (λ t. old ++ (bytes_of_word (type1_write_header 4 1) ++ t)) (sym p.0))
 
 -- a write of a word to another register
 pub takes_word : (register w size eight : ℕ) (text old new : List ℕ) → register < 32 → w < 2 ^ 32 → size + 9 ≤ length text → take size text ≡ write_start register → eight ≡ 8 → take eight (drop size text) ≡ hex_word w → get_or text (size + 8) 0 ≡ 10
-    → new ≡ old ++ (bytes_of_word (type1_write register 1) ++ bytes_of_word w) → AppendsFirstLines text old new (size + 9) 2
+    → new ≡ old ++ (bytes_of_word (type1_write_header register 1) ++ bytes_of_word w) → AppendsFirstLines text old new (size + 9) 2
 takes_word register w size eight text old new h k within e is_eight digits end n =
     let last : take 1 (drop 8 (drop size text)) ≡ 10 ∷ [] =
     ap (take 1) (dropped_twice size 8 text ∙ drop_more text (size + 8) 0 (omega (arith, within))) ∙ ap (λ (c : ℕ). c ∷ []) end in

@@ -9,7 +9,7 @@ use Rattle.std.specs.Simd.{first_chunks}
 use Rattle.std.specs.List.{flat_map}
 use Rattle.x7_words.specs.Word.{bytes_of_word, words_of_bytes}
 use Rattle.x7_packets.specs.AtOnce.{EndsGap, TakesAsOneRun, WritesShort, WritesOne}
-use Rattle.x7_packets.specs.PacketWords.{no_op, sync_word, type1_write}
+use Rattle.x7_packets.specs.PacketWords.{no_op, sync_word, type1_write_header}
 use Rattle.x7_packets.specs.SyncWord.{sync_bytes}
 use Rattle.x7_packets.specs.Cutter.{CutterState, IsRun, AfterRun}
 use Rattle.x7_packets.specs.Nops.{equal_bytes}
@@ -46,39 +46,39 @@ equal_prefix step w size (suc n) (suc k) e h =
     ∙ ap (λ t. text_of_head step w ++ t) (equal_prefix step w size n k e (omega (arith, h)))
 
 -- the header's line
-pub write_line_is : (register : ℕ) → register < 32 → text_of_head (Open register 1) (type1_write register 1) ≡ write_line register
+pub write_line_is : (register : ℕ) → register < 32 → text_of_head (Open register 1) (type1_write_header register 1) ≡ write_line register
 write_line_is register h =
-    let nop : (type1_write register 1 == no_op) ≡ false = grind (arith, nat_tests) in
-    let sync : (type1_write register 1 == sync_word) ≡ false = grind (arith, nat_tests) in
-    let named : register_of (type1_write register 1) ≡ register = omega arith in
-    let count : type1_write register 1 % 2 ^ 11 ≡ 1 = omega arith in
-    let same : (type1_write register 1 == type1_write register 1) ≡ true = grind (arith, nat_tests) in
-    let line : best_line (type1_write register 1) ≡ Write register 1 = rw (nop, sync, named, count, same) refl in
+    let nop : (type1_write_header register 1 == no_op) ≡ false = grind (arith, nat_tests) in
+    let sync : (type1_write_header register 1 == sync_word) ≡ false = grind (arith, nat_tests) in
+    let named : register_of (type1_write_header register 1) ≡ register = omega arith in
+    let count : type1_write_header register 1 % 2 ^ 11 ≡ 1 = omega arith in
+    let same : (type1_write_header register 1 == type1_write_header register 1) ≡ true = grind (arith, nat_tests) in
+    let line : best_line (type1_write_header register 1) ≡ Write register 1 = rw (nop, sync, named, count, same) refl in
     ap line_text line ∙ ap (λ t. codes "write " ++ reg_name register ++ 32 ∷ t ++ 10 ∷ []) (decimal_digit 1 (omega arith)) ∙ append_assoc (codes "write " ++ reg_name register) (32 ∷ 49 ∷ []) (10 ∷ [])
 
 -- the lines of a write of one word: a row to CMD, and a row and the digits of a word to another register
-pub command_row_is : (line register w : ℕ) → register ≡ 4 → close line ++ command_lines w ≡ close line ++ text_of_head (Open register 1) (type1_write register 1) ++ open_words 0 (payload_steps register (w ∷ []))
+pub command_row_is : (line register w : ℕ) → register ≡ 4 → close line ++ command_lines w ≡ close line ++ text_of_head (Open register 1) (type1_write_header register 1) ++ open_words 0 (payload_steps register (w ∷ []))
 command_row_is line register w e =
-    subst (λ (r : ℕ). close line ++ command_lines w ≡ close line ++ text_of_head (Open r 1) (type1_write r 1) ++ open_words 0 (payload_steps r (w ∷ []))) (sym e)
-    (sym (append_assoc (close line) (write_line 4) (command_line w)) ∙ ap (λ t. close line ++ t ++ command_line w) (sym (write_line_is 4 (omega arith))) ∙ ap (λ t. close line ++ text_of_head (Open 4 1) (type1_write 4 1) ++ t) (sym (append-nil (command_line w))))
+    subst (λ (r : ℕ). close line ++ command_lines w ≡ close line ++ text_of_head (Open r 1) (type1_write_header r 1) ++ open_words 0 (payload_steps r (w ∷ []))) (sym e)
+    (sym (append_assoc (close line) (write_line 4) (command_line w)) ∙ ap (λ t. close line ++ t ++ command_line w) (sym (write_line_is 4 (omega arith))) ∙ ap (λ t. close line ++ text_of_head (Open 4 1) (type1_write_header 4 1) ++ t) (sym (append-nil (command_line w))))
 
-pub data_row_is : (line register w : ℕ) → register < 32 → (register ≡ 4 → ⊥) → (close line ++ write_start register) ++ hex_word w ≡ close line ++ text_of_head (Open register 1) (type1_write register 1) ++ open_words 0 (payload_steps register (w ∷ []))
+pub data_row_is : (line register w : ℕ) → register < 32 → (register ≡ 4 → ⊥) → (close line ++ write_start register) ++ hex_word w ≡ close line ++ text_of_head (Open register 1) (type1_write_header register 1) ++ open_words 0 (payload_steps register (w ∷ []))
 data_row_is line register w h n =
     let H : List ℕ = write_line register in
     let listed : open_words 0 (payload_steps register (w ∷ [])) ≡ codes "data " ++ hex_word w =
     data_listed register 0 (w ∷ []) (is_data register n) ∙ append-nil _ ∙ ap (λ t. codes "data" ++ t) (append-nil (32 ∷ hex_word w)) in
     append_assoc (close line) (write_start register) (hex_word w) ∙ ap (λ t. close line ++ t) (append_assoc H (codes "data ") (hex_word w)) ∙ sym (append_assoc (close line) H (codes "data " ++ hex_word w))
-    ∙ ap (λ t. close line ++ t ++ (codes "data " ++ hex_word w)) (sym (write_line_is register h)) ∙ ap (λ t. close line ++ text_of_head (Open register 1) (type1_write register 1) ++ t) (sym listed)
+    ∙ ap (λ t. close line ++ t ++ (codes "data " ++ hex_word w)) (sym (write_line_is register h)) ∙ ap (λ t. close line ++ text_of_head (Open register 1) (type1_write_header register 1) ++ t) (sym listed)
 
 -- the header's line of a short write
-pub short_line_is : (register count : ℕ) → register < 32 → count < 20 → text_of_head (Open register count) (type1_write register count) ≡ write_name register ++ (decimal count ++ 10 ∷ [])
+pub short_line_is : (register count : ℕ) → register < 32 → count < 20 → text_of_head (Open register count) (type1_write_header register count) ≡ write_name register ++ (decimal count ++ 10 ∷ [])
 short_line_is register count h k =
-    let nop : (type1_write register count == no_op) ≡ false = grind (arith, nat_tests) in
-    let sync : (type1_write register count == sync_word) ≡ false = grind (arith, nat_tests) in
-    let named : register_of (type1_write register count) ≡ register = omega arith in
-    let number : type1_write register count % 2 ^ 11 ≡ count = omega arith in
-    let same : (type1_write register count == type1_write register count) ≡ true = grind (arith, nat_tests) in
-    let line : best_line (type1_write register count) ≡ Write register count = rw (nop, sync, named, number, same) refl in
+    let nop : (type1_write_header register count == no_op) ≡ false = grind (arith, nat_tests) in
+    let sync : (type1_write_header register count == sync_word) ≡ false = grind (arith, nat_tests) in
+    let named : register_of (type1_write_header register count) ≡ register = omega arith in
+    let number : type1_write_header register count % 2 ^ 11 ≡ count = omega arith in
+    let same : (type1_write_header register count == type1_write_header register count) ≡ true = grind (arith, nat_tests) in
+    let line : best_line (type1_write_header register count) ≡ Write register count = rw (nop, sync, named, number, same) refl in
     ap line_text line ∙ append_assoc (codes "write " ++ reg_name register) (32 ∷ decimal count) (10 ∷ []) ∙ sym (append_assoc (codes "write " ++ reg_name register) (32 ∷ []) (decimal count ++ 10 ∷ []))
 
 -- a count of two digits
@@ -143,16 +143,16 @@ equal_listed (suc n) c w step synced s2 line l2 from held h2 text text1 text2 gi
     subst (λ (x : Bool). HasListedJust (lister_of c x l2 h2 text2) given before (bytes ++ equal_bytes w (suc n))) (sym e) (subst (HasListedJust (lister_of c true l2 h2 text2) given before) (append_assoc bytes (bytes_of_word w) (equal_bytes w n)) all)
 
 pub write_listed : (c d : CutterState) (synced s2 : Bool) (line l2 from register w : ℕ) (held h2 text text2 given before bytes rest : List ℕ) → WritesOne c d rest register w → (synced ≡ true → from ≡ line) → s2 ≡ true
-    → l2 ≡ in_line_after_words 0 (payload_steps register (w ∷ [])) → text2 ≡ text ++ (close from ++ text_of_head (Open register 1) (type1_write register 1) ++ open_words 0 (payload_steps register (w ∷ [])))
+    → l2 ≡ in_line_after_words 0 (payload_steps register (w ∷ [])) → text2 ≡ text ++ (close from ++ text_of_head (Open register 1) (type1_write_header register 1) ++ open_words 0 (payload_steps register (w ∷ [])))
     → HasListedJust (lister_of c synced line held text) given before bytes → HasListedJust (lister_of d s2 l2 h2 text2) given before (bytes ++ take 8 rest)
 write_listed c d synced s2 line l2 from register w held h2 text text2 given before bytes rest x same e f t s =
-    let H : List ℕ = text_of_head (Open register 1) (type1_write register 1) in
+    let H : List ℕ = text_of_head (Open register 1) (type1_write_header register 1) in
     let D : List ℕ = open_words 0 (payload_steps register (w ∷ [])) in
-    let head : List ℕ = bytes_of_word (type1_write register 1) in
+    let head : List ℕ = bytes_of_word (type1_write_header register 1) in
     let next : List ℕ = text ++ (close from ++ H) in
     let one : HasListedJust (lister_of x.middle true 0 [] next) given before (bytes ++ head) =
-    took_run c x.middle (Head (type1_write register 1) (Open register 1)) synced true line 0 held [] text next given before bytes head s x.head tt
-    (by_head (Head (type1_write register 1) (Open register 1)) synced true line 0 from held [] given text next (type1_write register 1) (Open register 1) refl same refl refl refl) in
+    took_run c x.middle (Head (type1_write_header register 1) (Open register 1)) synced true line 0 held [] text next given before bytes head s x.head tt
+    (by_head (Head (type1_write_header register 1) (Open register 1)) synced true line 0 from held [] given text next (type1_write_header register 1) (Open register 1) refl same refl refl refl) in
     let two : HasListedJust (lister_of d s2 l2 h2 text2) given before ((bytes ++ head) ++ bytes_of_word w) =
     took_run x.middle d (Word register w) true s2 0 l2 [] h2 next text2 given before (bytes ++ head) (bytes_of_word w) one x.word x.range
     (by_word (Word register w) true s2 0 l2 0 [] h2 given next text2 register w refl (λ k. refl) e f (t ∙ sym (append_assoc text (close from ++ H) D))) in
@@ -160,25 +160,25 @@ write_listed c d synced s2 line l2 from register w held h2 text text2 given befo
 
 -- a write of a few words: `lent` is any slice
 pub short_listed : (c d : CutterState) (synced s2 : Bool) (line l2 from register count : ℕ) (held h2 text text2 given before bytes rest ws : List ℕ) (lent : Bor (List ℕ)) → WritesShort c d rest register count → ws ≡ words_of_bytes (take (4 * count) (drop 4 rest))
-    → (synced ≡ true → from ≡ line) → s2 ≡ true → l2 ≡ in_line_after_words 0 (payload_steps register ws) → text2 ≡ text ++ (close from ++ text_of_head (Open register count) (type1_write register count) ++ open_words 0 (payload_steps register ws))
+    → (synced ≡ true → from ≡ line) → s2 ≡ true → l2 ≡ in_line_after_words 0 (payload_steps register ws) → text2 ≡ text ++ (close from ++ text_of_head (Open register count) (type1_write_header register count) ++ open_words 0 (payload_steps register ws))
     → HasListedJust (lister_of c synced line held text) given before bytes → HasListedJust (lister_of d s2 l2 h2 text2) given before (bytes ++ take (4 + 4 * count) rest)
 short_listed c d synced s2 line l2 from register count held h2 text text2 given before bytes rest ws lent x are same e f t s =
-    let H : List ℕ = text_of_head (Open register count) (type1_write register count) in
+    let H : List ℕ = text_of_head (Open register count) (type1_write_header register count) in
     let body : List ℕ = take (4 * count) (drop 4 rest) in
     let run : Bor (List ℕ) = record lent { now = take (4 * count) (drop 4 rest) } in
     let size : length (take (4 * count) (drop 4 rest)) ≡ 4 * count = length-take-le (4 * count) (drop 4 rest) (omega (arith, length-drop 4 rest, x.long, x.few)) in
-    let head : List ℕ = bytes_of_word (type1_write register count) in
-    let next : List ℕ = text ++ (close from ++ text_of_head (Open register count) (type1_write register count)) in
+    let head : List ℕ = bytes_of_word (type1_write_header register count) in
+    let next : List ℕ = text ++ (close from ++ text_of_head (Open register count) (type1_write_header register count)) in
     let D : List ℕ = open_words 0 (payload_steps register (words_of_bytes (take (4 * count) (drop 4 rest)))) in
-    let one : HasListedJust (lister_of x.middle true 0 [] next) given before (bytes ++ bytes_of_word (type1_write register count)) =
-    took_run c x.middle (Head (type1_write register count) (Open register count)) synced true line 0 held [] text next given before bytes (bytes_of_word (type1_write register count)) s x.head tt
-    (by_head (Head (type1_write register count) (Open register count)) synced true line 0 from held [] given text next (type1_write register count) (Open register count) refl same refl refl refl) in
-    let two : HasListedJust (lister_of d s2 l2 h2 text2) given before ((bytes ++ bytes_of_word (type1_write register count)) ++ take (4 * count) (drop 4 rest)) =
-    took_run x.middle d (Body register run) true s2 0 l2 [] h2 next text2 given before (bytes ++ bytes_of_word (type1_write register count)) (take (4 * count) (drop 4 rest)) one (x.words run refl)
+    let one : HasListedJust (lister_of x.middle true 0 [] next) given before (bytes ++ bytes_of_word (type1_write_header register count)) =
+    took_run c x.middle (Head (type1_write_header register count) (Open register count)) synced true line 0 held [] text next given before bytes (bytes_of_word (type1_write_header register count)) s x.head tt
+    (by_head (Head (type1_write_header register count) (Open register count)) synced true line 0 from held [] given text next (type1_write_header register count) (Open register count) refl same refl refl refl) in
+    let two : HasListedJust (lister_of d s2 l2 h2 text2) given before ((bytes ++ bytes_of_word (type1_write_header register count)) ++ take (4 * count) (drop 4 rest)) =
+    took_run x.middle d (Body register run) true s2 0 l2 [] h2 next text2 given before (bytes ++ bytes_of_word (type1_write_header register count)) (take (4 * count) (drop 4 rest)) one (x.words run refl)
     (x.range, omega (arith, size, x.some), omega (arith, size), λ k. absurd (x.other k))
     (by_body (Body register run) true s2 0 l2 0 [] h2 given next text2 register run refl (λ k. refl) e (f ∙ ap (λ (w : List ℕ). in_line_after_words 0 (payload_steps register w)) are)
-    (t ∙ ap (λ (w : List ℕ). text ++ (close from ++ text_of_head (Open register count) (type1_write register count) ++ open_words 0 (payload_steps register w))) are ∙ sym (append_assoc text (close from ++ H) D))) in
-    subst (HasListedJust (lister_of d s2 l2 h2 text2) given before) (append_assoc bytes (bytes_of_word (type1_write register count)) (take (4 * count) (drop 4 rest)) ∙ ap (λ k. bytes ++ (k ++ take (4 * count) (drop 4 rest))) (sym x.bytes) ∙ ap (λ k. bytes ++ k) (sym (take-add 4 (4 * count) rest))) two
+    (t ∙ ap (λ (w : List ℕ). text ++ (close from ++ text_of_head (Open register count) (type1_write_header register count) ++ open_words 0 (payload_steps register w))) are ∙ sym (append_assoc text (close from ++ H) D))) in
+    subst (HasListedJust (lister_of d s2 l2 h2 text2) given before) (append_assoc bytes (bytes_of_word (type1_write_header register count)) (take (4 * count) (drop 4 rest)) ∙ ap (λ k. bytes ++ (k ++ take (4 * count) (drop 4 rest))) (sym x.bytes) ∙ ap (λ k. bytes ++ k) (sym (take-add 4 (4 * count) rest))) two
 
 -- bytes of a gap and the sync word, after a session
 gap_begun : (given text text1 start : List ℕ) (gap taken listed : List ℕ) → taken ≡ listed ++ sync_bytes → text1 ≡ text ++ open_text 32 (codes "bytes ") hex_byte 0 listed

@@ -1,7 +1,7 @@
 -- What short runs add to the text of a sheet.
 use Rattle.std.proofs.Common.{◌≡◌, ℕ, ◌*◌, ◌<◌, ◌≤◌, List, [], ◌∷◌, ◌++◌, codes, decimal, replicate, take, refl, ap, sym, ◌∙◌, append_assoc, arith}
 use Rattle.std.specs.List.{flat_map}
-use Rattle.x7_packets.specs.PacketWords.{no_op, type1_write}
+use Rattle.x7_packets.specs.PacketWords.{no_op, type1_write_header}
 use Rattle.x7_packets.specs.declared.header.Step.TheVariants.{Nop, Open}
 use Rattle.x7_regs.specs.Command.{code_of, command_by}
 use Rattle.x7_regs.specs.declared.command.Command.{Command}
@@ -52,7 +52,7 @@ far_command shown line register w e far =
 
 -- the line of the header of a short write
 pub head_shown : (shown first all : List ℕ) (line register count : ℕ) → register < 32 → count < 20 → first ≡ shown ++ (close line ++ write_name register) → all ≡ first ++ (decimal count ++ 10 ∷ [])
-    → all ≡ shown ++ (close line ++ text_of_head (Open register count) (type1_write register count))
+    → all ≡ shown ++ (close line ++ text_of_head (Open register count) (type1_write_header register count))
 head_shown shown first all line register count h k a b =
     b ∙ ap (λ t. t ++ (decimal count ++ 10 ∷ [])) a ∙ append_assoc shown (close line ++ write_name register) (decimal count ++ 10 ∷ [])
     ∙ ap (λ t. shown ++ t) (append_assoc (close line) (write_name register) (decimal count ++ 10 ∷ []) ∙ ap (λ t. close line ++ t) (sym (short_line_is register count h k)))

@@ -8,10 +8,10 @@ ghost use Rattle.x7_listing.specs.Assembling.{HasRoomForLine};
 ghost use Rattle.x7_listing.specs.Fast.Looking.{Looks, ReadsAtOnce};
 
 use super::write_pairs::{differences, put_pair};
-use crate::asm::reading::{put_word, type1_at};
+use crate::asm::reading::{MOST_LINE_BYTES, put_word, type1_at};
 use crate::assembler::ASM_LIMIT;
 use std::simd::prelude::*;
-use x7_packets::type1_write;
+use x7_packets::type1_write_header;
 use x7_text::{prefix_of_hex, put};
 use x7_words::is_same;
 
@@ -216,7 +216,7 @@ fn put_write_line(out: &mut Vec<u8>, text: &[u8; LOOK_SIZE]) -> Option<WholeLine
     let Some((register, count)) = type1_at(&text[6..8 + space], space) else {
         return None;
     };
-    put_word(out, type1_write(register, count));
+    put_word(out, type1_write_header(register, count));
     Some(WholeLines {
         size: 9 + space,
         count: 1,
@@ -257,10 +257,10 @@ fn put_quick(out: &mut Vec<u8>, text: &[u8]) -> WholeLines
 {
     let mut all = WholeLines { size: 0, count: 0 };
     loop {
-        let Ok(()) = out.reserve(64) else {
+        let Ok(()) = out.reserve(2 * MOST_LINE_BYTES) else {
             return all;
         };
-        if out.len() > ASM_LIMIT - 32 {
+        if out.len() > ASM_LIMIT - MOST_LINE_BYTES {
             return all;
         }
         let Some((first, _)) = text[all.size..].split_first_chunk::<LOOK_SIZE>() else {
@@ -276,14 +276,18 @@ fn put_quick(out: &mut Vec<u8>, text: &[u8]) -> WholeLines
     }
 }
 
-/// Appends the bytes of the text's first lines, as far as they are read at once. Before any line none
-/// is, since the first one may be a header's.
+/// Appends the bytes of the text's first lines after `lines_before` lines, as far as they are read at once. Before any
+/// line none is, since the first one may be a header's.
 #[inline(always)]
-pub(crate) fn put_quick_after(out: &mut Vec<u8>, n: u64, text: &[u8]) -> WholeLines
+pub(crate) fn put_quick_after_first_line(
+    out: &mut Vec<u8>,
+    lines_before: u64,
+    text: &[u8],
+) -> WholeLines
     ensures reads { ReadsAtOnce text.now out.old out.new result }
-    ensures none { n ≡ 0 → result.count ≡ 0 }
+    ensures no_first_line { lines_before ≡ 0 → result.count ≡ 0 }
 {
-    if n == 0 {
+    if lines_before == 0 {
         return WholeLines { size: 0, count: 0 };
     }
     put_quick(out, text)

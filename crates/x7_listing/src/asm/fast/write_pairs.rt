@@ -11,7 +11,7 @@ ghost use Rattle.x7_listing.specs.Fast.Looking.{Looks};
 use super::quick::{LOOK_SIZE, WholeLines};
 use crate::line::{TEXT_SIZE_AT, command_row, write_row};
 use std::simd::prelude::*;
-use x7_packets::type1_write;
+use x7_packets::type1_write_header;
 use x7_regs::Reg;
 use x7_text::{put, word_of_hex};
 use x7_words::bytes_of;
@@ -90,7 +90,7 @@ fn put_two(out: &mut Vec<u8>, one: u32, other: u32)
 /// Appends the bytes of a write of one word to this register, if its two lines begin the text.
 #[inline(always)]
 fn put_word_pair(out: &mut Vec<u8>, text: &[u8; LOOK_SIZE], register: u8) -> Option<WholeLines>
-    requires range { register < 32 }
+    requires register { register < 32 }
     requires room { HasRoomForLine out.old }
     ensures { Looks text.now out.old out.new result }
 {
@@ -103,7 +103,7 @@ fn put_word_pair(out: &mut Vec<u8>, text: &[u8; LOOK_SIZE], register: u8) -> Opt
     let Some(word) = word_of_hex(&text[size..size + 8]) else {
         return None;
     };
-    put_two(out, type1_write(register, 1), word);
+    put_two(out, type1_write_header(register, 1), word);
     Some(WholeLines {
         size: size + 9,
         count: 2,
@@ -113,14 +113,14 @@ fn put_word_pair(out: &mut Vec<u8>, text: &[u8; LOOK_SIZE], register: u8) -> Opt
 /// Appends the bytes of a write of this code to CMD, if its two lines begin the text.
 #[inline(always)]
 fn put_command_pair(out: &mut Vec<u8>, text: &[u8; LOOK_SIZE], code: u32) -> Option<WholeLines>
-    requires range { code < 32 }
+    requires code { code < 32 }
     requires room { HasRoomForLine out.old }
     ensures { Looks text.now out.old out.new result }
 {
     let Some(size) = matched_size(text, command_row(code)) else {
         return None;
     };
-    put_two(out, type1_write(Reg::Cmd.number(), 1), code);
+    put_two(out, type1_write_header(Reg::Cmd.number(), 1), code);
     Some(WholeLines { size, count: 2 })
 }
 

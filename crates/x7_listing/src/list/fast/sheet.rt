@@ -21,8 +21,8 @@ pub(crate) fn put_prefix(
 ) -> usize
     requires room { len + length piece.now ≤ SHEET_SIZE }
     requires within { count ≤ length piece.now }
-    ensures len { result ≡ len + count }
-    ensures text { take result sheet.new ≡ take len sheet.old ++ take count piece.now }
+    ensures length { result ≡ len + count }
+    ensures appends { take result sheet.new ≡ take len sheet.old ++ take count piece.now }
 {
     sheet[len..len + piece.len()].copy_from_slice(piece);
     len + count
@@ -33,8 +33,8 @@ pub(crate) fn put_prefix(
 #[inline(always)]
 pub(crate) fn put_whole(sheet: &mut [u8; SHEET_SIZE], len: usize, piece: &[u8]) -> usize
     requires room { len + length piece.now ≤ SHEET_SIZE }
-    ensures len { result ≡ len + length piece.now }
-    ensures text { take result sheet.new ≡ take len sheet.old ++ piece.now }
+    ensures length { result ≡ len + length piece.now }
+    ensures appends { take result sheet.new ≡ take len sheet.old ++ piece.now }
 {
     put_prefix(sheet, len, piece, piece.len())
 }
@@ -43,8 +43,8 @@ pub(crate) fn put_whole(sheet: &mut [u8; SHEET_SIZE], len: usize, piece: &[u8]) 
 #[inline(always)]
 pub(crate) fn put_row(sheet: &mut [u8; SHEET_SIZE], len: usize, row: &[u8; 32]) -> usize
     requires room { len + 32 ≤ SHEET_SIZE }
-    ensures len { result ≤ len + 32 }
-    ensures text { take result sheet.new ≡ take len sheet.old ++ row_text row.now }
+    ensures within { result ≤ len + 32 }
+    ensures appends { take result sheet.new ≡ take len sheet.old ++ row_text row.now }
 {
     u8x32::from_array(*row).copy_to_slice(&mut sheet[len..]);
     len + (row[TEXT_SIZE_AT] as usize).min(32)

@@ -4,14 +4,15 @@ ghost use Rattle.std.specs.Prelude.{◌≡◌, ℕ, ◌+◌, ◌*◌, ◌<◌, �
 ghost use Rattle.x7_packets.specs.AtOnce.{EndsGap, WritesOne, WritesShort, longest_gap_and_sync, longest_short_write, most_short_words, short_gap_room};
 ghost use Rattle.x7_packets.specs.Cutter.{CutterState};
 ghost use Rattle.x7_packets.specs.Nops.{nop_bytes};
-ghost use Rattle.x7_packets.specs.PacketWords.{no_op, type1_write};
+ghost use Rattle.x7_packets.specs.PacketWords.{no_op, type1_write_header};
 ghost use Rattle.x7_packets.specs.Packet.{payload_steps};
 ghost use Rattle.x7_text.specs.Appends.{HasSpareRoom};
 ghost use Rattle.x7_text.specs.Row.{bytes_text, close, row_bytes, row_words, data_line_size};
 ghost use Rattle.x7_listing.specs.Fast.AtOnce.{command_lines};
-ghost use Rattle.x7_listing.specs.Fast.OnSheet.{ShowsWords, ListsMoreAfter, on_sheet, one_write_size, head_size, short_write_size, nops_size, gap_size};
+ghost use Rattle.x7_listing.specs.Fast.OnSheet.{ShowsWords, ListsMoreAfter, on_sheet, one_write_lines_size, head_line_size, short_write_lines_size, nop_lines_size, gap_lines_size};
 ghost use Rattle.x7_listing.specs.Fast.TakingAtOnce.{TakesAtOnce, TakesOnSheet};
 ghost use Rattle.x7_listing.specs.HeadLine.{text_of_head};
+ghost use Rattle.x7_listing.specs.Line.{line_end_byte};
 ghost use Rattle.x7_listing.specs.Pens.{TakesHead, ListsMore, lister_with};
 ghost use Rattle.x7_listing.specs.declared.list.pen.state.Pen.{Pen};
 ghost use Rattle.x7_listing.specs.Lister.{in_line_after_words, open_words};
@@ -44,8 +45,8 @@ struct TextEnd {
 #[inline(always)]
 fn put_close(sheet: &mut [u8; SHEET_SIZE], len: usize, in_line: usize) -> usize
     requires room { len + 1 ≤ SHEET_SIZE }
-    ensures len { result ≤ len + 1 }
-    ensures text { take result sheet.new ≡ take len sheet.old ++ close in_line }
+    ensures within { result ≤ len + 1 }
+    ensures appends { take result sheet.new ≡ take len sheet.old ++ close in_line }
 {
     if in_line == 0 {
         return len;
@@ -56,9 +57,9 @@ fn put_close(sheet: &mut [u8; SHEET_SIZE], len: usize, in_line: usize) -> usize
 /// Puts the lines of a write of a word to CMD, after an open line of `in_line` words.
 #[inline(always)]
 fn put_command(sheet: &mut [u8; SHEET_SIZE], len: usize, in_line: usize, w: u32) -> usize
-    requires room { len + one_write_size ≤ SHEET_SIZE }
-    ensures len { result ≤ len + one_write_size }
-    ensures text { take result sheet.new ≡ take len sheet.old ++ (close in_line ++ command_lines w) }
+    requires room { len + one_write_lines_size ≤ SHEET_SIZE }
+    ensures within { result ≤ len + one_write_lines_size }
+    ensures appends { take result sheet.new ≡ take len sheet.old ++ (close in_line ++ command_lines w) }
 {
     let begin = put_close(sheet, len, in_line);
     if w < 32 {
@@ -78,11 +79,11 @@ fn put_write_lines(
     register: u8,
     w: u32,
 ) -> TextEnd
-    requires range { register < 32 }
-    requires room { len + one_write_size ≤ SHEET_SIZE }
+    requires register { register < 32 }
+    requires room { len + one_write_lines_size ≤ SHEET_SIZE }
     ensures count { result.in_line.count ≡ in_line_after_words 0 (payload_steps register (w ∷ [])) }
-    ensures len { result.len ≤ len + one_write_size }
-    ensures text { take result.len sheet.new ≡ take len sheet.old ++ (close in_line ++ text_of_head (Step.Open register 1) (type1_write register 1) ++ open_words 0 (payload_steps register (w ∷ []))) }
+    ensures within { result.len ≤ len + one_write_lines_size }
+    ensures appends { take result.len sheet.new ≡ take len sheet.old ++ (close in_line ++ text_of_head (Step.Open register 1) (type1_write_header register 1) ++ open_words 0 (payload_steps register (w ∷ []))) }
 {
     if register == Reg::Cmd.number() {
         return TextEnd {
@@ -103,8 +104,8 @@ fn put_write_lines(
 fn put_count(sheet: &mut [u8; SHEET_SIZE], len: usize, count: usize) -> usize
     requires two_digits { count < 20 }
     requires room { len + 3 ≤ SHEET_SIZE }
-    ensures len { result ≤ len + 3 }
-    ensures text { take result sheet.new ≡ take len sheet.old ++ (decimal count ++ 10 ∷ []) }
+    ensures within { result ≤ len + 3 }
+    ensures appends { take result sheet.new ≡ take len sheet.old ++ (decimal count ++ line_end_byte ∷ []) }
 {
     if count < 10 {
         return put_whole(sheet, len, &[b'0' + count as u8, b'\n']);
@@ -125,9 +126,9 @@ struct ShortWrite {
 /// Puts the line of the header of a short write, after an open line of `in_line` words.
 #[inline(always)]
 fn put_head(sheet: &mut [u8; SHEET_SIZE], len: usize, in_line: usize, write: ShortWrite) -> usize
-    requires room { len + head_size ≤ SHEET_SIZE }
-    ensures len { result ≤ len + head_size }
-    ensures text { take result sheet.new ≡ take len sheet.old ++ (close in_line ++ text_of_head (Step.Open write.register write.count) (type1_write write.register write.count)) }
+    requires room { len + head_line_size ≤ SHEET_SIZE }
+    ensures within { result ≤ len + head_line_size }
+    ensures appends { take result sheet.new ≡ take len sheet.old ++ (close in_line ++ text_of_head (Step.Open write.register write.count) (type1_write_header write.register write.count)) }
 {
     let begin = put_close(sheet, len, in_line);
     let start = put_row(sheet, begin, name_row(write.register));
@@ -140,7 +141,7 @@ fn put_in_row(sheet: &mut [u8; SHEET_SIZE], len: usize, bytes: &[u8; 32], count:
     requires some { 0 < count }
     requires in_row { count ≤ row_words }
     requires room { len + data_line_size ≤ SHEET_SIZE }
-    ensures len { result.len ≤ len + data_line_size }
+    ensures within { result.len ≤ len + data_line_size }
     ensures shows { ShowsWords (take (4 * count) bytes.now) (take len sheet.old) (take result.len sheet.new) result.in_line }
 {
     let line = data_line(bytes);
@@ -162,7 +163,7 @@ fn put_words(sheet: &mut [u8; SHEET_SIZE], len: usize, bytes: &[u8; 64], count: 
     requires some { 0 < count }
     requires in_two_rows { count ≤ 2 * row_words }
     requires room { len + 2 * data_line_size ≤ SHEET_SIZE }
-    ensures len { result.len ≤ len + 2 * data_line_size }
+    ensures within { result.len ≤ len + 2 * data_line_size }
     ensures shows { ShowsWords (take (4 * count) bytes.now) (take len sheet.old) (take result.len sheet.new) result.in_line }
 {
     let (rows, _) = bytes.as_chunks::<32>();
@@ -182,9 +183,9 @@ fn put_bytes_and_sync(
     count: usize,
 ) -> usize
     requires in_row { count < row_bytes }
-    requires room { len + gap_size ≤ SHEET_SIZE }
-    ensures len { result ≤ len + gap_size }
-    ensures text { take result sheet.new ≡ take len sheet.old ++ (bytes_text (take count bytes.now) ++ codes "sync\n") }
+    requires room { len + gap_lines_size ≤ SHEET_SIZE }
+    ensures within { result ≤ len + gap_lines_size }
+    ensures appends { take result sheet.new ≡ take len sheet.old ++ (bytes_text (take count bytes.now) ++ codes "sync\n") }
 {
     if count == 0 {
         return put_whole(sheet, len, b"sync\n");
@@ -211,10 +212,10 @@ fn put_one_write(
     register: u8,
     w: u32,
 ) -> PutRun
-    requires range { register < 32 }
-    requires room { len + one_write_size ≤ SHEET_SIZE }
+    requires register { register < 32 }
+    requires room { len + one_write_lines_size ≤ SHEET_SIZE }
     ensures size { result.size ≡ 8 }
-    ensures len { result.len ≤ len + one_write_size }
+    ensures within { result.len ≤ len + one_write_lines_size }
     ensures listed { (c d : CutterState) (rest : List ℕ) → WritesOne c d rest register w
         → ListsMoreAfter (on_sheet c in_line sheet.old len) (on_sheet d result.in_line sheet.new result.len) (take 8 rest) }
 {
@@ -256,9 +257,9 @@ fn put_short_write(
     rest: &[u8],
 ) -> PutRun
     requires long { longest_short_write ≤ length rest.now }
-    requires room { len + short_write_size ≤ SHEET_SIZE }
+    requires room { len + short_write_lines_size ≤ SHEET_SIZE }
     ensures size { result.size ≡ 4 + 4 * write.count }
-    ensures len { result.len ≤ len + short_write_size }
+    ensures within { result.len ≤ len + short_write_lines_size }
     ensures listed { (c d : CutterState) → WritesShort c d rest.now write.register write.count
         → ListsMoreAfter (on_sheet c in_line sheet.old len) (on_sheet d result.in_line sheet.new result.len) (take (4 + 4 * write.count) rest.now) }
 {
@@ -281,9 +282,9 @@ fn put_few_nops(
 ) -> PutRun
     requires some { 0 < count }
     requires in_table { count ≤ MOST_NOPS }
-    requires room { len + nops_size ≤ SHEET_SIZE }
+    requires room { len + nop_lines_size ≤ SHEET_SIZE }
     ensures size { result.size ≡ 4 * count }
-    ensures len { result.len ≤ len + (4 * count + 1) }
+    ensures within { result.len ≤ len + (4 * count + 1) }
     ensures listed { (c : CutterState) → TakesHead c no_op Step.Nop
         → ListsMoreAfter (on_sheet c in_line sheet.old len) (on_sheet c result.in_line sheet.new result.len) (nop_bytes count) }
 {
@@ -306,9 +307,9 @@ fn put_gap(
 ) -> PutRun
     requires near { count + 4 ≤ longest_gap_and_sync }
     requires long { short_gap_room ≤ length rest.now }
-    requires room { len + gap_size ≤ SHEET_SIZE }
+    requires room { len + gap_lines_size ≤ SHEET_SIZE }
     ensures size { result.size ≡ count + 4 }
-    ensures len { result.len ≤ len + gap_size }
+    ensures within { result.len ≤ len + gap_lines_size }
     ensures listed { (c d : CutterState) → EndsGap c d rest.now count
         → ListsMoreAfter (on_sheet c in_line sheet.old len) (on_sheet d result.in_line sheet.new result.len) (take (count + 4) rest.now) }
 {
@@ -329,9 +330,9 @@ fn take_next(
     rest: &[u8],
 ) -> Option<PutRun>
     requires room { len + FREE_SIZE ≤ SHEET_SIZE }
-    ensures some { IfSome result (λ n. TakesOnSheet cutter.old cutter.new rest.now n.size len n.len) }
+    ensures takes { IfSome result (λ n. TakesOnSheet cutter.old cutter.new rest.now n.size len n.len) }
     ensures listed { IfSome result (λ n. ListsMoreAfter (on_sheet cutter.old in_line sheet.old len) (on_sheet cutter.new n.in_line sheet.new n.len) (take n.size rest.now)) }
-    ensures none { IfNone result ((cutter.new ≡ cutter.old) × (sheet.new ≡ sheet.old)) }
+    ensures unchanged { IfNone result ((cutter.new ≡ cutter.old) × (sheet.new ≡ sheet.old)) }
 {
     if let Some((register, w)) = cutter.take_write(rest) {
         return Some(put_one_write(sheet, len, in_line, register, w));
@@ -384,10 +385,10 @@ pub(crate) fn take_short(
     rest: &[u8],
 ) -> Option<Taken>
     requires { HasSpareRoom text.old (BYTE_ROOM * length rest.now) }
-    ensures some { IfSome result (λ t. TakesAtOnce cutter.old cutter.new rest.now t.size (vec_len text.old) (vec_len text.new)) }
+    ensures takes { IfSome result (λ t. TakesAtOnce cutter.old cutter.new rest.now t.size (vec_len text.old) (vec_len text.new)) }
     ensures listed { IfSome result (λ t. ListsMore (lister_with cutter.old pen text.old.items) (lister_with cutter.new (Pen.Session t.in_line) text.new.items) (take t.size rest.now)) }
-    ensures none { IfNone result (cutter.new ≡ cutter.old) }
-    ensures same { IfNone result (text.new ≡ text.old) }
+    ensures same_cutter { IfNone result (cutter.new ≡ cutter.old) }
+    ensures same_text { IfNone result (text.new ≡ text.old) }
     ensures room { vec_capacity text.old ≤ vec_capacity text.new }
 {
     let Pen::Session(in_line) = pen else {

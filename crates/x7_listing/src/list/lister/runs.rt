@@ -41,7 +41,7 @@ fn byte_count(run: Run) -> usize
 /// A pen that holds the tail of a stream.
 fn with_tail(pen: Pen, tail: &[u8]) -> Pen
     requires { length tail.now < 4 }
-    ensures synced { is_in_session result ≡ true }
+    ensures in_session { is_in_session result ≡ true }
     ensures in_line { is_in_session pen ≡ true → in_line_of result ≡ in_line_of pen }
     ensures held { held_by result ≡ tail.now }
 {
@@ -94,8 +94,8 @@ impl Lister {
     /// Takes the next run of a stream. The end ends the listing, and begins a new one. `NoMemory` changes nothing.
     pub fn take(&mut self, run: &Run<'_>) -> Result<(), NoMemory>
         requires { FitsRun run.now }
-        ensures ok { OnOk result (TakesNext run.now self.old self.new) }
-        ensures err { OnErr result (self.new ≡ self.old) }
+        ensures takes { OnOk result (TakesNext run.now self.old self.new) }
+        ensures unchanged { OnErr result (self.new ≡ self.old) }
     {
         let Some(room) = byte_count(*run).checked_mul(3) else {
             return Err(NoMemory);

@@ -8,4 +8,4 @@ pub returns-then-bits-eq0 : goal.returns-then-bits-eq0
 returns-then-bits-eq0 c = none_set c.args.bytes.now c.args.at _ c.sync_bits-bits.ensures.all c.if-bits-eq0.true
 
 pub returns : goal.returns
-returns c = first_set c.args.bytes.now c.args.at _ _ c.sync_bits-bits.ensures.some c.sync_bits-bits.ensures.all c.lowest_bit.ensures.set c.lowest_bit.ensures.below
+returns c = first_set c.args.bytes.now c.args.at _ _ c.sync_bits-bits.ensures.only c.sync_bits-bits.ensures.all c.lowest_bit.ensures.set c.lowest_bit.ensures.none_below

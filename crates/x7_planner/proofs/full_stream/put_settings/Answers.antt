@@ -6,7 +6,7 @@ use Rattle.x7_part.specs.Part.{frame_words}
 use Rattle.x7_part.specs.Slot.{slots_in}
 use Rattle.x7_regs.specs.declared.command.Command.TheVariants.{Rcrc, Shutdown, Wcfg}
 use Rattle.x7_regs.specs.declared.register.Reg.TheVariants.{Cor0, Ctl0, Far, Idcode, Mask}
-use Rattle.x7_packets.specs.PacketWords.{command, frame_data, no_op, write_one}
+use Rattle.x7_packets.specs.PacketWords.{command, frame_data_headers, no_op, write_one}
 use Rattle.x7_planner.specs.Settings.{control, control_mask, startup_options}
 use Rattle.x7_planner.specs.Writer.{bytes_of_words}
 use Rattle.x7_planner.proofs.SlotLemmas.{and_packet, last_packet, packets_written, written_on}
@@ -20,7 +20,7 @@ returns-clause-items c =
     let waited = c.put_words.new.out.items in
     let new = c.put_packets-2.new.out.items in
     let settings : List (List ℕ) =
-    write_one Idcode part.idcode ∷ write_one Cor0 startup_options ∷ write_one Mask control_mask ∷ write_one Ctl0 control ∷ command Wcfg ∷ write_one Far (get_or (addresses_in part) 0 0) ∷ frame_data (frame_words part * length (slots_in part)) ∷ [] in
+    write_one Idcode part.idcode ∷ write_one Cor0 startup_options ∷ write_one Mask control_mask ∷ write_one Ctl0 control ∷ command Wcfg ∷ write_one Far (get_or (addresses_in part) 0 0) ∷ frame_data_headers (frame_words part * length (slots_in part)) ∷ [] in
     let named : _ ≡ settings =
     and_packet (c.write_one.ensures ∙ ap (λ (i : ℕ). write_one Idcode i) c.idcode.ensures.value)
     (and_packet c.write_one-2.ensures
@@ -28,7 +28,7 @@ returns-clause-items c =
     (and_packet c.write_one-4.ensures
     (and_packet c.command-3.ensures
     (and_packet (c.write_one-5.ensures ∙ ap (λ (a : ℕ). write_one Far a) c.first_address.ensures.first)
-    (last_packet (c.frame_data.ensures ∙ ap₂ (λ (w n : ℕ). frame_data (w * n)) c.words.ensures.value c.slot_count.ensures.count))))))) in
+    (last_packet (c.frame_data_headers.ensures ∙ ap₂ (λ (w n : ℕ). frame_data_headers (w * n)) c.words.ensures.value c.slot_count.ensures.count))))))) in
     let begun : waited ≡ old ++ bytes_of_words ((command Shutdown ++ command Rcrc) ++ no_op ∷ []) =
     written_on old cleared waited (command Shutdown ++ command Rcrc) (no_op ∷ []) (packets_written old cleared (and_packet c.command.ensures (last_packet c.command-2.ensures)) c.in_ok-put_packets.ensures.items) c.in_ok-put_words.ensures.items in
     on_ok_weaker c.put_packets-2.result

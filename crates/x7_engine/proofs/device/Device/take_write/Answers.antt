@@ -48,7 +48,7 @@ written_here c given kept wrapped bytes s =
     (write_at part kept wrapped (device_before c) (device_after c) bytes c.args.piece.now c.args.at.now c.in-Some.register c.in-Some.word inside
     (ap (λ (d : DeviceState). d.registers.stop) c.self.view_is ∙ c.requires.going)
     (c.is_idle.ensures.not_begun c.if-not-is_idle.false) (c.is_idle.ensures.no_limit c.if-not-is_idle.false)
-    c.in-Some.ensures.some (subst (λ (r : ℕ). EntersAt (wrote c) (λ place h. entry (Write r c.in-Some.word) place ∷ h)) c.numbered.ensures c.write_to.ensures.stands kept) c.write_to.ensures.counts (no_word_due c) refl refl refl)
+    c.in-Some.ensures.writes (subst (λ (r : ℕ). EntersAt (wrote c) (λ place h. entry (Write r c.in-Some.word) place ∷ h)) c.numbered.ensures c.write_to.ensures.stands kept) c.write_to.ensures.counts (no_word_due c) refl refl refl)
 
 turn_taken : (c : goal.After-self-2-1) → TakesTurn c.args.self.now (device_after c) (between c.args.piece.now c.args.at.now (c.args.at.now + 8))
 turn_taken c = record {

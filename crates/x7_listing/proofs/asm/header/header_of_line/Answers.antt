@@ -9,7 +9,7 @@ returns-in_default-3 c = record {
       let here = line_fields c.args.line.now c.in-Some.fields.now x c.in-Some.ensures e in
       let in_b = after_field c.in-Some.fields.now c.in-Some-2.a.items c.in-Some-2.rest.now x.a (after_a x) a.0 held.a a.1 here in
       none_of _ _ c.in_ok-b.field-0 c.in_default-3.is c.in_ok-b.ensures x.b (after_b x) (is_field x.b held.b held.have.b) in_b;
-  short = tt;
+  most = tt;
 }
 
 pub returns-in_default-4 : goal.returns-in_default-4
@@ -21,7 +21,7 @@ returns-in_default-4 c = record {
       let in_b = after_field c.in-Some.fields.now c.in-Some-2.a.items c.in-Some-2.rest.now x.a (after_a x) a.0 held.a a.1 here in
       let in_c = after_field c.in-Some-2.rest.now c.in-Some-3.b.items c.in-Some-3.rest.now x.b (after_b x) b.0 held.b b.1 in_b in
       none_of _ _ c.in_ok-c.field-0 c.in_default-4.is c.in_ok-c.ensures x.c (after_c x) (is_field x.c held.c held.have.c) in_c;
-  short = tt;
+  most = tt;
 }
 
 pub returns-in_default-5 : goal.returns-in_default-5
@@ -35,7 +35,7 @@ returns-in_default-5 c = record {
       let in_c = after_field c.in-Some-2.rest.now c.in-Some-3.b.items c.in-Some-3.rest.now x.b (after_b x) b.0 held.b b.1 in_b in
       let in_d = after_field c.in-Some-3.rest.now c.in-Some-4.c.items c.in-Some-4.rest.now x.c (after_c x) d.0 held.c d.1 in_c in
       none_of _ _ c.in_ok-d.field-0 c.in_default-5.is c.in_ok-d.ensures x.d (decimal x.data_length) (is_field x.d held.d held.have.d) in_d;
-  short = tt;
+  most = tt;
 }
 
 pub returns-in_default-number_of_decimal : goal.returns-in_default-number_of_decimal
@@ -51,7 +51,7 @@ returns-in_default-number_of_decimal c = record {
       let in_d = after_field c.in-Some-3.rest.now c.in-Some-4.c.items c.in-Some-4.rest.now x.c (after_c x) d.0 held.c d.1 in_c in
       let in_e = after_field c.in-Some-4.rest.now c.in-Some-5.d.items c.in-Some-5.digits.now x.d (decimal x.data_length) l.0 held.d l.1 in_d in
       c.in_default-number_of_decimal.ensures x.data_length held.have.data_length in_e;
-  short = tt;
+  most = tt;
 }
 
 pub returns : goal.returns
@@ -62,4 +62,4 @@ returns c =
     let l = some_of _ _ c.in_ok-d.field-0 _ c.in-Some-5.is c.in_ok-d.ensures in
     let is = lent_header c.in-Some-2.a.items c.in-Some-3.b.items c.in-Some-4.c.items c.in-Some-5.d.items c.deref.result.now c.deref-2.result.now c.deref-3.result.now c.deref-4.result.now c.in-Some-number_of_decimal.length c.in_ok-write_header.field-0.items c.deref.ensures.value c.deref-2.ensures.value c.deref-3.ensures.value c.deref-4.ensures.value c.in_ok-write_header.ensures.bytes in
     let made = header_made c.args.line.now c.in-Some.fields.now c.in-Some-2.rest.now c.in-Some-3.rest.now c.in-Some-4.rest.now c.in-Some-5.digits.now (contents c.in-Some-2.a.items c.in-Some-3.b.items c.in-Some-4.c.items c.in-Some-5.d.items c.in-Some-number_of_decimal.length) c.in_ok-write_header.field-0.items c.in-Some.ensures a b d l c.in-Some-number_of_decimal.ensures is in
-    record { found = made; short = omega (arith, c.in_ok-write_header.field-0.ok.0, header_short c.args.line.now c.in_ok-write_header.field-0.items made) }
+    record { found = made; most = omega (arith, c.in_ok-write_header.field-0.ok.0, header_short c.args.line.now c.in_ok-write_header.field-0.items made) }

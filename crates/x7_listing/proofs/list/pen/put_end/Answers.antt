@@ -11,7 +11,7 @@ returns-in-Gap c =
     let gap = c.in-Gap.gap in
     record {
       listed = subst (λ (p : Pen). EndsWith (written_with p c.args.text.now.items) c.args.kept.now c.end_gap.new.text.items) (sym c.in-Gap.is)
-          (λ given before sessions place t k. ended_gap false gap.in_line (take gap.count gap.held) given _ _ before t.bytes sessions place t.mode refl t.listed t.not_due c.end_gap.ensures.items);
+          (λ given before sessions place t k. ended_gap false gap.in_line (take gap.count gap.held) given _ _ before t.bytes sessions place t.mode refl t.listed t.not_due c.end_gap.ensures.appends);
     }
 
 pub returns-in_default : goal.returns-in_default
@@ -20,5 +20,5 @@ returns-in_default c =
     let kept = c.args.kept.now in
     record {
       listed = λ given before sessions place t k. ended_session (is_in_session c.args.pen) (in_line_of c.args.pen) (held_by c.args.pen) kept given c.args.text.now.items _ before t.bytes sessions place t.mode synced t.listed t.reading k
-          (c.end_session.ensures.items ∙ ap (λ (i : ℕ). c.args.text.now.items ++ close i ++ open_text 32 (codes "bytes ") hex_byte 0 kept ++ close (in_line_after 32 0 kept)) (c.open_in.ensures synced));
+          (c.end_session.ensures.appends ∙ ap (λ (i : ℕ). c.args.text.now.items ++ close i ++ open_text 32 (codes "bytes ") hex_byte 0 kept ++ close (in_line_after 32 0 kept)) (c.open_in.ensures synced));
     }

@@ -6,8 +6,8 @@ use Rattle.x7_packets.specs.Machine.{MachineStandsFor, MachineState}
 use Rattle.x7_packets.proofs.AtOnceLemmas.{other_register, writes_short}
 use Rattle.x7_packets.proofs.cutter.Cutter.take_short_write.Goals as goal
 
-pub returns-clause-some : goal.returns-clause-some
-returns-clause-some c =
+pub returns-clause-writes : goal.returns-clause-writes
+returns-clause-writes c =
     let here = c.if-not-is_at_header.ensures in
     let synced : c.args.self.now.mode ≡ Mode.Synced = here.mode refl in
     let none : c.args.self.now.kept ≡ [] = here.kept refl in
@@ -15,5 +15,5 @@ returns-clause-some c =
     let same_kept : take c.self.inside.count c.self.inside.kept ≡ [] = ap (λ (o : CutterState). o.kept) c.self.view_is ∙ none in
     let fits = all_from_places (λ b. b < 256) c.args.rest.now (λ k h. omega (arith, c.type_inv.rest k)) in
     writes_short c.args.self.now _ c.args.rest.now c.word_of-head.result _ _ synced same_mode none same_kept (omega (arith, c.if-rest-lt-LONGEST_SHORT_WRITE.false)) fits c.word_of-head.ensures.back
-    (omega (arith, c.if-head-type1_write.false, c.type1_write.ensures)) c.register_in-register.ensures.range (other_register _ _ c.is_cmd.ensures c.if-is_cmd.false) (omega (arith, c.if-count-eq0.false)) (omega (arith, c.if-count-gt-MOST_SHORT_WORDS.false))
+    (omega (arith, c.if-head-type1_write_header.false, c.type1_write_header.ensures)) c.register_in-register.ensures.most (other_register _ _ c.is_cmd.ensures c.if-is_cmd.false) (omega (arith, c.if-count-eq0.false)) (omega (arith, c.if-count-gt-MOST_SHORT_WORDS.false))
     (λ ps n some few s. c.take_write_to_other.ensures.head ps n some few (subst (λ (m : MachineState). MachineStandsFor m ps) (sym (ap (λ (o : CutterState). o.machine) c.self.view_is)) s)) c.take_write_to_other.ensures.words

@@ -6,8 +6,8 @@ use Rattle.x7_packets.proofs.AtOnceLemmas.{other_register, writes_one}
 use Rattle.x7_packets.proofs.TakeLemmas.{calm_word}
 use Rattle.x7_packets.proofs.cutter.Cutter.take_write.Goals as goal
 
-pub returns-then-not-is_cmd-clause-some : goal.returns-then-not-is_cmd-clause-some
-returns-then-not-is_cmd-clause-some c =
+pub returns-then-not-is_cmd-clause-writes : goal.returns-then-not-is_cmd-clause-writes
+returns-then-not-is_cmd-clause-writes c =
     let here = c.if-not-is_at_header.ensures in
     let synced : c.args.self.now.mode ≡ Mode.Synced = here.mode refl in
     let none : c.args.self.now.kept ≡ [] = here.kept refl in
@@ -19,8 +19,8 @@ returns-then-not-is_cmd-clause-some c =
     (λ ps s. c.take_write_to_other.ensures.head ps 1 (omega arith) (omega arith) (subst (λ (m : MachineState). MachineStandsFor m ps) (sym (ap (λ (o : CutterState). o.machine) c.self.view_is)) s))
     (λ ps s. c.take_write_to_other.ensures.words ps (w ∷ []) (c.in-Some.ensures.fits, tt) (omega arith) s)
 
-pub returns-clause-some : goal.returns-clause-some
-returns-clause-some c =
+pub returns-clause-writes : goal.returns-clause-writes
+returns-clause-writes c =
     let here = c.if-not-is_at_header.ensures in
     let synced : c.args.self.now.mode ≡ Mode.Synced = here.mode refl in
     let none : c.args.self.now.kept ≡ [] = here.kept refl in

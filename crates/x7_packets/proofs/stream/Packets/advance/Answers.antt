@@ -7,21 +7,21 @@ use Rattle.x7_packets.proofs.StreamLemmas.{gives_again, gives_end, gives_up, rea
 use Rattle.x7_packets.proofs.stream.Packets.advance.Goals as goal
 
 pub returns-then-self-clause-err : goal.returns-then-self-clause-err
-returns-then-self-clause-err g c = record { more = []; reads = reads_none c.args.self.now; failed = sym (ap (λ (p : PacketsState). p.failed) c.self.view_is) ∙ c.if-self.true }
+returns-then-self-clause-err g c = record { more = []; reads = reads_none c.args.self.now; failed = sym (ap (λ (p : PacketsState). p.has_failed) c.self.view_is) ∙ c.if-self.true }
 
 pub returns-then-self-2-clause-ok : goal.returns-then-self-2-clause-ok
 returns-then-self-2-clause-ok g c = λ r e.
-    let end = c.requires.end (sym (ap (λ (p : PacketsState). p.done) c.self.view_is) ∙ c.if-self-2.true) in
+    let end = c.requires.end (sym (ap (λ (p : PacketsState). p.is_done) c.self.view_is) ∙ c.if-self-2.true) in
     rw (← c.self.view_is) (gives_again _ _ r c.if-self-2.true c.if-self.false end e)
 
 pub loop-self-init : goal.loop-self-init
 loop-self-init g c =
-    let good : c.args.self.now.failed ≡ false = sym (ap (λ (p : PacketsState). p.failed) c.self.view_is) ∙ c.if-self.false in
+    let good : c.args.self.now.has_failed ≡ false = sym (ap (λ (p : PacketsState). p.has_failed) c.self.view_is) ∙ c.if-self.false in
     record {
       selected = c.requires.selected good;
       inputs = stays_at _;
       good = good;
-      on = sym (ap (λ (p : PacketsState). p.done) c.self.view_is) ∙ c.if-self-2.false;
+      on = sym (ap (λ (p : PacketsState). p.is_done) c.self.view_is) ∙ c.if-self-2.false;
       reads = ([], sym (preceded_nil (g.I.Inputs.state c.args.inputs.now).rest), reads_none c.args.self.now);
       room = omega (arith, turns_most c.args.self.now.cutter.kept c.args.self.now.left);
     }
@@ -49,7 +49,7 @@ returns-then-not-more-clause-ok g c = λ r last.
     let s : CutsNext c.loop-self.self c.cut_next.new.self false = subst (λ (b : Bool). CutsNext c.loop-self.self c.cut_next.new.self b) c.if-cut_next.false c.cut_next.ensures in
     let f = c.in-Ok.ensures.ok in
     let end = f.end c.if-not-more.true in
-    gives_end c.args.self.now c.loop-self.self c.cut_next.new.self c.fill.new.self c.finish.new.self i.reads.0 f.piece _ _ _ r s i.on i.good i.reads.2 i.reads.1 f.taken f.is end.0 end.1 c.finish.ensures.kept c.finish.ensures.none last
+    gives_end c.args.self.now c.loop-self.self c.cut_next.new.self c.fill.new.self c.finish.new.self i.reads.0 f.piece _ _ _ r s i.on i.good i.reads.2 i.reads.1 f.taken f.is end.0 end.1 c.finish.ensures.tail c.finish.ensures.end last
 
 pub loop-self-preserved : goal.loop-self-preserved
 loop-self-preserved g c =
@@ -61,8 +61,8 @@ loop-self-preserved g c =
     record {
       selected = o.selected;
       inputs = stays_on _ _ _ i.inputs o.inputs;
-      good = ap (λ (p : PacketsState). p.failed) f.is ∙ s.failed ∙ i.good;
-      on = ap (λ (p : PacketsState). p.done) f.is ∙ s.done ∙ i.on;
+      good = ap (λ (p : PacketsState). p.has_failed) f.is ∙ s.failed ∙ i.good;
+      on = ap (λ (p : PacketsState). p.is_done) f.is ∙ s.done ∙ i.on;
       reads = (
         i.reads.0 ++ f.piece,
         i.reads.1 ∙ ap (preceded i.reads.0) f.taken ∙ preceded_preceded i.reads.0 f.piece (g.I.Inputs.state c.fill.new.inputs).rest,

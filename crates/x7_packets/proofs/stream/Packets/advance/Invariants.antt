@@ -10,8 +10,8 @@ invariant-loop-self g l =
     record {
       selected : (i.state l.inputs).selected ≡ true;
       inputs : InputsStay (i.state l.fn.inputs) (i.state l.inputs);
-      good : l.self.failed ≡ false;
-      on : l.self.done ≡ false;
+      good : l.self.has_failed ≡ false;
+      on : l.self.is_done ≡ false;
       reads : (more : List ℕ) × ((i.state l.fn.inputs).rest ≡ preceded more (i.state l.inputs).rest) × TookBytes l.fn.self l.self more;
       room : l.self.taken + 65536 * turns_left l.self.cutter.kept l.self.left ≤ l.fn.self.taken + 65536 * 9;
     }

@@ -3,8 +3,8 @@ use Rattle.x7_packets.specs.Reading.{Searching}
 use Rattle.x7_packets.proofs.StreamLemmas.{first_of, searches, starts}
 use Rattle.x7_packets.proofs.stream.Packets.new.Goals as goal
 
-pub returns-clause-ok : goal.returns-clause-ok
-returns-clause-ok c = starts _ c.args.first.now c.new-cutter.ensures (c.keeps_the_tail.ensures [] [] (Searching []) c.new-cutter.ensures) (first_of _ c.args.first.now c.in_ok-buffer.ensures.items) refl refl
+pub returns-clause-stands : goal.returns-clause-stands
+returns-clause-stands c = starts _ c.args.first.now c.new-cutter.ensures (c.keeps_the_tail.ensures [] [] (Searching []) c.new-cutter.ensures) (first_of _ c.args.first.now c.in_ok-buffer.ensures.items) refl refl
 
 pub returns-clause-fresh : goal.returns-clause-fresh
 returns-clause-fresh c = (refl, refl, searches _ c.new-cutter.ensures)

@@ -3,7 +3,7 @@ use Rattle.x7_listing.proofs.asm.AsmLinesLemmas.{first_read, first_wants, next_r
 use Rattle.x7_listing.proofs.asm.lines.AsmLines.put_next.Goals as goal
 
 pub returns-then-n-eq1-clause-read : goal.returns-then-n-eq1-clause-read
-returns-then-n-eq1-clause-read c = λ lines m h. first_read c.put_first.result c.args.self.now c.put_first.new.self c.args.line.now lines (omega (arith, m, c.if-n-eq1.true)) c.put_first.ensures.ok c.put_first.ensures.room c.put_first.ensures.fault h
+returns-then-n-eq1-clause-read c = λ lines m h. first_read c.put_first.result c.args.self.now c.put_first.new.self c.args.line.now lines (omega (arith, m, c.if-n-eq1.true)) c.put_first.ensures.reads c.put_first.ensures.room c.put_first.ensures.fault h
 
 pub returns-then-n-eq1-clause-memory : goal.returns-then-n-eq1-clause-memory
 returns-then-n-eq1-clause-memory c = λ lines m h. first_wants c.put_first.result c.args.line.now lines (omega (arith, m, c.if-n-eq1.true))
@@ -12,4 +12,4 @@ pub returns-clause-memory : goal.returns-clause-memory
 returns-clause-memory c = λ lines m h. next_wants c.put_one.result c.args.self.now c.put_one.new.self c.args.n c.args.line.now lines m (λ e. omega (arith, e, c.if-n-eq1.false)) c.put_one.ensures.memory h
 
 pub returns-clause-read : goal.returns-clause-read
-returns-clause-read c = λ lines m h. next_read c.put_one.result c.args.self.now c.put_one.new.self c.args.n c.args.line.now lines m (λ e. omega (arith, e, c.if-n-eq1.false)) c.put_one.ensures.ok c.put_one.ensures.room c.put_one.ensures.fault h
+returns-clause-read c = λ lines m h. next_read c.put_one.result c.args.self.now c.put_one.new.self c.args.n c.args.line.now lines m (λ e. omega (arith, e, c.if-n-eq1.false)) c.put_one.ensures.reads c.put_one.ensures.room c.put_one.ensures.fault h

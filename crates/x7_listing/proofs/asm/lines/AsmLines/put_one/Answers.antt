@@ -20,8 +20,8 @@ returns-in_err-reserve-2-clause-memory c = wants_read _ c.args.self.now (output_
     (read_on c.args.line.now c.self.inside.out.items c.reserve.new.self.items c.put_checked.new.out.items c.self.inside.start k c.args.n c.self.inside.checker c.put_checked.new.checker c.put_checked.result
     c.reserve.ensures.items m c.put_checked.ensures.reads c.put_checked.ensures.keeps all left (subst (λ (o : Output). TextsAreRead all (c.args.line.now ∷ left) (state_of_output o k)) (sym c.self.view_is) g) c.if-not-put_checked.false (omega arith)))
 
-pub returns-clause-ok : goal.returns-clause-ok
-returns-clause-ok c = λ all left k m g.
+pub returns-clause-reads : goal.returns-clause-reads
+returns-clause-reads c = λ all left k m g.
     subst (λ out. TextsAreRead all left (asm_state out c.self.inside.start c.put_checked.new.checker c.args.n)) (sym c.reserve-2.ensures.items)
     (read_on c.args.line.now c.self.inside.out.items c.reserve.new.self.items c.put_checked.new.out.items c.self.inside.start k c.args.n c.self.inside.checker c.put_checked.new.checker c.put_checked.result
     c.reserve.ensures.items m c.put_checked.ensures.reads c.put_checked.ensures.keeps all left (subst (λ (o : Output). TextsAreRead all (c.args.line.now ∷ left) (state_of_output o k)) (sym c.self.view_is) g) c.if-not-put_checked.false (omega arith))

@@ -2,8 +2,8 @@ use Rattle.std.proofs.Common.{◌≡◌, ◌-◌, ◌++◌, ◌∙◌, ℕ, List
 use Rattle.x7_listing.proofs.list.fast.SheetLemmas.{lanes_stored, row_part}
 use Rattle.x7_listing.proofs.list.fast.sheet.put_row.Goals as goal
 
-pub returns-clause-text : goal.returns-clause-text
-returns-clause-text c =
+pub returns-clause-appends : goal.returns-clause-appends
+returns-clause-appends c =
     let sheet = c.args.sheet.now in
     let row = c.args.row.now in
     let len = c.args.len in

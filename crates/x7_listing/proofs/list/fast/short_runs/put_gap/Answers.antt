@@ -9,4 +9,4 @@ pub returns-clause-listed : goal.returns-clause-listed
 returns-clause-listed c = λ old new x text given before bytes s.
     let prefix = ap (take c.args.count) c.first_32.ensures ∙ take-take c.args.count 32 c.args.rest.now (omega (arith, c.requires.near)) in
     gap_listed old new true true c.args.in_line.count 0 c.args.count [] [] (text ++ take c.args.len c.args.sheet.now) _ given before bytes c.args.rest.now c.args.rest x refl refl refl
-    (after_text text (take c.args.len c.args.sheet.now) _ _ (c.put_bytes_and_sync.ensures.text ∙ ap (λ (t : List ℕ). take c.args.len c.args.sheet.now ++ (bytes_text t ++ codes "sync\n")) prefix)) s
+    (after_text text (take c.args.len c.args.sheet.now) _ _ (c.put_bytes_and_sync.ensures.appends ∙ ap (λ (t : List ℕ). take c.args.len c.args.sheet.now ++ (bytes_text t ++ codes "sync\n")) prefix)) s

@@ -20,7 +20,7 @@ loop-len-init c = record {
 
 pub loop-len-preserved : goal.loop-len-preserved
 loop-len-preserved c =
-    let next = c.in-Some.ensures.some in
+    let next = c.in-Some.ensures.takes in
     let left : length (take (length c.args.rest.now - c.loop-len.at) (drop c.loop-len.at c.args.rest.now)) ≡ length c.args.rest.now - c.loop-len.at = rest_length c.args.rest.now c.loop-len.at c.loop-len.invariant.within in
     record {
       within = omega (arith, left, next.within, c.loop-len.invariant.within);

@@ -6,8 +6,8 @@ use Rattle.x7_listing.proofs.list.ListerLemmas.{begins, not_due}
 use Rattle.x7_listing.proofs.list.ListerOfRunsLemmas.{starts}
 use Rattle.x7_listing.proofs.list.lister.Lister.finish.Goals as goal
 
-pub returns-clause-ok : goal.returns-clause-ok
-returns-clause-ok c = λ given before bytes s.
+pub returns-clause-finished : goal.returns-clause-finished
+returns-clause-finished c = λ given before bytes s.
     let i = c.self.inside in
     let r : ListerStandsFor (lister_with i.cutter i.pen i.text.items) given before bytes = subst (λ (l : ListerState). ListerStandsFor l given before bytes) (sym c.self.view_is) s in
     let P : List ℕ → Type 0 = λ x. HasListedJust (lister_with i.cutter i.pen x) given before bytes in

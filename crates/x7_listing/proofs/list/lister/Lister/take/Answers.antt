@@ -3,8 +3,8 @@ use Rattle.x7_listing.specs.Pens.{lister_with}
 use Rattle.x7_listing.specs.Lister.{ListerState, TakerStandsFor}
 use Rattle.x7_listing.proofs.list.lister.Lister.take.Goals as goal
 
-pub returns-clause-ok : goal.returns-clause-ok
-returns-clause-ok c = λ given before bytes due next s x.
+pub returns-clause-takes : goal.returns-clause-takes
+returns-clause-takes c = λ given before bytes due next s x.
     let i = c.self.inside in
     let P : List ℕ → Type 0 = λ t. TakerStandsFor (lister_with i.cutter i.pen t) given before bytes due in
     let t : P i.text.items = subst (λ (l : ListerState). TakerStandsFor l given before bytes due) (sym c.self.view_is) s in

@@ -6,7 +6,7 @@ pub returns-in-Tail : goal.returns-in-Tail
 returns-in-Tail c = record {
   takes = λ cutter given before bytes due next t x.
       let e = c.with_tail.ensures in
-      rw c.in-Tail.is (takes_tail _ _ c.in-Tail.tail given before bytes due next refl e.synced e.in_line e.held refl t (rw c.in-Tail.is at x));
+      rw c.in-Tail.is (takes_tail _ _ c.in-Tail.tail given before bytes due next refl e.in_session e.in_line e.held refl t (rw c.in-Tail.is at x));
 }
 
 pub returns-in-End : goal.returns-in-End
@@ -19,5 +19,5 @@ returns-in-End c = record {
 pub returns-in_default : goal.returns-in_default
 returns-in_default c = record {
   takes = λ cutter given before bytes due next t x.
-      takes_cut _ _ c.args.run c.cut_of.result given before bytes due next c.in_default.not-Tail c.in_default.not-End refl c.cut_of.ensures (c.put_run.ensures.listed given) c.put_run.ensures.held t x;
+      takes_cut _ _ c.args.run c.cut_of.result given before bytes due next c.in_default.not-Tail c.in_default.not-End refl c.cut_of.ensures (c.put_run.ensures.listed given) c.put_run.ensures.none_held t x;
 }
