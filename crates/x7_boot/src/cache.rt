@@ -65,7 +65,7 @@ impl PageCache {
         ensures quiet { OnOk result ((F.state flash.new).faults ≡ (F.state flash.old).faults) }
         ensures no_memory { IsErrOf result BootFault.NoMemory → (F.state flash.new).faults ≡ (F.state flash.old).faults }
         ensures not_large { IsErrOf result BootFault.TooLarge → ⊥ }
-        ensures flash { OnlyReads (F.state flash.old) (F.state flash.new) (F.found_since flash.old) (F.found_since flash.new) }
+        ensures only { OnlyReads (F.state flash.old) (F.state flash.new) (F.found_since flash.old) (F.found_since flash.new) }
     {
         if self.pages.promote(&number) {
             return Ok(Loaded::Kept);
@@ -83,7 +83,7 @@ impl PageCache {
     fn absent_page_count(&self, number: u64, size: u64) -> u64
         requires within { number * page_size < size }
         requires limit { size ≤ flash_limit }
-        ensures some { 0 < result }
+        ensures positive { 0 < result }
         ensures most { result ≤ block_pages }
         ensures within { (page : ℕ) → page < number + result → page * page_size < size }
         ensures absent { (page : ℕ) → number < page → page < number + result → lookup (nat_eq page) self.now.pages.entries ≡ None }
@@ -98,7 +98,7 @@ impl PageCache {
 
     /// Puts the `count` pages of the block into the cache, the first of them, page `number`, as the one used last.
     fn keep_block(&mut self, number: u64, count: u64) -> Result<(), NoMemory>
-        requires some { 0 < count }
+        requires positive { 0 < count }
         requires most { count ≤ block_pages }
         requires number { number ≤ flash_limit / page_size }
         requires within { count * page_size < length self.old.block.items + page_size }

@@ -12,15 +12,14 @@ ghost use Rattle.x7_boot.specs.declared.attempt.Ending.TheVariants as ending;
 ghost use Rattle.x7_boot.specs.declared.boots.BootEnd.{BootEnd};
 ghost use Rattle.x7_boot.specs.declared.boots.BootEnd.TheVariants as boot_end;
 
-/// An attempt that started made its checks, and so did the last one of a boot that started: an
-/// image starts only after its checks passed.
+/// Over a flash of bytes an attempt that started made its checks, and so did the last one of a boot that started.
 pub fn starts_are_checked()
     ensures attempt { (part : PartData) (flash : List ℕ) (t : AttemptCourse) → AreBytes flash → IsFlashAttempt part flash t → t.ending ≡ ending.Started → HasChecked part t.kept t.bytes }
     ensures boot { (part : PartData) (flash : List ℕ) (b : BootedState) → AreBytes flash → (is : IsBoot part flash b) → b.end ≡ boot_end.Started → HasChecked part is.last.kept is.last.bytes }
 {}
 
-/// Startup has begun only after its checks: after any bytes, at the end of an attempt, and at the end
-/// of a boot, also of one that didn't start.
+/// Where startup has begun its checks were made: after any bytes, at the end of an attempt over a flash of bytes, and
+/// at the end of a boot from one, whether the attempt or the boot started or not.
 pub fn startup_is_checked()
     ensures state { (part : PartData) (kept : Kept) (wrapped : Bool) (bytes : List ℕ) → AreBytes bytes → 0 < (state_of part kept wrapped bytes).phase → HasChecked part kept bytes }
     ensures attempt { (part : PartData) (flash : List ℕ) (t : AttemptCourse) → AreBytes flash → IsFlashAttempt part flash t → 0 < (end_state part t).phase → HasChecked part t.kept t.bytes }
@@ -33,21 +32,22 @@ pub fn every_flash_boots()
     ensures { (part : PartData) (flash : List ℕ) → HasBoot part flash }
 {}
 
-/// An attempt that ended in the flash is one over each flash with the same bytes up to there.
+/// An attempt that ended in the flash is one over each flash with the same bytes up to the attempt's end.
 pub fn only_taken_bytes_count()
     ensures { (part : PartData) (flash other : List ℕ) (t : AttemptCourse) → IsFlashAttempt part flash t → t.wrapped ≡ false
         → take (attempt_end t) other ≡ take (attempt_end t) flash → IsFlashAttempt part other t }
 {}
 
-/// A boot has a course, and attempts through which the flash leads to an end are those of each course over it.
+/// A boot has a course, with its last attempt. Where a flash leads through attempts to an end, each course over it is
+/// the one of these attempts and this end.
 pub fn one_course()
     ensures boot { (part : PartData) (flash : List ℕ) (b : BootedState) → (boot : IsBoot part flash b) → IsCourse part flash (course_of b boot.last) }
     ensures along { (part : PartData) (flash : List ℕ) (c : BootCourse) (last : AttemptCourse) (older : List AttemptCourse) (end : BootEnd) → IsCourse part flash c
         → LeadsToEnd part flash (last ∷ older) end → c ≡ course_along last older end }
 {}
 
-/// A flash has one boot of a part: an attempt is determined by what it keeps and its address, and a boot's attempts,
-/// its last one and its end by the bytes.
+/// A flash has one boot of a part: two attempts over it that keep the same and begin at the same address are the same,
+/// and two boots from it have the same attempts, the same end and the same course of the last attempt.
 pub fn one_boot()
     ensures attempt { (part : PartData) (flash : List ℕ) (s t : AttemptCourse) → IsFlashAttempt part flash s → IsFlashAttempt part flash t → s.kept ≡ t.kept → s.address ≡ t.address → s ≡ t }
     ensures boot { (part : PartData) (flash : List ℕ) (a b : BootedState) → IsBoot part flash a → IsBoot part flash b → (a.attempts ≡ b.attempts) × (a.end ≡ b.end) }

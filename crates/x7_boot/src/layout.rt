@@ -31,7 +31,7 @@ struct ImageShape {
 /// larger than a flash may be.
 fn shape_of(golden: u64, update: u64) -> Option<ImageShape>
     ensures found { IfSome result (λ it. (it.update_place ≡ place_after_golden golden) × (it.size ≡ image_size golden update) × (it.size ≤ flash_limit)) }
-    ensures none { IfNone result (flash_limit < image_size golden update) }
+    ensures too_long { IfNone result (flash_limit < image_size golden update) }
 {
     if golden > FLASH_LIMIT - SECTOR_BYTES {
         return None;

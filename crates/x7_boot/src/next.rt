@@ -57,7 +57,7 @@ pub(crate) fn next_by(device: &Device, kind: Kind, number: u32, ending: Ending) 
     ensures table { (part : PartData) (t : AttemptCourse) → IsDeviceOf part device.now t → t.kept.kind ≡ kind → result ≡ next_by part number t ending }
     ensures not_on_bench { (kept : KeptData) (address : ℕ) → result ≡ next.Again kept address → kept.kind ≡ Bench → ⊥ }
     ensures no_second_fallback { (kept : KeptData) (address : ℕ) → result ≡ next.Again kept address → is_fallback kept.kind ≡ true → is_fallback kind ≡ false }
-    ensures under_limit { (kept : KeptData) (address : ℕ) → result ≡ next.Again kept address → is_fallback kept.kind ≡ false → number < most_iprogs }
+    ensures most { (kept : KeptData) (address : ℕ) → result ≡ next.Again kept address → is_fallback kept.kind ≡ false → number < most_iprogs }
 {
     match ending {
         Ending::Started => Next::Ends(BootEnd::Started),

@@ -11,7 +11,7 @@ use x7_words::NoMemory;
 /// What began an attempt, in a word.
 fn kind_text(kind: Kind) -> &'static [u8]
     ensures word { result.now ≡ kind_text kind }
-    ensures short { length result.now ≤ 8 }
+    ensures most { length result.now ≤ 8 }
 {
     match kind {
         Kind::Bench => b"bench",
@@ -24,7 +24,7 @@ fn kind_text(kind: Kind) -> &'static [u8]
 /// What an attempt failed by, in a word.
 fn cause_text(cause: Cause) -> &'static [u8]
     ensures word { result.now ≡ cause_text cause }
-    ensures short { length result.now ≤ 8 }
+    ensures most { length result.now ≤ 8 }
 {
     match cause {
         Cause::Watchdog => b"watchdog",
@@ -37,7 +37,7 @@ fn cause_text(cause: Cause) -> &'static [u8]
 /// How an attempt ended, in a word.
 fn ending_text(ending: Ending) -> &'static [u8]
     ensures word { result.now ≡ ending_text ending }
-    ensures short { length result.now ≤ 8 }
+    ensures most { length result.now ≤ 8 }
 {
     match ending {
         Ending::Started => b"started",
@@ -63,8 +63,8 @@ const LONGEST_ATTEMPT_LINE: usize = 56;
 /// Appends the line of the attempt of this number. After an error the text is as it was.
 #[tactic(auto, unfolding(crate::specs::Text::attempt_text))]
 fn put_attempt(text: &mut Vec<u8>, number: u64, tried: &Tried) -> Result<(), NoMemory>
-    ensures ok { OnOk result (text.new.items ≡ text.old.items ++ attempt_text number tried.now) }
-    ensures err { OnErr result (text.new.items ≡ text.old.items) }
+    ensures appends { OnOk result (text.new.items ≡ text.old.items ++ attempt_text number tried.now) }
+    ensures unchanged { OnErr result (text.new.items ≡ text.old.items) }
 {
     make_room(text, LONGEST_ATTEMPT_LINE)?;
     put(text, b"attempt ");
@@ -81,8 +81,8 @@ fn put_attempt(text: &mut Vec<u8>, number: u64, tried: &Tried) -> Result<(), NoM
 
 /// Appends the lines of attempts, numbered from 1. After an error the first of them may stand there.
 fn put_attempts(text: &mut Vec<u8>, attempts: &[Tried]) -> Result<(), NoMemory>
-    ensures ok { OnOk result (text.new.items ≡ text.old.items ++ attempts_text 0 attempts.now) }
-    ensures err { OnErr result (take (length text.old.items) text.new.items ≡ text.old.items) }
+    ensures appends { OnOk result (text.new.items ≡ text.old.items ++ attempts_text 0 attempts.now) }
+    ensures begins_with_old { OnErr result (take (length text.old.items) text.new.items ≡ text.old.items) }
 {
     let mut number = 0u64;
     let mut rest = attempts;
@@ -104,8 +104,8 @@ fn put_boot(
     attempts: &[Tried],
     end: BootEnd,
 ) -> Result<(), NoMemory>
-    ensures ok { OnOk result (text.new.items ≡ text.old.items ++ boot_lines name.now attempts.now end) }
-    ensures err { OnErr result (take (length text.old.items) text.new.items ≡ text.old.items) }
+    ensures appends { OnOk result (text.new.items ≡ text.old.items ++ boot_lines name.now attempts.now end) }
+    ensures begins_with_old { OnErr result (take (length text.old.items) text.new.items ≡ text.old.items) }
 {
     put_text(text, b"boot ")?;
     put_text(text, name.as_bytes())?;
@@ -123,8 +123,8 @@ pub fn boot_lines(
     attempts: &[Tried],
     end: BootEnd,
 ) -> Result<(), NoMemory>
-    ensures ok { OnOk result (text.new.items ≡ text.old.items ++ boot_lines name.now attempts.now end) }
-    ensures err { OnErr result (text.new.items ≡ text.old.items) }
+    ensures appends { OnOk result (text.new.items ≡ text.old.items ++ boot_lines name.now attempts.now end) }
+    ensures unchanged { OnErr result (text.new.items ≡ text.old.items) }
 {
     let start = text.len();
     let Ok(()) = put_boot(text, name, attempts, end) else {

@@ -11,16 +11,20 @@ ghost use Rattle.x7_recovery.specs.OpenBoot.{EachBootsOpen, FallsBackClean, Upda
 ghost use Rattle.x7_recovery.specs.Updated.{AfterUpdates, IsUpdated, opened_by};
 ghost use Rattle.x7_update.specs.Layout.{HasLayout, update_place};
 
-/// After any number of updates a golden stream starts as it did before the first, and still begins clean.
+/// After any number of updates, each of a flash with a layout, a golden stream that started before the first starts by
+/// the same attempt, and the update's place is what it was. A golden stream that began clean before the first still
+/// begins clean, where its attempt ended at the update's place or before it.
 pub fn updates_keep_golden_streams()
     ensures starts { (part : PartData) (flash found : List ℕ) (t : AttemptCourse) → AfterUpdates flash found → GoldenStarts part flash t → GoldenStarts part found t }
     ensures clean { (part : PartData) (flash found : List ℕ) (t : AttemptCourse) → AfterUpdates flash found → length t.bytes ≤ update_place flash
         → StartsClean part flash t → StartsClean part found t }
-    ensures place { (flash found : List ℕ) → AfterUpdates flash found → update_place found ≡ update_place flash }
+    ensures same_place { (flash found : List ℕ) → AfterUpdates flash found → update_place found ≡ update_place flash }
 {}
 
-/// After any number of updates and one more a boot tries the stream of the last, and where that fails and CTL0 allows
-/// it falls back to the golden stream: it starts at the byte at which it started before, with the same memory.
+/// For a part whose start address counts bytes, and a golden stream that started and began clean before any update:
+/// after any number of updates and one more a boot tries the stream of the last, as from any flash with an open slot.
+/// Where that stream fails and CTL0 allows it the boot falls back to the golden stream, which starts at the byte at
+/// which it started before, with the same memory, and BOOTSTS shows the fallback and the cause of the update's failure.
 pub fn updated_flashes_fall_back()
     ensures boots { (part : PartData) (flash found : List ℕ) (golden : AttemptCourse) → (u : IsUpdated part flash found golden) → EachBootsOpen (opened_by part flash found golden u) }
     ensures falls_back { (part : PartData) (flash found : List ℕ) (golden t : AttemptCourse) (cause : Cause) (c : BootCourse) → (u : IsUpdated part flash found golden)

@@ -14,19 +14,20 @@ ghost use Rattle.x7_recovery.specs.PlannedImage.{HasImage, golden_image, place_a
 ghost use Rattle.x7_recovery.specs.Recovery.{IsPrepared, updating_image};
 ghost use Rattle.x7_update.specs.After.{MayBeLeft};
 
-/// A flash that begins with the image of a golden and an update stream has its first slot open, which leads to the
-/// update, and both streams stand in it, whatever follows: so a boot from it comes to what one from a flash with an
-/// open slot does. The golden stream may be the full stream of a plan.
+/// A flash that begins with the image of a golden and an update stream for a part, which is no larger than a flash may
+/// be, has both streams and its first slot open, which leads to the update, whatever follows the image: each boot from
+/// it comes to what one from a flash with an open slot does. Where the golden stream is the full stream of a plan for
+/// the part, that stands after the first sector.
 pub fn images_boot()
-    ensures boots { (part : PartData) (golden update more : List ℕ) → IsPart part → image_size (length golden) (length update) ≤ flash_limit
+    ensures streams { (part : PartData) (golden update more : List ℕ) → IsPart part → image_size (length golden) (length update) ≤ flash_limit
         → HasStreams part golden update (image_of part.start_unit golden update ++ more) }
-    ensures planned { (part : PartData) (golden : PlanData) (update more : List ℕ) → HasImage part golden update
+    ensures full_golden { (part : PartData) (golden : PlanData) (update more : List ℕ) → HasImage part golden update
         → HasFullGolden (image_of_flash part (golden_image part golden update ++ more) (place_after part golden)) golden }
 {}
 
-/// The laws of this crate speak of something. There is a part with a plan and their image, which is prepared for an
-/// update. Every part and plan have an update that fails, and their image
-/// leaves, in an update, a flash that is another.
+/// The laws of this crate speak of something. There is a part with a plan for it and their image, which is prepared for
+/// an update with any stream, and of which a power loss in that update may leave another flash. Over the image of any
+/// part and plan, with an update of no bytes, an attempt at the update fails by a wrap, and CTL0 allows a fallback.
 pub fn premises_hold()
     ensures part { IsPart tiny }
     ensures plan { IsPlanFor tiny nothing_planned }

@@ -21,9 +21,11 @@ pub fn open_slots_boot()
     ensures { (o : OpenFlash) → IsOpenFlash o → EachBootsOpen o }
 {}
 
-/// A flash that begins with the first sector of an image has its first slot open, whatever follows. A flash with a
-/// layout, one of whose slots begins with the sync word, has that slot open, and after an update the next; then the
-/// golden stream stands as it did, and the stream of the update at the update's place.
+/// A flash that begins with the first sector of an image for a part has its first slot open, whatever follows. For a
+/// part whose start address counts bytes a flash with a layout has each slot open that begins with the sync word, and
+/// after an update the next one, where the items of the first sector are bytes. After an update of a flash with a
+/// layout the full stream of a plan that stood as golden stream stands as it did, and the stream of the update stands
+/// at the update's place.
 pub fn flashes_have_an_open_slot()
     ensures image { (part : PartData) (flash : List ℕ) (place : ℕ) → IsPart part → BeginsAsImage part flash place → IsOpenFlash (image_of_flash part flash place) }
     ensures layout { (part : PartData) (flash : List ℕ) (slot : ℕ) → part.start_unit ≡ 1 → HasLayout flash → AreBytes (take sector_bytes flash) → slot < slot_count → IsOpen flash slot

@@ -5,24 +5,26 @@ ghost use Rattle.x7_update.specs.After.{IsAfterUpdate, IsBetweenSlots, MayBeLeft
 ghost use Rattle.x7_update.specs.Layout.{HasLayout, IsNextFreeSlot, four_at, open_switch};
 ghost use Rattle.x7_update.specs.Fault.{NoLayoutAt};
 
-/// A flash with a layout lacks it at no place.
+/// No place shows that a flash with a layout lacks one. `NoLayoutAt` takes a size beside the bytes, since an update
+/// sees those of the first sector alone; here it is the flash's own.
 pub fn layouts_are_not_refused()
     ensures { (flash : List ℕ) (place : ℕ) → HasLayout flash → NoLayoutAt (length flash) flash place → ⊥ }
 {}
 
-/// An update of a flash with a stream has one outcome.
+/// An update with a stream of a flash with a layout has one outcome.
 pub fn updates_have_one_outcome()
     ensures { (stream flash one other : List ℕ) → HasLayout flash → IsAfterUpdate stream flash one → IsAfterUpdate stream flash other → one ≡ other }
 {}
 
-/// A flash that was left after its open slot was spent and before the next was opened has no sync word in its first
-/// sector, nor one that begins there: a device that searches from its first byte on comes to the golden stream.
+/// In a flash with a layout that was left after its open slot was spent and before the next was opened no sync word
+/// begins in the first sector.
 pub fn flashes_between_slots_hold_no_sync_word()
     ensures { (flash found : List ℕ) → HasLayout flash → IsBetweenSlots flash found
         → (place : ℕ) → place < sector_bytes → four_at found place ≢ open_switch }
 {}
 
-/// Whatever a power loss leaves of a flash with a layout has a layout again, unless the next slot was the last.
+/// Whatever a power loss in an update leaves of a flash with a layout has a layout again, unless the next free slot was
+/// the last.
 pub fn left_flashes_have_a_layout()
     ensures { (stream flash found : List ℕ) → HasLayout flash → MayBeLeft stream flash found
         → (IsNextFreeSlot flash (slot_count - 1) → ⊥) → HasLayout found }

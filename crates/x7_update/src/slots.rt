@@ -35,8 +35,8 @@ pub(crate) struct UpdateTarget {
 fn slot_difference(first_sector: &[u8], wanted: &[u8; 32], slot: usize) -> Option<u64>
     requires slot { slot < slot_count }
     requires sector { HasFirstSlot first_sector.now wanted.now }
-    ensures none { IfNone result (LeadsToUpdate first_sector.now slot) }
-    ensures some { IfSome result (λ place. DiffersAt first_sector.now slot place) }
+    ensures leads { IfNone result (LeadsToUpdate first_sector.now slot) }
+    ensures differs { IfSome result (λ place. DiffersAt first_sector.now slot place) }
 {
     let slot_place = SLOT_BYTES as usize * slot;
     for i in SWITCH_BYTES..SLOT_BYTES as usize {
@@ -57,8 +57,8 @@ fn look_at_slot(
     requires slot { slot < slot_count }
     requires sector { HasFirstSlot first_sector.now wanted.now }
     requires before { SlotsAmong first_sector.now slot before }
-    ensures ok { IfOk result (SlotsAmong first_sector.now (slot + 1)) }
-    ensures err { IfErr result (IsBadSlotAt first_sector.now slot) }
+    ensures slots { IfOk result (SlotsAmong first_sector.now (slot + 1)) }
+    ensures bad_slot { IfErr result (IsBadSlotAt first_sector.now slot) }
 {
     if let Some(place) = slot_difference(first_sector, wanted, slot as usize) {
         return Err(place);
@@ -86,8 +86,8 @@ fn look_at_slot(
 /// The slots of the first sector, or the place that shows that one is none of a layout.
 fn look_at_slots(first_sector: &[u8], wanted: &[u8; 32]) -> Result<Slots, u64>
     requires { HasFirstSlot first_sector.now wanted.now }
-    ensures ok { IfOk result (SlotsAmong first_sector.now slot_count) }
-    ensures err { IfErr result (λ place. (slot : ℕ) × (slot < slot_count)
+    ensures slots { IfOk result (SlotsAmong first_sector.now slot_count) }
+    ensures bad_slot { IfErr result (λ place. (slot : ℕ) × (slot < slot_count)
         × ((earlier : ℕ) → earlier < slot → IsGoodSlot first_sector.now earlier) × IsBadSlotAt first_sector.now slot place) }
 {
     let mut slots = Slots {
@@ -100,12 +100,12 @@ fn look_at_slots(first_sector: &[u8], wanted: &[u8; 32]) -> Result<Slots, u64>
     Ok(slots)
 }
 
-/// Where an update goes in a flash of a size, by its first sector, or the place at which there is no layout.
+/// Where an update goes in a flash of a size, by its first sector, or the first place that breaks the layout.
 fn target_of(first_sector: &[u8], size: u64) -> Result<UpdateTarget, u64>
     requires first_sector { length first_sector.now ≡ sector_bytes }
     requires size { HasSize size }
     ensures found { IfOk result (IsTargetIn size first_sector.now) }
-    ensures fault { IfErr result (NoLayoutAt size first_sector.now) }
+    ensures no_layout { IfErr result (NoLayoutAt size first_sector.now) }
 {
     let wanted = first_slot(first_sector);
     if let Some(place) = slot_difference(first_sector, &wanted, 0) {
@@ -116,6 +116,7 @@ fn target_of(first_sector: &[u8], size: u64) -> Result<UpdateTarget, u64>
         return Err(START_PLACE as u64);
     }
     let slots = look_at_slots(first_sector, &wanted)?;
+    // No free slot is left.
     if slots.next >= SLOT_COUNT {
         return Err(SLOT_BYTES * (SLOT_COUNT - 1));
     }
@@ -130,7 +131,7 @@ pub(crate) fn find_target<F: Flash>(
     requires attached { (F.state flash.old).attached ≡ true }
     requires buffer { length buffer.old ≡ sector_bytes }
     ensures found { IfOk result (HasTarget (F.state flash.old)) }
-    ensures fault { (stream : List ℕ) → IfErr result (HasCause stream (F.state flash.old) (F.state flash.new)) }
+    ensures refused { (stream : List ℕ) → IfErr result (HasCause stream (F.state flash.old) (F.state flash.new)) }
     ensures bytes { KnowsBytes (F.state flash.old) }
     ensures only { OnlyReads (F.state flash.old) (F.state flash.new) (F.found_since flash.old) (F.found_since flash.new) }
 {

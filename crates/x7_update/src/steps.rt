@@ -59,10 +59,10 @@ fn read_back_and_open<F: Flash>(
     ensures opened { OnOk result ((F.state flash.new).bytes ≡ option_map (switched target.slots.next open_switch) (F.state flash.old).bytes) }
     ensures any_moment { AtAnyMoment (F.state flash.old) (F.state flash.new) (F.found_since flash.old) (F.found_since flash.new)
         (OpeningSlot target.slots.next) }
-    ensures bytes { AtAnyMoment (F.state flash.old) (F.state flash.new) (F.found_since flash.old) (F.found_since flash.new)
+    ensures stays_bytes { AtAnyMoment (F.state flash.old) (F.state flash.new) (F.found_since flash.old) (F.found_since flash.new)
         StaysBytes }
     ensures ready { OnOk result (WasReady F.state target.place stream.now (F.state flash.new)) }
-    ensures switch { OnOk result (Sees (F.state flash.new) (slot_bytes * target.slots.next) open_switch) }
+    ensures seen { OnOk result (Sees (F.state flash.new) (slot_bytes * target.slots.next) open_switch) }
     ensures opens { AtAnyMoment (F.state flash.old) (F.state flash.new) (F.found_since flash.old) (F.found_since flash.new)
         (λ all found. (found ≡ all) ⊎ WasReady F.state target.place stream.now (F.state flash.new)) }
     ensures fault { IfErr result (EndFails stream.now (F.state flash.old) (F.state flash.new)) }

@@ -76,7 +76,7 @@ fn verify_sector<F: Flash>(
     ensures seen { OnOk result (SeesWanted stream_place stream.now stream_place (sector * sector_bytes + sector_bytes) (F.state flash.new)) }
     ensures fault { IfErr result (EndFails stream.now (F.state flash.old) (F.state flash.new)) }
     ensures only { OnlyReads (F.state flash.old) (F.state flash.new) (F.found_since flash.old) (F.found_since flash.new) }
-    ensures buffer { length buffer.new ≡ sector_bytes }
+    ensures length { length buffer.new ≡ sector_bytes }
 {
     match flash.read_at(sector * SECTOR_BYTES, buffer) {
         Ok(()) => (),

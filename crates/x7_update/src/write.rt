@@ -22,7 +22,7 @@ fn erase_from<F: Flash>(flash: &mut F, place: u64) -> Result<(), Failed>
 /// Writes the stream at its place, with FF after it to the flash's end. Nothing below the place changes, at any moment.
 pub(crate) fn write_stream<F: Flash>(flash: &mut F, place: u64, stream: &[u8]) -> Result<(), Failed>
     requires place { CanEraseFrom (F.state flash.old) place }
-    requires fits { place + length stream.now ≤ (F.state flash.old).extent }
+    requires within { place + length stream.now ≤ (F.state flash.old).extent }
     ensures written { OnOk result (Becomes (F.state flash.old) (F.state flash.new) (StreamStands place stream.now)) }
     ensures writes { Writes (F.state flash.old) (F.state flash.new) (F.found_since flash.old) (F.found_since flash.new)
         (KeepsBelow place) }

@@ -19,12 +19,12 @@ attempts-preserved g c =
           c.attempts.attempts.items c.push.new.self.items c.attempts.number c.next_by.result i.flash.bytes i.part i.led t.tried next.table c.in-Again.is c.in-Ok-push.ensures.items;
       part = t.part ∙ i.part;
       not_on_bench = next.not_on_bench c.in-Again.next_kept c.in-Again.next_address c.in-Again.is;
-      number = attempts_next c.attempts.kept.kind c.in-Again.next_kept.kind c.attempts.number (next.no_second_fallback c.in-Again.next_kept c.in-Again.next_address c.in-Again.is) (next.under_limit c.in-Again.next_kept c.in-Again.next_address c.in-Again.is) i.room;
-      room = next.under_limit c.in-Again.next_kept c.in-Again.next_address c.in-Again.is;
+      number = attempts_next c.attempts.kept.kind c.in-Again.next_kept.kind c.attempts.number (next.no_second_fallback c.in-Again.next_kept c.in-Again.next_address c.in-Again.is) (next.most c.in-Again.next_kept c.in-Again.next_address c.in-Again.is) i.room;
+      room = next.most c.in-Again.next_kept c.in-Again.next_address c.in-Again.is;
       limit = i.limit;
       pages = pages_of (f.state c.args.flash.now).bytes (f.state c.attempts.flash).bytes (f.state c.args.flash.now).extent (f.state c.attempts.flash).extent c.try_once.new.pages.pages.entries i.flash.bytes i.flash.extent c.try_once.ensures.pages;
       quiet = t.quiet ∙ i.quiet;
-      flash = reads_on _ _ _ _ _ _ i.flash t.flash;
+      flash = reads_on _ _ _ _ _ _ i.flash t.only;
     }
 
 pub returns-in-Ends-clause-booted : goal.returns-in-Ends-clause-booted
@@ -41,11 +41,11 @@ try_once-requires-clause-pages g c =
     let i = c.attempts.invariant in
     pages_of (f.state c.attempts.flash).bytes (f.state c.args.flash.now).bytes (f.state c.attempts.flash).extent (f.state c.args.flash.now).extent c.attempts.pages.pages.entries (sym i.flash.bytes) (sym i.flash.extent) i.pages
 
-pub returns-in_err-ending-clause-flash : goal.returns-in_err-ending-clause-flash
-returns-in_err-ending-clause-flash g c = reads_on _ _ _ _ _ _ c.attempts.invariant.flash c.try_once.ensures.flash
+pub returns-in_err-ending-clause-only : goal.returns-in_err-ending-clause-only
+returns-in_err-ending-clause-only g c = reads_on _ _ _ _ _ _ c.attempts.invariant.flash c.try_once.ensures.only
 
-pub returns-in_default-push-clause-flash : goal.returns-in_default-push-clause-flash
-returns-in_default-push-clause-flash g c = reads_on _ _ _ _ _ _ c.attempts.invariant.flash c.try_once.ensures.flash
+pub returns-in_default-push-clause-only : goal.returns-in_default-push-clause-only
+returns-in_default-push-clause-only g c = reads_on _ _ _ _ _ _ c.attempts.invariant.flash c.try_once.ensures.only
 
 -- ---- an attempt that was not read
 

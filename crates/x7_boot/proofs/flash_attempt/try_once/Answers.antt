@@ -42,7 +42,7 @@ pages-preserved g c =
       feeds = feeds_on c.args.device.now.part c.args.kept c.args.address (g.F.Flash.state c.args.flash.now).bytes c.pages.device c.take_page.new.device c.bytes_from-bytes.result.now c.pages.place (c.pages.place + length c.bytes_from-bytes.result.now) c.take_page.result refl f from.bytes_are t c.in-GoesOn.is;
       kept = are;
       quiet = c.in_ok-loaded.ensures.quiet ∙ c.pages.invariant.quiet;
-      flash = reads_on _ _ _ _ _ _ c.pages.invariant.flash c.in_ok-loaded.ensures.flash;
+      flash = reads_on _ _ _ _ _ _ c.pages.invariant.flash c.in_ok-loaded.ensures.only;
       size = c.pages.invariant.size;
     }
 
@@ -140,8 +140,8 @@ returns-in_err-loaded-clause-pages g c =
     let i = c.pages.invariant in
     pages_of (g.F.Flash.state c.args.flash.now).bytes (g.F.Flash.state c.pages.flash).bytes (g.F.Flash.state c.args.flash.now).extent (g.F.Flash.state c.pages.flash).extent c.load.new.self.pages.entries i.flash.bytes i.flash.extent c.load.ensures.pages
 
-pub returns-in_err-loaded-clause-flash : goal.returns-in_err-loaded-clause-flash
-returns-in_err-loaded-clause-flash g c = reads_on _ _ _ _ _ _ c.pages.invariant.flash c.load.ensures.flash
+pub returns-in_err-loaded-clause-only : goal.returns-in_err-loaded-clause-only
+returns-in_err-loaded-clause-only g c = reads_on _ _ _ _ _ _ c.pages.invariant.flash c.load.ensures.only
 
 -- ---- an attempt that ended
 
@@ -150,13 +150,13 @@ returns-in-Ends-clause-pages g c =
     let i = c.pages.invariant in
     pages_of (g.F.Flash.state c.args.flash.now).bytes (g.F.Flash.state c.pages.flash).bytes (g.F.Flash.state c.args.flash.now).extent (g.F.Flash.state c.pages.flash).extent c.load.new.self.pages.entries i.flash.bytes i.flash.extent c.load.ensures.pages
 
-pub returns-in-Ends-clause-flash : goal.returns-in-Ends-clause-flash
-returns-in-Ends-clause-flash g c = reads_on _ _ _ _ _ _ c.pages.invariant.flash c.in_ok-loaded.ensures.flash
+pub returns-in-Ends-clause-only : goal.returns-in-Ends-clause-only
+returns-in-Ends-clause-only g c = reads_on _ _ _ _ _ _ c.pages.invariant.flash c.in_ok-loaded.ensures.only
 
 pub returns-in-Stops-clause-pages : goal.returns-in-Stops-clause-pages
 returns-in-Stops-clause-pages g c =
     let i = c.pages.invariant in
     pages_of (g.F.Flash.state c.args.flash.now).bytes (g.F.Flash.state c.pages.flash).bytes (g.F.Flash.state c.args.flash.now).extent (g.F.Flash.state c.pages.flash).extent c.load.new.self.pages.entries i.flash.bytes i.flash.extent c.load.ensures.pages
 
-pub returns-in-Stops-clause-flash : goal.returns-in-Stops-clause-flash
-returns-in-Stops-clause-flash g c = reads_on _ _ _ _ _ _ c.pages.invariant.flash c.in_ok-loaded.ensures.flash
+pub returns-in-Stops-clause-only : goal.returns-in-Stops-clause-only
+returns-in-Stops-clause-only g c = reads_on _ _ _ _ _ _ c.pages.invariant.flash c.in_ok-loaded.ensures.only

@@ -7,5 +7,5 @@ returns-clause-starts c = golden_later
 pub returns-clause-clean : goal.returns-clause-clean
 returns-clause-clean c = clean_later
 
-pub returns-clause-place : goal.returns-clause-place
-returns-clause-place c = place_later
+pub returns-clause-same_place : goal.returns-clause-same_place
+returns-clause-same_place c = place_later

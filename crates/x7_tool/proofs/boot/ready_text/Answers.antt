@@ -12,4 +12,4 @@ returns c = λ part last is due.
     let none : NoWordDue c.into_device.result = subst (λ (d : DeviceState). NoWordDue d) (sym c.into_device.ensures) due in
     let name = c.name.ensures ∙ ap (λ (p : PartData). p.name) (c.part.ensures.value part last.kept last.wrapped last.bytes shown) in
     ready_is part last c.args.booted.attempts c.attempts.result.now c.args.booted.end c.end.result c.end-2.result c.name.result.now c.boot_lines.new.text.items c.new-head.result.items c.has_failed-stopped.result c.in_ok-report.report c.in_ok-text.text
-    c.new-head.ensures.items c.in_ok-boot_lines.ensures.ok name c.attempts.ensures c.end.ensures c.has_failed-stopped.ensures c.end-2.ensures (c.in_ok-report.ensures.value part last.kept last.wrapped last.bytes left none) c.in_ok-text.ensures
+    c.new-head.ensures.items c.in_ok-boot_lines.ensures.appends name c.attempts.ensures c.end.ensures c.has_failed-stopped.ensures c.end-2.ensures (c.in_ok-report.ensures.value part last.kept last.wrapped last.bytes left none) c.in_ok-text.ensures

@@ -25,8 +25,8 @@ returns-in-Ok-target_of-clause-found g c =
           subst (λ n. IsTargetIn n all target) size (finds_same c.read_at.new.buf all same c.size-size.result target found));
     }
 
-pub returns-in-Err-target_of-clause-fault : goal.returns-in-Err-target_of-clause-fault
-returns-in-Err-target_of-clause-fault g c =
+pub returns-in-Err-target_of-clause-refused : goal.returns-in-Err-target_of-clause-refused
+returns-in-Err-target_of-clause-refused g c =
     let s = g.F.Flash.state c.args.flash.now in
     λ stream.
     known_all s.bytes (λ all. NoLayoutAt (length all) all c.in-Err-target_of.place)
@@ -36,4 +36,4 @@ returns-in-Err-target_of-clause-fault g c =
     let same : (i : ℕ) → i < 65536 → get_or c.read_at.new.buf i 0 ≡ get_or all i 0 =
     λ i h. ap (λ b. get_or b i 0) read ∙ get_or_slice_range all 0 (length c.args.buffer.now) i (omega (arith, h, c.requires.buffer)) ∙ ap (λ n. get_or all n 0) (zero-add i) in
     let size : c.size-size.result ≡ length all = c.size-size.ensures.extent ∙ known_at s.bytes (λ all. s.extent ≡ length all) (g.met.F.Flash.counted c.args.flash.now) all e in
-    subst (λ n. NoLayoutAt n all c.in-Err-target_of.place) size (no_layout_same c.read_at.new.buf all same c.size-size.result c.in-Err-target_of.place c.in-Err-target_of.ensures.fault))
+    subst (λ n. NoLayoutAt n all c.in-Err-target_of.place) size (no_layout_same c.read_at.new.buf all same c.size-size.result c.in-Err-target_of.place c.in-Err-target_of.ensures.no_layout))

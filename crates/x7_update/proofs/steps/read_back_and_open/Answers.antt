@@ -95,18 +95,18 @@ returns-clause-any_moment g c =
     (λ all e. opening_none next all (known_at old.bytes (λ all. IsFree all next) c.requires.free all e)) read.bytes read.unwritten c.open_slot.ensures.writes.any_moment)
     again.bytes again.unwritten
 
-pub returns-in_err-verify_stream-clause-bytes : goal.returns-in_err-verify_stream-clause-bytes
-returns-in_err-verify_stream-clause-bytes g c =
+pub returns-in_err-verify_stream-clause-stays_bytes : goal.returns-in_err-verify_stream-clause-stays_bytes
+returns-in_err-verify_stream-clause-stays_bytes g c =
     let read = c.verify_stream.ensures.only in
     only_read (g.F.Flash.state c.args.flash.now) (g.F.Flash.state c.verify_stream.new.flash) _ _ StaysBytes (λ all e h. h) read.bytes read.unwritten
 
-pub returns-in-Err-clause-bytes : goal.returns-in-Err-clause-bytes
-returns-in-Err-clause-bytes g c =
+pub returns-in-Err-clause-stays_bytes : goal.returns-in-Err-clause-stays_bytes
+returns-in-Err-clause-stays_bytes g c =
     let read = c.verify_stream.ensures.only in
     read_moments (g.F.Flash.state c.args.flash.now) (g.F.Flash.state c.verify_stream.new.flash) (g.F.Flash.state c.open_slot.new.flash) _ _ _ StaysBytes (λ all e h. h) read.bytes read.unwritten c.open_slot.ensures.writes.bytes
 
-pub returns-clause-bytes : goal.returns-clause-bytes
-returns-clause-bytes g c =
+pub returns-clause-stays_bytes : goal.returns-clause-stays_bytes
+returns-clause-stays_bytes g c =
     let old = g.F.Flash.state c.args.flash.now in
     let mid = g.F.Flash.state c.open_slot.new.flash in
     let read = c.verify_stream.ensures.only in

@@ -20,12 +20,12 @@ use Rattle.x7_update.proofs.steps.update.Goals as goal
 -- ---- why an update is refused
 
 pub returns-in_err-target-clause-refused : goal.returns-in_err-target-clause-refused
-returns-in_err-target-clause-refused g c = let cause = c.in_err-target.ensures.fault c.args.stream.now in search rules
+returns-in_err-target-clause-refused g c = let cause = c.in_err-target.ensures.refused c.args.stream.now in search rules
 
 pub returns-in_err-target-clause-complete : goal.returns-in_err-target-clause-complete
 returns-in_err-target-clause-complete g c =
     let stream = c.args.stream.now in
-    let only = if_only_memory stream (g.F.Flash.state c.args.flash.now) (g.F.Flash.state c.find_target.new.flash) c.find_target.result (c.find_target.ensures.fault stream) in
+    let only = if_only_memory stream (g.F.Flash.state c.args.flash.now) (g.F.Flash.state c.find_target.new.flash) c.find_target.result (c.find_target.ensures.refused stream) in
     search rules
 
 pub returns-then-stream-size-clause-refused : goal.returns-then-stream-size-clause-refused
@@ -202,7 +202,7 @@ returns-clause-any_moment g c =
     opening_left all target (known all e) stream now fits r found opening)
     (moments_weaker mid then _ _ ReplacingUpdate Left (λ all found e h. replacing_left all target (known all e) stream found h) c.replace.ensures.writes.any_moment)
     (becomes_leaves mid then (Replaced target.place stream) c.in-Ok-replace.ensures.replaced) c.read_back_and_open.ensures.any_moment))
-    (read_moments first mid last _ _ _ StaysBytes (λ all e h. h) c.find_target.ensures.only.bytes c.find_target.ensures.only.unwritten (bytes_on mid then last _ _ _ c.replace.ensures.writes.bytes c.read_back_and_open.ensures.bytes)))
+    (read_moments first mid last _ _ _ StaysBytes (λ all e h. h) c.find_target.ensures.only.bytes c.find_target.ensures.only.unwritten (bytes_on mid then last _ _ _ c.replace.ensures.writes.bytes c.read_back_and_open.ensures.stays_bytes)))
 
 pub returns-in_default-clause-found : goal.returns-in_default-clause-found
 returns-in_default-clause-found g c =
@@ -248,7 +248,7 @@ returns-clause-read_back g c =
     let target = c.in_ok-target.target in
     let stream = c.args.stream.now in
     let size : last.extent ≡ first.extent = c.read_back_and_open.ensures.only.extent ∙ c.replace.ensures.writes.only.extent ∙ c.find_target.ensures.only.extent in
-    all_back g.F.Flash.state stream first last target c.read_back_and_open.result (subst (λ n. TargetFits n target) (sym size) c.in_ok-target.ensures.found.fits) c.in_ok-target.ensures.found.finds c.read_back_and_open.ensures.ready c.read_back_and_open.ensures.switch
+    all_back g.F.Flash.state stream first last target c.read_back_and_open.result (subst (λ n. TargetFits n target) (sym size) c.in_ok-target.ensures.found.fits) c.in_ok-target.ensures.found.finds c.read_back_and_open.ensures.ready c.read_back_and_open.ensures.seen
 
 pub returns-in_default-clause-opens : goal.returns-in_default-clause-opens
 returns-in_default-clause-opens g c =

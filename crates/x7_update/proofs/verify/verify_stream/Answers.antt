@@ -12,7 +12,7 @@ loop-sector-preserved g c =
     let last = g.F.Flash.state c.verify_sector.new.flash in
     record {
       only = reads_on first mid last _ _ _ c.loop-sector.invariant.only c.verify_sector.ensures.only;
-      buffer = c.verify_sector.ensures.buffer;
+      buffer = c.verify_sector.ensures.length;
       seen = sees_up_to c.args.stream_place c.args.stream.now c.args.stream_place (c.loop-sector.sector * 65536 + 65536) ((c.loop-sector.sector + 1) * 65536) last (omega arith) c.in_ok-verify_sector.ensures.seen;
     }
 

@@ -21,7 +21,7 @@ returns-clause-written g c =
     let bytes : (i : ℕ) → get_or stream i 0 < 256 = λ i. omega (arith, c.type_inv.stream i) in
     on_ok_map (last.bytes ≡ option_map (programmed place stream) mid.bytes) (Becomes first last (StreamStands place stream)) c.program.result c.program.ensures.programmed
     (λ done. becomes_on first mid last (ErasedTo place first.extent) (λ all now. now ≡ programmed place stream all) (StreamStands place stream)
-    (λ all mid now e so is. is ∙ stream_written place stream all mid (omega (arith, fits all e, c.requires.fits)) bytes (subst (λ n. ErasedTo place n all mid) (fits all e) so))
+    (λ all mid now e so is. is ∙ stream_written place stream all mid (omega (arith, fits all e, c.requires.within)) bytes (subst (λ n. ErasedTo place n all mid) (fits all e) so))
     c.in_ok-erase_from.ensures.erased (becomes_of mid last (programmed place stream) (λ all now. now ≡ programmed place stream all) done (λ all e. refl)))
 
 pub returns-clause-writes : goal.returns-clause-writes
@@ -35,7 +35,7 @@ returns-clause-writes g c =
     let erases = c.erase_from.ensures.writes in
     let fits : AreBytes stream = all_from_places (λ b. b < 256) stream (λ k h. omega (arith, c.type_inv.stream k)) in
     let inside : (all : List ℕ) → mid.bytes ≡ Some all → place + length stream ≤ length all =
-    λ all e. omega (arith, known_at mid.bytes (λ all. mid.extent ≡ length all) (g.met.F.Flash.counted c.erase_from.new.flash) all e, erases.only.extent, c.requires.fits) in
+    λ all e. omega (arith, known_at mid.bytes (λ all. mid.extent ≡ length all) (g.met.F.Flash.counted c.erase_from.new.flash) all e, erases.only.extent, c.requires.within) in
     let within : (all : List ℕ) → mid.bytes ≡ Some all → place + length (cleared place stream all) ≤ length all = λ all e. omega (arith, inside all e, length_cleared place stream all (inside all e)) in
     record {
       any_moment = moments_on first mid last _ _ _ (KeepsBelow place) (λ all found. IsTorn place (cleared place stream all) all found) (KeepsBelow place)
