@@ -1,8 +1,9 @@
 #!/usr/bin/env python3
 """The tables by which names are read back: where a register's or a command's name stands in a table of 64.
 
-x7_regs (src/named.rt) looks at a name's first two letters, its last one and its length; x7_listing (src/asm/fast/write_pairs.rt) at its
-first four bytes, of which the byte after a short name is one. The factors are such that no two names have one place.
+x7_regs (src/named.rt) looks at a name's first two letters, its last one and its length; x7_listing
+(src/asm/fast/write_pairs.rt) at its first four bytes, of which the byte after a short name is one. The factors are such
+that no two names have one place.
 
     python3 bench/name_tables.py           compares the tables with those of the two files
     python3 bench/name_tables.py --print   writes them

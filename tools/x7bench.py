@@ -1,5 +1,5 @@
-"""What the tools for a bench and a flash share: what a stream asks of a device, the layout of a flash that `x7 update` takes, and
-x7 itself. python3 (3.8) and its library alone."""
+"""What the tools for a bench and a flash share: what a stream asks of a device, the layout of a flash that `x7 update`
+takes, and x7 itself. python3 (3.8) and its library alone."""
 import os
 import subprocess
 from collections import namedtuple
@@ -37,13 +37,14 @@ def x7(path, *words):
 
 ConfigFallback = 1 << 10
 
-# What may stand before the first RCRC of a golden stream to which each failed update falls back (x7_recovery, specs/Clean).
+# What may stand before the first RCRC of a golden stream to which each failed update falls back (x7_recovery,
+# specs/Clean).
 LEAD, LEAD_COMMANDS = {"WBSTAR", "TIMER", "BSPI"}, {CODES["NULL"], CODES["BSPI_READ"], CODES["SHUTDOWN"]}
 
 
 class Asked:
-    """What the data of a stream ask of a device: its IDCODEs, its commands, its checks and the words of CTL0. `wrong` says why it
-    isn't whole, or nothing."""
+    """What the data of a stream ask of a device: its IDCODEs, its commands, its checks and the words of CTL0. `wrong`
+    says why it isn't whole, or nothing."""
 
     def __init__(self, stream):
         self.stream, self.device = stream, Device()
@@ -145,8 +146,8 @@ def refuse_layout(place, why):
 
 
 def layout_of(flash):
-    """Where the update of a flash stands, which slot is open, if one is, and which is the next. A flash without a layout is refused
-    with the place that `x7 update` tells."""
+    """Where the update of a flash stands, which slot is open, if one is, and which is the next. A flash without a
+    layout is refused with the place that `x7 update` tells."""
     size, wanted = len(flash), slot_of(flash[12:16])
     if size % SECTOR or not 2 * SECTOR <= size <= MOST_FLASH:
         refuse_layout(size, f"the flash has {size} bytes, and no two or more whole sectors of {SECTOR} up to {MOST_FLASH}")

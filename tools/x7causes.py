@@ -1,4 +1,5 @@
-"""What `why` says of streams, and of the report of their play, boot or SVF text: causes, each with its place, remedy and section."""
+"""What `why` says of streams, and of the report of their play, boot or SVF text: causes, each with its place, remedy
+and section."""
 import os
 import re
 from collections import namedtuple
@@ -17,8 +18,8 @@ Cause = namedtuple("Cause", "cause remedy section after source")
 
 
 def cause(text, remedy, section, after=None, source=None):
-    """A cause: its text, the remedy, the section of the page BOARD, the place after its last byte in the data of all streams, or
-    the stream that it is one of."""
+    """A cause: its text, the remedy, the section of the page BOARD, the place after its last byte in the data of all
+    streams, or the stream that it is one of."""
     return Cause(text, remedy, section, after, source)
 
 
@@ -232,7 +233,8 @@ def of_belonging(subject):
 
 
 def of_swallowed(subject):
-    """The cause where frame data have taken packets after them for frames: words were lost among them, or their count is damaged."""
+    """The cause where frame data have taken packets after them for frames: words were lost among them, or their count
+    is damaged."""
     for source in subject.sources:
         for step in x7.steps(source.data):
             if step.kind != "write" or step.register != x7.FDRI or step.count < 64:
@@ -653,7 +655,8 @@ def of_started_boot(subject, path, leads):
 
 
 def is_golden_alone(subject):
-    """Whether the one attempt took the golden stream after a first sector: by the bytes taken, or by the first bytes of a listed flash."""
+    """Whether the one attempt took the golden stream after a first sector: by the bytes taken, or by the first bytes of
+    a listed flash."""
     total, taken, beginning = len(subject.data), subject.report.taken, subject.data[:40]
     return all(part in beginning for part in SLOT) or max(SECTOR, total) < taken <= SECTOR + total
 
@@ -765,7 +768,8 @@ def notes_of(subject, found):
 
 
 def length_of(subject, found):
-    """Says where a header tells of more or fewer bytes than there are: of the stream at fault, or of the first such one."""
+    """Says where a header tells of more or fewer bytes than there are: of the stream at fault, or of the first such
+    one."""
     if found and "cut off" in found.cause:
         return ""
     wanted = [found.source] if found and found.source else subject.sources

@@ -1,6 +1,8 @@
-"""What streams do to a device, but for its frames: the rules of docs/FORMATS.md on accesses, commands, checks, startup and watchdog.
-It needs no x7 and no part file, so it knows neither the faults Address and Overrun, nor Multi where the
-source of copies is missing, nor what frames hold; x7report has them."""
+"""What streams do to a device, but for its frames: the rules of docs/FORMATS.md on accesses, commands, checks, startup
+and watchdog.
+
+Neither x7 nor a part file is needed, so the faults Address and Overrun, Multi where the source of copies is missing,
+and what frames hold aren't known here; x7report has them."""
 from collections import namedtuple
 
 import x7formats as x7

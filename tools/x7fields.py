@@ -1,4 +1,5 @@
-"""The fields of the words that a board gives (UG470, status, boot history status, configuration options and control registers)."""
+"""The fields of the words that a board gives (UG470, status, boot history status, configuration options and control
+registers)."""
 from collections import namedtuple
 
 Field = namedtuple("Field", "name low width meaning")

@@ -1,9 +1,9 @@
-"""What docs/FORMATS.md says, for the tools of this folder: streams and their packets, listings, checks, reports, part files and
-frames texts. python3 (3.8) and its library alone.
+"""What docs/FORMATS.md says, for the tools of this folder: streams and their packets, listings, checks, reports, part
+files and frames texts. python3 (3.8) and its library alone.
 
-A stream is a header, or none, and data: `stream_of(raw)`. The data are read as steps, each with its place: `steps(data)`. All
-texts of x7 have a reader here, and those that the tools write have a writer. What can't be taken raises `Refused` with a
-sentence, which `run` makes one line on standard error and status 2.
+A stream is a header, or none, and data: `stream_of(raw)`. The data are read as steps, each with its place:
+`steps(data)`. All texts of x7 have a reader here, and those that the tools write have a writer. What can't be taken
+raises `Refused` with a sentence, which `run` makes one line on standard error and status 2.
 """
 import functools
 import re
@@ -97,9 +97,9 @@ def text_of(field):
 
 # ---- steps: what stands in the data, in order
 
-# Kinds: 'bytes' are no words (before a sync word, after a session, the tail); 'sync' begins a session; 'nop' are `count` words
-# 20000000; 'write' and 'read' are packets of `count` words of a register, of which a write's payload has `present` from `first`
-# on; 'filler' is a word without effect, 'bad' one that is no packet. The step ends before `end`.
+# Kinds: 'bytes' are no words (before a sync word, after a session, the tail); 'sync' begins a session; 'nop' are
+# `count` words 20000000; 'write' and 'read' are packets of `count` words of a register, of which a write's payload has
+# `present` from `first` on; 'filler' is a word without effect, 'bad' one that is no packet. The step ends before `end`.
 Step = namedtuple("Step", "kind place word register count first present end")
 MANY = NOP * 256
 
@@ -147,7 +147,8 @@ def end_of_nops(data, place):
 
 
 def packet(data, place, named):
-    """The step of a word in a header's place, with its payload; `named` is the register that the nearest type 1 packet names."""
+    """The step of a word in a header's place, with its payload; `named` is the register that the nearest type 1 packet
+    names."""
     word = word_at(data, place)
     kind_bits, first, end = word >> 27, place + 4, place + 4
     if word in (0xAA995566, 0xFFFFFFFF) or kind_bits >> 2 == 0 or kind_bits == 0b00100:
@@ -242,8 +243,8 @@ def listing_of(stream):
 
 
 def line_at(stream, place):
-    """The line of `x7 list` that the byte before a place stands in: its number, its text, and the header of its packet where
-    it is a payload's."""
+    """The line of `x7 list` that the byte before a place stands in: its number, its text, and the header of its packet
+    where it is a payload's."""
     number = 1 if stream.header else 0
     for step in steps(stream.data):
         for line, first, after in step_lines(stream.data, step):
@@ -298,7 +299,8 @@ def blocks(file):
 
 
 def read_listing(path):
-    """The stream of a listing, or of a text for `x7 asm`: its lines `crc` are made, comments and empty lines mean nothing."""
+    """The stream of a listing, or of a text for `x7 asm`: its lines `crc` are made, comments and empty lines mean
+    nothing."""
     header, data, number, made = None, bytearray(), 0, []
     with open(path, "rb") as file:
         for block in blocks(file):
@@ -326,8 +328,8 @@ def read_listing(path):
 
 
 def listed_line_at(path, place):
-    """The line of a listing that the byte before a place stands in: its number, its text, and the last header before it where
-    it is a payload's."""
+    """The line of a listing that the byte before a place stands in: its number, its text, and the last header before it
+    where it is a payload's."""
     number, at, head = 0, 0, ""
     with open(path, "rb") as file:
         for block in blocks(file):
@@ -444,8 +446,8 @@ Attempt = namedtuple("Attempt", "number kind address ending")
 
 
 class Report:
-    """A report of `x7 play`, or the text of `x7 boot` or `x7 svf`. `svf` is none, 'done', or statement and bit. `end` has the words
-    after 'end'. `frames` has the digits of each frame by its address."""
+    """A report of `x7 play`, or the text of `x7 boot` or `x7 svf`. `svf` is none, 'done', or statement and bit. `end`
+    has the words after 'end'. `frames` has the digits of each frame by its address."""
 
     def __init__(self):
         self.part, self.taken, self.end, self.attempts, self.boot_end, self.svf = "", 0, [], [], "", None
@@ -696,7 +698,8 @@ def read_part(path):
 
 
 def read_frames(path, part=None):
-    """The words of each frame of a frames text, as bytes by the address. With a part, of its addresses and its frame's size."""
+    """The words of each frame of a frames text, as bytes by the address. With a part, of its addresses and its frame's
+    size."""
     frames, known = {}, set(part.addresses()) if part else None
     for number, line in enumerate(read_file(path).split(b"\n"), 1):
         line = line[:-1] if line.endswith(b"\r") else line

@@ -1,4 +1,5 @@
-"""What a file is that isn't a stream as it stands: packed, a text, of another tool, or a stream whose bytes were turned."""
+"""What a file is that isn't a stream as it stands: packed, a text, of another tool, or a stream whose bytes were
+turned."""
 import gzip
 import re
 import zlib
@@ -101,7 +102,8 @@ WAYS = [
 
 
 def reads(data):
-    """Whether the data have a sync word, and after it begins what a stream begins with: packets, one of which is of CMD or IDCODE."""
+    """Whether the data have a sync word, and after it begins what a stream begins with: packets, one of which is of CMD
+    or IDCODE."""
     at = data.find(x7.SYNC)
     if at < 0:
         return False
@@ -139,8 +141,8 @@ def late_by(data):
 
 
 def of_digits(raw):
-    """The data of a .rbt file: its lines of 32 digits, after some lines of text. A line that is damaged is refused, and `Bits:`
-    compared."""
+    """The data of a .rbt file: its lines of 32 digits, after some lines of text. A line that is damaged is refused, and
+    `Bits:` compared."""
     count, lines, begun = None, [], False
     for number, line in enumerate(raw.rstrip(b"\r\n").split(b"\n"), 1):
         line = line.rstrip(b"\r")

@@ -1,5 +1,6 @@
-"""The whole report of `x7 play`, and the text of `x7 boot`, frames included, by the rules of docs/FORMATS.md: a plain program, with
-which tests/test_histories.py compares x7. It takes word by word and keeps the words of each frame in a list, so it is for small parts."""
+"""The whole report of `x7 play`, and the text of `x7 boot`, frames included, by the rules of docs/FORMATS.md: a plain
+program, with which tests/test_histories.py compares x7. It takes word by word and keeps the words of each frame in a
+list, so it is for small parts."""
 import itertools
 from collections import namedtuple
 
@@ -11,7 +12,8 @@ SHOWN = ["CRC", "FAR", "CMD", "CTL0", "MASK", "STAT", "COR0", "IDCODE", "AXSS", 
 STARTUP_STATES = [0b000, 0b001, 0b011, 0b010, 0b110, 0b111, 0b101, 0b100]
 FALLBACKS = ("Id", "Crc", "Watchdog")
 
-# How a device begins: the kind of the attempt, the registers that it keeps, and the low byte of BOOTSTS of the attempt before.
+# How a device begins: the kind of the attempt, the registers that it keeps, and the low byte of BOOTSTS of the attempt
+# before.
 Start = namedtuple("Start", "kind kept before")
 BENCH = Start("bench", {}, 0)
 
@@ -48,7 +50,8 @@ class PartDevice(Device):
         return [tuple(self.run[at - self.size : at]) for at in range(self.size, len(self.run) + 1, self.size)]
 
     def memory(self):
-        """What each frame holds: what was written before the run, and the run's whole frames but the newest, at their slots."""
+        """What each frame holds: what was written before the run, and the run's whole frames but the newest, at their
+        slots."""
         written = zip(self.ahead, self.frames_of_run()[:-1])
         return {**self.earlier, **{far: frame for far, frame in written if far is not None}}
 
@@ -128,7 +131,8 @@ class PartDevice(Device):
                 self.add_to_run(word, step.end)
 
     def store(self, number, word, after, compared):
-        """Stores a word; FAR and CMD begin a run, and MFW after WCFG takes the newest frame of the one that ends as its source."""
+        """Stores a word; FAR and CMD begin a run, and MFW after WCFG takes the newest frame of the one that ends as its
+        source."""
         if number == x7.FAR:
             self.begin_run(word & (1 << sum(self.part.far)) - 1)
         elif number == x7.CMD:

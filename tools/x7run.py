@@ -7,8 +7,8 @@ TOP = os.path.dirname(os.path.dirname(os.path.realpath(__file__)))
 
 
 def program(given=None):
-    """The path of x7, or none: the one given, or the one that X7 in the environment names; else the built one of this repository,
-    or, where the tools were installed, the one on the path."""
+    """The path of x7, or none: the one given, or the one that X7 in the environment names; else the built one of this
+    repository, or, where the tools were installed, the one on the path."""
     built = os.path.join(TOP, "crates", "x7", "out", "x7")
     path = given or os.environ.get("X7") or (built if os.path.exists(built) else shutil.which("x7"))
     return os.path.realpath(path) if path and os.path.isfile(path) and os.access(path, os.X_OK) else None
@@ -81,7 +81,8 @@ def write_file(path, data):
 
 
 def open_standard_files():
-    """Gives the system's null file to each standard file that the caller closed, so that no file opened later takes its place."""
+    """Gives the system's null file to each standard file that the caller closed, so that no file opened later takes its
+    place."""
     while True:
         number = os.open(os.devnull, os.O_RDWR)
         if number > 2:
@@ -90,8 +91,8 @@ def open_standard_files():
 
 
 def run(main, document):
-    """Runs a tool's `main` with the words of its command line, and ends with its status: 2 and a line for what is refused.
-    `--help` shows the tool's document."""
+    """Runs a tool's `main` with the words of its command line, and ends with its status: 2 and a line for what is
+    refused. `--help` shows the tool's document."""
     open_standard_files()
     name = os.path.basename(sys.argv[0])
     try:

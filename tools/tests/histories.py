@@ -1,5 +1,5 @@
-"""Random histories for tests: parts, and the streams of a play or the bytes of a flash, as pieces of an assembly text. A seed always
-leads to the same history, and what is left of one whose pieces are dropped is still one."""
+"""Random histories for tests: parts, and the streams of a play or the bytes of a flash, as pieces of an assembly text.
+A seed always leads to the same history, and what is left of one whose pieces are dropped is still one."""
 import random
 
 from casefiles import TOOLS  # noqa: F401  (it puts the tools on the path)

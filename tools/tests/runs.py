@@ -33,7 +33,8 @@ def run(folder, words, given=b"", closed=()):
 
 
 def run_here(folder, words):
-    """Runs a tool in a fork of this process, which has read the library and the shared modules by then: many runs cost little."""
+    """Runs a tool in a fork of this process, which has read the library and the shared modules by then: many runs cost
+    little."""
     paths = [os.path.join(folder, name) for name in (".out", ".err")]
     child = os.fork()
     if child == 0:

@@ -1,5 +1,5 @@
-"""Streams for tests, planned here: whole ones as the vendor's tool orders them, uncompressed and compressed, and partial ones, of a
-small part that is made up; their headers, and what becomes of them when words are changed."""
+"""Streams for tests, planned here: whole ones as the vendor's tool orders them, uncompressed and compressed, and
+partial ones, of a small part that is made up; their headers, and what becomes of them when words are changed."""
 from casefiles import TOOLS  # noqa: F401  (it puts the tools on the path)
 import x7formats as x7
 

@@ -1,5 +1,6 @@
 #!/usr/bin/env python3
-"""Tests the wrong bodies that the prover must refuse, those of the gate and those of attacks/: each still fits its file."""
+"""Tests the wrong bodies that the prover must refuse, those of the gate and those of attacks/: each still fits its
+file."""
 import glob
 import os
 import subprocess

@@ -1,5 +1,6 @@
 #!/usr/bin/env python3
-"""Tests ./build in a small repository, with a kit whose prover is a script: the order, what is kept, an interrupt, and each way to fail."""
+"""Tests ./build in a small repository, with a kit whose prover is a script: the order, what is kept, an interrupt, and
+each way to fail."""
 import fcntl
 import os
 import pty
@@ -16,7 +17,8 @@ from casefiles import TOOLS, Tally
 
 TOP = os.path.dirname(TOOLS)
 KIT = "rattle-kit-1 logic 0123"
-# A prover: it says which crate it is given, does as the crate's folder asks, and writes the crate's text in place of a library.
+# A prover: it says which crate it is given, does as the crate's folder asks, and writes the crate's text in place of a
+# library.
 PROVER = """#!/bin/sh
 crate=$3
 for last; do :; done

@@ -1,6 +1,6 @@
 #!/usr/bin/env python3
-"""Tests the device without frames against every report of the repository's worked cases: taken, end, phase, and registers; and the
-whole report of a plain program, frames included, against those of short streams."""
+"""Tests the device without frames against every report of the repository's worked cases: taken, end, phase, and
+registers; and the whole report of a plain program, frames included, against those of short streams."""
 from casefiles import Tally, all_cases, line_text, os, put_file
 import tempfile
 import x7formats as x7
@@ -24,7 +24,8 @@ def wanted_lines(case):
 
 
 def whole_report(name, case, part, data):
-    """A case of `play` of a short stream: its status, and its text or the lines that it shows, are those of the plain program."""
+    """A case of `play` of a short stream: its status, and its text or the lines that it shows, are those of the plain
+    program."""
     text, status = x7report.play(part, data)
     tally.same(f"{name}, status", status, case.status)
     if case.text and case.is_plain:
@@ -35,7 +36,8 @@ def whole_report(name, case, part, data):
 
 
 def play_case(name, case):
-    """A case of `play`: what its report shows is what the device without frames comes to, where no frame's fault ends it."""
+    """A case of `play`: what its report shows is what the device without frames comes to, where no frame's fault ends
+    it."""
     lines = wanted_lines(case)
     part = x7.read_part(in_file("part", case.bytes_of(case.words[1]) or TINY))
     streams = [case.bytes_of(word) for word in case.words[2:]]

@@ -1,5 +1,6 @@
 #!/usr/bin/env python3
-"""Tests that the listing and the reports in examples/ are what x7 writes, and that the tools show what README says of them."""
+"""Tests that the listing and the reports in examples/ are what x7 writes, and that the tools show what README says of
+them."""
 import os
 import tempfile
 

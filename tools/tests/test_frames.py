@@ -1,6 +1,6 @@
 #!/usr/bin/env python3
-"""Tests `frames`: its texts, the ECC by a second formula, what streams write against what they were planned for and against what
-x7 plays, and planned streams in the vendor's sequences."""
+"""Tests `frames`: its texts, the ECC by a second formula, what streams write against what they were planned for and
+against what x7 plays, and planned streams in the vendor's sequences."""
 import random
 import tempfile
 
@@ -113,7 +113,8 @@ def played(bench, *streams):
 
 
 def planned(bench):
-    """What a planned stream writes is what was planned, and the same stream in the vendor's sequences plays to the same."""
+    """What a planned stream writes is what was planned, and the same stream in the vendor's sequences plays to the
+    same."""
     bench.make("full0", "x7", "plan", "full", "made.part", "/dev/null")
     for seed, frames in plans(bench):
         bench.put("plan", text_of(frames))

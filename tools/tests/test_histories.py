@@ -1,10 +1,12 @@
 #!/usr/bin/env python3
 """Compares x7 with the plain program of x7report.py on random histories, whole reports of `play` and texts of `boot`.
 
-    test_histories.py [COUNT [SEED]]   COUNT plays and half as many boots, 200 where none is said, of the seeds from SEED on, or from 1
+    test_histories.py [COUNT [SEED]]   COUNT plays and half as many boots, 200 where none is said, of the seeds from
+                                       SEED on, or from 1
 
-It says the seed of each difference, the first line that differs, and a part file and an assembly text that show it, with as few
-pieces as were found; and whether a plain program with one wrong rule is seen beside x7 on these histories."""
+It says the seed of each difference, the first line that differs, and a part file and an assembly text that show it,
+with as few pieces as were found; and whether a plain program with one wrong rule is seen beside x7 on these
+histories."""
 from casefiles import Tally
 import os
 import subprocess
@@ -259,7 +261,8 @@ WRONG = [
 
 
 def is_seen(kind, device):
-    """Whether one of the histories that are tried where nothing else is said tells the plain program from one with a wrong rule."""
+    """Whether one of the histories that are tried where nothing else is said tells the plain program from one with a
+    wrong rule."""
     for seed in range(1, COUNT + 1):
         part, pieces = kind.history(seed)
         lines = h.lines_of(pieces)

@@ -1,6 +1,6 @@
 #!/usr/bin/env python3
-"""Tests the pages against the tree: what MAP and the READMEs name is there, what is there is named, and links lead somewhere;
-and that crates.txt names no library that a crate doesn't cite."""
+"""Tests the pages against the tree: what MAP and the READMEs name is there, what is there is named, and links lead
+somewhere; and that crates.txt names no library that a crate doesn't cite."""
 import glob
 import os
 import re
@@ -118,7 +118,8 @@ def says(crate):
 
 
 def check_clauses(tally):
-    """In the READMEs of crates 'CLAUSES of CALLS' names what the crate has, or one below it, and `specs/NAME` a file of it."""
+    """In the READMEs of crates 'CLAUSES of CALLS' names what the crate has, or one below it, and `specs/NAME` a file of
+    it."""
     below = {line.partition(":")[0]: line.partition(":")[2].split() for line in text_of("crates.txt").splitlines() if not line.startswith("#")}
     known = {crate: says(crate) for crate in crates()}
     for crate in crates():

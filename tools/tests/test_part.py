@@ -1,6 +1,6 @@
 #!/usr/bin/env python3
-"""Tests tools/part: a part from a compressed stream and its listing, from the open database's part.json and part.yaml in both of
-their forms; and the streams and files of which it makes none, and leaves the file as it was."""
+"""Tests tools/part: a part from a compressed stream and its listing, from the open database's part.json and part.yaml
+in both of their forms; and the streams and files of which it makes none, and leaves the file as it was."""
 from casefiles import Tally, os, put_file
 import json
 import re

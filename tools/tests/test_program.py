@@ -1,5 +1,6 @@
 #!/usr/bin/env python3
-"""Tests what the program says of itself: --help and --version, and that the man page and CHANGELOG have its version and its forms."""
+"""Tests what the program says of itself: --help and --version, and that the man page and CHANGELOG have its version and
+its forms."""
 import os
 import re
 import tempfile

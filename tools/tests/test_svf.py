@@ -1,6 +1,6 @@
 #!/usr/bin/env python3
-"""Tests `svf`: what it writes plays on x7's test access port to the state that the stream comes to, in full, as a change and as a
-readback; and what can't start so is refused."""
+"""Tests `svf`: what it writes plays on x7's test access port to the state that the stream comes to, in full, as a
+change and as a readback; and what can't start so is refused."""
 import tempfile
 
 from runs import DEVICE, X7, Bench, frame_of

@@ -1,6 +1,6 @@
 #!/usr/bin/env python3
-"""Tests every tool alike: its help, words that it can't take, hostile files, closed standard files and a full disk. A run ends with
-status 0 or 1 and a text, or with 2, one line, and nothing written."""
+"""Tests every tool alike: its help, words that it can't take, hostile files, closed standard files and a full disk. A
+run ends with status 0 or 1 and a text, or with 2, one line, and nothing written."""
 import concurrent.futures
 import gzip
 import os
@@ -132,7 +132,8 @@ def on_terminal(bench):
 
 
 def usages(bench):
-    """Words that a form can't take are answered by the form's own line; a part file that is made anew, by what it is."""
+    """Words that a form can't take are answered by the form's own line; a part file that is made anew, by what it
+    is."""
     bench.refuses("frames", "move", "a", "b", "c", what="usage: frames move FRAMES half=1,row=0 > FRAMES\n")
     bench.refuses("frames", "touch", "x", what="usage: frames touch PART STREAM [REGION..]\n")
     bench.refuses("part", "good.part", "new", what="good.part is a part file already\n")

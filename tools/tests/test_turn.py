@@ -1,6 +1,6 @@
 #!/usr/bin/env python3
-"""Tests tools/turn: each way of turning comes back, from the file's first byte on, a few bytes later and after headers of all
-lengths; text and packed files; and what isn't taken leaves no output."""
+"""Tests tools/turn: each way of turning comes back, from the file's first byte on, a few bytes later and after headers
+of all lengths; text and packed files; and what isn't taken leaves no output."""
 from casefiles import Tally, os, put_file
 import gzip
 import tempfile

@@ -1,6 +1,7 @@
 #!/usr/bin/env python3
-"""Tests `flash_steps`, `allow_fallback` and `check_update`: the steps, done one by one, leave the flash that `x7 update` leaves, and
-in its order; what a power loss leaves between two steps boots; each check fails of the flash or the stream that it is for."""
+"""Tests `flash_steps`, `allow_fallback` and `check_update`: the steps, done one by one, leave the flash that `x7
+update` leaves, and in its order; what a power loss leaves between two steps boots; each check fails of the flash or the
+stream that it is for."""
 import random
 import re
 import tempfile

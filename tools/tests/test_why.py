@@ -1,6 +1,6 @@
 #!/usr/bin/env python3
-"""Tests tools/why: the kinds of damage that streams meet, each with the cause that is to be said, from the stream alone, from its
-listing, and, where x7 is built, from a play; reports of boots; and what isn't taken."""
+"""Tests tools/why: the kinds of damage that streams meet, each with the cause that is to be said, from the stream
+alone, from its listing, and, where x7 is built, from a play; reports of boots; and what isn't taken."""
 from casefiles import TOP, Tally, os, put_file
 import bz2
 import gzip

@@ -2,7 +2,7 @@
 use crate::expected::{Expected, Extent};
 use crate::given::{Given, Object};
 use crate::notes::{Notes, common_length};
-use crate::running::{Ending, Turn};
+use crate::running::{Ending, Variation};
 
 /// The line of the text that begins most as the one given does.
 fn nearest<'a>(text: &'a str, line: &[u8]) -> &'a [u8] {
@@ -61,8 +61,8 @@ fn flash_after<'a>(expected: &'a Expected, given: &'a Given) -> &'a [u8] {
 }
 
 /// Compares the message that came with the line expected, or where a call of `err` failed with a prefix of it.
-fn compare_err(notes: &mut Notes, expected: &Expected, turn: &Turn, came: &[u8]) {
-    if turn.call_of(Object::Err) > 0 {
+fn compare_err(notes: &mut Notes, expected: &Expected, variation: &Variation, came: &[u8]) {
+    if variation.call_of(Object::Err) > 0 {
         notes.compare_prefix("err", &expected.err, came);
     } else {
         notes.compare_texts("err", &expected.err, came);
@@ -70,14 +70,14 @@ fn compare_err(notes: &mut Notes, expected: &Expected, turn: &Turn, came: &[u8])
 }
 
 /// Compares the status, the text and the message that came with those expected.
-fn compare_answer(notes: &mut Notes, expected: &Expected, turn: &Turn, ending: &Ending) {
+fn compare_answer(notes: &mut Notes, expected: &Expected, variation: &Variation, ending: &Ending) {
     notes.compare_numbers(
         "status",
         u64::from(expected.status),
         u64::from(ending.status),
     );
     compare_out(notes, expected, &ending.out);
-    compare_err(notes, expected, turn, &ending.err);
+    compare_err(notes, expected, variation, &ending.err);
 }
 
 /// Compares all that a run left with what it should come to.
@@ -85,11 +85,11 @@ pub(crate) fn compare(
     notes: &mut Notes,
     given: &Given,
     expected: &Expected,
-    turn: &Turn,
+    variation: &Variation,
     ending: &Ending,
 ) {
     if !matches!(expected.extent, Extent::Any) {
-        compare_answer(notes, expected, turn, ending);
+        compare_answer(notes, expected, variation, ending);
     }
     notes.compare_texts("flash", flash_after(expected, given), &ending.flash);
 }

@@ -14,7 +14,7 @@ const ERR_ROOM: usize = 1_000;
 
 /// What differs from run to run of one case.
 #[derive(Clone, Copy, Drop)]
-pub(crate) struct Turn {
+pub(crate) struct Variation {
     /// The number of the damage that an input has, where the case damages one.
     damage: Option<u32>,
     /// The most bytes of one read.
@@ -27,10 +27,10 @@ pub(crate) struct Turn {
     is_mute: bool,
 }
 
-impl Turn {
-    /// A turn with this damage, reads of at most `piece` bytes, and no call that fails.
-    pub(crate) fn new(damage: Option<u32>, piece: u32) -> Turn {
-        Turn {
+impl Variation {
+    /// A variation with this damage, reads of at most `piece` bytes, and no call that fails.
+    pub(crate) fn new(damage: Option<u32>, piece: u32) -> Variation {
+        Variation {
             damage,
             piece,
             object: Object::In,
@@ -39,23 +39,23 @@ impl Turn {
         }
     }
 
-    /// This turn, but with this call of the object failing.
-    pub(crate) fn failing(self, object: Object, call: u64) -> Turn {
-        Turn {
+    /// This variation, but with this call of the object failing.
+    pub(crate) fn failing(self, object: Object, call: u64) -> Variation {
+        Variation {
             object,
             call,
             ..self
         }
     }
 
-    /// This turn, but with reads of at most `piece` bytes.
-    pub(crate) fn in_pieces(self, piece: u32) -> Turn {
-        Turn { piece, ..self }
+    /// This variation, but with reads of at most `piece` bytes.
+    pub(crate) fn in_pieces(self, piece: u32) -> Variation {
+        Variation { piece, ..self }
     }
 
-    /// This turn, but with the first call of `err` failing too.
-    pub(crate) fn mute(self) -> Turn {
-        Turn {
+    /// This variation, but with the first call of `err` failing too.
+    pub(crate) fn mute(self) -> Variation {
+        Variation {
             is_mute: true,
             ..self
         }
@@ -135,9 +135,9 @@ fn put_damaged(
     inputs: &mut MemoryInputs,
     alloc: Global,
     damaged: &[Damaged],
-    turn: &Turn,
+    variation: &Variation,
 ) -> Result<(), Fault> {
-    if let (Some(damaged), Some(number)) = (damaged.first(), turn.damage) {
+    if let (Some(damaged), Some(number)) = (damaged.first(), variation.damage) {
         let bytes = damaged.bytes_of(alloc, number)?;
         inputs.put(damaged.named.name.as_str(), &bytes)?;
     }
@@ -150,15 +150,15 @@ fn put_inputs(
     alloc: Global,
     shared: &[Named],
     given: &Given,
-    turn: &Turn,
+    variation: &Variation,
 ) -> Result<(), Fault> {
     put_all(inputs, shared)?;
     put_all(inputs, &given.inputs)?;
-    put_damaged(inputs, alloc, &given.damaged, turn)?;
-    if turn.piece > 0 {
-        inputs.piece(turn.piece as usize);
+    put_damaged(inputs, alloc, &given.damaged, variation)?;
+    if variation.piece > 0 {
+        inputs.piece(variation.piece as usize);
     }
-    inputs.fail_at(turn.call_of(Object::In))?;
+    inputs.fail_at(variation.call_of(Object::In))?;
     Ok(())
 }
 
@@ -207,14 +207,14 @@ impl Objects {
         alloc: Global,
         shared: &[Named],
         given: &Given,
-        turn: &Turn,
+        variation: &Variation,
     ) -> Result<(), Fault> {
-        put_inputs(&mut self.inputs, alloc, shared, given, turn)?;
-        self.flash.fail_at(turn.call_of(Object::Flash))?;
+        put_inputs(&mut self.inputs, alloc, shared, given, variation)?;
+        self.flash.fail_at(variation.call_of(Object::Flash))?;
         given.writing.prepare(&mut self.flash)?;
         let piece = given.write_piece;
-        limit(&mut self.out, piece, turn.call_of(Object::Out))?;
-        limit(&mut self.err, piece, turn.call_of(Object::Err))
+        limit(&mut self.out, piece, variation.call_of(Object::Out))?;
+        limit(&mut self.err, piece, variation.call_of(Object::Err))
     }
 
     /// Whether the call that was to fail came after all calls of the run: one more call of its object fails.
@@ -228,11 +228,11 @@ impl Objects {
     }
 
     /// What the objects hold after a run.
-    fn leave(&mut self, turn: &Turn, ending: &mut Ending) -> Result<(), Fault> {
+    fn leave(&mut self, variation: &Variation, ending: &mut Ending) -> Result<(), Fault> {
         replace(&mut ending.out, self.out.bytes())?;
         replace(&mut ending.err, self.err.bytes())?;
         replace(&mut ending.flash, self.flash.bytes())?;
-        ending.is_spared = turn.call > 0 && self.is_spared(turn.object);
+        ending.is_spared = variation.call > 0 && self.is_spared(variation.object);
         Ok(())
     }
 
@@ -243,10 +243,10 @@ impl Objects {
         alloc: Global,
         shared: &[Named],
         given: &Given,
-        turn: &Turn,
+        variation: &Variation,
         ending: &mut Ending,
     ) -> Result<(), Fault> {
-        self.prepare(alloc, shared, given, turn)?;
+        self.prepare(alloc, shared, given, variation)?;
         ending.status = command.run(
             alloc,
             &given.words,
@@ -255,7 +255,7 @@ impl Objects {
             &mut self.out,
             &mut self.err,
         );
-        self.leave(turn, ending)
+        self.leave(variation, ending)
     }
 }
 
@@ -265,11 +265,11 @@ pub(crate) fn ran<C: Command>(
     alloc: Global,
     shared: &[Named],
     given: &Given,
-    turn: &Turn,
+    variation: &Variation,
     ending: &mut Ending,
 ) -> Result<(), Fault> {
     match Objects::new(alloc, given) {
-        Ok(mut objects) => objects.run(command, alloc, shared, given, turn, ending),
+        Ok(mut objects) => objects.run(command, alloc, shared, given, variation, ending),
         Err(fault) => Err(fault),
     }
 }

@@ -53,11 +53,11 @@ fn run_case<C: Command>(
         shared,
         case,
         notes,
-        whole: Ending::new(alloc),
+        kept: Ending::new(alloc),
         came: Ending::new(alloc),
     };
     trial.run();
-    swap(ending, &mut trial.whole);
+    swap(ending, &mut trial.kept);
 }
 
 impl Subject {

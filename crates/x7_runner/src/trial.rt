@@ -6,7 +6,7 @@ use crate::failing::{Blamed, compare_failed, compare_spared};
 use crate::given::Object;
 use crate::named::Named;
 use crate::notes::Notes;
-use crate::running::{Ending, Turn, ran};
+use crate::running::{Ending, Variation, ran};
 use std::alloc::Global;
 use std::mem::swap;
 
@@ -21,55 +21,61 @@ pub(crate) struct Trial<'a, C: Command> {
     pub(crate) shared: &'a [Named],
     pub(crate) case: &'a Case,
     pub(crate) notes: &'a mut Notes,
-    /// What the run without a failing call left, beside which others stand; of a case in which a call fails, what
-    /// the run with it left.
-    pub(crate) whole: Ending,
+    /// What is kept of the case: what the run without a failing call left, beside which others stand, or, where the
+    /// case names the calls that fail, what the last run with one of them left.
+    pub(crate) kept: Ending,
     /// What the last run left.
     pub(crate) came: Ending,
 }
 
 impl<'a, C: Command> Trial<'a, C> {
     /// One run, which the notes that follow are of.
-    fn ran(&mut self, turn: &Turn) {
+    fn ran(&mut self, variation: &Variation) {
         let case = self.case;
         self.notes.begin(case.name.as_str());
-        turn.put_name(self.notes);
+        variation.put_name(self.notes);
         let given = &case.given;
         let done = ran(
             self.command,
             self.alloc,
             self.shared,
             given,
-            turn,
+            variation,
             &mut self.came,
         );
         self.notes.take(done);
     }
 
     /// One run, compared.
-    fn compared(&mut self, turn: &Turn) {
-        self.ran(turn);
+    fn compared(&mut self, variation: &Variation) {
+        self.ran(variation);
         let case = self.case;
-        compare(self.notes, &case.given, &case.expected, turn, &self.came);
+        compare(
+            self.notes,
+            &case.given,
+            &case.expected,
+            variation,
+            &self.came,
+        );
     }
 
     /// One run in which a call fails, beside the whole run. True where the run had no such call, or memory lacks.
-    fn is_past(&mut self, turn: &Turn, blamed: &mut Blamed) -> bool {
-        self.ran(turn);
+    fn is_past(&mut self, variation: &Variation, blamed: &mut Blamed) -> bool {
+        self.ran(variation);
         if self.came.is_spared {
-            compare_spared(self.notes, &self.whole, &self.came);
+            compare_spared(self.notes, &self.kept, &self.came);
         } else {
             let words = &self.case.given.words;
-            let object = turn.object;
-            compare_failed(self.notes, words, blamed, object, &self.whole, &self.came);
+            let object = variation.object;
+            compare_failed(self.notes, words, blamed, object, &self.kept, &self.came);
         }
         self.came.is_spared || self.notes.lacks_memory
     }
 
     /// Runs with each call of the object failing in turn, until a run has no such call.
-    fn run_calls(&mut self, turn: &Turn, blamed: &mut Blamed) {
+    fn run_calls(&mut self, variation: &Variation, blamed: &mut Blamed) {
         for call in 1..=MOST_CALLS {
-            if self.is_past(&turn.failing(turn.object, call), blamed) {
+            if self.is_past(&variation.failing(variation.object, call), blamed) {
                 return;
             }
         }
@@ -78,10 +84,10 @@ impl<'a, C: Command> Trial<'a, C> {
 
     /// Runs with each call of the object failing in turn. Where the whole run reads all that the words name, each
     /// of these inputs fails in one of them.
-    fn run_each(&mut self, turn: &Turn) {
+    fn run_each(&mut self, variation: &Variation) {
         let mut blamed = Blamed::new(self.alloc);
-        self.run_calls(turn, &mut blamed);
-        if turn.object == Object::In && self.whole.status <= 1 {
+        self.run_calls(variation, &mut blamed);
+        if variation.object == Object::In && self.kept.status <= 1 {
             let given = &self.case.given;
             blamed.compare_all(self.notes, &given.words, self.shared);
             blamed.compare_all(self.notes, &given.words, &given.inputs);
@@ -89,49 +95,50 @@ impl<'a, C: Command> Trial<'a, C> {
     }
 
     /// Runs in pieces of other sizes, which should come to the same as the whole run.
-    fn run_alike(&mut self, turn: &Turn) {
+    fn run_alike(&mut self, variation: &Variation) {
         for piece in &self.case.given.alike {
-            self.ran(&turn.in_pieces(*piece));
-            compare_spared(self.notes, &self.whole, &self.came);
+            self.ran(&variation.in_pieces(*piece));
+            compare_spared(self.notes, &self.kept, &self.came);
         }
     }
 
     /// The run without a failing call, and those that stand beside it.
-    fn run_whole(&mut self, turn: &Turn) {
-        self.compared(turn);
-        swap(&mut self.whole, &mut self.came);
-        self.run_alike(turn);
+    fn run_whole(&mut self, variation: &Variation) {
+        self.compared(variation);
+        swap(&mut self.kept, &mut self.came);
+        self.run_alike(variation);
         for object in &self.case.given.each {
-            self.run_each(&turn.failing(*object, 0));
+            self.run_each(&variation.failing(*object, 0));
         }
     }
 
-    /// A run in which a call fails, and where `err` is among those that fail in turn, one in which it fails too.
-    fn run_failing(&mut self, turn: &Turn) {
-        self.compared(turn);
-        swap(&mut self.whole, &mut self.came);
+    /// A run in which a call fails, and, where the case lets `err` fail in turn, a second one in which also the first
+    /// call of `err` fails.
+    fn run_failing(&mut self, variation: &Variation) {
+        self.compared(variation);
+        swap(&mut self.kept, &mut self.came);
         if self.case.given.each.contains(&Object::Err) {
-            self.compared(&turn.mute());
+            self.compared(&variation.mute());
         }
     }
 
-    /// All runs with the reads and the damage of one turn.
-    fn run_piece(&mut self, turn: &Turn) {
+    /// All runs with the reads and the damage of one variation.
+    fn run_piece(&mut self, variation: &Variation) {
         if self.case.given.failing.is_empty() {
-            self.run_whole(turn);
+            self.run_whole(variation);
         }
         for failing in &self.case.given.failing {
-            self.run_failing(&turn.failing(failing.object, failing.call));
+            self.run_failing(&variation.failing(failing.object, failing.call));
         }
     }
 
     /// All runs with one damage of an input, or with none.
     fn run_pieces(&mut self, damage: Option<u32>) {
         if self.case.given.pieces.is_empty() {
-            self.run_piece(&Turn::new(damage, u32::MAX));
+            self.run_piece(&Variation::new(damage, u32::MAX));
         }
         for piece in &self.case.given.pieces {
-            self.run_piece(&Turn::new(damage, *piece));
+            self.run_piece(&Variation::new(damage, *piece));
         }
     }
 
