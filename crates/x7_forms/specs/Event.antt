@@ -58,7 +58,8 @@ part_fault_text (part.SameRow row) = codes "same row " ++ decimal row
 part_fault_text (part.TooMany frames) = codes "too many " ++ decimal frames
 part_fault_text part.NoMemory = codes "no memory"
 
--- why an input other than a part file was refused
+-- why an input has no reading, what the part lacks of what is asked of it, or why a flash or an image can't hold the
+-- stream
 abbrev pub input_fault_text : InputFault → List ℕ
 input_fault_text (input.Byte place) = codes "byte " ++ decimal place
 input_fault_text (input.Line line) = codes "line " ++ decimal line

@@ -1,4 +1,4 @@
-//! The line that says why an input other than a part file was refused. No memory is taken.
+//! The line of a bad input: the words for each fault. No memory is taken.
 ghost use Rattle.std.specs.Prelude.{◌++◌, codes, decimal};
 ghost use Rattle.x7_words.specs.Sink.{PutsOrFails};
 ghost use Rattle.x7_forms.specs.Event.{bad_input, event_line};
@@ -8,7 +8,8 @@ use itoa::Buffer;
 use x7_text::{hex_of_byte, hex_of_word};
 use x7_words::{Failed, Sink, write_pieces};
 
-/// Why an input other than a part file was refused. Lines count from 1, bytes and places in a flash from 0.
+/// Why an input has no reading, what the part lacks of what is asked of it, or why a flash or an image can't hold the
+/// stream. Lines count from 1, bytes and places in a flash from 0.
 #[derive(Clone, Copy, Drop)]
 pub enum InputFault {
     /// The byte of a stream's header that should be a field's letter and is not, or the

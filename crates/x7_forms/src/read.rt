@@ -24,14 +24,14 @@ pub const TEXT_LIMIT: usize = 536_870_912;
 /// The most bytes that one turn of a whole input or of a listing reads.
 pub const TURN_BYTES: usize = 65_536;
 
-/// How many bytes a turn asks for, where `left` bytes are still within the limit and the buffer holds
-/// `room`: at most one byte over the limit.
+/// How many bytes a turn asks for, where `left` bytes are still within the limit and the buffer holds `room`: at most
+/// one byte over the limit.
 fn asked_count(left: usize, room: usize) -> usize
     ensures not_empty { 0 < room → 0 < result }
     ensures within { result ≤ room }
-    ensures over { result ≤ left + 1 }
-    ensures full { room ≤ left → result ≡ room }
-    ensures short { left < room → result ≡ left + 1 }
+    ensures within_left { result ≤ left + 1 }
+    ensures fills { room ≤ left → result ≡ room }
+    ensures one_over { left < room → result ≡ left + 1 }
 {
     if left < room { left + 1 } else { room }
 }
@@ -52,7 +52,7 @@ fn fill<'w, I: Inputs>(
     ensures length { length buffer.new ≡ length buffer.old }
     ensures failed { IfErr result (λ r. (event_of r ≡ reading_failed name.now) × Breaks (I.state inputs.old) (length buffer.old) (I.state inputs.new)) }
     ensures asked { (I.state inputs.new).asked ≡ (I.state inputs.old).asked }
-    ensures given { (I.state inputs.new).given ≤ (I.state inputs.old).given + length buffer.old }
+    ensures gives_a_turn { (I.state inputs.new).given ≤ (I.state inputs.old).given + length buffer.old }
     ensures selects { (I.state inputs.new).selects ≡ (I.state inputs.old).selects }
     ensures inputs { InputsStay (I.state inputs.old) (I.state inputs.new) }
 {

@@ -19,7 +19,8 @@ pub enum Why {
     Missing,
     /// A part file was refused.
     BadPart(PartFault),
-    /// An input other than a part file was refused, or the flash of an update, or the stream for it.
+    /// An input has no reading, the part lacks what is asked of it (the part file is named then), or a flash or an
+    /// image can't hold the stream.
     BadInput(InputFault),
     /// An input or the flash could not be opened or read.
     ReadFault,

@@ -15,7 +15,8 @@ pub enum Status {
     Missing,
     /// A part file was refused.
     BadPart,
-    /// An input other than a part file was refused, or the flash of an update, or the stream for it.
+    /// An input has no reading, the part lacks what is asked of it (the part file is named then), or a flash or an
+    /// image can't hold the stream.
     BadInput,
     /// An input or the flash could not be opened or read.
     ReadFault,
@@ -43,7 +44,7 @@ impl Status {
         }
     }
 
-    /// The number that the program ends with.
+    /// The number that the program ends with: 10 is not used; 12 is `main`'s, where the system gives no words.
     pub fn number(self) -> u8
         ensures { result ≡ status_number self }
     {

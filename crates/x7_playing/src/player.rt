@@ -20,7 +20,7 @@ fn gather(buffer: &mut ReadBuf, reads: &mut Vec<u32>) -> bool
     requires within { vec_len reads.old ≤ reads_limit }
     requires most { buffer.old.most ≡ Some reads_room }
     requires room { vec_len reads.old + reads_room ≤ vec_capacity reads.old }
-    ensures words { result ≡ false → reads.new.items ≡ reads.old.items ++ buffer.old.words }
+    ensures appends { result ≡ false → reads.new.items ≡ reads.old.items ++ buffer.old.words }
     ensures within { result ≡ false → vec_len reads.new ≤ reads_limit }
     ensures cleared { result ≡ false → buffer.new ≡ record buffer.old { words = [] } }
     ensures over { result ≡ true → reads_limit < vec_len reads.old + length buffer.old.words }
@@ -46,7 +46,7 @@ fn feed(
     requires { MayPlayBy false (play_state device.old buffer.old reads.old.items) (length piece.now) }
     ensures ok { IfOk result (λ over. FeedsOn over (play_state device.old buffer.old reads.old.items) (play_state device.new buffer.new reads.new.items) piece.now) }
     ensures prefix { OnErr result (OfPrefix piece.now (FeedsPrefix (play_state device.old buffer.old reads.old.items) (play_state device.new buffer.new reads.new.items))) }
-    ensures buffer { OnErr result (buffer.new ≡ empty_buffer) }
+    ensures empties_buffer { OnErr result (buffer.new ≡ empty_buffer) }
 {
     let mut at = 0;
     'feeds: loop {
@@ -99,7 +99,7 @@ impl Player {
         ensures over { self.old.is_over ≡ true → IsOk result × (self.new ≡ self.old) }
         ensures prefix { OnErr result (OfPrefix piece.now (PlaysPrefix self.old self.new)) }
         ensures not_over { OnErr result (self.new.is_over ≡ false) }
-        ensures buffer { OnErr result (self.new.buffer ≡ empty_buffer) }
+        ensures empties_buffer { OnErr result (self.new.buffer ≡ empty_buffer) }
     {
         if self.is_over {
             return Ok(());

@@ -1,4 +1,4 @@
--- The text of `plan full`, which is made as it is written (this project's choice).
+-- What `plan full` writes: a binary stream, which is made as it is written (this project's choice).
 use Rattle.std.specs.Prelude.{◌≡◌, ℕ, ◌≤◌, false}
 use Rattle.x7_part.specs.Part.{PartData, frame_words}
 use Rattle.x7_memory.specs.Plan.{AreAddressed, PlanData}

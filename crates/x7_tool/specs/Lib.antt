@@ -1,4 +1,5 @@
 pub mod Ahead
+pub mod Between
 pub mod Boot
 pub mod Debug
 pub mod FullText
@@ -6,8 +7,8 @@ pub mod Generate
 pub mod Leaving
 pub mod Outcome
 pub mod Outside
-pub mod Play
 pub mod Plan
+pub mod Play
 pub mod Promise
 pub mod Ready
 pub mod Run
@@ -15,4 +16,3 @@ pub mod Runs
 pub mod Stopping
 pub mod Stream
 pub mod Svf
-pub mod Between

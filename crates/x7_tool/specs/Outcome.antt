@@ -66,17 +66,18 @@ text_by name (Err place) = Err (bad_input name (input.Byte place))
 
 -- the listing of a stream's bytes: its header is judged as soon as its bytes are read, and its length after it
 abbrev pub listed_bytes : List ℕ → List ℕ → Result Answer Event
-listed_bytes stream bytes = and_so (text_by stream (stream_listing bytes)) (λ text. and_so (if_within stream stream_limit bytes) (λ _. Ok (record { stopped = false; text = text })))
+listed_bytes stream_name bytes =
+    and_so (text_by stream_name (stream_listing bytes)) (λ text. and_so (if_within stream_name stream_limit bytes) (λ _. Ok (record { stopped = false; text = text })))
 
 -- the listing of what is found: a stream may be over its limit before it fails
 abbrev pub listed_found : List ℕ → Found → Result Answer Event
-listed_found stream (Held bytes) = listed_bytes stream bytes
-listed_found stream Absent = Err (missing stream)
-listed_found stream (Broken bytes) = and_so (if_within stream stream_limit bytes) (λ _. Err (reading_failed stream))
+listed_found stream_name (Held bytes) = listed_bytes stream_name bytes
+listed_found stream_name Absent = Err (missing stream_name)
+listed_found stream_name (Broken bytes) = and_so (if_within stream_name stream_limit bytes) (λ _. Err (reading_failed stream_name))
 
 -- `list STREAM`: the listing of the stream, its header's line first
 abbrev pub listed : Known → List ℕ → Result Answer Event
-listed known stream = listed_found stream (known.inputs stream)
+listed known stream_name = listed_found stream_name (known.inputs stream_name)
 
 -- ---- what several forms read
 
@@ -91,9 +92,9 @@ pub record PartAndText : Type 0 where
 
 -- the part of a part file is read, and then a text for it
 abbrev pub part_and_text : Known → List ℕ → List ℕ → Result PartAndText Event
-part_and_text known part text = and_so (part_known known part) (λ p. and_so (whole_known known text_limit text) (λ bytes. Ok (record { part = p; text = bytes })))
+part_and_text known part_name text_name = and_so (part_known known part_name) (λ part. and_so (whole_known known text_limit text_name) (λ text. Ok (record { part = part; text = text })))
 
--- the data of a stream that has a limit of its own, which comes before its header
+-- the data of a stream that has a limit of its own: its limit is judged before its header
 abbrev pub stream_data : Known → List ℕ → Result (List ℕ) Event
 stream_data known name = and_so (whole_known known stream_limit name) (data_in name)
 
@@ -125,8 +126,8 @@ pub record DebugInputs : Type 0 where
 
 -- the inputs of a debugging are read in the order of its words
 abbrev pub debug_inputs : Known → List ℕ → List ℕ → List ℕ → Result DebugInputs Event
-debug_inputs known part stream script =
-    and_so (part_known known part) (λ p. and_so (stream_data known stream) (λ bytes. and_so (whole_known known script_limit script) (λ text. Ok (record { part = p; stream = bytes; script = text }))))
+debug_inputs known part_name stream_name script_name =
+    and_so (part_known known part_name) (λ part. and_so (stream_data known stream_name) (λ stream. and_so (whole_known known script_limit script_name) (λ script. Ok (record { part = part; stream = stream; script = script }))))
 
 -- the event of a text that is no script
 abbrev pub script_event : List ℕ → ScriptFault → Event
@@ -217,7 +218,7 @@ gen_answer part seed = record { stopped = false; text = gen_text part seed }
 
 -- `gen PART SEED`: the summary, or why there is no part
 abbrev pub gen_made : Known → List ℕ → ℕ → Result Answer Event
-gen_made known part seed = and_so (part_known known part) (λ p. Ok (gen_answer p seed))
+gen_made known part_name seed = and_so (part_known known part_name) (λ part. Ok (gen_answer part seed))
 
 -- ---- images
 
@@ -228,7 +229,7 @@ pub record ImageStreams : Type 0 where
 
 -- the golden and then the update stream are read, each with the limit of a stream of its own
 abbrev pub image_streams : Known → List ℕ → List ℕ → Result ImageStreams Event
-image_streams known golden update = and_so (stream_data known golden) (λ g. and_so (stream_data known update) (λ u. Ok (record { golden = g; update = u })))
+image_streams known golden_name update_name = and_so (stream_data known golden_name) (λ golden. and_so (stream_data known update_name) (λ update. Ok (record { golden = golden; update = update })))
 
 -- the image of a golden and an update stream, for parts of which one step of the start address is `unit` bytes, where
 -- it is no larger than a flash may be
@@ -239,11 +240,12 @@ image_by name unit s =
 
 -- `image GOLDEN UPDATE`: the flash image of both streams' data, for parts whose start address counts bytes
 abbrev pub imaged : Known → List ℕ → List ℕ → Result Answer Event
-imaged known golden update = and_so (image_streams known golden update) (image_by update 1)
+imaged known golden_name update_name = and_so (image_streams known golden_name update_name) (image_by update_name 1)
 
 -- `image PART GOLDEN UPDATE`: the flash image of both streams' data for a part, by its start unit
 abbrev pub imaged_for : Known → List ℕ → List ℕ → List ℕ → Result Answer Event
-imaged_for known part golden update = and_so (part_known known part) (λ p. and_so (image_streams known golden update) (image_by update p.start_unit))
+imaged_for known part_name golden_name update_name =
+    and_so (part_known known part_name) (λ part. and_so (image_streams known golden_name update_name) (image_by update_name part.start_unit))
 
 -- ---- boots
 
@@ -340,7 +342,7 @@ UpdatedAs known names end = FlashUpdates names (known.flash names.flash) (stream
 
 -- `mcs IMAGE`: the Intel HEX text of an image
 abbrev pub mcs_written : Known → List ℕ → Result Answer Event
-mcs_written known image = and_so (whole_known known flash_limit image) (λ bytes. Ok (record { stopped = false; text = mcs_text bytes }))
+mcs_written known image_name = and_so (whole_known known flash_limit image_name) (λ image. Ok (record { stopped = false; text = mcs_text image }))
 
 -- the event of an Intel HEX text that gives no image
 abbrev pub mcs_event : List ℕ → McsFault → Event
@@ -358,27 +360,27 @@ mcs_image name (Err fault) = Err (mcs_event name fault)
 
 -- `unmcs TEXT`: the flash image of an Intel HEX text
 abbrev pub mcs_read : Known → List ℕ → Result Answer Event
-mcs_read known text = and_so (whole_known known text_limit text) (λ bytes. mcs_image text (mcs_of bytes))
+mcs_read known text_name = and_so (whole_known known text_limit text_name) (λ text. mcs_image text_name (mcs_of text))
 
 -- ---- all forms
 
 -- a form comes to this end over what is known: one case a form
 abbrev pub FormGives : Known → AskedForm → Result Answer Event → Type 0
-FormGives known (Listing stream) end = listed known stream ≡ end
-FormGives known (Assembling text) end = AssembledAs text (whole_known known text_limit text) end
-FormGives known (Playing part streams) end = played known part streams ≡ end
-FormGives known (Debugging part stream script) end = DebuggedAs script (debug_inputs known part stream script) end
-FormGives known (PlayingSvf part text) end = PlayedSvf text (part_and_text known part text) end
-FormGives known (PlanningFull part frames) end = PlannedFull frames (part_and_text known part frames) end
-FormGives known (PlanningPartial part frames) end = PlannedPartial frames (part_and_text known part frames) end
-FormGives known (PlanningRead part far n) end = PlannedRead part far n (part_known known part) end
-FormGives known (Generating part seed) end = gen_made known part seed ≡ end
-FormGives known (Imaging golden update) end = imaged known golden update ≡ end
-FormGives known (ImagingFor part golden update) end = imaged_for known part golden update ≡ end
-FormGives known (Booting part flash) end = BootedAs flash (part_known known part) (known.flash flash) end
-FormGives known (UpdatingFlash flash stream) end = UpdatedAs known (record { flash = flash; stream = stream }) end
-FormGives known (ToMcs image) end = mcs_written known image ≡ end
-FormGives known (FromMcs text) end = mcs_read known text ≡ end
+FormGives known (Listing stream_name) end = listed known stream_name ≡ end
+FormGives known (Assembling text_name) end = AssembledAs text_name (whole_known known text_limit text_name) end
+FormGives known (Playing part_name stream_names) end = played known part_name stream_names ≡ end
+FormGives known (Debugging part_name stream_name script_name) end = DebuggedAs script_name (debug_inputs known part_name stream_name script_name) end
+FormGives known (PlayingSvf part_name text_name) end = PlayedSvf text_name (part_and_text known part_name text_name) end
+FormGives known (PlanningFull part_name frames_name) end = PlannedFull frames_name (part_and_text known part_name frames_name) end
+FormGives known (PlanningPartial part_name frames_name) end = PlannedPartial frames_name (part_and_text known part_name frames_name) end
+FormGives known (PlanningRead part_name far n) end = PlannedRead part_name far n (part_known known part_name) end
+FormGives known (Generating part_name seed) end = gen_made known part_name seed ≡ end
+FormGives known (Imaging golden_name update_name) end = imaged known golden_name update_name ≡ end
+FormGives known (ImagingFor part_name golden_name update_name) end = imaged_for known part_name golden_name update_name ≡ end
+FormGives known (Booting part_name flash_name) end = BootedAs flash_name (part_known known part_name) (known.flash flash_name) end
+FormGives known (UpdatingFlash flash_name stream_name) end = UpdatedAs known (record { flash = flash_name; stream = stream_name }) end
+FormGives known (ToMcs image_name) end = mcs_written known image_name ≡ end
+FormGives known (FromMcs text_name) end = mcs_read known text_name ≡ end
 
 -- the words come to this end over what is known: words without a form are a wrong usage
 abbrev pub IsOutcome : Known → Option AskedForm → Result Answer Event → Type 0

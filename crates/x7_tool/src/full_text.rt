@@ -1,4 +1,4 @@
-//! The text of `plan full`, which is made as it is written.
+//! What `plan full` writes: a binary stream, which is made as it is written.
 ghost use Rattle.std.specs.Prelude.{◌≡◌, ◌≤◌, [], vec_capacity, IfOk, IfErr, OnErr, OnOk};
 ghost use Rattle.x7_words.specs.Sink.{PutsAll, PutsSome, SinkFails};
 ghost use Rattle.x7_part.specs.Part.{frame_words};
@@ -17,15 +17,16 @@ use x7_part::Part;
 use x7_planner::FullStream;
 use x7_words::{Failed, Sink, write_all};
 
-/// The most bytes of a piece of a full stream (`piece_limit`).
+/// The most bytes of a piece of a full stream (`piece_limit`): 160 slots of 255 words, four bytes each.
 const PIECE_LIMIT: usize = 163_200;
 
-/// A part, a plan for it, and room for a piece of its full stream.
+/// The full stream of a plan, a binary one, which is ready to be written: a part, a plan for it, and room for a piece
+/// of the stream.
 #[derive(Drop)]
 pub(crate) struct FullText {
     part: Part,
     plan: Plan,
-    block: Vec<u8>,
+    piece: Vec<u8>,
 }
 
 impl Model for FullText {
@@ -36,7 +37,7 @@ impl Model for FullText {
 
     ghost view = { λ t. record { part = t.part; plan = t.plan } };
 
-    ghost invariant = { λ t. IsPlanned record { part = t.part; plan = t.plan } (vec_capacity t.block) };
+    ghost invariant = { λ t. IsPlanned record { part = t.part; plan = t.plan } (vec_capacity t.piece) };
 }
 
 impl FullText {
@@ -49,57 +50,57 @@ impl FullText {
         ensures err { IfErr result (λ r. event_of r ≡ no_memory) }
     {
         match Vec::with_capacity(alloc, PIECE_LIMIT) {
-            Ok(block) => Ok(FullText { part, plan, block }),
+            Ok(piece) => Ok(FullText { part, plan, piece }),
             Err(_) => Err(Refusal::unnamed(Why::NoMemory)),
         }
     }
 }
 
-/// Writes the pieces of a full stream, each once it is made.
-fn write_pieces<O: Sink>(
+/// Writes a full stream piece by piece, each once it is made. `piece` is room for one.
+fn write_stream<O: Sink>(
     stream: FullStream<'_>,
-    block: &mut Vec<u8>,
+    piece: &mut Vec<u8>,
     out: &mut O,
 ) -> Result<(), Failed>
     requires given { HasGiven stream [] }
-    requires room { piece_limit ≤ vec_capacity block.old }
+    requires room { piece_limit ≤ vec_capacity piece.old }
     ensures whole { OnOk result (PutsAll (O.state out.old) (full_stream stream.entry.part stream.entry.plan) (O.state out.new)) }
     ensures prefix { PutsSome (O.state out.old) (full_stream stream.entry.part stream.entry.plan) (O.state out.new) }
     ensures failed { OnErr result (SinkFails (O.state out.old) (O.state out.new)) }
-    ensures room { piece_limit ≤ vec_capacity block.new }
+    ensures room { piece_limit ≤ vec_capacity piece.new }
 {
     let mut stream = stream;
     loop {
-        block.clear();
-        let Ok(more) = stream.put_next(block) else {
+        piece.clear();
+        let Ok(more) = stream.put_next(piece) else {
             unreachable!()
         };
         if !more {
             return Ok(());
         }
-        write_all(out, block)?;
+        write_all(out, piece)?;
     }
 }
 
-/// Writes the full stream of a plan. It takes no memory.
+/// Writes the full stream of a plan, and takes no memory. `piece` is room for a piece of the stream.
 fn write_full<O: Sink>(
     part: &Part,
     plan: &Plan,
-    block: &mut Vec<u8>,
+    piece: &mut Vec<u8>,
     out: &mut O,
 ) -> Result<(), Failed>
     requires width { plan.now.width ≡ frame_words part.now }
     requires addresses { AreAddressed part.now plan.now.rows }
-    requires room { piece_limit ≤ vec_capacity block.old }
+    requires room { piece_limit ≤ vec_capacity piece.old }
     ensures whole { OnOk result (PutsAll (O.state out.old) (full_stream part.now plan.now) (O.state out.new)) }
     ensures prefix { PutsSome (O.state out.old) (full_stream part.now plan.now) (O.state out.new) }
     ensures failed { OnErr result (SinkFails (O.state out.old) (O.state out.new)) }
-    ensures room { piece_limit ≤ vec_capacity block.new }
+    ensures room { piece_limit ≤ vec_capacity piece.new }
 {
     let Ok(stream) = FullStream::new(part, plan) else {
         unreachable!()
     };
-    write_pieces(stream, block, out)
+    write_stream(stream, piece, out)
 }
 
 impl Ready for FullText {
@@ -110,6 +111,6 @@ impl Ready for FullText {
     }
 
     fn write<O: Sink>(&mut self, out: &mut O) -> Result<(), Failed> {
-        write_full(&self.part, &self.plan, &mut self.block, out)
+        write_full(&self.part, &self.plan, &mut self.piece, out)
     }
 }

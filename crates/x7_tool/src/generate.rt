@@ -124,15 +124,15 @@ fn memory_sum(part: &Part, memory: &Memory) -> u32
 struct Played {
     /// The player whose device took the stream.
     player: Player,
-    /// The bytes of the stream.
+    /// How many bytes the stream has.
     size: u64,
 }
 
-/// Plays a stream piece by piece, and answers how many bytes it has. `block` is room for a piece.
+/// Plays a stream piece by piece, and answers how many bytes it has. `piece` is room for a piece.
 fn play_all(
     stream: FullStream<'_>,
     player: &mut Player,
-    block: &mut Vec<u8>,
+    piece: &mut Vec<u8>,
 ) -> Result<u64, NoMemory>
     requires given { HasGiven stream [] }
     requires played { HasPlayed stream.part [] player.old }
@@ -144,17 +144,17 @@ fn play_all(
 {
     let mut stream = stream;
     let mut size = 0;
-    block.clear();
-    while stream.put_next(block)? {
-        player.play(block)?;
-        size += block.len() as u64;
-        block.clear();
+    piece.clear();
+    while stream.put_next(piece)? {
+        player.play(piece)?;
+        size += piece.len() as u64;
+        piece.clear();
     }
     Ok(size)
 }
 
-/// A new device of the part that took the full stream of a plan at its addresses. No
-/// more than a piece of the stream is held.
+/// A new device of the part that took the full stream of a plan at its addresses. No more than a piece of the stream is
+/// held.
 fn play_full(alloc: Global, part: &Part, plan: &Plan) -> Result<Played, NoMemory>
     requires width { plan.now.width ≡ frame_words part.now }
     requires addresses { AreAddressed part.now plan.now.rows }
@@ -168,17 +168,17 @@ fn play_full(alloc: Global, part: &Part, plan: &Plan) -> Result<Played, NoMemory
         unreachable!()
     };
     let mut player = Player::new(alloc, part)?;
-    let mut block = Vec::new(alloc);
-    let size = play_all(stream, &mut player, &mut block)?;
+    let mut piece = Vec::new(alloc);
+    let size = play_all(stream, &mut player, &mut piece)?;
     Ok(Played { player, size })
 }
 
 /// What a summary says of a stream that was played.
 #[derive(Clone, Copy)]
 struct Summary {
-    /// The planned frames.
+    /// How many frames are planned.
     planned: u64,
-    /// The bytes of the stream.
+    /// How many bytes the stream has.
     size: u64,
     /// The phase of startup after the stream.
     phase: u8,
@@ -247,9 +247,9 @@ fn summarized(
     Ok(text)
 }
 
-/// The summary of the full stream of a seed's plan, played on a new device (this project's choice):
-/// `gen NAME SEED`; `planned N`, the planned frames; `stream N`, its bytes; `phase P`; `sum W`, the
-/// sum of all words of the memory modulo 2^32.
+/// The summary of the full stream of a seed's plan, played on a new device (this project's choice): `gen NAME SEED`;
+/// `planned N`, the count of planned frames; `stream N`, how many bytes the stream has; `phase P`, the phase of startup
+/// after it; `sum W`, the sum of all words of the memory modulo 2^32, in eight hexadecimal digits.
 pub fn gen_text(alloc: Global, part: &Part, seed: u32) -> Result<Vec<u8>, NoMemory>
     ensures text { IfOk result (λ text. text.items ≡ gen_text part.now seed) }
     ensures planned { IfOk result (λ text. text.items ≡ planned_summary part.now seed) }

@@ -68,7 +68,7 @@ fn image_by_bytes<'w>(
     requires update { streams.now.update.start ≤ length streams.now.update.bytes.items }
     ensures ok { IfOk result (λ text. image_by name.now 1 (streams_of streams.now) ≡ Ok (bytes_answer text)) }
     ensures err { IfErr result (λ r. (event_of r ≡ no_memory) ⊎ (image_by name.now 1 (streams_of streams.now) ≡ Err (event_of r))) }
-    ensures about { IfErr result (λ r. IsAbout name.now (event_of r)) }
+    ensures named { IfErr result (λ r. IsAbout name.now (event_of r)) }
 {
     let golden = &streams.golden.bytes[streams.golden.start..];
     let update = &streams.update.bytes[streams.update.start..];
@@ -90,7 +90,7 @@ fn image_by_part<'w>(
     requires update { streams.now.update.start ≤ length streams.now.update.bytes.items }
     ensures ok { IfOk result (λ text. image_by name.now part.now.start_unit (streams_of streams.now) ≡ Ok (bytes_answer text)) }
     ensures err { IfErr result (λ r. (event_of r ≡ no_memory) ⊎ (image_by name.now part.now.start_unit (streams_of streams.now) ≡ Err (event_of r))) }
-    ensures about { IfErr result (λ r. IsAbout name.now (event_of r)) }
+    ensures named { IfErr result (λ r. IsAbout name.now (event_of r)) }
 {
     let golden = &streams.golden.bytes[streams.golden.start..];
     let update = &streams.update.bytes[streams.update.start..];

@@ -104,7 +104,7 @@ fn partial_text<'w>(
     ensures ok { IfOk result (λ end. (text : List ℕ) → IsPlanOf part.now text (Ok plan.now) → PlannedPartial frames.now (Ok (record { part = part.now; text = text })) (Ok (bytes_answer end))) }
     ensures err { IfErr result (λ r. (event_of r ≡ no_memory)
         ⊎ ((text : List ℕ) → IsPlanOf part.now text (Ok plan.now) → PlannedPartial frames.now (Ok (record { part = part.now; text = text })) (Err (event_of r)))) }
-    ensures about { IfErr result (λ r. IsAbout frames.now (event_of r)) }
+    ensures named { IfErr result (λ r. IsAbout frames.now (event_of r)) }
 {
     match partial(alloc, part, plan) {
         Ok(text) => Ok(text),
@@ -136,7 +136,7 @@ fn readback_text<'w>(
 ) -> Result<Vec<u8>, Refusal<'w>>
     ensures ok { IfOk result (λ text. PlannedRead name.now far n (Ok part.now) (Ok (bytes_answer text))) }
     ensures err { IfErr result (λ r. (event_of r ≡ no_memory) ⊎ PlannedRead name.now far n (Ok part.now) (Err (event_of r))) }
-    ensures about { IfErr result (λ r. IsAbout name.now (event_of r)) }
+    ensures named { IfErr result (λ r. IsAbout name.now (event_of r)) }
 {
     match readback(alloc, part, far, n) {
         Ok(text) => Ok(text),

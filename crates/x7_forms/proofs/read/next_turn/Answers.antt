@@ -9,7 +9,7 @@ returns-in_err-count-clause-err g c = rw (handed_on c.from_residual.result c.in_
     (let most = c.asked_count-most in
     let failed = c.in_err-count.ensures.failed in
     let size = length-take-le most.result c.args.buffer.now (omega (arith, most.ensures.within)) in
-    inl (failed.0, record { risen = failed.1.risen; selected = failed.1.selected; given = omega (arith, failed.1.given, size, most.ensures.over) }))
+    inl (failed.0, record { risen = failed.1.risen; selected = failed.1.selected; given = omega (arith, failed.1.given, size, most.ensures.within_left) }))
 
 pub returns-in_err-count-clause-fails_early : goal.returns-in_err-count-clause-fails_early
 returns-in_err-count-clause-fails_early g c = rw (handed_on c.from_residual.result c.in_err-count.field-0.0 c.from_residual.ensures)
@@ -18,21 +18,21 @@ returns-in_err-count-clause-fails_early g c = rw (handed_on c.from_residual.resu
 pub returns-in_err-count-clause-gives_few : goal.returns-in_err-count-clause-gives_few
 returns-in_err-count-clause-gives_few g c =
     let size = length-take-le c.asked_count-most.result c.args.buffer.now (omega (arith, c.asked_count-most.ensures.within)) in
-    record { asked = c.fill.ensures.asked; selects = c.fill.ensures.selects; ends = c.fill.ensures.end_once; given = omega (arith, c.fill.ensures.given, size, c.asked_count-most.ensures.over) }
+    record { asked = c.fill.ensures.asked; selects = c.fill.ensures.selects; ends = c.fill.ensures.end_once; given = omega (arith, c.fill.ensures.gives_a_turn, size, c.asked_count-most.ensures.within_left) }
 
 pub returns-in_err-count-clause-gives_a_turn : goal.returns-in_err-count-clause-gives_a_turn
 returns-in_err-count-clause-gives_a_turn g c =
-    omega (arith, c.fill.ensures.given, length-take-le c.asked_count-most.result c.args.buffer.now (omega (arith, c.asked_count-most.ensures.within)), c.asked_count-most.ensures.within)
+    omega (arith, c.fill.ensures.gives_a_turn, length-take-le c.asked_count-most.result c.args.buffer.now (omega (arith, c.asked_count-most.ensures.within)), c.asked_count-most.ensures.within)
 
 pub returns-then-count-left-clause-gives_few : goal.returns-then-count-left-clause-gives_few
 returns-then-count-left-clause-gives_few g c =
     let size = length-take-le c.asked_count-most.result c.args.buffer.now (omega (arith, c.asked_count-most.ensures.within)) in
-    record { asked = c.fill.ensures.asked; selects = c.fill.ensures.selects; ends = c.fill.ensures.end_once; given = omega (arith, c.fill.ensures.given, size, c.asked_count-most.ensures.over) }
+    record { asked = c.fill.ensures.asked; selects = c.fill.ensures.selects; ends = c.fill.ensures.end_once; given = omega (arith, c.fill.ensures.gives_a_turn, size, c.asked_count-most.ensures.within_left) }
 
 pub returns-clause-gives_few : goal.returns-clause-gives_few
 returns-clause-gives_few g c =
     let size = length-take-le c.asked_count-most.result c.args.buffer.now (omega (arith, c.asked_count-most.ensures.within)) in
-    record { asked = c.fill.ensures.asked; selects = c.fill.ensures.selects; ends = c.fill.ensures.end_once; given = omega (arith, c.fill.ensures.given, size, c.asked_count-most.ensures.over) }
+    record { asked = c.fill.ensures.asked; selects = c.fill.ensures.selects; ends = c.fill.ensures.end_once; given = omega (arith, c.fill.ensures.gives_a_turn, size, c.asked_count-most.ensures.within_left) }
 
 pub returns-clause-ok : goal.returns-clause-ok
 returns-clause-ok g c =
@@ -44,4 +44,4 @@ returns-then-count-left-clause-err g c =
     let count = c.in_ok-count.count in
     let size = length-take-le c.asked_count-most.result c.args.buffer.now (omega (arith, c.asked_count-most.ensures.within)) in
     let taken = length-take-le count c.fill.new.buffer (omega (arith, c.in_ok-count.ensures.within, c.fill.ensures.length)) in
-    inr (refl, (take count c.fill.new.buffer, (c.in_ok-count.ensures.ok.taken, omega (arith, taken, size, c.in_ok-count.ensures.within, c.asked_count-most.ensures.over, c.if-count-left.true))))
+    inr (refl, (take count c.fill.new.buffer, (c.in_ok-count.ensures.ok.taken, omega (arith, taken, size, c.in_ok-count.ensures.within, c.asked_count-most.ensures.within_left, c.if-count-left.true))))

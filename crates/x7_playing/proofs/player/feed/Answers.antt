@@ -66,7 +66,7 @@ feeds-smaller c =
     let answer = c.in-ReadFull.ensures.answer m.0 on_the_bench false s.taken s.stands in
     let full : length c.feed-fed.new.read.words ≡ reads_room = full_words c.feed-fed.new.read most answer.2 in
     let size : length c.gather.new.reads.items ≡ length c.feeds.reads.items + length c.feed-fed.new.read.words =
-    ap length (c.gather.ensures.words c.if-gather.false ∙ ap (λ r. r ++ c.feed-fed.new.read.words) c.reserve.ensures.items) ∙ length-append c.feeds.reads.items c.feed-fed.new.read.words in
+    ap length (c.gather.ensures.appends c.if-gather.false ∙ ap (λ r. r ++ c.feed-fed.new.read.words) c.reserve.ensures.items) ∙ length-append c.feeds.reads.items c.feed-fed.new.read.words in
     omega (arith, full, size, c.feeds.reads.ok.0, c.gather.new.reads.ok.0, c.gather.ensures.within c.if-gather.false)
 
 pub feeds-preserved : goal.feeds-preserved
@@ -92,7 +92,7 @@ feeds-preserved c =
           let stands = rw (take_rest piece at) at (c.in-ReadFull.ensures.stands part on_the_bench false s.taken s.stands) in
           let answer = rw (take_rest piece at) at (c.in-ReadFull.ensures.answer part on_the_bench false s.taken s.stands) in
           let words = words_are c.feeds.buffer c.feed-fed.new.read reads.0 reads.1 v.buffer in
-          let now = c.gather.ensures.words c.if-gather.false ∙ ap (λ r. r ++ c.feed-fed.new.read.words) c.reserve.ensures.items ∙ ap (λ x. c.feeds.reads.items ++ x) words in
+          let now = c.gather.ensures.appends c.if-gather.false ∙ ap (λ r. r ++ c.feed-fed.new.read.words) c.reserve.ensures.items ∙ ap (λ x. c.feeds.reads.items ++ x) words in
           turn_full part bytes piece at count c.feeds.device c.feed-fed.new.self c.feeds.reads.items c.gather.new.reads.items reads.0 fits s stands answer.0 reads.2 now (omega (arith, few, c.gather.new.reads.ok.0));
     }
 
@@ -110,7 +110,7 @@ returns-in_default-fed-clause-ok c = λ part bytes h.
     let most = most_is c.feeds.buffer c.feed-fed.new.read reads.0 reads.1 v.buffer in
     let fits : AreBytes piece = all_from_places (λ b. b < 256) piece (λ k l. omega (arith, c.type_inv.piece k)) in
     let few = c.gather.ensures.within c.if-gather.false in
-    let now = c.gather.ensures.words c.if-gather.false ∙ ap (λ r. r ++ c.feed-fed.new.read.words) c.reserve.ensures.items ∙ ap (λ x. c.feeds.reads.items ++ x) words in
+    let now = c.gather.ensures.appends c.if-gather.false ∙ ap (λ r. r ++ c.feed-fed.new.read.words) c.reserve.ensures.items ∙ ap (λ x. c.feeds.reads.items ++ x) words in
     let end = turn_end part bytes piece at c.feeds.device c.feed-fed.new.self c.feed-fed.new.read c.feeds.reads.items c.gather.new.reads.items reads.0 c.feed-fed.result fits s (is_end c.feed-fed.result c.in_default-fed.not-ReadFull) (λ i. (stopped i).2) stands answer reads.2 now
     (omega (arith, few, c.gather.new.reads.ok.0)) in
     (end.0, end.1, emptied_again c.feed-fed.new.read c.gather.new.buffer (c.gather.ensures.cleared c.if-gather.false) most)

@@ -11,10 +11,10 @@ pub returns-clause-whole : goal.returns-clause-whole
 returns-clause-whole g c =
     let s = g.O.Sink in
     let e : full_stream c.in-Ok.stream.part c.in-Ok.stream.plan ≡ full_stream c.args.part.now c.args.plan.now = ap (λ p. full_stream p c.in-Ok.stream.plan) c.in-Ok.ensures.part ∙ ap (full_stream c.args.part.now) c.in-Ok.ensures.plan in
-    subst (λ (x : List ℕ). OnOk c.write_pieces.result (PutsAll (s.state c.args.out.now) x (s.state c.write_pieces.new.out))) e c.write_pieces.ensures.whole
+    subst (λ (x : List ℕ). OnOk c.write_stream.result (PutsAll (s.state c.args.out.now) x (s.state c.write_stream.new.out))) e c.write_stream.ensures.whole
 
 pub returns-clause-prefix : goal.returns-clause-prefix
 returns-clause-prefix g c =
     let s = g.O.Sink in
     let e : full_stream c.in-Ok.stream.part c.in-Ok.stream.plan ≡ full_stream c.args.part.now c.args.plan.now = ap (λ p. full_stream p c.in-Ok.stream.plan) c.in-Ok.ensures.part ∙ ap (full_stream c.args.part.now) c.in-Ok.ensures.plan in
-    subst (λ (x : List ℕ). PutsSome (s.state c.args.out.now) x (s.state c.write_pieces.new.out)) e c.write_pieces.ensures.prefix
+    subst (λ (x : List ℕ). PutsSome (s.state c.args.out.now) x (s.state c.write_stream.new.out)) e c.write_stream.ensures.prefix

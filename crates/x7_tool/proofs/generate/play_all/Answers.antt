@@ -13,8 +13,8 @@ play-requires c =
     let v = c.loop-player.invariant in
     let s = c.args.stream in
     let new : List ℕ = c.put_next.new.out.items in
-    let m : AppendsNext c.put_next.new.self v.known c.loop-player.block.items new = c.in_ok-put_next.ensures.more v.known v.stands c.if-branch.true in
-    let fits : length v.known + length new ≤ 2 ^ 27 = piece_fits s.part s.plan c.loop-player.stream c.put_next.new.self c.loop-player.player c.loop-player.size c.loop-player.block.items new v m
+    let m : AppendsNext c.put_next.new.self v.known c.loop-player.piece.items new = c.in_ok-put_next.ensures.more v.known v.stands c.if-branch.true in
+    let fits : length v.known + length new ≤ 2 ^ 27 = piece_fits s.part s.plan c.loop-player.stream c.put_next.new.self c.loop-player.player c.loop-player.size c.loop-player.piece.items new v m
     c.requires.part c.requires.plan c.requires.width c.in_ok-put_next.ensures.part c.in_ok-put_next.ensures.plan in
     (s.part, (v.known, (v.played, omega (arith, fits, ap length c.deref.ensures.value))))
 
@@ -23,8 +23,8 @@ overflow_add-size c =
     let v = c.loop-player.invariant in
     let s = c.args.stream in
     let new : List ℕ = c.put_next.new.out.items in
-    let m : AppendsNext c.put_next.new.self v.known c.loop-player.block.items new = c.in_ok-put_next.ensures.more v.known v.stands c.if-branch.true in
-    let fits : length v.known + length new ≤ 2 ^ 27 = piece_fits s.part s.plan c.loop-player.stream c.put_next.new.self c.loop-player.player c.loop-player.size c.loop-player.block.items new v m
+    let m : AppendsNext c.put_next.new.self v.known c.loop-player.piece.items new = c.in_ok-put_next.ensures.more v.known v.stands c.if-branch.true in
+    let fits : length v.known + length new ≤ 2 ^ 27 = piece_fits s.part s.plan c.loop-player.stream c.put_next.new.self c.loop-player.player c.loop-player.size c.loop-player.piece.items new v m
     c.requires.part c.requires.plan c.requires.width c.in_ok-put_next.ensures.part c.in_ok-put_next.ensures.plan in
     omega (arith, fits, v.counted, c.len.ensures, c.put_next.new.out.ok.0)
 
@@ -33,8 +33,8 @@ loop-player-preserved c =
     let v = c.loop-player.invariant in
     let s = c.args.stream in
     let new : List ℕ = c.put_next.new.out.items in
-    let m : AppendsNext c.put_next.new.self v.known c.loop-player.block.items new = c.in_ok-put_next.ensures.more v.known v.stands c.if-branch.true in
-    along s.part s.plan c.loop-player.stream c.put_next.new.self c.loop-player.player c.loop-player.size c.loop-player.block.items new v m
+    let m : AppendsNext c.put_next.new.self v.known c.loop-player.piece.items new = c.in_ok-put_next.ensures.more v.known v.stands c.if-branch.true in
+    along s.part s.plan c.loop-player.stream c.put_next.new.self c.loop-player.player c.loop-player.size c.loop-player.piece.items new v m
     c.play.new.self (c.loop-player.size + c.len.result) c.deref.result.now c.clear-in-loop-player.new.self.items c.in_ok-put_next.ensures.part c.in_ok-put_next.ensures.plan c.deref.ensures.value c.in_ok-play.ensures.ok
     (omega (arith, c.len.ensures, c.put_next.new.out.ok.0)) c.clear-in-loop-player.ensures.items
 

@@ -48,7 +48,7 @@ returns g c =
           (answers_end ImageStreams Answer (golden ∷ update ∷ []) mid new (λ t. image_streams t golden update) (image_by update known.start_unit) streams (seen bytes_answer made) (streams_steady golden update) c.in_ok-streams.ensures.caused
           (image_due update known.start_unit streams made c.image_by_part.ensures.ok c.image_by_part.ensures.err));
       stops = result_stops bytes_answer (ImagingFor part golden update) old new made (err_weaker made
-          (λ r a. third_stops (ImagingFor part golden update) (limited part_limit part) (limited stream_limit golden) (limited stream_limit update) [] old new (event_of r) refl c.in_ok-streams.ensures.stands asks a) c.image_by_part.ensures.about);
+          (λ r a. third_stops (ImagingFor part golden update) (limited part_limit part) (limited stream_limit golden) (limited stream_limit update) [] old new (event_of r) refl c.in_ok-streams.ensures.stands asks a) c.image_by_part.ensures.named);
       asks = asks;
       stays = stays_on _ _ _ c.read_part.ensures.inputs c.read_streams.ensures.inputs;
     }

@@ -35,7 +35,7 @@ returns g c =
     let made = c.readback_text.result in
     record {
       caused = answers_by PartData Answer (name ∷ []) old new (λ t. part_known t name) part (PlannedRead name c.args.far c.args.n) (seen bytes_answer made) c.in_ok-part.ensures.caused (read_due name part c.args.far c.args.n made c.readback_text.ensures.ok c.readback_text.ensures.err);
-      stops = result_stops bytes_answer (PlanningRead name c.args.far c.args.n) old new made (err_weaker made (λ r a. first_stops (PlanningRead name c.args.far c.args.n) (limited part_limit name) [] old new (event_of r) refl c.read_part.ensures.stands c.read_part.ensures.asks a) c.readback_text.ensures.about);
+      stops = result_stops bytes_answer (PlanningRead name c.args.far c.args.n) old new made (err_weaker made (λ r a. first_stops (PlanningRead name c.args.far c.args.n) (limited part_limit name) [] old new (event_of r) refl c.read_part.ensures.stands c.read_part.ensures.asks a) c.readback_text.ensures.named);
       asks = c.read_part.ensures.asks;
       stays = c.read_part.ensures.inputs;
     }

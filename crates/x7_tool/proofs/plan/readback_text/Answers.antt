@@ -4,5 +4,5 @@ use Rattle.x7_forms.proofs.StandLemmas.{about_by}
 use Rattle.x7_tool.proofs.StopLemmas.{planner_about}
 use Rattle.x7_tool.proofs.plan.readback_text.Goals as goal
 
-pub returns-in-Err-clause-about : goal.returns-in-Err-clause-about
-returns-in-Err-clause-about c = about_by c.args.name.now (event_of c.planner_refusal.result) (planner_event c.args.name.now c.in-Err.fault) c.planner_refusal.ensures (planner_about c.args.name.now c.in-Err.fault)
+pub returns-in-Err-clause-named : goal.returns-in-Err-clause-named
+returns-in-Err-clause-named c = about_by c.args.name.now (event_of c.planner_refusal.result) (planner_event c.args.name.now c.in-Err.fault) c.planner_refusal.ensures (planner_about c.args.name.now c.in-Err.fault)

@@ -3,7 +3,7 @@ use Rattle.x7_words.specs.Sink.{PutsPrefix, appended}
 use Rattle.x7_words.proofs.SinkLemmas.{counts_at, counts_on}
 use Rattle.x7_planner.specs.FullStreamPieces.{AppendsNext}
 use Rattle.x7_tool.proofs.FullTextLemmas.{all_prefix, sent_all, sent_more, sent_none, sent_part}
-use Rattle.x7_tool.proofs.full_text.write_pieces.Goals as goal
+use Rattle.x7_tool.proofs.full_text.write_stream.Goals as goal
 
 pub loop-more-init : goal.loop-more-init
 loop-more-init g c =

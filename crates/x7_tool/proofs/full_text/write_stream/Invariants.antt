@@ -2,14 +2,14 @@ use Rattle.std.proofs.Common.{◌≤◌, vec_capacity}
 use Rattle.x7_words.specs.Sink.{SinkFaultsRise}
 use Rattle.x7_planner.specs.FullStreamPieces.{puts_left, piece_limit}
 use Rattle.x7_tool.proofs.FullTextLemmas.{Sent}
-use Rattle.x7_tool.proofs.full_text.write_pieces.Given as goal
+use Rattle.x7_tool.proofs.full_text.write_stream.Given as goal
 
 abbrev pub invariant-loop-more : goal.invariant-loop-more
 invariant-loop-more g l =
     let s = g.O.Sink in
     record {
       sent : Sent l.fn.stream.part l.fn.stream.plan l.stream (s.state l.fn.out).written (s.state l.out).written;
-      room : piece_limit ≤ vec_capacity l.block;
+      room : piece_limit ≤ vec_capacity l.piece;
       counts : SinkFaultsRise (s.state l.fn.out) (s.state l.out);
     }
 
