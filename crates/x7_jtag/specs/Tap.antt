@@ -63,7 +63,7 @@ CanBeGiven d count = d.taken + count ≤ 2 ^ 63
 abbrev pub CanBeOffered : DeviceState → Type 0
 CanBeOffered d = CanBeGiven d (most_bytes_held + 1)
 
--- this many bytes can be offered, one after another, beside those that the queue holds
+-- `count` bytes can be offered, one after another, beside those that the queue holds
 abbrev pub CanAllBeOffered : QueueState → DeviceState → ℕ → Type 0
 CanAllBeOffered k d count = CanBeGiven d (length k.held + count + (most_bytes_held + 1))
 

@@ -35,10 +35,10 @@ fn walk(tap: &mut Tap, device: &mut Device, path: &[bool])
     }
 }
 
-/// This many clocks of TMS 0 and TDI 0.
+/// Gives `count` clocks of TMS 0 and TDI 0.
 fn run(tap: &mut Tap, device: &mut Device, count: u32)
     requires { MayClock tap.old device.old count_limit }
-    ensures counted { count < count_limit }
+    ensures most { count < count_limit }
     ensures stands { MakesClocks tap.old device.old tap.new device.new (λ p. replicate count (clock_of false false)) }
 {
     for _ in 0..count {
@@ -148,7 +148,7 @@ fn shift_from(tap: &mut Tap, device: &mut Device, scan: &Scan<'_>, first: u32) -
     requires ready { MayClock tap.old device.old (count_limit - first) }
     requires within { first ≤ length scan.now.tdi }
     ensures stands { AfterClocks tap.old device.old (take first (shift_clocks scan.now.tdi)) (λ part cs. TapStandsFor part tap.new device.new (cs ++ shift_clocks scan.now.tdi)) }
-    ensures counted { length scan.now.tdi < count_limit }
+    ensures most { length scan.now.tdi < count_limit }
     ensures found { AfterClocks tap.old device.old (take first (shift_clocks scan.now.tdi)) (λ part cs. result ≡ difference_from part (port_after part cs) scan.now first) }
 {
     let tdi = &scan.tdi;
@@ -165,7 +165,7 @@ fn shift_from(tap: &mut Tap, device: &mut Device, scan: &Scan<'_>, first: u32) -
 fn shift(tap: &mut Tap, device: &mut Device, scan: &Scan<'_>) -> Option<u32>
     requires { MayClock tap.old device.old count_limit }
     ensures stands { MakesClocks tap.old device.old tap.new device.new (λ p. shift_clocks scan.now.tdi) }
-    ensures counted { length scan.now.tdi < count_limit }
+    ensures most { length scan.now.tdi < count_limit }
     ensures found { FindsBy tap.old device.old (λ part p. difference_from part p scan.now 0) result }
 {
     let first = shift_bytes(tap, device, scan);
@@ -176,7 +176,7 @@ fn shift(tap: &mut Tap, device: &mut Device, scan: &Scan<'_>) -> Option<u32>
 fn play_scan(tap: &mut Tap, device: &mut Device, scan: &Scan<'_>) -> Option<u32>
     requires { MayClock tap.old device.old statement_limit }
     ensures stands { MakesClocks tap.old device.old tap.new device.new (λ p. clocks_of p.state (StatementData.Scan scan.now)) }
-    ensures counted { length scan.now.tdi < count_limit }
+    ensures most { length scan.now.tdi < count_limit }
     ensures found { FindsBy tap.old device.old (λ part p. difference part p (StatementData.Scan scan.now)) result }
 {
     leave_reset(tap, device);
@@ -190,7 +190,7 @@ fn play_scan(tap: &mut Tap, device: &mut Device, scan: &Scan<'_>) -> Option<u32>
 fn play_statement(statement: &Statement<'_>, tap: &mut Tap, device: &mut Device) -> Option<u32>
     requires { MayClock tap.old device.old statement_limit }
     ensures stands { MakesClocks tap.old device.old tap.new device.new (λ p. clocks_of p.state statement.now) }
-    ensures within_limit { (s : StateData) → length (clocks_of s statement.now) ≤ statement_limit }
+    ensures most { (s : StateData) → length (clocks_of s statement.now) ≤ statement_limit }
     ensures found { FindsBy tap.old device.old (λ part p. difference part p statement.now) result }
 {
     match statement {
@@ -216,7 +216,7 @@ fn play_statement(statement: &Statement<'_>, tap: &mut Tap, device: &mut Device)
 fn play_at(svf: &Svf, i: usize, tap: &mut Tap, device: &mut Device) -> Option<u32>
     requires { MayClock tap.old device.old statement_limit }
     ensures stands { (x : StatementData) → slice_get svf.now i ≡ Some x → MakesClocks tap.old device.old tap.new device.new (λ p. clocks_of p.state x) }
-    ensures within_limit { (x : StatementData) → slice_get svf.now i ≡ Some x → (s : StateData) → length (clocks_of s x) ≤ statement_limit }
+    ensures most { (x : StatementData) → slice_get svf.now i ≡ Some x → (s : StateData) → length (clocks_of s x) ≤ statement_limit }
     ensures found { (x : StatementData) → slice_get svf.now i ≡ Some x → FindsBy tap.old device.old (λ part p. difference part p x) result }
 {
     match svf.statement(i) {

@@ -162,7 +162,7 @@ impl Queue {
     fn offer_some(&mut self, bytes: &[u8], device: &mut Device) -> usize
         requires some { 0 < length bytes.now }
         requires fits { CanAllBeOffered self.old device.old (length bytes.now) }
-        ensures some { 0 < result }
+        ensures at_least_one { 0 < result }
         ensures within { result ≤ length bytes.now }
         ensures at_most { AreGivenAtMost self.old device.old self.new device.new result }
         ensures stands { QueueBecomes self.old device.old self.new device.new (λ part q. fold (offered (words_read_out part)) q (take result bytes.now)) }

@@ -51,7 +51,7 @@ impl Model for Tap {
 /// A bit as a number.
 fn number_of_bit(bit: bool) -> u32
     ensures value { result ≡ number_of_bit bit }
-    ensures small { result ≤ 1 }
+    ensures most { result ≤ 1 }
 {
     if bit { 1 } else { 0 }
 }
@@ -80,10 +80,10 @@ fn with_bit(byte: u32, tdi: bool) -> u8
 }
 
 /// What Capture-IR loads for these values of DONE and STAT.
-fn ir_status_with(done: bool, stat: u32) -> u32
-    ensures { result ≡ ir_status_with done (stat / 2 ^ 12 % 2 == 1) }
+fn ir_status_with(is_done: bool, stat: u32) -> u32
+    ensures { result ≡ ir_status_with is_done (stat / 2 ^ 12 % 2 == 1) }
 {
-    32 * number_of_bit(done) + 16 * number_of_bit((stat >> 12) % 2 == 1) + 1
+    32 * number_of_bit(is_done) + 16 * number_of_bit((stat >> 12) % 2 == 1) + 1
 }
 
 /// What Capture-IR loads.

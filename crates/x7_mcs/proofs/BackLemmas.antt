@@ -72,7 +72,7 @@ pub record Ends (n base : ℕ) (xs : List DataRecord) (text all : List ℕ) : Ty
 
 pub ends_end : (n base : ℕ) (xs : List DataRecord) (done : List ℕ) → GiveJust xs done → Ends n base xs (codes ":00000001FF\n") done
 ends_end n base xs done f = record {
-  reading = record { base = base; ended = true; records = xs };
+  reading = record { base = base; has_ended = true; records = xs };
   is = refl;
   image = sym (fill_by_all (byte_at xs) done (extent xs) 255 (sym f.long) (λ p h. sym (f.at p)));
 }

@@ -13,20 +13,20 @@ use Rattle.x7_mcs.specs.declared.fault.McsFault.TheVariants as fault
 no_mark : (p : ℕ) → is_marked [] p ≡ false
 no_mark p = ap (λ (v : ℕ). v == 1) (bit_at-zero (p % 16))
 
-pub nothing_read : (b : McsLinesState) → b.base ≡ 0 → b.ended ≡ false → b.bytes ≡ [] → b.marks ≡ [] → HasReadRecords b []
-nothing_read b base ended e f = record { records = []; came = rw (base, ended) refl; holds = rw (e, f) (record { long = refl; at = λ p. refl; marked = λ p. no_mark p }) }
+pub nothing_read : (b : McsLinesState) → b.base ≡ 0 → b.has_ended ≡ false → b.bytes ≡ [] → b.marks ≡ [] → HasReadRecords b []
+nothing_read b base has_ended e f = record { records = []; came = rw (base, has_ended) refl; holds = rw (e, f) (record { long = refl; at = λ p. refl; marked = λ p. no_mark p }) }
 
 image_held : (xs : List DataRecord) (bytes marks : List ℕ) → HoldsRecords xs bytes marks → bytes ≡ records_image xs
 image_held xs bytes marks h = fill_by_all (byte_at xs) bytes (extent xs) 255 h.long (λ k l. h.at k)
 
 -- the lines of a text came to this
 module _ (lines : List (List ℕ)) where
-  pub gives_bytes : (s : McsLinesState) → TookRecords (after_lines 1 of_no_line (bare lines)) s → s.ended ≡ true → flash_of_lines lines ≡ Ok s.bytes
+  pub gives_bytes : (s : McsLinesState) → TookRecords (after_lines 1 of_no_line (bare lines)) s → s.has_ended ≡ true → flash_of_lines lines ≡ Ok s.bytes
   gives_bytes s t e =
-      ap (λ r. flash_in (with_end r)) t.came ∙ ap (λ (b : Bool). flash_in (if b then Ok (reading_of s.base s.ended t.records) else Err fault.NoEnd)) e ∙ ap Ok (sym (image_held t.records s.bytes s.marks t.holds))
+      ap (λ r. flash_in (with_end r)) t.came ∙ ap (λ (b : Bool). flash_in (if b then Ok (reading_of s.base s.has_ended t.records) else Err fault.NoEnd)) e ∙ ap Ok (sym (image_held t.records s.bytes s.marks t.holds))
 
-  pub gives_no_end : (s : McsLinesState) → TookRecords (after_lines 1 of_no_line (bare lines)) s → s.ended ≡ false → flash_of_lines lines ≡ Err fault.NoEnd
-  gives_no_end s t e = ap (λ r. flash_in (with_end r)) t.came ∙ ap (λ (b : Bool). flash_in (if b then Ok (reading_of s.base s.ended t.records) else Err fault.NoEnd)) e
+  pub gives_no_end : (s : McsLinesState) → TookRecords (after_lines 1 of_no_line (bare lines)) s → s.has_ended ≡ false → flash_of_lines lines ≡ Err fault.NoEnd
+  gives_no_end s t e = ap (λ r. flash_in (with_end r)) t.came ∙ ap (λ (b : Bool). flash_in (if b then Ok (reading_of s.base s.has_ended t.records) else Err fault.NoEnd)) e
 
   pub gives_fault : (f : McsFault) → FailsAsReading (after_lines 1 of_no_line (bare lines)) f → HasMcsFault f lines
   gives_fault f (inl h) = inl h.0

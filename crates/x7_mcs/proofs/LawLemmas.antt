@@ -84,7 +84,7 @@ apart_with false n xs ys x f a = apart_if (overlap xs x.place (length x.bytes)) 
 
 apart_records : (q : Result (List DataRecord) McsFault) (r s : FlashReading) → with_records r q ≡ Ok s → ((ys : List DataRecord) → q ≡ Ok ys → HaveNoOverlap ys) → HaveNoOverlap s.records
 apart_records (Err f) r s e h = absurd cc
-apart_records (Ok ys) r s e h = let same : record { base = r.base; ended = r.ended; records = ys } ≡ s = cc in ap_apart same (h ys refl)
+apart_records (Ok ys) r s e h = let same : record { base = r.base; has_ended = r.has_ended; records = ys } ≡ s = cc in ap_apart same (h ys refl)
   where
     ap_apart : {t u : FlashReading} → t ≡ u → HaveNoOverlap t.records → HaveNoOverlap u.records
     ap_apart p a = subst (λ (v : FlashReading). HaveNoOverlap v.records) p a
@@ -92,14 +92,14 @@ apart_records (Ok ys) r s e h = let same : record { base = r.base; ended = r.end
 apart_meaning : (m : Result Meaning McsFault) (n : ℕ) (r s : FlashReading) (bs : List ℕ) → after_meaning n r bs m ≡ Ok s → HaveNoOverlap r.records → HaveNoOverlap s.records
 apart_meaning (Err f) n r s bs e a = absurd cc
 apart_meaning (Ok Meaning.Start) n r s bs e a = let same : r ≡ s = cc in subst (λ (v : FlashReading). HaveNoOverlap v.records) same a
-apart_meaning (Ok Meaning.End) n r s bs e a = let same : record { base = r.base; ended = true; records = r.records } ≡ s = cc in subst (λ (v : FlashReading). HaveNoOverlap v.records) same a
-apart_meaning (Ok (Meaning.Base base)) n r s bs e a = let same : record { base = base; ended = r.ended; records = r.records } ≡ s = cc in subst (λ (v : FlashReading). HaveNoOverlap v.records) same a
+apart_meaning (Ok Meaning.End) n r s bs e a = let same : record { base = r.base; has_ended = true; records = r.records } ≡ s = cc in subst (λ (v : FlashReading). HaveNoOverlap v.records) same a
+apart_meaning (Ok (Meaning.Base base)) n r s bs e a = let same : record { base = base; has_ended = r.has_ended; records = r.records } ≡ s = cc in subst (λ (v : FlashReading). HaveNoOverlap v.records) same a
 apart_meaning (Ok (Meaning.Data address)) n r s bs e a = let x : DataRecord = record { place = r.base + address; bytes = record_data bs } in
     apart_records (with_record n r.records x) r s e (λ ys f. apart_with (nat_lt (2 ^ 27) (record_end x)) n r.records ys x f a)
 
 apart_bytes : (o : Option (List ℕ)) (n : ℕ) (r s : FlashReading) → after_bytes n r o ≡ Ok s → HaveNoOverlap r.records → HaveNoOverlap s.records
 apart_bytes None n r s e a = absurd cc
-apart_bytes (Some bs) n r s e a = apart_meaning (meaning_of n r.ended bs) n r s bs e a
+apart_bytes (Some bs) n r s e a = apart_meaning (meaning_of n r.has_ended bs) n r s bs e a
 
 apart_colon : (b : Bool) (o : Option (List ℕ)) (n : ℕ) (r s : FlashReading) → (if b then after_bytes n r o else Err (fault.Line n)) ≡ Ok s → HaveNoOverlap r.records → HaveNoOverlap s.records
 apart_colon true o n r s e a = apart_bytes o n r s e a
@@ -123,7 +123,7 @@ end_if false r s e = absurd cc
 
 apart_end : (q : Result FlashReading McsFault) (s : FlashReading) → with_end q ≡ Ok s → q ≡ Ok s
 apart_end (Err f) s e = absurd cc
-apart_end (Ok r) s e = ap Ok (end_if r.ended r s e)
+apart_end (Ok r) s e = ap Ok (end_if r.has_ended r s e)
 
 pub records_apart : (text : List ℕ) (r : FlashReading) → flash_reading text ≡ Ok r → HaveNoOverlap r.records
 records_apart text r e = apart_lines (lines_of text) 1 of_no_line r (apart_end (after_lines 1 of_no_line (lines_of text)) r e) tt
@@ -193,10 +193,10 @@ reported_type n bs =
     (reported_if_ok (record_type bs == 4 && record_count bs == 2) (Meaning.Base (65536 * base_value bs)) _
     (reported_if_ok ((record_type bs == 3 || record_type bs == 5) && record_count bs == 4) Meaning.Start (Err (fault.Line n)) (reported_line n)))))
 
-reported_meaning : (n : ℕ) (ended : Bool) (bs : List ℕ) → IsReported (meaning_of n ended bs)
-reported_meaning n ended bs =
+reported_meaning : (n : ℕ) (has_ended : Bool) (bs : List ℕ) → IsReported (meaning_of n has_ended bs)
+reported_meaning n has_ended bs =
     reported_if_err (not (record_count bs + 5 == length bs)) (fault.Line n) _ (λ e. absurd cc)
-    (reported_if_err (not (sum_wanted bs == sum_found bs)) (fault.Sum n (sum_wanted bs) (sum_found bs)) _ (λ e. absurd cc) (reported_if_err ended (fault.Line n) (meaning_by_type n bs) (λ e. absurd cc) (reported_type n bs)))
+    (reported_if_err (not (sum_wanted bs == sum_found bs)) (fault.Sum n (sum_wanted bs) (sum_found bs)) _ (λ e. absurd cc) (reported_if_err has_ended (fault.Line n) (meaning_by_type n bs) (λ e. absurd cc) (reported_type n bs)))
 
 reported_covered : (o : Option ℕ) (xs : List DataRecord) → IsReported (unless_covered o xs)
 reported_covered (Some q) xs e = absurd cc
@@ -221,7 +221,7 @@ reported_after (Ok (Meaning.Data address)) n r bs h e =
 
 reported_bytes : (o : Option (List ℕ)) (n : ℕ) (r : FlashReading) → IsReported (after_bytes n r o)
 reported_bytes None n r e = absurd cc
-reported_bytes (Some bs) n r e = reported_after (meaning_of n r.ended bs) n r bs (reported_meaning n r.ended bs) e
+reported_bytes (Some bs) n r e = reported_after (meaning_of n r.has_ended bs) n r bs (reported_meaning n r.has_ended bs) e
 
 reported_colon : (b : Bool) (o : Option (List ℕ)) (n : ℕ) (r : FlashReading) → IsReported (if b then after_bytes n r o else Err (fault.Line n))
 reported_colon true o n r e = reported_bytes o n r e
@@ -245,7 +245,7 @@ reported_flash false r e = absurd cc
 
 reported_end : (q : Result FlashReading McsFault) → IsReported q → IsReported (flash_in (with_end q))
 reported_end (Err f) h e = h (let s : Err f ≡ Err fault.NoMemory = cc in s)
-reported_end (Ok r) h e = reported_flash r.ended r e
+reported_end (Ok r) h e = reported_flash r.has_ended r e
 
 pub no_memory : (text : List ℕ) → mcs_of text ≡ Err fault.NoMemory → ⊥
 no_memory text = reported_end (after_lines 1 of_no_line (lines_of text)) (reported_lines (lines_of text) 1 of_no_line)

@@ -52,7 +52,7 @@ long_by None n r digits e h = refl
 long_by (Some bs) n r digits e h =
     let long : 2 * length bs ≡ length digits = pairs_long digits bs e in
     let small : record_count bs < 256 = count_small digits bs e in
-    ap (λ (b : Bool). after_meaning n r bs (if not b then Err (fault.Line n) else if not (sum_wanted bs == sum_found bs) then Err (fault.Sum n (sum_wanted bs) (sum_found bs)) else if r.ended then Err (fault.Line n) else meaning_by_type n bs))
+    ap (λ (b : Bool). after_meaning n r bs (if not b then Err (fault.Line n) else if not (sum_wanted bs == sum_found bs) then Err (fault.Sum n (sum_wanted bs) (sum_found bs)) else if r.has_ended then Err (fault.Line n) else meaning_by_type n bs))
     (differ (record_count bs + 5) (length bs) (omega (arith, long, small)))
 
 too_long : (n : ℕ) (r : FlashReading) (digits : List ℕ) → 520 < length digits → after_bytes n r (bytes_of_pairs digits) ≡ Err (fault.Line n)

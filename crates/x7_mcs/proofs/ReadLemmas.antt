@@ -14,7 +14,7 @@ use Rattle.x7_mcs.proofs.RoundLemmas.{pairs_back, record_first, meaning_written}
 
 -- a record's line is read
 pub read_record : (n : ℕ) (g : FlashReading) (bs rest : List ℕ) → AreBytes (bs ++ sum_byte bs ∷ [])
-    → after_lines n g (lines_of (record_line bs ++ rest)) ≡ and_then (after_meaning n g (bs ++ sum_byte bs ∷ []) (meaning_of n g.ended (bs ++ sum_byte bs ∷ []))) (λ h. after_lines (n + 1) h (lines_of rest))
+    → after_lines n g (lines_of (record_line bs ++ rest)) ≡ and_then (after_meaning n g (bs ++ sum_byte bs ∷ []) (meaning_of n g.has_ended (bs ++ sum_byte bs ∷ []))) (λ h. after_lines (n + 1) h (lines_of rest))
 read_record n g bs rest h =
     ap (after_lines n g) (record_first bs rest)
     ∙ ap (λ (o : Option (List ℕ)). and_then (after_bytes n g o) (λ k. after_lines (n + 1) k (lines_of rest))) (pairs_back (bs ++ sum_byte bs ∷ []) h)

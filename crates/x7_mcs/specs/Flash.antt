@@ -9,16 +9,16 @@ use Rattle.x7_mcs.specs.DataRecords.{DataRecord, records_image, with_record}
 -- what lines give: the base that stands, whether a record 01 stood, and the data records, the last first
 pub record FlashReading : Type 0 where
   pub base : ℕ
-  pub ended : Bool
+  pub has_ended : Bool
   pub records : List DataRecord
 
 -- what a text gives before its first line: base 0 and no record
 abbrev pub of_no_line : FlashReading
-of_no_line = record { base = 0; ended = false; records = [] }
+of_no_line = record { base = 0; has_ended = false; records = [] }
 
 -- a reading with other records, or the fault in their place
 abbrev pub with_records : FlashReading → Result (List DataRecord) McsFault → Result FlashReading McsFault
-with_records r (Ok xs) = Ok (record { base = r.base; ended = r.ended; records = xs })
+with_records r (Ok xs) = Ok (record { base = r.base; has_ended = r.has_ended; records = xs })
 with_records r (Err f) = Err f
 
 -- what lines give with the data of line n at an address
@@ -29,14 +29,14 @@ after_data n r address content = with_records r (with_record n r.records (record
 abbrev pub after_meaning : ℕ → FlashReading → List ℕ → Result Meaning McsFault → Result FlashReading McsFault
 after_meaning n r bs (Err f) = Err f
 after_meaning n r bs (Ok Meaning.Start) = Ok r
-after_meaning n r bs (Ok Meaning.End) = Ok (record { base = r.base; ended = true; records = r.records })
-after_meaning n r bs (Ok (Meaning.Base base)) = Ok (record { base = base; ended = r.ended; records = r.records })
+after_meaning n r bs (Ok Meaning.End) = Ok (record { base = r.base; has_ended = true; records = r.records })
+after_meaning n r bs (Ok (Meaning.Base base)) = Ok (record { base = base; has_ended = r.has_ended; records = r.records })
 after_meaning n r bs (Ok (Meaning.Data address)) = after_data n r address (record_data bs)
 
 -- what lines give with the record of line n, whose digits may be no pairs
 abbrev pub after_bytes : ℕ → FlashReading → Option (List ℕ) → Result FlashReading McsFault
 after_bytes n r None = Err (fault.Line n)
-after_bytes n r (Some bs) = after_meaning n r bs (meaning_of n r.ended bs)
+after_bytes n r (Some bs) = after_meaning n r bs (meaning_of n r.has_ended bs)
 
 -- what lines give with line n: an empty line means nothing, and any other is `:` and pairs of digits
 abbrev pub after_line : ℕ → FlashReading → List ℕ → Result FlashReading McsFault
@@ -56,7 +56,7 @@ after_lines n r (t ∷ ts) = and_then (after_line n r t) (λ s. after_lines (n +
 -- a text is to have a record 01
 abbrev pub with_end : Result FlashReading McsFault → Result FlashReading McsFault
 with_end (Err f) = Err f
-with_end (Ok r) = if r.ended then Ok r else Err fault.NoEnd
+with_end (Ok r) = if r.has_ended then Ok r else Err fault.NoEnd
 
 -- what a text gives, or its first bad line's fault
 abbrev pub flash_reading : List ℕ → Result FlashReading McsFault

@@ -10,25 +10,25 @@ use Rattle.x7_mcs.specs.declared.record.Meaning.{Meaning as Read}
 use Rattle.x7_mcs.specs.declared.record.Meaning.TheVariants as read
 use Rattle.x7_mcs.specs.Flash.{FlashReading}
 
--- a record's meaning as the code has it
-abbrev pub read_as : Read → Meaning
-read_as read.Start = Meaning.Start
-read_as (read.Data address) = Meaning.Data address
-read_as read.End = Meaning.End
-read_as (read.Base base) = Meaning.Base base
+-- the meaning that the code's value stands for
+abbrev pub meaning_of_read : Read → Meaning
+meaning_of_read read.Start = Meaning.Start
+meaning_of_read (read.Data address) = Meaning.Data address
+meaning_of_read read.End = Meaning.End
+meaning_of_read (read.Base base) = Meaning.Base base
 
 -- what a call returned is this meaning, or this fault
 abbrev pub SaysMeaning : Result Read McsFault → Result Meaning McsFault → Type 0
-SaysMeaning (Ok m) said = said ≡ Ok (read_as m)
+SaysMeaning (Ok m) said = said ≡ Ok (meaning_of_read m)
 SaysMeaning (Err f) said = said ≡ Err f
 
 -- how many places a mark is for
-abbrev pub places_a_mark : ℕ
-places_a_mark = 16
+abbrev pub places_per_mark : ℕ
+places_per_mark = 16
 
 -- whether a place is marked; a mark has its first place in bit 0
 abbrev pub is_marked : List ℕ → ℕ → Bool
-is_marked marks p = bit_at (get_or marks (p / places_a_mark) 0) (p % places_a_mark) == 1
+is_marked marks p = bit_at (get_or marks (p / places_per_mark) 0) (p % places_per_mark) == 1
 
 -- no place from one to before another is marked
 abbrev pub AreFree : List ℕ → ℕ → ℕ → Type 0
@@ -47,7 +47,7 @@ pub record IsFirstMarked (marks : List ℕ) (from to q : ℕ) : Type 0 where
 
 -- the new marks have one for each place before an end, and all the old ones
 abbrev pub HasMarksUpTo : ℕ → List ℕ → List ℕ → Type 0
-HasMarksUpTo end old new = (end ≤ places_a_mark * length new) × ((k : ℕ) → get_or new k 0 ≡ get_or old k 0)
+HasMarksUpTo end old new = (end ≤ places_per_mark * length new) × ((k : ℕ) → get_or new k 0 ≡ get_or old k 0)
 
 -- the new bytes are the old ones, and after them FF up to n bytes where these are fewer
 abbrev pub IsGrownTo : ℕ → List ℕ → List ℕ → Type 0
@@ -71,19 +71,19 @@ pub record HoldsRecords (records : List DataRecord) (bytes marks : List ℕ) : T
 -- what the lines so far gave: the base that stands, whether a record 01 stood, and the bytes and marks of the image
 pub record McsLinesState : Type 0 where
   pub base : ℕ
-  pub ended : Bool
+  pub has_ended : Bool
   pub bytes : List ℕ
   pub marks : List ℕ
+
+-- the reading of the lines so far, by its base, whether a record 01 stood, and its records
+abbrev pub reading_of : ℕ → Bool → List DataRecord → FlashReading
+reading_of base has_ended records = record { base = base; has_ended = has_ended; records = records }
 
 -- a reading came to this base, whether a record 01 stood, and records that these bytes and marks stand for
 pub record TookRecords (reading : Result FlashReading McsFault) (s : McsLinesState) : Type 0 where
   pub records : List DataRecord
-  pub came : reading ≡ Ok (record { base = s.base; ended = s.ended; records = records })
+  pub came : reading ≡ Ok (reading_of s.base s.has_ended records)
   pub holds : HoldsRecords records s.bytes s.marks
-
--- the reading of the lines so far, by its base, whether a record 01 stood, and its records
-abbrev pub reading_of : ℕ → Bool → List DataRecord → FlashReading
-reading_of base ended records = record { base = base; ended = ended; records = records }
 
 -- a reading has no fault
 abbrev pub HasNoFault : Result FlashReading McsFault → Type 0

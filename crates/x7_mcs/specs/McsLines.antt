@@ -11,7 +11,7 @@ use Rattle.x7_mcs.specs.declared.fault.McsFault.TheVariants as fault
 
 -- what lines that are taken one by one have given so far
 abbrev pub mcs_lines_state : McsLines → McsLinesState
-mcs_lines_state b = record { base = b.context.base; ended = b.context.ended; bytes = b.image.bytes.items; marks = b.image.marks.items }
+mcs_lines_state b = record { base = b.context.base; has_ended = b.context.has_ended; bytes = b.image.bytes.items; marks = b.image.marks.items }
 
 -- lines that have their end gave this base, whether a record 01 stood, and these bytes and marks
 abbrev pub HasReadRecords : McsLinesState → List (List ℕ) → Type 0
@@ -21,8 +21,8 @@ HasReadRecords s lines = TookRecords (after_lines 1 of_no_line (map without_retu
 abbrev pub flash_of_lines : List (List ℕ) → Result (List ℕ) McsFault
 flash_of_lines lines = flash_in (with_end (after_lines 1 of_no_line (bare lines)))
 
--- a line, with its end or as the last of a text, is read without a fault, as are
--- those before it: memory may be wanting at it
+-- a line, with its end or as the last of a text, is read without a fault, as are those before it: memory may be
+-- wanting at it
 abbrev pub AreGoodWith : List (List ℕ) → List ℕ → Type 0
 AreGoodWith lines line = HasNoFault (after_lines 1 of_no_line (map without_return (lines ++ line ∷ []))) ⊎ HasNoFault (after_lines 1 of_no_line (bare (lines ++ line ∷ [])))
 

@@ -31,15 +31,15 @@ IsRecordRefused n records r f = ((f ≡ fault.NoMemory) × (with_record n record
 
 -- what the lines so far gave: a context's base and end, and these records
 abbrev pub flash_reading_at : Context → List DataRecord → FlashReading
-flash_reading_at context records = reading_of context.base context.ended records
+flash_reading_at context records = reading_of context.base context.has_ended records
 
 -- what lines give with the record of line n, by its bytes, after this context and these records
 abbrev pub after_record : ℕ → Context → List DataRecord → List ℕ → Result FlashReading McsFault
-after_record n context records bytes = after_meaning n (flash_reading_at context records) bytes (meaning_of n context.ended bytes)
+after_record n context records bytes = after_meaning n (flash_reading_at context records) bytes (meaning_of n context.has_ended bytes)
 
 -- a reading came to this context, and the image has its records
 abbrev pub CameTo : Result FlashReading McsFault → Context → Image → Type 0
-CameTo reading context image = TookRecords reading (record { base = context.base; ended = context.ended; bytes = image.bytes.items; marks = image.marks.items })
+CameTo reading context image = TookRecords reading (record { base = context.base; has_ended = context.has_ended; bytes = image.bytes.items; marks = image.marks.items })
 
 -- a call came to what this reading comes to, and the image has its records; or it gave the reading's fault
 abbrev pub CallComesTo : Result Context McsFault → Result FlashReading McsFault → Image → Type 0

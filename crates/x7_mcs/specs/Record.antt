@@ -105,8 +105,8 @@ meaning_by_type n bs =
 
 -- what the bytes of line n say, where a record 01 stood before or not
 abbrev pub meaning_of : ℕ → Bool → List ℕ → Result Meaning McsFault
-meaning_of n ended bs =
+meaning_of n has_ended bs =
     if not (record_count bs + bytes_beside == length bs) then Err (fault.Line n)
     else if not (sum_wanted bs == sum_found bs) then Err (fault.Sum n (sum_wanted bs) (sum_found bs))
-    else if ended then Err (fault.Line n)
+    else if has_ended then Err (fault.Line n)
     else meaning_by_type n bs

@@ -17,8 +17,8 @@ base_line_size = 16
 abbrev pub row_line_size : ℕ
 row_line_size = 44
 
--- room for the lines of rows that have n bytes: four bytes of text for each, which is more than whole rows and the records
--- 04 of whole blocks take, and a record 04 and a row's line more, for the block and the row that are begun
+-- room for the lines of rows that have n bytes: four bytes of text for each, which is more than whole rows and the
+-- records 04 of whole blocks take, and a record 04 and a row's line more, for the block and the row that are begun
 abbrev pub rows_room : ℕ → ℕ
 rows_room n = 4 * n + (base_line_size + row_line_size)
 
@@ -26,9 +26,13 @@ rows_room n = 4 * n + (base_line_size + row_line_size)
 abbrev pub block_room : ℕ
 block_room = rows_room block_size
 
+-- the character that a record's line begins with
+abbrev pub colon : ℕ
+colon = 58
+
 -- the line of a record's bytes, with the byte that makes their sum 0
 abbrev pub record_line : List ℕ → List ℕ
-record_line bs = 58 ∷ (flat_map hex_byte (bs ++ sum_byte bs ∷ []) ++ 10 ∷ [])
+record_line bs = colon ∷ (flat_map hex_byte (bs ++ sum_byte bs ∷ []) ++ 10 ∷ [])
 
 -- the record 04 of a block of 65,536 bytes
 abbrev pub base_line : ℕ → List ℕ

@@ -5,17 +5,17 @@ ghost use Rattle.x7_words.specs.Flash.{erased_byte};
 ghost use Rattle.x7_mcs.specs.DataRecords.{DataRecord, overlap};
 ghost use Rattle.x7_mcs.specs.Readings.{ImageHolds, IsRecordTaken, IsRecordRefused, data_at};
 ghost use Rattle.x7_mcs.specs.Record.{byte_values};
-ghost use Rattle.x7_mcs.specs.Image.{AreFree, AreMarked, HasMarksUpTo, IsFirstMarked, IsGrownTo, IsWrittenFrom, places_a_mark, written_byte};
+ghost use Rattle.x7_mcs.specs.Image.{AreFree, AreMarked, HasMarksUpTo, IsFirstMarked, IsGrownTo, IsWrittenFrom, places_per_mark, written_byte};
 
 use crate::fault::McsFault;
 use std::alloc::{AllocError, Global};
 use x7_words::ERASED_BYTE;
 
-/// How many places a flash has at most.
-pub const FLASH_LIMIT: usize = x7_words::FLASH_LIMIT as usize;
+/// How many bytes a text gives at most, as a size in memory: those of the largest flash.
+pub const IMAGE_LIMIT: usize = x7_words::FLASH_LIMIT as usize;
 
 /// How many places a mark is for.
-const PLACES_A_MARK: usize = 16;
+const PLACES_PER_MARK: usize = 16;
 
 /// A mark with all its places.
 const FULL_MARK: u16 = 0xFFFF;
@@ -55,7 +55,7 @@ fn grow_bytes(bytes: &mut Vec<u8>, n: usize) -> Result<(), AllocError>
 /// Writes a content over the bytes from a place on, as many as it has.
 fn set_bytes(bytes: &mut Vec<u8>, place: usize, content: &[u8])
     requires { place + length content.now ≤ length bytes.old.items }
-    ensures long { length bytes.new.items ≡ length bytes.old.items }
+    ensures length { length bytes.new.items ≡ length bytes.old.items }
     ensures at { (p : ℕ) → get_or bytes.new.items p erased_byte ≡ written_byte place content.now bytes.old.items p }
 {
     bytes[place..place + content.len()].copy_from_slice(content);
@@ -90,7 +90,7 @@ fn grow_marks(marks: &mut Vec<u16>, end: usize) -> Result<(), AllocError>
     requires { end < 2 ^ 34 }
     ensures { MatchResult result (λ _. HasMarksUpTo end marks.old.items marks.new.items) (λ _. Unit {0}) }
 {
-    let n = end / PLACES_A_MARK + 1;
+    let n = end / PLACES_PER_MARK + 1;
     if n <= marks.len() {
         return Ok(());
     }
@@ -99,36 +99,36 @@ fn grow_marks(marks: &mut Vec<u16>, end: usize) -> Result<(), AllocError>
 
 /// Marks a place.
 fn mark_place(marks: &mut Vec<u16>, place: usize)
-    requires { place / places_a_mark < length marks.old.items }
-    ensures long { length marks.new.items ≡ length marks.old.items }
+    requires { place / places_per_mark < length marks.old.items }
+    ensures length { length marks.new.items ≡ length marks.old.items }
     ensures marked { AreMarked marks.old.items place (place + 1) marks.new.items }
 {
-    marks[place / PLACES_A_MARK] |= 1 << (place % PLACES_A_MARK);
+    marks[place / PLACES_PER_MARK] |= 1 << (place % PLACES_PER_MARK);
 }
 
 /// Marks the sixteen places of one mark.
 fn mark_sixteen(marks: &mut Vec<u16>, place: usize)
-    requires within { place / places_a_mark < length marks.old.items }
-    requires first { place % places_a_mark ≡ 0 }
-    ensures long { length marks.new.items ≡ length marks.old.items }
-    ensures marked { AreMarked marks.old.items place (place + places_a_mark) marks.new.items }
+    requires within { place / places_per_mark < length marks.old.items }
+    requires first { place % places_per_mark ≡ 0 }
+    ensures length { length marks.new.items ≡ length marks.old.items }
+    ensures marked { AreMarked marks.old.items place (place + places_per_mark) marks.new.items }
 {
-    marks[place / PLACES_A_MARK] = FULL_MARK;
+    marks[place / PLACES_PER_MARK] = FULL_MARK;
 }
 
 /// Marks `count` places from one on.
 #[inline(always)]
 fn mark_places(marks: &mut Vec<u16>, place: usize, count: usize)
-    requires within { place + count ≤ places_a_mark * length marks.old.items }
+    requires within { place + count ≤ places_per_mark * length marks.old.items }
     requires small { place + count < 2 ^ 34 }
     ensures { AreMarked marks.old.items place (place + count) marks.new.items }
 {
     let end = place + count;
     let mut at = place;
     while at < end {
-        if at % PLACES_A_MARK == 0 && end - at >= PLACES_A_MARK {
+        if at % PLACES_PER_MARK == 0 && end - at >= PLACES_PER_MARK {
             mark_sixteen(marks, at);
-            at += PLACES_A_MARK;
+            at += PLACES_PER_MARK;
         } else {
             mark_place(marks, at);
             at += 1;
@@ -138,10 +138,10 @@ fn mark_places(marks: &mut Vec<u16>, place: usize, count: usize)
 
 /// The mark that a place stands in; an empty one past the last.
 fn mark_of(marks: &[u16], place: usize) -> u16
-    ensures { result ≡ get_or marks.now (place / places_a_mark) 0 }
+    ensures { result ≡ get_or marks.now (place / places_per_mark) 0 }
 {
-    if place / PLACES_A_MARK < marks.len() {
-        marks[place / PLACES_A_MARK]
+    if place / PLACES_PER_MARK < marks.len() {
+        marks[place / PLACES_PER_MARK]
     } else {
         0
     }
@@ -149,7 +149,7 @@ fn mark_of(marks: &[u16], place: usize) -> u16
 
 /// Whether a mark has its place number `bit`.
 fn has_bit(mark: u16, bit: usize) -> bool
-    requires { bit < places_a_mark }
+    requires { bit < places_per_mark }
     ensures { result ≡ (bit_at mark bit == 1) }
 {
     mark >> bit & 1 == 1
@@ -164,9 +164,9 @@ fn first_marked(marks: &[u16], place: usize, count: usize) -> Option<usize>
     let mut at = place;
     while at < end {
         let mark = mark_of(marks, at);
-        if mark == 0 && at % PLACES_A_MARK == 0 && end - at >= PLACES_A_MARK {
-            at += PLACES_A_MARK;
-        } else if has_bit(mark, at % PLACES_A_MARK) {
+        if mark == 0 && at % PLACES_PER_MARK == 0 && end - at >= PLACES_PER_MARK {
+            at += PLACES_PER_MARK;
+        } else if has_bit(mark, at % PLACES_PER_MARK) {
             return Some(at);
         } else {
             at += 1;
@@ -205,7 +205,7 @@ pub(crate) fn put_content(
         return Ok(());
     }
     let end = place + content.len();
-    if end > FLASH_LIMIT {
+    if end > IMAGE_LIMIT {
         return Err(McsFault::TooLarge(n));
     }
     if let Some(covered) = overlap(image, place, content.len()) {

@@ -29,13 +29,14 @@ pub fn lines_in_turn()
         → after_lines n r (first ++ others) ≡ and_then (after_lines n r first) (λ s. after_lines (n + length first) s others) }
 {}
 
-/// The flash's bytes, place by place.
+/// A flash of records is as long as the furthest of them reaches. Each of its bytes is the one at its place: where no
+/// two records overlap that of the record which covers it, and FF where no record does.
 pub fn bytes_by_place()
-    ensures long { (records : List DataRecord) → length (records_image records) ≡ extent records }
-    ensures at { (records : List DataRecord) (p : ℕ) → p < extent records → get_or (records_image records) p erased_byte ≡ byte_at records p }
+    ensures length { (records : List DataRecord) → length (records_image records) ≡ extent records }
+    ensures each_byte { (records : List DataRecord) (p : ℕ) → p < extent records → get_or (records_image records) p erased_byte ≡ byte_at records p }
     ensures covered { (before after : List DataRecord) (x : DataRecord) (p : ℕ) → HaveNoOverlap (before ++ x ∷ after) → covers x p ≡ true
         → byte_at (before ++ x ∷ after) p ≡ get_or x.bytes (p - x.place) erased_byte }
-    ensures free { (records : List DataRecord) (p : ℕ) → covered records p ≡ false → byte_at records p ≡ erased_byte }
+    ensures uncovered { (records : List DataRecord) (p : ℕ) → covered records p ≡ false → byte_at records p ≡ erased_byte }
 {}
 
 /// No two records of a good text cover one place.
@@ -43,10 +44,11 @@ pub fn records_are_apart()
     ensures { (text : List ℕ) (r : FlashReading) → flash_reading text ≡ Ok r → HaveNoOverlap r.records }
 {}
 
-/// The place that an overlap names is the least of the record's that another covers.
+/// The place that an overlap names is the least of the given places that a record covers; where it names none, no
+/// record covers one of them.
 pub fn overlap_is_the_least()
-    ensures some { (xs : List DataRecord) (p n q : ℕ) → overlap xs p n ≡ Some q → (p ≤ q) × (q < p + n) × (covered xs q ≡ true) × ((k : ℕ) → p ≤ k → k < q → covered xs k ≡ false) }
-    ensures none { (xs : List DataRecord) (p n : ℕ) → overlap xs p n ≡ None → (k : ℕ) → p ≤ k → k < p + n → covered xs k ≡ false }
+    ensures found { (xs : List DataRecord) (p n q : ℕ) → overlap xs p n ≡ Some q → (p ≤ q) × (q < p + n) × (covered xs q ≡ true) × ((k : ℕ) → p ≤ k → k < q → covered xs k ≡ false) }
+    ensures none_covered { (xs : List DataRecord) (p n : ℕ) → overlap xs p n ≡ None → (k : ℕ) → p ≤ k → k < p + n → covered xs k ≡ false }
 {}
 
 /// The lines of bytes in two parts, the first of which ends where a row does.

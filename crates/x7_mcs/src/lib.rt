@@ -16,7 +16,7 @@ mod text;
 pub use blocks::McsText;
 pub use fault::McsFault;
 pub use flash::flash_of;
-pub use image::FLASH_LIMIT;
+pub use image::IMAGE_LIMIT;
 pub use laws::{
     bytes_by_place, lines_in_turn, overlap_is_the_least, records_are_apart, rows_in_parts,
     text_is_short, text_leads_back, want_of_memory_is_no_fault,

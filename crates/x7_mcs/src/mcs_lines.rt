@@ -38,7 +38,7 @@ impl McsLines {
             image: empty_image(alloc),
             context: Context {
                 base: 0,
-                ended: false,
+                has_ended: false,
             },
         }
     }
@@ -72,7 +72,7 @@ impl McsLines {
             → IfErr result (λ f. f ≡ McsFault.NoMemory → WantsAt AreGoodWith lines text.now) }
         ensures left { IfOk result (λ found. MatchOption found (split text.now ≡ text.now ∷ []) (λ rest. length rest.now < length text.now)) }
     {
-        if !self.context.ended
+        if !self.context.has_ended
             && let Some((row, rest)) = first_row(text)
             && row.address <= LAST_ROW_ADDRESS
         {
@@ -129,7 +129,7 @@ impl TakesLines for McsLines {
     fn put_last(self, n: u64, line: &[u8]) -> Result<Vec<u8>, McsFault> {
         let mut last = self;
         last.put_bare_line(n, line)?;
-        if !last.context.ended {
+        if !last.context.has_ended {
             return Err(McsFault::NoEnd);
         }
         Ok(last.image.bytes)

@@ -89,8 +89,8 @@ fn meaning_by_type(n: u64, bytes: &[u8]) -> Result<Meaning, McsFault>
 }
 
 /// What the bytes of line `n` say, where a record 01 stood before or not.
-pub(crate) fn meaning_of(n: u64, ended: bool, bytes: &[u8]) -> Result<Meaning, McsFault>
-    ensures meaning { SaysMeaning result (meaning_of n ended bytes.now) }
+pub(crate) fn meaning_of(n: u64, has_ended: bool, bytes: &[u8]) -> Result<Meaning, McsFault>
+    ensures meaning { SaysMeaning result (meaning_of n has_ended bytes.now) }
     ensures counted { MatchResult result (λ _. IsOfItsCount bytes.now) (λ _. Unit {0}) }
 {
     if bytes.len() == 0 || usize::from(bytes[0]) + BYTES_BESIDE != bytes.len() {
@@ -101,7 +101,7 @@ pub(crate) fn meaning_of(n: u64, ended: bool, bytes: &[u8]) -> Result<Meaning, M
     if want != got {
         return Err(McsFault::Sum { line: n, want, got });
     }
-    if ended {
+    if has_ended {
         return Err(McsFault::Line(n));
     }
     meaning_by_type(n, bytes)
@@ -111,7 +111,7 @@ pub(crate) fn meaning_of(n: u64, ended: bool, bytes: &[u8]) -> Result<Meaning, M
 pub(crate) fn record_data(bytes: &[u8]) -> &[u8]
     requires { IsOfItsCount bytes.now }
     ensures content { result.now ≡ record_data bytes.now }
-    ensures long { length result.now < byte_values }
+    ensures most { length result.now < byte_values }
 {
     let count = usize::from(bytes[0]);
     let (_, fields) = bytes.split_at(4);

@@ -17,7 +17,7 @@ const MOST_RECORD_BYTES: usize = 255 + BYTES_BESIDE;
 #[derive(Clone, Copy)]
 pub(crate) struct Context {
     pub(crate) base: u32,
-    pub(crate) ended: bool,
+    pub(crate) has_ended: bool,
 }
 
 /// Writes the data of line `n`'s record into the image, and gives the base and the end that stand after it.
@@ -46,15 +46,15 @@ fn put_record(
 ) -> Result<Context, McsFault>
     ensures { (xs : List DataRecord) → ImageHolds image.old xs → CallComesTo result (after_record n context xs bytes.now) image.new }
 {
-    match meaning_of(n, context.ended, bytes)? {
+    match meaning_of(n, context.has_ended, bytes)? {
         Meaning::Start => Ok(context),
         Meaning::End => Ok(Context {
             base: context.base,
-            ended: true,
+            has_ended: true,
         }),
         Meaning::Base(base) => Ok(Context {
             base,
-            ended: context.ended,
+            has_ended: context.has_ended,
         }),
         Meaning::Data(address) => put_data(image, n, context, address, record_data(bytes)),
     }

@@ -105,7 +105,7 @@ pub fn put_rows(text: &mut Vec<u8>, place: u32, bytes: &[u8])
     requires begins { place % row_size ≡ 0 }
     requires within { place + length bytes.now ≤ flash_limit }
     requires room { HasSpareRoom text.old (rows_room (length bytes.now)) }
-    ensures items { text.new.items ≡ text.old.items ++ row_lines place (rows row_size bytes.now) }
+    ensures appends { text.new.items ≡ text.old.items ++ row_lines place (rows row_size bytes.now) }
     ensures room { vec_capacity text.old ≤ vec_capacity text.new }
 {
     let mut at = place;

@@ -52,8 +52,8 @@ pub record AreStarts (rows grouped : List PlanRow) (starts : List ℕ) : Type 0 
   pub count : length starts ≡ length rows
   pub each : (i : ℕ) (d : PlanRow) → i < length rows → IsFirst grouped (slice_index_or rows i d).words (slice_index_or starts i 0)
 
--- a plan's frames by content: equal ones stand together, and it is known where the content of each frame, and of each row
--- of the plan, begins
+-- a plan's frames by content: equal ones stand together, and it is known where the content of each frame, and of each
+-- row of the plan, begins
 pub record AreByContent (rows : List PlanRow) (b : ByContent) : Type 0 where
   pub grouped : AreGrouped rows b.frames.now
   pub firsts : AreFirsts (planned_rows b.frames.now) b.firsts.now

@@ -73,7 +73,7 @@ pub record HasGiven (s : FullStreamState) (given : List ℕ) : Type 0 where
 abbrev pub most_frame_bytes : ℕ
 most_frame_bytes = 4 * most_frame_words
 
--- how many frames a piece has at most
+-- how many slots, pads too, a piece of the frame data has at most
 abbrev pub piece_slots : ℕ
 piece_slots = 160
 

@@ -35,7 +35,7 @@ with_content words (r ∷ rows) = if same_words r.words words then r ∷ with_co
 abbrev pub group_least : ℕ
 group_least = 3
 
--- these words are the content of `group_least` addresses or more
+-- words are the content of `group_least` addresses or more
 abbrev pub are_shared : List PlanRow → List ℕ → Bool
 are_shared all words = nat_le group_least (length (with_content words all))
 

@@ -9,7 +9,7 @@ use x7_part::Part;
 /// The first planned address that the part lacks.
 pub(crate) fn first_foreign(part: &Part, plan: &Plan) -> Option<u32>
     ensures found { IfSome result (IsFirstForeign part.now plan.now.rows) }
-    ensures none { IfNone result (AreAddressed part.now plan.now.rows) }
+    ensures addresses { IfNone result (AreAddressed part.now plan.now.rows) }
 {
     for i in 0..plan.len() {
         let Some((far, _)) = plan.row(i) else {

@@ -65,7 +65,7 @@ fn start_at(frames: &[PlannedFrame], start: usize, place: usize) -> usize
     requires start { IsStartBefore (planned_rows frames.now) start place }
     requires inside { place < length frames.now }
     ensures first { (d : PlanRow) → IsFirst (planned_rows frames.now) (slice_index_or (planned_rows frames.now) place d).words result }
-    ensures no_later { result ≤ place }
+    ensures within { result ≤ place }
 {
     if have_same_words(frames[place].words, frames[start].words) {
         return start;

@@ -55,18 +55,18 @@ fn first_address(part: &Part) -> u32
 /// How many slots the part has, those of pads among them.
 fn slot_count(part: &Part) -> u64
     ensures count { result ≡ length (slots_in part.now) }
-    ensures limit { result ≤ most_slots }
-    ensures words { frame_words part.now * result ≤ most_words }
+    ensures most { result ≤ most_slots }
+    ensures most_words { frame_words part.now * result ≤ most_words }
 {
     part.slots_from(first_address(part))
 }
 
 /// Writes the settings of startup, and where the frame data begins.
 fn put_settings(out: &mut Vec<u8>, part: &Part) -> Result<(), NoMemory>
-    ensures items { OnOk result (out.new.items ≡ out.old.items ++ bytes_of_words (full_settings part.now)) }
-    ensures appends { AppendsWithin out.old out.new result settings_size }
+    ensures appends { OnOk result (out.new.items ≡ out.old.items ++ bytes_of_words (full_settings part.now)) }
+    ensures within { AppendsWithin out.old out.new result settings_size }
 {
-    let words = part.words() * slot_count(part) as u32;
+    let word_count = part.words() * slot_count(part) as u32;
     put_packets(out, &[command(Command::Shutdown), command(Command::Rcrc)])?;
     put_words(out, &[NO_OP])?;
     put_packets(
@@ -78,15 +78,15 @@ fn put_settings(out: &mut Vec<u8>, part: &Part) -> Result<(), NoMemory>
             write_one(Reg::Ctl0, CONTROL),
             command(Command::Wcfg),
             write_one(Reg::Far, first_address(part)),
-            frame_data_headers(words),
+            frame_data_headers(word_count),
         ],
     )
 }
 
 /// Writes what stands before the frame data.
 fn put_opening(out: &mut Vec<u8>, part: &Part) -> Result<(), NoMemory>
-    ensures items { OnOk result (out.new.items ≡ out.old.items ++ bytes_of_words (full_opening part.now)) }
-    ensures appends { AppendsWithin out.old out.new result opening_size }
+    ensures appends { OnOk result (out.new.items ≡ out.old.items ++ bytes_of_words (full_opening part.now)) }
+    ensures within { AppendsWithin out.old out.new result opening_size }
 {
     put_words(out, &OPENING_WORDS)?;
     put_settings(out, part)?;
@@ -101,11 +101,11 @@ fn first_words(words: &[u32], count: u32) -> &[u32]
     &words[..count as usize]
 }
 
-/// This many words of zeros, those of a frame.
+/// `count` words of zeros, at most as many as a frame may have.
 pub(crate) fn zeros(count: u32) -> &'static [u32]
     requires { count ≤ most_frame_words }
     ensures words { result.now ≡ replicate count 0 }
-    ensures long { length result.now ≡ count }
+    ensures length { length result.now ≡ count }
 {
     first_words(&ZEROS, count)
 }
@@ -114,7 +114,7 @@ pub(crate) fn zeros(count: u32) -> &'static [u32]
 fn frame_at<'p>(part: &Part, plan: &'p Plan, slot: Slot) -> &'p [u32]
     requires { plan.now.width ≡ frame_words part.now }
     ensures words { result.now ≡ frame_at_slot part.now plan.now slot }
-    ensures limit { length result.now ≤ most_frame_words }
+    ensures most { length result.now ≤ most_frame_words }
 {
     let width = part.words();
     let Slot::Frame(far) = slot else {
@@ -137,8 +137,8 @@ fn put_slots(
     requires width { plan.now.width ≡ frame_words part.now }
     requires order { from ≤ to }
     requires within { to ≤ length (slots_in part.now) }
-    ensures items { OnOk result (out.new.items ≡ out.old.items ++ bytes_of_words (words_of_slots part.now plan.now (drop from (take to (slots_in part.now))))) }
-    ensures appends { AppendsWithin out.old out.new result (most_frame_bytes * (to - from)) }
+    ensures appends { OnOk result (out.new.items ≡ out.old.items ++ bytes_of_words (words_of_slots part.now plan.now (drop from (take to (slots_in part.now))))) }
+    ensures within { AppendsWithin out.old out.new result (most_frame_bytes * (to - from)) }
 {
     let first = first_address(part);
     for n in from..to {
@@ -213,13 +213,13 @@ impl<'p> FullStream<'p> {
         ensures more { (given : List ℕ) → HasGiven self.old given → IfOk result (λ more. more ≡ true → AppendsNext self.new given out.old.items out.new.items) }
         ensures fewer { IfOk result (λ more. more ≡ true → puts_left self.new < puts_left self.old) }
         ensures end { (given : List ℕ) → HasGiven self.old given → IfOk result (λ more. more ≡ false → given ≡ full_stream self.old.part self.old.plan) }
-        ensures nothing { IfOk result (λ more. more ≡ false → out.new.items ≡ out.old.items) }
-        ensures ended { IfOk result (λ more. more ≡ false → self.new ≡ self.old) }
-        ensures limit { length out.new.items ≤ length out.old.items + piece_limit }
+        ensures appends_nothing { IfOk result (λ more. more ≡ false → out.new.items ≡ out.old.items) }
+        ensures stays_ended { IfOk result (λ more. more ≡ false → self.new ≡ self.old) }
+        ensures most { length out.new.items ≤ length out.old.items + piece_limit }
         ensures part { self.new.part ≡ self.old.part }
         ensures plan { self.new.plan ≡ self.old.plan }
-        ensures failed { OnErr result (self.new ≡ self.old) }
-        ensures kept { OnErr result (out.new.items ≡ out.old.items) }
+        ensures same_piece_next { OnErr result (self.new ≡ self.old) }
+        ensures unchanged { OnErr result (out.new.items ≡ out.old.items) }
         ensures room { vec_capacity out.old ≤ vec_capacity out.new }
         ensures full { OnErr result (vec_capacity out.old < length out.old.items + piece_limit) }
     {
@@ -239,7 +239,7 @@ impl<'p> FullStream<'p> {
     /// Appends what is next, and answers what comes after it.
     fn put(&self, out: &mut Vec<u8>) -> Result<NextPiece, NoMemory>
         ensures writes { IfOk result (WritesPiece self.now out.old.items out.new.items) }
-        ensures appends { AppendsWithin out.old out.new result piece_limit }
+        ensures within { AppendsWithin out.old out.new result piece_limit }
     {
         match self.next {
             NextPiece::Opening => {
@@ -272,7 +272,7 @@ impl<'p> FullStream<'p> {
     fn put_frames(&self, out: &mut Vec<u8>, n: u64) -> Result<NextPiece, NoMemory>
         requires { self.now.next ≡ NextPiece.Slot n }
         ensures writes { IfOk result (WritesPiece self.now out.old.items out.new.items) }
-        ensures appends { AppendsWithin out.old out.new result piece_limit }
+        ensures within { AppendsWithin out.old out.new result piece_limit }
     {
         let count = slot_count(self.part);
         let end = count.min(n + PIECE_SLOTS);
@@ -295,8 +295,8 @@ pub fn full(alloc: Global, part: &Part, plan: &Plan) -> Result<Vec<u8>, PlanFaul
     ensures memory { IfErr result (λ fault. fault ≡ PlanFault.NoMemory → AreAddressed part.now plan.now.rows) }
 {
     let stream = FullStream::new(part, plan)?;
-    let words = part.words() as usize * slot_count(part) as usize;
-    let Ok(mut out) = Vec::with_capacity(alloc, 4 * (WORDS_BESIDE_FRAMES + words)) else {
+    let word_count = part.words() as usize * slot_count(part) as usize;
+    let Ok(mut out) = Vec::with_capacity(alloc, 4 * (WORDS_BESIDE_FRAMES + word_count)) else {
         return Err(PlanFault::NoMemory);
     };
     put_all(stream, &mut out)?;

@@ -113,7 +113,7 @@ fn partial_of(alloc: Global, part: &Part, plan: &Plan) -> Result<Vec<u8>, NoMemo
 pub fn partial(alloc: Global, part: &Part, plan: &Plan) -> Result<Vec<u8>, PlanFault>
     requires width { plan.now.width ≡ frame_words part.now }
     ensures stream { IfOk result (λ bytes. bytes.items ≡ partial_stream part.now plan.now.rows) }
-    ensures some { IfOk result (λ bytes. 0 < length plan.now.rows) }
+    ensures has_rows { IfOk result (λ bytes. 0 < length plan.now.rows) }
     ensures addresses { IfOk result (λ bytes. AreAddressed part.now plan.now.rows) }
     ensures fault { IfErr result (λ fault. (fault ≡ PlanFault.NoMemory) ⊎ IsPartialFault part.now plan.now fault) }
     ensures memory { IfErr result (λ fault. fault ≡ PlanFault.NoMemory → (0 < length plan.now.rows) × AreAddressed part.now plan.now.rows) }

@@ -15,10 +15,10 @@ use x7_words::NoMemory;
 /// How many words a read stream has.
 const READ_STREAM_WORDS: usize = 25;
 
-/// The stream that reads this many words from an address on.
-fn read_of(alloc: Global, far: u32, words: u32) -> Result<Vec<u8>, NoMemory>
-    requires { words < 2 ^ 27 }
-    ensures { IfOk result (λ bytes. bytes.items ≡ read_of_words far words) }
+/// The stream that reads `word_count` words from an address on.
+fn read_of(alloc: Global, far: u32, word_count: u32) -> Result<Vec<u8>, NoMemory>
+    requires { word_count < 2 ^ 27 }
+    ensures { IfOk result (λ bytes. bytes.items ≡ read_of_words far word_count) }
 {
     let mut writer = Writer::new(alloc, READ_STREAM_WORDS)?;
     writer.words(&OPENING_WORDS)?;
@@ -27,28 +27,28 @@ fn read_of(alloc: Global, far: u32, words: u32) -> Result<Vec<u8>, NoMemory>
     writer.packets(&[
         command(Command::Rcfg),
         write_one(Reg::Far, far),
-        frame_read_headers(words),
+        frame_read_headers(word_count),
         command(Command::Desync),
     ])?;
     writer.words(&[NO_OP; 4])?;
     Ok(writer.finish())
 }
 
-/// The stream that reads back n slots from an address on, after a frame of zeros. Memory is wanting only where they can
-/// be read.
-pub fn readback(alloc: Global, part: &Part, far: u32, n: u32) -> Result<Vec<u8>, PlanFault>
-    ensures stream { IfOk result (λ bytes. bytes.items ≡ read_stream part.now far n) }
-    ensures can { IfOk result (λ bytes. CanRead part.now far n) }
-    ensures fault { IfErr result (λ fault. (fault ≡ PlanFault.NoMemory) ⊎ IsReadFault part.now far n fault) }
-    ensures memory { IfErr result (λ fault. fault ≡ PlanFault.NoMemory → CanRead part.now far n) }
+/// The stream that reads back `slot_count` slots from an address on, after a frame of zeros. Memory is wanting only
+/// where these slots can be read.
+pub fn readback(alloc: Global, part: &Part, far: u32, slot_count: u32) -> Result<Vec<u8>, PlanFault>
+    ensures stream { IfOk result (λ bytes. bytes.items ≡ read_stream part.now far slot_count) }
+    ensures can_read { IfOk result (λ bytes. CanRead part.now far slot_count) }
+    ensures fault { IfErr result (λ fault. (fault ≡ PlanFault.NoMemory) ⊎ IsReadFault part.now far slot_count fault) }
+    ensures memory { IfErr result (λ fault. fault ≡ PlanFault.NoMemory → CanRead part.now far slot_count) }
 {
     if !part.is_address(far) {
         return Err(PlanFault::Foreign(far));
     }
-    if n == 0 || u64::from(n) > part.slots_from(far) {
-        return Err(PlanFault::Range(n));
+    if slot_count == 0 || u64::from(slot_count) > part.slots_from(far) {
+        return Err(PlanFault::Range(slot_count));
     }
     // For the proof alone: the part is in range, and so the counts are.
     let _frames = part.frames();
-    Ok(read_of(alloc, far, part.words() * (n + 1))?)
+    Ok(read_of(alloc, far, part.words() * (slot_count + 1))?)
 }

@@ -49,17 +49,17 @@ fn put_frames(writer: &mut Writer, frames: &[PlannedFrame]) -> Result<(), NoMemo
     Ok(())
 }
 
-/// Writes a run: the frames from its first address on, and a frame of zeros.
+/// Writes a section: WCFG, FAR, and as frame data the run's frames and a pad frame.
 fn put_run(writer: &mut Writer, part: &Part, run: &[PlannedFrame]) -> Result<(), NoMemory>
     requires some { 0 < length run.now }
     requires limit { length run.now ≤ most_frames }
     ensures { OnOk result (writer.new ≡ with_piece writer.old (Words (section_words part.now (Rows (planned_rows run.now))))) }
 {
-    let words = part.words() * (run.len() as u32 + 1);
+    let word_count = part.words() * (run.len() as u32 + 1);
     writer.packets(&[
         command(Command::Wcfg),
         write_one(Reg::Far, run[0].far),
-        frame_data_headers(words),
+        frame_data_headers(word_count),
     ])?;
     put_frames(writer, run)?;
     writer.words(zeros(part.words()))?;

@@ -37,12 +37,12 @@ impl Model for Writer {
 }
 
 impl Writer {
-    /// A writer that has written nothing, with room for this many words.
-    pub(crate) fn new(alloc: Global, words: usize) -> Result<Writer, NoMemory>
-        requires { 4 * words < 2 ^ 64 }
+    /// A writer that has written nothing, with room for `word_count` words.
+    pub(crate) fn new(alloc: Global, word_count: usize) -> Result<Writer, NoMemory>
+        requires { 4 * word_count < 2 ^ 64 }
         ensures { IfOk result (λ w. w ≡ []) }
     {
-        let out = Vec::with_capacity(alloc, 4 * words)?;
+        let out = Vec::with_capacity(alloc, 4 * word_count)?;
         Ok(Writer {
             out,
             checker: Checker::new(),
@@ -81,9 +81,9 @@ impl Writer {
 
 /// Appends words, the highest byte first. After an error nothing was appended.
 pub(crate) fn put_words(out: &mut Vec<u8>, words: &[u32]) -> Result<(), NoMemory>
-    ensures items { OnOk result (out.new.items ≡ out.old.items ++ bytes_of_words words.now) }
-    ensures long { OnOk result (length out.new.items ≡ length out.old.items + 4 * length words.now) }
-    ensures failed { OnErr result (out.new.items ≡ out.old.items) }
+    ensures appends { OnOk result (out.new.items ≡ out.old.items ++ bytes_of_words words.now) }
+    ensures length { OnOk result (length out.new.items ≡ length out.old.items + 4 * length words.now) }
+    ensures unchanged { OnErr result (out.new.items ≡ out.old.items) }
     ensures room { vec_capacity out.old ≤ vec_capacity out.new }
     ensures full { OnErr result (vec_capacity out.old < length out.old.items + 4 * length words.now) }
 {
@@ -95,9 +95,9 @@ pub(crate) fn put_words(out: &mut Vec<u8>, words: &[u32]) -> Result<(), NoMemory
 
 /// Appends packets of two words each. After an error nothing was appended.
 pub(crate) fn put_packets(out: &mut Vec<u8>, packets: &[[u32; 2]]) -> Result<(), NoMemory>
-    ensures items { OnOk result (out.new.items ≡ out.old.items ++ bytes_of_words (flat_map (λ packet. packet) packets.now)) }
-    ensures long { OnOk result (length out.new.items ≡ length out.old.items + 8 * length packets.now) }
-    ensures failed { OnErr result (out.new.items ≡ out.old.items) }
+    ensures appends { OnOk result (out.new.items ≡ out.old.items ++ bytes_of_words (flat_map (λ packet. packet) packets.now)) }
+    ensures length { OnOk result (length out.new.items ≡ length out.old.items + 8 * length packets.now) }
+    ensures unchanged { OnErr result (out.new.items ≡ out.old.items) }
     ensures room { vec_capacity out.old ≤ vec_capacity out.new }
     ensures full { OnErr result (vec_capacity out.old < length out.old.items + 8 * length packets.now) }
 {

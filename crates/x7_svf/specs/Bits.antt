@@ -10,7 +10,7 @@ digit_number c = if nat_le c 57 then c - 48 else (if nat_le c 70 then c - 55 els
 abbrev pub bit_of : List ℕ → ℕ → Bool
 bit_of ds i = if nat_lt (i / 4) (length ds) then digit_number (slice_index ds (length ds - 1 - i / 4)) / 2 ^ (i % 4) % 2 == 1 else false
 
--- this many bits from bit i on
+-- a count of bits from bit i on
 abbrev pub bits_from : List ℕ → ℕ → ℕ → List Bool
 bits_from ds i zero = []
 bits_from ds i (suc n) = bit_of ds i ∷ bits_from ds (i + 1) n

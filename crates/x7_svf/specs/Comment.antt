@@ -17,9 +17,9 @@ is_inside false c cs = begins_comment c cs
 
 -- what stands for a byte: a blank for those of comments and for 0D before 0A
 abbrev pub stand_in : Bool → ℕ → List ℕ → ℕ
-stand_in inside c cs = if inside then 32 else (if c == 13 && begins_with 10 cs then 32 else c)
+stand_in is_in_comment c cs = if is_in_comment then 32 else (if c == 13 && begins_with 10 cs then 32 else c)
 
 -- the text with what stands for each byte
 abbrev pub clean_text : Bool → List ℕ → List ℕ
-clean_text inside [] = []
-clean_text inside (c ∷ cs) = stand_in (is_inside inside c cs) c cs ∷ clean_text (is_inside inside c cs) cs
+clean_text is_in_comment [] = []
+clean_text is_in_comment (c ∷ cs) = stand_in (is_inside is_in_comment c cs) c cs ∷ clean_text (is_inside is_in_comment c cs) cs

@@ -17,7 +17,7 @@ pub record ComesNext (s : SourceState) (t : NextToken) : Type 0 where
   pub some : 0 < token_size t
   pub within : token_size t ≤ length s.rest
 
--- this many bytes were passed, none of them a line end, and some of them may be kept
+-- `count` bytes were passed, none of them a line end, and some of them may be kept
 pub record StepsOver (count : ℕ) (old new : SourceState) : Type 0 where
   pub prefix : StaysKept old.kept new.kept
   pub line : new.line ≡ old.line

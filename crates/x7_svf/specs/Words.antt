@@ -53,7 +53,7 @@ words_of (Open ∷ ts) = None
 words_of (Close ∷ ts) = None
 words_of (End ∷ ts) = None
 
--- this statement, where the test holds
+-- a statement, where the condition is met
 abbrev pub some_if : Bool → Statement → Option Statement
 some_if b s = if b then Some s else None
 
@@ -62,7 +62,7 @@ abbrev pub run_by : Option ℕ → Option Statement
 run_by None = None
 run_by (Some n) = Some (statement.Run n)
 
--- a run of as many clocks as the digits say, where the test holds
+-- a run of as many clocks as the digits say, where the condition is met
 abbrev pub run_if : Bool → List ℕ → Option Statement
 run_if b n = if b then run_by (number_within most_clocks n) else None
 

@@ -49,7 +49,7 @@ fn bit_of(digits: &[u8], i: u32) -> bool
 /// The four bits of the digit at this place from the last, and 0 past the first digit.
 fn four_bits(digits: &[u8], place: usize) -> u8
     ensures bits { (k : ℕ) → k < 4 → (result / 2 ^ k % 2 == 1) ≡ bit_of digits.now (4 * place + k) }
-    ensures small { result < 16 }
+    ensures most { result < 16 }
 {
     if place >= digits.len() {
         return 0;
@@ -60,7 +60,7 @@ fn four_bits(digits: &[u8], place: usize) -> u8
 /// Four bits, the lowest of which becomes the highest.
 fn mirrored_digit(bits: u8) -> u8
     ensures value { result ≡ mirrored_digit bits }
-    ensures small { result < 16 }
+    ensures most { result < 16 }
 {
     bits % 2 * 8 + bits / 2 % 2 * 4 + bits / 4 % 2 * 2 + bits / 8 % 2
 }
@@ -81,8 +81,8 @@ fn byte_from(digits: &[u8], at: u32) -> u8
 fn bytes_of(digits: &[u8], count: u32, from: u32) -> ArrayVec<u8, MOST_BYTES_AT_ONCE>
     requires whole { from % 8 ≡ 0 }
     requires some { from + 8 < count }
-    ensures some { 0 < length result.items }
-    ensures inside { from + 8 * length result.items < count }
+    ensures at_least_one { 0 < length result.items }
+    ensures within { from + 8 * length result.items < count }
     ensures bits { bytes_bits result.items ≡ bits_from digits.now from (8 * length result.items) }
 {
     let mut piece: ArrayVec<u8, MOST_BYTES_AT_ONCE> = ArrayVec::new();
@@ -124,8 +124,8 @@ impl<'t> Bits<'t> {
     pub fn bytes_from(&self, from: u32) -> ArrayVec<u8, MOST_BYTES_AT_ONCE>
         requires whole { from % 8 ≡ 0 }
         requires some { from + 8 < length self.now }
-        ensures some { 0 < length result.items }
-        ensures inside { from + 8 * length result.items < length self.now }
+        ensures at_least_one { 0 < length result.items }
+        ensures within { from + 8 * length result.items < length self.now }
         ensures bits { bytes_bits result.items ≡ take (8 * length result.items) (drop from self.now) }
     {
         bytes_of(self.digits, self.count, from)

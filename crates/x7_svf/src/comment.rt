@@ -20,10 +20,10 @@ fn begins_comment(byte: u8, after: &[u8]) -> bool
 }
 
 /// Whether a byte is one of a comment, by whether the byte before it was one.
-fn is_inside(inside: bool, byte: u8, after: &[u8]) -> bool
-    ensures { result ≡ is_inside inside byte after.now }
+fn is_inside(is_in_comment: bool, byte: u8, after: &[u8]) -> bool
+    ensures { result ≡ is_inside is_in_comment byte after.now }
 {
-    if inside {
+    if is_in_comment {
         byte != b'\n'
     } else {
         begins_comment(byte, after)
@@ -31,10 +31,10 @@ fn is_inside(inside: bool, byte: u8, after: &[u8]) -> bool
 }
 
 /// The byte that stands in the place of one: a blank for a byte of a comment, and for 0D before 0A.
-fn stand_in(inside: bool, byte: u8, after: &[u8]) -> u8
-    ensures { result ≡ stand_in inside byte after.now }
+fn stand_in(is_in_comment: bool, byte: u8, after: &[u8]) -> u8
+    ensures { result ≡ stand_in is_in_comment byte after.now }
 {
-    if inside || byte == b'\r' && begins_with(after, b'\n') {
+    if is_in_comment || byte == b'\r' && begins_with(after, b'\n') {
         b' '
     } else {
         byte
@@ -46,12 +46,12 @@ pub(crate) fn clean(text: &mut Vec<u8>)
     ensures cleaned { text.new.items ≡ clean_text false text.old.items }
     ensures length { length text.new.items ≡ length text.old.items }
 {
-    let mut inside = false;
+    let mut is_in_comment = false;
     for at in 0..text.len() {
         let byte = text[at];
         let after = &text[at + 1..];
-        inside = is_inside(inside, byte, after);
-        let shown = stand_in(inside, byte, after);
+        is_in_comment = is_inside(is_in_comment, byte, after);
+        let shown = stand_in(is_in_comment, byte, after);
         text[at] = shown;
     }
 }

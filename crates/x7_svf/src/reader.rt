@@ -38,7 +38,7 @@ fn is_free_token(token: NextToken, text: &[u8]) -> bool
 
 /// Whether the tokens that come next of a statement are brackets and words without 0D alone; they are passed.
 fn are_free_tokens(source: &mut Source) -> bool
-    ensures free { result ≡ list_all is_free_token (tokens_before_end (tokens_left source.old)) }
+    ensures value { result ≡ list_all is_free_token (tokens_before_end (tokens_left source.old)) }
     ensures reads_on { IsTrue result → ReadsOn source.old source.new }
 {
     while let Some(token) = next_within(source) {

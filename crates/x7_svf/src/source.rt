@@ -66,7 +66,7 @@ impl Source {
     /// The bytes that are kept.
     pub(crate) fn kept(&self) -> &[u8]
         ensures now { result.now ≡ self.now.kept }
-        ensures within_limit { length result.now ≤ 2 ^ 29 }
+        ensures most { length result.now ≤ 2 ^ 29 }
     {
         &self.text[..self.kept]
     }

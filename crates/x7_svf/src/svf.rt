@@ -39,8 +39,8 @@ impl Model for Svf {
 impl Svf {
     /// How many statements there are.
     pub fn len(&self) -> usize
-        ensures len { result ≡ length self.now }
-        ensures under_limit { result < 2 ^ 29 }
+        ensures length { result ≡ length self.now }
+        ensures most { result < 2 ^ 29 }
     {
         self.statements.len()
     }

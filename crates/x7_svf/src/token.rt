@@ -41,7 +41,7 @@ fn is_word_byte(byte: u8) -> bool
 fn word_length(text: &[u8]) -> usize
     ensures within { result ≤ length text.now }
     ensures first { (line : ℕ) → 0 < result → tokens line text.now ≡ record { line = line; token = Word (take result text.now) } ∷ tokens line (drop result text.now) }
-    ensures none { result ≡ 0 → 0 < length text.now → is_word_byte (slice_index text.now 0) ≡ false }
+    ensures no_word { result ≡ 0 → 0 < length text.now → is_word_byte (slice_index text.now 0) ≡ false }
 {
     let mut end = 0;
     while end < text.len() && is_word_byte(text[end]) {
@@ -76,7 +76,7 @@ fn first_token(text: &[u8]) -> NextToken
     requires some { 0 < length text.now }
     requires begins { is_blank_byte (slice_index text.now 0) ≡ false }
     ensures tokens { (line : ℕ) → tokens line text.now ≡ record { line = line; token = token_of result text.now } ∷ tokens line (drop (token_size result) text.now) }
-    ensures some { 0 < token_size result }
+    ensures at_least_one { 0 < token_size result }
     ensures within { token_size result ≤ length text.now }
 {
     let end = word_length(text);
@@ -130,7 +130,7 @@ pub(crate) fn next_within(source: &mut Source) -> Option<NextToken>
 /// Passes the rest of a statement with its `;`; false where there is none.
 pub(crate) fn pass_end(source: &mut Source) -> bool
     ensures found { result ≡ true → tokens_after_end (tokens_left source.old) ≡ Some (tokens_left source.new) }
-    ensures none { result ≡ false → tokens_after_end (tokens_left source.old) ≡ None }
+    ensures no_end { result ≡ false → tokens_after_end (tokens_left source.old) ≡ None }
     ensures kept { source.new.kept ≡ source.old.kept }
     ensures passed { result ≡ true → length source.new.rest + 1 ≤ length source.old.rest }
 {

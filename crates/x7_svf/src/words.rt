@@ -94,18 +94,18 @@ fn run_for(digits: &[u8]) -> Option<Stored>
     Some(Stored::Run(count))
 }
 
-/// The run of as many clocks as the digits say, where the test holds.
-fn run_if(test: bool, digits: &[u8]) -> Option<Stored>
-    ensures { IsStored [] result (run_if test digits.now) }
+/// The run of as many clocks as the digits say, where the condition is met.
+fn run_if(is_met: bool, digits: &[u8]) -> Option<Stored>
+    ensures { IsStored [] result (run_if is_met digits.now) }
 {
-    if test { run_for(digits) } else { None }
+    if is_met { run_for(digits) } else { None }
 }
 
-/// A statement that asks for nothing, where the test holds.
-fn nothing_if(test: bool) -> Option<Stored>
-    ensures { IsStored [] result (some_if test StatementData.Nothing) }
+/// A statement that asks for nothing, where the condition is met.
+fn nothing_if(is_met: bool) -> Option<Stored>
+    ensures { IsStored [] result (some_if is_met StatementData.Nothing) }
 {
-    if test { Some(Stored::Nothing) } else { None }
+    if is_met { Some(Stored::Nothing) } else { None }
 }
 
 /// The statement of the words after STATE.

@@ -10,7 +10,7 @@ ghost use Rattle.x7_forms.specs.Step.{seen};
 use crate::feeding::feed_whole;
 use std::alloc::Global;
 use x7_forms::{InputFault, Refusal, Why, read_whole};
-use x7_mcs::{FLASH_LIMIT, McsFault, McsLines, McsText};
+use x7_mcs::{IMAGE_LIMIT, McsFault, McsLines, McsText};
 use x7_words::Inputs;
 
 /// Why an Intel HEX text gives no image.
@@ -39,7 +39,7 @@ pub(crate) fn mcs<'w, I: Inputs>(
 ) -> Result<McsText, Refusal<'w>>
     ensures { MakesReady (ToMcs image.now) (I.state inputs.old) (I.state inputs.new) (seen mcs_answer result) }
 {
-    let bytes = read_whole(alloc, inputs, image, FLASH_LIMIT)?;
+    let bytes = read_whole(alloc, inputs, image, IMAGE_LIMIT)?;
     Ok(McsText::new(alloc, bytes)?)
 }
 

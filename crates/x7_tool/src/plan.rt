@@ -126,19 +126,19 @@ pub(crate) fn plan_partial<'w, I: Inputs>(
     partial_text(alloc, &part, &plan, frames)
 }
 
-/// The read stream of `n` slots from the frame address `far` on.
+/// The read stream of `slot_count` slots from the frame address `far` on.
 fn readback_text<'w>(
     alloc: Global,
     part: &Part,
     name: &'w str,
     far: u32,
-    n: u32,
+    slot_count: u32,
 ) -> Result<Vec<u8>, Refusal<'w>>
-    ensures ok { IfOk result (λ text. PlannedRead name.now far n (Ok part.now) (Ok (bytes_answer text))) }
-    ensures err { IfErr result (λ r. (event_of r ≡ no_memory) ⊎ PlannedRead name.now far n (Ok part.now) (Err (event_of r))) }
+    ensures ok { IfOk result (λ text. PlannedRead name.now far slot_count (Ok part.now) (Ok (bytes_answer text))) }
+    ensures err { IfErr result (λ r. (event_of r ≡ no_memory) ⊎ PlannedRead name.now far slot_count (Ok part.now) (Err (event_of r))) }
     ensures named { IfErr result (λ r. IsAbout name.now (event_of r)) }
 {
-    match readback(alloc, part, far, n) {
+    match readback(alloc, part, far, slot_count) {
         Ok(text) => Ok(text),
         Err(fault) => Err(planner_refusal(name, fault)),
     }
@@ -150,10 +150,10 @@ pub(crate) fn plan_read<'w, I: Inputs>(
     inputs: &mut I,
     part_name: &'w str,
     far: u32,
-    n: u32,
+    slot_count: u32,
 ) -> Result<Vec<u8>, Refusal<'w>>
-    ensures { MakesReady (PlanningRead part_name.now far n) (I.state inputs.old) (I.state inputs.new) (seen bytes_answer result) }
+    ensures { MakesReady (PlanningRead part_name.now far slot_count) (I.state inputs.old) (I.state inputs.new) (seen bytes_answer result) }
 {
     let part = read_part(alloc, inputs, part_name)?;
-    readback_text(alloc, &part, part_name, far, n)
+    readback_text(alloc, &part, part_name, far, slot_count)
 }

@@ -16,7 +16,7 @@ pub walk-requires : goal.walk-requires
 walk-requires c =
     let r1 = ready_left c.args.tap.now c.leave_reset.new.tap c.args.device.now c.leave_reset.new.device (2 ^ 33) (2 ^ 33 - 1) c.requires c.leave_reset.ensures (omega arith) in
     let r2 = ready_in_shift c.leave_reset.new.tap c.to_shift.new.tap c.leave_reset.new.device c.to_shift.new.device (2 ^ 33 - 1) (2 ^ 33 - 5) c.args.scan.now.register r1 c.to_shift.ensures (omega arith) in
-    ready_shifted c.to_shift.new.tap c.shift-found.new.tap c.to_shift.new.device c.shift-found.new.device (2 ^ 33 - 5) 2 c.args.scan.now.tdi r2 c.shift-found.ensures.stands (omega (arith, c.shift-found.ensures.counted))
+    ready_shifted c.to_shift.new.tap c.shift-found.new.tap c.to_shift.new.device c.shift-found.new.device (2 ^ 33 - 5) 2 c.args.scan.now.tdi r2 c.shift-found.ensures.stands (omega (arith, c.shift-found.ensures.most))
 
 pub returns-clause-stands : goal.returns-clause-stands
 returns-clause-stands c = λ part cs s.

@@ -23,20 +23,20 @@ returns-in-Scan-clause-stands c = λ part cs s.
 pub returns-in-Scan-clause-found : goal.returns-in-Scan-clause-found
 returns-in-Scan-clause-found c = λ part cs s. c.play_scan.ensures.found part cs s ∙ ap (difference part (port_after part cs)) (sym c.in-Scan.is)
 
-pub returns-in-Scan-clause-within_limit : goal.returns-in-Scan-clause-within_limit
-returns-in-Scan-clause-within_limit c = λ s. short_scan s c.in-Scan.scan c.args.statement.now c.in-Scan.is c.play_scan.ensures.counted
+pub returns-in-Scan-clause-most : goal.returns-in-Scan-clause-most
+returns-in-Scan-clause-most c = λ s. short_scan s c.in-Scan.scan c.args.statement.now c.in-Scan.is c.play_scan.ensures.most
 
 pub returns-in-Reset : goal.returns-in-Reset
 returns-in-Reset c = record {
   stands = λ part cs s. of_statement part c.walk.new.tap c.walk.new.device cs (port_after part cs).state statement.Reset c.args.statement.now c.in-Reset.is (c.walk.ensures part cs s);
-  within_limit = λ s. omega (arith, ap (λ (x : Statement). length (clocks_of s x)) c.in-Reset.is);
+  most = λ s. omega (arith, ap (λ (x : Statement). length (clocks_of s x)) c.in-Reset.is);
   found = λ part cs s. ap (difference part (port_after part cs)) (sym c.in-Reset.is);
 }
 
 pub returns-in-Idle : goal.returns-in-Idle
 returns-in-Idle c = record {
   stands = λ part cs s. of_statement part c.leave_reset.new.tap c.leave_reset.new.device cs (port_after part cs).state statement.Idle c.args.statement.now c.in-Idle.is (c.leave_reset.ensures part cs s);
-  within_limit = λ s. omega (arith, ap (λ (x : Statement). length (clocks_of s x)) c.in-Idle.is, leave_length s);
+  most = λ s. omega (arith, ap (λ (x : Statement). length (clocks_of s x)) c.in-Idle.is, leave_length s);
   found = λ part cs s. ap (difference part (port_after part cs)) (sym c.in-Idle.is);
 }
 
@@ -44,6 +44,6 @@ pub returns-in-Nothing : goal.returns-in-Nothing
 returns-in-Nothing c = record {
   stands = λ part cs s.
       of_statement part c.args.tap.now c.args.device.now cs (port_after part cs).state statement.Nothing c.args.statement.now c.in-Nothing.is (stands_at part c.args.tap.now c.args.device.now cs (cs ++ []) (sym (append-nil cs)) s);
-  within_limit = λ s. omega (arith, ap (λ (x : Statement). length (clocks_of s x)) c.in-Nothing.is);
+  most = λ s. omega (arith, ap (λ (x : Statement). length (clocks_of s x)) c.in-Nothing.is);
   found = λ part cs s. ap (difference part (port_after part cs)) (sym c.in-Nothing.is);
 }

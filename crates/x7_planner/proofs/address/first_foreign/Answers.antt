@@ -15,7 +15,7 @@ loop-i-preserved c =
     let row : PlanRow = record { far = c.in-Some.far; words = c.in-Some.field-0-1.now } in
     addressed_more c.args.part.now c.args.plan.now.rows c.loop-i.i row c.in-Some.ensures.found.0 (c.in-Some.ensures.found.1 row) c.loop-i.invariant (c.is_address.ensures.listed.0 c.if-not-is_address.false)
 
-pub returns-clause-none : goal.returns-clause-none
-returns-clause-none c =
+pub returns-clause-addresses : goal.returns-clause-addresses
+returns-clause-addresses c =
     let all : length c.args.plan.now.rows ≤ c.loop-i.i = omega (arith, c.loop-i-test.false, c.len-i-end.ensures.value) in
     subst (λ rows. AreAddressed c.args.part.now rows) (take_all c.loop-i.i c.args.plan.now.rows all) c.loop-i.invariant

@@ -9,7 +9,7 @@ loop-place-init c = subst (λ (t : List ℕ). FirstsUpTo (planned_rows c.args.fr
 
 pub loop-place-preserved : goal.loop-place-preserved
 loop-place-preserved c =
-    firsts_step (planned_rows c.args.frames.now) c.loop-place.firsts.items c.push.new.self.items c.loop-place.start c.loop-place.place c.start_at-start.result c.loop-place.invariant c.start_at-start.ensures.first c.start_at-start.ensures.no_later c.in_ok-push.ensures.items
+    firsts_step (planned_rows c.args.frames.now) c.loop-place.firsts.items c.push.new.self.items c.loop-place.start c.loop-place.place c.start_at-start.result c.loop-place.invariant c.start_at-start.ensures.first c.start_at-start.ensures.within c.in_ok-push.ensures.items
 
 pub returns : goal.returns
 returns c = firsts_all (planned_rows c.args.frames.now) c.loop-place.firsts.items c.loop-place.start c.loop-place.place c.loop-place.invariant (omega (arith, c.loop-place-test.false, c.loop-place.auto.place-end, length-map c.args.frames.now planned_row))

@@ -12,8 +12,8 @@ use Rattle.x7_planner.specs.Writer.{bytes_of_words}
 use Rattle.x7_planner.proofs.SlotLemmas.{and_packet, last_packet, packets_written, written_on}
 use Rattle.x7_planner.proofs.full_stream.put_settings.Goals as goal
 
-pub returns-clause-items : goal.returns-clause-items
-returns-clause-items c =
+pub returns-clause-appends : goal.returns-clause-appends
+returns-clause-appends c =
     let part = c.args.part.now in
     let old = c.args.out.now.items in
     let cleared = c.put_packets.new.out.items in
@@ -30,7 +30,7 @@ returns-clause-items c =
     (and_packet (c.write_one-5.ensures ∙ ap (λ (a : ℕ). write_one Far a) c.first_address.ensures.first)
     (last_packet (c.frame_data_headers.ensures ∙ ap₂ (λ (w n : ℕ). frame_data_headers (w * n)) c.words.ensures.value c.slot_count.ensures.count))))))) in
     let begun : waited ≡ old ++ bytes_of_words ((command Shutdown ++ command Rcrc) ++ no_op ∷ []) =
-    written_on old cleared waited (command Shutdown ++ command Rcrc) (no_op ∷ []) (packets_written old cleared (and_packet c.command.ensures (last_packet c.command-2.ensures)) c.in_ok-put_packets.ensures.items) c.in_ok-put_words.ensures.items in
+    written_on old cleared waited (command Shutdown ++ command Rcrc) (no_op ∷ []) (packets_written old cleared (and_packet c.command.ensures (last_packet c.command-2.ensures)) c.in_ok-put_packets.ensures.appends) c.in_ok-put_words.ensures.appends in
     on_ok_weaker c.put_packets-2.result
     (λ e. written_on old waited new ((command Shutdown ++ command Rcrc) ++ no_op ∷ []) (flat_map (λ packet. packet) settings) begun (packets_written waited new named e))
-    c.put_packets-2.ensures.items
+    c.put_packets-2.ensures.appends

@@ -12,7 +12,7 @@ loop-n-preserved c = record {
   order = omega (arith, c.loop-n.invariant.order);
   items = slot_more c.args.part.now c.args.plan.now c.args.out.now.items c.loop-n.out.items c.put_words.new.out.items c.args.from c.loop-n.n c.slot_after.result c.loop-n.invariant.order (omega (arith, c.loop-n-test.true, c.requires.within))
       (c.slot_after.ensures ∙ ap (λ t. get_or t c.loop-n.n End) (all_slots c.args.part.now c.first_address-first.result c.loop-n.n c.first_address-first.ensures.part c.first_address-first.ensures.first)) c.loop-n.invariant.items
-      (c.in_ok-put_words.ensures.items ∙ ap (λ t. c.loop-n.out.items ++ bytes_of_words t) c.frame_at.ensures.words);
-  within = omega (arith, c.in_ok-put_words.ensures.long, c.frame_at.ensures.limit, c.loop-n.invariant.within, c.loop-n.invariant.order);
+      (c.in_ok-put_words.ensures.appends ∙ ap (λ t. c.loop-n.out.items ++ bytes_of_words t) c.frame_at.ensures.words);
+  within = omega (arith, c.in_ok-put_words.ensures.length, c.frame_at.ensures.most, c.loop-n.invariant.within, c.loop-n.invariant.order);
   room = omega (arith, c.put_words.ensures.room, c.loop-n.invariant.room);
 }

@@ -1,8 +1,8 @@
 use Rattle.x7_svf.proofs.ValueLemmas.{fits_value, value_fits}
 use Rattle.x7_svf.proofs.laws.values_fit_their_width.Goals as goal
 
-pub returns-clause-fits : goal.returns-clause-fits
-returns-clause-fits c = fits_value
+pub returns-clause-value_within : goal.returns-clause-value_within
+returns-clause-value_within c = fits_value
 
-pub returns-clause-only : goal.returns-clause-only
-returns-clause-only c = value_fits
+pub returns-clause-width_within : goal.returns-clause-width_within
+returns-clause-width_within c = value_fits

@@ -23,4 +23,4 @@ returns c =
     svf_is part statements c.play_svf-differ.new.tap c.play_svf-differ.new.device differ c.fault.result c.either-stopped.result c.play_line.new.out.items c.in_ok-report.report c.in_ok-text.text
     stands (c.play_svf-differ.ensures.differs part new) (c.fault.ensures part on_the_bench false taken device)
     (c.either-stopped.ensures ∙ ap (λ (b : Bool). b || c.is_some-2.result) c.is_some.ensures ∙ ap (λ (b : Bool). is_some differ || b) c.is_some-2.ensures)
-    (c.in_ok-play_line.ensures.ok ∙ ap (λ (l : List ℕ). l ++ play_text differ) c.new-line.ensures.items) (c.in_ok-report.ensures.owing part on_the_bench false taken device) c.in_ok-text.ensures
+    (c.in_ok-play_line.ensures.appends ∙ ap (λ (l : List ℕ). l ++ play_text differ) c.new-line.ensures.items) (c.in_ok-report.ensures.owing part on_the_bench false taken device) c.in_ok-text.ensures

@@ -13,7 +13,7 @@ returns-clause-read c = λ lines m t.
     let b = mcs_lines_state c.args.self.now in
     let d = mcs_lines_state c.take_row.new.self in
     let row = c.in-Some.row in
-    let is = row_is c.args.n b.base row.address b.ended t.records row.content c.if-not-self.true c.in-Some.ensures.bytes c.in-Some.ensures.content (omega (arith, c.if-row-le-LAST_ROW_ADDRESS.true)) in
+    let is = row_is c.args.n b.base row.address b.has_ended t.records row.content c.if-not-self.true c.in-Some.ensures.bytes c.in-Some.ensures.content (omega (arith, c.if-row-le-LAST_ROW_ADDRESS.true)) in
     record {
       line = row_line row.address row.content;
       cut = row_cut c.args.text.now c.in-Some.rest.now row.address row.content c.in-Some.ensures.line;
@@ -28,7 +28,7 @@ returns-in_err-take_row-clause-read c =
     let row = c.in-Some.row in
     let line = row_line row.address row.content in
     let rest = c.in-Some.rest.now in
-    let is = row_is c.args.n b.base row.address b.ended t.records row.content c.if-not-self.true c.in-Some.ensures.bytes c.in-Some.ensures.content (omega (arith, c.if-row-le-LAST_ROW_ADDRESS.true)) in
+    let is = row_is c.args.n b.base row.address b.has_ended t.records row.content c.if-not-self.true c.in-Some.ensures.bytes c.in-Some.ensures.content (omega (arith, c.if-row-le-LAST_ROW_ADDRESS.true)) in
     let cut = row_cut c.args.text.now rest row.address row.content c.in-Some.ensures.line in
     subst (λ ls. HasMcsFault c.in_err-take_row.field-0.0 (lines ++ ls)) (sym (prefix_on c.args.text.now rest (line ∷ []) cut more))
     (line_fails b lines c.args.n m t c.in_err-take_row.field-0.0 line (rest ++ more) (subst (λ r. FailsAsReading r c.in_err-take_row.field-0.0) is (c.in_err-take_row.ensures t.records t.holds))))
@@ -48,7 +48,7 @@ returns-2-clause-read c = λ lines m t.
       line = line;
       cut = (at_some c.args.text.now line c.first_line.result.1 c.in-Some-more.rest c.in-Some-more.is c.first_line.ensures).0;
       read = line_read b lines c.args.n m t d line
-          (subst (λ l. TookRecords (after_line c.args.n (reading_of b.base b.ended t.records) l) d) c.without_return.ensures (c.in_ok-put_bare_line.ensures t.records t.holds));
+          (subst (λ l. TookRecords (after_line c.args.n (reading_of b.base b.has_ended t.records) l) d) c.without_return.ensures (c.in_ok-put_bare_line.ensures t.records t.holds));
     }
 
 pub returns-in_err-put_bare_line-clause-read : goal.returns-in_err-put_bare_line-clause-read
@@ -61,7 +61,7 @@ returns-in_err-put_bare_line-clause-read c =
     let cut = (at_some c.args.text.now line c.first_line.result.1 c.in-Some-more.rest c.in-Some-more.is c.first_line.ensures).0 in
     subst (λ ls. HasMcsFault c.in_err-put_bare_line.field-0.0 (lines ++ ls)) (sym (prefix_on c.args.text.now rest (line ∷ []) cut more))
     (line_fails b lines c.args.n m t c.in_err-put_bare_line.field-0.0 line (rest ++ more)
-    (subst (λ l. FailsAsReading (after_line c.args.n (reading_of b.base b.ended t.records) l) c.in_err-put_bare_line.field-0.0) c.without_return.ensures (c.in_err-put_bare_line.ensures t.records t.holds))))
+    (subst (λ l. FailsAsReading (after_line c.args.n (reading_of b.base b.has_ended t.records) l) c.in_err-put_bare_line.field-0.0) c.without_return.ensures (c.in_err-put_bare_line.ensures t.records t.holds))))
 
 pub returns-in_err-take_row-clause-memory : goal.returns-in_err-take_row-clause-memory
 returns-in_err-take_row-clause-memory c =
@@ -71,7 +71,7 @@ returns-in_err-take_row-clause-memory c =
     let row = c.in-Some.row in
     let line = row_line row.address row.content in
     let rest = c.in-Some.rest.now in
-    let is = row_is c.args.n b.base row.address b.ended t.records row.content c.if-not-self.true c.in-Some.ensures.bytes c.in-Some.ensures.content (omega (arith, c.if-row-le-LAST_ROW_ADDRESS.true)) in
+    let is = row_is c.args.n b.base row.address b.has_ended t.records row.content c.if-not-self.true c.in-Some.ensures.bytes c.in-Some.ensures.content (omega (arith, c.if-row-le-LAST_ROW_ADDRESS.true)) in
     let cut = row_cut c.args.text.now rest row.address row.content c.in-Some.ensures.line in
     wants_here AreGoodWith lines [] c.args.text.now c.args.text.now line rest refl cut
     (subst (λ ls. AreGoodWith ls line) (sym (append-nil lines))
@@ -88,4 +88,4 @@ returns-in_err-put_bare_line-clause-memory c =
     wants_here AreGoodWith lines [] c.args.text.now c.args.text.now line rest refl cut
     (subst (λ ls. AreGoodWith ls line) (sym (append-nil lines))
     (line_wants b lines c.args.n m t c.in_err-put_bare_line.field-0.0 line
-    (subst (λ l. FailsAsReading (after_line c.args.n (reading_of b.base b.ended t.records) l) c.in_err-put_bare_line.field-0.0) c.without_return.ensures (c.in_err-put_bare_line.ensures t.records t.holds)) want)))
+    (subst (λ l. FailsAsReading (after_line c.args.n (reading_of b.base b.has_ended t.records) l) c.in_err-put_bare_line.field-0.0) c.without_return.ensures (c.in_err-put_bare_line.ensures t.records t.holds)) want)))

@@ -9,11 +9,11 @@ returns-then-end-count-clause-writes c =
     let s : FullStreamState = record { part = c.self.inside.part.now; plan = c.self.inside.plan.now; next = c.self.inside.next; check = c.self.inside.checker } in
     let at : s.next ≡ Slot c.args.n = ap (λ x. x.next) c.self.view_is ∙ c.requires in
     subst (λ x. WritesPiece x c.args.out.now.items c.put_slots.new.out.items Check) c.self.view_is
-    (wrote_frames s c.args.out.now.items c.put_slots.new.out.items c.args.n c.slot_count-count.result c.min-end.result at (inside_at s c.args.n at c.self.invariant) c.slot_count-count.ensures.count c.min-end.ensures c.if-end-count.true c.in_ok-put_slots.ensures.items)
+    (wrote_frames s c.args.out.now.items c.put_slots.new.out.items c.args.n c.slot_count-count.result c.min-end.result at (inside_at s c.args.n at c.self.invariant) c.slot_count-count.ensures.count c.min-end.ensures c.if-end-count.true c.in_ok-put_slots.ensures.appends)
 
 pub returns-else-end-count-clause-writes : goal.returns-else-end-count-clause-writes
 returns-else-end-count-clause-writes c =
     let s : FullStreamState = record { part = c.self.inside.part.now; plan = c.self.inside.plan.now; next = c.self.inside.next; check = c.self.inside.checker } in
     let at : s.next ≡ Slot c.args.n = ap (λ x. x.next) c.self.view_is ∙ c.requires in
     subst (λ x. WritesPiece x c.args.out.now.items c.put_slots.new.out.items (Slot c.min-end.result)) c.self.view_is
-    (wrote_slots s c.args.out.now.items c.put_slots.new.out.items c.args.n c.slot_count-count.result c.min-end.result at (inside_at s c.args.n at c.self.invariant) c.slot_count-count.ensures.count c.min-end.ensures c.if-end-count.false c.in_ok-put_slots.ensures.items)
+    (wrote_slots s c.args.out.now.items c.put_slots.new.out.items c.args.n c.slot_count-count.result c.min-end.result at (inside_at s c.args.n at c.self.invariant) c.slot_count-count.ensures.count c.min-end.ensures c.if-end-count.false c.in_ok-put_slots.ensures.appends)

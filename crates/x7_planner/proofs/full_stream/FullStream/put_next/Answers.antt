@@ -16,13 +16,13 @@ returns c =
           (λ bytes k. subst (λ (x : List ℕ). HasTaken c.take.new.self (bytes ++ take (length x - c.len-start.result) (drop c.len-start.result x))) c.deref.ensures.value (c.take.ensures bytes k)) (subst (λ x. HasGiven x given) (sym c.self.view_is) h);
       fewer = λ _. subst (λ x. puts_left t < puts_left x) c.self.view_is less;
       end = λ given h e. absurd (false≢true (sym e));
-      nothing = λ e. absurd (false≢true (sym e));
-      ended = λ e. absurd (false≢true (sym e));
+      appends_nothing = λ e. absurd (false≢true (sym e));
+      stays_ended = λ e. absurd (false≢true (sym e));
       part = ap (λ x. x.part) c.self.view_is;
       plan = ap (λ x. x.plan) c.self.view_is;
-      limit = omega (arith, c.in-Ok.ensures.appends.within);
-      failed = tt;
-      kept = tt;
-      room = omega (arith, c.put.ensures.appends.room);
+      most = omega (arith, c.in-Ok.ensures.within.within);
+      same_piece_next = tt;
+      unchanged = tt;
+      room = omega (arith, c.put.ensures.within.room);
       full = tt;
     }

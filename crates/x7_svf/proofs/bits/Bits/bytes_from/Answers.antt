@@ -6,12 +6,12 @@ use Rattle.x7_svf.proofs.bits.Bits.bytes_from.Goals as goal
 pub bytes_of-requires-clause-some : goal.bytes_of-requires-clause-some
 bytes_of-requires-clause-some c = omega (arith, c.requires.some, count_of c.self.inside.digits.now c.self.inside.count 0, ap length c.self.view_is)
 
-pub returns-clause-inside : goal.returns-clause-inside
-returns-clause-inside c = omega (arith, c.bytes_of.ensures.inside, count_of c.self.inside.digits.now c.self.inside.count 0, ap length c.self.view_is)
+pub returns-clause-within : goal.returns-clause-within
+returns-clause-within c = omega (arith, c.bytes_of.ensures.within, count_of c.self.inside.digits.now c.self.inside.count 0, ap length c.self.view_is)
 
 pub returns-clause-bits : goal.returns-clause-bits
 returns-clause-bits c =
     let n : ℕ = 8 * length c.bytes_of.result.items in
     let digits = c.self.inside.digits.now in
     c.bytes_of.ensures.bits
-    ∙ sym (from_part digits c.self.inside.count c.args.from n (omega (arith, c.bytes_of.ensures.inside))) ∙ ap (λ (bs : List Bool). take n (drop c.args.from bs)) c.self.view_is
+    ∙ sym (from_part digits c.self.inside.count c.args.from n (omega (arith, c.bytes_of.ensures.within))) ∙ ap (λ (bs : List Bool). take n (drop c.args.from bs)) c.self.view_is
