@@ -6,8 +6,8 @@ use Rattle.x7_pipeline.specs.Pipeline.{PipelineData}
 use Rattle.x7_pipeline.proofs.StateLemmas.{put_frame, put_no_frame, kept_is, kept_none}
 use Rattle.x7_pipeline.proofs.pipeline.Pipeline.put_newest.Goals as goal
 
-pub returns-in-Some-clause-none : goal.returns-in-Some-clause-none
-returns-in-Some-clause-none c = λ e.
+pub returns-in-Some-clause-puts_nothing : goal.returns-in-Some-clause-puts_nothing
+returns-in-Some-clause-puts_nothing c = λ e.
     let kept = ap (λ (v : PipelineData). v.newest) c.self.view_is in
     absurd (c.if-self-eq0.false (kept_none c.self.inside.frame_count c.self.inside.newest.items c.args.self.now.newest kept e))
 
