@@ -12,7 +12,7 @@ pub record StandsIn (h : History) (access : Access) (place : ℕ) (older : Histo
   pub newer : History
   pub split : h ≡ newer ++ entry access place ∷ older
 
--- START was executed on a matched device, and DESYNC after it, by byte n
+-- START was executed on a device whose IDCODE was written, and DESYNC after it, by byte n
 pub record HasStartAndDesync (idcode : ℕ) (h : History) (n : ℕ) : Type 0 where
   pub newer : History
   pub desync : Entry

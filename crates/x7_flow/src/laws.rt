@@ -115,7 +115,7 @@ pub fn later_histories_join()
     ensures pairs { (x : Start) (later middle : History) → pairs_on x (later ++ middle) ≡ pairs_on (start_on x middle) later ++ pairs_on x middle }
     ensures same_but_for_mask { (part : PartData) (s t : Settings) (source : Option (List ℕ)) (w : ℕ) (h : History) → AreSameButForMask s t → MasksFirst h →
         pairs_loaded part s source w h ≡ pairs_loaded part t source w h }
-    ensures alone { (part : PartData) (later earlier : History) (w place : ℕ) → has_mfw earlier ≡ false →
+    ensures without_source { (part : PartData) (later earlier : History) (w place : ℕ) → has_mfw earlier ≡ false →
         MemoryGets part (later ++ after_load w place earlier) earlier (pairs_alone part earlier w later) }
 {}
 

@@ -21,8 +21,8 @@ ghost use Rattle.x7_part.specs.declared.slot.Slot.TheVariants.{Frame};
 pub fn slots_follow_the_addresses()
     ensures split { (part : PartData) (far : ℕ) → Contains (addresses_in part) far → (before : List Slot) × (slots_in part ≡ before ++ from far (slots_in part)) }
     ensures first { (part : PartData) (far : ℕ) → Contains (addresses_in part) far → slot_after part far 0 ≡ Frame far }
-    ensures count { (part : PartData) → length (slots_in part) ≡ length (addresses_in part) + 2 * length part.rows }
-    ensures all { (part : PartData) → IsPart part → from (slice_index (addresses_in part) 0) (slots_in part) ≡ slots_in part }
+    ensures length { (part : PartData) → length (slots_in part) ≡ length (addresses_in part) + 2 * length part.rows }
+    ensures all_from_first { (part : PartData) → IsPart part → from (slice_index (addresses_in part) 0) (slots_in part) ≡ slots_in part }
     ensures rows { (part : PartData) (before after : List RowData) (r : RowData) → part.rows ≡ before ++ r ∷ after →
         slots_in part ≡ slots part.far before ++ row_slots part.far r (slots part.far after) }
     ensures frames { (part : PartData) → addresses_among (slots_in part) ≡ addresses_in part }
