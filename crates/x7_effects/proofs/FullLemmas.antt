@@ -20,7 +20,7 @@ use Rattle.x7_pipeline.specs.Runs.{written_frames, onto, put_over, slots_from}
 use Rattle.x7_startup.specs.Startup.{Begun, NotBegun, StartupProgress, cor0_of}
 use Rattle.x7_startup.proofs.CallLemmas.{further}
 use Rattle.x7_regs.specs.Control.{forbids_reading, has_dec}
-use Rattle.x7_flow.specs.Controls.{ctl0_held, is_matched, mask_held, masked_word}
+use Rattle.x7_flow.specs.Controls.{ctl0_held, has_idcode, mask_held, masked_word}
 use Rattle.x7_flow.specs.FrameMemory.{memory_of}
 use Rattle.x7_engine.specs.declared.kept.Kept.{Kept}
 use Rattle.x7_engine.specs.Registers.{is_pending}
@@ -161,7 +161,7 @@ idle_startup : (part : PartData) (h : History) (n : ℕ) → IsStill part NotBeg
 idle_startup part h n (inl s) = s.0
 idle_startup part h n (inr s) = absurd (let no : 0 ≡ 7 = s.before in omega (arith, no))
 
-pub starts : (part : PartData) (kept : Kept) (h : History) (n noops : ℕ) → IsGoing part kept NotBegun h n → is_matched part.idcode h ≡ true → last_word 9 0 h ≡ 0x02003FE5 → 7 ≤ noops
+pub starts : (part : PartData) (kept : Kept) (h : History) (n noops : ℕ) → IsGoing part kept NotBegun h n → has_idcode part.idcode h ≡ true → last_word 9 0 h ≡ 0x02003FE5 → 7 ≤ noops
     → (let g : History = written n (command Lfrm ∷ command Start ∷ Check ∷ []) h in IsGoing part kept full_startup (entry (access.Write 4 13) (n + 8 + 8 + 8 + 8) ∷ g) (n + 8 + 8 + 8 + 8 + 4 * noops))
 starts part kept h n noops g m o few =
     let a : History = entry (access.Write 4 3) (n + 4 + 4) ∷ h in

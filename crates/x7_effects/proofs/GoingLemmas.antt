@@ -8,7 +8,7 @@ use Rattle.x7_part.specs.Part.{PartData}
 use Rattle.x7_startup.specs.Startup.{Call, StartupProgress}
 use Rattle.x7_startup.specs.Startup as call
 use Rattle.x7_engine.specs.declared.kept.Kept.{Kept}
-use Rattle.x7_flow.specs.Controls.{ctl0_held, is_matched, mask_held, masked_word}
+use Rattle.x7_flow.specs.Controls.{ctl0_held, has_idcode, mask_held, masked_word}
 use Rattle.x7_engine.specs.Registers.{clears_check, is_pending, takes_shutdown}
 use Rattle.x7_engine.specs.Startup.{startup_call}
 use Rattle.x7_flow.specs.Flow.{frame_fault}
@@ -126,13 +126,13 @@ idcode_passes part kept h = rw (eq_itself (part.idcode % 2 ^ 28)) refl
 pub check_passes : (part : PartData) (kept : Kept) (h : History) → why_by_access part kept h (access.Write 0 (running_check h)) ≡ None
 check_passes part kept h = rw (eq_itself (running_check h)) refl
 
-pub data_passes : (part : PartData) (kept : Kept) (h : History) (w : ℕ) → is_matched part.idcode h ≡ true → why_by_access part kept h (access.Write 2 w) ≡ None
+pub data_passes : (part : PartData) (kept : Kept) (h : History) (w : ℕ) → has_idcode part.idcode h ≡ true → why_by_access part kept h (access.Write 2 w) ≡ None
 data_passes part kept h w m = rw m refl
 
-pub copy_passes : (part : PartData) (kept : Kept) (h : History) (w : ℕ) → is_matched part.idcode h ≡ true → why_by_access part kept h (access.Write 10 w) ≡ None
+pub copy_passes : (part : PartData) (kept : Kept) (h : History) (w : ℕ) → has_idcode part.idcode h ≡ true → why_by_access part kept h (access.Write 10 w) ≡ None
 copy_passes part kept h w m = rw m refl
 
-pub start_passes : (part : PartData) (kept : Kept) (h : History) → is_matched part.idcode h ≡ true → why_by_access part kept h (access.Write 4 5) ≡ None
+pub start_passes : (part : PartData) (kept : Kept) (h : History) → has_idcode part.idcode h ≡ true → why_by_access part kept h (access.Write 4 5) ≡ None
 start_passes part kept h m = rw m refl
 
 pub ctl0_passes : (part : PartData) (kept : Kept) (h : History) (w : ℕ) → has_dec (masked_word 5 (mask_held h) (access.Write 5 w) (ctl0_held h)) ≡ false → why_by_access part kept h (access.Write 5 w) ≡ None

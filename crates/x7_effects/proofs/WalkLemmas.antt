@@ -15,7 +15,7 @@ use Rattle.x7_pipeline.specs.FarAsRead.{has_frame_at, loaded_base}
 use Rattle.x7_pipeline.specs.Runs.{written_frames, onto, put_over, slots_from}
 use Rattle.x7_words.specs.Word.{field_of}
 use Rattle.x7_regs.specs.Control.{forbids_reading, forbids_writing}
-use Rattle.x7_flow.specs.Controls.{ctl0_held, is_matched}
+use Rattle.x7_flow.specs.Controls.{ctl0_held, has_idcode}
 use Rattle.x7_flow.specs.Flow.{Flow, base_of, frame_fault, run_of}
 use Rattle.x7_flow.specs.FrameMemory.{memory_of}
 use Rattle.x7_flow.specs.Settings.{Settings, settings_of, takes_frames}
@@ -50,7 +50,7 @@ put_same xs ys m n e s = override_same m n (planned xs) (planned ys) s (λ far. 
 
 -- ---- words of frame data
 
-pub going_words : (part : PartData) (kept : Kept) (startup : StartupProgress) (h : History) (p : ℕ) (ws : List ℕ) → is_matched part.idcode h ≡ true → NoneRefused part reg.Fdri p ws h → IsGoing part kept startup h p
+pub going_words : (part : PartData) (kept : Kept) (startup : StartupProgress) (h : History) (p : ℕ) (ws : List ℕ) → has_idcode part.idcode h ≡ true → NoneRefused part reg.Fdri p ws h → IsGoing part kept startup h p
     → IsGoing part kept startup (writes_entered p 2 ws h) (p + 4 * length ws)
 unfolding NoneRefused
 going_words part kept startup h p [] m none g = going_bytes part kept startup h p (p + 4 * 0) (omega arith) g
@@ -74,18 +74,18 @@ allows_writing ctl0 e = by (field_of 4 2 ctl0 == 0) (field_of 5 1 ctl0 == 1) ref
     by true false f g e = refl
     by true true f g e = absurd (no_sbits ctl0 (grind (arith, nat_tests, f)) (grind (arith, nat_tests, g)))
 
-pub takes : (part : PartData) (h : History) → is_matched part.idcode h ≡ true → forbids_reading (ctl0_held h) ≡ false → command_held h ≡ 1 → takes_frames (settings_of part.idcode h) ≡ true
+pub takes : (part : PartData) (h : History) → has_idcode part.idcode h ≡ true → forbids_reading (ctl0_held h) ≡ false → command_held h ≡ 1 → takes_frames (settings_of part.idcode h) ≡ true
 takes part h m f e = rw (m, allows_writing (ctl0_held h) f, e) refl
 
--- ---- a matched device that may be written, with this memory
+-- ---- a device whose IDCODE was written and that may be written, with this memory
 
 pub record IsReady (part : PartData) (kept : Kept) (startup : StartupProgress) (h : History) (n : ℕ) (m : FrameMap) : Type 0 where
   pub going : IsGoing part kept startup h n
-  pub matched : is_matched part.idcode h ≡ true
+  pub matched : has_idcode part.idcode h ≡ true
   pub allows : forbids_reading (ctl0_held h) ≡ false
   pub memory : AreSame (memory_of part h) m
 
--- a matched device that may be written, after a command and a FAR load
+-- a device whose IDCODE was written and that may be written, after a command and a FAR load
 pub record IsLoaded (part : PartData) (kept : Kept) (startup : StartupProgress) (held far : ℕ) (h : History) (n : ℕ) (m : FrameMap) : Type 0 where
   pub ready : IsReady part kept startup h n m
   pub held_is : command_held h ≡ held

@@ -14,7 +14,7 @@ use Rattle.x7_engine.specs.declared.kept.Kept.{Kept}
 use Rattle.x7_engine.specs.declared.stop.StopCause.{StopCause}
 use Rattle.x7_engine.specs.declared.stop.StopCause.TheVariants as stop
 use Rattle.x7_engine.specs.Checked.{HasStartAndDesync, StandsIn}
-use Rattle.x7_flow.specs.Controls.{is_matched, same_idcode}
+use Rattle.x7_flow.specs.Controls.{has_idcode, same_idcode}
 use Rattle.x7_engine.specs.Sequence.{Begins}
 use Rattle.x7_engine.specs.Startup.{phase_by, startup_progress}
 use Rattle.x7_engine.specs.State.{history_by, history_taken, last_counted, state_of, stop_in, taken_by, taken_of}
@@ -110,7 +110,7 @@ none_of false false false true e v w x y z q = absurd (cc)
 none_of false false false false e v w x y z q = (refl, refl, refl, refl)
 
 write_none : (part : PartData) (kept : Kept) (h : History) (register w : ℕ) → why_at part kept h (Write register w) ≡ None
-    → ((register == 0 && not (w == running_check h)) ≡ false) × (asks_decryption h register w ≡ false) × ((register == 12 && not (same_idcode part.idcode w)) ≡ false) × ((needs_match h register w && not (is_matched part.idcode h)) ≡ false)
+    → ((register == 0 && not (w == running_check h)) ≡ false) × (asks_decryption h register w ≡ false) × ((register == 12 && not (same_idcode part.idcode w)) ≡ false) × ((needs_match h register w && not (has_idcode part.idcode h)) ≡ false)
 write_none part kept h register w e = none_of _ _ _ _ _ _ _ _ _ _ (parts_none (why_by_write part kept h register w) _ e).0
 
 not_false : (b : Bool) → not b ≡ false → b ≡ true
@@ -137,10 +137,10 @@ needs_start h register w e = by (register == 2) (register == 10)
     by false true = refl
     by false false = e
 
-matched_at : (part : PartData) (kept : Kept) (h : History) (access : Access) → executes 5 h access ≡ true → why_at part kept h access ≡ None → IsTrue (is_matched part.idcode h)
+matched_at : (part : PartData) (kept : Kept) (h : History) (access : Access) → executes 5 h access ≡ true → why_at part kept h access ≡ None → IsTrue (has_idcode part.idcode h)
 matched_at part kept h (Read register n) x e = absurd (cc)
 matched_at part kept h (Bad w) x e = absurd (cc)
-matched_at part kept h (Write register w) x e = and_not (needs_match h register w) (is_matched part.idcode h) (write_none part kept h register w e).3 (needs_start h register w x)
+matched_at part kept h (Write register w) x e = and_not (needs_match h register w) (has_idcode part.idcode h) (write_none part kept h register w e).3 (needs_start h register w x)
 
 -- ---- where startup has begun
 

@@ -9,7 +9,7 @@ use Rattle.x7_packets.specs.Packet.{payload_steps}
 use Rattle.x7_packets.proofs.HistoryLemmas.{entered_all_append}
 use Rattle.x7_part.specs.Part.{PartData}
 use Rattle.x7_pipeline.specs.declared.fault.RunFault.{RunFault}
-use Rattle.x7_flow.specs.Controls.{is_matched}
+use Rattle.x7_flow.specs.Controls.{has_idcode}
 use Rattle.x7_flow.specs.Flow.{frame_fault}
 use Rattle.x7_flow.specs.Standing.{FramesStandFor, FramesState}
 use Rattle.x7_flow.specs.Words.{NoneRefused, TakesWords, WordsTaken, WordsTo, with_words_to, count_taken, count_seen}
@@ -23,17 +23,17 @@ use Rattle.x7_engine.proofs.BodyLemmas.{length_of_words}
 use Rattle.x7_engine.proofs.FrameLemmas.{why_fdri, why_mfwr}
 use Rattle.x7_engine.proofs.PlainLemmas.{IsQuiet, NoneStop, fdri_quiet, mfwr_quiet}
 
--- words of a register on a matched device, none of which the frames refuse, stop nothing
-none_stop : (part : PartData) (kept : Kept) (r : Reg) (n : ℕ) (ws : List ℕ) (h : History) → ((g : History) (w : ℕ) → is_matched part.idcode g ≡ true → why_by_write part kept g (number_of r) w ≡ None)
-    → ((g : History) (w place : ℕ) → is_matched part.idcode g ≡ true → is_matched part.idcode (entry (Write (number_of r) w) place ∷ g) ≡ true)
-    → is_matched part.idcode h ≡ true → NoneRefused part r n ws h → NoneStop part kept (number_of r) n ws h
+-- words of a register on a device whose IDCODE was written, none of which the frames refuse, stop nothing
+none_stop : (part : PartData) (kept : Kept) (r : Reg) (n : ℕ) (ws : List ℕ) (h : History) → ((g : History) (w : ℕ) → has_idcode part.idcode g ≡ true → why_by_write part kept g (number_of r) w ≡ None)
+    → ((g : History) (w place : ℕ) → has_idcode part.idcode g ≡ true → has_idcode part.idcode (entry (Write (number_of r) w) place ∷ g) ≡ true)
+    → has_idcode part.idcode h ≡ true → NoneRefused part r n ws h → NoneStop part kept (number_of r) n ws h
 unfolding NoneRefused
 none_stop part kept r n [] h own stays m none = tt
 none_stop part kept r n (w ∷ ws) h own stays m none =
     let free : why_at part kept h (Write (number_of r) w) ≡ None = ap (λ (o : Option StopCause). option_or o (why_by_frames (frame_fault part h (Write (number_of r) w)))) (own h w m) ∙ ap why_by_frames none.0 in
     (free, none_stop part kept r (n + 4) ws (entry (Write (number_of r) w) (n + 4) ∷ h) own stays (stays h w (n + 4) m) none.1)
 
-pub data_none : (part : PartData) (kept : Kept) (r : Reg) (n : ℕ) (ws : List ℕ) (h : History) → TakesWords r → is_matched part.idcode h ≡ true → NoneRefused part r n ws h → NoneStop part kept (number_of r) n ws h
+pub data_none : (part : PartData) (kept : Kept) (r : Reg) (n : ℕ) (ws : List ℕ) (h : History) → TakesWords r → has_idcode part.idcode h ≡ true → NoneRefused part r n ws h → NoneStop part kept (number_of r) n ws h
 data_none part kept r n ws h t = elim t [
   | inl e ↦ rw e (none_stop part kept reg.Fdri n ws h (why_fdri part kept) (λ g w place m. m))
   | inr e ↦ rw e (none_stop part kept reg.Mfwr n ws h (why_mfwr part kept) (λ g w place m. m))

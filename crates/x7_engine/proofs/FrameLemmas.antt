@@ -15,7 +15,7 @@ use Rattle.x7_regs.specs.Command.{command_by}
 use Rattle.x7_pipeline.specs.declared.fault.RunFault.{RunFault}
 use Rattle.x7_pipeline.specs.declared.fault.RunFault.TheVariants.{Address, Multi, Overrun}
 use Rattle.x7_flow.specs.Asking.{Copies, Load, Commands, Other, Word}
-use Rattle.x7_flow.specs.Controls.{is_matched, same_idcode}
+use Rattle.x7_flow.specs.Controls.{has_idcode, same_idcode}
 use Rattle.x7_flow.specs.FrameAccess.{reads_frame_data}
 use Rattle.x7_flow.specs.Settings.{settings_of, takes_copies, takes_frames}
 use Rattle.x7_flow.specs.Flow.{far_in, fault_by, flow_of, frame_fault}
@@ -118,10 +118,10 @@ frames_none part f why h d e z s = subst (λ (n : ℕ). FramesAre part f why h n
 
 -- ---- an access stops a device by one thing alone
 
-pub why_fdri : (part : PartData) (kept : Kept) (h : History) (w : ℕ) → is_matched part.idcode h ≡ true → why_by_write part kept h 2 w ≡ None
+pub why_fdri : (part : PartData) (kept : Kept) (h : History) (w : ℕ) → has_idcode part.idcode h ≡ true → why_by_write part kept h 2 w ≡ None
 why_fdri part kept h w t = rw t refl
 
-pub why_mfwr : (part : PartData) (kept : Kept) (h : History) (w : ℕ) → is_matched part.idcode h ≡ true → why_by_write part kept h 10 w ≡ None
+pub why_mfwr : (part : PartData) (kept : Kept) (h : History) (w : ℕ) → has_idcode part.idcode h ≡ true → why_by_write part kept h 10 w ≡ None
 why_mfwr part kept h w t = rw t refl
 
 -- an access that the frames refuse stops it by nothing else
@@ -133,13 +133,13 @@ one_why part kept h (Write r w) fault e = by (r == 1) (r == 4) (r == 2 && takes_
     at_fdri : (r == 2 && takes_frames (settings_of part.idcode h)) ≡ true → why_by_write part kept h r w ≡ None
     at_fdri t =
         let p = and_parts (r == 2) (takes_frames (settings_of part.idcode h)) t in
-        let m = and_parts (is_matched part.idcode h) _ p.1 in
+        let m = and_parts (has_idcode part.idcode h) _ p.1 in
         subst (λ (n : ℕ). why_by_write part kept h n w ≡ None) (sym (eqb-true r 2 p.0)) (why_fdri part kept h w m.0)
 
     at_mfwr : (r == 10 && takes_copies (settings_of part.idcode h)) ≡ true → why_by_write part kept h r w ≡ None
     at_mfwr t =
         let p = and_parts (r == 10) (takes_copies (settings_of part.idcode h)) t in
-        let m = and_parts (is_matched part.idcode h) _ p.1 in
+        let m = and_parts (has_idcode part.idcode h) _ p.1 in
         subst (λ (n : ℕ). why_by_write part kept h n w ≡ None) (sym (eqb-true r 10 p.0)) (why_mfwr part kept h w m.0)
 
     by : (far cmd fdri mfwr : Bool) → fault_by part (if far then Load w else if cmd then Commands (command_by w) else if fdri then Word w else if mfwr then Copies else Other) (flow_of part h) ≡ Some fault →
@@ -155,7 +155,7 @@ no_refusal : (part : PartData) (kept : Kept) (h : History) (access : Access) →
 no_refusal part kept h (Read r count) = refl
 no_refusal part kept h (Bad w) = refl
 no_refusal part kept h (Write r w) =
-    by (r == 0 && not (w == running_check h)) (asks_decryption h r w) (r == 12 && not (same_idcode part.idcode w)) (needs_match h r w && not (is_matched part.idcode h)) (r == 4 && (w % 2 ^ 5 == 15 && not (is_fallback kept.kind)))
+    by (r == 0 && not (w == running_check h)) (asks_decryption h r w) (r == 12 && not (same_idcode part.idcode w)) (needs_match h r w && not (has_idcode part.idcode h)) (r == 4 && (w % 2 ^ 5 == 15 && not (is_fallback kept.kind)))
   where
     by : (crc dec id match iprog : Bool) → is_refusal (
         if crc then Some (stop.Fault (fault.Crc (running_check h) w)) else

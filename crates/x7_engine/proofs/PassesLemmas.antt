@@ -9,7 +9,7 @@ use Rattle.x7_regs.specs.Command.{code_of}
 use Rattle.x7_regs.specs.Register.{number_of}
 use Rattle.x7_regs.specs.declared.command.Command.TheVariants as command
 use Rattle.x7_regs.specs.declared.register.Reg.TheVariants as reg
-use Rattle.x7_flow.specs.Controls.{ctl0_held, is_matched, mask_held, masked_word, same_idcode}
+use Rattle.x7_flow.specs.Controls.{ctl0_held, has_idcode, mask_held, masked_word, same_idcode}
 use Rattle.x7_flow.specs.Flow.{frame_fault}
 use Rattle.x7_engine.specs.Kept.{is_fallback}
 use Rattle.x7_regs.specs.Control.{has_dec}
@@ -33,7 +33,7 @@ why_from part fallback check mask ctl0 matched held r w =
     if (r == number_of reg.Fdri || (r == number_of reg.Mfwr || is_command (code_of command.Start) (executed_by held (Write r w)))) && not matched then Some (stop.Fault (fault.Id part.idcode 0)) else
     if r == number_of reg.Cmd && (w % 2 ^ 5 == code_of command.Iprog && not fallback) then Some stop.Iprog else None
 
-from_is : (part : PartData) (kept : Kept) (h : History) (r w : ℕ) → why_by_write part kept h r w ≡ why_from part (is_fallback kept.kind) (running_check h) (mask_held h) (ctl0_held h) (is_matched part.idcode h) (command_held h) r w
+from_is : (part : PartData) (kept : Kept) (h : History) (r w : ℕ) → why_by_write part kept h r w ≡ why_from part (is_fallback kept.kind) (running_check h) (mask_held h) (ctl0_held h) (has_idcode part.idcode h) (command_held h) r w
 from_is part kept h r w = refl
 
 less : (b1 b2 b3 b4 x y : Bool) (s1 s2 s3 s4 s5 : StopCause) → y ≡ false → (if b1 then Some s1 else if b2 then Some s2 else if b3 then Some s3 else if b4 then Some s4 else if x then Some s5 else None) ≡ None
@@ -73,13 +73,13 @@ module _ (part : PartData) (kept power : Kept) (low : ℕ) (g h : History) (fell
   passes : (a : Access) → why_by_access part power h a ≡ None → why_by_access part kept g a ≡ None
   passes (Write r w) e =
       from_is part kept g r w
-      ∙ ap (λ (f : Bool). why_from part f (running_check g) (mask_held g) (ctl0_held g) (is_matched part.idcode g) (command_held g) r w) fell
-      ∙ ap (λ (x : ℕ). why_from part true x (mask_held g) (ctl0_held g) (is_matched part.idcode g) (command_held g) r w) (check part low g h s)
-      ∙ ap (λ (x : ℕ). why_from part true (running_check h) x (ctl0_held g) (is_matched part.idcode g) (command_held g) r w) (mask part low g h s)
-      ∙ ap (λ (x : ℕ). why_from part true (running_check h) (mask_held h) x (is_matched part.idcode g) (command_held g) r w) s.ctl0
+      ∙ ap (λ (f : Bool). why_from part f (running_check g) (mask_held g) (ctl0_held g) (has_idcode part.idcode g) (command_held g) r w) fell
+      ∙ ap (λ (x : ℕ). why_from part true x (mask_held g) (ctl0_held g) (has_idcode part.idcode g) (command_held g) r w) (check part low g h s)
+      ∙ ap (λ (x : ℕ). why_from part true (running_check h) x (ctl0_held g) (has_idcode part.idcode g) (command_held g) r w) (mask part low g h s)
+      ∙ ap (λ (x : ℕ). why_from part true (running_check h) (mask_held h) x (has_idcode part.idcode g) (command_held g) r w) s.ctl0
       ∙ ap (λ (x : Bool). why_from part true (running_check h) (mask_held h) (ctl0_held h) x (command_held g) r w) s.matched
-      ∙ ap (λ (x : ℕ). why_from part true (running_check h) (mask_held h) (ctl0_held h) (is_matched part.idcode h) x r w) (held part low g h s)
-      ∙ lets_pass part (is_fallback power.kind) (running_check h) (mask_held h) (ctl0_held h) (is_matched part.idcode h) (command_held h) r w (sym (from_is part power h r w) ∙ e)
+      ∙ ap (λ (x : ℕ). why_from part true (running_check h) (mask_held h) (ctl0_held h) (has_idcode part.idcode h) x r w) (held part low g h s)
+      ∙ lets_pass part (is_fallback power.kind) (running_check h) (mask_held h) (ctl0_held h) (has_idcode part.idcode h) (command_held h) r w (sym (from_is part power h r w) ∙ e)
   passes (Read r n) e = refl
   passes (Bad w) e = absurd (cc)
 

@@ -23,7 +23,7 @@ use Rattle.x7_engine.specs.declared.stop.StopCause.{StopCause}
 use Rattle.x7_engine.specs.declared.stop.StopCause.TheVariants as stop
 use Rattle.x7_engine.specs.Clock.{ClockState, IsClock, newest_place}
 use Rattle.x7_engine.specs.Kept.{is_fallback}
-use Rattle.x7_flow.specs.Controls.{is_matched, same_idcode}
+use Rattle.x7_flow.specs.Controls.{has_idcode, same_idcode}
 use Rattle.x7_engine.specs.Registers.{has_ghigh_after, has_effect, has_ghigh, clears_check, is_controlling, is_pending, is_pending_after, takes_shutdown, word_held, wrote_iprog}
 use Rattle.x7_engine.specs.Standing.{AreControls, ControlsState, counted_in}
 use Rattle.x7_engine.specs.Startup.{has_ended, phase_by, startup_call, startup_calls}
@@ -115,7 +115,7 @@ why_none part kept h register w p =
 
 -- the flags stay
 pub record AreFlags (idcode : ℕ) (matched pending ghigh iprog : Bool) (h : History) : Type 0 where
-  pub matched_is : matched ≡ is_matched idcode h
+  pub matched_is : matched ≡ has_idcode idcode h
   pub pending_is : pending ≡ is_pending h
   pub ghigh_is : ghigh ≡ has_ghigh h
   pub iprog_is : iprog ≡ wrote_iprog h
@@ -126,7 +126,7 @@ flags_more idcode matched pending ghigh iprog h register w place p s =
     let none : executed_by (command_held h) (Write register w) ≡ None = executes_none (command_held h) register w p in
     let cleared : clears_check h (Write register w) ≡ false = rw (none, p.crc) refl in
     record {
-      matched_is = s.matched_is ∙ sym (ap (λ b. b && same_idcode idcode w || is_matched idcode h) p.idcode);
+      matched_is = s.matched_is ∙ sym (ap (λ b. b && same_idcode idcode w || has_idcode idcode h) p.idcode);
       pending_is = s.pending_is ∙ sym (ap (λ o. is_pending_after o (clears_check h (Write register w)) (is_pending h)) none ∙ ap (λ b. is_pending_after None b (is_pending h)) cleared);
       ghigh_is = s.ghigh_is ∙ sym (ap (λ o. has_ghigh_after o (takes_shutdown h (Write register w)) (has_ghigh h)) none ∙ ap (λ b. has_ghigh_after None (b && is_pending h) (has_ghigh h)) cleared);
       iprog_is = s.iprog_is ∙ sym (ap (λ b. b && w % 2 ^ 5 == 15 || wrote_iprog h) p.cmd);

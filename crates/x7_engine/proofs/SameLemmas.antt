@@ -14,7 +14,7 @@ use Rattle.x7_regs.specs.declared.command.Command.{Command}
 use Rattle.x7_startup.specs.Startup.{Call, NotBegun, StartupProgress, is_armed, progress_of, since_shutdown}
 use Rattle.x7_startup.specs.Startup as call
 use Rattle.x7_startup.proofs.CallLemmas.{first_place, further, is_armed_arm, is_armed_bytes, is_armed_desync, is_armed_drop, progress_arm, progress_bytes, progress_desync, progress_drop}
-use Rattle.x7_flow.specs.Controls.{ctl0_held, is_matched, mask_held, masked_word, names_part}
+use Rattle.x7_flow.specs.Controls.{ctl0_held, has_idcode, mask_held, masked_word, names_part}
 use Rattle.x7_flow.specs.Flow.{Flow, asked_under, asks, fault_by, flow_by, flow_of, frame_fault}
 use Rattle.x7_flow.specs.FrameMemory.{memory_of, puts}
 use Rattle.x7_flow.specs.Settings.{Settings, settings_of}
@@ -58,7 +58,7 @@ after_access low g h e l s same n m =
 pub record IsSame (part : PartData) (low : ℕ) (g h : History) : Type 0 where
   pub words : (r d : ℕ) → (16 == r) ≡ false → last_word r d g ≡ last_word r d h
   pub ctl0 : ctl0_held g ≡ ctl0_held h
-  pub matched : is_matched part.idcode g ≡ is_matched part.idcode h
+  pub matched : has_idcode part.idcode g ≡ has_idcode part.idcode h
   pub open_are : open_writes g ≡ open_writes h
   pub pending : is_pending g ≡ is_pending h
   pub flow : flow_of part g ≡ flow_of part h
@@ -77,10 +77,10 @@ module _ (part : PartData) (low : ℕ) (g h : History) (s : IsSame part low g h)
 
   settings : settings_of part.idcode g ≡ settings_of part.idcode h
   settings =
-      ap (λ (x : Bool). record { is_matched = x; mask = mask_held g; ctl0 = ctl0_held g; command_code = command_held g }) s.matched
-      ∙ ap (λ (x : ℕ). record { is_matched = is_matched part.idcode h; mask = x; ctl0 = ctl0_held g; command_code = command_held g }) mask
-      ∙ ap (λ (x : ℕ). record { is_matched = is_matched part.idcode h; mask = mask_held h; ctl0 = x; command_code = command_held g }) s.ctl0
-      ∙ ap (λ (x : ℕ). record { is_matched = is_matched part.idcode h; mask = mask_held h; ctl0 = ctl0_held h; command_code = x }) held
+      ap (λ (x : Bool). record { has_idcode = x; mask = mask_held g; ctl0 = ctl0_held g; command_code = command_held g }) s.matched
+      ∙ ap (λ (x : ℕ). record { has_idcode = has_idcode part.idcode h; mask = x; ctl0 = ctl0_held g; command_code = command_held g }) mask
+      ∙ ap (λ (x : ℕ). record { has_idcode = has_idcode part.idcode h; mask = mask_held h; ctl0 = x; command_code = command_held g }) s.ctl0
+      ∙ ap (λ (x : ℕ). record { has_idcode = has_idcode part.idcode h; mask = mask_held h; ctl0 = ctl0_held h; command_code = x }) held
 
   cleared : (a : Access) → clears_check g a ≡ clears_check h a
   cleared a = ap (λ (c : ℕ). clears_by (executed_by c a) (running_check g) a) held ∙ ap (λ (k : ℕ). clears_by (executed_by (command_held h) a) k a) check
@@ -142,7 +142,7 @@ ordered part c f i =
 pub record IsNear (part : PartData) (low : ℕ) (g h : History) : Type 0 where
   pub words : (r d : ℕ) → (16 == r) ≡ false → (4 == r) ≡ false → last_word r d g ≡ last_word r d h
   pub ctl0 : ctl0_held g ≡ ctl0_held h
-  pub matched : is_matched part.idcode g ≡ is_matched part.idcode h
+  pub matched : has_idcode part.idcode g ≡ has_idcode part.idcode h
   pub pending : is_pending g ≡ is_pending h
   pub flow : IsIdle (flow_of part g)
   pub other_flow : IsIdle (flow_of part h)

@@ -10,7 +10,7 @@ use Rattle.x7_part.specs.Part.{PartData}
 use Rattle.x7_memory.specs.FrameMap.{AreSame}
 use Rattle.x7_memory.specs.Frames.{frame_at}
 use Rattle.x7_flow.specs.FrameMemory.{memory_of}
-use Rattle.x7_flow.specs.Saved.{FramesBack, KeepsFrames}
+use Rattle.x7_flow.specs.Saved.{FramesBack, SavesFrames}
 use Rattle.x7_flow.specs.Standing.{FramesFit, FramesStandFor}
 use Rattle.x7_flow.proofs.SavedLemmas.{back_one, back_same}
 use Rattle.x7_engine.specs.declared.fed.Fed.{Fed}
@@ -76,7 +76,7 @@ memory_stands : (part : PartData) (kept : Kept) (wrapped : Bool) (d : DeviceStat
 memory_stands part kept wrapped d bytes s = λ far. s.registers_are.frames.stands.memory far ∙ s.registers_are.frames.memory_same far
 
 module _ (part : PartData) (kept : Kept) (wrapped : Bool) (u : UndoState) (old new : DeviceState) (bytes more : List ℕ) where
-  frames_more : KeepsFrames part u.frames old.registers.frames → FramesFit part old.registers.frames → FramesFit part new.registers.frames → NoWordDue old → length more ≤ 4 → 0 < length more
+  frames_more : SavesFrames part u.frames old.registers.frames → FramesFit part old.registers.frames → FramesFit part new.registers.frames → NoWordDue old → length more ≤ 4 → 0 < length more
       → DeviceStandsFor part kept wrapped old bytes → DeviceStandsFor part kept wrapped new (bytes ++ more) → FramesBack part u.frames new.registers.frames old.registers.frames
   frames_more k o n none few some s t =
       let going : old.registers.stop ≡ None = no_stop part kept bytes more old.registers.stop new.registers.stop t.fits some s.stop_is t.stop_is in
@@ -95,14 +95,14 @@ module _ (part : PartData) (kept : Kept) (wrapped : Bool) (u : UndoState) (old n
         | inr one ↦ back_one part u.frames old.registers.frames new.registers.frames h one.0 k o n stands (λ far. memory far ∙ ap (λ (x : History). memory_of part x far) one.1)
       ]
 
-  frames_none : KeepsFrames part u.frames old.registers.frames → FramesFit part old.registers.frames → FramesFit part new.registers.frames → more ≡ []
+  frames_none : SavesFrames part u.frames old.registers.frames → FramesFit part old.registers.frames → FramesFit part new.registers.frames → more ≡ []
       → DeviceStandsFor part kept wrapped old bytes → DeviceStandsFor part kept wrapped new (bytes ++ more) → FramesBack part u.frames new.registers.frames old.registers.frames
   frames_none k o n e s t =
       let all : bytes ++ more ≡ bytes = ap (λ (m : List ℕ). bytes ++ m) e ∙ append-nil bytes in
       back_same part u.frames old.registers.frames new.registers.frames k o n
       (λ far. memory_stands part kept wrapped new (bytes ++ more) t far ∙ ap (λ (b : List ℕ). memory_in part kept b far) all ∙ sym (memory_stands part kept wrapped old bytes s far))
 
-pub frames_back : (part : PartData) (kept : Kept) (wrapped : Bool) (u : UndoState) (old new : DeviceState) (bytes more : List ℕ) → KeepsFrames part u.frames old.registers.frames → FramesFit part old.registers.frames → FramesFit part new.registers.frames
+pub frames_back : (part : PartData) (kept : Kept) (wrapped : Bool) (u : UndoState) (old new : DeviceState) (bytes more : List ℕ) → SavesFrames part u.frames old.registers.frames → FramesFit part old.registers.frames → FramesFit part new.registers.frames
     → NoWordDue old → length more ≤ 4 → DeviceStandsFor part kept wrapped old bytes → DeviceStandsFor part kept wrapped new (bytes ++ more) → FramesBack part u.frames new.registers.frames old.registers.frames
 frames_back part kept wrapped u old new bytes [] k o n none few s t = frames_none part kept wrapped u old new bytes [] k o n refl s t
 frames_back part kept wrapped u old new bytes (x ∷ more) k o n none few s t = frames_more part kept wrapped u old new bytes (x ∷ more) k o n none few (omega arith) s t
@@ -117,7 +117,7 @@ leads_back part kept wrapped u old new bytes more k n none few s t =
       part = here ∙ sym there;
       values = k.values;
       frames = subst (λ (p : PartData). FramesBack p u.frames new.registers.frames old.registers.frames) (sym there)
-          (frames_back part kept wrapped u old new bytes more (subst (λ (p : PartData). KeepsFrames p u.frames old.registers.frames) there k.frames) (subst (λ (p : PartData). FramesFit p old.registers.frames) there k.frames_fit)
+          (frames_back part kept wrapped u old new bytes more (subst (λ (p : PartData). SavesFrames p u.frames old.registers.frames) there k.frames) (subst (λ (p : PartData). FramesFit p old.registers.frames) there k.frames_fit)
           (subst (λ (p : PartData). FramesFit p new.registers.frames) here n) none few s t);
     }
 

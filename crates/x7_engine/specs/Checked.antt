@@ -4,7 +4,7 @@ use Rattle.std.specs.Prelude.{◌≡◌, ℕ, ◌<◌, ◌≤◌, ◌∷◌, ◌
 use Rattle.x7_packets.specs.History.{Access, Entry, History, entry}
 use Rattle.x7_regs.specs.declared.command.Command.TheVariants.{Desync, Start}
 use Rattle.x7_regs.specs.Command.{code_of}
-use Rattle.x7_flow.specs.Controls.{is_matched}
+use Rattle.x7_flow.specs.Controls.{has_idcode}
 use Rattle.x7_engine.specs.Sequence.{Executes}
 
 -- the access stands in the history at this place, after these older ones
@@ -12,7 +12,7 @@ pub record StandsIn (h : History) (access : Access) (place : ℕ) (older : Histo
   pub newer : History
   pub split : h ≡ newer ++ entry access place ∷ older
 
--- START was executed on a matched device, and DESYNC after it, by byte n
+-- START was executed on a device whose IDCODE was written, and DESYNC after it, by byte n
 pub record HasStartAndDesync (idcode : ℕ) (h : History) (n : ℕ) : Type 0 where
   pub newer : History
   pub desync : Entry
@@ -22,6 +22,6 @@ pub record HasStartAndDesync (idcode : ℕ) (h : History) (n : ℕ) : Type 0 whe
   pub split : h ≡ newer ++ desync ∷ (between ++ start ∷ older)
   pub desync_is : Executes (code_of Desync) (between ++ start ∷ older) desync.access
   pub start_is : Executes (code_of Start) older start.access
-  pub matched : IsTrue (is_matched idcode older)
+  pub matched : IsTrue (has_idcode idcode older)
   pub order : start.place < desync.place
   pub within : desync.place ≤ n

@@ -32,7 +32,7 @@ use Rattle.x7_engine.specs.declared.registers.Registers.{Registers}
 use Rattle.x7_engine.specs.declared.stop.StopCause.{StopCause}
 use Rattle.x7_engine.specs.declared.stop.StopCause.TheVariants as stop
 use Rattle.x7_engine.specs.Clock.{ClockState, IsClock, clock_in}
-use Rattle.x7_flow.specs.Controls.{is_matched, masked_register}
+use Rattle.x7_flow.specs.Controls.{has_idcode, masked_register}
 use Rattle.x7_flow.specs.FrameAccess.{reads_frame_data}
 use Rattle.x7_engine.specs.Registers.{has_ghigh, is_pending, word_held, wrote_iprog}
 use Rattle.x7_engine.specs.State.{reads_of, history_taken, last_counted, stop_in}
@@ -151,7 +151,7 @@ pub record AreControls (d : ControlsState) (h : History) : Type 0 where
 -- the stored check and flags are those of the history
 pub record IsProgress (idcode : ℕ) (d : ProgressState) (h : History) : Type 0 where
   pub check : d.check ≡ running_check h
-  pub matched : d.matched ≡ is_matched idcode h
+  pub matched : d.matched ≡ has_idcode idcode h
   pub pending : d.pending ≡ is_pending h
   pub ghigh : d.ghigh ≡ has_ghigh h
   pub iprog : d.iprog ≡ wrote_iprog h

@@ -6,7 +6,7 @@ use Rattle.x7_regs.specs.declared.boot_status.Attempt.{Attempt}
 use Rattle.x7_regs.specs.declared.boot_status.Kind.{Kind}
 use Rattle.x7_memory.specs.Frames.{zero_frames}
 use Rattle.x7_pipeline.specs.Saved.{IsSavedOf, SavedState}
-use Rattle.x7_flow.specs.Saved.{FramesBack, KeepsFrames}
+use Rattle.x7_flow.specs.Saved.{FramesBack, SavesFrames}
 use Rattle.x7_flow.specs.Standing.{FramesFit, FramesState, frames_state}
 use Rattle.x7_engine.specs.declared.due.Due.{Due}
 use Rattle.x7_engine.specs.declared.saved.SavedRegisters.{SavedRegisters}
@@ -73,7 +73,7 @@ pub record KeepsValues (u : UndoState) (d : DeviceState) : Type 0 where
 -- a device is kept: its values, and the frame that its next word or copy would change
 pub record KeepsDevice (u : UndoState) (d : DeviceState) : Type 0 where
   pub values : KeepsValues u d
-  pub frames : KeepsFrames d.part u.frames d.registers.frames
+  pub frames : SavesFrames d.part u.frames d.registers.frames
   pub frames_fit : FramesFit d.part d.registers.frames
 
 -- What is kept leads from a device back to an old one: the values are those of the old device, and the memory of the

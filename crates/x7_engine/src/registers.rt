@@ -160,7 +160,7 @@ impl Registers {
         ensures held { (part : PartData) (kept : KeptData) (h : History) (n : ℕ) → RegistersStandFor part kept (registers_in self.now) h n → result.command_code ≡ command_held h }
     {
         FrameSettings {
-            is_matched: self.progress.matched,
+            has_idcode: self.progress.matched,
             ctl0: self.controls.ctl0,
             command_code: self.command(),
         }

@@ -43,7 +43,7 @@ settings_alike idcode s t (e ∷ later) a m =
     let x : Settings = settings_from idcode s later in
     let y : Settings = settings_from idcode t later in (
       record {
-        is_matched_same = ap (λ (b : Bool). names_part idcode e.access || b) alike.is_matched_same;
+        has_idcode_same = ap (λ (b : Bool). names_part idcode e.access || b) alike.has_idcode_same;
         ctl0_same = ctl0_same e.access x.mask y.mask x.ctl0 y.ctl0 (λ w. before.1 (m.0 w)) alike.ctl0_same;
         command_code_same = ap (command_code_after e.access) alike.command_code_same;
       },
@@ -54,10 +54,10 @@ settings_alike idcode s t (e ∷ later) a m =
 
 asked_alike : (s t : Settings) (access : Access) → AreSameButForMask s t → asked_under s access ≡ asked_under t access
 asked_alike s t (Write r w) a =
-    let by : Bool → ℕ → ℕ → Asked = λ b c d. write_asked (record { is_matched = b; mask = 0; ctl0 = c; command_code = d }) r w in
-    ap (λ (b : Bool). by b s.ctl0 s.command_code) a.is_matched_same ∙ ap (λ (c : ℕ). by t.is_matched c s.command_code) a.ctl0_same ∙ ap (λ (d : ℕ). by t.is_matched t.ctl0 d) a.command_code_same
+    let by : Bool → ℕ → ℕ → Asked = λ b c d. write_asked (record { has_idcode = b; mask = 0; ctl0 = c; command_code = d }) r w in
+    ap (λ (b : Bool). by b s.ctl0 s.command_code) a.has_idcode_same ∙ ap (λ (c : ℕ). by t.has_idcode c s.command_code) a.ctl0_same ∙ ap (λ (d : ℕ). by t.has_idcode t.ctl0 d) a.command_code_same
 asked_alike s t (Read r count) a =
-    let by : ℕ → ℕ → Asked = λ c d. asked_under (record { is_matched = false; mask = 0; ctl0 = c; command_code = d }) (Read r count) in
+    let by : ℕ → ℕ → Asked = λ c d. asked_under (record { has_idcode = false; mask = 0; ctl0 = c; command_code = d }) (Read r count) in
     ap (λ (c : ℕ). by c s.command_code) a.ctl0_same ∙ ap (λ (d : ℕ). by t.ctl0 d) a.command_code_same
 asked_alike s t (Bad w) a = refl
 

@@ -17,7 +17,7 @@ use Rattle.x7_flow.specs.Asking.{Asked, Load, Commands, Word, Copies, Reads, Oth
 use Rattle.x7_flow.specs.Settings.{Settings, settings_after, settings_of}
 use Rattle.x7_flow.specs.Flow.{Flow, asks, flow_of}
 use Rattle.x7_flow.specs.FrameMemory.{written_frames_more, memory_of, puts}
-use Rattle.x7_flow.specs.Saved.{FramesBack, KeepsFrames}
+use Rattle.x7_flow.specs.Saved.{FramesBack, SavesFrames}
 use Rattle.x7_flow.specs.Sound.{IsSound}
 use Rattle.x7_flow.specs.Standing.{FramesFit, FramesStandFor, FramesState, HasFlow}
 use Rattle.x7_flow.proofs.FlowLemmas.{flow_sound, landed_grows, memory_more, put_none}
@@ -49,17 +49,17 @@ access_changes part s Other t p f old new m i h same = changes_none (next_put pa
 
 -- ---- back
 
-back_over : (part : PartData) (s : SavedState) (old new : FramesState) → KeepsFrames part s old → FramesFit part old → FramesFit part new → ChangesAt (next_put part old.pipeline) (frame_at part old.memory) (frame_at part new.memory) → FramesBack part s new old
+back_over : (part : PartData) (s : SavedState) (old new : FramesState) → SavesFrames part s old → FramesFit part old → FramesFit part new → ChangesAt (next_put part old.pipeline) (frame_at part old.memory) (frame_at part new.memory) → FramesBack part s new old
 back_over part s old new k o n c = record {
   pipeline = k.pipeline;
   memory = rw k.pair (taken_back part (next_put part old.pipeline) old.memory new.memory o.frames_fit n.frames_fit c);
   frames_fit = o.frames_fit;
 }
 
-pub back_same : (part : PartData) (s : SavedState) (old new : FramesState) → KeepsFrames part s old → FramesFit part old → FramesFit part new → AreSame (frame_at part new.memory) (frame_at part old.memory) → FramesBack part s new old
+pub back_same : (part : PartData) (s : SavedState) (old new : FramesState) → SavesFrames part s old → FramesFit part old → FramesFit part new → AreSame (frame_at part new.memory) (frame_at part old.memory) → FramesBack part s new old
 back_same part s old new k o n same = back_over part s old new k o n (changes_none (next_put part old.pipeline) (frame_at part old.memory) (frame_at part new.memory) same)
 
-pub back_one : (part : PartData) (s : SavedState) (old new : FramesState) (h : History) (e : Entry) → KeepsFrames part s old → FramesFit part old → FramesFit part new → FramesStandFor part old h 0 → AreSame (frame_at part new.memory) (memory_of part (e ∷ h))
+pub back_one : (part : PartData) (s : SavedState) (old new : FramesState) (h : History) (e : Entry) → SavesFrames part s old → FramesFit part old → FramesFit part new → FramesStandFor part old h 0 → AreSame (frame_at part new.memory) (memory_of part (e ∷ h))
     → FramesBack part s new old
 back_one part s old new h e k o n stands same =
     let f : Flow = flow_of part h in

@@ -2,7 +2,7 @@
 use Rattle.std.proofs.Common.{◌≡◌, ℕ, ◌%◌, ◌^◌, ◌==◌, ◌&&◌, not, Bool, true, false, if◌then◌else◌, [], ◌∷◌, ◌++◌, refl, ap, ◌∙◌, arith}
 use Rattle.std.proofs.lemmas.Bool.Decides.{nat_tests}
 use Rattle.x7_packets.specs.History.{Access, Write, Read, Bad, Entry, History, last_word, written}
-use Rattle.x7_flow.specs.Controls.{ctl0_held, is_matched, mask_held}
+use Rattle.x7_flow.specs.Controls.{ctl0_held, has_idcode, mask_held}
 use Rattle.x7_regs.specs.Command.{command_by, command_with}
 use Rattle.x7_flow.specs.Asking.{Asked, Load, Commands, Word, Copies, Reads, Other}
 use Rattle.x7_flow.specs.Settings.{Settings, settings_of, settings_after, settings_from, command_code_after, takes_frames, takes_copies, gives_frames}
@@ -19,7 +19,7 @@ held_more (Bad w) old = refl
 
 pub settings_more : (idcode : ℕ) (e : Entry) (h : History) → settings_of idcode (e ∷ h) ≡ settings_after idcode e.access (settings_of idcode h)
 settings_more idcode e h =
-    let with_held : ℕ → Settings = λ c. record { is_matched = is_matched idcode (e ∷ h); mask = mask_held (e ∷ h); ctl0 = ctl0_held (e ∷ h); command_code = c } in
+    let with_held : ℕ → Settings = λ c. record { has_idcode = has_idcode idcode (e ∷ h); mask = mask_held (e ∷ h); ctl0 = ctl0_held (e ∷ h); command_code = c } in
     ap with_held (held_more e.access (last_word 4 0 h))
 
 pub settings_joined : (idcode : ℕ) (later earlier : History) → settings_of idcode (later ++ earlier) ≡ settings_from idcode (settings_of idcode earlier) later
@@ -45,7 +45,7 @@ held_wcfg : (r held : ℕ) (m f : Bool) → (r == 2 && (m && (held == 1 && f))) 
 held_wcfg r held m f t = grind (arith, nat_tests)
 
 pub asked_means : (s : Settings) (access : Access) → Means s (asked_under s access) (command_code_after access s.command_code)
-asked_means s (Write r w) = by (r == 1) (r == 4) (r == 2 && takes_frames s) (r == 10 && takes_copies s) (far_no_cmd r) (held_wcfg r s.command_code s.is_matched _)
+asked_means s (Write r w) = by (r == 1) (r == 4) (r == 2 && takes_frames s) (r == 10 && takes_copies s) (far_no_cmd r) (held_wcfg r s.command_code s.has_idcode _)
   where
     by : (far cmd fdri mfwr : Bool) → (far ≡ true → cmd ≡ false) → (fdri ≡ true → s.command_code ≡ 1) →
         Means s (if far then Load w else if cmd then Commands (command_by w) else if fdri then Word w else if mfwr then Copies else Other) (if cmd then w % 2 ^ 5 else s.command_code)

@@ -7,7 +7,7 @@ use Rattle.x7_flow.specs.Settings.{Settings}
 
 -- two settings are the same but for MASK
 pub record AreSameButForMask (s t : Settings) : Type 0 where
-  pub is_matched_same : s.is_matched ≡ t.is_matched
+  pub has_idcode_same : s.has_idcode ≡ t.has_idcode
   pub ctl0_same : s.ctl0 ≡ t.ctl0
   pub command_code_same : s.command_code ≡ t.command_code
 

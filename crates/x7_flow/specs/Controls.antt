@@ -33,7 +33,7 @@ abbrev pub names_part : ℕ → Access → Bool
 names_part idcode (Write register w) = register == number_of Idcode && same_idcode idcode w
 names_part idcode _ = false
 
--- the device is matched: a written IDCODE was the part's
-abbrev pub is_matched : ℕ → History → Bool
-is_matched idcode [] = false
-is_matched idcode (e ∷ h) = names_part idcode e.access || is_matched idcode h
+-- the device's IDCODE was written: a written IDCODE was the part's
+abbrev pub has_idcode : ℕ → History → Bool
+has_idcode idcode [] = false
+has_idcode idcode (e ∷ h) = names_part idcode e.access || has_idcode idcode h

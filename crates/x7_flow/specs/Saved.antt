@@ -1,4 +1,4 @@
--- Frames that are kept, and what leads back to them (this project's choice).
+-- Frames that are saved, and what leads back to them (this project's choice).
 use Rattle.std.specs.Prelude.{◌≡◌, ◌∷◌}
 use Rattle.x7_packets.specs.History.{Entry, History}
 use Rattle.x7_part.specs.Part.{PartData}
@@ -10,13 +10,13 @@ use Rattle.x7_flow.specs.FrameMemory.{memory_of}
 use Rattle.x7_flow.specs.Standing.{FramesFit, FramesStandFor, FramesState, frames_map}
 
 -- the pipeline of these frames, and the frame that stands where its next word or copy would put one
-pub record KeepsFrames (part : PartData) (s : SavedState) (f : FramesState) : Type 0 where
+pub record SavesFrames (part : PartData) (s : SavedState) (f : FramesState) : Type 0 where
   pub pipeline : s.pipeline ≡ f.pipeline
   pub pair : s.pair ≡ pair_at (frame_at part f.memory) (next_put part f.pipeline)
 
--- the old frames are kept, and the old and the new frames are the part's
-pub record FramesAreKept (part : PartData) (s : SavedState) (old new : FramesState) : Type 0 where
-  pub keeps : KeepsFrames part s old
+-- the old frames are saved, and the old and the new frames are the part's
+pub record FramesAreSaved (part : PartData) (s : SavedState) (old new : FramesState) : Type 0 where
+  pub saves : SavesFrames part s old
   pub old_fit : FramesFit part old
   pub new_fit : FramesFit part new
 
@@ -25,7 +25,7 @@ pub record HaveOneAccessMore (part : PartData) (old new : FramesState) (h : Hist
   pub stands : FramesStandFor part old h 0
   pub memory : AreSame (frames_map part new) (memory_of part (e ∷ h))
 
--- the kept pipeline is that of the old frames, and the new memory with the kept pair is the old one
+-- the saved pipeline is that of the old frames, and the new memory with the saved pair is the old one
 pub record FramesBack (part : PartData) (s : SavedState) (new old : FramesState) : Type 0 where
   pub pipeline : s.pipeline ≡ old.pipeline
   pub memory : AreSame (put_over s.pair (frame_at part new.memory)) (frame_at part old.memory)

@@ -13,18 +13,18 @@ use x7_regs::{Command, Reg, forbids_reading, forbids_writing, reg_of};
 
 /// Whether words of MFWR ask for copies under these settings.
 pub(crate) fn takes_copies(settings: FrameSettings) -> bool
-    ensures value { result ≡ (settings.is_matched && not (forbids_writing settings.ctl0)) }
+    ensures value { result ≡ (settings.has_idcode && not (forbids_writing settings.ctl0)) }
     ensures after { (idcode : ℕ) (h : History) → AreSettingsAfter idcode settings h → result ≡ takes_copies_by (settings_of idcode h) }
 {
-    settings.is_matched && !forbids_writing(settings.ctl0)
+    settings.has_idcode && !forbids_writing(settings.ctl0)
 }
 
 /// Whether words of FDRI go to the memory under these settings.
 pub(crate) fn takes_frames(settings: FrameSettings) -> bool
-    ensures value { result ≡ (settings.is_matched && (settings.command_code == code_of command.Wcfg && not (forbids_writing settings.ctl0))) }
+    ensures value { result ≡ (settings.has_idcode && (settings.command_code == code_of command.Wcfg && not (forbids_writing settings.ctl0))) }
     ensures after { (idcode : ℕ) (h : History) → AreSettingsAfter idcode settings h → result ≡ takes_frames_by (settings_of idcode h) }
 {
-    settings.is_matched
+    settings.has_idcode
         && u32::from(settings.command_code) == Command::Wcfg.code()
         && !forbids_writing(settings.ctl0)
 }

@@ -20,7 +20,7 @@ ghost use Rattle.x7_flow.specs.Inside.{HasFrames};
 ghost use Rattle.x7_flow.specs.Later.{BeginsRun, MemoryGets, Start, after_load, flow_from, flow_on, has_mfw, pairs_after, pairs_alone, pairs_after_load, pairs_from, pairs_loaded, pairs_on, start_on};
 ghost use Rattle.x7_flow.specs.NeedsAddress.{LacksAddress, LacksSlot, LacksSource, RunsAtAddress, WritesWord};
 ghost use Rattle.x7_flow.specs.Quiet.{AreQuiet};
-ghost use Rattle.x7_flow.specs.Saved.{FramesAreKept, FramesBack, HaveOneAccessMore};
+ghost use Rattle.x7_flow.specs.Saved.{FramesAreSaved, FramesBack, HaveOneAccessMore};
 ghost use Rattle.x7_flow.specs.Settings.{Settings, TakesFrames, settings_after, settings_from, settings_of};
 ghost use Rattle.x7_flow.specs.Sound.{IsSound};
 ghost use Rattle.x7_flow.specs.Standing.{FramesHaveDone, FramesFit, FramesStandFor, FramesState, ReadsData, ReadsFrames, ReadsMoreThanDue, flow_read, frames_map, frames_read, without_due, words_due, written_to};
@@ -35,7 +35,8 @@ pub fn flows_go_by_settings()
     ensures settings { (idcode : ℕ) (e : Entry) (h : History) → settings_of idcode (e ∷ h) ≡ settings_after idcode e.access (settings_of idcode h) }
 {}
 
-/// The settings, the flow and the memory of a later history after an earlier one.
+/// A later history goes on from the settings and the flow of the earlier one, and its memory is the earlier one's with
+/// the pairs put over it that the later history puts; so it is where the later history begins after a FAR load.
 pub fn later_histories_override()
     ensures settings { (idcode : ℕ) (later earlier : History) → settings_of idcode (later ++ earlier) ≡ settings_from idcode (settings_of idcode earlier) later }
     ensures flow { (part : PartData) (later earlier : History) → flow_of part (later ++ earlier) ≡ flow_from part (settings_of part.idcode earlier) (flow_of part earlier) later }
@@ -57,7 +58,7 @@ pub fn accesses_do_what_they_ask()
     ensures read { (idcode : ℕ) (h : History) (access : Access) → reads_frame_data h access ≡ is_read (asks idcode h access) }
 {}
 
-/// The base, the run and the count given of a history, each by a recursion of its own.
+/// The base, the run, the count given and the source of a history, each by a recursion of its own.
 pub fn flows_go_by_accesses()
     ensures base { (part : PartData) (e : Entry) (h : History) → base_of part (e ∷ h) ≡ base_after part e.access (far_read part h) (base_of part h) }
     ensures run { (part : PartData) (h : History) → run_of part h ≡ words_written part.idcode h }
@@ -78,19 +79,23 @@ pub fn frames_stand_for_one_more()
         FramesStandFor part f h due → FramesStandFor part g h due → f ≡ g }
 {}
 
-/// Why an access is refused, and that a refused one changes neither the memory nor FAR as read.
+/// An access is refused by Address exactly where it lacks an address, by Multi exactly where it lacks a source, and a
+/// word of frame data by Overrun exactly where it lacks a slot; Overrun refuses words of frame data alone. An access
+/// that isn't refused leaves runs at addresses. A refused access changes neither the memory nor FAR as read.
 pub fn refusals_have_causes()
-    ensures address { (part : PartData) (h : History) (access : Access) (far : ℕ) → (frame_fault part h access ≡ Some (RunFault.Address far)) ↔ LacksAddress part h access far }
-    ensures multi { (part : PartData) (h : History) (access : Access) → (frame_fault part h access ≡ Some RunFault.Multi) ↔ LacksSource part h access }
-    ensures overrun { (part : PartData) (h : History) (access : Access) (w : ℕ) → WritesWord part h access w →
+    ensures no_address { (part : PartData) (h : History) (access : Access) (far : ℕ) → (frame_fault part h access ≡ Some (RunFault.Address far)) ↔ LacksAddress part h access far }
+    ensures no_source { (part : PartData) (h : History) (access : Access) → (frame_fault part h access ≡ Some RunFault.Multi) ↔ LacksSource part h access }
+    ensures no_slot { (part : PartData) (h : History) (access : Access) (w : ℕ) → WritesWord part h access w →
         (frame_fault part h access ≡ Some RunFault.Overrun) ↔ LacksSlot part h w }
-    ensures word { (part : PartData) (h : History) (access : Access) → frame_fault part h access ≡ Some RunFault.Overrun → is_word (asks part.idcode h access) ≡ true }
-    ensures runs { (part : PartData) (e : Entry) (h : History) → RunsAtAddress part h → frame_fault part h e.access ≡ None → RunsAtAddress part (e ∷ h) }
+    ensures only_words_overrun { (part : PartData) (h : History) (access : Access) → frame_fault part h access ≡ Some RunFault.Overrun → is_word (asks part.idcode h access) ≡ true }
+    ensures runs_at_address { (part : PartData) (e : Entry) (h : History) → RunsAtAddress part h → frame_fault part h e.access ≡ None → RunsAtAddress part (e ∷ h) }
     ensures memory { (part : PartData) (e : Entry) (h : History) (fault : RunFault) → frame_fault part h e.access ≡ Some fault → AreSame (memory_of part (e ∷ h)) (memory_of part h) }
     ensures far { (part : PartData) (e : Entry) (h : History) (fault : RunFault) → frame_fault part h e.access ≡ Some fault → far_read part (e ∷ h) ≡ far_read part h }
 {}
 
-/// Many words of frame data at once, after a history and in one that goes on.
+/// Many words of frame data at once leave the settings. Where they go to the memory, they make the run longer by all of
+/// them, and the memory gets what they land. Where they begin a run in a history that goes on, the pairs of the frames
+/// that they write come before the pairs of that history: a newer pair stands before an older one.
 pub fn words_at_once_land()
     ensures settings { (idcode n : ℕ) (ws : List ℕ) (h : History) → settings_of idcode (with_frame_data n ws h) ≡ settings_of idcode h }
     ensures flow { (part : PartData) (n : ℕ) (ws : List ℕ) (h : History) → TakesFrames part h → flow_of part (with_frame_data n ws h) ≡ after_words ws (flow_of part h) }
@@ -100,26 +105,30 @@ pub fn words_at_once_land()
         pairs_on x (with_frame_data n ws later) ≡ written_frames x.part (flow_on x later).base (onto ws []) ++ pairs_on x later }
 {}
 
-/// A history that goes on after one that went on, and one that goes on after a FAR load under another command than MFW.
+/// A history after one that went on goes on from the settings and the flow of that one, and its pairs come before the
+/// pairs of that one. What a history puts after a FAR load is the same from settings that are the same but for MASK,
+/// where it writes MASK before each word of CTL0. Where CMD doesn't hold MFW before the load, the memory gets what the
+/// history puts there without a source.
 pub fn later_histories_join()
     ensures settings { (idcode : ℕ) (s : Settings) (later middle : History) → settings_from idcode s (later ++ middle) ≡ settings_from idcode (settings_from idcode s middle) later }
     ensures flow { (x : Start) (later middle : History) → flow_on x (later ++ middle) ≡ flow_on (start_on x middle) later }
     ensures pairs { (x : Start) (later middle : History) → pairs_on x (later ++ middle) ≡ pairs_on (start_on x middle) later ++ pairs_on x middle }
-    ensures alike { (part : PartData) (s t : Settings) (source : Option (List ℕ)) (w : ℕ) (h : History) → AreSameButForMask s t → MasksFirst h →
+    ensures same_but_for_mask { (part : PartData) (s t : Settings) (source : Option (List ℕ)) (w : ℕ) (h : History) → AreSameButForMask s t → MasksFirst h →
         pairs_loaded part s source w h ≡ pairs_loaded part t source w h }
-    ensures alone { (part : PartData) (later earlier : History) (w place : ℕ) → has_mfw earlier ≡ false →
+    ensures without_source { (part : PartData) (later earlier : History) (w place : ℕ) → has_mfw earlier ≡ false →
         MemoryGets part (later ++ after_load w place earlier) earlier (pairs_alone part earlier w later) }
 {}
 
-/// What a planned stream does after a FAR load: whole frames under WCFG and one more land in order, pads left out, and
-/// words of MFWR put the source there.
+/// Where a device takes a write of whole frames after a FAR load, all but the last one land at the slots from the
+/// address on in order, pads left out: of two pairs for one address the later frame's wins, which stands first. Where
+/// it takes words of MFWR after a FAR load, they put the source at the address.
 pub fn written_frames_land_in_order()
     ensures write { (part : PartData) (earlier : History) (x : FrameWrite) → TakesWrite part earlier x → MemoryGets part (with_frames x earlier) earlier (reverse (placed part x)) }
     ensures copies { (part : PartData) (earlier : History) (x : FrameCopies) → TakesCopies part earlier x → MemoryGets part (with_frame_copies x earlier) earlier (pair_copied part x) }
 {}
 
-/// Accesses that move no frame; and a read of frame data of which words are due, whose flow is that of a read without
-/// these words.
+/// Quiet accesses put no pair and leave the memory. The flow of a read of frame data without words of it that are due
+/// is that of a read of the other words, and without all its words that before the read.
 pub fn quiet_accesses_move_no_frame()
     ensures pairs { (part : PartData) (s : Settings) (f : Flow) (later : History) → AreQuiet later → pairs_from part s f later ≡ [] }
     ensures memory { (part : PartData) (later earlier : History) → AreQuiet later → AreSame (memory_of part (later ++ earlier)) (memory_of part earlier) }
@@ -128,16 +137,18 @@ pub fn quiet_accesses_move_no_frame()
     ensures all_due { (part : PartData) (h : History) (register count n : ℕ) → ReadsData h register count → without_due count (flow_read part h register count n) ≡ flow_of part h }
 {}
 
-/// A write of whole frames after a FAR load leaves the memory overridden by a plan of these frames at the slots in
-/// order. MFW right after WCFG takes the last frame of the run, and words of MFWR keep it and the settings.
+/// Where the part's addresses rise, no two frames of a write have one address, and the order of their pairs doesn't
+/// matter: a write of whole frames that a device takes after a FAR load puts the plan of all but the last over the
+/// memory. MFW right after a run of whole frames under WCFG takes the last of them as the source. A FAR load and words
+/// of MFWR after it leave the source and the settings.
 pub fn written_frames_are_a_plan()
     ensures write { (part : PartData) (earlier : History) (x : FrameWrite) → TakesWrite part earlier x → Rises 0 (addresses_in part) →
         MemoryGets part (with_frames x earlier) earlier (placed part x) }
     ensures source { (part : PartData) (h : History) (c place : ℕ) (frames : List (List ℕ)) (last : List ℕ) → MfwAfter part h c frames last →
         source_of part (written_to reg.Cmd c place ∷ h) ≡ Some last }
-    ensures keep { (part : PartData) (earlier : History) (w place n : ℕ) (ws : List ℕ) →
+    ensures source_stays { (part : PartData) (earlier : History) (w place n : ℕ) (ws : List ℕ) →
         source_of part (with_copies n ws (after_load w place earlier)) ≡ source_of part earlier }
-    ensures settings { (part : PartData) (earlier : History) (w place n : ℕ) (ws : List ℕ) →
+    ensures settings_stay { (part : PartData) (earlier : History) (w place n : ℕ) (ws : List ℕ) →
         settings_of part.idcode (with_copies n ws (after_load w place earlier)) ≡ settings_of part.idcode earlier }
 {}
 
@@ -146,18 +157,18 @@ pub fn memory_has_frames()
     ensures { (part : PartData) (h : History) → 0 < frame_words part → HasFrames part (memory_of part h) }
 {}
 
-/// Words of frame data for which there are slots: none is refused, and where they begin a run the memory gets what they
-/// land.
+/// Of words of frame data that go to the memory, with a base that is an address and slots for their frames, none is
+/// refused. Where words that go to the memory begin a run, the memory gets what they land.
 pub fn words_have_room()
-    ensures none { (part : PartData) (n : ℕ) (ws : List ℕ) (h : History) → TakesFrames part h → HasAddress part h → HasRoomFor part h ws → NoneRefused part reg.Fdri n ws h }
+    ensures none_refused { (part : PartData) (n : ℕ) (ws : List ℕ) (h : History) → TakesFrames part h → HasAddress part h → HasRoomFor part h ws → NoneRefused part reg.Fdri n ws h }
     ensures memory { (part : PartData) (n : ℕ) (ws : List ℕ) (h : History) → TakesFrames part h → run_of part h ≡ [] →
         MemoryGets part (with_frame_data n ws h) h (written_frames part (base_of part h) (onto ws [])) }
 {}
 
-/// What is kept of frames without a word due leads back from the same history, and from one with one access more.
-pub fn kept_frames_lead_back()
-    ensures unchanged { (part : PartData) (s : SavedState) (old new : FramesState) → FramesAreKept part s old new →
+/// Saved frames lead back from frames of the same memory, and, where no word is due, over one access more.
+pub fn saved_frames_lead_back()
+    ensures unchanged { (part : PartData) (s : SavedState) (old new : FramesState) → FramesAreSaved part s old new →
         AreSame (frames_map part new) (frames_map part old) → FramesBack part s new old }
-    ensures one_more { (part : PartData) (s : SavedState) (old new : FramesState) (h : History) (e : Entry) → FramesAreKept part s old new →
+    ensures one_more { (part : PartData) (s : SavedState) (old new : FramesState) (h : History) (e : Entry) → FramesAreSaved part s old new →
         HaveOneAccessMore part old new h e → FramesBack part s new old }
 {}

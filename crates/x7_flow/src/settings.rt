@@ -4,7 +4,7 @@
 #[derive(Clone, Copy, Drop)]
 pub struct FrameSettings {
     /// Whether an IDCODE that was written is the part's, but for bits 31:28.
-    pub is_matched: bool,
+    pub has_idcode: bool,
     /// The word of CTL0.
     pub ctl0: u32,
     /// The code of the command that CMD holds, five bits.

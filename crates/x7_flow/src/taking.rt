@@ -34,8 +34,8 @@ pub(crate) fn take(
     ensures part { AreOfPart part.now pipeline.new memory.new }
 
     // After a fault.
-    ensures refused { OnSome result (pipeline.new ≡ pipeline.old) }
-    ensures unchanged { OnSome result (memory.new ≡ memory.old) }
+    ensures unchanged { OnSome result (pipeline.new ≡ pipeline.old) }
+    ensures same_memory { OnSome result (memory.new ≡ memory.old) }
 {
     match reg {
         Reg::Far => {

@@ -56,7 +56,7 @@ impl<'p> FrameLines<'p> {
 
     /// The plan of the lines.
     fn finish(self) -> Plan
-        ensures rows { IsPermutation self.entry.rows result.rows }
+        ensures same_rows { IsPermutation self.entry.rows result.rows }
         ensures plan { IsPlan result }
         ensures width { result.width ≡ frame_words self.entry.part }
     {

@@ -28,7 +28,7 @@ pub(crate) struct Reading {
 impl Reading {
     /// A reading of no line. There is room for all frames of the part.
     pub(crate) fn new(alloc: Global, part: &Part) -> Result<Reading, NoMemory>
-        ensures rows { IfOk result (λ reading. reading.draft.rows ≡ []) }
+        ensures empty { IfOk result (λ reading. reading.draft.rows ≡ []) }
         ensures width { IfOk result (λ reading. reading.draft.width ≡ frame_words part.now) }
         ensures marks { IfOk result (λ reading. HasMarks part.now [] reading.marks.items) }
         ensures room { IfOk result (λ reading. frame_words part.now ≤ vec_capacity reading.frame) }
@@ -51,7 +51,7 @@ impl Reading {
         requires marks { HasMarks part.now self.old.draft.rows self.old.marks.items }
         requires room { frame_words part.now ≤ vec_capacity self.old.frame }
         ensures taken { OnOk result (TakesLine part.now line.now self.old.draft.rows self.new.draft.rows) }
-        ensures failed { OnErr result (self.new.draft.rows ≡ self.old.draft.rows) }
+        ensures unchanged { OnErr result (self.new.draft.rows ≡ self.old.draft.rows) }
         ensures marks { HasMarks part.now self.new.draft.rows self.new.marks.items }
         ensures width { self.new.draft.width ≡ frame_words part.now }
         ensures room { frame_words part.now ≤ vec_capacity self.new.frame }

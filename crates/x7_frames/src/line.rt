@@ -49,8 +49,8 @@ fn write_block(bytes: &mut [u8], at: usize, block: &[u8])
     requires inside { at + 32 ≤ length bytes.old }
     requires block { length block.now ≡ 32 }
     ensures items { take (at + 32) bytes.new ≡ take at bytes.old ++ block.now }
-    ensures fit { AreBytes block.now }
-    ensures long { length bytes.new ≡ length bytes.old }
+    ensures bytes { AreBytes block.now }
+    ensures length { length bytes.new ≡ length bytes.old }
 {
     bytes[at..at + 32].copy_from_slice(block);
 }
@@ -60,7 +60,7 @@ fn read_blocks(bytes: &mut [u8], digits: &[u8]) -> usize
     requires { length digits.now ≡ 2 * length bytes.old }
     ensures value { bytes_of_pairs (take (2 * result) digits.now) ≡ Some (take result bytes.new) }
     ensures within { result ≤ length bytes.old }
-    ensures long { length bytes.new ≡ length bytes.old }
+    ensures length { length bytes.new ≡ length bytes.old }
 {
     let (blocks, _) = digits.as_chunks::<64>();
     for (k, block) in blocks.iter().enumerate() {
@@ -76,7 +76,7 @@ fn read_blocks(bytes: &mut [u8], digits: &[u8]) -> usize
 fn read_digits(bytes: &mut [u8], digits: &[u8]) -> bool
     requires { length digits.now ≡ 2 * length bytes.old }
     ensures value { MatchBool result (bytes_of_pairs digits.now ≡ Some bytes.new) (bytes_of_pairs digits.now ≡ None) }
-    ensures long { length bytes.new ≡ length bytes.old }
+    ensures length { length bytes.new ≡ length bytes.old }
 {
     let read = read_blocks(bytes, digits);
     read_pairs(&mut bytes[read..], &digits[2 * read..])

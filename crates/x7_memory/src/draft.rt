@@ -50,7 +50,7 @@ impl Draft {
         requires width { length words.now ≡ self.old.width }
         ensures added { OnOk result (self.new.rows ≡ self.old.rows ++ record { far = far; words = words.now } ∷ []) }
         ensures width { self.new.width ≡ self.old.width }
-        ensures failed { OnErr result (self.new ≡ self.old) }
+        ensures unchanged { OnErr result (self.new ≡ self.old) }
     {
         Ok(self.rows.push(far, words)?)
     }
@@ -59,7 +59,7 @@ impl Draft {
     pub fn finish(self) -> Plan
         requires apart { AreApart self.rows }
         ensures width { result.width ≡ self.width }
-        ensures same { IsPermutation self.rows result.rows }
+        ensures same_rows { IsPermutation self.rows result.rows }
         ensures plan { IsPlan result }
     {
         let mut rows = self.rows;

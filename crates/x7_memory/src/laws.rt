@@ -1,5 +1,5 @@
-//! Laws of maps, memories and plans, for the proofs of crates above. The functions
-//! do nothing: their contracts are the laws.
+//! Laws of maps, memories and plans, for the proofs of crates above. The functions do nothing: their contracts are the
+//! laws.
 ghost use Rattle.std.specs.Prelude.{◌≡◌, ℕ, ◌<◌, ◌++◌, ◌==◌, ◌↔◌, if◌then◌else◌, List, length, replicate, slice_index_or, Contains, IsPermutation, Some, None};
 ghost use Rattle.x7_part.specs.AddressOrder.{addresses_in};
 ghost use Rattle.x7_part.specs.Part.{PartData, frame_words};
@@ -7,7 +7,9 @@ ghost use Rattle.x7_memory.specs.FrameMap.{FrameMap, override, nothing, only, Ar
 ghost use Rattle.x7_memory.specs.Frames.{frame_at, zeros, AreFramesOf};
 ghost use Rattle.x7_memory.specs.Plan.{PlanRow, PlanData, PlansEach, IsPlan, AreInOrder, AreApart, planned, planned_addresses, total};
 
-/// One map over another: twice, in any order where no address is in both, and by one frame.
+/// One map over another: two maps over one come as one map, in any order where no address is in both, and a map twice
+/// is that map once. A map with nothing over it stays, and maps that are the same give the same. A map that differs
+/// from another by one frame is that other map with this frame alone over it.
 pub fn maps_override_by_address()
     ensures twice { (m p q : FrameMap) → AreSame (override (override m p) q) (override m (override p q)) }
     ensures disjoint { (m p q : FrameMap) → AreDisjoint p q → AreSame (override (override m p) q) (override (override m q) p) }
@@ -24,7 +26,11 @@ pub fn memories_are_maps()
     ensures equal { (part : PartData) (m n : List (List ℕ)) → AreFramesOf part m → AreFramesOf part n → AreSame (frame_at part m) (frame_at part n) → m ≡ n }
 {}
 
-/// A plan as a map: its rows, the addresses that it names, its first rows and its later ones, and its total.
+/// A plan is a map: at the address of a row it has the row's words, and at an address that it doesn't name nothing. The
+/// map of rows with others after them is theirs over that of the others; where all are in order, no address is in both.
+/// Rows in another order are the same map, where no two have one address. The total of a plan is the plan over zeros:
+/// what is planned at the addresses that it names, zeros at the others. A plan that names each address of the part, put
+/// over any frames, is its total.
 pub fn plans_are_maps()
     ensures rows { (plan : PlanData) (k : ℕ) (d : PlanRow) → IsPlan plan → k < length plan.rows → planned plan.rows (slice_index_or plan.rows k d).far ≡ Some (slice_index_or plan.rows k d).words }
     ensures named { (rows : List PlanRow) (far : ℕ) → (planned rows far ≡ None) ↔ (¬ Contains (planned_addresses rows) far) }

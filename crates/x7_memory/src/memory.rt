@@ -71,7 +71,7 @@ impl Memory {
     pub fn frame_at_rank(&self, rank: u32) -> Option<&[u32]>
         ensures found { IfSome result (λ words. (part : PartData) → AreFramesOf part self.now → frame_at part self.now (slice_index (addresses_in part) rank) ≡ Some words.now) }
         ensures width { IfSome result (λ words. (part : PartData) → AreFramesOf part self.now → length words.now ≡ frame_words part) }
-        ensures inside { IfSome result (λ words. rank < length self.now) }
+        ensures within { IfSome result (λ words. rank < length self.now) }
         ensures none { IfNone result (length self.now ≤ rank) }
     {
         let rank = rank as usize;

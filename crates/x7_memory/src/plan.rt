@@ -50,7 +50,7 @@ impl Plan {
         ensures added { IfOk result (λ added. added ≡ true → HasOneRowMore self.old record { far = far; words = words.now } self.new) }
         ensures frames { IfOk result (λ added. added ≡ true → (a : ℕ) → planned self.new.rows a ≡ (if a == far then Some words.now else planned self.old.rows a)) }
         ensures refused { IfOk result (λ added. added ≡ false → self.new ≡ self.old) }
-        ensures failed { OnErr result (self.new ≡ self.old) }
+        ensures unchanged { OnErr result (self.new ≡ self.old) }
         ensures width { self.new.width ≡ self.old.width }
     {
         match self.search(far) {
@@ -76,7 +76,7 @@ impl Plan {
         requires width { length words.now ≡ self.old.width }
         ensures added { OnOk result (self.new.rows ≡ insert self.old.rows place record { far = far; words = words.now }) }
         ensures width { self.new.width ≡ self.old.width }
-        ensures failed { OnErr result (self.new ≡ self.old) }
+        ensures unchanged { OnErr result (self.new ≡ self.old) }
     {
         Ok(self.rows.insert(place, far, words)?)
     }

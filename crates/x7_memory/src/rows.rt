@@ -68,7 +68,7 @@ impl Rows {
         requires width { length words.now ≡ self.old.width }
         ensures added { OnOk result (self.new.rows ≡ self.old.rows ++ record { far = far; words = words.now } ∷ []) }
         ensures width { self.new.width ≡ self.old.width }
-        ensures failed { OnErr result (self.new ≡ self.old) }
+        ensures unchanged { OnErr result (self.new ≡ self.old) }
     {
         self.insert(self.len(), far, words)
     }
@@ -79,7 +79,7 @@ impl Rows {
         requires width { length words.now ≡ self.old.width }
         ensures added { OnOk result (self.new.rows ≡ insert self.old.rows place record { far = far; words = words.now }) }
         ensures width { self.new.width ≡ self.old.width }
-        ensures failed { OnErr result (self.new ≡ self.old) }
+        ensures unchanged { OnErr result (self.new ≡ self.old) }
     {
         let start = self.words.len();
         self.words.extend_from_slice(words)?;
@@ -98,7 +98,7 @@ impl Rows {
     /// Puts the rows in number order of their addresses.
     pub(crate) fn sort(&mut self)
         ensures sorted { IsNonDecreasingBy (λ row. row.far) self.new.rows }
-        ensures same { IsPermutation self.old.rows self.new.rows }
+        ensures same_rows { IsPermutation self.old.rows self.new.rows }
         ensures width { self.new.width ≡ self.old.width }
     {
         self.rows.sort_unstable_by_key(|row| row.far);

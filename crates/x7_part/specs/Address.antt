@@ -1,7 +1,7 @@
 -- Frame addresses (UG470, frame address register): minor, column, row, half (0 top, 1 bottom) and block type, from bit
 -- 0 up, each with the part's width.
 use Rattle.std.specs.Prelude.{◌≡◌, ℕ, ◌+◌, ◌*◌, ◌^◌, ◌<◌, ◌≤◌, List, [], ◌∷◌, length, slice_index, Contains, All}
-use Rattle.x7_part.specs.Limits.{greatest_block, greatest_half, greatest_row, most_columns, most_minors}
+use Rattle.x7_part.specs.Limits.{greatest_block, greatest_half, greatest_row, half_width, least_block_width, least_column_width, least_minor_width, least_row_width, most_address_width, most_block_width, most_column_width, most_columns, most_minor_width, most_minors, most_row_width}
 use Rattle.x7_part.specs.Part.{FieldWidths, RowData, PartData}
 
 -- the lowest bit of the column
@@ -30,12 +30,12 @@ far_width part = address_width part.far
 
 -- widths that the fields of an address may have, 32 bits together at most
 pub record AreWidths (widths : FieldWidths) : Type 0 where
-  pub minor : (7 ≤ widths.minor) × (widths.minor ≤ 12)
-  pub column : (10 ≤ widths.column) × (widths.column ≤ 12)
-  pub row : (5 ≤ widths.row) × (widths.row ≤ 8)
-  pub half : widths.half ≡ 1
-  pub block : (2 ≤ widths.block) × (widths.block ≤ 3)
-  pub sum : address_width widths ≤ 32
+  pub minor : (least_minor_width ≤ widths.minor) × (widths.minor ≤ most_minor_width)
+  pub column : (least_column_width ≤ widths.column) × (widths.column ≤ most_column_width)
+  pub row : (least_row_width ≤ widths.row) × (widths.row ≤ most_row_width)
+  pub half : widths.half ≡ half_width
+  pub block : (least_block_width ≤ widths.block) × (widths.block ≤ most_block_width)
+  pub sum : address_width widths ≤ most_address_width
 
 -- the address of a row's column 0, minor 0
 abbrev pub row_address : FieldWidths → RowData → ℕ

@@ -45,6 +45,55 @@ most_columns = 1024
 abbrev pub most_minors : ℕ
 most_minors = 128
 
+-- the least bits of an address's minor (UG470, frame address register; that the fields may be wider is this project's
+-- choice)
+abbrev pub least_minor_width : ℕ
+least_minor_width = 7
+
+-- the most bits of an address's minor
+abbrev pub most_minor_width : ℕ
+most_minor_width = 12
+
+-- the least bits of an address's column
+abbrev pub least_column_width : ℕ
+least_column_width = 10
+
+-- the most bits of an address's column
+abbrev pub most_column_width : ℕ
+most_column_width = 12
+
+-- the least bits of an address's row
+abbrev pub least_row_width : ℕ
+least_row_width = 5
+
+-- the most bits of an address's row
+abbrev pub most_row_width : ℕ
+most_row_width = 8
+
+-- the bits of an address's half
+abbrev pub half_width : ℕ
+half_width = 1
+
+-- the least bits of an address's block type
+abbrev pub least_block_width : ℕ
+least_block_width = 2
+
+-- the most bits of an address's block type
+abbrev pub most_block_width : ℕ
+most_block_width = 3
+
+-- the least bits of an address
+abbrev pub least_address_width : ℕ
+least_address_width = 25
+
+-- the most bits of an address
+abbrev pub most_address_width : ℕ
+most_address_width = 32
+
+-- the greatest number of eight bits, in which a column's number of minors is stored
+abbrev pub greatest_byte : ℕ
+greatest_byte = 255
+
 -- the most ticks that startup waits for lock or for match: the last number of 16 bits
 abbrev pub most_wait_ticks : ℕ
 most_wait_ticks = 65535

@@ -4,7 +4,7 @@ use Rattle.toml.specs.Data.{Data, Items, no_items, item, Members, as_str, as_int
 use Rattle.x7_part.specs.declared.fault.PartKey.TheVariants as key
 use Rattle.x7_part.specs.declared.fault.PartFault.{PartFault}
 use Rattle.x7_part.specs.declared.fault.PartFault.TheVariants.{Key, Range, NoMemory}
-use Rattle.x7_part.specs.Limits.{first_printed, greatest_block, greatest_bus_width, greatest_half, greatest_mode, greatest_row, last_printed, most_name_bytes, least_frame_words, most_frame_words, most_rows, most_columns, most_minors, most_wait_ticks}
+use Rattle.x7_part.specs.Limits.{first_printed, greatest_block, greatest_bus_width, greatest_half, greatest_mode, greatest_row, half_width, last_printed, least_block_width, least_column_width, least_frame_words, least_minor_width, least_row_width, most_address_width, most_block_width, most_column_width, most_columns, most_frame_words, most_minor_width, most_minors, most_name_bytes, most_row_width, most_rows, most_wait_ticks}
 use Rattle.x7_part.specs.Keys.{top, in_row}
 use Rattle.x7_part.specs.Address.{address_width}
 use Rattle.x7_part.specs.Values.{under, row_tables, RowValues, TopValues, natural, widths_of}
@@ -146,8 +146,10 @@ is_start_unit z = is_in 1 1 z || is_in 256 256 z
 -- the widths of the five fields of an address, each in range, of 32 bits together
 abbrev pub are_widths : List ℤ → Bool
 are_widths (minor ∷ column ∷ row ∷ half ∷ block ∷ []) =
-    ((is_in 7 12 minor && is_in 10 12 column) && (is_in 5 8 row && is_in 1 1 half))
-    && (is_in 2 3 block && nat_le (address_width (widths_of (minor ∷ column ∷ row ∷ half ∷ block ∷ []))) 32)
+    ((is_in least_minor_width most_minor_width minor && is_in least_column_width most_column_width column)
+    && (is_in least_row_width most_row_width row && is_in half_width half_width half))
+    && (is_in least_block_width most_block_width block
+    && nat_le (address_width (widths_of (minor ∷ column ∷ row ∷ half ∷ block ∷ []))) most_address_width)
 are_widths _ = false
 
 -- the widths of the five fields may be left out

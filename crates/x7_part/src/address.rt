@@ -1,8 +1,10 @@
 //! The fields of a frame address (UG470, frame address register).
 ghost use Rattle.std.specs.Prelude.{◌≡◌, ◌≤◌, ◌+◌, ◌^◌, nat_le, is_some, IfSome};
 ghost use Rattle.x7_part.specs.Address.{AreWidths, address_width, column_low, row_low, half_low, block_low};
+ghost use Rattle.x7_part.specs.Limits.{half_width, least_address_width, least_block_width, least_column_width, least_minor_width, least_row_width, most_address_width, most_block_width, most_column_width, most_minor_width, most_row_width};
 ghost use Rattle.x7_part.specs.Part.{FieldWidths, usual_widths};
 
+use crate::limits::MOST_ADDRESS_WIDTH;
 use std::marker::Model;
 
 /// The widths in bits of the fields of an address, each field right above the one before it, from bit 0.
@@ -41,15 +43,15 @@ impl Fields {
 
     /// Fields of these widths, none where they have more than 32 bits together.
     pub(crate) fn of(minor: u8, column: u8, row: u8, half: u8, block: u8) -> Option<Fields>
-        requires minor { (7 ≤ minor) × (minor ≤ 12) }
-        requires column { (10 ≤ column) × (column ≤ 12) }
-        requires row { (5 ≤ row) × (row ≤ 8) }
-        requires half { half ≡ 1 }
-        requires block { (2 ≤ block) × (block ≤ 3) }
+        requires minor { (least_minor_width ≤ minor) × (minor ≤ most_minor_width) }
+        requires column { (least_column_width ≤ column) × (column ≤ most_column_width) }
+        requires row { (least_row_width ≤ row) × (row ≤ most_row_width) }
+        requires half { half ≡ half_width }
+        requires block { (least_block_width ≤ block) × (block ≤ most_block_width) }
         ensures found { IfSome result (λ far. far ≡ record { minor = minor; column = column; row = row; half = half; block = block }) }
-        ensures test { is_some result ≡ nat_le (minor + column + row + half + block) 32 }
+        ensures exactly_where { is_some result ≡ nat_le (minor + column + row + half + block) most_address_width }
     {
-        if minor + column + row + half + block > 32 {
+        if minor + column + row + half + block > MOST_ADDRESS_WIDTH {
             return None;
         }
         Some(Fields {
@@ -94,8 +96,8 @@ impl Fields {
     /// The width of an address in bits.
     pub(crate) fn width(self) -> u32
         ensures value { result ≡ address_width self }
-        ensures least { 25 ≤ result }
-        ensures most { result ≤ 32 }
+        ensures least { least_address_width ≤ result }
+        ensures most { result ≤ most_address_width }
     {
         u32::from(self.minor + self.column + self.row + self.half + self.block)
     }

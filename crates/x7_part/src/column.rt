@@ -40,14 +40,14 @@ fn begun_by_rank(columns: &[Column], rank: u32) -> usize
     columns.partition_point(|column| column.rank <= rank)
 }
 
-/// The number of columns with at most `place` slots before them.
-fn begun_by_slot(columns: &[Column], place: u64) -> usize
+/// The number of columns with at most `slot_number` slots before them.
+fn begun_by_slot(columns: &[Column], slot_number: u64) -> usize
     requires { AreColumns columns.now }
     ensures within { result ≤ length columns.now }
-    ensures before { (k : ℕ) (d : Column) → k < result → (slice_index_or columns.now k d).place ≤ place }
-    ensures after { (k : ℕ) (d : Column) → result ≤ k → k < length columns.now → place < (slice_index_or columns.now k d).place }
+    ensures before { (k : ℕ) (d : Column) → k < result → (slice_index_or columns.now k d).place ≤ slot_number }
+    ensures after { (k : ℕ) (d : Column) → result ≤ k → k < length columns.now → slot_number < (slice_index_or columns.now k d).place }
 {
-    columns.partition_point(|column| column.place <= place)
+    columns.partition_point(|column| column.place <= slot_number)
 }
 
 /// The index in the table of the column that has the address, none where no column has it.
@@ -116,17 +116,17 @@ pub(crate) fn next_of(columns: &[Column], far: u32) -> Option<u32>
     Some(columns[index + 1].first)
 }
 
-/// The slot that has `place` slots before it, `End` past the last one.
-fn slot_at(columns: &[Column], place: u64) -> Slot
+/// The slot of this number, from 0, `End` past the last one.
+fn slot_at(columns: &[Column], slot_number: u64) -> Slot
     requires { AreColumns columns.now }
-    ensures { result ≡ slice_index_or (column_slots columns.now) place Slot.End }
+    ensures { result ≡ slice_index_or (column_slots columns.now) slot_number Slot.End }
 {
-    let after = begun_by_slot(columns, place);
+    let after = begun_by_slot(columns, slot_number);
     if after == 0 {
         return Slot::End;
     }
     let column = columns[after - 1];
-    let offset = place - column.place;
+    let offset = slot_number - column.place;
     if offset < u64::from(column.count) {
         Slot::Frame(column.first + offset as u32)
     } else if offset < u64::from(column.count) + u64::from(column.pad_count) {
@@ -136,21 +136,21 @@ fn slot_at(columns: &[Column], place: u64) -> Slot
     }
 }
 
-/// The rank of the frame at a place of the slots, where the column at `index` has that frame, and else none.
-fn rank_in(columns: &[Column], index: usize, place: u64) -> Option<u32>
+/// The rank of the frame at the slot of this number, where the column at `index` has that frame, and else none.
+fn rank_in(columns: &[Column], index: usize, slot_number: u64) -> Option<u32>
     requires { AreColumns columns.now }
-    ensures found { IfSome result (λ r. HasFrameOf (column_addresses columns.now) (column_slots columns.now) place r) }
-    ensures none { IfNone result ((d : Column) → index < length columns.now → (slice_index_or columns.now index d).place ≤ place →
-        (slice_index_or columns.now index d).count ≤ place - (slice_index_or columns.now index d).place) }
+    ensures found { IfSome result (λ r. HasFrameOf (column_addresses columns.now) (column_slots columns.now) slot_number r) }
+    ensures none { IfNone result ((d : Column) → index < length columns.now → (slice_index_or columns.now index d).place ≤ slot_number →
+        (slice_index_or columns.now index d).count ≤ slot_number - (slice_index_or columns.now index d).place) }
 {
     if columns.len() <= index {
         return None;
     }
     let column = columns[index];
-    if place < column.place {
+    if slot_number < column.place {
         return None;
     }
-    let offset = place - column.place;
+    let offset = slot_number - column.place;
     if offset < u64::from(column.count) {
         Some(column.rank + offset as u32)
     } else {
@@ -158,26 +158,26 @@ fn rank_in(columns: &[Column], index: usize, place: u64) -> Option<u32>
     }
 }
 
-/// The number of addresses before the frame at a place of the slots, none at a pad and past the last slot.
-/// `near` is the index of the column that is looked at first, and then of the one that begins last at or before
-/// the place; the answer doesn't depend on it.
-pub(crate) fn rank_at(columns: &[Column], place: u64, near: &mut usize) -> Option<u32>
+/// The rank of the frame at the slot of this number, none at a pad and past the last slot. `hint` is the index of the
+/// column that is looked at first, and then of the one that begins last at or before the slot; the answer doesn't
+/// depend on it.
+pub(crate) fn rank_at(columns: &[Column], slot_number: u64, hint: &mut usize) -> Option<u32>
     requires { AreColumns columns.now }
-    ensures found { IfSome result (λ r. HasFrameOf (column_addresses columns.now) (column_slots columns.now) place r) }
-    ensures none { IfNone result ((far : ℕ) → slice_index_or (column_slots columns.now) place Slot.End ≡ Slot.Frame far → ⊥) }
+    ensures found { IfSome result (λ r. HasFrameOf (column_addresses columns.now) (column_slots columns.now) slot_number r) }
+    ensures none { IfNone result ((far : ℕ) → slice_index_or (column_slots columns.now) slot_number Slot.End ≡ Slot.Frame far → ⊥) }
 {
-    if let Some(rank) = rank_in(columns, *near, place) {
+    if let Some(rank) = rank_in(columns, *hint, slot_number) {
         return Some(rank);
     }
-    let after = begun_by_slot(columns, place);
+    let after = begun_by_slot(columns, slot_number);
     if after == 0 {
         return None;
     }
-    *near = after - 1;
-    rank_in(columns, after - 1, place)
+    *hint = after - 1;
+    rank_in(columns, after - 1, slot_number)
 }
 
-/// The number of slots before that of an address.
+/// The number of the slot of an address: how many slots are before it.
 pub(crate) fn place_of(columns: &[Column], far: u32) -> u64
     requires columns { AreColumns columns.now }
     requires address { Contains (column_addresses columns.now) far }
@@ -199,7 +199,7 @@ pub(crate) fn slot_after(columns: &[Column], far: u32, n: u64) -> Slot
     ensures { result ≡ slice_index_or (from far (column_slots columns.now)) n Slot.End }
 {
     match place_of(columns, far).checked_add(n) {
-        Some(place) => slot_at(columns, place),
+        Some(slot_number) => slot_at(columns, slot_number),
         None => Slot::End,
     }
 }

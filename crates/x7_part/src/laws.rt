@@ -14,13 +14,15 @@ ghost use Rattle.x7_part.specs.Slot.{slots, slots_in, from, row_slots, slot_afte
 ghost use Rattle.x7_part.specs.declared.slot.Slot.{Slot};
 ghost use Rattle.x7_part.specs.declared.slot.Slot.TheVariants.{Frame};
 
-/// The slots of a part in words: the slots from an address are their end that begins with it, each row ends in two
-/// pads, the slots of frames are the addresses in order, and a frame stands right after another in one row alone.
+/// The slots of a part in words: the slots from an address are their end that begins with it, and from the first
+/// address all of them. Between the slots of the rows before it and after it a row has its own, which end in two pads,
+/// so there are two slots more for each row than addresses. The slots of frames are the addresses in order, and a frame
+/// stands right after another in one row alone.
 pub fn slots_follow_the_addresses()
     ensures split { (part : PartData) (far : ℕ) → Contains (addresses_in part) far → (before : List Slot) × (slots_in part ≡ before ++ from far (slots_in part)) }
     ensures first { (part : PartData) (far : ℕ) → Contains (addresses_in part) far → slot_after part far 0 ≡ Frame far }
-    ensures count { (part : PartData) → length (slots_in part) ≡ length (addresses_in part) + 2 * length part.rows }
-    ensures all { (part : PartData) → IsPart part → from (slice_index (addresses_in part) 0) (slots_in part) ≡ slots_in part }
+    ensures length { (part : PartData) → length (slots_in part) ≡ length (addresses_in part) + 2 * length part.rows }
+    ensures all_from_first { (part : PartData) → IsPart part → from (slice_index (addresses_in part) 0) (slots_in part) ≡ slots_in part }
     ensures rows { (part : PartData) (before after : List RowData) (r : RowData) → part.rows ≡ before ++ r ∷ after →
         slots_in part ≡ slots part.far before ++ row_slots part.far r (slots part.far after) }
     ensures frames { (part : PartData) → addresses_among (slots_in part) ≡ addresses_in part }
@@ -28,12 +30,12 @@ pub fn slots_follow_the_addresses()
         (slot_after part far 1 ≡ Frame next) ↔ (IsFollowedBy (addresses_in part) far next × AreInOneRow part far next) }
 {}
 
-/// The rows of a part in words: they are the rows of its file, put in rising order of
-/// block type, half and row, no two the same.
+/// What a part file gives is a part, and its rows are the rows of the file in another order. The rows of a part rise by
+/// block type, half and row, no two the same. Rows that are sorted are the same rows in the order of their addresses.
 pub fn rows_are_in_order()
-    ensures file { (text : List ℕ) (table : Members) (part : PartData) → parse_document text ≡ Some table → part_in text ≡ Ok part → IsPermutation (rows_in_file table) part.rows }
+    ensures same_rows_as_file { (text : List ℕ) (table : Members) (part : PartData) → parse_document text ≡ Some table → part_in text ≡ Ok part → IsPermutation (rows_in_file table) part.rows }
     ensures part { (text : List ℕ) (part : PartData) → part_in text ≡ Ok part → IsPart part }
     ensures rise { (part : PartData) → IsPart part → RowsRise part.rows }
-    ensures same { (far : FieldWidths) (rows : List RowData) → IsPermutation rows (sorted_rows far rows) }
+    ensures same_rows { (far : FieldWidths) (rows : List RowData) → IsPermutation rows (sorted_rows far rows) }
     ensures sorted { (far : FieldWidths) (rows : List RowData) → IsNonDecreasingBy (row_address far) (sorted_rows far rows) }
 {}

@@ -33,6 +33,36 @@ pub(crate) const MOST_COLUMNS: usize = 1024;
 /// The most minors of a column.
 pub(crate) const MOST_MINORS: u32 = 128;
 
+/// The least bits of an address's minor.
+pub(crate) const LEAST_MINOR_WIDTH: u8 = 7;
+
+/// The most bits of an address's minor.
+pub(crate) const MOST_MINOR_WIDTH: u8 = 12;
+
+/// The least bits of an address's column.
+pub(crate) const LEAST_COLUMN_WIDTH: u8 = 10;
+
+/// The most bits of an address's column.
+pub(crate) const MOST_COLUMN_WIDTH: u8 = 12;
+
+/// The least bits of an address's row.
+pub(crate) const LEAST_ROW_WIDTH: u8 = 5;
+
+/// The most bits of an address's row.
+pub(crate) const MOST_ROW_WIDTH: u8 = 8;
+
+/// The bits of an address's half.
+pub(crate) const HALF_WIDTH: u8 = 1;
+
+/// The least bits of an address's block type.
+pub(crate) const LEAST_BLOCK_WIDTH: u8 = 2;
+
+/// The most bits of an address's block type.
+pub(crate) const MOST_BLOCK_WIDTH: u8 = 3;
+
+/// The most bits of an address.
+pub(crate) const MOST_ADDRESS_WIDTH: u8 = 32;
+
 /// The most ticks that startup waits for lock or for match.
 pub(crate) const MOST_WAIT_TICKS: u32 = 65_535;
 

@@ -3,7 +3,7 @@ ghost use Rattle.std.specs.Prelude.{◌≡◌, ◌+◌, ◌*◌, ◌<◌, ◌≤
 ghost use Rattle.x7_part.specs.AddressOrder.{addresses_in, IsFollowedBy, IsLastIn, Rises};
 ghost use Rattle.x7_part.specs.Column.{AreColumnsOf, table_of as columns_of};
 ghost use Rattle.x7_part.specs.Address.{IsAddressOf, IsRow, far_width};
-ghost use Rattle.x7_part.specs.Limits.{greatest_bus_width, greatest_mode, least_frame_words, most_frame_words, most_frames, most_words, IsStartUnit};
+ghost use Rattle.x7_part.specs.Limits.{IsStartUnit, greatest_bus_width, greatest_mode, least_address_width, least_frame_words, most_address_width, most_frame_words, most_frames, most_words};
 ghost use Rattle.x7_part.specs.Part.{PartData, frame_words};
 ghost use Rattle.x7_part.specs.Values.{part_data};
 ghost use Rattle.x7_part.specs.Row.{same_row_fault, sorted_rows};
@@ -91,7 +91,7 @@ impl Part {
     /// The mode pins, as STAT shows them (UG470, status register).
     pub fn mode(&self) -> u8
         ensures value { result ≡ self.now.mode }
-        ensures range { result ≤ greatest_mode }
+        ensures most { result ≤ greatest_mode }
     {
         self.settings.mode
     }
@@ -99,7 +99,7 @@ impl Part {
     /// The bus width, as STAT shows it (UG470, status register).
     pub fn bus_width(&self) -> u8
         ensures value { result ≡ self.now.bus_width }
-        ensures range { result ≤ greatest_bus_width }
+        ensures most { result ≤ greatest_bus_width }
     {
         self.settings.bus_width
     }
@@ -118,7 +118,7 @@ impl Part {
         self.settings.matched
     }
 
-    /// The words of a frame (UG470, frame data).
+    /// How many words a frame has (UG470, frame data).
     pub fn words(&self) -> u32
         ensures value { result ≡ frame_words self.now }
         ensures least { least_frame_words ≤ result }
@@ -130,8 +130,8 @@ impl Part {
     /// The width of an address in bits (UG470, frame address register).
     pub fn far_width(&self) -> u32
         ensures value { result ≡ far_width self.now }
-        ensures least { 25 ≤ result }
-        ensures most { result ≤ 32 }
+        ensures least { least_address_width ≤ result }
+        ensures most { result ≤ most_address_width }
     {
         self.settings.far.width()
     }
@@ -139,7 +139,7 @@ impl Part {
     /// The bytes of the flash that one step of the start address in WBSTAR stands for.
     pub fn start_unit(&self) -> u32
         ensures value { result ≡ self.now.start_unit }
-        ensures either { IsStartUnit result }
+        ensures start_unit { IsStartUnit result }
     {
         u32::from(self.settings.start_unit)
     }
@@ -151,10 +151,10 @@ impl Part {
         &self.columns
     }
 
-    /// The number of the part's frames, which is that of its addresses.
+    /// How many frames the part has: as many as addresses.
     pub fn frames(&self) -> u32
         ensures value { result ≡ length (addresses_in self.now) }
-        ensures some { 0 < result }
+        ensures positive { 0 < result }
         ensures most { result ≤ most_frames }
         ensures part { IsPart self.now }
         ensures words { frame_words self.now * (result + 2 * length self.now.rows) ≤ most_words }
@@ -205,23 +205,23 @@ impl Part {
         column::slot_after(self.table(), far, n)
     }
 
-    /// The number of slots before an address.
+    /// The number of the slot of an address: how many slots are before it.
     pub fn place_of(&self, far: u32) -> u64
         requires address { Contains (addresses_in self.now) far }
         ensures within { result < length (slots_in self.now) }
         ensures slots { (n : ℕ) → slice_index_or (slots_in self.now) (result + n) Slot.End ≡ slice_index_or (from far (slots_in self.now)) n Slot.End }
-        ensures few { length (slots_in self.now) < 2 ^ 63 }
+        ensures most { length (slots_in self.now) < 2 ^ 63 }
     {
         column::place_of(self.table(), far)
     }
 
-    /// The rank of the frame at a slot that has `place` slots before it, none at a pad and past the last slot. `near`
-    /// keeps where to look first, 0 at the start; whatever it is, the answer is the same.
-    pub fn rank_at(&self, place: u64, near: &mut usize) -> Option<u32>
-        ensures found { IfSome result (λ r. HasFrameOf (addresses_in self.now) (slots_in self.now) place r) }
-        ensures none { IfNone result ((far : ℕ) → slice_index_or (slots_in self.now) place Slot.End ≡ Slot.Frame far → ⊥) }
+    /// The rank of the frame at the slot of this number, from 0, none at a pad and past the last slot. `hint` keeps
+    /// where to look first, 0 at the start; whatever it is, the answer is the same.
+    pub fn rank_at(&self, slot_number: u64, hint: &mut usize) -> Option<u32>
+        ensures found { IfSome result (λ r. HasFrameOf (addresses_in self.now) (slots_in self.now) slot_number r) }
+        ensures none { IfNone result ((far : ℕ) → slice_index_or (slots_in self.now) slot_number Slot.End ≡ Slot.Frame far → ⊥) }
     {
-        column::rank_at(self.table(), place, near)
+        column::rank_at(self.table(), slot_number, hint)
     }
 
     /// The number of slots from an address on.

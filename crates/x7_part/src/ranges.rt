@@ -6,7 +6,11 @@ ghost use Rattle.x7_part.specs.declared.fault.PartFault.TheVariants.{Range};
 
 use crate::address::Fields;
 use crate::fault::{PartFault, Which};
-use crate::limits::{FIRST_PRINTED, LAST_PRINTED, MOST_COLUMNS, MOST_MINORS, MOST_NAME_BYTES};
+use crate::limits::{
+    FIRST_PRINTED, HALF_WIDTH, LAST_PRINTED, LEAST_BLOCK_WIDTH, LEAST_COLUMN_WIDTH,
+    LEAST_MINOR_WIDTH, LEAST_ROW_WIDTH, MOST_BLOCK_WIDTH, MOST_COLUMN_WIDTH, MOST_COLUMNS,
+    MOST_MINOR_WIDTH, MOST_MINORS, MOST_NAME_BYTES, MOST_ROW_WIDTH,
+};
 use std::alloc::Global;
 
 /// The fault, unless the test holds.
@@ -48,7 +52,7 @@ pub(crate) fn is_name(text: &str) -> bool
 pub(crate) fn within(number: i64, low: u32, high: u32, at: Which) -> Result<u32, PartFault>
     ensures fault { fault_of_call result ≡ unless (is_in low high number) (Range at) }
     ensures value { IfOk result (λ n. n ≡ natural number) }
-    ensures range { IfOk result (λ n. (low ≤ n) × (n ≤ high)) }
+    ensures within { IfOk result (λ n. (low ≤ n) × (n ≤ high)) }
 {
     if i64::from(low) <= number && number <= i64::from(high) {
         Ok(number.unsigned_abs() as u32)
@@ -95,17 +99,17 @@ fn width_in(number: i64, low: u8, high: u8) -> Option<u8>
     }
 }
 
-/// The fields of these widths, none where one of them is out of its range, or
-/// where they have more than 32 bits together.
+/// The fields of these widths, none where one of them is out of its range, or where they have more than 32 bits
+/// together.
 fn fields_of(minor: i64, column: i64, row: i64, half: i64, block: i64) -> Option<Fields>
-    ensures test { is_some result ≡ are_widths (minor ∷ column ∷ row ∷ half ∷ block ∷ []) }
+    ensures exactly_where { is_some result ≡ are_widths (minor ∷ column ∷ row ∷ half ∷ block ∷ []) }
     ensures value { IfSome result (λ far. far ≡ widths_of (minor ∷ column ∷ row ∷ half ∷ block ∷ [])) }
 {
-    let minor = width_in(minor, 7, 12)?;
-    let column = width_in(column, 10, 12)?;
-    let row = width_in(row, 5, 8)?;
-    let half = width_in(half, 1, 1)?;
-    let block = width_in(block, 2, 3)?;
+    let minor = width_in(minor, LEAST_MINOR_WIDTH, MOST_MINOR_WIDTH)?;
+    let column = width_in(column, LEAST_COLUMN_WIDTH, MOST_COLUMN_WIDTH)?;
+    let row = width_in(row, LEAST_ROW_WIDTH, MOST_ROW_WIDTH)?;
+    let half = width_in(half, HALF_WIDTH, HALF_WIDTH)?;
+    let block = width_in(block, LEAST_BLOCK_WIDTH, MOST_BLOCK_WIDTH)?;
     Fields::of(minor, column, row, half, block)
 }
 

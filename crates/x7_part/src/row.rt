@@ -2,7 +2,7 @@
 ghost use Rattle.std.specs.Prelude.{◌≡◌, ◌≤◌, ◌*◌, [], None, map, length, sum, All, IfOk};
 ghost use Rattle.std.specs.List.{sum_by};
 ghost use Rattle.x7_part.specs.Address.{row_address, AreWidths, IsRow};
-ghost use Rattle.x7_part.specs.Limits.{most_columns, most_rows};
+ghost use Rattle.x7_part.specs.Limits.{greatest_byte, most_columns, most_rows};
 ghost use Rattle.x7_part.specs.PartChecks.{fault_of_call, AnswersDue, rows_fault, row_range_fault};
 ghost use Rattle.x7_part.specs.Row.{is_same_row, has_same_row, same_row_fault, sorted_rows};
 ghost use Rattle.x7_part.specs.Values.{row_by_values};
@@ -66,7 +66,7 @@ impl Row {
     /// The number of the row's frames.
     pub(crate) fn frame_count(&self) -> u32
         ensures value { result ≡ sum self.now.minors }
-        ensures most { result ≤ 255 * most_columns }
+        ensures most { result ≤ greatest_byte * most_columns }
     {
         let mut total = 0;
         for count in &self.minors {

@@ -65,7 +65,7 @@ pub(crate) fn number_or(usual: u32, table: &Table, at: Which) -> Result<i64, Par
 
 /// The whole numbers that items are, none where one of them is something else.
 fn wholes(alloc: Global, items: &[Value]) -> Result<Option<Vec<i64>>, AllocError>
-    ensures test { IfOk result (λ made. is_some made ≡ are_wholes (items_view items.now)) }
+    ensures exactly_where { IfOk result (λ made. is_some made ≡ are_wholes (items_view items.now)) }
     ensures value { IfOk result (λ made. IfSome made (λ zs. zs.items ≡ numbers (items_view items.now))) }
 {
     let mut numbers = Vec::with_capacity(alloc, items.len())?;
@@ -103,7 +103,7 @@ pub(crate) fn numbers_under(
 
 /// The tables that items are, none where one of them is something else.
 fn tables_among<'t>(alloc: Global, items: &'t [Value]) -> Result<Option<Vec<&'t Table>>, AllocError>
-    ensures test { IfOk result (λ made. is_some made ≡ are_tables (items_view items.now)) }
+    ensures exactly_where { IfOk result (λ made. is_some made ≡ are_tables (items_view items.now)) }
     ensures value { IfOk result (λ made. IfSome made (λ ts. map (λ t. table_view t.now) ts.items ≡ tables (items_view items.now))) }
 {
     let mut tables = Vec::with_capacity(alloc, items.len())?;

@@ -1,4 +1,4 @@
--- What is kept of a pipeline and a memory, so that the next word or copy can be taken back (this project's choice).
+-- What is saved of a pipeline and a memory, so that the next word or copy can be taken back (this project's choice).
 use Rattle.std.specs.Prelude.{◌≡◌, ℕ, ◌+◌, ◌-◌, ◌==◌, ◌&&◌, Bool, if◌then◌else◌, List, [], ◌∷◌, length, slice_index_or, Contains, Option, Some, None, is_some}
 use Rattle.std.specs.List.{AllByRecursion}
 use Rattle.x7_part.specs.AddressOrder.{addresses_in}
@@ -42,7 +42,7 @@ may_copy p = is_mfw p.command && is_some p.source
 abbrev pub next_put : PartData → PipelineData → Option ℕ
 next_put part p = if may_copy p then put_by_copy part p else put_by_word part p
 
--- ---- what is kept
+-- ---- what is saved
 
 -- the frame of an address, as at most one pair
 abbrev pub pair_of_frame : ℕ → Option (List ℕ) → List PlanRow

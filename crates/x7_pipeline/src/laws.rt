@@ -19,20 +19,23 @@ ghost use Rattle.x7_pipeline.specs.Pipeline.{PipelineData};
 ghost use Rattle.x7_pipeline.specs.Saved.{ChangesNext, HaveChangedAt, pair_at};
 ghost use Rattle.x7_pipeline.specs.Flow.{HoldsFlow, LandsAt, OfFlow, copied_by, fault_of_copy};
 
-/// A run is its whole frames and a rest. Its frames but the newest land with the slots in order, those at pads nowhere;
-/// and what a memory gets by one word after the other is what it gets by all.
+/// A run is its whole frames and a rest. Its frames but the newest land at the slots in order, those at pads nowhere; a
+/// run without words, and one whose base is no address, writes no frame. A memory that stays the same got what no word
+/// more lands. What a memory gets by pairs put first and pairs put second it gets by both at once, and what it gets by
+/// some words and then by later ones it gets by all. A memory that has a run's frames over another one has the frames
+/// of the longer run over that one, once it got what the words more land.
 pub fn runs_land_in_slot_order()
     ensures frames { (width : ℕ) (run : List ℕ) → 0 < width → AreCutFrom width run (frames_of width run) (rest_of width run) }
     ensures order { (part : PartData) (base : ℕ) (run : List ℕ) →
         reverse (written_frames part base run) ≡ placed_from part base (reverse (but_newest (frames_of (frame_words part) run))) }
-    ensures empty { (part : PartData) (base : ℕ) → written_frames part base [] ≡ [] }
-    ensures nowhere { (part : PartData) (base : ℕ) (run : List ℕ) → has_frame_at part base ≡ false → written_frames part base run ≡ [] }
-    ensures none { (part : PartData) (base : ℕ) (run : List ℕ) (old new : FrameMap) → AreSame new old → Lands part base run run old new }
-    ensures twice { (first second : List PlanRow) (old middle new : FrameMap) → AreSame middle (put_over first old) → AreSame new (put_over second middle) →
+    ensures no_run_writes_nothing { (part : PartData) (base : ℕ) → written_frames part base [] ≡ [] }
+    ensures no_base_writes_nothing { (part : PartData) (base : ℕ) (run : List ℕ) → has_frame_at part base ≡ false → written_frames part base run ≡ [] }
+    ensures no_word_lands_nothing { (part : PartData) (base : ℕ) (run : List ℕ) (old new : FrameMap) → AreSame new old → Lands part base run run old new }
+    ensures puts_join { (first second : List PlanRow) (old middle new : FrameMap) → AreSame middle (put_over first old) → AreSame new (put_over second middle) →
         AreSame new (put_over (second ++ first) old) }
-    ensures joined { (part : PartData) (base : ℕ) (run longer longest : List ℕ) (m n o : FrameMap) →
+    ensures words_join { (part : PartData) (base : ℕ) (run longer longest : List ℕ) (m n o : FrameMap) →
         Lands part base run longer m n → Lands part base longer longest n o → Lands part base run longest m o }
-    ensures memory { (part : PartData) (base : ℕ) (run longer : List ℕ) (under m n : FrameMap) →
+    ensures longer_run_over { (part : PartData) (base : ℕ) (run longer : List ℕ) (under m n : FrameMap) →
         Lands part base run longer m n → HasRun part base run under m → HasRun part base longer under n }
 {}
 
@@ -66,7 +69,8 @@ pub fn far_is_read_by_slots()
         far_of part base run given ≡ last_address part }
 {}
 
-/// A readback gives a frame of zeros, then the frames at the slots, then zeros.
+/// A readback gives a frame of zeros, then the frames at the slots, then zeros. The count given that is stored goes up
+/// by the words given, to the limit of the readback at most.
 pub fn readbacks_give_frames_along_slots()
     ensures pad { (part : PartData) (base : ℕ) (memory : FrameMap) (i : ℕ) → i < frame_words part → readback_at part base memory i ≡ 0 }
     ensures frames { (part : PartData) (base : ℕ) (memory : FrameMap) (n i : ℕ) → i < frame_words part →
@@ -75,17 +79,23 @@ pub fn readbacks_give_frames_along_slots()
     ensures stored { (part : PartData) (base given n : ℕ) → given_stored part base (given + n) ≡ min (given_stored part base given + n) (read_limit part base) }
 {}
 
-/// When there are faults, and that a refused word would change neither the written frames nor FAR as read.
-pub fn refused_words_change_nothing()
-    ensures address { (part : PartData) (far : ℕ) → (has_frame_at part far ≡ true) ↔ Contains (addresses_in part) far }
+/// A frame is at an address of the part alone. A word after the first of its run is refused by Overrun exactly where it
+/// completes a frame for which there is no slot; no written word is refused by Multi, no copy by Overrun, and a read by
+/// Address at its base alone.
+pub fn faults_come_where()
+    ensures is_address { (part : PartData) (far : ℕ) → (has_frame_at part far ≡ true) ↔ Contains (addresses_in part) far }
     ensures overrun { (part : PartData) (base word newest : ℕ) (run : List ℕ) → (write_fault part base (newest ∷ run) ≡ Some RunFault.Overrun) ↔ Overruns part base (word ∷ newest ∷ run) }
+    ensures no_multi_in_writes { (part : PartData) (base : ℕ) (run : List ℕ) → write_fault part base run ≢ Some RunFault.Multi }
+    ensures no_overrun_in_copies { (part : PartData) (command : Command) (base : ℕ) (source : Option (List ℕ)) → copy_fault part command base source ≢ Some RunFault.Overrun }
+    ensures only_address_in_reads { (part : PartData) (base given : ℕ) (fault : RunFault) → readback_fault part base given ≡ Some fault → fault ≡ RunFault.Address base }
+{}
+
+/// A refused word would change neither the written frames nor FAR as read.
+pub fn refused_words_change_nothing()
     ensures written_frames { (part : PartData) (base : ℕ) (run : List ℕ) (word : ℕ) (fault : RunFault) → write_fault part base run ≡ Some fault →
         written_frames part base (word ∷ run) ≡ written_frames part base run }
-    ensures far { (part : PartData) (base : ℕ) (run : List ℕ) (word given : ℕ) (why : RunFault) → write_fault part base run ≡ Some why →
+    ensures far { (part : PartData) (base : ℕ) (run : List ℕ) (word given : ℕ) (fault : RunFault) → write_fault part base run ≡ Some fault →
         far_of part base (word ∷ run) given ≡ far_of part base run given }
-    ensures written { (part : PartData) (base : ℕ) (run : List ℕ) → write_fault part base run ≢ Some RunFault.Multi }
-    ensures copied { (part : PartData) (command : Command) (base : ℕ) (source : Option (List ℕ)) → copy_fault part command base source ≢ Some RunFault.Overrun }
-    ensures read { (part : PartData) (base given : ℕ) (fault : RunFault) → readback_fault part base given ≡ Some fault → fault ≡ RunFault.Address base }
 {}
 
 /// Two pipelines that stand for the same are equal.
@@ -93,9 +103,9 @@ pub fn pipelines_of_the_same_are_equal()
     ensures equal { (part : PartData) (p q : PipelineData) → OfFlow part p (λ f. HoldsFlow part q f → p ≡ q) }
 {}
 
-/// A kept frame leads back where the memory changed at its address alone. A copy changes just the address where it puts
-/// one, and so does a word under another command than MFW.
-pub fn a_kept_frame_leads_back()
+/// A saved frame leads back where the memory changed at its address alone. A copy without a fault changes the memory at
+/// most where the next word or copy would put a frame, and so does a word under another command than MFW.
+pub fn a_saved_frame_leads_back()
     ensures back { (part : PartData) (at : Option ℕ) (old new : List (List ℕ)) → HaveChangedAt part at old new →
         AreSame (put_over (pair_at (frame_at part old) at) (frame_at part new)) (frame_at part old) }
     ensures copy { (part : PartData) (p : PipelineData) → OfFlow part p (λ f. (old new : FrameMap) → fault_of_copy part f ≡ None

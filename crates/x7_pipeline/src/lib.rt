@@ -8,7 +8,7 @@ mod place;
 
 pub use fault::RunFault;
 pub use laws::{
-    a_kept_frame_leads_back, far_is_read_by_slots, mfw_takes_the_newest_frame,
+    a_saved_frame_leads_back, far_is_read_by_slots, faults_come_where, mfw_takes_the_newest_frame,
     pipelines_of_the_same_are_equal, readbacks_give_frames_along_slots,
     refused_words_change_nothing, runs_land_in_slot_order, words_go_up_to_the_first_refused,
 };

@@ -156,8 +156,8 @@ impl Pipeline {
         ensures part { AreOfPart part.now self.new memory.new }
 
         // After a fault.
-        ensures refused { OnErr result (self.new ≡ self.old) }
-        ensures unchanged { OnErr result (memory.new ≡ memory.old) }
+        ensures unchanged { OnErr result (self.new ≡ self.old) }
+        ensures same_memory { OnErr result (memory.new ≡ memory.old) }
     {
         if self.writes_nowhere(part) {
             return Err(RunFault::Address(self.base));
@@ -170,8 +170,8 @@ impl Pipeline {
             return Err(RunFault::Overrun);
         }
         let first = part.place_of(self.base);
-        let mut near = 0;
-        self.put_newest(first, &mut near, part, memory);
+        let mut hint = 0;
+        self.put_newest(first, &mut hint, part, memory);
         push_word(&mut self.rest, word);
         std::mem::swap(&mut self.rest, &mut self.newest);
         self.rest.clear();
@@ -223,8 +223,8 @@ impl Pipeline {
         ensures passes { IfOk result (λ taken. OfFlow part.now self.old (λ f. (flow_written part.now f (words_of_bytes (take taken bytes.now))).fault ≡ None)) }
         ensures fault { IfErr result (λ fault. OfFlow part.now self.old (λ f. Some fault ≡ write_fault part.now f.base f.run)) }
         ensures part { AreOfPart part.now self.new memory.new }
-        ensures refused { OnErr result (self.new ≡ self.old) }
-        ensures unchanged { OnErr result (memory.new ≡ memory.old) }
+        ensures unchanged { OnErr result (self.new ≡ self.old) }
+        ensures same_memory { OnErr result (memory.new ≡ memory.old) }
     {
         let frame_size = 4 * self.width as usize;
         if frame_size <= bytes.len() && self.takes_frame(part) {
@@ -261,11 +261,11 @@ impl Pipeline {
         let frame_size = 4 * self.width as usize;
         let frame_limit = slot_count(part, self.base);
         let first = part.place_of(self.base);
-        let mut near = 0;
-        self.write_frame(&bytes[..frame_size], first, &mut near, part, memory);
+        let mut hint = 0;
+        self.write_frame(&bytes[..frame_size], first, &mut hint, part, memory);
         let mut at = frame_size;
         'frames: while self.has_next(frame_size, bytes.len() - at, frame_limit) {
-            self.write_frame(&bytes[at..at + frame_size], first, &mut near, part, memory);
+            self.write_frame(&bytes[at..at + frame_size], first, &mut hint, part, memory);
             at += frame_size;
         }
         at
@@ -278,13 +278,13 @@ impl Pipeline {
         frame_size <= bytes_left && self.frame_count < frame_limit
     }
 
-    /// Puts the newest whole frame, and holds the next one. `first` slots stand before those from the base on, and
-    /// `near` keeps where the part looks for a slot first.
+    /// Puts the newest whole frame, and holds the next one. `first` is the number of the base's slot,
+    /// and `hint` keeps where the part looks for a slot first.
     fn write_frame(
         &mut self,
         bytes: &[u8],
         first: u64,
-        near: &mut usize,
+        hint: &mut usize,
         part: &Part,
         memory: &mut Memory,
     )
@@ -294,11 +294,11 @@ impl Pipeline {
         requires limit { length (slots_from part.now self.old.base) < 2 ^ 31 }
         requires place { StartsAt part.now self.old.base first }
         ensures newest { self.new ≡ record self.old { newest = Some (words_of_bytes bytes.now); frame_count = self.old.frame_count + 1 } }
-        ensures none { self.old.newest ≡ None → memory.new ≡ memory.old }
+        ensures puts_nothing { self.old.newest ≡ None → memory.new ≡ memory.old }
         ensures put { PutsNewest part.now self.old (frame_at part.now memory.old) (frame_at part.now memory.new) }
         ensures part { AreOfPart part.now self.new memory.new }
     {
-        self.put_newest(first, near, part, memory);
+        self.put_newest(first, hint, part, memory);
         set_words(&mut self.newest, bytes);
         self.frame_count += 1;
     }
@@ -310,37 +310,37 @@ impl Pipeline {
         self.frame_count == 0 && self.rest.is_empty() && !has_frame_at(part, self.base)
     }
 
-    /// Puts the newest whole frame, where there is one and its slot is an address. `first` slots stand before those
-    /// from the base on, and `near` keeps where the part looks for a slot first.
-    fn put_newest(&self, first: u64, near: &mut usize, part: &Part, memory: &mut Memory)
+    /// Puts the newest whole frame, where there is one and its slot is an address. `first` is the number of the
+    /// base's slot, and `hint` keeps where the part looks for a slot first.
+    fn put_newest(&self, first: u64, hint: &mut usize, part: &Part, memory: &mut Memory)
         requires part { AreOfPart part.now self.now memory.old }
         requires slot { self.now.frame_count < length (slots_from part.now self.now.base) }
         requires limit { length (slots_from part.now self.now.base) < 2 ^ 31 }
         requires place { StartsAt part.now self.now.base first }
-        ensures none { self.now.newest ≡ None → memory.new ≡ memory.old }
+        ensures puts_nothing { self.now.newest ≡ None → memory.new ≡ memory.old }
         ensures put { PutsNewest part.now self.now (frame_at part.now memory.old) (frame_at part.now memory.new) }
         ensures memory { AreFramesOf part.now memory.new }
     {
         if self.frame_count == 0 {
             return;
         }
-        if let Some(rank) = part.rank_at(first + (self.frame_count - 1), near) {
+        if let Some(rank) = part.rank_at(first + (self.frame_count - 1), hint) {
             memory.put_at_rank(part, rank, &self.newest);
         }
     }
 
-    /// A copy, which is a word written to MFWR: the source is put at the base.
+    /// A word written to MFWR, which is a copy: the source is put at the base.
     pub fn copy(&mut self, part: &Part, memory: &mut Memory) -> Result<(), RunFault>
         requires part { AreOfPart part.now self.old memory.old }
         ensures put { OnOk result (OfFlow part.now self.old (λ f. AreSame (frame_at part.now memory.new) (put_over (copied_by f) (frame_at part.now memory.old)))) }
         ensures fault { OfFlow part.now self.old (λ f. result_err result ≡ fault_of_copy part.now f) }
 
         // Whatever the answer.
-        ensures same { self.new ≡ self.old }
+        ensures same_pipeline { self.new ≡ self.old }
         ensures part { AreOfPart part.now self.new memory.new }
 
         // After a fault.
-        ensures unchanged { OnErr result (memory.new ≡ memory.old) }
+        ensures same_memory { OnErr result (memory.new ≡ memory.old) }
     {
         if !self.may_copy() {
             return Err(RunFault::Multi);
@@ -373,7 +373,7 @@ impl Pipeline {
         ensures part { IsPipelineOf part.now self.new }
 
         // After a fault.
-        ensures refused { OnErr result (self.new ≡ self.old) }
+        ensures unchanged { OnErr result (self.new ≡ self.old) }
     {
         if self.reads_nowhere(part) {
             return Err(RunFault::Address(self.base));
@@ -440,7 +440,7 @@ impl Pipeline {
         ensures part { IsPipelineOf part.now self.old → IsPipelineOf part.now self.new }
 
         // After a fault.
-        ensures refused { OnErr result (self.new ≡ self.old) }
+        ensures unchanged { OnErr result (self.new ≡ self.old) }
     {
         if n == 0 {
             return Ok(());
@@ -492,7 +492,7 @@ fn begins_copies(old: Command, new: Command) -> bool
 fn push_word(words: &mut Vec<u32>, word: u32)
     requires { vec_len words.old + 1 ≤ vec_capacity words.old }
     ensures items { words.new.items ≡ words.old.items ++ word ∷ [] }
-    ensures count { vec_len words.new ≡ vec_len words.old + 1 }
+    ensures length { vec_len words.new ≡ vec_len words.old + 1 }
     ensures room { vec_capacity words.old ≤ vec_capacity words.new }
 {
     match words.push(word) {
@@ -514,7 +514,7 @@ fn set_words(words: &mut Vec<u32>, bytes: &[u8])
 /// Makes the vector, which has room for them, have `count` words.
 fn set_count(words: &mut Vec<u32>, count: usize)
     requires room { count ≤ vec_capacity words.old }
-    ensures count { length words.new.items ≡ count }
+    ensures length { length words.new.items ≡ count }
     ensures room { vec_capacity words.old ≤ vec_capacity words.new }
 {
     match words.resize(count, 0) {

@@ -16,7 +16,7 @@ pub(crate) fn has_frame_at(part: &Part, far: u32) -> bool
 /// The number of slots from an address on, 0 for what is no address.
 pub(crate) fn slot_count(part: &Part, far: u32) -> u64
     ensures value { result ≡ length (slots_from part.now far) }
-    ensures limit { result < 2 ^ 31 }
+    ensures most { result < 2 ^ 31 }
 {
     // for the proof alone: the limit rests on the part's range
     let _frames = part.frames();

@@ -1,7 +1,7 @@
-//! Frames kept, so that the next access can be taken back.
+//! Frames saved, so that the next access can be taken back.
 ghost use Rattle.std.specs.Prelude.{◌≡◌};
 ghost use Rattle.x7_pipeline.specs.Saved.{IsSavedOf};
-ghost use Rattle.x7_flow.specs.Saved.{FramesBack, KeepsFrames};
+ghost use Rattle.x7_flow.specs.Saved.{FramesBack, SavesFrames};
 ghost use Rattle.x7_flow.specs.Standing.{FramesFit, FramesState};
 
 use super::Frames;
@@ -9,17 +9,17 @@ use x7_part::Part;
 use x7_pipeline::Saved;
 
 impl Frames {
-    /// Keeps the frames, as far as the next access can change them.
+    /// Saves the frames, as far as the next access can change them.
     pub fn save(&self, part: &Part, into: &mut Saved)
         requires part { FramesFit part.now self.now }
         requires saved { IsSavedOf part.now into.old }
-        ensures keeps { KeepsFrames part.now into.new self.now }
+        ensures saves { SavesFrames part.now into.new self.now }
         ensures saved { IsSavedOf part.now into.new }
     {
         self.pipeline.save(part, &self.memory, into);
     }
 
-    /// Makes the frames those to which the kept ones lead back.
+    /// Makes the frames those to which the saved ones lead back.
     pub fn restore(&mut self, part: &Part, from: &Saved)
         requires part { FramesFit part.now self.old }
         requires saved { IsSavedOf part.now from.now }

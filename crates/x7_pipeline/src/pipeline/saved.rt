@@ -1,4 +1,4 @@
-//! A pipeline as it stood, kept so that the next word or copy can be taken back.
+//! A pipeline as it stood, saved so that the next word or copy can be taken back.
 ghost use Rattle.std.specs.Prelude.{◌≡◌, ◌≤◌, [], true, length, vec_len, vec_capacity, Contains, IfOk, IfSome};
 ghost use Rattle.std.specs.List.{AllByRecursion};
 ghost use Rattle.x7_part.specs.AddressOrder.{addresses_in};
@@ -21,11 +21,11 @@ use x7_words::NoMemory;
 #[derive(Drop)]
 pub struct Saved {
     pipeline: Pipeline,
-    /// Whether a frame is kept.
+    /// Whether a frame is saved.
     has_frame: bool,
-    /// The address of the kept frame, where `has_frame`.
+    /// The address of the saved frame, where `has_frame`.
     far: u32,
-    /// The words of the kept frame, where `has_frame`.
+    /// The words of the saved frame, where `has_frame`.
     frame: Vec<u32>,
 }
 
@@ -55,7 +55,7 @@ fn address_at_slot(slot: Slot) -> Option<u32>
 fn copy_words(words: &mut Vec<u32>, from: &[u32])
     requires { length from.now ≤ vec_capacity words.old }
     ensures items { words.new.items ≡ from.now }
-    ensures count { vec_len words.new ≡ length from.now }
+    ensures length { vec_len words.new ≡ length from.now }
     ensures room { vec_capacity words.old ≤ vec_capacity words.new }
 {
     words.clear();
@@ -69,7 +69,7 @@ fn copy_words(words: &mut Vec<u32>, from: &[u32])
 fn copy_some(words: &mut Vec<u32>, from: &[u32], has_words: bool)
     requires { has_words ≡ true → length from.now ≤ vec_capacity words.old }
     ensures items { has_words ≡ true → words.new.items ≡ from.now }
-    ensures count { has_words ≡ true → vec_len words.new ≡ length from.now }
+    ensures length { has_words ≡ true → vec_len words.new ≡ length from.now }
     ensures room { vec_capacity words.old ≤ vec_capacity words.new }
 {
     if has_words {
@@ -78,11 +78,11 @@ fn copy_some(words: &mut Vec<u32>, from: &[u32], has_words: bool)
 }
 
 impl Saved {
-    /// Takes room for a pipeline of this part and a frame. What is kept at first is a new pipeline, and no frame. No
+    /// Takes room for a pipeline of this part and a frame. What is saved at first is a new pipeline, and no frame. No
     /// other call takes memory.
     pub fn new(alloc: Global, part: &Part) -> Result<Saved, NoMemory>
         ensures pipeline { IfOk result (λ saved. HoldsFlow part.now saved.pipeline first_flow) }
-        ensures pair { IfOk result (λ saved. saved.pair ≡ []) }
+        ensures no_pair { IfOk result (λ saved. saved.pair ≡ []) }
         ensures part { IfOk result (IsSavedOf part.now) }
     {
         let pipeline = Pipeline::new(alloc, part)?;
@@ -95,8 +95,8 @@ impl Saved {
         })
     }
 
-    /// Keeps the frame of an address, where the memory has one.
-    fn keep_frame(&mut self, part: &Part, memory: &Memory, far: Option<u32>)
+    /// Saves the frame of an address, where the memory has one.
+    fn save_frame(&mut self, part: &Part, memory: &Memory, far: Option<u32>)
         requires part { IsPipelineOf part.now self.old.pipeline }
         requires memory { AreFramesOf part.now memory.now }
         requires address { IfSome far (Contains (addresses_in part.now)) }
@@ -116,7 +116,7 @@ impl Saved {
         self.has_frame = true;
     }
 
-    /// Puts the kept frame, where there is one.
+    /// Puts the saved frame, where there is one.
     fn put_frame(&self, part: &Part, memory: &mut Memory)
         requires memory { AreFramesOf part.now memory.old }
         requires fits { AllByRecursion (IsPairOf part.now) self.now.pair }
@@ -184,7 +184,7 @@ impl Pipeline {
         self.put_by_word(part)
     }
 
-    /// Keeps the pipeline and, where the next word or copy would put a frame, that address and its frame in the memory.
+    /// Saves the pipeline and, where the next word or copy would put a frame, that address and its frame in the memory.
     pub fn save(&self, part: &Part, memory: &Memory, into: &mut Saved)
         requires part { AreOfPart part.now self.now memory.now }
         requires saved { IsSavedOf part.now into.old }
@@ -193,11 +193,11 @@ impl Pipeline {
         ensures part { IsSavedOf part.now into.new }
     {
         into.pipeline.copy_from(self);
-        into.keep_frame(part, memory, self.next_put(part));
+        into.save_frame(part, memory, self.next_put(part));
     }
 
-    /// Makes this pipeline the kept one, and puts the kept frame into the memory, where there is one. Every other frame
-    /// stays.
+    /// Makes this pipeline the saved one, and puts the saved frame into the memory, where there is one. Every other
+    /// frame stays.
     pub fn restore(&mut self, part: &Part, memory: &mut Memory, from: &Saved)
         requires part { AreOfPart part.now self.old memory.old }
         requires saved { IsSavedOf part.now from.now }

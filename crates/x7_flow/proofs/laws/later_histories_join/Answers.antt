@@ -11,8 +11,8 @@ returns-clause-flow c = λ x. flow_twice x.part x.settings x.flow
 pub returns-clause-pairs : goal.returns-clause-pairs
 returns-clause-pairs c = λ x. pairs_twice x.part x.settings x.flow
 
-pub returns-clause-alone : goal.returns-clause-alone
-returns-clause-alone c = memory_after_load_alone
+pub returns-clause-without_source : goal.returns-clause-without_source
+returns-clause-without_source c = memory_after_load_alone
 
-pub returns-clause-alike : goal.returns-clause-alike
-returns-clause-alike c = loaded_alike
+pub returns-clause-same_but_for_mask : goal.returns-clause-same_but_for_mask
+returns-clause-same_but_for_mask c = loaded_alike

@@ -37,7 +37,7 @@ pub returns-in-Ok-copy-clause-done : goal.returns-in-Ok-copy-clause-done
 returns-in-Ok-copy-clause-done c = λ h s.
     did_as c.args.part.now h c.args.reg c.args.word _ (frames_state c.args.pipeline.now c.args.memory.now) (frames_state c.copy.new.self c.copy.new.memory)
     (copies_asked c.args.part.now.idcode h c.args.reg c.args.word true c.in-Mfwr.is (sym (c.takes_copies.ensures.after c.args.part.now.idcode h s) ∙ c.if-not-takes_copies.false))
-    (did_copy c.args.part.now c.args.pipeline.now c.copy.new.self c.args.memory.now c.copy.new.memory c.in-Ok-copy.ensures.same c.in-Ok-copy.ensures.put c.in-Ok-copy.ensures.fault)
+    (did_copy c.args.part.now c.args.pipeline.now c.copy.new.self c.args.memory.now c.copy.new.memory c.in-Ok-copy.ensures.same_pipeline c.in-Ok-copy.ensures.put c.in-Ok-copy.ensures.fault)
 
 pub returns-in-Ok-copy-clause-fault : goal.returns-in-Ok-copy-clause-fault
 returns-in-Ok-copy-clause-fault c = λ h f s has.

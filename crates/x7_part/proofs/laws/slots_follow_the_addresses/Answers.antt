@@ -7,11 +7,11 @@ returns-clause-split c = slots_split
 pub returns-clause-first : goal.returns-clause-first
 returns-clause-first c = slots_first
 
-pub returns-clause-count : goal.returns-clause-count
-returns-clause-count c = slots_number
+pub returns-clause-length : goal.returns-clause-length
+returns-clause-length c = slots_number
 
-pub returns-clause-all : goal.returns-clause-all
-returns-clause-all c = slots_all
+pub returns-clause-all_from_first : goal.returns-clause-all_from_first
+returns-clause-all_from_first c = slots_all
 
 pub returns-clause-rows : goal.returns-clause-rows
 returns-clause-rows c = λ part before after r e. slots_rows part.far part.rows before after r e

@@ -11,6 +11,6 @@ loop-item-preserved c =
     (ap (map (λ t. table_view t.now)) c.in_ok-push-in-Some.ensures.items ∙ map-append (λ t. table_view t.now) c.loop-item.tables.items _) in
     record { test = m.test ∙ c.loop-item.invariant.test; tables = m.values ∙ c.loop-item.invariant.tables }
 
-pub returns-in-None-clause-test : goal.returns-in-None-clause-test
-returns-in-None-clause-test c =
+pub returns-in-None-clause-exactly_where : goal.returns-in-None-clause-exactly_where
+returns-in-None-clause-exactly_where c =
     no_table c.args.items.now c.loop-item.item-index c.item-item.result c.loop-item-test.true c.item-item.is c.in-None.ensures ∙ c.loop-item.invariant.test

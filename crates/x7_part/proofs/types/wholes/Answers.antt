@@ -9,6 +9,6 @@ loop-item-preserved c =
     c.in-Some.ensures (c.in_ok-push-in-Some.ensures.items ∙ ap (λ z. c.loop-item.numbers.items ++ z ∷ []) same) in
     record { test = m.test ∙ c.loop-item.invariant.test; numbers = m.values ∙ c.loop-item.invariant.numbers }
 
-pub returns-in-None-clause-test : goal.returns-in-None-clause-test
-returns-in-None-clause-test c =
+pub returns-in-None-clause-exactly_where : goal.returns-in-None-clause-exactly_where
+returns-in-None-clause-exactly_where c =
     no_whole c.args.items.now c.loop-item.item-index c.item-item.result c.loop-item-test.true c.item-item.is c.in-None.ensures ∙ c.loop-item.invariant.test

@@ -7,20 +7,20 @@ returns-clause-frames c = cut
 pub returns-clause-order : goal.returns-clause-order
 returns-clause-order c = landed_in_order
 
-pub returns-clause-empty : goal.returns-clause-empty
-returns-clause-empty c = landed_empty
+pub returns-clause-no_run_writes_nothing : goal.returns-clause-no_run_writes_nothing
+returns-clause-no_run_writes_nothing c = landed_empty
 
-pub returns-clause-nowhere : goal.returns-clause-nowhere
-returns-clause-nowhere c = landed_nowhere
+pub returns-clause-no_base_writes_nothing : goal.returns-clause-no_base_writes_nothing
+returns-clause-no_base_writes_nothing c = landed_nowhere
 
-pub returns-clause-none : goal.returns-clause-none
-returns-clause-none c = lands_none
+pub returns-clause-no_word_lands_nothing : goal.returns-clause-no_word_lands_nothing
+returns-clause-no_word_lands_nothing c = lands_none
 
-pub returns-clause-twice : goal.returns-clause-twice
-returns-clause-twice c = put_twice
+pub returns-clause-puts_join : goal.returns-clause-puts_join
+returns-clause-puts_join c = put_twice
 
-pub returns-clause-joined : goal.returns-clause-joined
-returns-clause-joined c = lands_more
+pub returns-clause-words_join : goal.returns-clause-words_join
+returns-clause-words_join c = lands_more
 
-pub returns-clause-memory : goal.returns-clause-memory
-returns-clause-memory c = lands_over
+pub returns-clause-longer_run_over : goal.returns-clause-longer_run_over
+returns-clause-longer_run_over c = lands_over

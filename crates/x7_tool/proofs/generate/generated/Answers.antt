@@ -36,4 +36,4 @@ returns c =
     let v = c.loop-rank.invariant in
     let long : length (addresses_in part) ≤ c.loop-rank.rank = omega (arith, c.loop-rank-test.false, c.frames-rank-end.ensures.value) in
     let rows : c.loop-rank.draft.rows ≡ (generated part c.args.seed).rows = rows_all (frame_words part) c.loop-rank.n c.loop-rank.rank (addresses_in part) c.loop-rank.draft.rows (generated part c.args.seed).rows long v.rows in
-    plan_is part c.args.seed c.loop-rank.draft c.finish.result c.frames-rank-end.ensures.order rows v.width c.finish.ensures.width c.finish.ensures.same c.finish.ensures.plan
+    plan_is part c.args.seed c.loop-rank.draft c.finish.result c.frames-rank-end.ensures.order rows v.width c.finish.ensures.width c.finish.ensures.same_rows c.finish.ensures.plan

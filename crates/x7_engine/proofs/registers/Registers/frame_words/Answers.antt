@@ -5,7 +5,7 @@ use Rattle.x7_packets.specs.History.{History, entered_all}
 use Rattle.x7_packets.specs.Packet.{payload_steps}
 use Rattle.x7_packets.proofs.GrowthLemmas.{placed_within}
 use Rattle.x7_part.specs.Part.{PartData}
-use Rattle.x7_flow.specs.Controls.{is_matched}
+use Rattle.x7_flow.specs.Controls.{has_idcode}
 use Rattle.x7_flow.specs.Standing.{FramesStandFor}
 use Rattle.x7_flow.specs.Words.{NoneRefused, with_words_to, words_to}
 use Rattle.x7_regs.specs.declared.register.Reg.{Reg}
@@ -57,7 +57,7 @@ returns c = record {
       let unrefused : NoneRefused part r n prefix h = subst (λ (x : List ℕ). NoneRefused part r n x h) before words.0 in
       let frames : FramesStandFor part c.write_bytes-count.new.self all 0 = subst (λ (x : List ℕ). FramesStandFor part c.write_bytes-count.new.self (with_words_to r n x h) 0) before words.1 in
       let quiet : IsQuiet register = data_quiet r c.requires.register in
-      let matched : is_matched part.idcode h ≡ true = sym s.progress.matched ∙ c.requires.matched in
+      let matched : has_idcode part.idcode h ≡ true = sym s.progress.matched ∙ c.requires.matched in
       let start : Clocked part kept clock c.args.self.now.stop h n m = record { places = s.places; clock = after.clock; stop = after.stop } in
       let clocked : Clocked part kept clock c.args.self.now.stop all (n + 4 * length prefix) m = clocked_all part kept clock c.args.self.now.stop register n m prefix h quiet (data_none part kept r n prefix h c.requires.register matched unrefused) (omega (arith, size)) start in
       record {

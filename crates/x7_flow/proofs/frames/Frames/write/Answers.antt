@@ -8,7 +8,7 @@ use Rattle.x7_flow.proofs.frames.Frames.write.Goals as goal
 pub returns-clause-stands : goal.returns-clause-stands
 returns-clause-stands c = λ h settings are place.
     access_taken c.args.part.now (frames_state c.self.inside.pipeline c.self.inside.memory) (frames_state c.take.new.pipeline c.take.new.memory) h (entry (Write (number_of c.args.reg) c.args.word) place) c.take.result
-    (c.take.ensures.done h settings) c.take.ensures.refused c.take.ensures.unchanged
+    (c.take.ensures.done h settings) c.take.ensures.unchanged c.take.ensures.same_memory
     (subst (λ (f : FramesState). FramesStandFor c.args.part.now f h 0) (sym c.self.view_is) are)
 
 pub returns-clause-fault : goal.returns-clause-fault

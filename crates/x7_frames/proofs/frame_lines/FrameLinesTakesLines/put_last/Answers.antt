@@ -12,7 +12,7 @@ returns-clause-read c = λ first lines m t text is.
     record {
       rows = new.rows;
       good = subst (λ ls. AreGood first.part ls new.rows) (sym is) read.1;
-      same = c.finish.ensures.rows;
+      same = c.finish.ensures.same_rows;
       is_plan = c.finish.ensures.plan;
       width = c.finish.ensures.width ∙ ap frame_words read.0;
     }

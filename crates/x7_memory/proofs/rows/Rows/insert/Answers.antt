@@ -11,8 +11,8 @@ invariant_of-self-in_err-insert c =
     kept_still c.self.inside.width c.self.inside.words.items c.args.words.now c.extend_from_slice.new.self.items c.self.inside.rows.items c.self.invariant c.in_ok-extend_from_slice.ensures.items
     c.insert.new.self.items c.in_err-insert.ensures.items
 
-pub returns-in_err-insert-clause-failed : goal.returns-in_err-insert-clause-failed
-returns-in_err-insert-clause-failed c =
+pub returns-in_err-insert-clause-unchanged : goal.returns-in_err-insert-clause-unchanged
+returns-in_err-insert-clause-unchanged c =
     on_err c.from_residual-in_err-insert.result
     (ap (λ rows. let p : PlanData = record { width = c.self.inside.width; rows = rows } in p)
     (rows_stay c.self.inside.width c.self.inside.words.items c.args.words.now c.extend_from_slice.new.self.items c.self.inside.rows.items c.self.invariant c.in_ok-extend_from_slice.ensures.items

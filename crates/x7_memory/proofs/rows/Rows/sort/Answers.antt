@@ -13,7 +13,7 @@ returns-clause-sorted c =
     sorted_rows c.self.inside.width c.self.inside.words.items c.sort_unstable_by_key.new.self.items
     (IsNonDecreasingBy-from_sort_by_key (λ row. row.far) _ c.sort_unstable_by_key.ensures.sorted (λ a r q k. search rules))
 
-pub returns-clause-same : goal.returns-clause-same
-returns-clause-same c =
+pub returns-clause-same_rows : goal.returns-clause-same_rows
+returns-clause-same_rows c =
     subst (λ plan. IsPermutation plan.rows (rows_in c.self.inside.width c.self.inside.words.items c.sort_unstable_by_key.new.self.items)) c.self.view_is
     (IsPermutation-map (row_in c.self.inside.width c.self.inside.words.items) c.self.inside.rows.items c.sort_unstable_by_key.new.self.items c.sort_unstable_by_key.ensures.permutation)

@@ -5,8 +5,8 @@ use Rattle.x7_part.proofs.part.Part.frames.Goals as goal
 pub returns-clause-value : goal.returns-clause-value
 returns-clause-value c = rw (← c.table.ensures.addresses) c.frame_count.ensures
 
-pub returns-clause-some : goal.returns-clause-some
-returns-clause-some c =
+pub returns-clause-positive : goal.returns-clause-positive
+returns-clause-positive c =
     let of = c.table.ensures in
     rw (c.frame_count.ensures, of.addresses) (some_address c.args.self.now.far 0 c.args.self.now.rows of.is_part.rows of.is_part.some)
 

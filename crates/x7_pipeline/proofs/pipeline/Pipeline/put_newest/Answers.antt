@@ -6,8 +6,8 @@ use Rattle.x7_pipeline.specs.Pipeline.{PipelineData}
 use Rattle.x7_pipeline.proofs.StateLemmas.{put_frame, put_no_frame, kept_is, kept_none}
 use Rattle.x7_pipeline.proofs.pipeline.Pipeline.put_newest.Goals as goal
 
-pub returns-in-Some-clause-none : goal.returns-in-Some-clause-none
-returns-in-Some-clause-none c = λ e.
+pub returns-in-Some-clause-puts_nothing : goal.returns-in-Some-clause-puts_nothing
+returns-in-Some-clause-puts_nothing c = λ e.
     let kept = ap (λ (v : PipelineData). v.newest) c.self.view_is in
     absurd (c.if-self-eq0.false (kept_none c.self.inside.frame_count c.self.inside.newest.items c.args.self.now.newest kept e))
 
@@ -24,7 +24,7 @@ returns-in_default c =
     let count : c.self.inside.frame_count ≡ c.args.self.now.frame_count = ap (λ (v : PipelineData). v.frame_count) c.self.view_is in
     let slot = c.requires.place.same (c.self.inside.frame_count - 1) ∙ ap (λ n. get_or (slots_from c.args.part.now c.args.self.now.base) (n - 1) End) count in
     record {
-      none = λ e. refl;
+      puts_nothing = λ e. refl;
       put = λ frame e. put_no_frame _ frame (frame_at c.args.part.now c.args.memory.now) (frame_at c.args.part.now c.args.memory.now) (λ far is. c.in_default.ensures.none far (slot ∙ is)) (λ a. refl);
       memory = c.requires.part.frames_fit;
     }

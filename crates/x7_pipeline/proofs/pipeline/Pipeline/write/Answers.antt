@@ -73,7 +73,7 @@ returns-clause-lands c = λ f s.
     let short = c.self.invariant.short in
     lands_frame c.args.part.now c.args.self.now c.args.word f.command f.base f.run f.source f.given (frame_at c.args.part.now c.args.memory.now) (frame_at c.args.part.now c.put_newest.new.memory) s
     (omega arith)
-    (λ none far. ap (λ memory. frame_at c.args.part.now memory far) (c.put_newest.ensures.none none))
+    (λ none far. ap (λ memory. frame_at c.args.part.now memory far) (c.put_newest.ensures.puts_nothing none))
     c.put_newest.ensures.put
 
 pub returns-clause-fault : goal.returns-clause-fault

@@ -31,7 +31,7 @@ frames-init c =
       went = λ command base run source given s.
           whole c.args.part.now c.args.self.now c.write_frame.new.self (frame_at c.args.part.now c.args.memory.now) (frame_at c.args.part.now c.write_frame.new.memory) command base run source given
           (words_of_bytes (take (4 * c.self.inside.width) c.args.bytes.now)) s c.requires.begins (frame_wide c.self.inside.width c.args.bytes.now (omega arith) ∙ wide) c.requires.slot held
-          (λ none far. ap (λ memory. frame_at c.args.part.now memory far) (c.write_frame.ensures.none none)) c.write_frame.ensures.put;
+          (λ none far. ap (λ memory. frame_at c.args.part.now memory far) (c.write_frame.ensures.puts_nothing none)) c.write_frame.ensures.put;
     }
 
 pub frames-preserved : goal.frames-preserved
@@ -65,7 +65,7 @@ frames-preserved c =
           whole c.args.part.now c.frames.self c.write_frame-in-frames.new.self (frame_at c.args.part.now c.frames.memory) (frame_at c.args.part.now c.write_frame-in-frames.new.memory) command base run source given
           (words_of_bytes (take (4 * c.self.inside.width) (drop c.frames.at c.args.bytes.now))) s before.begins
           (frame_wide c.self.inside.width (drop c.frames.at c.args.bytes.now) (omega arith) ∙ wide ∙ sym before.width) (omega arith) held
-          (λ none far. ap (λ memory. frame_at c.args.part.now memory far) (c.write_frame-in-frames.ensures.none none)) c.write_frame-in-frames.ensures.put);
+          (λ none far. ap (λ memory. frame_at c.args.part.now memory far) (c.write_frame-in-frames.ensures.puts_nothing none)) c.write_frame-in-frames.ensures.put);
     }
 
 pub returns-clause-stands : goal.returns-clause-stands

@@ -1,5 +1,5 @@
 use Rattle.x7_pipeline.proofs.SavedLemmas.{copy_changes, taken_back, word_changes}
-use Rattle.x7_pipeline.proofs.laws.a_kept_frame_leads_back.Goals as goal
+use Rattle.x7_pipeline.proofs.laws.a_saved_frame_leads_back.Goals as goal
 
 pub returns : goal.returns
 returns c = record {
