@@ -23,7 +23,7 @@ use Rattle.x7_engine.proofs.BodyLemmas.{length_of_words}
 use Rattle.x7_engine.proofs.FrameLemmas.{why_fdri, why_mfwr}
 use Rattle.x7_engine.proofs.PlainLemmas.{IsQuiet, NoneStop, fdri_quiet, mfwr_quiet}
 
--- words of a register on a matched device, none of which the frames refuse, stop nothing
+-- words of a register on a device whose IDCODE was written, none of which the frames refuse, stop nothing
 none_stop : (part : PartData) (kept : Kept) (r : Reg) (n : ℕ) (ws : List ℕ) (h : History) → ((g : History) (w : ℕ) → is_matched part.idcode g ≡ true → why_by_write part kept g (number_of r) w ≡ None)
     → ((g : History) (w place : ℕ) → is_matched part.idcode g ≡ true → is_matched part.idcode (entry (Write (number_of r) w) place ∷ g) ≡ true)
     → is_matched part.idcode h ≡ true → NoneRefused part r n ws h → NoneStop part kept (number_of r) n ws h

@@ -12,7 +12,7 @@ pub record StandsIn (h : History) (access : Access) (place : ℕ) (older : Histo
   pub newer : History
   pub split : h ≡ newer ++ entry access place ∷ older
 
--- START was executed on a matched device, and DESYNC after it, by byte n
+-- START was executed on a device whose IDCODE was written, and DESYNC after it, by byte n
 pub record HasStartAndDesync (idcode : ℕ) (h : History) (n : ℕ) : Type 0 where
   pub newer : History
   pub desync : Entry
@@ -22,6 +22,6 @@ pub record HasStartAndDesync (idcode : ℕ) (h : History) (n : ℕ) : Type 0 whe
   pub split : h ≡ newer ++ desync ∷ (between ++ start ∷ older)
   pub desync_is : Executes (code_of Desync) (between ++ start ∷ older) desync.access
   pub start_is : Executes (code_of Start) older start.access
-  pub matched : IsTrue (is_matched idcode older)
+  pub has_idcode : IsTrue (is_matched idcode older)
   pub order : start.place < desync.place
   pub within : desync.place ≤ n
