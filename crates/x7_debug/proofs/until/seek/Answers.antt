@@ -9,9 +9,9 @@ use Rattle.x7_debug.proofs.until.seek.Goals as goal
 
 pub loop-stop-init : goal.loop-stop-init
 loop-stop-init c = record {
-  comes = comes_nowhere c.args.stream.now c.args.device.now c.args.journal.now c.requires.may.may.on;
+  comes = comes_nowhere c.args.stream.now c.args.device.now c.args.journal.now c.requires.may_move.may.on;
   since = omega arith;
-  within = c.requires.may.forward;
+  within = c.requires.may_move.forward;
   none = λ k h j. absurd (omega (arith, h, j));
 }
 
@@ -48,8 +48,8 @@ loop-stop-preserved c =
     record {
       comes = record {
         there = record {
-          on = on_further c.loop-stop.device.part stream c.loop-stop.device c.feed_to.new.device c.args.journal.now (c.taken-at.result + 1) c.requires.some.0 c.requires.some.1 c.loop-stop.invariant.comes.there.on c.requires.some.2 c.feed_to.ensures.stands
-              (omega (arith, at)) (omega (arith, at, less, c.requires.some.3));
+          on = on_further c.loop-stop.device.part stream c.loop-stop.device c.feed_to.new.device c.args.journal.now (c.taken-at.result + 1) c.requires.newest_record.0 c.requires.newest_record.1 c.loop-stop.invariant.comes.there.on c.requires.newest_record.2 c.feed_to.ensures.stands
+              (omega (arith, at)) (omega (arith, at, less, c.requires.newest_record.3));
           part = c.feed_to.ensures.stands.stands.part_is ∙ c.loop-stop.invariant.comes.there.part;
           taken = refl;
         };
