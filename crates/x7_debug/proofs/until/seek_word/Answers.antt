@@ -44,4 +44,4 @@ returns-clause-none_before c = λ k after before.
 pub returns-clause-none_at_end : goal.returns-clause-none_at_end
 returns-clause-none_at_end c = λ q.
     subst (λ (p : PartData). holds_at p c.args.stream.now c.args.stop c.seek.new.device.taken ≡ false) c.feed_recorded.ensures.at_position.there.part
-    (subst (λ (n : ℕ). holds_at c.feed_recorded.new.device.part c.args.stream.now c.args.stop n ≡ false) (sym (c.seek.ensures.end q)) (c.seek.ensures.none_at_end q))
+    (subst (λ (n : ℕ). holds_at c.feed_recorded.new.device.part c.args.stream.now c.args.stop n ≡ false) (sym (c.seek.ensures.at_bound q)) (c.seek.ensures.none_at_end q))
