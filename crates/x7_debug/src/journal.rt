@@ -70,8 +70,8 @@ impl Journal {
         }
     }
 
-    /// Feeds a piece of up to four bytes to a device, up to what stops it, with a record. Where all
-    /// are in use, the oldest one is used again.
+    /// Feeds a piece of up to four bytes to a device, up to what stops it, with a record. Where all records are in use,
+    /// the oldest one is used again.
     pub(crate) fn feed(&mut self, device: &mut Device, piece: &[u8])
         requires one_record { length piece.now ≤ record_bytes }
         requires fits { device.old.taken + length piece.now ≤ 2 ^ 63 }
@@ -93,11 +93,11 @@ impl Journal {
 
     /// Takes a device back to where its newest record was made, which is not in use from then on.
     pub(crate) fn back(&mut self, device: &mut Device)
-        requires some { 0 < self.old.count }
+        requires has_record { 0 < self.old.count }
         requires records { AreRecordsOf device.old.part self.old }
-        requires on { (stream : List ℕ) × IsOnStream device.old.part stream device.old self.old }
+        requires on_stream { (stream : List ℕ) × IsOnStream device.old.part stream device.old self.old }
         ensures back { (stream : List ℕ) → IsOnStream device.old.part stream device.old self.old → IsOnStream device.new.part stream device.new self.new }
-        ensures less { (stream : List ℕ) → IsOnStream device.old.part stream device.old self.old → device.new.taken ≤ device.old.taken × device.old.taken ≤ device.new.taken + record_bytes }
+        ensures one_record { (stream : List ℕ) → IsOnStream device.old.part stream device.old self.old → device.new.taken ≤ device.old.taken × device.old.taken ≤ device.new.taken + record_bytes }
         ensures fed { fed_of device.new ≡ fed_of device.old }
         ensures oldest { (stream : List ℕ) → IsOnStream device.old.part stream device.old self.old → oldest_by device.new.taken (records_of self.new) ≡ oldest_by device.old.taken (records_of self.old) }
         ensures room_for_one { (stream : List ℕ) → IsOnStream device.old.part stream device.old self.old → length (records_of self.new) < record_room }

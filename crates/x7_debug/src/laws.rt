@@ -28,7 +28,7 @@ pub fn every_script_is_read()
 /// a device comes at the last position alone.
 pub fn until_leads_to_the_least()
     ensures holds { (part : PartData) (stream : List ℕ) (stop : Stop) (at n : ℕ) → IsLeastAfter part stream stop at n → until_of part stream stop at ≡ n }
-    ensures none { (part : PartData) (stream : List ℕ) (stop : Stop) (at : ℕ) → at ≤ last_of part stream → HoldsNowhereAfter part stream stop at
+    ensures holds_nowhere { (part : PartData) (stream : List ℕ) (stop : Stop) (at : ℕ) → at ≤ last_of part stream → HoldsNowhereAfter part stream stop at
         → until_of part stream stop at ≡ last_of part stream }
     ensures stopped { (part : PartData) (stream : List ℕ) (at : ℕ) → AreBytes stream → at ≤ last_of part stream → until_of part stream Stopped at ≡ last_of part stream }
 {}

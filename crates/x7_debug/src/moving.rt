@@ -47,7 +47,7 @@ pub(crate) fn feed_to(device: &mut Device, stream: &[u8], to: u64)
 
 /// Feeds a device up to four bytes of the stream, with a record of it before them.
 pub(crate) fn feed_recorded(device: &mut Device, journal: &mut Journal, stream: &[u8], to: u64)
-    requires may { MayMoveForward stream.now device.old journal.old to }
+    requires may_move { MayMoveForward stream.now device.old journal.old to }
     requires one_record { to ≤ device.old.taken + record_bytes }
     ensures at_position { ComesForward stream.now device.old device.new journal.new to }
     ensures recorded { HasRecorded device.old.taken journal.old journal.new }
@@ -116,8 +116,8 @@ fn replay(device: &mut Device, journal: &mut Journal, stream: &[u8], to: u64)
 fn take_back(device: &mut Device, journal: &mut Journal, stream: &[u8], to: u64)
     requires { MayMoveBack stream.now device.old journal.old to }
     ensures at_position { ComesToPosition stream.now device.old device.new journal.new device.new.taken }
-    ensures before { device.new.taken ≤ to }
-    ensures near { to < device.new.taken + record_bytes }
+    ensures within { device.new.taken ≤ to }
+    ensures one_record { to < device.new.taken + record_bytes }
     ensures fed { fed_of device.new ≡ fed_of device.old }
     ensures room_for_one { length (records_of journal.new) < record_room }
     ensures oldest { oldest_by device.new.taken (records_of journal.new) ≡ oldest_by device.old.taken (records_of journal.old) }

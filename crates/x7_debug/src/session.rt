@@ -39,8 +39,8 @@ impl Model for Session {
 }
 
 impl Session {
-    /// A session at position 0 of a stream, on a new device of the part. A second device plays the stream
-    /// first, to find its last position and one before which startup hasn't begun.
+    /// A session at position 0 of a stream, on a new device of the part. A second device plays the stream first, to
+    /// find its last position and one before which startup hasn't begun.
     pub fn new(alloc: Global, part: &Part, stream: Vec<u8>) -> Result<Session, NoMemory>
         ensures begins { IfOk result (λ s. (s.part ≡ part.now) × (s.stream ≡ stream.items) × (s.at ≡ 0)) }
         ensures oldest { IfOk result (λ s. s.oldest ≡ 0) }
@@ -57,7 +57,7 @@ impl Session {
         })
     }
 
-    /// The position: the bytes that the device took.
+    /// The position: how many bytes the device took.
     pub fn at(&self) -> u64
         ensures { result ≡ self.now.at }
     {

@@ -27,16 +27,16 @@ fn holds_in(stop: Stop, end: End, phase: u8) -> bool
     }
 }
 
-/// Brings a device forward byte by byte to the first position where the stop holds, or to `bound`, which is at most four
-/// bytes after the newest record. Says whether the stop holds there.
+/// Brings a device forward byte by byte to the first position where the stop holds, or to `bound`, which is at most
+/// four bytes after the newest record. Says whether the stop holds there.
 fn seek(device: &mut Device, journal: &Journal, stream: &[u8], bound: u64, stop: Stop) -> bool
-    requires may { MayMoveForward stream.now device.old journal.now bound }
-    requires some { (u : UndoState) × (older : List UndoState) × (records_of journal.now ≡ u ∷ older) × (bound ≤ u.taken + record_bytes) }
+    requires may_move { MayMoveForward stream.now device.old journal.now bound }
+    requires newest_record { (u : UndoState) × (older : List UndoState) × (records_of journal.now ≡ u ∷ older) × (bound ≤ u.taken + record_bytes) }
     ensures at_position { ComesForward stream.now device.old device.new journal.now device.new.taken }
     ensures forward { device.old.taken ≤ device.new.taken × device.new.taken ≤ bound }
     ensures found { result ≡ true → holds_at device.old.part stream.now stop device.new.taken ≡ true }
     ensures at_bound { result ≡ false → device.new.taken ≡ bound }
-    ensures none { (k : ℕ) → device.old.taken ≤ k → k < device.new.taken → holds_at device.old.part stream.now stop k ≡ false }
+    ensures none_before { (k : ℕ) → device.old.taken ≤ k → k < device.new.taken → holds_at device.old.part stream.now stop k ≡ false }
     ensures none_at_end { result ≡ false → holds_at device.old.part stream.now stop bound ≡ false }
 {
     loop {
@@ -64,9 +64,9 @@ fn seek_word(
     ensures at_position { ComesForward stream.now device.old device.new journal.new device.new.taken }
     ensures recorded { HasRecorded device.old.taken journal.old journal.new }
     ensures forward { device.old.taken < device.new.taken × device.new.taken ≤ last × device.new.taken ≤ device.old.taken + record_bytes }
-    ensures whole { result ≡ false → device.new.taken < last → device.new.taken ≡ device.old.taken + record_bytes }
+    ensures whole_record { result ≡ false → device.new.taken < last → device.new.taken ≡ device.old.taken + record_bytes }
     ensures found { result ≡ true → holds_at device.old.part stream.now stop device.new.taken ≡ true }
-    ensures none { (k : ℕ) → device.old.taken < k → k < device.new.taken → holds_at device.old.part stream.now stop k ≡ false }
+    ensures none_before { (k : ℕ) → device.old.taken < k → k < device.new.taken → holds_at device.old.part stream.now stop k ≡ false }
     ensures none_at_end { result ≡ false → holds_at device.old.part stream.now stop device.new.taken ≡ false }
 {
     let from = device.taken();
@@ -93,7 +93,7 @@ fn leap_near(device: &mut Device, journal: &mut Journal, stream: &[u8], begins: 
     requires { MayMove stream.now device.old journal.old begins }
     ensures at_position { ComesForward stream.now device.old device.new journal.new device.new.taken }
     ensures forward { device.old.taken ≤ device.new.taken }
-    ensures near { device.new.taken ≤ max device.old.taken (begins - (reach + 1)) }
+    ensures within { device.new.taken ≤ max device.old.taken (begins - (reach + 1)) }
 {
     let near = begins.saturating_sub(REACH + 1);
     if device.taken() < near {

@@ -171,7 +171,7 @@ begun_started part kept bytes fits b =
       split = split;
       desync_is = subst (λ (x : History). executes 13 x b.desync.access ≡ true) armed.split b.armed.0;
       start_is = armed.kind_is;
-      matched = matched_at part kept armed.older armed.latest.access armed.kind_is none;
+      has_idcode = matched_at part kept armed.older armed.latest.access armed.kind_is none;
       order = omega (arith, start.1, desync.0);
       within = desync.1;
     }

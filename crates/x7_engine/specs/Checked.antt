@@ -22,6 +22,6 @@ pub record HasStartAndDesync (idcode : ℕ) (h : History) (n : ℕ) : Type 0 whe
   pub split : h ≡ newer ++ desync ∷ (between ++ start ∷ older)
   pub desync_is : Executes (code_of Desync) (between ++ start ∷ older) desync.access
   pub start_is : Executes (code_of Start) older start.access
-  pub matched : IsTrue (has_idcode idcode older)
+  pub has_idcode : IsTrue (has_idcode idcode older)
   pub order : start.place < desync.place
   pub within : desync.place ≤ n

@@ -55,7 +55,7 @@ pub record AreEndedAlike (c : Course) (clock : ClockState) (count : ℕ) (ended 
 -- startup has ended `count` bytes further, the watchdog fires at none of them, and `clock` is the clock there
 pub record HasEndedBy (c : Course) (clock : ClockState) (count : ℕ) : Type 0 where
   pub newest : newest_place c.history ≤ c.taken
-  pub quiet : first_firing c.part c.kept c.history c.taken count ≡ None
+  pub none_fires : first_firing c.part c.kept c.history c.taken count ≡ None
   pub ended : has_ended c.part c.history (c.taken + count) ≡ true
   pub stands : IsClock c.part c.kept clock c.history (c.taken + count)
 
@@ -65,9 +65,9 @@ TakesEntry old new e Fact = (part : PartData) (kept : Kept) (h : History) → Fa
 
 -- what an access asks of startup, by the command that it executes, whether it takes a shutdown, and COR0
 abbrev pub startup_call_by : Option ℕ → Bool → ℕ → List Call
-startup_call_by command taken cor0 =
+startup_call_by command takes_shutdown cor0 =
     if is_command (code_of Start) command then call.Arm ∷ [] else
-    if taken then call.DropBack ∷ [] else
+    if takes_shutdown then call.DropBack ∷ [] else
     if is_command (code_of Desync) command then call.Desync cor0 ∷ [] else []
 
 -- what an access asks of the watchdog, by the command that it executes

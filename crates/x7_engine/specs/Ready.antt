@@ -22,7 +22,7 @@ pub record LeavesDue (x : Change) : Type 0 where
 -- of `count` bytes the registers took `taken`: all of them unless a stop came, and at least one where there is one
 pub record TakesUpTo (count taken : ℕ) (stop : Option StopCause) : Type 0 where
   pub within : taken ≤ count
-  pub some : 0 < count → 0 < taken
+  pub takes_some : 0 < count → 0 < taken
   pub goes_on : stop ≡ None → taken ≡ count
 
 -- of `count` bytes the registers left `left`: none of them unless a stop came

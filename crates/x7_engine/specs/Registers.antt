@@ -103,7 +103,7 @@ abbrev pub is_controlling : ℕ → Bool
 is_controlling register = list_any (λ reg. register == number_of reg) controlling_registers
 
 -- these are the command that a word written after a history executes, whether it takes a shutdown, and COR0 there
-pub record AreFactsOfWrite (executed : Option ℕ) (taken : Bool) (cor0 : ℕ) (h : History) (access : Access) : Type 0 where
+pub record AreFactsOfWrite (executed : Option ℕ) (takes : Bool) (cor0 : ℕ) (h : History) (access : Access) : Type 0 where
   pub executed_is : executed ≡ executed_by (command_held h) access
-  pub taken_is : taken ≡ takes_shutdown h access
+  pub takes_shutdown_is : takes ≡ takes_shutdown h access
   pub cor0_is : cor0 ≡ cor0_held h

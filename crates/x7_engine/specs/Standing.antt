@@ -44,10 +44,11 @@ pub record ControlsState : Type 0 where
   pub ctl0 : ℕ
   pub ctl1 : ℕ
 
--- the stored check and flags: matched, a shutdown pending, GHIGH_B, and whether IPROG was written
+-- the stored check and flags: whether the part's IDCODE was written, whether a shutdown is pending, GHIGH_B, and
+-- whether IPROG was written
 pub record ProgressState : Type 0 where
   pub check : ℕ
-  pub matched : Bool
+  pub has_idcode : Bool
   pub pending : Bool
   pub ghigh : Bool
   pub iprog : Bool
@@ -123,7 +124,7 @@ controls_in d = record { ctl0 = d.ctl0; ctl1 = d.ctl1 }
 
 -- the stored check and flags as their fields hold them
 abbrev pub progress_in : Progress → ProgressState
-progress_in d = record { check = d.check; matched = d.matched; pending = d.pending; ghigh = d.ghigh; iprog = d.iprog }
+progress_in d = record { check = d.check; has_idcode = d.has_idcode; pending = d.pending; ghigh = d.ghigh; iprog = d.iprog }
 
 -- the stored values of registers as their fields hold them
 abbrev pub registers_in : Registers → RegistersState
@@ -151,7 +152,7 @@ pub record AreControls (d : ControlsState) (h : History) : Type 0 where
 -- the stored check and flags are those of the history
 pub record IsProgress (idcode : ℕ) (d : ProgressState) (h : History) : Type 0 where
   pub check : d.check ≡ running_check h
-  pub matched : d.matched ≡ has_idcode idcode h
+  pub has_idcode : d.has_idcode ≡ has_idcode idcode h
   pub pending : d.pending ≡ is_pending h
   pub ghigh : d.ghigh ≡ has_ghigh h
   pub iprog : d.iprog ≡ wrote_iprog h

@@ -26,7 +26,7 @@ abbrev pub asks_decryption : History → ℕ → ℕ → Bool
 asks_decryption h register w =
     register == number_of reg.Cbc || (register == number_of reg.Ctl0 && has_dec (masked_word (number_of reg.Ctl0) (mask_held h) (Write register w) (ctl0_held h)))
 
--- a word for frames, or START (that MFWR and START ask for a device whose IDCODE was written is this project's choice)
+-- a word for frames, or START (that MFWR and START ask for a written IDCODE is this project's choice)
 abbrev pub needs_match : History → ℕ → ℕ → Bool
 needs_match h register w = register == number_of reg.Fdri || (register == number_of reg.Mfwr || executes (code_of command.Start) h (Write register w))
 

@@ -19,16 +19,19 @@ use x7_part::Part;
 use x7_regs::{Command, Reg};
 use x7_startup::{Lines, Startup, Watchdog};
 
+/// The last phase of startup, in which it has ended.
+const LAST_PHASE: u8 = 7;
+
 /// What a written word asks of startup.
-fn move_startup(startup: &mut Startup, executed: Option<u8>, taken: bool, cor0: u32)
+fn move_startup(startup: &mut Startup, executed: Option<u8>, takes_shutdown: bool, cor0: u32)
     ensures { (lock_ticks match_ticks : ℕ) (calls : List Call) → StandsForCalls lock_ticks match_ticks startup.old calls
-        → StandsForCalls lock_ticks match_ticks startup.new (calls ++ startup_call_by executed taken cor0) }
+        → StandsForCalls lock_ticks match_ticks startup.new (calls ++ startup_call_by executed takes_shutdown cor0) }
 {
     if is_command(Command::Start, executed) {
         startup.arm();
         return;
     }
-    if taken {
+    if takes_shutdown {
         startup.drop_back();
         return;
     }
@@ -82,21 +85,21 @@ impl Clock {
     pub(crate) fn write(
         &mut self,
         executed: Option<u8>,
-        taken: bool,
+        takes_shutdown: bool,
         cor0: u32,
         reg: Reg,
         word: u32,
     )
-        ensures { (place : ℕ) → TakesEntry (clock_in self.old) (clock_in self.new) (written_to reg word place) (λ h. AreFactsOfWrite executed taken cor0 h (word_to reg word)) }
+        ensures { (place : ℕ) → TakesEntry (clock_in self.old) (clock_in self.new) (written_to reg word place) (λ h. AreFactsOfWrite executed takes_shutdown cor0 h (word_to reg word)) }
     {
-        move_startup(&mut self.startup, executed, taken, cor0);
+        move_startup(&mut self.startup, executed, takes_shutdown, cor0);
         move_watchdog(&mut self.watchdog, executed, reg, word);
     }
 
     /// The phase of startup.
     pub(crate) fn phase(&self) -> u8
         ensures now { result ≡ self.now.startup.phase }
-        ensures last { result ≤ 7 }
+        ensures most { result ≤ 7 }
         ensures value { (part : PartData) (h : History) (n : ℕ) → StandsForCalls part.lock part.matched self.now.startup (startup_calls h n) → result ≡ phase_of part h n }
     {
         self.startup.phase()
@@ -107,7 +110,7 @@ impl Clock {
         ensures now { result ≡ (self.now.startup.phase == 7) }
         ensures value { (part : PartData) (h : History) (n : ℕ) → StandsForCalls part.lock part.matched self.now.startup (startup_calls h n) → result ≡ has_ended part h n }
     {
-        self.phase() == 7
+        self.phase() == LAST_PHASE
     }
 
     /// Whether `ticks` ticks have passed since startup began.
@@ -134,8 +137,8 @@ impl Clock {
         self.watchdog.byte(eos)
     }
 
-    /// Takes `count` bytes, one by one up to the end of startup and the rest at once, up to the one at which the watchdog
-    /// fires: the number of that byte, from 1.
+    /// Takes `count` bytes, one by one up to the end of startup and the rest at once, up to the one at which the
+    /// watchdog fires: the number of that byte, from 1.
     fn bytes_one_by_one(&mut self, part: &Part, count: usize) -> Option<usize>
         ensures { ClockTakesInAny part.now (clock_in self.old) (clock_in self.new) count result }
     {
@@ -150,8 +153,8 @@ impl Clock {
         None
     }
 
-    /// Takes the rest of `count` bytes at once, where startup has ended with the last of the `taken` ones, up to the one
-    /// at which the watchdog fires: the number of that byte among all `count`, from 1.
+    /// Takes the rest of `count` bytes at once, where startup has ended with the last of the `taken` ones, up to the
+    /// one at which the watchdog fires: the number of that byte among all `count`, from 1.
     fn bytes_after_end(&mut self, part: &Part, taken: usize, count: usize) -> Option<usize>
         requires within { taken ≤ count }
         ensures within { IfSome result (λ k. (0 < k) × (k ≤ count)) }
@@ -218,7 +221,7 @@ impl Clock {
     #[inline(always)]
     pub(crate) fn before_firing(&self, part: &Part, count: usize) -> usize
         ensures within { result ≤ count }
-        ensures none { (kept : Kept) (h : History) (n : ℕ) → newest_place h ≤ n → IsClock part.now kept (clock_in self.now) h n → first_firing part.now kept h n result ≡ None }
+        ensures none_fires { (kept : Kept) (h : History) (n : ℕ) → newest_place h ≤ n → IsClock part.now kept (clock_in self.now) h n → first_firing part.now kept h n result ≡ None }
     {
         let mut then = *self;
         match then.bytes(part, count) {
@@ -227,8 +230,8 @@ impl Clock {
         }
     }
 
-    /// Takes `count` bytes, where startup or the watchdog may run, up to the one at which the
-    /// watchdog fires: the number of that byte, from 1.
+    /// Takes `count` bytes, where startup or the watchdog may run, up to the one at which the watchdog fires: the
+    /// number of that byte, from 1.
     #[inline(never)]
     fn move_on(&mut self, part: &Part, count: usize) -> Option<usize>
         ensures { ClockTakesInAny part.now (clock_in self.old) (clock_in self.new) count result }

@@ -48,7 +48,7 @@ pub struct Device {
     // the flash has ended in this attempt
     wrapped: bool,
     taken: u64,
-    // the bytes that were ever fed, counted up to the last number of 64 bits
+    // how many bytes were ever fed, counted up to the last number of 64 bits
     fed: u64,
 }
 
@@ -183,7 +183,7 @@ impl Device {
     /// Says that the flash has ended before the attempt did: BOOTSTS shows it until the next reset, and all else stays.
     pub fn wrap(&mut self)
         requires { MayWrap self.old }
-        ensures same { self.new ≡ with_wrap self.old }
+        ensures wrapped { self.new ≡ with_wrap self.old }
         ensures stands { OfPast self.old (λ p. DeviceStandsFor p.part p.kept true self.new p.bytes) }
     {
         self.wrapped = true;
@@ -225,7 +225,7 @@ impl Device {
         ensures turned { Turned self.old self.new piece.now at.old at.new }
         ensures no_word_due { NoWordDue self.new }
         ensures cutter { self.new.cutter ≡ self.old.cutter }
-        ensures quiet { OfPast self.old (λ p. history_of (p.bytes ++ between piece.now at.old at.new) ≡ history_of p.bytes) }
+        ensures same_history { OfPast self.old (λ p. history_of (p.bytes ++ between piece.now at.old at.new) ≡ history_of p.bytes) }
     {
         let count = 4 * self.cutter.nop_count(&piece[*at..]);
         let left = self.registers.take_bytes(&self.part, count);
@@ -255,7 +255,7 @@ impl Device {
     #[inline(always)]
     fn take_write(&mut self, piece: &[u8], at: &mut usize) -> bool
         requires { MayTake self.old piece.now at.old }
-        ensures none { result ≡ false → (self.new ≡ self.old) × (at.new ≡ at.old) }
+        ensures unchanged { result ≡ false → (self.new ≡ self.old) × (at.new ≡ at.old) }
         ensures eight_bytes { IsTrue result → at.new ≡ at.old + 8 }
         ensures no_word_due { NoWordDue self.new }
         ensures turned { IsTrue result → Turned self.old self.new piece.now at.old at.new }
@@ -370,7 +370,7 @@ impl Device {
         }
     }
 
-    /// Where the bytes taken end.
+    /// Where the bytes taken end: in a gap, in a session, or at the fault or the IPROG that stopped the device.
     pub fn end(&self) -> End
         ensures { OfPast self.now (λ p. result ≡ (state_at p).end) }
     {
@@ -407,14 +407,14 @@ impl Device {
     }
 
     /// Each device has a past. The call is for proofs alone, and does nothing.
-    pub fn has_past(&self)
+    pub fn past_exists(&self)
         ensures past { HasSomePast self.now }
     {
         // the fields are what it rests on
         let _taken = self.taken;
     }
 
-    /// The bytes taken since the reset.
+    /// How many bytes were taken since the reset.
     pub fn taken(&self) -> u64
         ensures now { result ≡ self.now.taken }
         ensures value { OfPast self.now (λ p. result ≡ length p.bytes) }

@@ -26,7 +26,7 @@ ghost use Rattle.x7_engine.specs.Watching.{fires};
 ghost use Rattle.x7_engine.specs.declared.kept.Kept.{Kept};
 
 /// The stop of bytes is the first one: it comes at one of them, fewer bytes have none, and with further bytes the stop,
-/// the state and the words read out stay.
+/// the state, the memory and the words read out stay.
 pub fn stops_are_final()
     ensures place { (part : PartData) (kept : Kept) (bytes : List ℕ) (s : Stopped) → AreBytes bytes → stop_in part kept bytes ≡ Some s → (0 < s.place) × (s.place ≤ length bytes) }
     ensures before { (p : Past) (more : List ℕ) (s : Stopped) → AreBytes (p.bytes ++ more) → stop_at (later p more) ≡ Some s → length p.bytes < s.place → stop_at p ≡ None }
@@ -61,11 +61,12 @@ pub fn startup_begins()
     ensures found { (h : History) (n : ℕ) → Placed n h → (b : Begins h) → startup_progress h n ≡ Begun (cor0_held b.older) (n - b.desync.place) }
 {}
 
-/// A stop is the first one: its byte stops the device, and no byte before it; and where there is none, no byte does.
+/// The stop of bytes is just the first one: its byte stops the device, and no byte before it. Where there is none, no
+/// byte does.
 pub fn stops_are_first()
     ensures first { (part : PartData) (kept : Kept) (bytes : List ℕ) (s : Stopped) → AreBytes bytes → stop_in part kept bytes ≡ Some s → IsFirstStop part kept bytes s }
     ensures found { (part : PartData) (kept : Kept) (bytes : List ℕ) (s : Stopped) → AreBytes bytes → IsFirstStop part kept bytes s → stop_in part kept bytes ≡ Some s }
-    ensures none { (part : PartData) (kept : Kept) (bytes : List ℕ) (n : ℕ) → AreBytes bytes → stop_in part kept bytes ≡ None → 0 < n → n ≤ length bytes
+    ensures no_stop { (part : PartData) (kept : Kept) (bytes : List ℕ) (n : ℕ) → AreBytes bytes → stop_in part kept bytes ≡ None → 0 < n → n ≤ length bytes
         → why_at_byte part kept bytes n ≡ None }
 {}
 
@@ -75,26 +76,27 @@ pub fn watchdog_fires()
     ensures { (part : PartData) (kept : Kept) (bytes : List ℕ) (n : ℕ) → AreBytes bytes → 0 < n → n ≤ length bytes → fires part kept (before_byte bytes n) n ≡ fires_at part kept bytes n }
 {}
 
-/// Startup has begun only where START was executed on a matched device and DESYNC after it, and each check and each
-/// idcode written before the stop was right.
+/// Startup has begun only where START was executed after the part's IDCODE was written, and DESYNC after it. Each check
+/// and each IDCODE written before the stop was right, whether startup began or not, and no access before the stop stops
+/// the device.
 pub fn checks_before_startup()
     ensures started { (p : Past) → AreBytes p.bytes → 0 < (state_at p).phase → HasStartAndDesync p.part.idcode (history_at p) (taken_at p) }
     ensures checks { (p : Past) (w place : ℕ) (older : History) → StandsBefore p (word_to Crc w) place older → w ≡ running_check older }
     ensures idcodes { (p : Past) (w place : ℕ) (older : History) → StandsBefore p (word_to Idcode w) place older → IsTrue (same_idcode p.part.idcode w) }
-    ensures none { (p : Past) (access : Access) (place : ℕ) (older : History) → StandsBefore p access place older → why_at p.part p.kept older access ≡ None }
+    ensures no_stop { (p : Past) (access : Access) (place : ℕ) (older : History) → StandsBefore p access place older → why_at p.part p.kept older access ≡ None }
 {}
 
 /// A device at rest stays so over bytes without a sync word, which enter no access; and a new one is at rest.
 pub fn rest_lasts()
     ensures stays { (part : PartData) (kept : Kept) (bytes more : List ℕ) → AreBytes (bytes ++ more) → LastGapGoesOn bytes more → AtRest part kept bytes → AtRest part kept (bytes ++ more) }
-    ensures history { (bytes more : List ℕ) → AreBytes (bytes ++ more) → LastGapGoesOn bytes more → history_of (bytes ++ more) ≡ history_of bytes }
+    ensures same_history { (bytes more : List ℕ) → AreBytes (bytes ++ more) → LastGapGoesOn bytes more → history_of (bytes ++ more) ≡ history_of bytes }
     ensures new { (part : PartData) → AtRest part on_the_bench [] }
 {}
 
-/// The words read out are those given, and then those that are still due.
+/// The words read out are those given, and then those that are still due: none, where no word is due.
 pub fn reads_are_given_or_due()
     ensures all { (d : DeviceState) → OfPast d (λ p. reads_given_at d p ++ due_at d p ≡ reads_at p) }
-    ensures none { (d : DeviceState) (p : Past) → NoWordDue d → due_at d p ≡ [] }
+    ensures none_due { (d : DeviceState) (p : Past) → NoWordDue d → due_at d p ≡ [] }
 {}
 
 /// The words that further bytes read out come after those read out so far.

@@ -48,10 +48,11 @@ fn is_pending_after(pending: bool, executed: Option<u8>, cleared: bool) -> bool
 }
 
 /// GHIGH_B after a written word.
-fn has_ghigh_after(ghigh: bool, executed: Option<u8>, taken: bool) -> bool
-    ensures { result ≡ has_ghigh_after executed taken ghigh }
+fn has_ghigh_after(ghigh: bool, executed: Option<u8>, takes_shutdown: bool) -> bool
+    ensures { result ≡ has_ghigh_after executed takes_shutdown ghigh }
 {
-    is_command(Command::Lfrm, executed) || ghigh && !is_command(Command::Aghigh, executed) && !taken
+    is_command(Command::Lfrm, executed)
+        || ghigh && !is_command(Command::Aghigh, executed) && !takes_shutdown
 }
 
 /// Whether two conditions hold both: `&&`, by a name that proofs cite.
@@ -61,13 +62,13 @@ fn both(a: bool, b: bool) -> bool
     a && b
 }
 
-/// Whether the device is matched after a written word.
-fn is_matched_after(matched: bool, idcode: u32, reg: Reg, word: u32) -> bool
-    ensures { result ≡ (names_part idcode (word_to reg word) || matched) }
+/// Whether the part's IDCODE was written, after a written word.
+fn has_idcode_after(has_idcode: bool, idcode: u32, reg: Reg, word: u32) -> bool
+    ensures { result ≡ (names_part idcode (word_to reg word) || has_idcode) }
 {
     match reg {
-        Reg::Idcode => is_same_idcode(idcode, word) || matched,
-        _ => matched,
+        Reg::Idcode => is_same_idcode(idcode, word) || has_idcode,
+        _ => has_idcode,
     }
 }
 
@@ -86,7 +87,7 @@ fn wrote_iprog_after(wrote: bool, reg: Reg, word: u32) -> bool
 pub(crate) struct Progress {
     pub(crate) check: u32,
     // the part's idcode was written to IDCODE
-    pub(crate) matched: bool,
+    pub(crate) has_idcode: bool,
     // a shutdown is pending
     pub(crate) pending: bool,
     // GHIGH_B is 1
@@ -104,7 +105,7 @@ impl Progress {
     {
         Progress {
             check: 0,
-            matched: false,
+            has_idcode: false,
             pending: false,
             ghigh: false,
             iprog: false,
@@ -125,21 +126,21 @@ impl Progress {
         ensures takes { (h : History) → executed ≡ executed_after h reg word → IsProgress idcode (progress_in self.old) h → result ≡ takes_shutdown h (word_to reg word) }
     {
         let cleared = clears_by(executed, self.check, reg, word);
-        let taken = both(cleared, self.pending);
+        let takes_shutdown = both(cleared, self.pending);
         *self = Progress {
             check: check_after_write(self.check, reg, word, executed),
-            matched: is_matched_after(self.matched, idcode, reg, word),
+            has_idcode: has_idcode_after(self.has_idcode, idcode, reg, word),
             pending: is_pending_after(self.pending, executed, cleared),
-            ghigh: has_ghigh_after(self.ghigh, executed, taken),
+            ghigh: has_ghigh_after(self.ghigh, executed, takes_shutdown),
             iprog: wrote_iprog_after(self.iprog, reg, word),
         };
-        taken
+        takes_shutdown
     }
 
     /// Takes words, four bytes each, written to a register that moves the check and no flag.
     pub(crate) fn pass_all(&mut self, register: u8, bytes: &[u8])
         requires register { register < 32 }
-        requires quiet { is_controlling register ≡ false }
+        requires controls_nothing { is_controlling register ≡ false }
         requires whole { length bytes.now % 4 ≡ 0 }
         ensures { (idcode : ℕ) (h : History) (n : ℕ) → IsProgress idcode (progress_in self.old) h → IsProgress idcode (progress_in self.new) (words_entered register bytes.now n h) }
     {

@@ -118,7 +118,7 @@ impl ReadBuf {
     }
 
     /// A buffer that has room for no word: a feed with it ends at the first word that is read out.
-    pub fn full() -> ReadBuf
+    pub fn without_room() -> ReadBuf
         ensures { result ≡ no_room }
     {
         ReadBuf { room: Room::Full }

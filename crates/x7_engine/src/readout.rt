@@ -29,7 +29,7 @@ pub(crate) fn due_count(due: Due) -> u32
 fn give_frames(frames: &mut Frames, part: &Part, count: u32, read: &mut ReadBuf) -> u32
     requires frames { FramesFit part.now frames.old }
     requires due { HaveDue part.now frames.old count }
-    ensures fewer { result ≤ count }
+    ensures within { result ≤ count }
     ensures full { 0 < result → IsFull read.new }
     ensures given { (h : History) → FramesStandFor part.now frames.old h count → GotAllBut (words_due part.now h result) (words_due part.now h count) read.old read.new }
     ensures stands { (h : History) → FramesStandFor part.now frames.old h count → FramesStandFor part.now frames.new h result }

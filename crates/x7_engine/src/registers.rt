@@ -160,7 +160,7 @@ impl Registers {
         ensures held { (part : PartData) (kept : KeptData) (h : History) (n : ℕ) → RegistersStandFor part kept (registers_in self.now) h n → result.command_code ≡ command_held h }
     {
         FrameSettings {
-            has_idcode: self.progress.matched,
+            has_idcode: self.progress.has_idcode,
             ctl0: self.controls.ctl0,
             command_code: self.command(),
         }
@@ -178,8 +178,12 @@ impl Registers {
         ensures counts { (n : ℕ) → counted_in result n ≡ n }
     {
         let idcode = part.idcode();
-        let Progress { check, matched, .. } = self.progress;
-        let unmatched = Some(StopCause::Fault(Fault::Id {
+        let Progress {
+            check,
+            has_idcode,
+            ..
+        } = self.progress;
+        let no_idcode = Some(StopCause::Fault(Fault::Id {
             want: idcode,
             got: 0,
         }));
@@ -188,9 +192,9 @@ impl Registers {
                 want: check,
                 got: word,
             })),
-            Reg::Far | Reg::Cmd if is_command(Command::Start, executed) && !matched => unmatched,
-            Reg::Fdri if !matched => unmatched,
-            Reg::Mfwr if !matched => unmatched,
+            Reg::Far | Reg::Cmd if is_command(Command::Start, executed) && !has_idcode => no_idcode,
+            Reg::Fdri if !has_idcode => no_idcode,
+            Reg::Mfwr if !has_idcode => no_idcode,
             Reg::Cmd if is_command(Command::Iprog, executed) && !is_fallback(self.kind) => Some(
                 StopCause::Iprog,
             ),
@@ -244,13 +248,13 @@ impl Registers {
         }
     }
 
-    /// Takes bytes as startup and the watchdog count them, before the word that they complete: up to the one at which the
-    /// watchdog fires. Says how many are left.
+    /// Takes bytes as startup and the watchdog count them, before the word that they complete: up to the one at which
+    /// the watchdog fires. Says how many are left.
     #[inline(always)]
     pub(crate) fn take_bytes(&mut self, part: &Part, count: usize) -> usize
         requires going { self.old.stop ≡ None }
         ensures left { LeavesBytes count result self.new }
-        ensures some { 0 < count → result < count }
+        ensures takes_some { 0 < count → result < count }
         ensures fired { (why : StopCause) → self.new.stop ≡ Some why → (why ≡ StopCause.Fault Fault.Watchdog) × (result < count) }
         ensures due { self.new.due ≡ self.old.due }
         ensures frames { self.new.frames ≡ self.old.frames }
@@ -267,7 +271,7 @@ impl Registers {
     fn word(&mut self, part: &Part, target: Target, word: u32, count: usize) -> usize
         requires ready { AreReady part.now self.old }
         ensures left { LeavesBytes count result self.new }
-        ensures some { 0 < count → result < count }
+        ensures takes_some { 0 < count → result < count }
         ensures leaves { LeavesDue (change_of part.now self.old self.new) }
         ensures stands { EntersIf (0 < count) (change_of part.now self.old self.new)
             (up_to_stop (registers_in self.new) (word_entered (target_number target) word count) (count - result)) (count - result) }
@@ -296,12 +300,12 @@ impl Registers {
         taken
     }
 
-    /// Takes frame data or copies of a matched device at once: the words before the first that is refused or in which
-    /// the watchdog fires. Says how many bytes these are.
+    /// Takes frame data or copies at once, on a device whose IDCODE was written: the words before the first that is
+    /// refused or in which the watchdog fires. Says how many bytes these are.
     fn frame_words(&mut self, part: &Part, reg: Reg, bytes: &[u8]) -> usize
         requires ready { AreReady part.now self.old }
         requires register { TakesWords reg }
-        requires matched { self.old.progress.matched ≡ true }
+        requires has_idcode { self.old.progress.has_idcode ≡ true }
         ensures { TookFirst (change_of part.now self.old self.new) (number_of reg) bytes.now result }
     {
         let settings = self.settings();
@@ -324,7 +328,7 @@ impl Registers {
         ensures { TookFirst (change_of part.now self.old self.new) (number_of reg) bytes.now result }
     {
         match reg {
-            Reg::Fdri | Reg::Mfwr if self.progress.matched => self.frame_words(part, reg, bytes),
+            Reg::Fdri | Reg::Mfwr if self.progress.has_idcode => self.frame_words(part, reg, bytes),
             _ => 0,
         }
     }
@@ -406,7 +410,7 @@ impl Registers {
         requires run { IsRun run }
         requires holds { HoldsRun run count }
         ensures left { LeavesBytes count result self.new }
-        ensures quiet { HasNoWord run.entry → due_count self.new.due ≡ 0 }
+        ensures no_word_due { HasNoWord run.entry → due_count self.new.due ≡ 0 }
         ensures none_due_at_stop { HasNoneDueAtStop part.now self.new }
         ensures stands { RunEnters run.entry count (change_of part.now self.old self.new) (count - result) }
         ensures reads { RunReads run.entry count (change_of part.now self.old self.new) (count - result) }

@@ -19,7 +19,7 @@ pub enum End {
 /// The state of a device but its memory (UG470, configuration registers).
 #[derive(Clone, Copy, PartialEq, Eq)]
 pub struct Regs {
-    /// The bytes taken since the reset.
+    /// How many bytes were taken since the reset.
     pub taken: u64,
     /// Where the bytes taken end.
     pub end: End,

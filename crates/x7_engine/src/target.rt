@@ -44,8 +44,8 @@ fn has_effect(reg: Reg) -> bool
 
 /// The register with this number, where a word written to it does more than stay and be folded.
 fn effective(register: u8) -> Option<Reg>
-    ensures some { IfSome result (λ reg. number_of reg ≡ register) }
-    ensures none { IfNone result (has_effect register ≡ false) }
+    ensures number { IfSome result (λ reg. number_of reg ≡ register) }
+    ensures no_effect { IfNone result (has_effect register ≡ false) }
 {
     match reg_of(register) {
         Some(reg) if has_effect(reg) => Some(reg),

@@ -152,7 +152,7 @@ impl Queue {
         if self.bits_left > 0 {
             return 0;
         }
-        let fed = device.feed(bytes, &mut ReadBuf::full());
+        let fed = device.feed(bytes, &mut ReadBuf::without_room());
         let count = given_of(fed, bytes.len());
         self.feed(&[], device);
         count

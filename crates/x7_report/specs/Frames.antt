@@ -6,10 +6,14 @@ use Rattle.x7_memory.specs.FrameMap.{FrameMap}
 use Rattle.x7_memory.specs.Frames.{are_zeros}
 use Rattle.x7_text.specs.Digits.{hex_word}
 
--- the most bytes that the line of a frame takes: the digits of the most words, and 16 bytes for its
--- name, its address, a blank and a line end
+-- how many bytes the line of a frame with this many words takes: the digits of the words, and 16 bytes for its name,
+-- its address, a blank and a line end
+abbrev pub frame_line_size : ℕ → ℕ
+frame_line_size count = 16 + 8 * count
+
+-- the most bytes that the line of a frame takes
 abbrev pub frame_line_room : ℕ
-frame_line_room = 16 + 8 * most_frame_words
+frame_line_room = frame_line_size most_frame_words
 
 -- how many lines of frames are written at once, as a group
 abbrev pub group_lines : ℕ

@@ -6,7 +6,7 @@ ghost use Rattle.x7_text.specs.Digits.{hex_word};
 ghost use Rattle.x7_words.specs.Word.{bytes_of_word};
 ghost use Rattle.x7_part.specs.AddressOrder.{addresses_in};
 ghost use Rattle.x7_memory.specs.Frames.{AreFramesOf, frame_at};
-ghost use Rattle.x7_report.specs.Frames.{frame_text, frames_text, is_shown, frame_lines_text, frame_text_if, addresses_shown};
+ghost use Rattle.x7_report.specs.Frames.{frame_line_size, frame_text, frames_text, is_shown, frame_lines_text, frame_text_if, addresses_shown};
 
 use std::alloc::Global;
 use std::simd::prelude::*;
@@ -14,6 +14,13 @@ use x7_memory::{Memory, are_zeros};
 use x7_part::Part;
 use x7_text::{hex_of_block, hex_of_word, make_room, put, put_number, put_text};
 use x7_words::NoMemory;
+
+/// How many digits a word has.
+const DIGITS_PER_WORD: usize = 8;
+
+/// How many bytes the line of a frame takes besides the digits of its words: those of `frame `, its address, a blank
+/// and a line end.
+const LINE_SIZE_WITHOUT_WORDS: usize = 16;
 
 /// Appends the digits of a word.
 fn put_word_digits(out: &mut Vec<u8>, word: u32)
@@ -85,8 +92,8 @@ fn put_digits(out: &mut Vec<u8>, words: &[u32])
 /// Appends the line of a frame, as `frame_line`, where there is room for it, and so takes no memory.
 #[tactic(auto, unfolding(crate::specs::Frames::frame_text))]
 pub fn put_frame(out: &mut Vec<u8>, far: u32, words: &[u32])
-    requires { HasSpareRoom out.old (16 + 8 * length words.now) }
-    ensures appends { Appends out.old out.new (frame_text far words.now) (16 + 8 * length words.now) }
+    requires { HasSpareRoom out.old (frame_line_size (length words.now)) }
+    ensures appends { Appends out.old out.new (frame_text far words.now) (frame_line_size (length words.now)) }
 {
     put(out, b"frame ");
     put_word_digits(out, far);
@@ -95,16 +102,16 @@ pub fn put_frame(out: &mut Vec<u8>, far: u32, words: &[u32])
     put(out, b"\n");
 }
 
-/// Appends to `out` the line `frame FAR WORDS` of a frame (this project's choice): its address, and its words one after
-/// the other. Each has eight upper-case hexadecimal digits. `NoMemory` leaves the items as they were.
+/// Appends to `out` the line `frame FAR DIGITS` of a frame (this project's choice): its address, and its words one
+/// after the other. Each has eight upper-case hexadecimal digits. `NoMemory` leaves `out` as it was.
 pub fn frame_line(out: &mut Vec<u8>, far: u32, words: &[u32]) -> Result<(), NoMemory>
-    ensures ok { OnOk result (out.new.items ≡ out.old.items ++ frame_text far words.now) }
-    ensures err { OnErr result (out.new.items ≡ out.old.items) }
+    ensures appends { OnOk result (out.new.items ≡ out.old.items ++ frame_text far words.now) }
+    ensures unchanged { OnErr result (out.new.items ≡ out.old.items) }
 {
-    let Some(digits) = words.len().checked_mul(8) else {
+    let Some(digits) = words.len().checked_mul(DIGITS_PER_WORD) else {
         return Err(NoMemory);
     };
-    let Some(room) = digits.checked_add(16) else {
+    let Some(room) = digits.checked_add(LINE_SIZE_WITHOUT_WORDS) else {
         return Err(NoMemory);
     };
     make_room(out, room)?;

@@ -78,10 +78,10 @@ fn put_end(out: &mut Vec<u8>, end: End)
 
 /// Appends to `out` where the bytes taken end, without a line end (this project's choice): `searching`, `synced`,
 /// `iprog WBSTAR`, or `fault ` with the kind of fault and its words. Words have eight upper-case hexadecimal digits.
-/// `NoMemory` leaves the items as they were.
+/// `NoMemory` leaves `out` as it was.
 pub fn end_words(out: &mut Vec<u8>, r: &Regs) -> Result<(), NoMemory>
-    ensures ok { OnOk result (out.new.items ≡ out.old.items ++ end_text r.now.end) }
-    ensures err { OnErr result (out.new.items ≡ out.old.items) }
+    ensures appends { OnOk result (out.new.items ≡ out.old.items ++ end_text r.now.end) }
+    ensures unchanged { OnErr result (out.new.items ≡ out.old.items) }
 {
     make_room(out, END_ROOM)?;
     put_end(out, r.end);
@@ -112,10 +112,10 @@ fn put_phase(out: &mut Vec<u8>, r: &Regs)
 }
 
 /// Appends to `out` the line `phase P done D gts G gwe E` (this project's choice): the phase of startup in decimal, and
-/// DONE, GTS and GWE as 0 or 1. `NoMemory` leaves the items as they were.
+/// DONE, GTS and GWE as 0 or 1. `NoMemory` leaves `out` as it was.
 pub fn phase_line(out: &mut Vec<u8>, r: &Regs) -> Result<(), NoMemory>
-    ensures ok { OnOk result (out.new.items ≡ out.old.items ++ phase_text r.now) }
-    ensures err { OnErr result (out.new.items ≡ out.old.items) }
+    ensures appends { OnOk result (out.new.items ≡ out.old.items ++ phase_text r.now) }
+    ensures unchanged { OnErr result (out.new.items ≡ out.old.items) }
 {
     make_room(out, PHASE_ROOM)?;
     put_phase(out, r);
@@ -170,11 +170,11 @@ fn put_rows(out: &mut Vec<u8>, rows: &[(Reg, u32)])
 }
 
 /// Appends to `out` the fifteen lines `reg NAME WORD` of the registers, from CRC to BSPI in the order of their numbers
-/// (this project's choice). Words have eight upper-case hexadecimal digits. `NoMemory` leaves the items as they were.
+/// (this project's choice). Words have eight upper-case hexadecimal digits. `NoMemory` leaves `out` as it was.
 #[tactic(auto, unfolding(crate::specs::State::reg_text))]
 pub fn reg_lines(out: &mut Vec<u8>, r: &Regs) -> Result<(), NoMemory>
-    ensures ok { OnOk result (out.new.items ≡ out.old.items ++ reg_text r.now) }
-    ensures err { OnErr result (out.new.items ≡ out.old.items) }
+    ensures appends { OnOk result (out.new.items ≡ out.old.items ++ reg_text r.now) }
+    ensures unchanged { OnErr result (out.new.items ≡ out.old.items) }
 {
     make_room(out, REG_LINES * REG_LINE_ROOM)?;
     put_rows(out, &rows_of(r));

@@ -18,8 +18,8 @@ impl Device {
 }
 
 /// The flash may end in each attempt of a boot that hasn't started, that no IPROG and no fault Id, Crc or Watchdog
-/// ended, and in which no word is due; and none is before the first byte.
+/// ended, and in which no word is due. Before the first byte no word is due.
 pub fn flash_may_end()
-    ensures may { (d : DeviceState) → OfPast d (λ p. BootGoesOn p → NoWordDue d → MayWrap d) }
-    ensures first { (part : PartData) (kept : KeptData) (wrapped : Bool) (d : DeviceState) → DeviceStandsFor part kept wrapped d [] → NoWordDue d }
+    ensures may_wrap { (d : DeviceState) → OfPast d (λ p. BootGoesOn p → NoWordDue d → MayWrap d) }
+    ensures no_word_due { (part : PartData) (kept : KeptData) (wrapped : Bool) (d : DeviceState) → DeviceStandsFor part kept wrapped d [] → NoWordDue d }
 {}

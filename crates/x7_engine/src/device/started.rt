@@ -38,8 +38,8 @@ impl Device {
     fn turn_end(&self, at: usize, length: usize) -> usize
         requires { at ≤ length }
         ensures within { result ≤ length }
-        ensures forward { (result ≡ length) ⊎ (at < result) }
-        ensures order { at ≤ result }
+        ensures ends_or_advances { (result ≡ length) ⊎ (at < result) }
+        ensures forward { at ≤ result }
         ensures soonest { OfPast self.now (λ p. HasNotBegun p.part p.kept p.bytes ⊎ (result ≤ at + soonest_end (state_at p).phase)) }
     {
         if self.registers.clock.startup.has_begun() {

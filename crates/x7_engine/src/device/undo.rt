@@ -42,7 +42,7 @@ impl Undo {
     /// and no frame. No other call takes memory.
     pub fn new(alloc: Global, part: &Part) -> Result<Undo, NoMemory>
         ensures device { IfOk result (λ u. DeviceStandsFor part.now on_the_bench false (device_kept part.now u) []) }
-        ensures pair { IfOk result (λ u. u.frames.pair ≡ []) }
+        ensures no_frame { IfOk result (λ u. u.frames.pair ≡ []) }
         ensures part { IfOk result (IsUndoOf part.now) }
     {
         let frames = Saved::new(alloc, part)?;
@@ -55,7 +55,7 @@ impl Undo {
         })
     }
 
-    /// The bytes that the device had taken.
+    /// How many bytes the device had taken.
     pub fn taken(&self) -> u64
         ensures { result ≡ self.now.taken }
     {
@@ -64,7 +64,7 @@ impl Undo {
 }
 
 impl Device {
-    /// The bytes that were ever fed to the device, counted up to the last number of 64 bits.
+    /// How many bytes were ever fed to the device, counted up to the last number of 64 bits.
     pub fn fed(&self) -> u64
         ensures { result ≡ fed_of self.now }
     {

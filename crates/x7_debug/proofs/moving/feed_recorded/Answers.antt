@@ -10,7 +10,7 @@ use Rattle.x7_debug.proofs.moving.feed_recorded.Goals as goal
 pub slice_bounds-feed-end : goal.slice_bounds-feed-end
 slice_bounds-feed-end c =
     let fits : AreBytes c.args.stream.now = all_from_places (λ b. b < 256) c.args.stream.now (λ k h. omega (arith, c.type_inv.stream k)) in
-    omega (arith, last_within c.args.device.now.part c.args.stream.now fits, c.requires.may.may.within)
+    omega (arith, last_within c.args.device.now.part c.args.stream.now fits, c.requires.may_move.may.within)
 
 pub returns-clause-at_position : goal.returns-clause-at_position
 returns-clause-at_position c =
@@ -18,17 +18,17 @@ returns-clause-at_position c =
     let part = c.args.device.now.part in
     let from = c.args.device.now.taken in
     let fits : AreBytes stream = all_from_places (λ b. b < 256) stream (λ k h. omega (arith, c.type_inv.stream k)) in
-    let few : c.args.to ≤ length stream = omega (arith, last_within part stream fits, c.requires.may.may.within) in
-    let stands = c.requires.may.may.on.stands.stands in
+    let few : c.args.to ≤ length stream = omega (arith, last_within part stream fits, c.requires.may_move.may.within) in
+    let stands = c.requires.may_move.may.on.stands.stands in
     let there : StandsAtPosition part stream c.feed.new.device c.args.to =
-    stands_there part stream c.feed.new.device c.args.to c.requires.may.may.within
-    (moved part stream (take (c.args.to - c.taken-from.result) (drop c.taken-from.result stream)) c.feed.new.device from c.args.to fits c.requires.may.forward few
+    stands_there part stream c.feed.new.device c.args.to c.requires.may_move.may.within
+    (moved part stream (take (c.args.to - c.taken-from.result) (drop c.taken-from.result stream)) c.feed.new.device from c.args.to fits c.requires.may_move.forward few
     (ap (λ (k : ℕ). take (c.args.to - k) (drop k stream)) c.taken-from.ensures.now)
     (c.feed.ensures.stands part on_the_bench false (take from stream) stands) (c.feed.ensures.no_word_due part on_the_bench false (take from stream) stands)) in
     record {
       there = record {
-        on = on_more part stream c.args.device.now c.feed.new.device c.args.journal.now c.feed.new.self c.args.to c.feed.ensures.recorded.0 c.requires.may.may.on there
-            c.requires.may.forward c.requires.one_record c.feed.ensures.records c.feed.ensures.recorded.1 c.feed.ensures.recorded.2;
+        on = on_more part stream c.args.device.now c.feed.new.device c.args.journal.now c.feed.new.self c.args.to c.feed.ensures.recorded.0 c.requires.may_move.may.on there
+            c.requires.may_move.forward c.requires.one_record c.feed.ensures.records c.feed.ensures.recorded.1 c.feed.ensures.recorded.2;
         part = there.stands.part_is;
         taken = there.taken;
       };

@@ -5,8 +5,8 @@ use Rattle.x7_engine.specs.Kept.{on_the_bench}
 use Rattle.x7_debug.proofs.PositionLemmas.{last_within, moved, stands_there}
 use Rattle.x7_debug.proofs.moving.feed_to.Goals as goal
 
-pub slice_bounds-take-end : goal.slice_bounds-take-end
-slice_bounds-take-end c =
+pub slice_bounds-feed_piece-end : goal.slice_bounds-feed_piece-end
+slice_bounds-feed_piece-end c =
     let fits : AreBytes c.args.stream.now = all_from_places (λ b. b < 256) c.args.stream.now (λ k h. omega (arith, c.type_inv.stream k)) in
     omega (arith, last_within c.args.device.now.part c.args.stream.now fits, c.requires.within)
 

@@ -20,21 +20,21 @@ returns-then-taken-to-clause-at_position c =
 pub returns-else-taken-to-clause-at_position : goal.returns-else-taken-to-clause-at_position
 returns-else-taken-to-clause-at_position c =
     let here = c.take_back.ensures in
-    record { on = here.at_position.on; part = here.at_position.part; taken = omega (arith, here.before, c.if-taken-to.false, c.taken.ensures.now) }
+    record { on = here.at_position.on; part = here.at_position.part; taken = omega (arith, here.within, c.if-taken-to.false, c.taken.ensures.now) }
 
 pub returns-then-taken-to-clause-fed : goal.returns-then-taken-to-clause-fed
 returns-then-taken-to-clause-fed c =
     let there = c.feed_recorded.ensures.at_position in
     let none = c.take_back.ensures.fed in
-    record { never_less = omega (arith, none, there.fed.never_less); most = omega (arith, none, there.fed.most, there.there.taken, c.take_back.ensures.near) }
+    record { never_less = omega (arith, none, there.fed.never_less); most = omega (arith, none, there.fed.most, there.there.taken, c.take_back.ensures.one_record) }
 
-pub feed_recorded-requires-clause-may : goal.feed_recorded-requires-clause-may
-feed_recorded-requires-clause-may c =
+pub feed_recorded-requires-clause-may_move : goal.feed_recorded-requires-clause-may_move
+feed_recorded-requires-clause-may_move c =
     let back = c.take_back.ensures in
     record {
       may = record {
         on = back.at_position.on;
         within = within_still c.args.device.now.part c.take_back.new.device.part c.args.stream.now c.args.to c.args.device.now.taken back.at_position.part (omega (arith, c.requires.before)) c.requires.on.stands.within;
       };
-      forward = back.before;
+      forward = back.within;
     }

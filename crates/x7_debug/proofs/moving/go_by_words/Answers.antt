@@ -56,8 +56,8 @@ returns-else-taken-to c =
       };
     }
 
-pub feed_recorded-requires-clause-may : goal.feed_recorded-requires-clause-may
-feed_recorded-requires-clause-may c =
+pub feed_recorded-requires-clause-may_move : goal.feed_recorded-requires-clause-may_move
+feed_recorded-requires-clause-may_move c =
     let here = c.loop-device.invariant in
     let next = c.taken-next.ensures.now in
     record {
@@ -68,8 +68,8 @@ feed_recorded-requires-clause-may c =
       forward = omega (arith, next);
     }
 
-pub feed_recorded-requires-then-taken-to-clause-may : goal.feed_recorded-requires-then-taken-to-clause-may
-feed_recorded-requires-then-taken-to-clause-may c =
+pub feed_recorded-requires-then-taken-to-clause-may_move : goal.feed_recorded-requires-then-taken-to-clause-may_move
+feed_recorded-requires-then-taken-to-clause-may_move c =
     let here = c.loop-device.invariant in
     record {
       may = record {

@@ -36,7 +36,7 @@ returns-then-seek_word-clause-at_position c =
     let here = c.loop-stop.invariant in
     let there = c.seek_word.ensures in
     let found : holds_at part stream c.args.stop m ≡ true = subst (λ (p : PartData). holds_at p stream c.args.stop m ≡ true) here.comes.there.part (there.found c.if-seek_word.true) in
-    let later : (k : ℕ) → n < k → k < m → holds_at part stream c.args.stop k ≡ false = λ k h j. subst (λ (p : PartData). holds_at p stream c.args.stop k ≡ false) here.comes.there.part (there.none k h j) in
+    let later : (k : ℕ) → n < k → k < m → holds_at part stream c.args.stop k ≡ false = λ k h j. subst (λ (p : PartData). holds_at p stream c.args.stop k ≡ false) here.comes.there.part (there.none_before k h j) in
     let some : n < c.args.last = omega (arith, c.loop-stop-test.true, c.taken.ensures.now) in
     let last : oldest_by m (there.recorded.0 ∷ take (record_room - 1) (records_of c.loop-stop.journal)) ≤ max from (m - reach) =
     reaches_last from n m there.recorded.0 (records_of c.loop-stop.journal) there.recorded.1 there.forward.0 (here.reaches some) in
@@ -65,7 +65,7 @@ loop-stop-preserved c =
     let same = c.loop-stop.invariant.comes.there.part in
     let some : n < c.args.last = omega (arith, c.loop-stop-test.true, c.taken.ensures.now) in
     let here : holds_at part stream c.args.stop m ≡ false = subst (λ (p : PartData). holds_at p stream c.args.stop m ≡ false) same (c.seek_word.ensures.none_at_end c.if-seek_word.false) in
-    let later : (k : ℕ) → n < k → k < m → holds_at part stream c.args.stop k ≡ false = λ k h j. subst (λ (p : PartData). holds_at p stream c.args.stop k ≡ false) same (c.seek_word.ensures.none k h j) in
+    let later : (k : ℕ) → n < k → k < m → holds_at part stream c.args.stop k ≡ false = λ k h j. subst (λ (p : PartData). holds_at p stream c.args.stop k ≡ false) same (c.seek_word.ensures.none_before k h j) in
     let last : oldest_by m (c.seek_word.ensures.recorded.0 ∷ take (record_room - 1) (records_of c.loop-stop.journal)) ≤ max from (m - reach) =
     reaches_last from n m c.seek_word.ensures.recorded.0 (records_of c.loop-stop.journal) c.seek_word.ensures.recorded.1 c.seek_word.ensures.forward.0 (c.loop-stop.invariant.reaches some) in
     record {
@@ -75,7 +75,7 @@ loop-stop-preserved c =
       none = none_up_to (holds_at part stream c.args.stop) from m (none_between (holds_at part stream c.args.stop) from n m c.loop-stop.invariant.none later) here;
       reaches = λ l.
           subst (Reaches from m) (sym c.seek_word.ensures.recorded.2)
-          (reaches_whole from n m c.seek_word.ensures.recorded.0 (records_of c.loop-stop.journal) c.seek_word.ensures.recorded.1 (c.seek_word.ensures.whole c.if-seek_word.false l) (c.loop-stop.invariant.reaches some));
+          (reaches_whole from n m c.seek_word.ensures.recorded.0 (records_of c.loop-stop.journal) c.seek_word.ensures.recorded.1 (c.seek_word.ensures.whole_record c.if-seek_word.false l) (c.loop-stop.invariant.reaches some));
       oldest = λ l. omega (arith, ap (oldest_by m) c.seek_word.ensures.recorded.2, last);
     }
 

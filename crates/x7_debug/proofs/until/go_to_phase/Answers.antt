@@ -19,7 +19,7 @@ forward_until-requires-2 c =
     record {
       on = near.at_position.there.on;
       last_is = kept.last_is ∙ ap (λ (p : PartData). last_of p c.args.stream.now) (sym near.at_position.there.part);
-      before = omega (arith, near.near, kept.begins_is.within, c.requires.before, kept.last_is);
+      before = omega (arith, near.within, kept.begins_is.within, c.requires.before, kept.last_is);
     }
 
 pub returns-clause-at_position : goal.returns-clause-at_position
@@ -42,9 +42,9 @@ returns-clause-at_position c =
           on = there.at_position.forward.there.on;
           part = there.at_position.forward.there.part ∙ near.at_position.there.part;
           taken = led ∙ sym (until_near part stream phase begins kept.begins_is some from c.leap_near.new.device.taken near.forward
-              (omega (arith, near.near, kept.begins_is.within, c.requires.before, kept.last_is)) (λ k h j. omega (arith, near.near, h, j)));
+              (omega (arith, near.within, kept.begins_is.within, c.requires.before, kept.last_is)) (λ k h j. omega (arith, near.within, h, j)));
         };
         fed = fed_on c.args.device.now c.leap_near.new.device c.forward_until-2.new.device near.forward (omega (arith, there.forward)) near.at_position.fed there.at_position.forward.fed;
       };
-      oldest = omega (arith, there.at_position.oldest, near.near, led, past);
+      oldest = omega (arith, there.at_position.oldest, near.within, led, past);
     }

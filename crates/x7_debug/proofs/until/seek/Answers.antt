@@ -9,9 +9,9 @@ use Rattle.x7_debug.proofs.until.seek.Goals as goal
 
 pub loop-stop-init : goal.loop-stop-init
 loop-stop-init c = record {
-  comes = comes_nowhere c.args.stream.now c.args.device.now c.args.journal.now c.requires.may.may.on;
+  comes = comes_nowhere c.args.stream.now c.args.device.now c.args.journal.now c.requires.may_move.may.on;
   since = omega arith;
-  within = c.requires.may.forward;
+  within = c.requires.may_move.forward;
   none = λ k h j. absurd (omega (arith, h, j));
 }
 
@@ -21,7 +21,7 @@ returns-then-holds_in-clause-found c = λ q.
     let stream = c.args.stream.now in
     let n : ℕ = c.loop-stop.device.taken in
     let there : StandsAtPosition part stream c.loop-stop.device n = stands_of c.loop-stop.device.part part stream c.loop-stop.device c.args.journal.now c.loop-stop.invariant.comes.there.part c.loop-stop.invariant.comes.there.on in
-    holds_is part stream c.args.stop n c.end.result c.phase.result c.holds_in.result (c.end.ensures part on_the_bench false (take n stream) there.stands) (c.phase.ensures part on_the_bench false (take n stream) there.stands) c.holds_in.ensures ∙ c.if-holds.true
+    holds_is part stream c.args.stop n c.end.result c.phase.result c.holds_in.result (c.end.ensures part on_the_bench false (take n stream) there.stands) (c.phase.ensures part on_the_bench false (take n stream) there.stands) c.holds_in.ensures ∙ c.if-holds_in.true
 
 pub returns-then-at-bound-clause-none_at_end : goal.returns-then-at-bound-clause-none_at_end
 returns-then-at-bound-clause-none_at_end c = λ q.
@@ -30,7 +30,7 @@ returns-then-at-bound-clause-none_at_end c = λ q.
     let n : ℕ = c.loop-stop.device.taken in
     let there : StandsAtPosition part stream c.loop-stop.device n = stands_of c.loop-stop.device.part part stream c.loop-stop.device c.args.journal.now c.loop-stop.invariant.comes.there.part c.loop-stop.invariant.comes.there.on in
     let here : holds_at part stream c.args.stop n ≡ false =
-    holds_is part stream c.args.stop n c.end.result c.phase.result c.holds_in.result (c.end.ensures part on_the_bench false (take n stream) there.stands) (c.phase.ensures part on_the_bench false (take n stream) there.stands) c.holds_in.ensures ∙ c.if-holds.false in
+    holds_is part stream c.args.stop n c.end.result c.phase.result c.holds_in.result (c.end.ensures part on_the_bench false (take n stream) there.stands) (c.phase.ensures part on_the_bench false (take n stream) there.stands) c.holds_in.ensures ∙ c.if-holds_in.false in
     let same : n ≡ c.args.bound = omega (arith, c.if-at-bound.true, c.taken-at.ensures.now, c.loop-stop.invariant.within) in
     subst (λ (k : ℕ). holds_at part stream c.args.stop k ≡ false) same here
 
@@ -41,15 +41,15 @@ loop-stop-preserved c =
     let n : ℕ = c.loop-stop.device.taken in
     let there : StandsAtPosition part stream c.loop-stop.device n = stands_of c.loop-stop.device.part part stream c.loop-stop.device c.args.journal.now c.loop-stop.invariant.comes.there.part c.loop-stop.invariant.comes.there.on in
     let here : holds_at part stream c.args.stop n ≡ false =
-    holds_is part stream c.args.stop n c.end.result c.phase.result c.holds_in.result (c.end.ensures part on_the_bench false (take n stream) there.stands) (c.phase.ensures part on_the_bench false (take n stream) there.stands) c.holds_in.ensures ∙ c.if-holds.false in
+    holds_is part stream c.args.stop n c.end.result c.phase.result c.holds_in.result (c.end.ensures part on_the_bench false (take n stream) there.stands) (c.phase.ensures part on_the_bench false (take n stream) there.stands) c.holds_in.ensures ∙ c.if-holds_in.false in
     let at : c.taken-at.result ≡ n = c.taken-at.ensures.now in
     let next : c.feed_to.new.device.taken ≡ n + 1 = omega (arith, at, c.feed_to.ensures.stands.taken) in
     let less : n < c.args.bound = omega (arith, at, c.if-at-bound.false) in
     record {
       comes = record {
         there = record {
-          on = on_further c.loop-stop.device.part stream c.loop-stop.device c.feed_to.new.device c.args.journal.now (c.taken-at.result + 1) c.requires.some.0 c.requires.some.1 c.loop-stop.invariant.comes.there.on c.requires.some.2 c.feed_to.ensures.stands
-              (omega (arith, at)) (omega (arith, at, less, c.requires.some.3));
+          on = on_further c.loop-stop.device.part stream c.loop-stop.device c.feed_to.new.device c.args.journal.now (c.taken-at.result + 1) c.requires.newest_record.0 c.requires.newest_record.1 c.loop-stop.invariant.comes.there.on c.requires.newest_record.2 c.feed_to.ensures.stands
+              (omega (arith, at)) (omega (arith, at, less, c.requires.newest_record.3));
           part = c.feed_to.ensures.stands.stands.part_is ∙ c.loop-stop.invariant.comes.there.part;
           taken = refl;
         };

@@ -5,18 +5,18 @@ use Rattle.x7_debug.specs.Position.{holds_at}
 use Rattle.x7_debug.proofs.JournalLemmas.{comes_on, within_still}
 use Rattle.x7_debug.proofs.until.seek_word.Goals as goal
 
-pub seek-requires-clause-some : goal.seek-requires-clause-some
-seek-requires-clause-some c =
+pub seek-requires-clause-newest_record : goal.seek-requires-clause-newest_record
+seek-requires-clause-newest_record c =
     let more : HasRecorded c.args.device.now.taken c.args.journal.now c.feed_recorded.new.journal = c.feed_recorded.ensures.recorded in
     (more.0, take (record_room - 1) (records_of c.args.journal.now), more.2, omega (arith, more.1))
 
-pub feed_recorded-requires-clause-may : goal.feed_recorded-requires-clause-may
-feed_recorded-requires-clause-may c =
+pub feed_recorded-requires-clause-may_move : goal.feed_recorded-requires-clause-may_move
+feed_recorded-requires-clause-may_move c =
     let from = c.taken-from.ensures.now in
     record { may = record { on = c.requires.on; within = omega (arith, from, c.requires.before, c.requires.last_is) }; forward = omega (arith, from) }
 
-pub seek-requires-clause-may : goal.seek-requires-clause-may
-seek-requires-clause-may c =
+pub seek-requires-clause-may_move : goal.seek-requires-clause-may_move
+seek-requires-clause-may_move c =
     let first = c.feed_recorded.ensures.at_position.there in
     record {
       may = record {
@@ -36,12 +36,12 @@ pub returns-clause-found : goal.returns-clause-found
 returns-clause-found c = λ q.
     subst (λ (p : PartData). holds_at p c.args.stream.now c.args.stop c.seek.new.device.taken ≡ true) c.feed_recorded.ensures.at_position.there.part (c.seek.ensures.found q)
 
-pub returns-clause-none : goal.returns-clause-none
-returns-clause-none c = λ k after before.
+pub returns-clause-none_before : goal.returns-clause-none_before
+returns-clause-none_before c = λ k after before.
     subst (λ (p : PartData). holds_at p c.args.stream.now c.args.stop k ≡ false) c.feed_recorded.ensures.at_position.there.part
-    (c.seek.ensures.none k (omega (arith, after, c.feed_recorded.ensures.at_position.there.taken, c.taken-from.ensures.now)) before)
+    (c.seek.ensures.none_before k (omega (arith, after, c.feed_recorded.ensures.at_position.there.taken, c.taken-from.ensures.now)) before)
 
 pub returns-clause-none_at_end : goal.returns-clause-none_at_end
 returns-clause-none_at_end c = λ q.
     subst (λ (p : PartData). holds_at p c.args.stream.now c.args.stop c.seek.new.device.taken ≡ false) c.feed_recorded.ensures.at_position.there.part
-    (subst (λ (n : ℕ). holds_at c.feed_recorded.new.device.part c.args.stream.now c.args.stop n ≡ false) (sym (c.seek.ensures.end q)) (c.seek.ensures.none_at_end q))
+    (subst (λ (n : ℕ). holds_at c.feed_recorded.new.device.part c.args.stream.now c.args.stop n ≡ false) (sym (c.seek.ensures.at_bound q)) (c.seek.ensures.none_at_end q))

@@ -11,5 +11,5 @@ returns-clause-checks c = λ p w place older s. check_equals p.part p.kept older
 pub returns-clause-idcodes : goal.returns-clause-idcodes
 returns-clause-idcodes c = λ p w place older s. idcode_matches p.part p.kept older w (none_before p.part p.kept p.bytes (Write 12 w) place older s.fits s.stands s.before)
 
-pub returns-clause-none : goal.returns-clause-none
-returns-clause-none c = λ p access place older s. none_before p.part p.kept p.bytes access place older s.fits s.stands s.before
+pub returns-clause-no_stop : goal.returns-clause-no_stop
+returns-clause-no_stop c = λ p access place older s. none_before p.part p.kept p.bytes access place older s.fits s.stands s.before

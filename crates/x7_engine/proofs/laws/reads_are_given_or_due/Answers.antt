@@ -9,5 +9,5 @@ pub returns-clause-all : goal.returns-clause-all
 returns-clause-all c = λ d part kept wrapped bytes s.
     ap (λ (ws : List ℕ). ws ++ due_of part kept d bytes) (given_by part kept d bytes s.due_are.given (history_taken part kept bytes) s.due_are.all) ∙ sym s.due_are.all
 
-pub returns-clause-none : goal.returns-clause-none
-returns-clause-none c = λ d p none. none_left p.part (history_taken p.part p.kept p.bytes) d.registers.due none
+pub returns-clause-none_due : goal.returns-clause-none_due
+returns-clause-none_due c = λ d p none. none_left p.part (history_taken p.part p.kept p.bytes) d.registers.due none

@@ -4,8 +4,8 @@ use Rattle.x7_engine.proofs.laws.rest_lasts.Goals as goal
 pub returns-clause-stays : goal.returns-clause-stays
 returns-clause-stays c = rest_on
 
-pub returns-clause-history : goal.returns-clause-history
-returns-clause-history c = history_on
+pub returns-clause-same_history : goal.returns-clause-same_history
+returns-clause-same_history c = history_on
 
 pub returns-clause-new : goal.returns-clause-new
 returns-clause-new c = rest_new

@@ -7,5 +7,5 @@ returns-clause-first c = stop_is_first
 pub returns-clause-found : goal.returns-clause-found
 returns-clause-found c = first_is_stop
 
-pub returns-clause-none : goal.returns-clause-none
-returns-clause-none c = no_stop_none
+pub returns-clause-no_stop : goal.returns-clause-no_stop
+returns-clause-no_stop c = no_stop_none

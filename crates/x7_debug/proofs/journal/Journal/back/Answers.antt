@@ -10,10 +10,10 @@ use Rattle.x7_debug.proofs.journal.Journal.back.Goals as goal
 
 pub undo-requires-clause-back : goal.undo-requires-clause-back
 undo-requires-clause-back c =
-    let stream : List ℕ = c.requires.on.0 in
-    let o = c.requires.on.1 in
+    let stream : List ℕ = c.requires.on_stream.0 in
+    let o = c.requires.on_stream.1 in
     let rest : List UndoState = drop 1 c.self.inside.records.items in
-    let some : c.self.inside.count ≡ suc (c.self.inside.count - 1) = omega (arith, c.requires.some, ap (λ (j : JournalState). j.count) c.self.view_is) in
+    let some : c.self.inside.count ≡ suc (c.self.inside.count - 1) = omega (arith, c.requires.has_record, ap (λ (j : JournalState). j.count) c.self.view_is) in
     let here : records_of c.args.self.now ≡ c.in-Some.undo ∷ take (c.self.inside.count - 1) rest =
     sym (ap (λ (j : JournalState). records_of j) c.self.view_is)
     ∙ ap (take c.self.inside.count) (first_of c.self.inside.records.items c.in-Some.undo c.in-Some.ensures.value)
@@ -41,7 +41,7 @@ all_is c =
     ∙ keep_all c.pop_front.new.self.capacity (rest ++ c.in-Some.undo ∷ []) (omega (arith, long c, room))
 
 count_is : (c : goal.After-self-1) → c.self.inside.count - 1 + 1 ≡ c.self.inside.count
-count_is c = omega (arith, c.requires.some, ap (λ (j : JournalState). j.count) c.self.view_is)
+count_is c = omega (arith, c.requires.has_record, ap (λ (j : JournalState). j.count) c.self.view_is)
 
 records_are : (c : goal.After-self-1) → records_of c.args.self.now ≡ c.in-Some.undo ∷ records_of (after c)
 records_are c =
@@ -67,8 +67,8 @@ went c stream o =
 pub returns-clause-back : goal.returns-clause-back
 returns-clause-back c = λ stream o. (went c stream o).0
 
-pub returns-clause-less : goal.returns-clause-less
-returns-clause-less c = λ stream o. let w = went c stream o in (omega (arith, w.1, w.2), omega (arith, w.1, w.3))
+pub returns-clause-one_record : goal.returns-clause-one_record
+returns-clause-one_record c = λ stream o. let w = went c stream o in (omega (arith, w.1, w.2), omega (arith, w.1, w.3))
 
 pub returns-clause-fed : goal.returns-clause-fed
 returns-clause-fed c = c.undo.ensures.fed

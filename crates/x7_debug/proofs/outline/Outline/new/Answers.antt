@@ -7,8 +7,8 @@ use Rattle.x7_debug.specs.Session.{StandsAtPosition}
 use Rattle.x7_debug.proofs.PositionLemmas.{last_within, moved, stands_first_bytes}
 use Rattle.x7_debug.proofs.outline.Outline.new.Goals as goal
 
-pub take-requires : goal.take-requires
-take-requires c =
+pub feed_piece-requires : goal.feed_piece-requires
+feed_piece-requires c =
     let fed = c.feed_until_begun-begins.ensures in
     let stands = fed.stands c.args.part.now on_the_bench false [] c.in_ok-device.ensures.stands in
     let from = c.feed_until_begun-begins.result in

@@ -86,8 +86,8 @@ invariant_of-self c = record {
   past = past_later c.args.self.now (device_after c) (between c.args.piece.now c.args.at.now (c.args.at.now + ((4 * c.nop_count-count.result) - c.take_bytes-left.result))) (stands_after c) (subst HasSomePast c.self.view_is c.self.invariant.past);
 }
 
-pub returns-clause-quiet : goal.returns-clause-quiet
-returns-clause-quiet c = quiet_after c
+pub returns-clause-same_history : goal.returns-clause-same_history
+returns-clause-same_history c = quiet_after c
 
 pub returns-clause-turned : goal.returns-clause-turned
 returns-clause-turned c = record {

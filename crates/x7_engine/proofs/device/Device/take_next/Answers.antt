@@ -31,7 +31,7 @@ turn_taken c =
       commands = λ part kept wrapped bytes s. (
           let stands = c.pass_nops.ensures.turned.turn.stands part kept wrapped bytes s in
           subst (CommandsLast bytes) (between_join c.args.piece.now c.args.at.now c.pass_nops.new.at c.take_run.new.at c.pass_nops.ensures.turned.forward c.take_run.ensures.turned.forward)
-          (then_commands bytes nops run stands.fits (c.pass_nops.ensures.quiet part kept wrapped bytes s) (c.take_run.ensures.turned.turn.commands part kept wrapped (bytes ++ nops) stands)));
+          (then_commands bytes nops run stands.fits (c.pass_nops.ensures.same_history part kept wrapped bytes s) (c.take_run.ensures.turned.turn.commands part kept wrapped (bytes ++ nops) stands)));
     }
 
 pub returns-then-has_stopped : goal.returns-then-has_stopped

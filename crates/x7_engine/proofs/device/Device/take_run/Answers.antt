@@ -135,7 +135,7 @@ returns c = record {
       record {
         all = omega (arith, all, c.cut-run.ensures.within, c.run-left.ensures.left.goes_on going);
         going = going;
-        no_word_due = c.run-left.ensures.quiet (tells_nothing c.cut-run.result need);
+        no_word_due = c.run-left.ensures.no_word_due (tells_nothing c.cut-run.result need);
       });
   goes_on = λ e f. (
       let unused : c.is_need-used_up.result ≡ false = c.is_done.ensures.no e (c.stop.ensures ∙ f) in

@@ -16,6 +16,6 @@ returns-then-take_write c = record {
 -- where there is no write, the next run is taken of the device as it was
 pub returns : goal.returns
 returns c =
-    let same = c.take_write.ensures.none c.if-take_write.false in
+    let same = c.take_write.ensures.unchanged c.if-take_write.false in
     subst (λ (at : ℕ). TookTurn c.args.self.now c.take_next.new.self c.args.piece.now at c.take_next.new.at c.take_next.result) same.1
     (subst (λ (d : DeviceState). TookTurn d c.take_next.new.self c.args.piece.now c.take_write.new.at c.take_next.new.at c.take_next.result) same.0 c.take_next.ensures)

@@ -30,7 +30,7 @@ returns-then-turn-clause-took c =
       used_up = λ e. record { all = let all : c.turn_end-end.result ≡ length c.args.piece.now = grind (arith, nat_tests, e) in omega (arith, all, size, used.all); going = used.going; no_word_due = used.no_word_due };
       goes_on = λ e f. (
           let more : c.turn_end-end.result ≡ length c.args.piece.now → ⊥ = λ all. absurd (grind (arith, nat_tests, e, all)) in
-          let further : c.args.at.now < c.turn_end-end.result = second c.turn_end-end.ensures.forward more in
+          let further : c.args.at.now < c.turn_end-end.result = second c.turn_end-end.ensures.ends_or_advances more in
           omega (arith, further, size, used.all, c.turn_end-end.ensures.within, one_sync c.turn.new.self.cutter.mode));
     }
 

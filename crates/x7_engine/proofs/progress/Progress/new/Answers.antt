@@ -3,4 +3,4 @@ use Rattle.x7_engine.proofs.progress.Progress.new.Goals as goal
 use Rattle.x7_crc.proofs.CheckerLemmas.{check_none}
 
 pub returns : goal.returns
-returns c = λ idcode. record { check = sym check_none; matched = refl; pending = refl; ghigh = refl; iprog = refl }
+returns c = λ idcode. record { check = sym check_none; has_idcode = refl; pending = refl; ghigh = refl; iprog = refl }

@@ -25,7 +25,7 @@ returns-in-Effective c =
     rw c.in-Effective.is record {
       takes = record {
         within = omega (arith, size, c.words_at_once-taken.ensures.within, c.words_one_by_one.ensures.takes.within);
-        some = λ l. some_taken k r (length bytes) (λ l. c.words_one_by_one.ensures.takes.some (omega (arith, l, size))) l;
+        takes_some = λ l. some_taken k r (length bytes) (λ l. c.words_one_by_one.ensures.takes.takes_some (omega (arith, l, size))) l;
         goes_on = λ e. omega (arith, size, c.words_at_once-taken.ensures.within, c.words_one_by_one.ensures.takes.goes_on e);
       };
       leaves = record { due = c.words_one_by_one.ensures.leaves.due ∙ c.words_at_once-taken.ensures.leaves.due; frames = c.words_one_by_one.ensures.leaves.frames };

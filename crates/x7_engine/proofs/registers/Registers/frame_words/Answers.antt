@@ -48,7 +48,7 @@ returns c = record {
       let same : take k looked ≡ prefix = ap (take k) (words_prefix b bytes) ∙ take-take k b (words_of_bytes bytes) few ∙ sym (words_prefix k bytes) in
       let size : length prefix ≡ k = length_of_words (take (k * 4) bytes) ∙ omega (arith, length-take-le (k * 4) bytes (omega (arith, few, c.before_firing.ensures.within))) in
       let newest : newest_place h ≤ n = newest_within n h s.places in
-      let none : first_firing part kept h n (k * 4) ≡ None = firing_less part kept h n (k * 4) c.before_firing.result (omega (arith, few)) (c.before_firing.ensures.none kept h n newest s.clock) in
+      let none : first_firing part kept h n (k * 4) ≡ None = firing_less part kept h n (k * 4) c.before_firing.result (omega (arith, few)) (c.before_firing.ensures.none_fires kept h n newest s.clock) in
       let ticks : ClockTakes (course_at part kept h n) clock (k * 4) None = ticks_quiet part kept clock h n (k * 4) c.bytes.result none (c.bytes.ensures.takes kept h n newest s.clock) in
       let after = ticked part kept (registers_in c.args.self.now) clock h n (k * 4) m refl c.requires.ready.going s ticks in
       let are : FramesStandFor part c.args.self.now.frames h 0 = standing_frames part c.args.self.now.frames c.args.self.now.stop h c.args.self.now.due c.requires.ready.going c.requires.ready.no_word_due s.frames in
@@ -57,7 +57,7 @@ returns c = record {
       let unrefused : NoneRefused part r n prefix h = subst (λ (x : List ℕ). NoneRefused part r n x h) before words.0 in
       let frames : FramesStandFor part c.write_bytes-count.new.self all 0 = subst (λ (x : List ℕ). FramesStandFor part c.write_bytes-count.new.self (with_words_to r n x h) 0) before words.1 in
       let quiet : IsQuiet register = data_quiet r c.requires.register in
-      let matched : has_idcode part.idcode h ≡ true = sym s.progress.matched ∙ c.requires.matched in
+      let matched : has_idcode part.idcode h ≡ true = sym s.progress.has_idcode ∙ c.requires.has_idcode in
       let start : Clocked part kept clock c.args.self.now.stop h n m = record { places = s.places; clock = after.clock; stop = after.stop } in
       let clocked : Clocked part kept clock c.args.self.now.stop all (n + 4 * length prefix) m = clocked_all part kept clock c.args.self.now.stop register n m prefix h quiet (data_none part kept r n prefix h c.requires.register matched unrefused) (omega (arith, size)) start in
       record {

@@ -16,6 +16,6 @@ returns-in-Frames c = record {
   going = c.requires.going;
   frames = c.give_frames-left.ensures.frames;
   given = λ kept h n s.
-      gave_frames c.args.part.now kept (registers_in c.args.self.now) c.give_frames-left.new.frames h n c.in-Frames.count c.give_frames-left.result c.args.read.now c.give_frames-left.new.read c.requires.going c.in-Frames.is c.give_frames-left.ensures.fewer
+      gave_frames c.args.part.now kept (registers_in c.args.self.now) c.give_frames-left.new.frames h n c.in-Frames.count c.give_frames-left.result c.args.read.now c.give_frames-left.new.read c.requires.going c.in-Frames.is c.give_frames-left.ensures.within
       (c.give_frames-left.ensures.given h) (c.give_frames-left.ensures.stands h) s;
 }

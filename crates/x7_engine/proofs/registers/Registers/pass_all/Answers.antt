@@ -20,7 +20,7 @@ pub returns : goal.returns
 returns c = record {
   takes = record {
     within = omega arith;
-    some = λ l. omega (arith, c.take_bytes-left.ensures.some l);
+    takes_some = λ l. omega (arith, c.take_bytes-left.ensures.takes_some l);
     goes_on = λ e. omega (arith, c.take_bytes-left.ensures.left.goes_on e);
   };
   leaves = record { due = c.take_bytes-left.ensures.due; frames = subst (FramesFit c.args.part.now) (sym c.take_bytes-left.ensures.frames) c.requires.ready.frames };

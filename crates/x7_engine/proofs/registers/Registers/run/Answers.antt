@@ -54,7 +54,7 @@ pub returns-in-Word-clause-reads : goal.returns-in-Word-clause-reads
 returns-in-Word-clause-reads c = λ kept h from n e s.
     let w : EndsWords (Word c.in-Word.register c.in-Word.word) from n c.args.count = subst (λ (r : Cut). EndsWords r from n c.args.count) c.in-Word.is e in
     let some : 0 < c.args.count = omega (arith, w.0, w.1) in
-    let few : c.word.result < c.args.count = c.word.ensures.some some in
+    let few : c.word.result < c.args.count = c.word.ensures.takes_some some in
     rw c.in-Word.is (write_until c.args.part.now kept n (counted_in c.word.new.self.stop (n + (c.args.count - c.word.result))) (from + 4) c.in-Word.register c.in-Word.word h s.places (counted_more c.word.new.self.stop n (c.args.count - c.word.result) (omega (arith, few)))
     ∙ no_word_due (read_out c.args.part.now kept h) c.args.part.now _ c.word.new.self.due (ap due_count c.word.ensures.leaves.due ∙ c.requires.ready.no_word_due))
 
@@ -72,7 +72,7 @@ pub returns-in-Body-clause-reads : goal.returns-in-Body-clause-reads
 returns-in-Body-clause-reads c = λ kept h from n e s.
     let w : EndsWords (Body c.in-Body.register c.in-Body.bytes) from n c.args.count = subst (λ (r : Cut). EndsWords r from n c.args.count) c.in-Body.is e in
     let run : IsRun (Body c.in-Body.register c.in-Body.bytes) = subst (λ (r : Cut). IsRun r) c.in-Body.is c.requires.run in
-    let some : 0 < c.body.result = c.body.ensures.takes.some run.1 in
+    let some : 0 < c.body.result = c.body.ensures.takes.takes_some run.1 in
     let ws : List ℕ = words_of_bytes c.in-Body.bytes.now in
     let k : ℕ = c.args.count - (length c.in-Body.bytes.now - c.body.result) in
     let more : 0 < k = omega (arith, w.1, some, c.body.ensures.takes.within) in

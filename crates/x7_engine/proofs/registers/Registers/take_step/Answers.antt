@@ -23,7 +23,7 @@ returns-in-Bad-clause-stands c = λ kept h place next s.
       places = (next.0, omega arith, next.1);
       words = record { each = s.words.each };
       controls = record { ctl0 = s.controls.ctl0; ctl1 = s.controls.ctl1 };
-      progress = record { check = s.progress.check; matched = s.progress.matched; pending = s.progress.pending; ghigh = s.progress.ghigh; iprog = s.progress.iprog };
+      progress = record { check = s.progress.check; has_idcode = s.progress.has_idcode; pending = s.progress.pending; ghigh = s.progress.ghigh; iprog = s.progress.iprog };
       kind = s.kind;
       before = s.before;
       clock = clock_other c.args.part.now kept (registers_in c.args.self.now).clock h (Bad c.in-Bad.word) place refl refl s.clock;

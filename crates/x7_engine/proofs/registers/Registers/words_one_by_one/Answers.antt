@@ -23,7 +23,7 @@ returns-then-is_some c = record {
     within = (
         let all : length (words_of_bytes c.args.bytes.now) ≡ length c.as_chunks.result.0.now = chunks_are c.args.bytes.now c.as_chunks.result.0.now c.as_chunks.ensures.front in
         omega (arith, all, length_of_words c.args.bytes.now, c.loop-word-test.true, c.loop-word.invariant.count));
-    some = λ l. let some : c.word-left.result < 4 = c.word-left.ensures.some (omega arith) in omega (arith, some);
+    takes_some = λ l. let some : c.word-left.result < 4 = c.word-left.ensures.takes_some (omega arith) in omega (arith, some);
     goes_on = λ e. absurd (let both : true ≡ false = sym c.if-is_some.true ∙ c.is_some.ensures ∙ ap (λ (o : Option StopCause). is_some o) e in cc);
   };
   leaves = record { due = c.word-left.ensures.leaves.due ∙ c.loop-word.invariant.due; frames = c.word-left.ensures.leaves.frames };
@@ -59,7 +59,7 @@ returns c = record {
   takes = (
       let all : length (words_of_bytes c.args.bytes.now) ≡ length c.as_chunks.result.0.now = chunks_are c.args.bytes.now c.as_chunks.result.0.now c.as_chunks.ensures.front in
       let size : length (words_of_bytes c.args.bytes.now) ≡ length c.args.bytes.now / 4 = length_of_words c.args.bytes.now in
-      record { within = omega (arith, all, size); some = λ l. omega (arith, all, size, l); goes_on = λ e. omega (arith, all, size) });
+      record { within = omega (arith, all, size); takes_some = λ l. omega (arith, all, size, l); goes_on = λ e. omega (arith, all, size) });
   leaves = record { due = c.loop-word.invariant.due; frames = c.loop-word.invariant.frames };
   stands = λ kept h n s. (
       let all : length (words_of_bytes c.args.bytes.now) ≡ length c.as_chunks.result.0.now = chunks_are c.args.bytes.now c.as_chunks.result.0.now c.as_chunks.ensures.front in

@@ -32,7 +32,7 @@ returns c = record {
         progress = subst (λ (i : ℕ). IsProgress i (progress_in c.write-taken.new.self) (entry access place ∷ h)) e (c.write-taken.ensures.stands h place command progress);
         kind = s.kind;
         before = s.before;
-        clock = c.write-3.ensures place part kept h (record { executed_is = command; taken_is = taken; cor0_is = cor0 }) s.clock;
+        clock = c.write-3.ensures place part kept h (record { executed_is = command; takes_shutdown_is = taken; cor0_is = cor0 }) s.clock;
         stop = stop_of_access part kept h access place going ∙ ap (stopped_at place) (sym (why_is part kept h access c.why_by_write-why.result c.first_cause-self.result c.write-refused.result refused why c.first_cause-self.ensures.value));
         frames = subst (λ (n : ℕ). FramesAre part c.write-refused.new.self c.first_cause-self.result (entry access place ∷ h) n) (sym (none_frames c.args.self.now.due c.requires.ready.no_word_due))
             (access_frames part kept c.args.self.now.frames c.write-refused.new.self h (entry access place) c.why_by_write-why.result c.first_cause-self.result c.write-refused.result are after refused why c.first_cause-self.ensures.value);

@@ -20,12 +20,12 @@ returns-clause-stands c = λ part q s.
     let bytes = s.holds.bytes in
     let device = s.holds.device in
     let read = c.feed-fed.ensures.reads part on_the_bench false bytes device in
-    let none : read.0 ≡ [] = none_got read.0 c.feed-fed.new.read (read.1 ∙ ap (λ (b : ReadBufState). with_words b read.0) c.full.ensures) c.feed-fed.ensures.within_most in
+    let none : read.0 ≡ [] = none_got read.0 c.feed-fed.new.read (read.1 ∙ ap (λ (b : ReadBufState). with_words b read.0) c.without_room.ensures) c.feed-fed.ensures.within_most in
     let silent : words_taken part c.feed-fed.new.self (bytes ++ take (taken_in (length piece) c.feed-fed.result) piece) ≡ words_taken part c.args.device.now bytes =
     read.2 ∙ ap (λ (words : List ℕ). words_taken part c.args.device.now bytes ++ words) none ∙ append-nil (words_taken part c.args.device.now bytes) in
     gives part c.args.self.now c.feed.new.self c.args.device.now c.feed-fed.new.self c.feed.new.device q piece c.feed-fed.new.read c.feed-fed.result c.given_of-count.result s
     (omega (arith, c.if-self-gt0.false, ap (λ (q : QueueState). q.bits_left) c.self.view_is)) fits c.feed-fed.ensures.within
     (c.feed-fed.ensures.stands part on_the_bench false bytes device) (c.feed-fed.ensures.answer part on_the_bench false bytes device) silent
-    (subst (λ (b : ReadBufState). RoomBefore (record { part = part; kept = on_the_bench; wrapped = false; bytes = bytes }) piece (taken_in (length piece) c.feed-fed.result) (words_taken part c.args.device.now bytes) b) c.full.ensures
+    (subst (λ (b : ReadBufState). RoomBefore (record { part = part; kept = on_the_bench; wrapped = false; bytes = bytes }) piece (taken_in (length piece) c.feed-fed.result) (words_taken part c.args.device.now bytes) b) c.without_room.ensures
     (c.feed-fed.ensures.room part on_the_bench false bytes device)) (λ stop. (let all = c.feed-fed.ensures.stopped part on_the_bench false bytes device stop in (all.0, all.2))) c.given_of-count.ensures
     (λ given held out t. c.feed.ensures.stands part (queue_of given held out) t (λ l. absurd (omega (arith, l))))
