@@ -115,7 +115,7 @@ impl Inputs for MemoryInputs {
     fn select(&mut self, name: &str) -> Result<(), SelectFault>
         ensures answer { result ≡ select_answer self.old name.now }
         ensures after { self.new ≡ after_select self.old name.now }
-        ensures once { self.new.selects ≤ self.old.selects + 1 }
+        ensures at_most_one_more { self.new.selects ≤ self.old.selects + 1 }
         ensures ends { self.new.ends ≤ self.old.ends }
         ensures faults { IsLaterCount self.old.faults self.new.faults }
     {
@@ -144,9 +144,9 @@ impl Inputs for MemoryInputs {
         ensures err { OnErr result (buf.new ≡ buf.old) }
         ensures length { length buf.new ≡ length buf.old }
         ensures after { self.new ≡ after_read self.old (length buf.old) }
-        ensures end_once { self.new.ends ≤ self.old.ends + 1 }
-        ensures more { IfOk result (λ n. 0 < n → self.new.ends ≤ self.old.ends) }
-        ensures lost { OnErr result (self.new.ends ≤ self.old.ends) }
+        ensures at_most_one_more { self.new.ends ≤ self.old.ends + 1 }
+        ensures no_end { IfOk result (λ n. 0 < n → self.new.ends ≤ self.old.ends) }
+        ensures no_end_on_error { OnErr result (self.new.ends ≤ self.old.ends) }
         ensures faults { IsLaterCount self.old.faults self.new.faults }
     {
         let Some(place) = self.selected else {
