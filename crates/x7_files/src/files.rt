@@ -52,16 +52,23 @@ fn read_once<F: Read>(file: &mut F, buf: &mut [u8]) -> Result<usize, Failed>
 
 /// Files by their paths as inputs; nothing of what they hold is known. Each read is one read of the file.
 ///
-/// `Missing` is a path where no file is. A folder, missing rights and every other error is a fault.
+/// `Missing` is a path where no file is. A folder, missing rights and every other error is a fault. Each count stops at
+/// 2^64 - 1.
 #[derive(Drop)]
 pub struct FileInputs<'r, R: Files> {
     rt: &'r R,
+    // the open file, if any is
     file: Option<R::File>,
+    // why the last select opened no file
     refusal: Option<ErrorKind>,
+    // how many selects there were
     selects: u64,
+    // how many reads gave nothing
     ends: u64,
+    // how many bytes were given since the last select
     given: u64,
     faults: u64,
+    // how many selects found no file
     absences: u64,
 }
 
@@ -195,8 +202,8 @@ impl<W: Write + Drop> Sink for StdSink<W> {
         ensures within { IfOk result (λ n. n ≤ length piece.now) }
         ensures progress { IfOk result (λ n. 0 < length piece.now → 0 < n) }
         ensures through { WriteAppends self.old.contents self.new.contents result piece.now }
-        ensures ok { OnOk result (self.new.faults ≡ self.old.faults) }
-        ensures err { OnErr result (self.new.faults ≡ raised self.old.faults) }
+        ensures no_fault { OnOk result (self.new.faults ≡ self.old.faults) }
+        ensures one_fault { OnErr result (self.new.faults ≡ raised self.old.faults) }
         ensures faults { IsLaterCount self.old.faults self.new.faults }
     {
         match self.writer.write(piece) {

@@ -32,7 +32,7 @@ read_at-tells g c =
       seen = on_ok c.result (λ i h. refl);
       no_fault = quiet_read_at old new new.file c.result c.ensures.ok;
       failed = failed_read_at old new new.file c.result c.ensures.err;
-      only = only_reads old new c.result c.requires.attached c.ensures.open c.ensures.ok c.ensures.err c.ensures.faults.rises;
+      only = only_reads old new c.result c.requires.attached c.ensures.is_open c.ensures.ok c.ensures.err c.ensures.faults.rises;
       known_length = tt;
       fits = c.ensures.faults.fits;
     }
