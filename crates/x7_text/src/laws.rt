@@ -30,15 +30,15 @@ pub fn whole_rows()
     ensures count { (n : ℕ) (row rest : List ℕ) → length row ≡ n → 0 < n → in_line_after n 0 (row ++ rest) ≡ in_line_after n 0 rest }
 {}
 
-/// The rows joined are the elements. Where a row takes at least one element, all rows but the last are full, and none is
-/// empty.
+/// The rows joined are the elements. Where a row takes at least one element, all rows but the last are full, and none
+/// is empty.
 pub fn rows_are_the_elements()
     ensures joined { (n : ℕ) (xs : List ℕ) → flat_map (λ (row : List ℕ). row) (rows n xs) ≡ xs }
     ensures full { (n : ℕ) (xs : List ℕ) → 0 < n → AreFullButLast n (rows n xs) }
 {}
 
-/// The digits of bytes lead back to these, and those of a word of 32 bits to it. Numbers of 64 bits with the same decimal
-/// digits are the same.
+/// The digits of bytes lead back to these, and those of a word of 32 bits to it. Numbers of 64 bits with the same
+/// decimal digits are the same.
 pub fn digits_lead_back()
     ensures bytes { (bs : List ℕ) → AreBytes bs → bytes_value (flat_map hex_byte bs) ≡ bs }
     ensures word { (w : ℕ) → w < 2 ^ 32 → word_value (hex_word w) ≡ w }
