@@ -103,7 +103,7 @@ pub fn boot<F: Flash>(alloc: Global, part: &Part, flash: &mut F) -> Result<Boote
     ensures part { IfOk result (λ booted. booted.device.part ≡ part.now) }
     ensures no_word_due { IfOk result (λ booted. NoWordDue booted.device) }
     ensures failed { IsErrOf result BootFault.Failed → FlashFails (F.state flash.old) (F.state flash.new) }
-    ensures quiet { OnOk result ((F.state flash.new).faults ≡ (F.state flash.old).faults) }
+    ensures no_fault { OnOk result ((F.state flash.new).faults ≡ (F.state flash.old).faults) }
     ensures no_memory { IsErrOf result BootFault.NoMemory → (F.state flash.new).faults ≡ (F.state flash.old).faults }
     ensures too_large { (result ≡ Err BootFault.TooLarge) ↔ (flash_limit < (F.state flash.old).extent) }
     ensures unread { IsErrOf result BootFault.TooLarge → F.state flash.new ≡ F.state flash.old }

@@ -56,7 +56,7 @@ pub(crate) fn try_once<F: Flash>(
     ensures part { IfOk result (λ ending. device.new.part ≡ device.old.part) }
     ensures no_word_due { IfOk result (λ ending. NoWordDue device.new) }
     ensures failed { IsErrOf result BootFault.Failed → FlashFails (F.state flash.old) (F.state flash.new) }
-    ensures quiet { OnOk result ((F.state flash.new).faults ≡ (F.state flash.old).faults) }
+    ensures no_fault { OnOk result ((F.state flash.new).faults ≡ (F.state flash.old).faults) }
     ensures no_memory { IsErrOf result BootFault.NoMemory → (F.state flash.new).faults ≡ (F.state flash.old).faults }
     ensures not_large { IsErrOf result BootFault.TooLarge → ⊥ }
     ensures only { OnlyReads (F.state flash.old) (F.state flash.new) (F.found_since flash.old) (F.found_since flash.new) }

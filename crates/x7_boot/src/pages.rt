@@ -26,7 +26,7 @@ pub(crate) fn read_block<F: Flash>(
     requires limit { (F.state flash.old).extent ≤ flash_limit }
     ensures read { OnOk result (IsBlock (F.state flash.old).bytes (F.state flash.old).extent number count block.new.items) }
     ensures failed { IsErrOf result BootFault.Failed → FlashFails (F.state flash.old) (F.state flash.new) }
-    ensures quiet { OnOk result ((F.state flash.new).faults ≡ (F.state flash.old).faults) }
+    ensures no_fault { OnOk result ((F.state flash.new).faults ≡ (F.state flash.old).faults) }
     ensures no_memory { IsErrOf result BootFault.NoMemory → (F.state flash.new).faults ≡ (F.state flash.old).faults }
     ensures not_large { IsErrOf result BootFault.TooLarge → ⊥ }
     ensures only { OnlyReads (F.state flash.old) (F.state flash.new) (F.found_since flash.old) (F.found_since flash.new) }

@@ -165,5 +165,5 @@ no_waits lock matched = refl
 pub ends_in_seven : (part : PartData) (bytes : ℕ) → 28 ≤ bytes → phase_by part (Begun 0x02003FE5 bytes) ≡ 7
 ends_in_seven part bytes l =
     let wait : ℕ → ℕ = wait_of part.lock part.matched 0x02003FE5 in
-    let seven : IsPhase wait (bytes / 4) 7 = record { last = omega arith; begun = omega (arith, l, no_waits part.lock part.matched); greatest = λ p small come. small } in
+    let seven : IsPhase wait (bytes / 4) 7 = record { most = omega arith; begun = omega (arith, l, no_waits part.lock part.matched); greatest = λ p small come. small } in
     one_phase wait (bytes / 4) (phase_by part (Begun 0x02003FE5 bytes)) 7 (phase_is part (Begun 0x02003FE5 bytes)) seven

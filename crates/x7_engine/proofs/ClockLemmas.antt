@@ -264,7 +264,7 @@ phase_rises part h n k l =
 
 pub last_of : (part : PartData) (p : StartupProgress) → phase_by part p ≤ 7
 last_of part NotBegun = omega arith
-last_of part (Begun cor0 bytes) = (phase_is part (Begun cor0 bytes)).last
+last_of part (Begun cor0 bytes) = (phase_is part (Begun cor0 bytes)).most
 
 -- where startup has ended before and after some bytes or neither, so it is all along
 pub ends_alike : (part : PartData) (h : History) (n count i : ℕ) (eos : Bool) → newest_place h ≤ n → eos ≡ has_ended part h n → eos ≡ has_ended part h (n + count) → i < count → has_ended part h (n + i + 1) ≡ eos

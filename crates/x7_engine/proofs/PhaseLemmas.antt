@@ -108,7 +108,7 @@ phase_within w t u d p q a b l = elim (cases_lt (p + d) q) [
       let far : arrival w m + d ≤ arrival w (m + d) = arrival_late w m d in
       let far' : arrival w m + d ≤ arrival w q = subst (λ (x : ℕ). arrival w m + d ≤ arrival w x) is far in
       let begun : arrival w q ≤ u = b.begun in
-      let last : q ≤ 7 = b.last in
+      let last : q ≤ 7 = b.most in
       let top : m ≤ p = a.greatest m (omega arith) (omega arith) in
       omega arith
 ]

@@ -36,7 +36,7 @@ phase_is_greatest : (wait : ℕ → ℕ) (ticks : ℕ) → IsPhase wait ticks (p
 unfolding phase_at
 phase_is_greatest wait ticks =
     let g = greatest_is wait ticks 7 in
-    record { last = g.0; begun = g.1; greatest = g.2 }
+    record { most = g.0; begun = g.1; greatest = g.2 }
 
 pub phase_is : (part : PartData) (p : StartupProgress) → IsPhaseOf part.lock part.matched p (phase_by part p)
 phase_is part NotBegun = refl

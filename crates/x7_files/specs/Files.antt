@@ -27,7 +27,7 @@ abbrev pub absences_after : SelectFault → ℕ → ℕ
 absences_after Missing count = raised count
 absences_after Failed count = count
 
--- files as inputs
+-- files as inputs; each count stops at 2^64 - 1
 pub record RealInputs : Type 0 where
   -- whether a file is open
   pub selected : Bool
@@ -35,15 +35,15 @@ pub record RealInputs : Type 0 where
   pub rest : Option (List ℕ)
   -- why the last select opened no file
   pub refusal : Option ErrorKind
-  -- the selects counted; the last u64 stays
+  -- how many selects there were
   pub selects : ℕ
-  -- the reads counted that gave nothing; the last u64 stays
+  -- how many reads gave nothing
   pub ends : ℕ
-  -- the bytes given since the last select; the last u64 stays
+  -- how many bytes were given since the last select
   pub given : ℕ
-  -- the faults counted; the last u64 stays
+  -- how many faults there were
   pub faults : ℕ
-  -- the absences counted; the last u64 stays
+  -- how many absences there were
   pub absences : ℕ
 
 -- neither the count of faults nor that of absences fell, and both fit a u64
@@ -128,7 +128,7 @@ module _ {F : Type 0} (reads writes : KnowsOfFile F) where
   pub record ClearsAt (place : ℕ) (given : List ℕ) (old new : F) : Type 0 where
     pub before : List ℕ
     pub between : F
-    pub long : length before ≡ length given
+    pub length : length before ≡ length given
     pub read : ReadsAt reads place before old between
     pub written : WritesAt writes place (zip_with bit_and before given) between new
 
@@ -149,7 +149,7 @@ abbrev pub WhileOpen : {F : Type 0} → (F → F → Type 0) → Option F → Op
 WhileOpen holds (Some old) (Some new) = holds old new
 WhileOpen holds old new = ⊥
 
--- a file as a flash
+-- a file as a flash; each count stops at 2^64 - 1
 pub record RealFlash (F : Type 0) : Type 0 where
   -- the open file, if any is
   pub file : Option F
@@ -157,11 +157,11 @@ pub record RealFlash (F : Type 0) : Type 0 where
   pub refusal : Option ErrorKind
   -- the number of the open file's bytes
   pub extent : ℕ
-  -- the faults counted; the last u64 stays
+  -- how many faults there were
   pub faults : ℕ
-  -- the absences counted; the last u64 stays
+  -- how many absences there were
   pub absences : ℕ
-  -- the faults of writes counted; the last u64 stays
+  -- how many faults of writes there were
   pub write_faults : ℕ
 
 -- what is known of a file as a flash: its size, and nothing of what it holds
@@ -199,9 +199,9 @@ pub record TriesWrite {F : Type 0} (asked : F → F → Type 0) (old : RealFlash
   pub err : OnErr answer (new ≡ record old { file = new.file; write_faults = raised old.write_faults })
   pub write_faults : IsLaterCount old.write_faults new.write_faults
 
--- a writer as a sink
+-- a writer as a sink; its count stops at 2^64 - 1
 pub record RealSink : Type 0 where
   -- what the writer holds, where it knows that
   pub contents : Option (List ℕ)
-  -- the faults counted; the last u64 stays
+  -- how many faults there were
   pub faults : ℕ

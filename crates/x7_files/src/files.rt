@@ -52,16 +52,23 @@ fn read_once<F: Read>(file: &mut F, buf: &mut [u8]) -> Result<usize, Failed>
 
 /// Files by their paths as inputs; nothing of what they hold is known. Each read is one read of the file.
 ///
-/// `Missing` is a path where no file is. A folder, missing rights and every other error is a fault.
+/// `Missing` is a path where no file is. A folder, missing rights and every other error is a fault. Each count stops at
+/// 2^64 - 1.
 #[derive(Drop)]
 pub struct FileInputs<'r, R: Files> {
     rt: &'r R,
+    // the open file, if any is
     file: Option<R::File>,
+    // why the last select opened no file
     refusal: Option<ErrorKind>,
+    // how many selects there were
     selects: u64,
+    // how many reads gave nothing
     ends: u64,
+    // how many bytes were given since the last select
     given: u64,
     faults: u64,
+    // how many selects found no file
     absences: u64,
 }
 
@@ -109,7 +116,7 @@ impl<'r, R: Files> Inputs for FileInputs<'r, R> {
     fn select(&mut self, name: &str) -> Result<(), SelectFault>
         ensures after { self.new ≡ after_select self.old self.new.rest self.new.refusal result }
         ensures refused { IfErr result (RefusedFor self.new.refusal) }
-        ensures once { self.new.selects ≤ self.old.selects + 1 }
+        ensures at_most_one_more { self.new.selects ≤ self.old.selects + 1 }
         ensures ends { self.new.ends ≡ self.old.ends }
         ensures counts { CountsFaults self.old self.new }
     {
@@ -139,7 +146,7 @@ impl<'r, R: Files> Inputs for FileInputs<'r, R> {
             record self.old { rest = self.new.rest; ends = ends_counted n self.old.ends; given = added self.old.given n }) }
         ensures err { OnErr result (self.new ≡
             record self.old { selected = false; rest = None; faults = raised self.old.faults }) }
-        ensures once { self.new.ends ≤ self.old.ends + 1 }
+        ensures at_most_one_more { self.new.ends ≤ self.old.ends + 1 }
         ensures counts { CountsFaults self.old self.new }
     {
         let Some(file) = &mut self.file else {
@@ -193,10 +200,10 @@ impl<W: Write + Drop> Sink for StdSink<W> {
 
     fn write(&mut self, piece: &[u8]) -> Result<usize, Failed>
         ensures within { IfOk result (λ n. n ≤ length piece.now) }
-        ensures some { IfOk result (λ n. 0 < length piece.now → 0 < n) }
+        ensures progress { IfOk result (λ n. 0 < length piece.now → 0 < n) }
         ensures through { WriteAppends self.old.contents self.new.contents result piece.now }
-        ensures ok { OnOk result (self.new.faults ≡ self.old.faults) }
-        ensures err { OnErr result (self.new.faults ≡ raised self.old.faults) }
+        ensures no_fault { OnOk result (self.new.faults ≡ self.old.faults) }
+        ensures one_fault { OnErr result (self.new.faults ≡ raised self.old.faults) }
         ensures faults { IsLaterCount self.old.faults self.new.faults }
     {
         match self.writer.write(piece) {

@@ -76,8 +76,8 @@ fn whole_fields(bytes: &[u8]) -> Result<(), usize>
 /// How many bytes to read next of an input that begins with these. They complete what is being read of the header: the
 /// fixed bytes, or a field's letter, count, text or number. One byte is wanted where nothing is lacked.
 pub fn wanted(bytes: &[u8]) -> usize
-    ensures some { 0 < result }
-    // At first the fixed bytes.
+    ensures not_zero { 0 < result }
+    // Where fewer bytes are there than the fixed ones, those that are missing are wanted.
     ensures fixed { length bytes.now < fixed_size → length bytes.now + result ≡ fixed_size }
     // With fewer bytes more the input would still end inside the header, so none is
     // read after it, nor after a wrong letter.

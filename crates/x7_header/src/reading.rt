@@ -33,7 +33,7 @@ pub fn header_of(bytes: &[u8]) -> Result<Head<'_>, HeaderFault>
     // What is read is the header that stands at the beginning, with its size.
     ensures found { IfOk result (λ head. BeginsWith (contents_of head) head.size bytes.now) }
     // A header has at most 262,170 bytes.
-    ensures limit { IfOk result (λ head. head.size ≤ longest_header) }
+    ensures most { IfOk result (λ head. head.size ≤ longest_header) }
     // Each header that stands at the beginning is read, whatever follows it.
     ensures complete { (x : Contents) (rest : List ℕ) → HaveHeader x → bytes.now ≡ header_bytes x ++ rest →
         IsOkAnd result (λ head. contents_of head ≡ x) }

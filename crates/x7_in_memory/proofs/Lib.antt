@@ -1,5 +1,5 @@
 pub mod MemoryFlashLemmas
 pub mod FoundSinceLemmas
-pub mod PutLemmas
+pub mod NamedBytesLemmas
 pub mod RecordLemmas
 pub mod TornLemmas

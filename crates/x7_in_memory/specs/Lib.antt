@@ -2,4 +2,4 @@ pub mod Memory
 pub mod FoundSince
 pub mod Spans
 pub mod Tearing
-pub mod Put
+pub mod NamedBytes

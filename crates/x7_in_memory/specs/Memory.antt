@@ -10,7 +10,7 @@ use Rattle.x7_words.specs.declared.input.SelectFault.TheVariants.{Missing, Faile
 
 -- the calls of an object so far, and those that are to fail
 pub record CallPlan : Type 0 where
-  -- the number of the last call, from 1; 0 before the first, and the last u64 stays
+  -- the number of the last call, from 1; 0 before the first, and it stops at 2^64 - 1
   pub last : ℕ
   -- the numbers of the calls that are to fail
   pub failing : List ℕ
@@ -35,7 +35,7 @@ numbered calls = record calls { last = raised calls.last }
 abbrev pub raised_if : Bool → ℕ → ℕ
 raised_if counts count = if counts then raised count else count
 
--- inputs in memory
+-- inputs in memory; the counts of selects, ends and faults stop at 2^64 - 1
 pub record InputsInMemory : Type 0 where
   -- the names and what was put under each, what was put last first
   pub entries : List (List ℕ × List ℕ)
@@ -43,16 +43,16 @@ pub record InputsInMemory : Type 0 where
   pub rest : Option (List ℕ)
   -- the name last asked for; none before a select, and where nothing is put under it
   pub asked : Option (List ℕ)
-  -- the selects counted; the last u64 stays
+  -- how many selects there were
   pub selects : ℕ
-  -- the reads counted that gave nothing; the last u64 stays
+  -- how many reads gave nothing
   pub ends : ℕ
   -- how many bytes were given since the last select
   pub given : ℕ
   -- the most bytes that a read gives
   pub most : ℕ
   pub calls : CallPlan
-  -- the faults counted; the last u64 stays
+  -- how many faults there were
   pub faults : ℕ
 
 -- the bytes that were put under the name last
@@ -125,7 +125,7 @@ pub record SinkInMemory : Type 0 where
   -- the most bytes that a write takes
   pub most : ℕ
   pub calls : CallPlan
-  -- the faults counted; the last u64 stays
+  -- how many faults there were; the count stops at 2^64 - 1
   pub faults : ℕ
 
 -- a write of the piece fails, as planned or since the room is full
@@ -212,12 +212,12 @@ pub record FlashInMemory : Type 0 where
   pub seen_from : ℕ
   -- the place after the greatest one that was read since the last write; 0 where none was
   pub seen_to : ℕ
-  -- the absences counted; the last u64 stays
+  -- how many absences there were; the count stops at 2^64 - 1
   pub absences : ℕ
   pub calls : CallPlan
-  -- the faults of reads counted, an attach too; the last u64 stays
+  -- how many faults of attaches and reads there were; the count stops at 2^64 - 1
   pub read_faults : ℕ
-  -- the faults of writes counted; the last u64 stays
+  -- how many faults of writes there were; the count stops at 2^64 - 1
   pub write_faults : ℕ
   pub writes : WriteRecord
   pub tear : Option Tear

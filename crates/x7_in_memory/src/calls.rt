@@ -32,7 +32,7 @@ impl Calls {
         }
     }
 
-    /// The number of the last call, 0 before the first. After the last u64 it stays.
+    /// The number of the last call, 0 before the first. It stops at 2^64 - 1.
     pub(crate) fn last(&self) -> u64
         ensures { result ≡ self.now.last }
     {
@@ -42,7 +42,7 @@ impl Calls {
     /// The call of this number is to fail.
     pub(crate) fn fail_at(&mut self, call: u64) -> Result<(), NoMemory>
         ensures ok { OnOk result (self.new ≡ with_failing_call self.old call) }
-        ensures err { OnErr result (self.new ≡ self.old) }
+        ensures unchanged { OnErr result (self.new ≡ self.old) }
     {
         self.failing.push(call)?;
         Ok(())

@@ -146,7 +146,7 @@ impl MemoryFlash {
     /// The call of this number, from 1, is to fail.
     pub fn fail_at(&mut self, call: u64) -> Result<(), NoMemory>
         ensures ok { OnOk result (self.new ≡ record self.old { calls = with_failing_call self.old.calls call }) }
-        ensures err { OnErr result (self.new ≡ self.old) }
+        ensures unchanged { OnErr result (self.new ≡ self.old) }
     {
         self.calls.fail_at(call)
     }
@@ -154,7 +154,7 @@ impl MemoryFlash {
     /// Makes room for `writes` writes more, with ranges of `bytes` bytes in all. A new flash has room for none.
     pub fn make_room(&mut self, writes: u64, bytes: u64) -> Result<(), NoMemory>
         ensures ok { OnOk result (self.new ≡ record self.old { writes = with_room self.old.writes writes bytes }) }
-        ensures err { OnErr result (self.new ≡ self.old) }
+        ensures unchanged { OnErr result (self.new ≡ self.old) }
     {
         let all = self.writes.bytes_left().checked_add(bytes).ok_or(NoMemory)?;
         self.target.clear();
@@ -170,7 +170,7 @@ impl MemoryFlash {
         self.tear = Some(Torn { call, pattern });
     }
 
-    /// The number of the latest call, 0 before the first. After the last u64 it stays.
+    /// The number of the latest call, 0 before the first. It stops at 2^64 - 1.
     pub fn calls(&self) -> u64
         ensures { result ≡ self.now.calls.last }
     {
@@ -292,7 +292,7 @@ impl Flash for MemoryFlash {
         ensures answer { is_err result ≡ flash_fails self.old }
         ensures read { OnOk result (buf.new ≡
             slice_range self.old.bytes place (place + length buf.old)) }
-        ensures err { OnErr result (buf.new ≡ buf.old) }
+        ensures same_buffer { OnErr result (buf.new ≡ buf.old) }
         ensures length { length buf.new ≡ length buf.old }
         ensures after { self.new ≡ after_read_at self.old place (length buf.old) }
         ensures faults { IsLaterCount self.old.read_faults self.new.read_faults }

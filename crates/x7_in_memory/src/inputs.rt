@@ -5,7 +5,7 @@ ghost use Rattle.x7_words.specs.Input.{preceded, AtEnd};
 ghost use Rattle.x7_in_memory.specs.Memory.{next_fails, with_failing_call, no_calls, after_put, select_answer, after_select, read_count, after_read, known_inputs};
 
 use crate::calls::Calls;
-use crate::put::{Put, left_at, next_place, place_of};
+use crate::named_bytes::{NamedBytes, left_at, next_place, place_of};
 use std::alloc::Global;
 use std::marker::Model;
 use x7_words::{Failed, Inputs, NoMemory, SelectFault, ends_counted, raised};
@@ -16,11 +16,11 @@ use x7_words::{Failed, Inputs, NoMemory, SelectFault, ends_counted, raised};
 #[derive(Drop)]
 pub struct MemoryInputs {
     // What was put, the last first.
-    puts: Vec<Put>,
-    // The place in `puts` of the selected input, and how many of its bytes were given since its select.
+    named: Vec<NamedBytes>,
+    // The place in `named` of the selected input, and how many of its bytes were given since its select.
     selected: Option<usize>,
     given: usize,
-    // The place in `puts` of the name last asked for, where it is there.
+    // The place in `named` of the name last asked for, where it is there.
     asked: Option<usize>,
     selects: u64,
     ends: u64,
@@ -37,12 +37,12 @@ impl Model for MemoryInputs {
 
     ghost Value = { InputsInMemory };
 
-    ghost use Rattle.x7_in_memory.specs.Put.{entry_of, left_of, put_name};
+    ghost use Rattle.x7_in_memory.specs.NamedBytes.{entry_of, left_of, name_of_place};
 
     ghost view = { λ m. record {
-      entries = map entry_of m.puts.items;
-      rest = left_of m.puts.items m.given m.selected;
-      asked = put_name m.puts.items m.asked;
+      entries = map entry_of m.named.items;
+      rest = left_of m.named.items m.given m.selected;
+      asked = name_of_place m.named.items m.asked;
       selects = m.selects;
       ends = m.ends;
       given = m.given;
@@ -52,8 +52,8 @@ impl Model for MemoryInputs {
     } };
 
     ghost invariant = { λ m. (0 < m.most)
-        × ForSome m.selected (λ place. place < vec_len m.puts)
-        × ForSome m.asked (λ place. place < vec_len m.puts)
+        × ForSome m.selected (λ place. place < vec_len m.named)
+        × ForSome m.asked (λ place. place < vec_len m.named)
         × (m.selects < 2 ^ 64)
         × (m.ends < 2 ^ 64)
         × (m.faults < 2 ^ 64) };
@@ -65,7 +65,7 @@ impl MemoryInputs {
         ensures { result ≡ record { entries = []; rest = None; asked = None; selects = 0; ends = 0; given = 0; most = usize.MAX; calls = no_calls; faults = 0 } }
     {
         MemoryInputs {
-            puts: Vec::new(alloc),
+            named: Vec::new(alloc),
             selected: None,
             given: 0,
             asked: None,
@@ -82,11 +82,11 @@ impl MemoryInputs {
     /// An input that is being read goes on with the bytes that it began with.
     pub fn put(&mut self, name: &str, bytes: &[u8]) -> Result<(), NoMemory>
         ensures ok { OnOk result (self.new ≡ after_put self.old name.now bytes.now) }
-        ensures err { OnErr result (self.new ≡ self.old) }
+        ensures unchanged { OnErr result (self.new ≡ self.old) }
     {
         let bytes = Vec::from_slice(self.alloc, bytes)?;
         let name = String::from_str(self.alloc, name)?;
-        self.puts.insert(0, Put { name, bytes })?;
+        self.named.insert(0, NamedBytes { name, bytes })?;
         self.selected = next_place(self.selected);
         self.asked = next_place(self.asked);
         Ok(())
@@ -95,7 +95,7 @@ impl MemoryInputs {
     /// The call of this number, from 1, is to fail.
     pub fn fail_at(&mut self, call: u64) -> Result<(), NoMemory>
         ensures ok { OnOk result (self.new ≡ record self.old { calls = with_failing_call self.old.calls call }) }
-        ensures err { OnErr result (self.new ≡ self.old) }
+        ensures unchanged { OnErr result (self.new ≡ self.old) }
     {
         self.calls.fail_at(call)
     }
@@ -115,14 +115,14 @@ impl Inputs for MemoryInputs {
     fn select(&mut self, name: &str) -> Result<(), SelectFault>
         ensures answer { result ≡ select_answer self.old name.now }
         ensures after { self.new ≡ after_select self.old name.now }
-        ensures once { self.new.selects ≤ self.old.selects + 1 }
+        ensures at_most_one_more { self.new.selects ≤ self.old.selects + 1 }
         ensures ends { self.new.ends ≤ self.old.ends }
         ensures faults { IsLaterCount self.old.faults self.new.faults }
     {
         self.selected = None;
         self.given = 0;
         self.selects = raised(self.selects);
-        self.asked = place_of(&self.puts, name);
+        self.asked = place_of(&self.named, name);
         let Ok(()) = self.calls.next() else {
             self.faults = raised(self.faults);
             return Err(SelectFault::Failed);
@@ -141,12 +141,12 @@ impl Inputs for MemoryInputs {
         ensures taken { IfOk result (λ n. self.old.rest ≡ preceded (take n buf.new) self.new.rest) }
         ensures end { IfOk result (λ n. n ≡ 0 → 0 < length buf.old → AtEnd self.new.rest) }
         ensures kept { IfOk result (λ n. drop n buf.new ≡ drop n buf.old) }
-        ensures err { OnErr result (buf.new ≡ buf.old) }
+        ensures same_buffer { OnErr result (buf.new ≡ buf.old) }
         ensures length { length buf.new ≡ length buf.old }
         ensures after { self.new ≡ after_read self.old (length buf.old) }
-        ensures end_once { self.new.ends ≤ self.old.ends + 1 }
-        ensures more { IfOk result (λ n. 0 < n → self.new.ends ≤ self.old.ends) }
-        ensures lost { OnErr result (self.new.ends ≤ self.old.ends) }
+        ensures at_most_one_more { self.new.ends ≤ self.old.ends + 1 }
+        ensures no_end { IfOk result (λ n. 0 < n → self.new.ends ≤ self.old.ends) }
+        ensures no_end_on_error { OnErr result (self.new.ends ≤ self.old.ends) }
         ensures faults { IsLaterCount self.old.faults self.new.faults }
     {
         let Some(place) = self.selected else {
@@ -157,7 +157,7 @@ impl Inputs for MemoryInputs {
             self.faults = raised(self.faults);
             return Err(Failed);
         };
-        let left = left_at(&self.puts, place, self.given);
+        let left = left_at(&self.named, place, self.given);
         let count = buf.len().min(self.most).min(left.len());
         buf[..count].copy_from_slice(&left[..count]);
         self.ends = ends_counted(count, self.ends);

@@ -4,7 +4,7 @@
 mod calls;
 mod flash;
 mod inputs;
-mod put;
+mod named_bytes;
 mod record;
 mod sink;
 

@@ -58,7 +58,7 @@ impl MemorySink {
     /// The call of this number, from 1, is to fail.
     pub fn fail_at(&mut self, call: u64) -> Result<(), NoMemory>
         ensures ok { OnOk result (self.new ≡ record self.old { calls = with_failing_call self.old.calls call }) }
-        ensures err { OnErr result (self.new ≡ self.old) }
+        ensures unchanged { OnErr result (self.new ≡ self.old) }
     {
         self.calls.fail_at(call)
     }
@@ -85,7 +85,7 @@ impl Sink for MemorySink {
     fn write(&mut self, piece: &[u8]) -> Result<usize, Failed>
         ensures answer { is_err result ≡ write_fails self.old piece.now }
         ensures count { IfOk result (λ n. n ≡ write_count self.old piece.now) }
-        ensures some { IfOk result (λ n. 0 < length piece.now → 0 < n) }
+        ensures progress { IfOk result (λ n. 0 < length piece.now → 0 < n) }
         ensures after { self.new ≡ after_write self.old piece.now }
         ensures faults { IsLaterCount self.old.faults self.new.faults }
     {

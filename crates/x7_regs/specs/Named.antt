@@ -1,25 +1,29 @@
 -- Names read back: the register number or the command's code of a name, and its place in a table (this project's
 -- choice).
 use Rattle.std.specs.Prelude.{◌≡◌, ℕ, ◌+◌, ◌-◌, ◌*◌, ◌%◌, ◌<◌, List, length, get_or}
-use Rattle.x7_regs.specs.Register.{reg_name}
+use Rattle.x7_regs.specs.Register.{reg_name, reg_number_count}
 use Rattle.x7_regs.specs.Command.{code_of, command_name_of}
 use Rattle.x7_regs.specs.declared.command.Command.{Command}
 
 -- the text is the name of the register number
 pub record IsRegName (text : List ℕ) (number : ℕ) : Type 0 where
-  pub below : number < 32
+  pub below : number < reg_number_count
   pub name : text ≡ reg_name number
 
 -- the text is the name of a command with this code
 pub record IsCommandName (text : List ℕ) (code : ℕ) : Type 0 where
   pub command : Command
   pub name : text ≡ command_name_of command
-  pub code_is : code ≡ code_of command
+  pub same_code : code ≡ code_of command
 
 -- how many bytes a name has at least: its place in a table is made of its first two, its last and its length
-abbrev pub name_least : ℕ
-name_least = 2
+abbrev pub shortest_name : ℕ
+shortest_name = 2
 
--- the place of a name in a table of 64 places, which no two registers and no two commands share
+-- how many places a table of names has
+abbrev pub table_size : ℕ
+table_size = 64
+
+-- the place of a name in a table, which no two registers and no two commands share
 abbrev pub place_of_name : List ℕ → ℕ
-place_of_name name = (get_or name 0 0 + 13 * get_or name 1 0 + 3 * get_or name (length name - 1) 0 + 2 * length name) % 64
+place_of_name name = (get_or name 0 0 + 13 * get_or name 1 0 + 3 * get_or name (length name - 1) 0 + 2 * length name) % table_size

@@ -50,6 +50,10 @@ reg_with n =
     if n == 24 then Some Ctl1 else
     if n == 31 then Some Bspi else None
 
+-- how many register numbers there are, with a register or without
+abbrev pub reg_number_count : ℕ
+reg_number_count = 32
+
 -- how many bytes the name of a register number has at most
 abbrev pub reg_name_limit : ℕ
 reg_name_limit = 7

@@ -52,7 +52,7 @@ const IPROG: u32 = 1 << 2;
 #[tactic(auto, unfolding(crate::specs::Status::flag_of))]
 fn kind_bits(kind: Kind, ignored: bool) -> u32
     ensures value { result ≡ kind_bits_of kind ignored }
-    ensures fits { result < 2 ^ 3 }
+    ensures most { result < 2 ^ 3 }
 {
     let iprog = if ignored { IPROG } else { 0 };
     match kind {
@@ -66,7 +66,7 @@ fn kind_bits(kind: Kind, ignored: bool) -> u32
 /// The bit of a failure's cause, 0 where there is none.
 fn cause_bits(cause: Option<Cause>) -> u32
     ensures value { result ≡ cause_bits_of cause }
-    ensures fits { result ≤ 2 ^ 6 }
+    ensures most { result ≤ 2 ^ 6 }
 {
     match cause {
         None => 0,
@@ -80,7 +80,7 @@ fn cause_bits(cause: Option<Cause>) -> u32
 /// The bits of an attempt.
 fn attempt_bits(attempt: Attempt) -> u32
     ensures value { result ≡ attempt_bits_of attempt }
-    ensures fits { result < 2 ^ 7 }
+    ensures most { result < 2 ^ 7 }
 {
     match attempt.kind {
         Kind::Bench => 0,
@@ -91,7 +91,7 @@ fn attempt_bits(attempt: Attempt) -> u32
 /// The bits of the attempt before, 0 where there is none.
 fn before_bits(before: Option<Attempt>) -> u32
     ensures value { result ≡ before_bits_of before }
-    ensures fits { result < 2 ^ 7 }
+    ensures most { result < 2 ^ 7 }
 {
     match before {
         Some(attempt) => attempt_bits(attempt),

@@ -81,7 +81,7 @@ impl Command {
     #[rattlefmt::skip]
     pub fn code(self) -> u32
         ensures value { result ≡ code_of self }
-        ensures fits { result < 32 }
+        ensures most { result < 32 }
         ensures back { command_by result ≡ self }
     {
         match self {

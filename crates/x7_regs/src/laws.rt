@@ -8,7 +8,7 @@ ghost use Rattle.x7_regs.specs.declared.register.Reg.{Reg};
 /// Registers with the same number are the same, and each number is below 32.
 pub fn numbers_are_distinct()
     ensures distinct { (a b : Reg) → number_of a ≡ number_of b → a ≡ b }
-    ensures fit { (a : Reg) → number_of a < 32 }
+    ensures most { (a : Reg) → number_of a < 32 }
 {}
 
 /// A word whose low five bits are a command's code calls for that command, and any other for `Null`. Each code is below
@@ -16,7 +16,7 @@ pub fn numbers_are_distinct()
 pub fn codes_are_distinct()
     ensures named { (c : Command) (w : ℕ) → w % 2 ^ 5 ≡ code_of c → command_by w ≡ c }
     ensures unnamed { (w : ℕ) → ((c : Command) → code_of c ≢ w % 2 ^ 5) → command_by w ≡ Command.Null }
-    ensures fit { (c : Command) → code_of c < 32 }
+    ensures most { (c : Command) → code_of c < 32 }
 {}
 
 /// Different numbers below 32 have different names, and so have different commands.

@@ -27,7 +27,7 @@ impl RegName {
     /// The bytes of the name.
     pub fn bytes(&self) -> &[u8]
         ensures value { result.now ≡ self.now }
-        ensures short { length result.now ≤ reg_name_limit }
+        ensures most { length result.now ≤ reg_name_limit }
     {
         self.text
     }
@@ -54,7 +54,7 @@ impl CommandName {
     /// The bytes of the name.
     pub fn bytes(&self) -> &[u8]
         ensures value { result.now ≡ self.now }
-        ensures short { length result.now ≤ command_name_limit }
+        ensures most { length result.now ≤ command_name_limit }
     {
         self.text
     }

@@ -1,7 +1,7 @@
 //! Names of registers and commands read back.
 ghost use Rattle.std.specs.Prelude.{◌≡◌, ◌≢◌, ◌≤◌, ◌<◌, ℕ, length, slice_index, IfSome, IfNone};
 ghost use Rattle.x7_regs.specs.Command.{command_name_limit, command_name_of};
-ghost use Rattle.x7_regs.specs.Named.{IsCommandName, IsRegName, name_least, place_of_name};
+ghost use Rattle.x7_regs.specs.Named.{IsCommandName, IsRegName, place_of_name, shortest_name};
 ghost use Rattle.x7_regs.specs.Register.{reg_name};
 ghost use Rattle.x7_regs.specs.declared.command.Command.{Command};
 
@@ -10,7 +10,7 @@ use crate::name::{command_text, name_of};
 use x7_words::is_same;
 
 /// How many bytes a name has at least: its place in a table is made of its first two, its last and its length.
-const NAME_LEAST: usize = 2;
+const SHORTEST_NAME: usize = 2;
 
 /// How many bytes the name of a command has at most.
 const COMMAND_NAME_LIMIT: usize = 9;
@@ -35,8 +35,8 @@ const COMMANDS: [u8; 64] = [
 
 /// What a table has at the place of a name.
 fn at_place(table: &[u8; 64], name: &[u8]) -> u8
-    requires least { name_least ≤ length name.now }
-    requires limit { length name.now ≤ command_name_limit }
+    requires least { shortest_name ≤ length name.now }
+    requires most { length name.now ≤ command_name_limit }
     ensures { result ≡ slice_index table.now (place_of_name name.now) }
 {
     let (first, second) = (usize::from(name[0]), usize::from(name[1]));
@@ -46,10 +46,10 @@ fn at_place(table: &[u8; 64], name: &[u8]) -> u8
 
 /// The register number that the table has for a name.
 fn register_at(name: &[u8]) -> u8
-    requires least { name_least ≤ length name.now }
-    requires limit { length name.now ≤ command_name_limit }
+    requires least { shortest_name ≤ length name.now }
+    requires most { length name.now ≤ command_name_limit }
     ensures value { result ≡ slice_index REGISTERS (place_of_name name.now) }
-    ensures below { result < 32 }
+    ensures most { result < 32 }
 {
     at_place(&REGISTERS, name)
 }
@@ -59,7 +59,7 @@ pub fn reg_named(text: &[u8]) -> Option<u8>
     ensures named { IfSome result (λ number. IsRegName text.now number) }
     ensures unnamed { IfNone result ((number : ℕ) → number < 32 → text.now ≢ reg_name number) }
 {
-    if text.len() < NAME_LEAST || text.len() > COMMAND_NAME_LIMIT {
+    if text.len() < SHORTEST_NAME || text.len() > COMMAND_NAME_LIMIT {
         return None;
     }
     let number = register_at(text);
@@ -74,7 +74,7 @@ pub fn command_named(text: &[u8]) -> Option<u8>
     ensures named { IfSome result (λ code. IsCommandName text.now code) }
     ensures unnamed { IfNone result ((command : Command) → text.now ≢ command_name_of command) }
 {
-    if text.len() < NAME_LEAST || text.len() > COMMAND_NAME_LIMIT {
+    if text.len() < SHORTEST_NAME || text.len() > COMMAND_NAME_LIMIT {
         return None;
     }
     let code = at_place(&COMMANDS, text);

@@ -85,7 +85,7 @@ impl Reg {
     #[rattlefmt::skip]
     pub fn number(self) -> u8
         ensures value { result ≡ number_of self }
-        ensures fits { result < 32 }
+        ensures most { result < 32 }
         ensures back { reg_with result ≡ Some self }
     {
         match self {

@@ -39,7 +39,7 @@ pub struct StatParts {
 fn flag(is_set: bool, bit: u32) -> u32
     requires { bit < 16 }
     ensures value { result ≡ flag_of is_set * 2 ^ bit }
-    ensures fits { flag_of is_set < 2 }
+    ensures most { flag_of is_set < 2 }
 {
     u32::from(is_set) << bit
 }
@@ -50,7 +50,7 @@ fn flag(is_set: bool, bit: u32) -> u32
 fn startup_state(phase: u8) -> u32
     requires { phase < 8 }
     ensures value { result ≡ startup_state_of phase }
-    ensures fits { result < 8 }
+    ensures most { result < 8 }
 {
     match phase {
         0 => 0b000,

@@ -32,7 +32,7 @@ arrival_rises w p q h =
 pub phase_first : (w : ℕ → ℕ) → IsPhase w 0 0
 unfolding arrival
 phase_first w = record {
-  last = omega arith;
+  most = omega arith;
   begun = omega arith;
   greatest = λ p small h. elim (cases_lt 0 p) [
     | inl some ↦ let up : arrival w 1 ≤ arrival w p = arrival_rises w 1 p some in
@@ -44,7 +44,7 @@ phase_first w = record {
 -- below the wait of its phase a startup stays
 pub phase_stays : (w : ℕ → ℕ) (t k p : ℕ) → IsPhase w t p → t + k ≤ w p → IsPhase w (t + k) p
 phase_stays w t k p s h = record {
-  last = s.last;
+  most = s.most;
   begun = let b : arrival w p ≤ t = s.begun in omega arith;
   greatest = λ q small come. elim (cases_lt p q) [
     | inl above ↦ let up : arrival w (suc p) ≤ arrival w q = arrival_rises w (suc p) q above in
@@ -55,7 +55,7 @@ phase_stays w t k p s h = record {
 
 pub phase_ended : (w : ℕ → ℕ) (t k p : ℕ) → IsPhase w t p → 7 ≤ p → IsPhase w (t + k) p
 phase_ended w t k p s h = record {
-  last = s.last;
+  most = s.most;
   begun = let b : arrival w p ≤ t = s.begun in omega arith;
   greatest = λ q small come. omega arith;
 }
@@ -65,7 +65,7 @@ phase_moves w t p s h k =
     let e : p + 1 ≡ suc p = omega arith in
     let b : arrival w p ≤ t = s.begun in
     rw e record {
-      last = omega arith;
+      most = omega arith;
       begun = arrival_comes w p t b k;
       greatest = λ q small come. elim (cases_lt (suc p) q) [
         | inl above ↦ let up : arrival w (suc (suc p)) ≤ arrival w q = arrival_rises w (suc (suc p)) q above in
@@ -76,7 +76,7 @@ phase_moves w t p s h k =
     }
 
 pub phase_rises : (w : ℕ → ℕ) (t u p q : ℕ) → t ≤ u → IsPhase w t p → IsPhase w u q → p ≤ q
-phase_rises w t u p q h a b = let c : arrival w p ≤ t = a.begun in b.greatest p a.last (omega arith)
+phase_rises w t u p q h a b = let c : arrival w p ≤ t = a.begun in b.greatest p a.most (omega arith)
 
 pub one_phase : (w : ℕ → ℕ) (t p q : ℕ) → IsPhase w t p → IsPhase w t q → p ≡ q
 one_phase w t p q a b =

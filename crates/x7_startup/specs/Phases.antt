@@ -13,13 +13,17 @@ wait_of lock_ticks match_ticks cor0 phase =
 abbrev pub tick_limit : ℕ
 tick_limit = 65535
 
+-- the number of the last phase, at which startup has ended
+abbrev pub last_phase : ℕ
+last_phase = 7
+
 -- the ticks since startup began at which a phase begins, by the ticks for which each phase waits
 unfoldable pub arrival : (ℕ → ℕ) → ℕ → ℕ
 arrival wait zero = 0
 arrival wait (suc p) = 1 + max (arrival wait p) (wait p)
 
--- the phase after `ticks` ticks, by the ticks for which each phase waits: the greatest, up to 7, that has begun
+-- the phase after `ticks` ticks, by the ticks for which each phase waits: the greatest, up to the last, that has begun
 pub record IsPhase (wait : ℕ → ℕ) (ticks phase : ℕ) : Type 0 where
-  pub last : phase ≤ 7
+  pub most : phase ≤ last_phase
   pub begun : arrival wait phase ≤ ticks
-  pub greatest : (p : ℕ) → p ≤ 7 → arrival wait p ≤ ticks → p ≤ phase
+  pub greatest : (p : ℕ) → p ≤ last_phase → arrival wait p ≤ ticks → p ≤ phase

@@ -2,7 +2,7 @@
 ghost use Rattle.std.specs.Prelude.{◌≡◌, ◌≤◌, ◌++◌, ℕ, List, replicate};
 ghost use Rattle.x7_startup.specs.Startup.{Byte, Call, IsPhaseOf, progress_of};
 
-/// After a list of calls there is one phase, and bytes alone never lower it: so phase 7 lasts.
+/// After a list of calls there is at most one phase, and bytes alone never lower it: so phase 7 lasts.
 pub fn phases_never_fall()
     ensures one_phase { (lock_ticks match_ticks : ℕ) (calls : List Call) (one other : ℕ) → IsPhaseOf lock_ticks match_ticks (progress_of calls) one
         → IsPhaseOf lock_ticks match_ticks (progress_of calls) other → one ≡ other }

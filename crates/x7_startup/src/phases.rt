@@ -1,12 +1,15 @@
 //! Phases by ticks (UG470, startup).
 ghost use Rattle.std.specs.Prelude.{◌≡◌, ◌≤◌};
-ghost use Rattle.x7_startup.specs.Phases.{wait_of};
+ghost use Rattle.x7_startup.specs.Phases.{last_phase, wait_of};
 ghost use Rattle.x7_startup.specs.Ticks.{PassesTicks};
 
 use x7_regs::{LOCK_CYCLE, MATCH_CYCLE};
 
 /// The number up to which ticks are counted, the last of 16 bits: no part waits for more.
 const TICK_LIMIT: u64 = 65_535;
+
+/// The number of the last phase, at which startup has ended.
+const LAST_PHASE: u8 = 7;
 
 /// A phase of at most 7, and the ticks since startup began, at most 65,535.
 #[derive(Clone, Copy)]
@@ -34,13 +37,13 @@ fn wait_of(cor0: u32, phase: u8, lock_ticks: u16, match_ticks: u16) -> u16
 
 /// The phase and the ticks that are reached one tick later.
 pub(crate) fn tick(cor0: u32, start: Reached, lock_ticks: u16, match_ticks: u16) -> Reached
-    requires phase { start.phase ≤ 7 }
-    ensures last { result.phase ≤ 7 }
+    requires most { start.phase ≤ last_phase }
+    ensures most { result.phase ≤ last_phase }
     ensures runs { PassesTicks (wait_of lock_ticks match_ticks cor0) start 1 result }
 {
     let ticks = start.ticks.saturating_add(1);
     let phase = start.phase;
-    if phase == 7 {
+    if phase == LAST_PHASE {
         return Reached { ticks, phase };
     }
     if start.ticks < wait_of(cor0, phase, lock_ticks, match_ticks) {
@@ -61,14 +64,14 @@ pub(crate) fn pass_ticks(
     lock_ticks: u16,
     match_ticks: u16,
 ) -> Reached
-    requires phase { start.phase ≤ 7 }
-    ensures last { result.phase ≤ 7 }
+    requires most { start.phase ≤ last_phase }
+    ensures most { result.phase ≤ last_phase }
     ensures runs { PassesTicks (wait_of lock_ticks match_ticks cor0) start count result }
 {
     let mut ticks = start.ticks;
     let mut phase = start.phase;
     let mut left = count;
-    while left > 0 && phase < 7 {
+    while left > 0 && phase < LAST_PHASE {
         let wait = wait_of(cor0, phase, lock_ticks, match_ticks);
         if ticks < wait {
             let step = left.min(u64::from(wait - ticks));

@@ -1,7 +1,7 @@
 //! The startup sequence: it moves by a phase a tick, save where COR0 makes it wait.
 ghost use Rattle.std.specs.Prelude.{◌≡◌, ◌<◌, ◌≤◌, ◌+◌, ◌∷◌, ◌++◌, min, ℕ, List, [], replicate, is_some};
 ghost use Rattle.x7_startup.specs.Lines.{done_line, gts_line, gwe_line, AreLines};
-ghost use Rattle.x7_startup.specs.Phases.{tick_limit};
+ghost use Rattle.x7_startup.specs.Phases.{last_phase, tick_limit};
 ghost use Rattle.x7_startup.specs.Startup.{Call, Arm, Desync, Byte, DropBack, Stored, StandsForCalls, IsPhaseOf, progress_of, cor0_of, ticks_of};
 
 use crate::lines::{Lines, lines_in};
@@ -27,7 +27,7 @@ impl Model for Startup {
 
     ghost inverse = { λ v. record { armed = v.armed; begun_with = v.begun_with; tick_bytes = v.tick_bytes; ticks = v.ticks; phase = v.phase } };
 
-    ghost invariant = { λ s. (s.tick_bytes < 4) × (s.phase ≤ 7) };
+    ghost invariant = { λ s. (s.tick_bytes < 4) × (s.phase ≤ last_phase) };
 }
 
 impl Startup {
@@ -128,7 +128,7 @@ impl Startup {
     /// The phase, 0 to 7.
     pub fn phase(&self) -> u8
         ensures now { result ≡ self.now.phase }
-        ensures last { result ≤ 7 }
+        ensures most { result ≤ last_phase }
         ensures stands { (lock_ticks match_ticks : ℕ) (calls : List Call) → StandsForCalls lock_ticks match_ticks self.now calls
             → IsPhaseOf lock_ticks match_ticks (progress_of calls) result }
     {

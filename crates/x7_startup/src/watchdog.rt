@@ -83,7 +83,7 @@ impl Watchdog {
         ensures within { IfSome result (λ n. (0 < n) × (n ≤ count)) }
         ensures fires { OfCalls self.old (λ off first calls.
             IfSome result (λ n. FiredAt off first calls eos count n self.new)) }
-        ensures quiet { OfCalls self.old (λ off first calls.
+        ensures none_fires { OfCalls self.old (λ off first calls.
             IfNone result (NoneFired off first calls eos count self.new)) }
     {
         let on = is_on(self.limit, eos);
@@ -116,8 +116,8 @@ fn is_on(limit: u32, eos: bool) -> bool
 
 /// How many more bytes, `bytes` at most, bring the count to the limit; none where that many don't.
 fn due_within(on: bool, count: u32, limit: u32, bytes: u64) -> Option<u64>
-    ensures some { IfSome result (λ n. (0 < n) × (n ≤ bytes) × IsTrue on × (count + n ≡ limit)) }
-    ensures none { IfNone result ((k : ℕ) → k < bytes → IsTrue on → ¬ (count + (k + 1) ≡ limit)) }
+    ensures due { IfSome result (λ n. (0 < n) × (n ≤ bytes) × IsTrue on × (count + n ≡ limit)) }
+    ensures none_due { IfNone result ((k : ℕ) → k < bytes → IsTrue on → ¬ (count + (k + 1) ≡ limit)) }
 {
     if on && count < limit && u64::from(limit - count) <= bytes {
         Some(u64::from(limit - count))

@@ -1,6 +1,7 @@
 -- A text that comes in pieces, and is taken line by line (this project's choice).
-use Rattle.std.specs.Prelude.{◌≡◌, ◌⊎◌, ◌<◌, ◌^◌, ℕ, List, [], ◌∷◌, ◌++◌, length, Option, MatchOption, Result, MatchResult, IfErr}
+use Rattle.std.specs.Prelude.{◌≡◌, ◌⊎◌, ◌<◌, ℕ, List, [], ◌∷◌, ◌++◌, length, Option, MatchOption, Result, MatchResult, IfErr}
 use Rattle.std.specs.Borrow.{Bor}
+use Rattle.x7_words.specs.Input.{taken_bytes_limit}
 use Rattle.x7_text.specs.Lines.{split}
 
 -- what a reader keeps: what takes the lines, the beginning of the line that comes, and how many lines were taken
@@ -20,11 +21,11 @@ pub record StandsFor {B : Type 0} (taken : B → List (List ℕ) → Type 0) (r 
   pub took : taken r.taker lines
   pub count : r.count ≡ length lines
 
--- after some lines, a fault of every text that goes on with this one
+-- after these lines every text that begins with `text` fails
 abbrev pub FailsAfter : (List (List ℕ) → Type 0) → List (List ℕ) → List ℕ → Type 0
 FailsAfter fails lines text = (more : List ℕ) → fails (lines ++ split (text ++ more))
 
--- a fault of every text that begins with this one
+-- every text that begins with `text` fails
 abbrev pub FailsFrom : (List (List ℕ) → Type 0) → List ℕ → Type 0
 FailsFrom fails text = (more : List ℕ) → fails (split (text ++ more))
 
@@ -43,29 +44,29 @@ pub record TakesPrefix {B : Type 0} (taken : B → List (List ℕ) → Type 0) (
   pub stands : StandsFor taken r (text ++ prefix)
 
 module _ {B F : Type 0} (taken : B → List (List ℕ) → Type 0) (fails : F → List (List ℕ) → Type 0) where
-  -- After some lines one more was taken, which has its end. Or the fault is one of every text that goes on so.
+  -- After these lines one more was taken, which has its end. Or every text that goes on so fails.
   abbrev pub TakesEndedLine : List (List ℕ) → List ℕ → Result (Unit {0}) F → B → Type 0
   TakesEndedLine lines line result new =
       MatchResult result (λ _. taken new (lines ++ line ∷ [])) (λ fault. (more : List ℕ) → fails fault (lines ++ line ∷ split more))
 
   -- After some lines those of a text that have their end were taken, and the answer is what is left of the text and how
-  -- many lines were taken in all. Or the fault is one of every text that goes on so.
+  -- many lines were taken in all. Or every text that goes on so fails.
   abbrev pub TakesEndedLines : List (List ℕ) → List ℕ → Result (Bor (List ℕ) × ℕ) F → B → Type 0
   TakesEndedLines lines text result new =
       MatchResult result (λ left. TakesWhole taken lines text new left.0.now left.1) (λ fault. FailsAfter (fails fault) lines text)
 
-  -- Whatever text of fewer than 2^63 bytes, the piece among them, a reader stood for: after a call it stands for that
-  -- text and the piece, or the fault is one of every text that begins so.
+  -- Whatever text of fewer than 2^63 bytes, the piece among them, a reader stood for: after a call the reader stands
+  -- for that text and the piece, or every text that begins so fails.
   abbrev pub TakesPiece : {A : Type 0} → ReaderState B → List ℕ → Result A F → (A → ReaderState B) → Type 0
   TakesPiece old piece result new =
-      (text : List ℕ) → length (text ++ piece) < 2 ^ 63 → StandsFor taken old text
+      (text : List ℕ) → length (text ++ piece) < taken_bytes_limit → StandsFor taken old text
       → MatchResult result (λ x. StandsFor taken (new x) (text ++ piece)) (λ fault. FailsFrom (fails fault) (text ++ piece))
 
-  -- A piece was taken up to the end of the line that was held, and this is left; or all of it, where no line ends in
-  -- it, and nothing is. Or the fault is one of every text that begins so.
+  -- A piece was taken up to the end of the line that was held, and the rest after it is the answer; or, where no line
+  -- ends in the piece, all of it was taken and the answer is none. Or every text that begins so fails.
   abbrev pub CompletesLine : {R : Type 0} → (R → List ℕ) → ReaderState B → List ℕ → Result (Option R) F → ReaderState B → Type 0
   CompletesLine bytes old piece result new =
-      (text : List ℕ) → length (text ++ piece) < 2 ^ 63 → StandsFor taken old text
+      (text : List ℕ) → length (text ++ piece) < taken_bytes_limit → StandsFor taken old text
       → MatchResult result
       (λ found. MatchOption found (StandsFor taken new (text ++ piece)) (λ rest. TakesPrefix taken new text piece (bytes rest)))
       (λ fault. FailsFrom (fails fault) (text ++ piece))
@@ -98,5 +99,5 @@ module _ {B : Type 0} (taken : B → List (List ℕ) → Type 0) (wants : List (
   -- where a reader held no beginning of a line, memory is wanting only in the piece that a call took
   abbrev pub WantsOnlyIn : {A F : Type 0} → (F → Type 0) → ReaderState B → List ℕ → Result A F → Type 0
   WantsOnlyIn is_want old piece result =
-      (text : List ℕ) → length (text ++ piece) < 2 ^ 63 → old.held ≡ [] → (s : StandsFor taken old text)
+      (text : List ℕ) → length (text ++ piece) < taken_bytes_limit → old.held ≡ [] → (s : StandsFor taken old text)
       → IfErr result (λ fault. is_want fault → WantsIn s.lines piece)

@@ -103,7 +103,7 @@ fn sixteen_of(digits: &[u8; 64], at: usize) -> u8x16
 #[rattlefmt::skip]
 #[inline(always)]
 fn wide_line(bytes: &[u8; 32]) -> [u8; 80]
-    ensures long { length result ≡ 80 }
+    ensures length { length result ≡ 80 }
     ensures line { take data_line_size result ≡ line (codes "data") spaced (words_of_bytes bytes.now) }
 {
     let digits = hex_of_block(bytes);

@@ -6,7 +6,7 @@ ghost use Rattle.x7_text.specs.EitherCase.{bytes_of_pairs};
 pub fn read_pairs(bytes: &mut [u8], digits: &[u8]) -> bool
     requires { length digits.now ≡ 2 * length bytes.old }
     ensures value { MatchBool result (bytes_of_pairs digits.now ≡ Some bytes.new) (bytes_of_pairs digits.now ≡ None) }
-    ensures long { length bytes.new ≡ length bytes.old }
+    ensures length { length bytes.new ≡ length bytes.old }
 {
     hex::decode_to_slice(digits, bytes).is_ok()
 }

@@ -7,8 +7,8 @@ use x7_words::NoMemory;
 
 /// Appends bytes. After an error the text is as it was.
 pub fn put_text(text: &mut Vec<u8>, bytes: &[u8]) -> Result<(), NoMemory>
-    ensures text { OnOk result (text.new.items ≡ text.old.items ++ bytes.now) }
-    ensures err { OnErr result (text.new.items ≡ text.old.items) }
+    ensures appends { OnOk result (text.new.items ≡ text.old.items ++ bytes.now) }
+    ensures unchanged { OnErr result (text.new.items ≡ text.old.items) }
 {
     text.extend_from_slice(bytes)?;
     Ok(())
@@ -16,8 +16,8 @@ pub fn put_text(text: &mut Vec<u8>, bytes: &[u8]) -> Result<(), NoMemory>
 
 /// Appends a number in decimal and a line end. After an error the text is as it was.
 pub fn put_number(text: &mut Vec<u8>, number: u64) -> Result<(), NoMemory>
-    ensures text { OnOk result (text.new.items ≡ text.old.items ++ decimal number ++ codes "\n") }
-    ensures err { OnErr result (text.new.items ≡ text.old.items) }
+    ensures appends { OnOk result (text.new.items ≡ text.old.items ++ decimal number ++ codes "\n") }
+    ensures unchanged { OnErr result (text.new.items ≡ text.old.items) }
 {
     make_room(text, MOST_DIGITS + 1)?;
     put_decimal(text, number);

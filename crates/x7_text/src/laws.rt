@@ -22,28 +22,31 @@ pub fn lines_in_parts()
     ensures count { (n i : ℕ) (xs ys : List ℕ) → in_line_after n i (xs ++ ys) ≡ in_line_after n (in_line_after n i xs) ys }
 {}
 
-/// A whole row where no line is open adds the row's line, and what follows adds what it adds to a new line.
+/// A row of as many elements as a line takes, at least one, adds its line where no line is open. What follows adds what
+/// it adds to a new line, and leaves the same count in the open line.
 pub fn whole_rows()
     ensures text { (n : ℕ) (keyword : List ℕ) (text : ℕ → List ℕ) (row rest : List ℕ) → length row ≡ n → 0 < n
         → open_text n keyword text 0 (row ++ rest) ≡ line keyword text row ++ open_text n keyword text 0 rest }
     ensures count { (n : ℕ) (row rest : List ℕ) → length row ≡ n → 0 < n → in_line_after n 0 (row ++ rest) ≡ in_line_after n 0 rest }
 {}
 
-/// The rows joined are the elements, all but the last are full, and none is empty.
+/// The rows joined are the elements. Where a row takes at least one element, all rows but the last are full, and none
+/// is empty.
 pub fn rows_are_the_elements()
     ensures joined { (n : ℕ) (xs : List ℕ) → flat_map (λ (row : List ℕ). row) (rows n xs) ≡ xs }
     ensures full { (n : ℕ) (xs : List ℕ) → 0 < n → AreFullButLast n (rows n xs) }
 {}
 
-/// Digits lead back to what they are of, and so does a decimal number.
+/// The digits of bytes lead back to these, and those of a word of 32 bits to it. Numbers of 64 bits with the same
+/// decimal digits are the same.
 pub fn digits_lead_back()
     ensures bytes { (bs : List ℕ) → AreBytes bs → bytes_value (flat_map hex_byte bs) ≡ bs }
     ensures word { (w : ℕ) → w < 2 ^ 32 → word_value (hex_word w) ≡ w }
     ensures decimal { (m n : ℕ) → m < 2 ^ 64 → n < 2 ^ 64 → decimal m ≡ decimal n → m ≡ n }
 {}
 
-/// A digit of either case has a number below 16, and is the upper-case digit of that number or the letter 32 above it.
-/// The upper-case digits of bytes lead back.
+/// The upper-case digit of a number below 16 has this number. A digit of either case has a number below 16, and is the
+/// upper-case digit of that number or the letter 32 above it. The upper-case digits of bytes lead back to these.
 pub fn either_case_leads_back()
     ensures upper { (n : ℕ) → n < 16 → number_of_digit (hex_digit n) ≡ Some n }
     ensures digit { (c n : ℕ) → number_of_digit c ≡ Some n → (n < 16) × ((c ≡ hex_digit n) ⊎ (c ≡ hex_digit n + 32)) }
@@ -54,7 +57,7 @@ pub fn either_case_leads_back()
 /// split into these and an empty one.
 pub fn lines_lead_back()
     ensures joined { (text : List ℕ) → joined_lines (split text) ≡ text }
-    ensures free { (text : List ℕ) → AllByRecursion (λ line. has_no_end line ≡ true) (split text) }
+    ensures no_ends { (text : List ℕ) → AllByRecursion (λ line. has_no_end line ≡ true) (split text) }
     ensures ended { (lines : List (List ℕ)) → AllByRecursion (λ line. has_no_end line ≡ true) lines
         → split (flat_map (λ line. line ++ 10 ∷ []) lines) ≡ lines ++ [] ∷ [] }
 {}

@@ -1,7 +1,8 @@
 //! A text that comes in pieces, line by line.
-ghost use Rattle.std.specs.Prelude.{◌≡◌, ◌+◌, ◌<◌, ◌^◌, ◌++◌, ◌∷◌, [], List, ℕ, length, IfErr, MatchOption, MatchResult};
+ghost use Rattle.std.specs.Prelude.{◌≡◌, ◌+◌, ◌<◌, ◌++◌, ◌∷◌, [], List, ℕ, length, IfErr, MatchOption, MatchResult};
 ghost use Rattle.x7_text.specs.LineReader.{CompletesLine, StandsFor, TakesEndedLine, TakesEndedLines, TakesPiece, WantsAt, WantsOnlyIn};
 ghost use Rattle.x7_text.specs.Lines.{split};
+ghost use Rattle.x7_words.specs.Input.{taken_bytes_limit};
 
 use crate::lines::first_line;
 use std::alloc::Global;
@@ -46,9 +47,9 @@ pub trait TakesLines: Drop {
     /// Takes the lines of a text that have their end, after `n` lines. Answers what is left of the text, and how many
     /// lines were taken in all. After an error nothing more may be taken.
     fn put_lines<'t>(&mut self, n: u64, text: &'t [u8]) -> Result<(&'t [u8], u64), Self::Fault>
-        ensures read { (first : Self) (lines : List (List ℕ)) → n ≡ length lines → n + length text.now < 2 ^ 63 → took first self.old lines
+        ensures read { (first : Self) (lines : List (List ℕ)) → n ≡ length lines → n + length text.now < taken_bytes_limit → took first self.old lines
             → TakesEndedLines (took first) (fails first) lines text.now result self.new }
-        ensures memory { (first : Self) (lines : List (List ℕ)) → n ≡ length lines → n + length text.now < 2 ^ 63 → took first self.old lines
+        ensures memory { (first : Self) (lines : List (List ℕ)) → n ≡ length lines → n + length text.now < taken_bytes_limit → took first self.old lines
             → IfErr result (λ fault. is_want fault → WantsAt (wants first) lines text.now) }
     {
         let mut rest = text;
@@ -172,9 +173,9 @@ impl<T: TakesLines> LineReader<T> {
 
     /// Ends the text: what it gives, or its fault. Memory is wanting only at its last line.
     pub fn finish(self) -> Result<T::Out, T::Fault>
-        ensures read { (first : T) (text : List ℕ) → length text < 2 ^ 63 → StandsFor (T.took first) self text
+        ensures read { (first : T) (text : List ℕ) → length text < taken_bytes_limit → StandsFor (T.took first) self text
             → MatchResult result (λ out. T.gives first out (split text)) (λ fault. T.fails first fault (split text)) }
-        ensures memory { (first : T) (text : List ℕ) → length text < 2 ^ 63 → (s : StandsFor (T.took first) self text)
+        ensures memory { (first : T) (text : List ℕ) → length text < taken_bytes_limit → (s : StandsFor (T.took first) self text)
             → IfErr result (λ fault. T.is_want fault → T.wants first s.lines self.held) }
     {
         let LineReader { taker, held, count } = self;

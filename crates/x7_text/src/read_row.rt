@@ -54,7 +54,7 @@ fn write_digits(digits: &mut [u8; 64], at: usize, word: &[u8; 9])
 #[inline(always)]
 fn gathered(text: &[u8]) -> [u8; 64]
     requires { length text.now ≤ 72 }
-    ensures long { length result ≡ 64 }
+    ensures length { length result ≡ 64 }
     ensures digits { take (8 * (length text.now / 9)) result ≡ flat_map (drop 1) (first_chunks 9 (length text.now / 9) text.now) }
 {
     let (words, _) = text.as_chunks::<9>();
@@ -69,7 +69,7 @@ fn gathered(text: &[u8]) -> [u8; 64]
 #[inline(always)]
 fn put_one_word(out: &mut Vec<u8>, text: &[u8]) -> bool
     requires room { HasSpareRoom out.old row_bytes }
-    requires long { length text.now ≡ 9 }
+    requires length { length text.now ≡ 9 }
     ensures reads { Reads IsWordRow (flat_map spaced) (flat_map bytes_of_word) result text.now out.old.items out.new.items }
     ensures room { StaysWithin out.old out.new row_bytes }
 {

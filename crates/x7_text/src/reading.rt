@@ -128,7 +128,7 @@ fn bytes_of_halves(halves: u8x64) -> u8x32
 #[inline(always)]
 pub(crate) fn bytes_of_digits(digits: &[u8; 64]) -> [u8; 32]
     ensures value { result ≡ bytes_value digits.now }
-    ensures long { length result ≡ 32 }
+    ensures length { length result ≡ 32 }
     ensures bytes { (i : ℕ) → slice_index result i < 256 }
 {
     bytes_of_halves(numbers_of(u8x64::from_array(*digits))).to_array()
@@ -150,9 +150,9 @@ pub fn block_of_hex(digits: &[u8; 64]) -> Option<[u8; 32]>
 /// How many of the first bytes of two blocks are the same.
 #[inline(always)]
 fn same_prefix_size(a: &[u8; 64], b: &[u8; 64]) -> usize
-    ensures within { result ≤ 64 }
+    ensures most { result ≤ 64 }
     ensures same { take result a.now ≡ take result b.now }
-    ensures most { (n : ℕ) → n ≤ 64 → take n a.now ≡ take n b.now → n ≤ result }
+    ensures longest { (n : ℕ) → n ≤ 64 → take n a.now ≡ take n b.now → n ≤ result }
 {
     let differ = u8x64::from_array(*a)
         .simd_ne(u8x64::from_array(*b))
@@ -172,11 +172,11 @@ pub struct HexPrefix {
 /// The upper-case digits that a block begins with, maybe none: no pair of digits is missed.
 #[inline(always)]
 pub fn prefix_of_hex(block: &[u8; 64]) -> HexPrefix
-    ensures within { result.digit_count ≤ 64 }
-    ensures long { length result.bytes ≡ 32 }
+    ensures most { result.digit_count ≤ 64 }
+    ensures length { length result.bytes ≡ 32 }
     ensures bytes { AreBytes result.bytes }
     ensures digits { take result.digit_count block.now ≡ take result.digit_count (flat_map hex_byte result.bytes) }
-    ensures most { (bs : List ℕ) → AreBytes bs → 2 * length bs ≤ 64 → take (2 * length bs) block.now ≡ flat_map hex_byte bs → 2 * length bs ≤ result.digit_count }
+    ensures longest { (bs : List ℕ) → AreBytes bs → 2 * length bs ≤ 64 → take (2 * length bs) block.now ≡ flat_map hex_byte bs → 2 * length bs ≤ result.digit_count }
 {
     let bytes = bytes_of_digits(block);
     HexPrefix {

@@ -1,7 +1,7 @@
--- Counts of 64 bits that only rise (this project's choice).
+-- Counts of 64 bits that only rise, and stop at 2^64 - 1 (this project's choice).
 use Rattle.std.specs.Prelude.{◌≡◌, ℕ, ◌<◌, ◌≤◌, ◌⊎◌, ◌^◌, ◌+◌, ◌-◌, min, if◌then◌else◌, ◌==◌}
 
--- the count rose, or it is the last u64, at which it stays
+-- the count rose, or it stands at 2^64 - 1, where counts stop
 abbrev pub HasRisen : ℕ → ℕ → Type 0
 HasRisen old new = (old < new) ⊎ (new + 1 ≡ 2 ^ 64)
 
@@ -10,11 +10,11 @@ pub record IsLaterCount (old new : ℕ) : Type 0 where
   pub rises : old ≤ new
   pub fits : new < 2 ^ 64
 
--- the next count; after the last u64 it stays
+-- the next count, which stops at 2^64 - 1
 abbrev pub raised : ℕ → ℕ
 raised count = min (count + 1) (2 ^ 64 - 1)
 
--- the count raised by `more`; after the last u64 it stays
+-- the count raised by `more`, which stops at 2^64 - 1
 abbrev pub added : ℕ → ℕ → ℕ
 added count more = min (count + more) (2 ^ 64 - 1)
 

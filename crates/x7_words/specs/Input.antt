@@ -5,6 +5,10 @@ use Rattle.x7_words.specs.Count.{HasRisen}
 use Rattle.x7_words.specs.declared.input.SelectFault.{SelectFault}
 use Rattle.x7_words.specs.declared.input.SelectFault.TheVariants.{Missing, Failed}
 
+-- how many bytes a text or stream that is taken has fewer than
+abbrev pub taken_bytes_limit : ℕ
+taken_bytes_limit = 2 ^ 63
+
 -- what inputs have come to
 pub record InputsState : Type 0 where
   -- the map from names to bytes, where it is known; `None` for a name without an input

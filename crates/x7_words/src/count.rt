@@ -2,11 +2,11 @@
 ghost use Rattle.std.specs.Prelude.{◌≡◌, ◌≤◌, ◌+◌};
 ghost use Rattle.x7_words.specs.Count.{ends_counted, raised};
 
-/// The next count. After the last u64 it stays.
+/// The next count, which stops at 2^64 - 1.
 pub fn raised(count: u64) -> u64
     ensures value { result ≡ raised count }
     ensures rises { count ≤ result }
-    ensures step { result ≤ count + 1 }
+    ensures at_most_one_more { result ≤ count + 1 }
 {
     count.saturating_add(1)
 }
@@ -14,7 +14,7 @@ pub fn raised(count: u64) -> u64
 /// The count of reads that gave nothing, after a read that gave this many bytes.
 pub fn ends_counted(given: usize, count: u64) -> u64
     ensures value { result ≡ ends_counted given count }
-    ensures step { result ≤ count + 1 }
+    ensures at_most_one_more { result ≤ count + 1 }
 {
     if given == 0 { raised(count) } else { count }
 }

@@ -36,7 +36,7 @@ pub trait Flash {
         ensures err { OnErr result ((state self.new).attached ≡ false) }
         ensures asks { AsksFor (state self.old) name.now (state self.new) }
         ensures stays { FlashStays (state self.old) (state self.new) (found_since self.old) (found_since self.new) }
-        ensures sized { IsSized (state self.new) }
+        ensures known_length { IsSized (state self.new) }
         ensures bytes { KnowsBytes (state self.new) }
         ensures fits { FlashCountsFit (state self.new) };
 
@@ -44,7 +44,7 @@ pub trait Flash {
     fn size(&self) -> u64
         requires { (state self.now).attached ≡ true }
         ensures extent { result ≡ (state self.now).extent }
-        ensures sized { IsSized (state self.now) }
+        ensures known_length { IsSized (state self.now) }
         ensures bytes { KnowsBytes (state self.now) };
 
     /// Fills the buffer with the bytes from the place on, and counts no fault. After an error it may hold anything, as
@@ -56,10 +56,10 @@ pub trait Flash {
             (λ all. buf.new ≡ slice_range all place (place + length buf.old))) }
         ensures length { length buf.new ≡ length buf.old }
         ensures seen { OnOk result (Sees (state self.new) place buf.new) }
-        ensures quiet { OnOk result ((state self.new).faults ≡ (state self.old).faults) }
+        ensures no_fault { OnOk result ((state self.new).faults ≡ (state self.old).faults) }
         ensures failed { OnErr result (FlashFails (state self.old) (state self.new)) }
         ensures only { OnlyReads (state self.old) (state self.new) (found_since self.old) (found_since self.new) }
-        ensures sized { IsSized (state self.new) }
+        ensures known_length { IsSized (state self.new) }
         ensures fits { (state self.new).faults < 2 ^ 64 };
 
     /// Sets each bit of the sector of this number, counted from 0, to 1. After an error each bit of the sector is
@@ -75,7 +75,7 @@ pub trait Flash {
         ensures moment { (state self.new).moments ≤ (state self.old).moments + 1 }
         ensures failed { OnErr result (WriteFails (state self.old) (state self.new)) }
         ensures only { OnlyWrites (state self.old) (state self.new) }
-        ensures sized { IsSized (state self.new) }
+        ensures known_length { IsSized (state self.new) }
         ensures fits { (state self.new).write_faults < 2 ^ 64 };
 
     /// Makes each byte from the place on the old byte AND the given one. After an error each bit of the range is
@@ -92,7 +92,7 @@ pub trait Flash {
         ensures moment { (state self.new).moments ≤ (state self.old).moments + 1 }
         ensures failed { OnErr result (WriteFails (state self.old) (state self.new)) }
         ensures only { OnlyWrites (state self.old) (state self.new) }
-        ensures sized { IsSized (state self.new) }
+        ensures known_length { IsSized (state self.new) }
         ensures fits { (state self.new).write_faults < 2 ^ 64 };
 
     /// Where the bytes are known, the size is their number.

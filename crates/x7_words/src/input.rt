@@ -48,7 +48,7 @@ pub trait Inputs {
         ensures refused { IfErr result (InputsRefuse (state self.old) name.now (state self.new)) }
         ensures err { OnErr result ((state self.new).selected ≡ false) }
         ensures asks { Asks name.now (state self.new) }
-        ensures once { AsksOnce (state self.old) (state self.new) }
+        ensures at_most_one_more { AsksOnce (state self.old) (state self.new) }
         ensures stays { InputsStay (state self.old) (state self.new) }
         ensures fits { InputCountsFit (state self.new) };
 

@@ -16,9 +16,9 @@ pub trait Sink {
     /// After an error nothing of the piece was written.
     fn write(&mut self, piece: &[u8]) -> Result<usize, Failed>
         ensures within { IfOk result (λ n. n ≤ length piece.now) }
-        ensures some { IfOk result (λ n. 0 < length piece.now → 0 < n) }
-        ensures ok { IfOk result (λ n. PutsAll (state self.old) (take n piece.now) (state self.new)) }
-        ensures err { OnErr result ((state self.new).written ≡ (state self.old).written) }
+        ensures progress { IfOk result (λ n. 0 < length piece.now → 0 < n) }
+        ensures appends { IfOk result (λ n. PutsAll (state self.old) (take n piece.now) (state self.new)) }
+        ensures nothing_written { OnErr result ((state self.new).written ≡ (state self.old).written) }
         ensures failed { OnErr result (SinkFails (state self.old) (state self.new)) }
         ensures counts { SinkFaultsRise (state self.old) (state self.new) }
         ensures fits { (state self.new).faults < 2 ^ 64 };
@@ -27,7 +27,7 @@ pub trait Sink {
 /// Writes all of the text, in as many writes as the sink takes.
 /// After an error a prefix of the text was written.
 pub fn write_all<S: Sink>(sink: &mut S, text: &[u8]) -> Result<(), Failed>
-    ensures ok { OnOk result (PutsAll (S.state sink.old) text.now (S.state sink.new)) }
+    ensures appends { OnOk result (PutsAll (S.state sink.old) text.now (S.state sink.new)) }
     ensures prefix { PutsSome (S.state sink.old) text.now (S.state sink.new) }
     ensures failed { OnErr result (SinkFails (S.state sink.old) (S.state sink.new)) }
     ensures counts { SinkFaultsRise (S.state sink.old) (S.state sink.new) }
@@ -42,7 +42,7 @@ pub fn write_all<S: Sink>(sink: &mut S, text: &[u8]) -> Result<(), Failed>
 /// Writes the pieces, each whole, one after the other.
 /// After an error a prefix of the joined pieces was written.
 pub fn write_pieces<S: Sink>(sink: &mut S, pieces: &[&[u8]]) -> Result<(), Failed>
-    ensures ok { OnOk result (PutsAll (S.state sink.old) (flat_map (λ p. p.now) pieces.now) (S.state sink.new)) }
+    ensures appends { OnOk result (PutsAll (S.state sink.old) (flat_map (λ p. p.now) pieces.now) (S.state sink.new)) }
     ensures puts { PutsOrFails (S.state sink.old) (flat_map (λ p. p.now) pieces.now) (S.state sink.new) }
     ensures failed { OnErr result (SinkFails (S.state sink.old) (S.state sink.new)) }
     ensures counts { SinkFaultsRise (S.state sink.old) (S.state sink.new) }

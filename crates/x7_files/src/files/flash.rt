@@ -138,11 +138,17 @@ fn program_from<F: Read + Write + Seek + OpenFile>(
 #[derive(Drop)]
 pub struct FileFlash<'r, R: Files> {
     rt: &'r R,
+    // the attached file, if any is
     file: Option<R::File>,
+    // why the last attach opened no file
     refusal: Option<ErrorKind>,
+    // how many bytes the file had as it was attached
     extent: u64,
+    // how many attaches and reads failed
     faults: u64,
+    // how many attaches found no file
     absences: u64,
+    // how many erases and programs failed
     write_faults: u64,
 }
 
@@ -229,7 +235,7 @@ impl<'r, R: Files> Flash for FileFlash<'r, R> {
         ensures read { OnOk result
             (WhileOpen (ReadsAt (file_tells R.File.stream_position R.File.remaining) place buf.new) self.old.file self.new.file) }
         ensures length { length buf.new ≡ length buf.old }
-        ensures open { is_some self.new.file ≡ true }
+        ensures is_open { is_some self.new.file ≡ true }
         ensures ok { OnOk result (self.new ≡ record self.old { file = self.new.file }) }
         ensures err { OnErr result (self.new ≡
             record self.old { file = self.new.file; faults = raised self.old.faults }) }

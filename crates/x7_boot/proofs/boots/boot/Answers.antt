@@ -23,7 +23,7 @@ attempts-preserved g c =
       room = next.most c.in-Again.next_kept c.in-Again.next_address c.in-Again.is;
       limit = i.limit;
       pages = pages_of (f.state c.args.flash.now).bytes (f.state c.attempts.flash).bytes (f.state c.args.flash.now).extent (f.state c.attempts.flash).extent c.try_once.new.pages.pages.entries i.flash.bytes i.flash.extent c.try_once.ensures.pages;
-      quiet = t.quiet ∙ i.quiet;
+      no_fault = t.no_fault ∙ i.no_fault;
       flash = reads_on _ _ _ _ _ _ i.flash t.only;
     }
 
@@ -54,13 +54,13 @@ returns-in_err-ending-clause-failed g c =
     let f = g.F.Flash in
     let first = f.state c.args.flash.now in
     let last = f.state c.try_once.new.flash in
-    let fails : IsErrOf c.try_once.result Failed → FlashFails first last = λ e. subst (λ (n : ℕ). HasRisen n last.faults) c.attempts.invariant.quiet (c.try_once.ensures.failed e) in
+    let fails : IsErrOf c.try_once.result Failed → FlashFails first last = λ e. subst (λ (n : ℕ). HasRisen n last.faults) c.attempts.invariant.no_fault (c.try_once.ensures.failed e) in
     search rules
 
 pub returns-in_err-ending-clause-no_memory : goal.returns-in_err-ending-clause-no_memory
 returns-in_err-ending-clause-no_memory g c =
     let f = g.F.Flash in
-    let quiet : IsErrOf c.try_once.result NoMemory → (f.state c.try_once.new.flash).faults ≡ (f.state c.args.flash.now).faults = λ e. c.try_once.ensures.no_memory e ∙ c.attempts.invariant.quiet in
+    let no_fault : IsErrOf c.try_once.result NoMemory → (f.state c.try_once.new.flash).faults ≡ (f.state c.args.flash.now).faults = λ e. c.try_once.ensures.no_memory e ∙ c.attempts.invariant.no_fault in
     search rules
 
 pub returns-in_err-ending-clause-unread : goal.returns-in_err-ending-clause-unread

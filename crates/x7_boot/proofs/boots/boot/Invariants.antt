@@ -20,7 +20,7 @@ invariant-attempts g l =
       room : is_fallback l.kept.kind ≡ false → l.number < 16;
       limit : (f.state l.fn.flash).extent ≤ flash_limit;
       pages : ArePages (f.state l.fn.flash).bytes (f.state l.fn.flash).extent l.pages.pages.entries;
-      quiet : (f.state l.flash).faults ≡ (f.state l.fn.flash).faults;
+      no_fault : (f.state l.flash).faults ≡ (f.state l.fn.flash).faults;
       flash : OnlyReads (f.state l.fn.flash) (f.state l.flash) (f.found_since l.fn.flash) (f.found_since l.flash);
     }
 

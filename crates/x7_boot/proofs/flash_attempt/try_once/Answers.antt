@@ -14,7 +14,7 @@ pub pages-init : goal.pages-init
 pages-init g c = record {
   feeds = subst (λ (n : ℕ). IsUnderWay (attempt_at c.args.device.now.part c.args.kept c.args.address) (g.F.Flash.state c.args.flash.now).bytes c.begin.new.device n) (sym c.from-place.ensures) (c.begin.ensures (g.F.Flash.state c.args.flash.now).bytes);
   kept = c.requires.pages;
-  quiet = refl;
+  no_fault = refl;
   flash = reads_at _ _;
   size = c.size-size.ensures.extent;
 }
@@ -26,7 +26,7 @@ pub returns-then-place-size-clause-tried : goal.returns-then-place-size-clause-t
 returns-then-place-size-clause-tried g c =
     let f = c.pages.invariant.feeds in
     known_out c.args.device.now.part c.args.kept c.args.address (g.F.Flash.state c.args.flash.now).bytes c.pages.device c.run_out.new.device c.pages.place c.size-size.result c.run_out.result f c.if-place-size.true
-    (subst (λ (n : ℕ). IfKnown (g.F.Flash.state c.args.flash.now).bytes (λ all. n ≡ length all)) (sym c.size-size.ensures.extent) c.size-size.ensures.sized) (c.run_out.ensures.stands c.args.device.now.part c.args.kept f.bytes f.stands) c.run_out.ensures.ending
+    (subst (λ (n : ℕ). IfKnown (g.F.Flash.state c.args.flash.now).bytes (λ all. n ≡ length all)) (sym c.size-size.ensures.extent) c.size-size.ensures.known_length) (c.run_out.ensures.stands c.args.device.now.part c.args.kept f.bytes f.stands) c.run_out.ensures.ending
 
 pub pages-preserved : goal.pages-preserved
 pages-preserved g c =
@@ -41,7 +41,7 @@ pages-preserved g c =
     record {
       feeds = feeds_on c.args.device.now.part c.args.kept c.args.address (g.F.Flash.state c.args.flash.now).bytes c.pages.device c.take_page.new.device c.bytes_from-bytes.result.now c.pages.place (c.pages.place + length c.bytes_from-bytes.result.now) c.take_page.result refl f from.bytes_are t c.in-GoesOn.is;
       kept = are;
-      quiet = c.in_ok-loaded.ensures.quiet ∙ c.pages.invariant.quiet;
+      no_fault = c.in_ok-loaded.ensures.no_fault ∙ c.pages.invariant.no_fault;
       flash = reads_on _ _ _ _ _ _ c.pages.invariant.flash c.in_ok-loaded.ensures.only;
       size = c.pages.invariant.size;
     }
@@ -126,13 +126,13 @@ returns-in_err-loaded-clause-failed g c =
     let f = g.F.Flash in
     let first = f.state c.args.flash.now in
     let last = f.state c.load.new.flash in
-    let fails : IsErrOf c.load.result Failed → FlashFails first last = λ e. subst (λ (n : ℕ). HasRisen n last.faults) c.pages.invariant.quiet (c.load.ensures.failed e) in
+    let fails : IsErrOf c.load.result Failed → FlashFails first last = λ e. subst (λ (n : ℕ). HasRisen n last.faults) c.pages.invariant.no_fault (c.load.ensures.failed e) in
     search rules
 
 pub returns-in_err-loaded-clause-no_memory : goal.returns-in_err-loaded-clause-no_memory
 returns-in_err-loaded-clause-no_memory g c =
     let f = g.F.Flash in
-    let quiet : IsErrOf c.load.result NoMemory → (f.state c.load.new.flash).faults ≡ (f.state c.args.flash.now).faults = λ e. c.load.ensures.no_memory e ∙ c.pages.invariant.quiet in
+    let no_fault : IsErrOf c.load.result NoMemory → (f.state c.load.new.flash).faults ≡ (f.state c.args.flash.now).faults = λ e. c.load.ensures.no_memory e ∙ c.pages.invariant.no_fault in
     search rules
 
 pub returns-in_err-loaded-clause-pages : goal.returns-in_err-loaded-clause-pages

@@ -10,7 +10,7 @@ invariant-pages g l =
     record {
       feeds : IsUnderWay (attempt_at l.fn.device.part l.fn.kept l.fn.address) (f.state l.fn.flash).bytes l.device l.place;
       kept : ArePages (f.state l.fn.flash).bytes (f.state l.fn.flash).extent l.pages.pages.entries;
-      quiet : (f.state l.flash).faults ≡ (f.state l.fn.flash).faults;
+      no_fault : (f.state l.flash).faults ≡ (f.state l.fn.flash).faults;
       flash : OnlyReads (f.state l.fn.flash) (f.state l.flash) (f.found_since l.fn.flash) (f.found_since l.flash);
       size : l.size ≡ (f.state l.fn.flash).extent;
     }

@@ -21,9 +21,9 @@ returns-in-Some-clause-begins g c =
     let mid = c.put_text.new.text.items in
     let bytes = c.deref-in-loop-bytes.result.now in
     let within : count ≤ length c.next_turn.new.buffer = omega (arith, c.in_ok-turn.ensures.within.1, c.next_turn.ensures.length) in
-    let joined = c.in_ok-put_text.ensures.text ∙ ap (λ t. old ++ t) (take-append-le count c.next_turn.new.buffer _ within) in
+    let joined = c.in_ok-put_text.ensures.appends ∙ ap (λ t. old ++ t) (take-append-le count c.next_turn.new.buffer _ within) in
     let long = length-take-le count c.next_turn.new.buffer within in
-    let p = piece_of old mid piece c.deref.result.now bytes c.wanted.result joined c.deref-in-loop-bytes.ensures.value (omega (arith, long, c.in_ok-turn.ensures.within.1, c.min-count.ensures, length-take-le c.min-count.result c.loop-bytes.piece (omega (arith, c.min-count.ensures, v.piece)))) c.wanted.ensures.some c.deref.ensures.value c.wanted.ensures.fixed c.wanted.ensures.waits v.waiting in
+    let p = piece_of old mid piece c.deref.result.now bytes c.wanted.result joined c.deref-in-loop-bytes.ensures.value (omega (arith, long, c.in_ok-turn.ensures.within.1, c.min-count.ensures, length-take-le c.min-count.result c.loop-bytes.piece (omega (arith, c.min-count.ensures, v.piece)))) c.wanted.ensures.not_zero c.deref.ensures.value c.wanted.ensures.fixed c.wanted.ensures.waits v.waiting in
     beginning_read old mid piece bytes c.in-Some.judged.line.items c.wanted.result c.in-Some.judged.start c.in_ok-turn.turn.last (i.state c.args.inputs.now) (i.state c.loop-bytes.inputs) (i.state c.next_turn.new.inputs)
     p joined c.deref-in-loop-bytes.ensures.value (reads_by (i.state c.args.inputs.now) (i.state c.loop-bytes.inputs) old v.selected v.taken v.given v.asked v.inputs v.selects) c.in_ok-turn.ensures.ok c.next_turn.ensures.asked c.next_turn.ensures.inputs c.in_ok-turn.ensures.end (λ e. omega (arith, v.ends, c.in_ok-turn.ensures.no_end_read e)) v.few (omega (arith, long, c.in_ok-turn.ensures.within.1, c.min-count.ensures, length-take-le c.min-count.result c.loop-bytes.piece (omega (arith, c.min-count.ensures, v.piece)))) (found_some c.in_ok-judged.field-0 c.in-Some.judged _ (λ (j : Judged). (j.start ≤ length bytes) × IsBeginning bytes c.in_ok-turn.turn.last j.line.items j.start) c.in-Some.is c.in_ok-judged.ensures.judged) (found_some c.in_ok-judged.field-0 c.in-Some.judged _ (λ (j : Judged). DataBeginAt bytes j.start) c.in-Some.is c.in_ok-judged.ensures.data_begin)
 
@@ -36,9 +36,9 @@ returns-in_err-judged-clause-err g c = rw (handed_on c.from_residual-in_err-judg
     let mid = c.put_text.new.text.items in
     let bytes = c.deref-in-loop-bytes.result.now in
     let within : count ≤ length c.next_turn.new.buffer = omega (arith, c.in_ok-turn.ensures.within.1, c.next_turn.ensures.length) in
-    let joined = c.in_ok-put_text.ensures.text ∙ ap (λ t. old ++ t) (take-append-le count c.next_turn.new.buffer _ within) in
+    let joined = c.in_ok-put_text.ensures.appends ∙ ap (λ t. old ++ t) (take-append-le count c.next_turn.new.buffer _ within) in
     let long = length-take-le count c.next_turn.new.buffer within in
-    let p = piece_of old mid piece c.deref.result.now bytes c.wanted.result joined c.deref-in-loop-bytes.ensures.value (omega (arith, long, c.in_ok-turn.ensures.within.1, c.min-count.ensures, length-take-le c.min-count.result c.loop-bytes.piece (omega (arith, c.min-count.ensures, v.piece)))) c.wanted.ensures.some c.deref.ensures.value c.wanted.ensures.fixed c.wanted.ensures.waits v.waiting in
+    let p = piece_of old mid piece c.deref.result.now bytes c.wanted.result joined c.deref-in-loop-bytes.ensures.value (omega (arith, long, c.in_ok-turn.ensures.within.1, c.min-count.ensures, length-take-le c.min-count.result c.loop-bytes.piece (omega (arith, c.min-count.ensures, v.piece)))) c.wanted.ensures.not_zero c.deref.ensures.value c.wanted.ensures.fixed c.wanted.ensures.waits v.waiting in
     elim c.in_err-judged.ensures.refused [
       | inl h ↦ inl h
       | inr h ↦ inr (inr (record {
@@ -60,7 +60,7 @@ returns-in_err-turn-clause-err g c = rw (handed_on c.from_residual.result c.in_e
     unread_turn (i.state c.args.inputs.now) (i.state c.loop-bytes.inputs) (i.state c.next_turn.new.inputs) c.args.stream.now old (stream_limit - c.len-left.result) (event_of c.in_err-turn.field-0.0)
     (reads_by (i.state c.args.inputs.now) (i.state c.loop-bytes.inputs) old v.selected v.taken v.given v.asked v.inputs v.selects) (omega (arith, v.few, c.len-left.ensures)) c.next_turn.ensures.asked
     (λ e. absurd (omega (arith, c.in_err-turn.ensures.over e, v.few, c.len-left.ensures, v.piece, c.min-count.ensures, length-take-le c.min-count.result c.loop-bytes.piece (omega (arith, c.min-count.ensures, v.piece)))))
-    (λ e. none_given (i.state c.args.inputs.now) (i.state c.loop-bytes.inputs) (i.state c.next_turn.new.inputs) old c.deref.result.now c.wanted.result (length (take c.min-count.result c.loop-bytes.piece)) c.wanted.ensures.some
+    (λ e. none_given (i.state c.args.inputs.now) (i.state c.loop-bytes.inputs) (i.state c.next_turn.new.inputs) old c.deref.result.now c.wanted.result (length (take c.min-count.result c.loop-bytes.piece)) c.wanted.ensures.not_zero
     (omega (arith, c.min-count.ensures, length-take-le c.min-count.result c.loop-bytes.piece (omega (arith, c.min-count.ensures, v.piece)))) c.deref.ensures.value c.wanted.ensures.fixed c.wanted.ensures.waits v.waiting
     (reads_by (i.state c.args.inputs.now) (i.state c.loop-bytes.inputs) old v.selected v.taken v.given v.asked v.inputs v.selects) (c.in_err-turn.ensures.fails_early e)) c.in_err-turn.ensures.err)
 
@@ -76,7 +76,7 @@ loop-bytes-preserved g c =
     let bytes = c.deref-in-loop-bytes.result.now in
     let asked_for : length (take c.min-count.result c.loop-bytes.piece) ≡ c.min-count.result = length-take-le c.min-count.result c.loop-bytes.piece (omega (arith, c.min-count.ensures, v.piece)) in
     let within : count ≤ length buf = omega (arith, c.in_ok-turn.ensures.within.1, c.next_turn.ensures.length) in
-    let joined = c.in_ok-put_text.ensures.text ∙ ap (λ t. old ++ t) (take-append-le count buf _ within) in
+    let joined = c.in_ok-put_text.ensures.appends ∙ ap (λ t. old ++ t) (take-append-le count buf _ within) in
     let none = found_none c.in_ok-judged.field-0 ((c.in_ok-turn.turn.last ≡ false) × (length bytes ≤ longest_header) × EndsInHeader bytes) (λ (j : Judged). (j.start ≤ length bytes) × IsBeginning bytes c.in_ok-turn.turn.last j.line.items j.start) c.in_default.is c.in_ok-judged.ensures.judged in
     record {
       selected = c.in_ok-turn.ensures.ok.selected;

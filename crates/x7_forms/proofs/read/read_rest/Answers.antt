@@ -25,7 +25,7 @@ returns-then-turn-clause-ok g c =
     let piece = take n c.next_turn.new.buffer in
     let size : length piece ≡ n = length-take-le n c.next_turn.new.buffer (omega (arith, c.in_ok-turn.ensures.within.1, c.next_turn.ensures.length)) in
     let reads = reads_on (i.state c.args.inputs.now) (i.state c.loop-turn.inputs) (i.state c.next_turn.new.inputs) v.known.0 piece v.known.1.2 c.in_ok-turn.ensures.ok c.next_turn.ensures.asked c.next_turn.ensures.inputs in
-    (v.known.0 ++ piece, c.in_ok-put_text.ensures.text ∙ ap (λ t. t ++ piece) v.known.1.0 ∙ append_assoc _ v.known.0 piece, omega (arith, v.known.1.1, size, length-append v.known.0 piece, c.in_ok-turn.ensures.within.0), (reads.takes.taken, c.in_ok-turn.ensures.end c.if-turn.true))
+    (v.known.0 ++ piece, c.in_ok-put_text.ensures.appends ∙ ap (λ t. t ++ piece) v.known.1.0 ∙ append_assoc _ v.known.0 piece, omega (arith, v.known.1.1, size, length-append v.known.0 piece, c.in_ok-turn.ensures.within.0), (reads.takes.taken, c.in_ok-turn.ensures.end c.if-turn.true))
 
 pub loop-turn-preserved : goal.loop-turn-preserved
 loop-turn-preserved g c =
@@ -41,7 +41,7 @@ loop-turn-preserved g c =
       ends = omega (arith, v.ends, c.in_ok-turn.ensures.no_end_read c.if-turn.false);
       left = omega (arith, v.left);
       piece = c.next_turn.ensures.length ∙ v.piece;
-      known = (v.known.0 ++ piece, (c.in_ok-put_text.ensures.text ∙ ap (λ t. t ++ piece) v.known.1.0 ∙ append_assoc _ v.known.0 piece, omega (arith, v.known.1.1, size, length-append v.known.0 piece, c.in_ok-turn.ensures.within.0), reads));
+      known = (v.known.0 ++ piece, (c.in_ok-put_text.ensures.appends ∙ ap (λ t. t ++ piece) v.known.1.0 ∙ append_assoc _ v.known.0 piece, omega (arith, v.known.1.1, size, length-append v.known.0 piece, c.in_ok-turn.ensures.within.0), reads));
     }
 
 pub returns-in_err-turn-clause-gives_few : goal.returns-in_err-turn-clause-gives_few

@@ -24,12 +24,12 @@ pub returns-clause-found : goal.returns-clause-found
 returns-clause-found c =
     is_found (λ head. (contents_of head, head.size)) c.read_layout.result c.args.bytes.now (all_from_places (λ b. b < 256) c.args.bytes.now (λ k l. omega (arith, c.type_inv.bytes k))) (returns-clause-exact c)
 
-pub returns-in_err-after_fixed_bytes-clause-limit : goal.returns-in_err-after_fixed_bytes-clause-limit
-returns-in_err-after_fixed_bytes-clause-limit c =
+pub returns-in_err-after_fixed_bytes-clause-most : goal.returns-in_err-after_fixed_bytes-clause-most
+returns-in_err-after_fixed_bytes-clause-most c =
     is_short (λ head. (contents_of head, head.size)) c.from_residual.result c.args.bytes.now (all_from_places (λ b. b < 256) c.args.bytes.now (λ k l. omega (arith, c.type_inv.bytes k))) (returns-in_err-after_fixed_bytes-clause-exact c)
 
-pub returns-clause-limit : goal.returns-clause-limit
-returns-clause-limit c =
+pub returns-clause-most : goal.returns-clause-most
+returns-clause-most c =
     is_short (λ head. (contents_of head, head.size)) c.read_layout.result c.args.bytes.now (all_from_places (λ b. b < 256) c.args.bytes.now (λ k l. omega (arith, c.type_inv.bytes k))) (returns-clause-exact c)
 
 pub returns-in_err-after_fixed_bytes-clause-complete : goal.returns-in_err-after_fixed_bytes-clause-complete

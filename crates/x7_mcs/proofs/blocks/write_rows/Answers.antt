@@ -19,7 +19,7 @@ loop-rest-preserved g c =
     record {
       goes =
           block_put (s.state c.args.out.now).written (s.state c.loop-rest.out).written c.args.flash.now c.loop-rest.place c.loop-rest.rest.now c.split_at.result.0.now c.split_at.result.1.now c.deref.result.now c.min.result
-          c.loop-rest.invariant.goes c.min.ensures (omega arith) c.split_at.ensures.front c.split_at.ensures.back (omega arith) block (s.state c.write_all.new.sink).written c.in_ok-write_all.ensures.ok;
+          c.loop-rest.invariant.goes c.min.ensures (omega arith) c.split_at.ensures.front c.split_at.ensures.back (omega arith) block (s.state c.write_all.new.sink).written c.in_ok-write_all.ensures.appends;
       left = omega arith;
       begins = λ more. ap (λ n. (c.loop-rest.place + n) % 65536) (omega arith) ∙ begins_more c.loop-rest.place (length c.loop-rest.rest.now) c.min.result (length c.split_at.result.1.now) c.min.ensures (omega arith) (c.loop-rest.invariant.begins (omega arith)) more;
       room = omega arith;

@@ -25,7 +25,7 @@ loop-rest-preserved g c =
     let block : c.deref.result.now ≡ frame_lines_text m c.split_at.result.0.now = c.deref.ensures.value ∙ c.put_lines.ensures.appends.items ∙ ap (λ (t : List ℕ). t ++ frame_lines_text m c.split_at.result.0.now) c.clear.ensures.items in
     record {
       sent = more_sent (s.state c.args.out.now).written (s.state c.loop-rest.out).written m c.args.fars.now c.loop-rest.rest.now c.split_at.result.0.now c.split_at.result.1.now c.min.result
-          c.loop-rest.invariant.sent c.split_at.ensures.front c.split_at.ensures.back (s.state c.write_all.new.sink).written (rw (← block) c.in_ok-write_all.ensures.ok);
+          c.loop-rest.invariant.sent c.split_at.ensures.front c.split_at.ensures.back (s.state c.write_all.new.sink).written (rw (← block) c.in_ok-write_all.ensures.appends);
       room = omega (arith, c.put_lines.ensures.appends.room, c.loop-rest.invariant.room);
       counts = counts_on _ _ _ c.loop-rest.invariant.counts c.in_ok-write_all.ensures.counts;
     }

@@ -11,5 +11,5 @@ loop-left-preserved-then-ticks-wait c =
 pub loop-left-preserved : goal.loop-left-preserved
 loop-left-preserved c =
     let h = ran_moves (wait_of c.args.lock_ticks c.args.match_ticks c.args.cor0) _ _ _ _ _ _ c.wait_of-wait.result
-    c.wait_of-wait.ensures c.wait_of-wait.type_inv c.loop-left-test.true c.if-phase-lt7.true c.if-ticks-wait.false c.loop-left.invariant in
+    c.wait_of-wait.ensures c.wait_of-wait.type_inv c.loop-left-test.true c.if-phase-lt-LAST_PHASE.true c.if-ticks-wait.false c.loop-left.invariant in
     rw (← c.saturating_add-ticks.ensures) at h

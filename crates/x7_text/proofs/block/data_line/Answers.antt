@@ -3,7 +3,7 @@ use Rattle.std.proofs.lemmas.List.{length-take-le}
 use Rattle.x7_text.proofs.block.data_line.Goals as goal
 
 pub slice_bounds-copy_from_slice-end-3 : goal.slice_bounds-copy_from_slice-end-3
-slice_bounds-copy_from_slice-end-3 c = sym (length-take-le 77 c.wide_line.result (omega (arith, c.wide_line.ensures.long)))
+slice_bounds-copy_from_slice-end-3 c = sym (length-take-le 77 c.wide_line.result (omega (arith, c.wide_line.ensures.length)))
 
 pub copy_from_slice-requires : goal.copy_from_slice-requires
-copy_from_slice-requires c = sym (length-take-le 77 c.wide_line.result (omega (arith, c.wide_line.ensures.long)))
+copy_from_slice-requires c = sym (length-take-le 77 c.wide_line.result (omega (arith, c.wide_line.ensures.length)))

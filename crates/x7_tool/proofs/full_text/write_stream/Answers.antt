@@ -40,7 +40,7 @@ loop-more-preserved g c =
     let m : AppendsNext c.put_next.new.self t.given c.clear.new.self.items c.put_next.new.out.items = c.in-Ok.ensures.more t.given t.stands c.if-not-more.false in
     record {
       sent = sent_more c.args.stream.part c.args.stream.plan c.loop-more.stream c.put_next.new.self (s.state c.args.out.now).written (s.state c.loop-more.out).written (s.state c.write_all.new.sink).written c.clear.new.self.items c.put_next.new.out.items t m
-          c.clear.ensures.items c.put_next.ensures.part c.put_next.ensures.plan (c.in_ok-write_all.ensures.ok ∙ ap (λ (x : List ℕ). appended (s.state c.loop-more.out).written x) c.deref.ensures.value);
+          c.clear.ensures.items c.put_next.ensures.part c.put_next.ensures.plan (c.in_ok-write_all.ensures.appends ∙ ap (λ (x : List ℕ). appended (s.state c.loop-more.out).written x) c.deref.ensures.value);
       room = omega (arith, c.clear.ensures.capacity, c.put_next.ensures.room, v.room);
       counts = counts_on _ _ _ v.counts c.in_ok-write_all.ensures.counts;
     }

@@ -12,12 +12,12 @@ pub returns-clause-ok : goal.returns-clause-ok
 returns-clause-ok g c =
     let old = (g.O.Sink.state c.args.out.now).written in
     let mid = (g.O.Sink.state c.write_all.new.sink).written in
-    let put = from_ok c.write_all.result (sym c.is_err.ensures.value ∙ c.if-is_err.false) c.write_all.ensures.ok in
+    let put = from_ok c.write_all.result (sym c.is_err.ensures.value ∙ c.if-is_err.false) c.write_all.ensures.appends in
     on_ok_weaker c.put_turn.result (λ h. h (appended old c.args.line.now) [] (begins_after c.args.lister.now old mid c.args.line.now c.requires.new c.requires.clear put)) c.put_turn.ensures.ok
 
 pub returns-clause-err : goal.returns-clause-err
 returns-clause-err g c =
     let old = (g.O.Sink.state c.args.out.now).written in
     let mid = (g.O.Sink.state c.write_all.new.sink).written in
-    let put = from_ok c.write_all.result (sym c.is_err.ensures.value ∙ c.if-is_err.false) c.write_all.ensures.ok in
+    let put = from_ok c.write_all.result (sym c.is_err.ensures.value ∙ c.if-is_err.false) c.write_all.ensures.appends in
     err_weaker c.put_turn.result (λ r p rest fits. line_prefix old (g.O.Sink.state c.put_turn.new.out).written c.args.line.now _ (p (appended old c.args.line.now) [] rest (begins_after c.args.lister.now old mid c.args.line.now c.requires.new c.requires.clear put) fits)) c.put_turn.ensures.err

@@ -16,7 +16,7 @@ returns-then-is_err-2-clause-err g c = λ first bytes rest lists fits.
 pub returns-clause-ok : goal.returns-clause-ok
 returns-clause-ok g c = λ first bytes lists.
     let feeds = from_ok c.feed.result (sym c.is_err.ensures.value ∙ c.if-is_err.false) c.feed.ensures.stands in
-    let put = from_ok c.write_all.result (sym c.is_err-2.ensures.value ∙ c.if-is_err-2.false) c.write_all.ensures.ok in
+    let put = from_ok c.write_all.result (sym c.is_err-2.ensures.value ∙ c.if-is_err-2.false) c.write_all.ensures.appends in
     lists_more c.args.lister.now c.feed.new.self c.clear_text.new.self first (g.O.Sink.state c.args.out.now).written (g.O.Sink.state c.write_all.new.sink).written bytes c.args.piece.now c.text.result.now lists feeds c.text.ensures put c.clear_text.ensures.cleared c.clear_text.ensures.given
 
 pub returns-then-is_err-clause-longer : goal.returns-then-is_err-clause-longer

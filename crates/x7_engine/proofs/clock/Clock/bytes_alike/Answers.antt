@@ -11,7 +11,7 @@ pub returns-in_default-clause-takes : goal.returns-in_default-clause-takes
 returns-in_default-clause-takes c = λ kept h n a.
     let l : newest_place h ≤ n = a.newest in
     let f : (i : ℕ) → i < c.args.count → has_ended c.args.part.now h (n + i + 1) ≡ c.args.eos = a.each in
-    let q = c.in_default.ensures.quiet (is_fallback kept.kind) kept.timer (watch_calls c.args.part.now h n) a.stands.watchdog in (
+    let q = c.in_default.ensures.none_fires (is_fallback kept.kind) kept.timer (watch_calls c.args.part.now h n) a.stands.watchdog in (
       record {
         startup = startup_bytes c.args.part.now h n c.args.count c.lock.result c.matched.result c.args.self.now.startup c.bytes-in_default.new.self c.lock.ensures c.matched.ensures c.bytes-in_default.ensures.stands l a.stands.startup;
         watchdog = subst (λ t. WatchesFor (is_fallback kept.kind) kept.timer c.bytes.new.self t) (sym (calls_alike c.args.part.now h n c.args.count c.args.eos l f)) q.0;

@@ -11,7 +11,7 @@ select-tells g c =
       refused = opened_refused old new new.rest new.refusal c.args.name.now c.result c.ensures.after;
       err = opened_err old new new.rest new.refusal c.result c.ensures.after;
       asks = opened_asks old new new.rest new.refusal c.args.name.now c.result c.ensures.after;
-      once = record { selects = c.ensures.once; ends = omega (arith, c.ensures.ends) };
+      at_most_one_more = record { selects = c.ensures.at_most_one_more; ends = omega (arith, c.ensures.ends) };
       stays = record { map = refl; faults = c.ensures.counts.faults.rises; absences = c.ensures.counts.absences.rises };
       fits = (c.ensures.counts.faults.fits, c.ensures.counts.absences.fits);
     }
@@ -27,7 +27,7 @@ read-tells g c =
       length = c.ensures.length;
       no_end = read_no_end old new c.result c.ensures.ok;
       failed = failed_read old new c.result c.ensures.err;
-      asks = record { asked = refl; selects = read_selects old new c.result c.ensures.ok c.ensures.err; ends = c.ensures.once };
+      asks = record { asked = refl; selects = read_selects old new c.result c.ensures.ok c.ensures.err; ends = c.ensures.at_most_one_more };
       stays = record { map = refl; faults = c.ensures.counts.faults.rises; absences = c.ensures.counts.absences.rises };
       fits = (c.ensures.counts.faults.fits, c.ensures.counts.absences.fits);
     }

@@ -24,7 +24,7 @@ erase-tells c =
         absences = p.absences;
         write_faults = c.ensures.write_faults.rises;
       };
-      sized = refl;
+      known_length = refl;
       fits = c.ensures.write_faults.fits;
     }
 
@@ -47,7 +47,7 @@ program-tells c =
         absences = p.absences;
         write_faults = c.ensures.write_faults.rises;
       };
-      sized = refl;
+      known_length = refl;
       fits = c.ensures.write_faults.fits;
     }
 
@@ -61,7 +61,7 @@ attach-tells c =
       err = search rules;
       asks = attach_asks old new c.args.name.now c.ensures.after;
       stays = attach_stays old new c.args.name.now c.ensures.after c.ensures.faults.rises c.ensures.absences.rises;
-      sized = refl;
+      known_length = refl;
       bytes = c.ensures.bytes;
       fits = (c.ensures.faults.fits, c.ensures.absences.fits);
     }
@@ -74,9 +74,9 @@ read_at-tells c =
       read = search rules;
       length = c.ensures.length;
       seen = read_sees old new c.args.place (length c.args.buf.now) c.ensures.after c.new.buf.now c.result c.ensures.length c.ensures.answer c.ensures.read;
-      quiet = search rules;
+      no_fault = search rules;
       failed = search rules;
       only = read_stays old new c.args.place (length c.args.buf.now) c.ensures.after c.ensures.faults.rises;
-      sized = refl;
+      known_length = refl;
       fits = c.ensures.faults.fits;
     }

@@ -10,7 +10,7 @@ returns-in_err-write_rows-clause-prefix g c =
 pub returns-clause-whole : goal.returns-clause-whole
 returns-clause-whole g c =
     let s = g.S.Sink in
-    text_put c.write_all.result (s.state c.args.out.now).written (s.state c.write_rows.new.out).written (s.state c.write_all.new.sink).written c.args.self.now c.deref.result.now (sym c.self.view_is ∙ sym c.deref.ensures.value) c.in_ok-write_rows.ensures.whole c.write_all.ensures.ok
+    text_put c.write_all.result (s.state c.args.out.now).written (s.state c.write_rows.new.out).written (s.state c.write_all.new.sink).written c.args.self.now c.deref.result.now (sym c.self.view_is ∙ sym c.deref.ensures.value) c.in_ok-write_rows.ensures.whole c.write_all.ensures.appends
 
 pub returns-clause-prefix : goal.returns-clause-prefix
 returns-clause-prefix g c =

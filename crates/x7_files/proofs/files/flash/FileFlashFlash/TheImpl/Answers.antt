@@ -17,7 +17,7 @@ attach-tells g c =
         absences = c.ensures.absences.rises;
         unwritten = unknown_unwritten old new (attach_write_faults old new c.result c.ensures.after);
       };
-      sized = tt;
+      known_length = tt;
       bytes = tt;
       fits = (c.ensures.faults.fits, c.ensures.absences.fits);
     }
@@ -30,10 +30,10 @@ read_at-tells g c =
       read = unknown_read_at c.result;
       length = c.ensures.length;
       seen = on_ok c.result (λ i h. refl);
-      quiet = quiet_read_at old new new.file c.result c.ensures.ok;
+      no_fault = quiet_read_at old new new.file c.result c.ensures.ok;
       failed = failed_read_at old new new.file c.result c.ensures.err;
-      only = only_reads old new c.result c.requires.attached c.ensures.open c.ensures.ok c.ensures.err c.ensures.faults.rises;
-      sized = tt;
+      only = only_reads old new c.result c.requires.attached c.ensures.is_open c.ensures.ok c.ensures.err c.ensures.faults.rises;
+      known_length = tt;
       fits = c.ensures.faults.fits;
     }
 
@@ -48,7 +48,7 @@ erase-tells g c =
       moment = omega arith;
       failed = failed_write old new new.file c.result c.ensures.err;
       only = only_writes old new c.result c.requires.attached c.ensures.is_open c.ensures.ok c.ensures.err c.ensures.write_faults.rises;
-      sized = tt;
+      known_length = tt;
       fits = c.ensures.write_faults.fits;
     }
 
@@ -63,6 +63,6 @@ program-tells g c =
       moment = omega arith;
       failed = failed_write old new new.file c.result c.ensures.err;
       only = only_writes old new c.result c.requires.attached c.ensures.is_open c.ensures.ok c.ensures.err c.ensures.write_faults.rises;
-      sized = tt;
+      known_length = tt;
       fits = c.ensures.write_faults.fits;
     }
