@@ -141,7 +141,7 @@ loaded_words part kept startup far h n m ws l a few =
     record {
       ready = record {
         going = subst (λ (k : ℕ). IsGoing part kept startup g k) end going;
-        matched = ap (λ (s : Settings). s.is_matched) settings ∙ l.ready.matched;
+        matched = ap (λ (s : Settings). s.has_idcode) settings ∙ l.ready.matched;
         allows = ap (λ (s : Settings). forbids_reading s.ctl0) settings ∙ l.ready.allows;
         memory = same_then (memory_of part g) _ (put_over (written_frames part far (onto ws [])) m) memory (put_same (written_frames part (base_of part h) (onto ws [])) (written_frames part far (onto ws [])) (memory_of part h) m pairs l.ready.memory);
       };
