@@ -90,8 +90,8 @@ select_answer m name =
     else Ok tt
 
 -- the inputs after a select of the name
-abbrev pub after_select : InputsInMemory → List ℕ → InputsInMemory
-after_select m name =
+abbrev pub after_memory_select : InputsInMemory → List ℕ → InputsInMemory
+after_memory_select m name =
     record m {
       calls = numbered m.calls;
       faults = raised_if (next_fails m.calls) m.faults;
@@ -277,19 +277,19 @@ attach_answer f name =
     else Err Missing
 
 -- the absences after an attach under the name
-abbrev pub absences_after : FlashInMemory → List ℕ → ℕ
-absences_after f name =
+abbrev pub absences_after_attach : FlashInMemory → List ℕ → ℕ
+absences_after_attach f name =
     if flash_fails f || bytes_eq f.name name then f.absences else raised f.absences
 
 -- the flash after an attach under the name
-abbrev pub after_attach : FlashInMemory → List ℕ → FlashInMemory
-after_attach f name =
+abbrev pub after_memory_attach : FlashInMemory → List ℕ → FlashInMemory
+after_memory_attach f name =
     record f {
       calls = numbered f.calls;
       read_faults = raised_if (flash_fails f) f.read_faults;
       attached = not (flash_fails f) && bytes_eq f.name name;
       asked = f.asked || bytes_eq f.name name;
-      absences = absences_after f name;
+      absences = absences_after_attach f name;
     }
 
 -- the flash after a read of `count` bytes from a place on

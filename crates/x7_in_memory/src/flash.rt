@@ -3,7 +3,7 @@ ghost use Rattle.std.specs.Prelude.{◌≡◌, ◌+◌, ◌<◌, ◌≤◌, ◌^
 ghost use Rattle.x7_words.specs.Count.{IsLaterCount};
 ghost use Rattle.x7_words.specs.Word.{AreBytes};
 ghost use Rattle.x7_words.specs.Flash.{zip_with, cleared, erased_sector, replaced, sector_bytes, sector_place};
-ghost use Rattle.x7_in_memory.specs.Memory.{new_flash, with_failing_call, flash_fails, numbered, with_room, has_room, recorded, left_by, torn_byte, attach_answer, after_attach, after_read_at, write_refused, flash_write_fails, begun, after_refusal, after_flash_write, latest_tear, after_tear};
+ghost use Rattle.x7_in_memory.specs.Memory.{new_flash, with_failing_call, flash_fails, numbered, with_room, has_room, recorded, left_by, torn_byte, attach_answer, after_memory_attach, after_read_at, write_refused, flash_write_fails, begun, after_refusal, after_flash_write, latest_tear, after_tear};
 
 use crate::calls::Calls;
 use crate::record::Record;
@@ -257,7 +257,7 @@ impl Flash for MemoryFlash {
 
     fn attach(&mut self, name: &str) -> Result<(), SelectFault>
         ensures answer { result ≡ attach_answer self.old name.now }
-        ensures after { self.new ≡ after_attach self.old name.now }
+        ensures after { self.new ≡ after_memory_attach self.old name.now }
         ensures bytes { AreBytes self.new.bytes }
         ensures faults { IsLaterCount self.old.read_faults self.new.read_faults }
         ensures absences { IsLaterCount self.old.absences self.new.absences }

@@ -2,7 +2,7 @@
 ghost use Rattle.std.specs.Prelude.{◌≡◌, [], ◌<◌, ◌≤◌, ◌+◌, ◌^◌, take, drop, length, Some, None, true, is_some, is_err, OnOk, OnErr, IfOk};
 ghost use Rattle.x7_words.specs.Count.{IsLaterCount};
 ghost use Rattle.x7_words.specs.Input.{preceded, AtEnd};
-ghost use Rattle.x7_in_memory.specs.Memory.{next_fails, with_failing_call, no_calls, after_put, select_answer, after_select, read_count, after_read, known_inputs};
+ghost use Rattle.x7_in_memory.specs.Memory.{next_fails, with_failing_call, no_calls, after_put, select_answer, after_memory_select, read_count, after_read, known_inputs};
 
 use crate::calls::Calls;
 use crate::named_bytes::{NamedBytes, left_at, next_place, place_of};
@@ -114,7 +114,7 @@ impl Inputs for MemoryInputs {
 
     fn select(&mut self, name: &str) -> Result<(), SelectFault>
         ensures answer { result ≡ select_answer self.old name.now }
-        ensures after { self.new ≡ after_select self.old name.now }
+        ensures after { self.new ≡ after_memory_select self.old name.now }
         ensures at_most_one_more { self.new.selects ≤ self.old.selects + 1 }
         ensures ends { self.new.ends ≤ self.old.ends }
         ensures faults { IsLaterCount self.old.faults self.new.faults }

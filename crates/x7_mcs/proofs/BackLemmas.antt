@@ -11,7 +11,7 @@ use Rattle.x7_text.proofs.RowLemmas.{rows_full, rows_joined}
 use Rattle.x7_mcs.specs.Lines.{lines_of}
 use Rattle.x7_mcs.specs.DataRecords.{DataRecord, byte_at, covered, covers, extent, records_image, overlap, unless_covered, with_record}
 use Rattle.x7_mcs.specs.Flash.{FlashReading, after_lines, flash_in, mcs_of, with_end}
-use Rattle.x7_mcs.specs.Image.{reading_of}
+use Rattle.x7_mcs.specs.Image.{mcs_reading}
 use Rattle.x7_mcs.specs.Text.{base_line, block_start, data_line, mcs_text, row_lines}
 use Rattle.x7_mcs.proofs.PlaceLemmas.{within, end_is}
 use Rattle.x7_mcs.proofs.ReadLemmas.{read_base, read_free}
@@ -67,7 +67,7 @@ prefix_more xs x done f e h = record {
 -- what the text of bytes gives
 pub record Ends (n base : ℕ) (xs : List DataRecord) (text all : List ℕ) : Type 0 where
   pub reading : FlashReading
-  pub is : with_end (after_lines n (reading_of base false xs) (lines_of text)) ≡ Ok reading
+  pub is : with_end (after_lines n (mcs_reading base false xs) (lines_of text)) ≡ Ok reading
   pub image : records_image reading.records ≡ all
 
 pub ends_end : (n base : ℕ) (xs : List DataRecord) (done : List ℕ) → GiveJust xs done → Ends n base xs (codes ":00000001FF\n") done
@@ -89,26 +89,26 @@ abbrev pub AtBase : ℕ → ℕ → Type 0
 AtBase place base = (base ≡ 65536 * (place / 65536)) ⊎ (place % 65536 ≡ 0)
 
 read_block : (b : Bool) (n base place : ℕ) (xs : List DataRecord) (rest : List ℕ) → (place % 65536 == 0) ≡ b → place < 2 ^ 27 → AtBase place base
-    → (m : ℕ) × (after_lines n (reading_of base false xs) (lines_of ((if b then base_line (place / 65536) else []) ++ rest)) ≡ after_lines m (reading_of (65536 * (place / 65536)) false xs) (lines_of rest))
+    → (m : ℕ) × (after_lines n (mcs_reading base false xs) (lines_of ((if b then base_line (place / 65536) else []) ++ rest)) ≡ after_lines m (mcs_reading (65536 * (place / 65536)) false xs) (lines_of rest))
 read_block true n base place xs rest e h (inl i) = (n + 1, read_base n base (place / 65536) xs rest (omega arith))
 read_block true n base place xs rest e h (inr z) = (n + 1, read_base n base (place / 65536) xs rest (omega arith))
-read_block false n base place xs rest e h (inl i) = (n, ap (λ (v : ℕ). after_lines n (reading_of v false xs) (lines_of rest)) i)
+read_block false n base place xs rest e h (inl i) = (n, ap (λ (v : ℕ). after_lines n (mcs_reading v false xs) (lines_of rest)) i)
 read_block false n base place xs rest e h (inr z) = absurd (eq_false_not (place % 65536) e z)
 
 placed : (place : ℕ) → 65536 * (place / 65536) + place % 65536 ≡ place
 placed place = omega arith
 
 pub one_row : (n base place : ℕ) (xs : List DataRecord) (done r rest : List ℕ) → GiveJust xs done → place ≡ length done → 0 < length r → length r ≤ 16 → place % 16 ≡ 0 → place + length r ≤ 2 ^ 27 → AreBytes r → AtBase place base
-    → (m : ℕ) × (after_lines n (reading_of base false xs) (lines_of ((block_start place ++ data_line (place % 65536) r) ++ rest)) ≡ after_lines m (reading_of (65536 * (place / 65536)) false (record { place = place; bytes = r } ∷ xs)) (lines_of rest))
+    → (m : ℕ) × (after_lines n (mcs_reading base false xs) (lines_of ((block_start place ++ data_line (place % 65536) r) ++ rest)) ≡ after_lines m (mcs_reading (65536 * (place / 65536)) false (record { place = place; bytes = r } ∷ xs)) (lines_of rest))
 one_row n base place xs done r rest f e h l a w b i =
     let p = read_block (place % 65536 == 0) n base place xs (data_line (place % 65536) r ++ rest) refl (omega arith) i in
     let q : ℕ = 65536 * (place / 65536) + place % 65536 in
     let is : 65536 * (place / 65536) + place % 65536 ≡ place = placed place in (
       p.0 + 1,
-      ap (λ t. after_lines n (reading_of base false xs) (lines_of t)) (append_assoc (block_start place) (data_line (place % 65536) r) rest) ∙ p.1
+      ap (λ t. after_lines n (mcs_reading base false xs) (lines_of t)) (append_assoc (block_start place) (data_line (place % 65536) r) rest) ∙ p.1
           ∙ read_free p.0 (65536 * (place / 65536)) (place % 65536) xs r rest b (omega arith) (omega arith) (omega arith)
           (free_piece p.0 xs done r (65536 * (place / 65536) + place % 65536) f (is ∙ e) h (omega (arith, is)))
-          ∙ ap (λ (k : ℕ). after_lines (p.0 + 1) (reading_of (65536 * (place / 65536)) false (record { place = k; bytes = r } ∷ xs)) (lines_of rest)) is,
+          ∙ ap (λ (k : ℕ). after_lines (p.0 + 1) (mcs_reading (65536 * (place / 65536)) false (record { place = k; bytes = r } ∷ xs)) (lines_of rest)) is,
     )
 
 -- what holds before rows, if any
@@ -150,7 +150,7 @@ rows_read (r ∷ rs) n base place xs done all f e is full a w b =
     (ap (λ (k : ℕ). k + length r) e ∙ sym (length-append done r)) (is ∙ sym (append_assoc done r (flat_map (λ (s : List ℕ). s) rs))) (rest_full r rs full) (next_aligned place r rs full a.0) (omega (arith, long, w)) both.1 in
     record {
       reading = more.reading;
-      is = ap with_end (ap (λ t. after_lines n (reading_of base false xs) (lines_of t)) (append_assoc (block_start place ++ data_line (place % 65536) r) (row_lines (place + length r) rs) (codes ":00000001FF\n")) ∙ p.1) ∙ more.is;
+      is = ap with_end (ap (λ t. after_lines n (mcs_reading base false xs) (lines_of t)) (append_assoc (block_start place ++ data_line (place % 65536) r) (row_lines (place + length r) rs) (codes ":00000001FF\n")) ∙ p.1) ∙ more.is;
       image = more.image;
     }
 

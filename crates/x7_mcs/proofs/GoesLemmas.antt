@@ -5,7 +5,7 @@ use Rattle.std.proofs.lemmas.Nat.Bits.{bit_at-zero}
 use Rattle.x7_mcs.specs.Lines.{bare}
 use Rattle.x7_mcs.specs.DataRecords.{DataRecord, byte_at, extent, records_image}
 use Rattle.x7_mcs.specs.Flash.{after_lines, flash_in, of_no_line, with_end}
-use Rattle.x7_mcs.specs.Image.{McsLinesState, FailsAsReading, HoldsRecords, TookRecords, reading_of, is_marked}
+use Rattle.x7_mcs.specs.Image.{McsLinesState, FailsAsReading, HoldsRecords, TookRecords, mcs_reading, is_marked}
 use Rattle.x7_mcs.specs.McsLines.{HasMcsFault, HasReadRecords, flash_of_lines}
 use Rattle.x7_mcs.specs.declared.fault.McsFault.{McsFault}
 use Rattle.x7_mcs.specs.declared.fault.McsFault.TheVariants as fault
@@ -23,10 +23,10 @@ image_held xs bytes marks h = fill_by_all (byte_at xs) bytes (extent xs) 255 h.l
 module _ (lines : List (List ℕ)) where
   pub gives_bytes : (s : McsLinesState) → TookRecords (after_lines 1 of_no_line (bare lines)) s → s.has_ended ≡ true → flash_of_lines lines ≡ Ok s.bytes
   gives_bytes s t e =
-      ap (λ r. flash_in (with_end r)) t.came ∙ ap (λ (b : Bool). flash_in (if b then Ok (reading_of s.base s.has_ended t.records) else Err fault.NoEnd)) e ∙ ap Ok (sym (image_held t.records s.bytes s.marks t.holds))
+      ap (λ r. flash_in (with_end r)) t.came ∙ ap (λ (b : Bool). flash_in (if b then Ok (mcs_reading s.base s.has_ended t.records) else Err fault.NoEnd)) e ∙ ap Ok (sym (image_held t.records s.bytes s.marks t.holds))
 
   pub gives_no_end : (s : McsLinesState) → TookRecords (after_lines 1 of_no_line (bare lines)) s → s.has_ended ≡ false → flash_of_lines lines ≡ Err fault.NoEnd
-  gives_no_end s t e = ap (λ r. flash_in (with_end r)) t.came ∙ ap (λ (b : Bool). flash_in (if b then Ok (reading_of s.base s.has_ended t.records) else Err fault.NoEnd)) e
+  gives_no_end s t e = ap (λ r. flash_in (with_end r)) t.came ∙ ap (λ (b : Bool). flash_in (if b then Ok (mcs_reading s.base s.has_ended t.records) else Err fault.NoEnd)) e
 
   pub gives_fault : (f : McsFault) → FailsAsReading (after_lines 1 of_no_line (bare lines)) f → HasMcsFault f lines
   gives_fault f (inl h) = inl h.0

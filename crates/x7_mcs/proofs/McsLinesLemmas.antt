@@ -12,7 +12,7 @@ use Rattle.x7_mcs.specs.Lines.{bare, lines_of, without_return}
 use Rattle.x7_mcs.specs.DataRecords.{DataRecord}
 use Rattle.x7_mcs.specs.McsLines.{AreGoodWith, HasMcsFault, HasReadRecords, flash_of_lines}
 use Rattle.x7_mcs.specs.Record.{sum_byte}
-use Rattle.x7_mcs.specs.Image.{McsLinesState, FailsAsReading, TookRecords, reading_of}
+use Rattle.x7_mcs.specs.Image.{McsLinesState, FailsAsReading, TookRecords, mcs_reading}
 use Rattle.x7_mcs.specs.Text.{data_line}
 use Rattle.x7_mcs.specs.declared.fault.McsFault.{McsFault}
 use Rattle.x7_mcs.specs.declared.fault.McsFault.TheVariants as fault
@@ -45,20 +45,20 @@ then_ok (Err f) = refl
 -- ---- a line after those that were read
 
 module _ (b : McsLinesState) (lines : List (List ℕ)) (n : ℕ) (m : n ≡ length lines + 1) (t : HasReadRecords b lines) where
-  read_after : (ts : List (List ℕ)) → after_lines 1 of_no_line (map without_return lines ++ ts) ≡ after_lines n (reading_of b.base b.has_ended t.records) ts
+  read_after : (ts : List (List ℕ)) → after_lines 1 of_no_line (map without_return lines ++ ts) ≡ after_lines n (mcs_reading b.base b.has_ended t.records) ts
   read_after ts =
       let k : 1 + length (map without_return lines) ≡ n = omega (arith, m, length-map lines without_return) in
       in_turn (map without_return lines) 1 of_no_line ts ∙ ap (λ r. and_then r (λ s. after_lines (1 + length (map without_return lines)) s ts)) t.came
-      ∙ ap (λ (j : ℕ). after_lines j (reading_of b.base b.has_ended t.records) ts) k
+      ∙ ap (λ (j : ℕ). after_lines j (mcs_reading b.base b.has_ended t.records) ts) k
 
-  pub line_read : (d : McsLinesState) (line : List ℕ) → TookRecords (after_line n (reading_of b.base b.has_ended t.records) (without_return line)) d → HasReadRecords d (lines ++ line ∷ [])
+  pub line_read : (d : McsLinesState) (line : List ℕ) → TookRecords (after_line n (mcs_reading b.base b.has_ended t.records) (without_return line)) d → HasReadRecords d (lines ++ line ∷ [])
   line_read d line w = record {
     records = w.records;
-    came = ap (after_lines 1 of_no_line) (map_push without_return lines line) ∙ read_after (without_return line ∷ []) ∙ then_ok (after_line n (reading_of b.base b.has_ended t.records) (without_return line)) ∙ w.came;
+    came = ap (after_lines 1 of_no_line) (map_push without_return lines line) ∙ read_after (without_return line ∷ []) ∙ then_ok (after_line n (mcs_reading b.base b.has_ended t.records) (without_return line)) ∙ w.came;
     holds = w.holds;
   }
 
-  pub line_fails : (f : McsFault) (line more : List ℕ) → FailsAsReading (after_line n (reading_of b.base b.has_ended t.records) (without_return line)) f → HasMcsFault f (lines ++ line ∷ split more)
+  pub line_fails : (f : McsFault) (line more : List ℕ) → FailsAsReading (after_line n (mcs_reading b.base b.has_ended t.records) (without_return line)) f → HasMcsFault f (lines ++ line ∷ split more)
   line_fails f line more (inl none) = inl none.0
   line_fails f line more (inr h) = gives_fault (lines ++ line ∷ split more) f (inr (
       ap (after_lines 1 of_no_line) (bare_after lines (line ∷ split more) (some_after line (split more)) ∙ ap (λ ts. map without_return lines ++ ts) (bare_more line (split more) (split_some more)))
@@ -66,46 +66,46 @@ module _ (b : McsLinesState) (lines : List (List ℕ)) (n : ℕ) (m : n ≡ leng
       ))
 
   pub line_came : {A : Type 0} (r : Result A McsFault) (d : McsLinesState) (line bare : List ℕ) → bare ≡ without_return line
-      → MatchResult r (λ _. TookRecords (after_line n (reading_of b.base b.has_ended t.records) bare) d) (λ f. FailsAsReading (after_line n (reading_of b.base b.has_ended t.records) bare) f)
+      → MatchResult r (λ _. TookRecords (after_line n (mcs_reading b.base b.has_ended t.records) bare) d) (λ f. FailsAsReading (after_line n (mcs_reading b.base b.has_ended t.records) bare) f)
       → MatchResult r (λ _. HasReadRecords d (lines ++ line ∷ [])) (λ f. (more : List ℕ) → HasMcsFault f (lines ++ line ∷ split more))
-  line_came (Ok _) d line bare e w = line_read d line (subst (λ l. TookRecords (after_line n (reading_of b.base b.has_ended t.records) l) d) e w)
-  line_came (Err f) d line bare e w = λ more. line_fails f line more (subst (λ l. FailsAsReading (after_line n (reading_of b.base b.has_ended t.records) l) f) e w)
+  line_came (Ok _) d line bare e w = line_read d line (subst (λ l. TookRecords (after_line n (mcs_reading b.base b.has_ended t.records) l) d) e w)
+  line_came (Err f) d line bare e w = λ more. line_fails f line more (subst (λ l. FailsAsReading (after_line n (mcs_reading b.base b.has_ended t.records) l) f) e w)
 
   -- memory is wanting at a good line
-  pub line_wants : (f : McsFault) (line : List ℕ) → FailsAsReading (after_line n (reading_of b.base b.has_ended t.records) (without_return line)) f → f ≡ fault.NoMemory → AreGoodWith lines line
+  pub line_wants : (f : McsFault) (line : List ℕ) → FailsAsReading (after_line n (mcs_reading b.base b.has_ended t.records) (without_return line)) f → f ≡ fault.NoMemory → AreGoodWith lines line
   line_wants f line (inl none) want =
-      inl (none.1.0, ap (after_lines 1 of_no_line) (map_push without_return lines line) ∙ read_after (without_return line ∷ []) ∙ then_ok (after_line n (reading_of b.base b.has_ended t.records) (without_return line)) ∙ none.1.1)
-  line_wants f line (inr h) want = absurd (reported_one (without_return line) n (reading_of b.base b.has_ended t.records) (h ∙ ap Err want))
+      inl (none.1.0, ap (after_lines 1 of_no_line) (map_push without_return lines line) ∙ read_after (without_return line ∷ []) ∙ then_ok (after_line n (mcs_reading b.base b.has_ended t.records) (without_return line)) ∙ none.1.1)
+  line_wants f line (inr h) want = absurd (reported_one (without_return line) n (mcs_reading b.base b.has_ended t.records) (h ∙ ap Err want))
 
   pub line_wanted : {A : Type 0} (r : Result A McsFault) (d : McsLinesState) (line bare : List ℕ) → bare ≡ without_return line
-      → MatchResult r (λ _. TookRecords (after_line n (reading_of b.base b.has_ended t.records) bare) d) (λ f. FailsAsReading (after_line n (reading_of b.base b.has_ended t.records) bare) f)
+      → MatchResult r (λ _. TookRecords (after_line n (mcs_reading b.base b.has_ended t.records) bare) d) (λ f. FailsAsReading (after_line n (mcs_reading b.base b.has_ended t.records) bare) f)
       → IfErr r (λ f. f ≡ fault.NoMemory → AreGoodWith lines line)
   line_wanted (Ok _) d line bare e w = tt
-  line_wanted (Err f) d line bare e w = line_wants f line (subst (λ l. FailsAsReading (after_line n (reading_of b.base b.has_ended t.records) l) f) e w)
+  line_wanted (Err f) d line bare e w = line_wants f line (subst (λ l. FailsAsReading (after_line n (mcs_reading b.base b.has_ended t.records) l) f) e w)
 
   -- the last line
   module _ (line : List ℕ) where
-    last_is : after_lines 1 of_no_line (bare (lines ++ line ∷ [])) ≡ after_line n (reading_of b.base b.has_ended t.records) line
+    last_is : after_lines 1 of_no_line (bare (lines ++ line ∷ [])) ≡ after_line n (mcs_reading b.base b.has_ended t.records) line
     last_is =
         ap (after_lines 1 of_no_line) (bare_after lines (line ∷ []) (some_after line []))
-        ∙ read_after (line ∷ []) ∙ then_ok (after_line n (reading_of b.base b.has_ended t.records) line)
+        ∙ read_after (line ∷ []) ∙ then_ok (after_line n (mcs_reading b.base b.has_ended t.records) line)
 
-    last_took : (d : McsLinesState) → TookRecords (after_line n (reading_of b.base b.has_ended t.records) line) d → TookRecords (after_lines 1 of_no_line (bare (lines ++ line ∷ []))) d
+    last_took : (d : McsLinesState) → TookRecords (after_line n (mcs_reading b.base b.has_ended t.records) line) d → TookRecords (after_lines 1 of_no_line (bare (lines ++ line ∷ []))) d
     last_took d w = record { records = w.records; came = last_is ∙ w.came; holds = w.holds }
 
-    pub last_bytes : (d : McsLinesState) → TookRecords (after_line n (reading_of b.base b.has_ended t.records) line) d → d.has_ended ≡ true → flash_of_lines (lines ++ line ∷ []) ≡ Ok d.bytes
+    pub last_bytes : (d : McsLinesState) → TookRecords (after_line n (mcs_reading b.base b.has_ended t.records) line) d → d.has_ended ≡ true → flash_of_lines (lines ++ line ∷ []) ≡ Ok d.bytes
     last_bytes d w e = gives_bytes (lines ++ line ∷ []) d (last_took d w) e
 
-    pub last_no_end : (d : McsLinesState) → TookRecords (after_line n (reading_of b.base b.has_ended t.records) line) d → d.has_ended ≡ false → HasMcsFault fault.NoEnd (lines ++ line ∷ [])
+    pub last_no_end : (d : McsLinesState) → TookRecords (after_line n (mcs_reading b.base b.has_ended t.records) line) d → d.has_ended ≡ false → HasMcsFault fault.NoEnd (lines ++ line ∷ [])
     last_no_end d w e = inr (gives_no_end (lines ++ line ∷ []) d (last_took d w) e)
 
-    pub last_fault : (f : McsFault) → FailsAsReading (after_line n (reading_of b.base b.has_ended t.records) line) f → HasMcsFault f (lines ++ line ∷ [])
+    pub last_fault : (f : McsFault) → FailsAsReading (after_line n (mcs_reading b.base b.has_ended t.records) line) f → HasMcsFault f (lines ++ line ∷ [])
     last_fault f (inl none) = inl none.0
     last_fault f (inr h) = gives_fault (lines ++ line ∷ []) f (inr (last_is ∙ h))
 
-    pub last_wants : (f : McsFault) → FailsAsReading (after_line n (reading_of b.base b.has_ended t.records) line) f → f ≡ fault.NoMemory → AreGoodWith lines line
+    pub last_wants : (f : McsFault) → FailsAsReading (after_line n (mcs_reading b.base b.has_ended t.records) line) f → f ≡ fault.NoMemory → AreGoodWith lines line
     last_wants f (inl none) want = inr (none.1.0, last_is ∙ none.1.1)
-    last_wants f (inr h) want = absurd (reported_one line n (reading_of b.base b.has_ended t.records) (h ∙ ap Err want))
+    last_wants f (inr h) want = absurd (reported_one line n (mcs_reading b.base b.has_ended t.records) (h ∙ ap Err want))
 
 -- ---- the line of a row
 
@@ -120,10 +120,10 @@ pub row_cut : (text rest : List ℕ) (a : ℕ) (r : List ℕ) → text ≡ data_
 row_cut text rest a r e = ap split (e ∙ append_assoc (row_line a r) (10 ∷ []) rest) ∙ split_line (row_line a r) rest (row_free a r)
 
 pub row_is : (n base a : ℕ) (has_ended : Bool) (xs : List DataRecord) (r : List ℕ) → has_ended ≡ false → AreBytes r → length r ≡ 16 → a ≤ 65520
-    → after_data n (reading_of base has_ended xs) a r ≡ after_line n (reading_of base has_ended xs) (without_return (row_line a r))
+    → after_data n (mcs_reading base has_ended xs) a r ≡ after_line n (mcs_reading base has_ended xs) (without_return (row_line a r))
 row_is n base a has_ended xs r running bytes long low =
-    ap (λ (b : Bool). after_data n (reading_of base b xs) a r) running
-    ∙ sym (then_ok (after_data n (reading_of base false xs) a r)) ∙ sym (read_data n base a xs r [] bytes (omega (arith, long)) (omega (arith, long, low)) (omega (arith, low)))
-    ∙ ap (λ t. after_lines n (reading_of base false xs) (lines_of t)) (append-nil (data_line a r)) ∙ ap (after_lines n (reading_of base false xs)) (line_first (row_line a r) [] (row_free a r))
-    ∙ then_ok (after_line n (reading_of base false xs) (without_return (row_line a r)))
-    ∙ ap (λ (b : Bool). after_line n (reading_of base b xs) (without_return (row_line a r))) (sym running)
+    ap (λ (b : Bool). after_data n (mcs_reading base b xs) a r) running
+    ∙ sym (then_ok (after_data n (mcs_reading base false xs) a r)) ∙ sym (read_data n base a xs r [] bytes (omega (arith, long)) (omega (arith, long, low)) (omega (arith, low)))
+    ∙ ap (λ t. after_lines n (mcs_reading base false xs) (lines_of t)) (append-nil (data_line a r)) ∙ ap (after_lines n (mcs_reading base false xs)) (line_first (row_line a r) [] (row_free a r))
+    ∙ then_ok (after_line n (mcs_reading base false xs) (without_return (row_line a r)))
+    ∙ ap (λ (b : Bool). after_line n (mcs_reading base b xs) (without_return (row_line a r))) (sym running)

@@ -76,13 +76,13 @@ pub record McsLinesState : Type 0 where
   pub marks : List ℕ
 
 -- the reading of the lines so far, by its base, whether a record 01 stood, and its records
-abbrev pub reading_of : ℕ → Bool → List DataRecord → FlashReading
-reading_of base has_ended records = record { base = base; has_ended = has_ended; records = records }
+abbrev pub mcs_reading : ℕ → Bool → List DataRecord → FlashReading
+mcs_reading base has_ended records = record { base = base; has_ended = has_ended; records = records }
 
 -- a reading came to this base, whether a record 01 stood, and records that these bytes and marks stand for
 pub record TookRecords (reading : Result FlashReading McsFault) (s : McsLinesState) : Type 0 where
   pub records : List DataRecord
-  pub came : reading ≡ Ok (reading_of s.base s.has_ended records)
+  pub came : reading ≡ Ok (mcs_reading s.base s.has_ended records)
   pub holds : HoldsRecords records s.bytes s.marks
 
 -- a reading has no fault

@@ -3,7 +3,7 @@ use Rattle.std.specs.Prelude.{◌≡◌, ◌⊎◌, ℕ, List, ◌∷◌, Result
 use Rattle.x7_mcs.specs.Flash.{FlashReading, after_meaning}
 use Rattle.x7_mcs.specs.DataRecords.{DataRecord, with_record}
 use Rattle.x7_mcs.specs.Record.{meaning_of}
-use Rattle.x7_mcs.specs.Image.{FailsAsReading, HoldsRecords, TookRecords, reading_of}
+use Rattle.x7_mcs.specs.Image.{FailsAsReading, HoldsRecords, TookRecords, mcs_reading}
 use Rattle.x7_mcs.specs.declared.fault.McsFault.{McsFault}
 use Rattle.x7_mcs.specs.declared.fault.McsFault.TheVariants as fault
 use Rattle.x7_mcs.specs.declared.image.Image.{Image}
@@ -31,7 +31,7 @@ IsRecordRefused n records r f = ((f ≡ fault.NoMemory) × (with_record n record
 
 -- what the lines so far gave: a context's base and end, and these records
 abbrev pub flash_reading_at : Context → List DataRecord → FlashReading
-flash_reading_at context records = reading_of context.base context.has_ended records
+flash_reading_at context records = mcs_reading context.base context.has_ended records
 
 -- what lines give with the record of line n, by its bytes, after this context and these records
 abbrev pub after_record : ℕ → Context → List DataRecord → List ℕ → Result FlashReading McsFault

@@ -3,7 +3,7 @@ use Rattle.x7_text.proofs.LineReaderLemmas.{prefix_on, wants_here}
 use Rattle.x7_text.proofs.PieceLemmas.{at_none, at_some, only_line}
 use Rattle.x7_mcs.specs.Flash.{after_line}
 use Rattle.x7_mcs.specs.McsLines.{AreGoodWith, HasMcsFault, mcs_lines_state}
-use Rattle.x7_mcs.specs.Image.{FailsAsReading, TookRecords, reading_of}
+use Rattle.x7_mcs.specs.Image.{FailsAsReading, TookRecords, mcs_reading}
 use Rattle.x7_mcs.proofs.McsLinesLemmas.{line_fails, line_read, line_wants, row_cut, row_is, row_line}
 use Rattle.std.proofs.lemmas.Result.{err_from_is_err_and}
 use Rattle.x7_mcs.proofs.mcs_lines.McsLines.take_line.Goals as goal
@@ -48,7 +48,7 @@ returns-2-clause-read c = λ lines m t.
       line = line;
       cut = (at_some c.args.text.now line c.first_line.result.1 c.in-Some-more.rest c.in-Some-more.is c.first_line.ensures).0;
       read = line_read b lines c.args.n m t d line
-          (subst (λ l. TookRecords (after_line c.args.n (reading_of b.base b.has_ended t.records) l) d) c.without_return.ensures (c.in_ok-put_bare_line.ensures t.records t.holds));
+          (subst (λ l. TookRecords (after_line c.args.n (mcs_reading b.base b.has_ended t.records) l) d) c.without_return.ensures (c.in_ok-put_bare_line.ensures t.records t.holds));
     }
 
 pub returns-in_err-put_bare_line-clause-read : goal.returns-in_err-put_bare_line-clause-read
@@ -61,7 +61,7 @@ returns-in_err-put_bare_line-clause-read c =
     let cut = (at_some c.args.text.now line c.first_line.result.1 c.in-Some-more.rest c.in-Some-more.is c.first_line.ensures).0 in
     subst (λ ls. HasMcsFault c.in_err-put_bare_line.field-0.0 (lines ++ ls)) (sym (prefix_on c.args.text.now rest (line ∷ []) cut more))
     (line_fails b lines c.args.n m t c.in_err-put_bare_line.field-0.0 line (rest ++ more)
-    (subst (λ l. FailsAsReading (after_line c.args.n (reading_of b.base b.has_ended t.records) l) c.in_err-put_bare_line.field-0.0) c.without_return.ensures (c.in_err-put_bare_line.ensures t.records t.holds))))
+    (subst (λ l. FailsAsReading (after_line c.args.n (mcs_reading b.base b.has_ended t.records) l) c.in_err-put_bare_line.field-0.0) c.without_return.ensures (c.in_err-put_bare_line.ensures t.records t.holds))))
 
 pub returns-in_err-take_row-clause-memory : goal.returns-in_err-take_row-clause-memory
 returns-in_err-take_row-clause-memory c =
@@ -88,4 +88,4 @@ returns-in_err-put_bare_line-clause-memory c =
     wants_here AreGoodWith lines [] c.args.text.now c.args.text.now line rest refl cut
     (subst (λ ls. AreGoodWith ls line) (sym (append-nil lines))
     (line_wants b lines c.args.n m t c.in_err-put_bare_line.field-0.0 line
-    (subst (λ l. FailsAsReading (after_line c.args.n (reading_of b.base b.has_ended t.records) l) c.in_err-put_bare_line.field-0.0) c.without_return.ensures (c.in_err-put_bare_line.ensures t.records t.holds)) want)))
+    (subst (λ l. FailsAsReading (after_line c.args.n (mcs_reading b.base b.has_ended t.records) l) c.in_err-put_bare_line.field-0.0) c.without_return.ensures (c.in_err-put_bare_line.ensures t.records t.holds)) want)))
