@@ -44,8 +44,8 @@ abbrev pub writes_check : ℕ → Access → Bool
 writes_check check (Write register w) = register == number_of Crc && w == check
 writes_check check _ = false
 
--- an access at which the check was right: RCRC is executed, or the running check is written to CRC;
--- here by the command executed and the check
+-- an access clears the check without a fault, by the command executed and the running check: RCRC is executed, or the
+-- running check is written to CRC
 abbrev pub clears_by : Option ℕ → ℕ → Access → Bool
 clears_by command check access = is_command (code_of Rcrc) command || writes_check check access
 

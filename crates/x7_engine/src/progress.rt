@@ -16,7 +16,7 @@ use x7_regs::{Command, Reg};
 /// The bits of an idcode but its version, bits 31 to 28, which isn't compared (this project's choice).
 const VERSIONLESS: u32 = 0x0FFF_FFFF;
 
-/// Whether a written idcode is the part's.
+/// Whether a written word is the part's idcode, whatever its version.
 pub(crate) fn is_same_idcode(idcode: u32, word: u32) -> bool
     ensures { result ≡ same_idcode idcode word }
 {
@@ -33,7 +33,7 @@ fn writes_check(check: u32, reg: Reg, word: u32) -> bool
     }
 }
 
-/// Whether a written word finds the check right: RCRC is executed, or the word is the running check.
+/// Whether a written word clears the check without a fault: RCRC is executed, or the running check is written to CRC.
 fn clears_by(executed: Option<u8>, check: u32, reg: Reg, word: u32) -> bool
     ensures { result ≡ clears_by executed check (word_to reg word) }
 {

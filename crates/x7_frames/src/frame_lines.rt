@@ -43,7 +43,7 @@ impl<'p> FrameLines<'p> {
         Ok(FrameLines { part, reading })
     }
 
-    /// Takes a line, whose number `n` counts from 1. After an error nothing more may be taken. Memory is wanting only
+    /// Takes a line, whose number `n` counts from 1. After an error the lines are of no more use. Memory is wanting only
     /// for a good line.
     pub fn take(&mut self, n: u64, line: &[u8]) -> Result<(), FramesFault>
         ensures part { self.new.part ≡ self.old.part }

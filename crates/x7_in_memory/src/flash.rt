@@ -72,7 +72,7 @@ fn are_bytes(bytes: &[u8])
     ensures { AreBytes bytes.now }
 {}
 
-/// Puts into the target each byte AND the given one.
+/// Puts into the target what programming makes of the bytes: each bit is 1 where it was and the given one is.
 fn put_cleared(target: &mut Vec<u8>, bytes: &[u8], given: &[u8])
     requires lengths { length bytes.now ≡ length given.now }
     requires room { length given.now ≤ vec_capacity target.old }

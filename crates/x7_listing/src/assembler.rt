@@ -12,7 +12,7 @@ use thiserror::Error;
 use x7_text::read_lines;
 use x7_words::NoMemory;
 
-/// How many bytes a text may stand for.
+/// How many bytes a text may stand for: 64 MiB, as a stream has at most.
 pub const ASM_LIMIT: usize = 67_108_864;
 
 /// Why a text stands for no bytes. Lines count from 1.
@@ -51,7 +51,8 @@ impl From<AllocError> for AsmFault {
     }
 }
 
-/// Assembles a text: the bytes of its header and lines, or its first line that is none or at which they pass the limit.
+/// Assembles a text: the bytes of its header and lines, or the first line that is none of the assembler's, or at which
+/// the bytes pass `ASM_LIMIT`.
 ///
 /// The listing of a stream assembles back to the stream, unless memory runs out, which it does only at the first line
 /// or at one up to which all are good.

@@ -1,4 +1,4 @@
-//! The table of a part's columns, in which addresses and slots are searched by halves.
+//! The table of a part's columns, in which addresses and slots are found by binary search.
 ghost use Rattle.std.specs.Prelude.{◌≡◌, ◌<◌, ◌≤◌, ◌+◌, ◌-◌, ◌⊎◌, ℕ, length, slice_index, slice_index_or, Contains, IfSome, IfNone};
 ghost use Rattle.x7_part.specs.AddressOrder.{IsFollowedBy, IsLastIn};
 ghost use Rattle.x7_part.specs.Column.{IsIn, column_addresses, column_slots, AreColumns};

@@ -18,6 +18,7 @@ pub(crate) enum Damage {
 pub(crate) struct Damaged {
     pub(crate) named: Named,
     damage: Damage,
+    /// The first number.
     pub(crate) from: u32,
     /// The first number after the last.
     pub(crate) to: u32,
@@ -46,7 +47,8 @@ fn change_bit(bytes: &mut [u8], number: u32) {
 }
 
 impl Damaged {
-    /// The damages of `NAME OTHER FROM TO`: of the other, which stands in `others`, under the name.
+    /// Reads `NAME OTHER FROM TO`: the bytes of OTHER, to be damaged at each number from FROM up to TO - 1, given under
+    /// NAME.
     pub(crate) fn new(
         alloc: Global,
         damage: Damage,

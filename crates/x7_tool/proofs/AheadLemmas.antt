@@ -9,7 +9,7 @@ use Rattle.x7_listing.proofs.BoundLemmas.{few_held, listing_held}
 use Rattle.x7_listing.specs.Listing.{listing_of}
 use Rattle.x7_listing.specs.StreamListing.{stream_listing}
 use Rattle.x7_forms.specs.declared.bad_input.InputFault.TheVariants as input
-use Rattle.x7_tool.specs.Ahead.{GivesNear, HasWritten, IsLonger, ReadsNear, StaysNear, StaysNearBy, most_ahead}
+use Rattle.x7_tool.specs.Ahead.{GivesNear, HasWritten, Extends, ReadsNear, StaysNear, StaysNearBy, most_ahead}
 use Rattle.x7_tool.specs.Outside.{Outside}
 use Rattle.x7_forms.specs.declared.status.Status.{Status}
 use Rattle.x7_forms.specs.declared.status.Status.TheVariants as status
@@ -70,7 +70,7 @@ stays_near event stream old new h = stays_by (status_of_event event) stream old 
 abbrev pub Longer : Option (List ℕ) → Option (List ℕ) → Type 0
 Longer old new = (more : List ℕ) × (new ≡ appended old more)
 
-pub same_now : (old : SinkState) → IsLonger old old
+pub same_now : (old : SinkState) → Extends old old
 same_now old = ([], sym (appended_nil old.written))
 
 pub longer_prefix : (old new : Option (List ℕ)) (text : List ℕ) → PutsPrefix old text new → Longer old new

@@ -17,7 +17,8 @@ most_ahead = 524288
 abbrev pub most_held : ℕ
 most_held = 64
 
--- The listing of these first bytes of a stream is written, but for what is held of it.
+-- The listing of these first bytes of a stream is written, but for what is held of it; `before` and `after` are the
+-- sink's bytes.
 pub record HasWritten (early before after : List ℕ) : Type 0 where
   pub text : List ℕ
   pub lists : stream_listing early ≡ Ok text
@@ -90,5 +91,5 @@ abbrev pub StaysNear : Status → Option AskedForm → Outside → Outside → T
 StaysNear s form old new = StaysNearIn s (listed_by form) old new
 
 -- what the sink has begins with what it had
-abbrev pub IsLonger : SinkState → SinkState → Type 0
-IsLonger old new = (more : List ℕ) × (new.written ≡ appended old.written more)
+abbrev pub Extends : SinkState → SinkState → Type 0
+Extends old new = (more : List ℕ) × (new.written ≡ appended old.written more)

@@ -3,7 +3,7 @@ ghost use Rattle.std.specs.Prelude.{◌≡◌, ℕ, List, [], ◌++◌, ◌⊎�
 ghost use Rattle.x7_words.specs.Sink.{SinkFaultsRise, PutsPrefix, SinkFails, appended};
 ghost use Rattle.x7_words.specs.Word.{AreBytes};
 ghost use Rattle.x7_listing.specs.Listing.{listing_of};
-ghost use Rattle.x7_tool.specs.Ahead.{IsLonger};
+ghost use Rattle.x7_tool.specs.Ahead.{Extends};
 ghost use Rattle.x7_forms.specs.Event.{event_of, no_memory, writing_failed};
 ghost use Rattle.x7_listing.specs.Lister.{ListerStandsFor};
 ghost use Rattle.x7_tool.specs.Outside.{transfer};
@@ -23,7 +23,7 @@ fn put_turn<'w, O: Sink>(lister: &mut Lister, out: &mut O, piece: &[u8]) -> Resu
     ensures err { OnErr result (StopsIn lister.old (O.state out.old).written piece.now (O.state out.new).written) }
     ensures why { IfErr result (λ r. IsUnlisted (O.state out.old) (O.state out.new) (event_of r)) }
     ensures fits { AreBytes piece.now }
-    ensures longer { IsLonger (O.state out.old) (O.state out.new) }
+    ensures extends { Extends (O.state out.old) (O.state out.new) }
     ensures counts { SinkFaultsRise (O.state out.old) (O.state out.new) }
 {
     if lister.feed(piece).is_err() {
@@ -89,7 +89,7 @@ fn put_end<'w, O: Sink>(lister: &mut Lister, out: &mut O) -> Result<(), Refusal<
     ensures err { IfErr result (λ r. (first : Option (List ℕ)) (bytes : List ℕ) → Lists lister.old first (O.state out.old).written bytes
         → PutsPrefix first (listing_of bytes) (O.state out.new).written) }
     ensures why { IfErr result (λ r. IsUnlisted (O.state out.old) (O.state out.new) (event_of r)) }
-    ensures longer { IsLonger (O.state out.old) (O.state out.new) }
+    ensures extends { Extends (O.state out.old) (O.state out.new) }
 {
     if lister.finish().is_err() {
         return Err(Refusal::unnamed(Why::NoMemory));

@@ -33,8 +33,8 @@ pub(crate) fn four_at(first_sector: &[u8], place: usize) -> [u8; 4]
     ]
 }
 
-/// The bytes that the first slot has to have, and each other one after its switch word, by the first slot's start
-/// address.
+/// The 32 bytes of a right first slot, by the start address that the first sector has. Every later slot has the same
+/// bytes after its switch word.
 pub(crate) fn first_slot(first_sector: &[u8]) -> [u8; 32]
     requires { start_place + 4 ≤ length first_sector.now }
     ensures { result ≡ first_slot first_sector.now }
@@ -49,7 +49,7 @@ pub(crate) fn has_size(size: u64) -> bool
     size % SECTOR_BYTES == 0 && 2 * SECTOR_BYTES <= size && size <= FLASH_LIMIT
 }
 
-/// Whether an update can stand at this place of a flash of a size.
+/// Whether an update can stand at this place of a flash of a size, in bytes; at the flash's end an empty one can.
 pub(crate) fn can_stand(place: u64, size: u64) -> bool
     ensures { (result ≡ true) ↔ CanStandAt size place }
 {

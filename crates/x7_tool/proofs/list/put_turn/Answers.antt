@@ -19,11 +19,11 @@ returns-clause-ok g c = λ first bytes lists.
     let put = from_ok c.write_all.result (sym c.is_err-2.ensures.value ∙ c.if-is_err-2.false) c.write_all.ensures.appends in
     lists_more c.args.lister.now c.feed.new.self c.clear_text.new.self first (g.O.Sink.state c.args.out.now).written (g.O.Sink.state c.write_all.new.sink).written bytes c.args.piece.now c.text.result.now lists feeds c.text.ensures put c.clear_text.ensures.cleared c.clear_text.ensures.given
 
-pub returns-then-is_err-clause-longer : goal.returns-then-is_err-clause-longer
-returns-then-is_err-clause-longer g c = same_now (g.O.Sink.state c.args.out.now)
+pub returns-then-is_err-clause-extends : goal.returns-then-is_err-clause-extends
+returns-then-is_err-clause-extends g c = same_now (g.O.Sink.state c.args.out.now)
 
-pub returns-then-is_err-2-clause-longer : goal.returns-then-is_err-2-clause-longer
-returns-then-is_err-2-clause-longer g c = longer_prefix (g.O.Sink.state c.args.out.now).written (g.O.Sink.state c.write_all.new.sink).written _ c.write_all.ensures.prefix
+pub returns-then-is_err-2-clause-extends : goal.returns-then-is_err-2-clause-extends
+returns-then-is_err-2-clause-extends g c = longer_prefix (g.O.Sink.state c.args.out.now).written (g.O.Sink.state c.write_all.new.sink).written _ c.write_all.ensures.prefix
 
-pub returns-clause-longer : goal.returns-clause-longer
-returns-clause-longer g c = longer_prefix (g.O.Sink.state c.args.out.now).written (g.O.Sink.state c.write_all.new.sink).written _ c.write_all.ensures.prefix
+pub returns-clause-extends : goal.returns-clause-extends
+returns-clause-extends g c = longer_prefix (g.O.Sink.state c.args.out.now).written (g.O.Sink.state c.write_all.new.sink).written _ c.write_all.ensures.prefix
