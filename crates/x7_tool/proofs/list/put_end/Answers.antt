@@ -11,7 +11,7 @@ returns-then-is_err-clause-err g c = λ first bytes lists.
 pub returns-in-Ok-clause-ok : goal.returns-in-Ok-clause-ok
 returns-in-Ok-clause-ok g c = λ first bytes lists.
     let ends = from_ok c.finish.result (sym c.is_err.ensures.value ∙ c.if-is_err.false) c.finish.ensures.finished in
-    end_put c.args.lister.now c.finish.new.self first (g.O.Sink.state c.args.out.now).written (g.O.Sink.state c.write_all.new.sink).written bytes c.text.result.now lists ends c.text.ensures c.in-Ok.ensures.ok
+    end_put c.args.lister.now c.finish.new.self first (g.O.Sink.state c.args.out.now).written (g.O.Sink.state c.write_all.new.sink).written bytes c.text.result.now lists ends c.text.ensures c.in-Ok.ensures.appends
 
 pub returns-in-Err-clause-err : goal.returns-in-Err-clause-err
 returns-in-Err-clause-err g c = λ first bytes lists.

@@ -9,7 +9,7 @@ returns-in-Ok-clause-ok g c =
     let feeds = from_ok c.feed.result (sym c.is_err.ensures.value ∙ c.if-is_err.false) c.feed.ensures.stands in
     let ends = from_ok c.finish.result (sym c.is_err-2.ensures.value ∙ c.if-is_err-2.false) c.finish.ensures.finished in
     let text = whole_text c.args.lister.now c.feed.new.self c.finish.new.self c.args.content.now c.text.result.now c.requires.new feeds ends c.text.ensures in
-    c.in-Ok.ensures.ok ∙ ap (λ (t : List ℕ). appended (g.O.Sink.state c.args.out.now).written (c.args.line.now ++ t)) (append-nil c.text.result.now ∙ text)
+    c.in-Ok.ensures.appends ∙ ap (λ (t : List ℕ). appended (g.O.Sink.state c.args.out.now).written (c.args.line.now ++ t)) (append-nil c.text.result.now ∙ text)
 
 pub returns-in-Err-clause-err : goal.returns-in-Err-clause-err
 returns-in-Err-clause-err g c =
