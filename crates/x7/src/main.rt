@@ -33,7 +33,7 @@ fn words(rt: &HostRuntime) -> io::Result<Vec<String>> {
     Ok(words)
 }
 
-/// The exit status of a run that ended so.
+/// The exit status that the `Status` of a run stands for.
 fn end_of(status: Status) -> ExitCode
     ensures { exit_status result ≡ status_number status }
 {

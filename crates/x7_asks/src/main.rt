@@ -50,11 +50,11 @@ fn ask(part: &Part, kind: &str, addresses: &[u32], rank: u32, far: u32) -> u64 {
 }
 
 /// What stands this many slots after an address, as a number: a frame's address, 1 for a pad, 2 for the end.
-fn slot_after(part: &Part, far: u32, place: u32) -> u64 {
+fn slot_after(part: &Part, far: u32, slot_count: u32) -> u64 {
     if !part.is_address(far) {
         return 0;
     }
-    match part.slot_after(far, u64::from(place)) {
+    match part.slot_after(far, u64::from(slot_count)) {
         Slot::Frame(far) => u64::from(far),
         Slot::Pad => 1,
         Slot::End => 2,

@@ -16,7 +16,7 @@ abbrev pub sets_mask : History → Bool
 sets_mask [] = false
 sets_mask (e ∷ h) = writes (number_of reg.Mask) e.access || sets_mask h
 
--- MASK is written before each word of CTL0
+-- at each word of CTL0 some earlier access wrote MASK
 abbrev pub MasksFirst : History → Type 0
 MasksFirst [] = Unit {0}
 MasksFirst (e ∷ h) = (writes (number_of reg.Ctl0) e.access ≡ true → sets_mask h ≡ true) × MasksFirst h

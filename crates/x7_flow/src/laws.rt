@@ -79,9 +79,9 @@ pub fn frames_stand_for_one_more()
         FramesStandFor part f h due → FramesStandFor part g h due → f ≡ g }
 {}
 
-/// An access is refused by Address exactly where it lacks an address, by Multi exactly where it lacks a source, and a
-/// word of frame data by Overrun exactly where it lacks a slot; Overrun refuses words of frame data alone. An access
-/// that isn't refused leaves runs at addresses. A refused access changes neither the memory nor FAR as read.
+/// An access is refused with the fault Address exactly where it lacks an address, with Multi exactly where it lacks a
+/// source, and a word of frame data with Overrun exactly where it lacks a slot; only such a word comes to Overrun. An
+/// access that isn't refused leaves runs at addresses. A refused access changes neither the memory nor FAR as read.
 pub fn refusals_have_causes()
     ensures no_address { (part : PartData) (h : History) (access : Access) (far : ℕ) → (frame_fault part h access ≡ Some (RunFault.Address far)) ↔ LacksAddress part h access far }
     ensures no_source { (part : PartData) (h : History) (access : Access) → (frame_fault part h access ≡ Some RunFault.Multi) ↔ LacksSource part h access }
@@ -127,8 +127,8 @@ pub fn written_frames_land_in_order()
     ensures copies { (part : PartData) (earlier : History) (x : FrameCopies) → TakesCopies part earlier x → MemoryGets part (with_frame_copies x earlier) earlier (pair_copied part x) }
 {}
 
-/// Quiet accesses put no pair and leave the memory. The flow of a read of frame data without words of it that are due
-/// is that of a read of the other words, and without all its words that before the read.
+/// Quiet accesses put no pair and leave the memory. Where some words of a read of frame data are taken off as due, the
+/// flow is that of a read of the others; where all are, it is the flow before the read.
 pub fn quiet_accesses_move_no_frame()
     ensures pairs { (part : PartData) (s : Settings) (f : Flow) (later : History) → AreQuiet later → pairs_from part s f later ≡ [] }
     ensures memory { (part : PartData) (later earlier : History) → AreQuiet later → AreSame (memory_of part (later ++ earlier)) (memory_of part earlier) }

@@ -8,7 +8,7 @@ use Rattle.x7_part.specs.declared.slot.Slot.TheVariants.{Frame, Pad, End}
 use Rattle.x7_memory.specs.FrameMap.{FrameMap, override, AreSame}
 use Rattle.x7_memory.specs.Plan.{PlanRow, planned}
 
--- ---- frames of a run
+-- ---- frames of a run; `width` is how many words a frame has
 
 -- the words after the last whole frame of a run, the oldest first
 unfoldable pub rest_of : ℕ → List ℕ → List ℕ
@@ -48,7 +48,8 @@ abbrev pub but_newest : List (List ℕ) → List (List ℕ)
 but_newest [] = []
 but_newest (frame ∷ older) = older
 
--- what a run from a base has put, the newest pair first: each whole frame but the newest, at its slot
+-- what a run has put from its base, the address at which it begins, the newest pair of address and frame first: each
+-- whole frame but the newest, at its slot
 unfoldable pub written_frames : PartData → ℕ → List ℕ → List PlanRow
 written_frames part base run = in_slots (slots_from part base) (but_newest (frames_of (frame_words part) run))
 

@@ -2,7 +2,7 @@
 ghost use Rattle.std.specs.Prelude.{◌≡◌};
 ghost use Rattle.x7_regs.specs.Control.{forbids_fallback, forbids_reading, forbids_writing, has_dec};
 
-/// The number of the bit of CTL0 by which the outputs are as startup says.
+/// The number of the bit of CTL0 with which the outputs are as startup says; without it they are high-impedance.
 pub const GTS_USER_B: u32 = 0;
 
 /// The number of the lower of two bits of CTL0: 00 allows reading and writing of frames, 01 forbids reading, 1x both.
@@ -17,21 +17,21 @@ pub const GLUTMASK_B: u32 = 8;
 /// The number of the bit of CTL0 that keeps a failed attempt from falling back.
 pub const CONFIG_FALLBACK: u32 = 10;
 
-/// Whether SBITS of CTL0 forbid to write frames.
+/// Whether SBITS of CTL0 forbid writing frames.
 pub fn forbids_writing(ctl0: u32) -> bool
     ensures { result ≡ forbids_writing ctl0 }
 {
     ctl0 >> (SBITS + 1) & 1 == 1
 }
 
-/// Whether SBITS of CTL0 forbid to read frames.
+/// Whether SBITS of CTL0 forbid reading frames.
 pub fn forbids_reading(ctl0: u32) -> bool
     ensures { result ≡ forbids_reading ctl0 }
 {
     ctl0 >> SBITS & 3 != 0
 }
 
-/// Whether CTL0 has DEC.
+/// Whether DEC of CTL0 is 1: the stream would be encrypted.
 pub fn has_dec(ctl0: u32) -> bool
     ensures { result ≡ has_dec ctl0 }
 {

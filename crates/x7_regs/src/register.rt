@@ -40,7 +40,7 @@ pub enum Reg {
     Wbstar,
     /// The watchdog.
     Timer,
-    /// Status of the latest two boots.
+    /// Status of the present boot attempt and of the one before.
     Bootsts,
     /// Further control, under `Mask`.
     Ctl1,

@@ -27,18 +27,18 @@ fault_text fault.Watchdog = codes "Watchdog"
 abbrev pub fault_room : ℕ
 fault_room = 21
 
--- the most bytes of the words that say where the bytes taken end: `fault `, and a fault's kind and words
+-- the most bytes of the text that says where the bytes taken end: `fault `, and a fault's kind and words
 abbrev pub end_room : ℕ
 end_room = 6 + fault_room
 
--- the words that say where the bytes taken end
+-- the text that says where the bytes taken end
 unfoldable pub end_text : End → List ℕ
 end_text at_end.Searching = codes "searching"
 end_text at_end.Synced = codes "synced"
 end_text (at_end.Iprog wbstar) = codes "iprog " ++ hex_word wbstar
 end_text (at_end.Fault f) = codes "fault " ++ fault_text f
 
--- the digit of a line, 0 or 1
+-- the digit of DONE, GTS or GWE, 0 or 1
 abbrev pub line_digit : Bool → List ℕ
 line_digit b = if b then codes "1" else codes "0"
 
@@ -55,7 +55,8 @@ phase_text r =
     ++ codes " gwe " ++ line_digit r.lines.gwe
     ++ codes "\n"
 
--- the registers in the order of their numbers, each with its word
+-- the registers that a report shows, each with its word, in the order of their numbers; without those of frame data
+-- (FDRI, FDRO, MFWR), LOUT and CBC
 abbrev pub reg_words : Regs → List (Reg × ℕ)
 reg_words r =
     (reg.Crc, r.crc)

@@ -8,7 +8,7 @@ use Rattle.x7_forms.specs.declared.status.Status.{Status}
 use Rattle.x7_forms.specs.declared.status.Status.TheVariants as status
 use Rattle.x7_tool.specs.Outside.{Outside}
 
--- the most by which the bytes read of a stream exceed the bytes of text written
+-- the most by which the bytes read of a stream exceed the bytes of text written: half a MiB (this project's choice)
 abbrev pub most_ahead : ℕ
 most_ahead = 524288
 
