@@ -17,8 +17,8 @@ impl Device {
     }
 }
 
-/// In an attempt of a boot the flash may end while startup hasn't ended, no IPROG and no fault Id, Crc or Watchdog ended
-/// the attempt, and no word is due. Before the first byte no word is due.
+/// In an attempt of a boot the flash may end while startup hasn't ended, no IPROG and no fault Id, Crc or Watchdog
+/// ended the attempt, and no word is due. Before the first byte no word is due.
 pub fn flash_may_end()
     ensures may_wrap { (d : DeviceState) → OfPast d (λ p. BootGoesOn p → NoWordDue d → MayWrap d) }
     ensures no_word_due { (part : PartData) (kept : KeptData) (wrapped : Bool) (d : DeviceState) → DeviceStandsFor part kept wrapped d [] → NoWordDue d }
