@@ -1,5 +1,6 @@
 //! The words of packets, and those that stand between packets (UG470, packet types; configuration sequence).
 ghost use Rattle.std.specs.Prelude.{◌≡◌, ◌<◌, ◌^◌};
+ghost use Rattle.x7_regs.specs.Register.{reg_number_count};
 ghost use Rattle.x7_packets.specs.Packet.{register_of, type1_count_of, type2_count_of, type_and_opcode_of};
 ghost use Rattle.x7_packets.specs.PacketWords.{command, frame_data_headers, frame_read_headers, type1_read_header, type1_write_header, type2_read_header, type2_write_header, write_one};
 
@@ -56,7 +57,7 @@ pub fn kind_in(header: u32) -> u32
 #[inline(always)]
 pub fn register_in(header: u32) -> u8
     ensures value { result ≡ register_of header }
-    ensures most { result < 32 }
+    ensures most { result < reg_number_count }
 {
     (header >> BELOW_REGISTER & 31) as u8
 }
@@ -82,7 +83,7 @@ pub fn type2_count_in(header: u32) -> u32
 /// The header of a type 1 read of `count` words, by the register's number. The reserved bits are 0.
 #[inline(always)]
 pub fn type1_read_header(register: u8, count: u32) -> u32
-    requires register { register < 32 }
+    requires register { register < reg_number_count }
     requires count { count < 2 ^ 11 }
     ensures { result ≡ type1_read_header register count }
 {
@@ -92,7 +93,7 @@ pub fn type1_read_header(register: u8, count: u32) -> u32
 /// The header of a type 1 write of `count` words, by the register's number. The reserved bits are 0.
 #[inline(always)]
 pub fn type1_write_header(register: u8, count: u32) -> u32
-    requires register { register < 32 }
+    requires register { register < reg_number_count }
     requires count { count < 2 ^ 11 }
     ensures { result ≡ type1_write_header register count }
 {

@@ -2,7 +2,7 @@
 ghost use Rattle.std.specs.Prelude.{◌≡◌, ◌≢◌, ◌≤◌, ◌<◌, ℕ, length, slice_index, IfSome, IfNone};
 ghost use Rattle.x7_regs.specs.Command.{command_name_limit, command_name_of};
 ghost use Rattle.x7_regs.specs.Named.{IsCommandName, IsRegName, place_of_name, shortest_name};
-ghost use Rattle.x7_regs.specs.Register.{reg_name};
+ghost use Rattle.x7_regs.specs.Register.{reg_name, reg_number_count};
 ghost use Rattle.x7_regs.specs.declared.command.Command.{Command};
 
 use crate::command::command_of;
@@ -49,7 +49,7 @@ fn register_at(name: &[u8]) -> u8
     requires least { shortest_name ≤ length name.now }
     requires most { length name.now ≤ command_name_limit }
     ensures value { result ≡ slice_index REGISTERS (place_of_name name.now) }
-    ensures most { result < 32 }
+    ensures most { result < reg_number_count }
 {
     at_place(&REGISTERS, name)
 }
@@ -57,7 +57,7 @@ fn register_at(name: &[u8]) -> u8
 /// The register number of this name: a register's, or `R` and two digits for a number without a register.
 pub fn reg_named(text: &[u8]) -> Option<u8>
     ensures named { IfSome result (λ number. IsRegName text.now number) }
-    ensures unnamed { IfNone result ((number : ℕ) → number < 32 → text.now ≢ reg_name number) }
+    ensures unnamed { IfNone result ((number : ℕ) → number < reg_number_count → text.now ≢ reg_name number) }
 {
     if text.len() < SHORTEST_NAME || text.len() > COMMAND_NAME_LIMIT {
         return None;
