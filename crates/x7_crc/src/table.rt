@@ -2,7 +2,7 @@
 ghost use Rattle.std.specs.Prelude.{◌≡◌, ◌<◌, ◌+◌, ◌*◌, IsTrue, [], ◌∷◌, ℕ};
 ghost use Rattle.x7_regs.specs.Register.{reg_number_count};
 ghost use Rattle.x7_crc.specs.Table.{all_have_advances, has_advances};
-ghost use Rattle.x7_crc.specs.Check.{bits_per_write, check_after, writes_to};
+ghost use Rattle.x7_crc.specs.Check.{bits_per_write, check_after, check_after_one, writes_to};
 ghost use Rattle.x7_crc.specs.ShiftRegister.{advanced};
 
 use crate::block_table::{FIRST, LAST, SECOND, THIRD};
@@ -10,7 +10,7 @@ use crate::block_table::{FIRST, LAST, SECOND, THIRD};
 /// The check after one more write, of a word to the register with this number, by tables.
 pub(crate) fn fold_by_tables(before: u32, register: u8, word: u32) -> u32
     requires { register < reg_number_count }
-    ensures { result ≡ check_after before ((register, word) ∷ []) }
+    ensures { result ≡ check_after_one before register word }
 {
     advance_last(before ^ word) ^ advance_register(register)
 }

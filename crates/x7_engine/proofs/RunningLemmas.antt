@@ -19,4 +19,4 @@ check_all_folded register n [] h e f = sym (check_after_none (running_check h) (
 check_all_folded register n (w ∷ ws) h e f =
     check_all_folded register (n + 4) ws (entry (Write register w) (n + 4) ∷ h) e f
     ∙ ap (λ (c : ℕ). check_after c (writes_to register ws)) (check_folded h register w (n + 4) (f h w) e)
-    ∙ sym (check_after_append (running_check h) ((register, w) ∷ []) (writes_to register ws) (check_fits h))
+    ∙ sym (check_after_append (running_check h) (record { register = register; word = w } ∷ []) (writes_to register ws) (check_fits h))

@@ -15,8 +15,10 @@ use x7_words::word_of;
 /// Takes the words of a session, and says what each word is.
 #[derive(Clone, Copy)]
 pub struct Machine {
+    // How many payload words of the open packet are still to come, and to which register they are written.
     due: u32,
     register: u8,
+    // The register that the session's nearest type 1 read or write named.
     latest: Option<u8>,
 }
 
@@ -97,9 +99,9 @@ impl Machine {
     #[inline(always)]
     pub(crate) fn take_payload(&mut self, body: &[u8]) -> bool
         requires whole { length body.now ≡ 4 * (length body.now / 4) }
-        requires some { 0 < length body.now }
+        requires not_empty { 0 < length body.now }
         requires within_due { length body.now / 4 ≤ self.old.due }
-        requires one { self.old.register ≡ number_of Cmd → length body.now ≡ 4 }
+        requires one_word_of_cmd { self.old.register ≡ number_of Cmd → length body.now ≡ 4 }
         ensures ends { result ≡ ends_by (payload_steps self.old.register (words_of_bytes body.now)) }
         ensures register { self.old.register < reg_number_count }
         ensures grows { (ps : List Packet) → MachineStandsFor self.old ps → Grows ps (payload_steps self.old.register (words_of_bytes body.now)) self.new }

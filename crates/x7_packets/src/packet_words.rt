@@ -45,6 +45,15 @@ const BELOW_KIND: u32 = 27;
 /// How many bits of a type 1 header stand below its register.
 const BELOW_REGISTER: u32 = 13;
 
+/// A register's number where nothing stands below it: five bits.
+const REGISTER_BITS: u32 = 0x1F;
+
+/// The bits of a type 1 header that are its word count, 10:0.
+const TYPE1_COUNT_BITS: u32 = 0x7FF;
+
+/// The bits of a type 2 header that are its word count, 26:0.
+const TYPE2_COUNT_BITS: u32 = 0x7FF_FFFF;
+
 /// The packet type and the opcode of a header as one number, bits 31:27.
 #[inline(always)]
 pub fn kind_in(header: u32) -> u32
@@ -59,7 +68,7 @@ pub fn register_in(header: u32) -> u8
     ensures value { result ≡ register_of header }
     ensures most { result < reg_number_count }
 {
-    (header >> BELOW_REGISTER & 31) as u8
+    (header >> BELOW_REGISTER & REGISTER_BITS) as u8
 }
 
 /// The word count of a type 1 header, bits 10:0.
@@ -68,7 +77,7 @@ pub fn type1_count_in(header: u32) -> u32
     ensures value { result ≡ type1_count_of header }
     ensures most { result < 2 ^ 11 }
 {
-    header & 0x7FF
+    header & TYPE1_COUNT_BITS
 }
 
 /// The word count of a type 2 header, bits 26:0.
@@ -77,7 +86,7 @@ pub fn type2_count_in(header: u32) -> u32
     ensures value { result ≡ type2_count_of header }
     ensures most { result < 2 ^ 27 }
 {
-    header & 0x7FF_FFFF
+    header & TYPE2_COUNT_BITS
 }
 
 /// The header of a type 1 read of `count` words, by the register's number. The reserved bits are 0.

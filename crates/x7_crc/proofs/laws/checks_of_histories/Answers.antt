@@ -14,4 +14,4 @@ returns-clause-cleared c = λ h register word place e. rw e (check_after_none 0 
 pub returns-clause-written : goal.returns-clause-written
 returns-clause-written c = λ h register word place f.
     let other : (register == 8) ≡ false = grind (arith, nat_tests, f.other) in
-    rw (f.goes_on, other) (sym (check_of_more (running_check h) (in_order (open_writes h)) ((register, word) ∷ []) refl))
+    rw (f.goes_on, other) (sym (check_of_more (running_check h) (in_order (open_writes h)) (record { register = register; word = word } ∷ []) refl))
