@@ -7,7 +7,7 @@ use Rattle.std.proofs.lemmas.List.{drop_all}
 use Rattle.x7_words.specs.Word.{word_of_bytes}
 use Rattle.x7_packets.specs.CheckedWrites.{RegisterWrite}
 use Rattle.x7_crc.specs.Polynomial.{from_highest, IsRemainder, mirrored, remainder}
-use Rattle.x7_crc.specs.Check.{bits_of_write, bits_of_writes, check_after, check_after_one, check_of, dividend, generator, low_bits, writes_to}
+use Rattle.x7_crc.specs.Check.{bits_of_write, bits_of_writes, check_after, check_after_one, check_of, dividend, generator, low_bits, write_to, writes_to}
 use Rattle.x7_crc.specs.ShiftRegister.{shifted_all, advanced}
 use Rattle.x7_crc.proofs.PolynomialLemmas.{mirrored_lt, mirrored_same, one_remainder}
 use Rattle.x7_crc.proofs.ShiftLemmas.{divided_shifted, shifted_all_append, shifted_all_divides, shifted_all_low}
@@ -59,7 +59,7 @@ pub check_after_write : (v register word : ℕ) → v < 2 ^ 32 →
     check_after_one v register word ≡ shifted_all (shifted_all v (low_bits 32 word)) (low_bits 5 register)
 unfolding bits_of_write
 check_after_write v register word h =
-    check_after_shifted v (record { register = register; word = word } ∷ []) h
+    check_after_shifted v (write_to register word ∷ []) h
     ∙ ap (shifted_all v) (append-nil (low_bits 32 word ++ low_bits 5 register))
     ∙ shifted_all_append v (low_bits 32 word) (low_bits 5 register)
 
@@ -83,12 +83,12 @@ check_of_more v writes more e = ap (λ x. check_after x more) e ∙ sym (check_a
 
 check_after_next : (v register i : ℕ) (chunks : List (List ℕ)) → v < 2 ^ 32 → i < length chunks →
     check_after v (writes_to register (map word_of_bytes (drop i chunks)))
-    ≡ check_after (check_after v ((register, word_of_bytes (get_or chunks i [])) ∷ [])) (writes_to register (map word_of_bytes (drop (i + 1) chunks)))
+    ≡ check_after (check_after_one v register (word_of_bytes (get_or chunks i []))) (writes_to register (map word_of_bytes (drop (i + 1) chunks)))
 check_after_next v register i chunks h k =
     let w : ℕ = word_of_bytes (get_or chunks i []) in
     let rest : List RegisterWrite = writes_to register (map word_of_bytes (drop (i + 1) chunks)) in
-    let prefix : writes_to register (map word_of_bytes (drop i chunks)) ≡ record { register = register; word = w } ∷ rest = rw (add-one, drop-cons chunks i []) refl in
-    ap (check_after v) prefix ∙ check_after_append v (record { register = register; word = w } ∷ []) rest h
+    let prefix : writes_to register (map word_of_bytes (drop i chunks)) ≡ write_to register w ∷ rest = rw (add-one, drop-cons chunks i []) refl in
+    ap (check_after v) prefix ∙ check_after_append v (write_to register w ∷ []) rest h
 
 -- the check of a slice after one chunk more
 pub chunk_taken : (v register i word next whole : ℕ) (chunks : List (List ℕ)) → v < 2 ^ 32 → i < length chunks →

@@ -40,9 +40,13 @@ check_after before writes =
 abbrev pub IsCheckAfter : ℕ → List RegisterWrite → ℕ → Type 0
 IsCheckAfter before writes check = IsRemainder (dividend before (bits_of_writes writes)) generator 32 (mirrored 32 check)
 
+-- the write of a word to a register
+abbrev pub write_to : ℕ → ℕ → RegisterWrite
+write_to register word = record { register = register; word = word }
+
 -- the check after one write more than those that `check` is the check of
 abbrev pub check_after_one : ℕ → ℕ → ℕ → ℕ
-check_after_one check register word = check_after check (record { register = register; word = word } ∷ [])
+check_after_one check register word = check_after check (write_to register word ∷ [])
 
 -- the check of writes, in order: a check begins as 0
 abbrev pub check_of : List RegisterWrite → ℕ
@@ -50,4 +54,4 @@ check_of writes = check_after 0 writes
 
 -- writes of these words to one register
 abbrev pub writes_to : ℕ → List ℕ → List RegisterWrite
-writes_to register words = map (λ word. record { register = register; word = word }) words
+writes_to register words = map (write_to register) words

@@ -1,6 +1,6 @@
 //! The running check (UG470, cyclic redundancy check): of one write, and of whole words to one register.
 ghost use Rattle.std.specs.Prelude.{◌≡◌, ◌<◌, ◌%◌, ◌++◌, List, [], ◌∷◌, bit_xor, length, ℕ};
-ghost use Rattle.x7_crc.specs.Check.{check_after, check_after_one, check_of, writes_to};
+ghost use Rattle.x7_crc.specs.Check.{check_after, check_after_one, check_of, write_to, writes_to};
 ghost use Rattle.std.specs.List.{flat_map};
 ghost use Rattle.x7_words.specs.Word.{AreWholeWords, words_of_bytes};
 ghost use Rattle.x7_regs.specs.Register.{reg_number_count};
@@ -14,7 +14,7 @@ use x7_words::word_of;
 pub fn fold(before: u32, register: u8, word: u32) -> u32
     requires { register < reg_number_count }
     ensures value { result ≡ check_after_one before register word }
-    ensures goes_on { (writes : List RegisterWrite) → before ≡ check_of writes → result ≡ check_of (writes ++ record { register = register; word = word } ∷ []) }
+    ensures goes_on { (writes : List RegisterWrite) → before ≡ check_of writes → result ≡ check_of (writes ++ write_to register word ∷ []) }
     ensures linear { result ≡ check_after_one 0 register (bit_xor word before) }
 {
     fold_by_tables(before, register, word)
