@@ -33,7 +33,7 @@ use x7_flow::{FrameSettings, Frames};
 use x7_packets::{Cut, Step};
 use x7_part::Part;
 use x7_pipeline::RunFault;
-use x7_regs::{Attempt, Command, Kind, Reg, has_dec};
+use x7_regs::{Attempt, COMMAND_BITS, Command, Kind, Reg, has_dec};
 use x7_words::word_of;
 
 /// The last byte whose access counts, where `taken` bytes are taken: all do but one at which the watchdog fires, whose
