@@ -24,8 +24,8 @@ shortest_name = 2
 abbrev pub table_size : ℕ
 table_size = 64
 
--- how often a name's second byte counts in its place; this weight and the next two were found by trial, so that no two
--- names of a table share a place
+-- how often a name's second byte counts in its place; all that is asked of this weight and of those of the last byte
+-- and the length is that no two names of a table share a place
 abbrev pub second_weight : ℕ
 second_weight = 13
 

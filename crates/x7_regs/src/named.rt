@@ -18,8 +18,8 @@ const COMMAND_NAME_LIMIT: usize = 9;
 /// How many places a table of names has.
 const TABLE_SIZE: usize = 64;
 
-// What counts in the place of a name more than once; its first byte counts once. The three weights were found by
-// trial: with them no two names of a table have one place.
+// What counts in the place of a name more than once; its first byte counts once. All that is asked of the three weights
+// is that no two names of a table have one place.
 
 /// How often a name's second byte counts in its place.
 const SECOND_WEIGHT: usize = 13;
