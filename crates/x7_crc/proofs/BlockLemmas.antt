@@ -8,7 +8,7 @@ use Rattle.std.specs.List.{flat_map}
 use Rattle.std.specs.Simd.{first_chunks}
 use Rattle.x7_words.proofs.WordLemmas.{words_apart}
 use Rattle.x7_words.specs.Word.{words_of_bytes}
-use Rattle.x7_crc.specs.Check.{check_after, writes_to}
+use Rattle.x7_crc.specs.Check.{check_after, check_after_one, write_to, writes_to}
 use Rattle.x7_crc.specs.ShiftRegister.{advanced}
 use Rattle.x7_crc.proofs.CheckLemmas.{advanced_by_write, check_after_append, check_after_fits, check_after_none}
 use Rattle.x7_crc.proofs.ShiftLemmas.{advanced_xor}
@@ -16,7 +16,7 @@ use Rattle.x7_crc.proofs.TableLemmas.{advanced_add}
 
 -- one write: the check and the word move by 37 bits, the register by five
 pub one_write : (v register word : ℕ) → v < 2 ^ 32 → register < 2 ^ 5 → word < 2 ^ 32 →
-    check_after v ((register, word) ∷ []) ≡ bit_xor (advanced 37 (bit_xor v word)) (advanced 5 register)
+    check_after_one v register word ≡ bit_xor (advanced 37 (bit_xor v word)) (advanced 5 register)
 one_write v register word h k l =
     advanced_by_write v register word h k l
     ∙ advanced_xor 5 (advanced 32 (bit_xor v word)) register
@@ -27,7 +27,7 @@ swapped a b c = xor_assoc a b c ∙ ap (bit_xor a) (xor_comm b c) ∙ sym (xor_a
 
 -- a check in two parts: one of them goes on as if the words were 0
 parted : (v x z register word : ℕ) → v < 2 ^ 32 → z < 2 ^ 32 → register < 2 ^ 5 → word < 2 ^ 32 → v ≡ bit_xor x z →
-    check_after v ((register, word) ∷ []) ≡ bit_xor (advanced 37 (bit_xor x word)) (check_after z ((register, 0) ∷ []))
+    check_after_one v register word ≡ bit_xor (advanced 37 (bit_xor x word)) (check_after_one z register 0)
 parted v x z register word h hz k l e =
     let k5 = advanced 5 register in
     one_write v register word h k l
@@ -38,8 +38,8 @@ parted v x z register word h hz k l e =
     (ap (λ t. bit_xor (advanced 37 t) k5) (sym (xor_zero_r z)) ∙ sym (one_write z register 0 hz k (lit< tt)))
 
 next_check : (v register word : ℕ) (words : List ℕ) → v < 2 ^ 32 →
-    check_after v (writes_to register (word ∷ words)) ≡ check_after (check_after v ((register, word) ∷ [])) (writes_to register words)
-next_check v register word words h = check_after_append v ((register, word) ∷ []) (writes_to register words) h
+    check_after v (writes_to register (word ∷ words)) ≡ check_after (check_after_one v register word) (writes_to register words)
+next_check v register word words h = check_after_append v (write_to register word ∷ []) (writes_to register words) h
 
 -- the words' parts
 spread2 : (m v a b : ℕ) → advanced 37 (bit_xor (advanced m v) b) ≡ bit_xor (advanced (m + 37) v) (advanced 37 b)
@@ -70,8 +70,8 @@ pub four_writes : (v register a b c d none : ℕ) → v < 2 ^ 32 → register < 
     bit_xor (bit_xor (bit_xor (bit_xor (advanced 148 (bit_xor v a)) (advanced 111 b)) (advanced 74 c)) (advanced 37 d)) none
     ≡ check_after v (writes_to register (a ∷ b ∷ c ∷ d ∷ []))
 four_writes v register a b c d none h k ha hb hc hd e =
-    let F : ℕ → ℕ → ℕ = λ v w. check_after v ((register, w) ∷ []) in
-    let fits : (v w : ℕ) → F v w < 2 ^ 32 = λ v w. check_after_fits v ((register, w) ∷ []) in
+    let F : ℕ → ℕ → ℕ = λ v w. check_after_one v register w in
+    let fits : (v w : ℕ) → F v w < 2 ^ 32 = λ v w. check_after_fits v (write_to register w ∷ []) in
     let z1 = F 0 0 in
     let z2 = F z1 0 in
     let z3 = F z2 0 in
@@ -103,11 +103,11 @@ four_at_once v register a b c d none h k ha hb hc hd e =
     ∙ four_writes v register a b c d none h k ha hb hc hd e
 
 -- four writes of 0, one by one
-pub four_zeros : (register one two three four : ℕ) → one ≡ check_after 0 ((register, 0) ∷ []) → two ≡ check_after one ((register, 0) ∷ []) →
-    three ≡ check_after two ((register, 0) ∷ []) → four ≡ check_after three ((register, 0) ∷ []) → four ≡ check_after 0 (writes_to register (0 ∷ 0 ∷ 0 ∷ 0 ∷ []))
+pub four_zeros : (register one two three four : ℕ) → one ≡ check_after_one 0 register 0 → two ≡ check_after_one one register 0 →
+    three ≡ check_after_one two register 0 → four ≡ check_after_one three register 0 → four ≡ check_after 0 (writes_to register (0 ∷ 0 ∷ 0 ∷ 0 ∷ []))
 four_zeros register one two three four e f g h =
-    let F : ℕ → ℕ → ℕ = λ v w. check_after v ((register, w) ∷ []) in
-    let fits : (v w : ℕ) → F v w < 2 ^ 32 = λ v w. check_after_fits v ((register, w) ∷ []) in
+    let F : ℕ → ℕ → ℕ = λ v w. check_after_one v register w in
+    let fits : (v w : ℕ) → F v w < 2 ^ 32 = λ v w. check_after_fits v (write_to register w ∷ []) in
     let none : check_after 0 (writes_to register (0 ∷ 0 ∷ 0 ∷ 0 ∷ [])) ≡ F (F (F (F 0 0) 0) 0) 0 =
     next_check 0 register 0 (0 ∷ 0 ∷ 0 ∷ []) (lit< tt) ∙ next_check (F 0 0) register 0 (0 ∷ 0 ∷ []) (fits 0 0) ∙ next_check (F (F 0 0) 0) register 0 (0 ∷ []) (fits (F 0 0) 0) in
     h ∙ ap (λ x. F x 0) (g ∙ ap (λ x. F x 0) (f ∙ ap (λ x. F x 0) e)) ∙ sym none
@@ -142,7 +142,7 @@ blocks_and_rest v register prefix whole n bs h l e f =
     let b = words_of_bytes (drop (n * 16) bs) in
     f ∙ ap (λ x. check_after x (writes_to register b)) e
     ∙ sym (check_after_append v (writes_to register a) (writes_to register b) h)
-    ∙ ap (check_after v) (sym (map_append (λ word. (register, word)) a b) ∙ ap (writes_to register) (sym (words_by_blocks n bs l)))
+    ∙ ap (check_after v) (sym (map_append (write_to register) a b) ∙ ap (writes_to register) (sym (words_by_blocks n bs l)))
 
 -- the check of a slice after one block more
 pub block_taken : (v register i next whole : ℕ) (blocks : List (List ℕ)) → v < 2 ^ 32 → i < length blocks →
@@ -155,7 +155,7 @@ block_taken v register i next whole blocks h k e g =
     let prefix : flat_map words_of_bytes (drop i blocks) ≡ a ++ b = rw (add-one, drop-cons blocks i []) refl in
     ap (λ x. check_after x (writes_to register b)) e
     ∙ sym (check_after_append v (writes_to register a) (writes_to register b) h)
-    ∙ ap (check_after v) (sym (map_append (λ word. (register, word)) a b) ∙ ap (writes_to register) (sym prefix)) ∙ g
+    ∙ ap (check_after v) (sym (map_append (write_to register) a b) ∙ ap (writes_to register) (sym prefix)) ∙ g
 
 pub blocks_end : (v register i whole : ℕ) (blocks : List (List ℕ)) → v < 2 ^ 32 → length blocks ≤ i →
     check_after v (writes_to register (flat_map words_of_bytes (drop i blocks))) ≡ whole → v ≡ whole

@@ -11,7 +11,7 @@ use Rattle.x7_packets.specs.declared.cutter.Cut.{Cut}
 use Rattle.x7_packets.specs.declared.cutter.Cut.TheVariants.{Need}
 use Rattle.x7_packets.proofs.HistoryLemmas.{cut_enters, next_word_is}
 use Rattle.x7_crc.specs.RunningCheck.{in_order, running_check}
-use Rattle.x7_crc.specs.Check.{check_after, writes_to}
+use Rattle.x7_crc.specs.Check.{check_after, check_after_one, write_to, writes_to}
 use Rattle.x7_crc.proofs.CheckLemmas.{check_after_append, check_after_none, check_after_fits, check_of_more}
 use Rattle.x7_crc.specs.Checker.{steers_check, Checks, HasTaken, IsCheckState, CheckerState, KeepsCheckOf}
 
@@ -21,8 +21,8 @@ check_none = check_after_none 0 (lit< tt)
 pub check_cleared : (h : History) (register word place : ℕ) → clears h (Write register word) ≡ true → running_check (entry (Write register word) place ∷ h) ≡ 0
 check_cleared h register word place e = rw e (check_after_none 0 (lit< tt))
 
-pub check_folded : (h : History) (register word place : ℕ) → clears h (Write register word) ≡ false → (register == 8) ≡ false → running_check (entry (Write register word) place ∷ h) ≡ check_after (running_check h) ((register, word) ∷ [])
-check_folded h register word place e n = rw (e, n) (sym (check_of_more (running_check h) (in_order (open_writes h)) ((register, word) ∷ []) refl))
+pub check_folded : (h : History) (register word place : ℕ) → clears h (Write register word) ≡ false → (register == 8) ≡ false → running_check (entry (Write register word) place ∷ h) ≡ check_after_one (running_check h) register word
+check_folded h register word place e n = rw (e, n) (sym (check_of_more (running_check h) (in_order (open_writes h)) (write_to register word ∷ []) refl))
 
 -- a write that executes RCRC
 pub check_reset : (h : History) (register word place : ℕ) → executes 7 h (Write register word) ≡ true → running_check (entry (Write register word) place ∷ h) ≡ 0
@@ -104,7 +104,7 @@ check_all register n [] h e f = sym (check_after_none (running_check h) (check_f
 check_all register n (w ∷ ws) h e f =
     check_all register (n + 4) ws (entry (Write register w) (n + 4) ∷ h) e f
     ∙ ap (λ (c : ℕ). check_after c (writes_to register ws)) (check_folded h register w (n + 4) (f h w) e)
-    ∙ sym (check_after_append (running_check h) ((register, w) ∷ []) (writes_to register ws) (check_fits h))
+    ∙ sym (check_after_append (running_check h) (write_to register w ∷ []) (writes_to register ws) (check_fits h))
 
 held_one : (register : ℕ) (w place : ℕ) (h : History) → (register == 4) ≡ false → command_held (entry (Write register w) place ∷ h) ≡ command_held h
 held_one register w place h e = rw e refl
@@ -122,10 +122,10 @@ plain_words register n check held folded ws h plain e s =
     }
 
 -- the state after a word written to a register that does not steer the check
-pub plain_word : (register place check held folded w : ℕ) (h : History) → steers_check register ≡ false → folded ≡ check_after check ((register, w) ∷ []) → IsCheckState check held h → IsCheckState folded held (entry (Write register w) place ∷ h)
+pub plain_word : (register place check held folded w : ℕ) (h : History) → steers_check register ≡ false → folded ≡ check_after_one check register w → IsCheckState check held h → IsCheckState folded held (entry (Write register w) place ∷ h)
 plain_word register place check held folded w h plain e s =
     let p = none_of (register == 0) (register == 1) (register == 4) (register == 8) plain in
     record {
-      check_is = e ∙ ap (λ (c : ℕ). check_after c ((register, w) ∷ [])) s.check_is ∙ sym (check_folded h register w place (plain_open register h w p.0 p.1 p.2) p.3);
+      check_is = e ∙ ap (λ (c : ℕ). check_after_one c register w) s.check_is ∙ sym (check_folded h register w place (plain_open register h w p.0 p.1 p.2) p.3);
       held_is = s.held_is ∙ sym (held_one register w place h p.2);
     }

@@ -1,6 +1,7 @@
 -- The running check of writes to registers (UG470, cyclic redundancy check). That it is CRC-32C, in this order of the
 -- bits and from 0 on, is this project's choice.
 use Rattle.std.specs.Prelude.{◌==◌, ℕ, zero, suc, ◌+◌, ◌*◌, ◌/◌, ◌%◌, ◌^◌, Bool, List, [], ◌∷◌, ◌++◌, length, map, bit_xor}
+use Rattle.x7_packets.specs.CheckedWrites.{RegisterWrite}
 use Rattle.x7_crc.specs.Polynomial.{from_highest, IsRemainder, mirrored, remainder}
 
 -- the polynomial of CRC-32C, x^32 + 1EDC6F41
@@ -20,10 +21,10 @@ bits_of_write register word = low_bits 32 word ++ low_bits 5 register
 abbrev pub bits_per_write : ℕ
 bits_per_write = 37
 
--- the bits of writes, each the register's number and the word, in order
-abbrev pub bits_of_writes : List (ℕ × ℕ) → List Bool
+-- the bits of writes, in order
+abbrev pub bits_of_writes : List RegisterWrite → List Bool
 bits_of_writes [] = []
-bits_of_writes (w ∷ ws) = bits_of_write w.0 w.1 ++ bits_of_writes ws
+bits_of_writes (w ∷ ws) = bits_of_write w.register w.word ++ bits_of_writes ws
 
 -- The polynomial whose remainder is the check of some bits after the check `before`: the first bit is the highest
 -- coefficient, times x^32, and a check's lowest bit is the coefficient of x^31.
@@ -31,22 +32,26 @@ unfoldable pub dividend : ℕ → List Bool → ℕ
 dividend before bits = bit_xor (mirrored 32 before * 2 ^ length bits) (from_highest bits * 2 ^ 32)
 
 -- the check of writes that begins with the check `before`
-unfoldable pub check_after : ℕ → List (ℕ × ℕ) → ℕ
+unfoldable pub check_after : ℕ → List RegisterWrite → ℕ
 check_after before writes =
     mirrored 32 (remainder generator 32 (length (bits_of_writes writes)) (dividend before (bits_of_writes writes)))
 
 -- `check` is the check of writes that begin with the check `before`: the remainder of their bits
-abbrev pub IsCheckAfter : ℕ → List (ℕ × ℕ) → ℕ → Type 0
+abbrev pub IsCheckAfter : ℕ → List RegisterWrite → ℕ → Type 0
 IsCheckAfter before writes check = IsRemainder (dividend before (bits_of_writes writes)) generator 32 (mirrored 32 check)
+
+-- the write of a word to a register
+abbrev pub write_to : ℕ → ℕ → RegisterWrite
+write_to register word = record { register = register; word = word }
 
 -- the check after one write more than those that `check` is the check of
 abbrev pub check_after_one : ℕ → ℕ → ℕ → ℕ
-check_after_one check register word = check_after check ((register, word) ∷ [])
+check_after_one check register word = check_after check (write_to register word ∷ [])
 
--- the check of writes, each the register's number and the word, in order: a check begins as 0
-abbrev pub check_of : List (ℕ × ℕ) → ℕ
+-- the check of writes, in order: a check begins as 0
+abbrev pub check_of : List RegisterWrite → ℕ
 check_of writes = check_after 0 writes
 
 -- writes of these words to one register
-abbrev pub writes_to : ℕ → List ℕ → List (ℕ × ℕ)
-writes_to register words = map (λ word. (register, word)) words
+abbrev pub writes_to : ℕ → List ℕ → List RegisterWrite
+writes_to register words = map (write_to register) words

@@ -8,11 +8,10 @@ use Rattle.x7_packets.specs.History.{command_held, executed_by, History, Write}
 use Rattle.x7_packets.specs.CheckedWrites.{RegisterWrite, clears, open_writes}
 use Rattle.x7_crc.specs.Check.{check_of}
 
--- writes that stand with the newest first, in the order in which they came, each as the check takes it: the register's
--- number and the word
-abbrev pub in_order : List RegisterWrite → List (ℕ × ℕ)
+-- writes that stand with the newest first, in the order in which they came
+abbrev pub in_order : List RegisterWrite → List RegisterWrite
 in_order [] = []
-in_order (write ∷ before) = in_order before ++ (write.register, write.word) ∷ []
+in_order (write ∷ before) = in_order before ++ write ∷ []
 
 -- a write after this history is one that the check is over: it does not clear the check, and is none of LOUT
 pub record Folds (h : History) (register word : ℕ) : Type 0 where

@@ -1,7 +1,7 @@
 //! The running check of a stream's bytes, as they come.
 ghost use Rattle.std.specs.Prelude.{◌≡◌, ℕ, List, [], ◌∷◌, ◌++◌, ◌<◌, ◌%◌, false, length, IfNone, IfSome};
-ghost use Rattle.x7_words.specs.Word.{words_of_bytes};
-ghost use Rattle.x7_regs.specs.Register.{number_of};
+ghost use Rattle.x7_words.specs.Word.{AreWholeWords, words_of_bytes};
+ghost use Rattle.x7_regs.specs.Register.{number_of, reg_number_count};
 ghost use Rattle.x7_packets.specs.Cutter.{IsRun, run_steps};
 ghost use Rattle.x7_packets.specs.History.{command_held, entered_all, entry, History, Write};
 ghost use Rattle.x7_packets.specs.Packet.{payload_steps};
@@ -11,7 +11,7 @@ use crate::check::{fold, fold_slice};
 use crate::written::{check_after_write, executed};
 use std::marker::Model;
 use x7_packets::{Cut, Cutter};
-use x7_regs::{Reg, reg_of};
+use x7_regs::{COMMAND_BITS, Reg, reg_of};
 use x7_words::word_of;
 
 /// What the check of further writes goes on from: the check so far, and the command that CMD holds, five bits.
@@ -26,7 +26,7 @@ fn held_after(held: u8, reg: Reg, word: u32) -> u8
     ensures { (h : History) (place : ℕ) → held ≡ command_held h → result ≡ command_held (entry (Write (number_of reg) word) place ∷ h) }
 {
     match reg {
-        Reg::Cmd => (word & 31) as u8,
+        Reg::Cmd => (word & COMMAND_BITS) as u8,
         _ => held,
     }
 }
@@ -45,7 +45,7 @@ fn after_steering_word(state: CheckState, reg: Reg, word: u32) -> CheckState
 /// The check state after words written to a register to which a write may do more than lengthen the check, taken word
 /// by word: four bytes each.
 fn after_steering_words(state: CheckState, reg: Reg, bytes: &[u8]) -> CheckState
-    requires whole { length bytes.now % 4 ≡ 0 }
+    requires whole { AreWholeWords bytes.now }
     ensures { (h : History) (place : ℕ) → IsCheckState state.check state.held h → IsCheckState result.check result.held (entered_all place (payload_steps (number_of reg) (words_of_bytes bytes.now)) h) }
 {
     let (words, _) = bytes.as_chunks::<4>();
@@ -79,7 +79,7 @@ fn steering_register(register: u8) -> Option<Reg>
 
 /// The check state after a word written to the register with this number.
 fn after_word(state: CheckState, register: u8, word: u32) -> CheckState
-    requires { register < 32 }
+    requires { register < reg_number_count }
     ensures { (h : History) (place : ℕ) → IsCheckState state.check state.held h → IsCheckState result.check result.held (entry (Write register word) place ∷ h) }
 {
     let Some(reg) = steering_register(register) else {
@@ -93,8 +93,8 @@ fn after_word(state: CheckState, register: u8, word: u32) -> CheckState
 
 /// The check state after words written to the register with this number, four bytes each.
 fn after_words(state: CheckState, register: u8, bytes: &[u8]) -> CheckState
-    requires register { register < 32 }
-    requires whole { length bytes.now % 4 ≡ 0 }
+    requires register { register < reg_number_count }
+    requires whole { AreWholeWords bytes.now }
     ensures { (h : History) (place : ℕ) → IsCheckState state.check state.held h → IsCheckState result.check result.held (entered_all place (payload_steps register (words_of_bytes bytes.now)) h) }
 {
     let Some(reg) = steering_register(register) else {

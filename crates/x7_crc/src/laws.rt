@@ -3,7 +3,7 @@ ghost use Rattle.std.specs.Prelude.{◌≡◌, ◌<◌, ◌*◌, ◌^◌, ◌++�
 ghost use Rattle.x7_regs.specs.Register.{number_of};
 ghost use Rattle.x7_regs.specs.declared.register.Reg.TheVariants.{Lout};
 ghost use Rattle.x7_packets.specs.History.{Bad, entry, History, Read, Write};
-ghost use Rattle.x7_packets.specs.CheckedWrites.{clears};
+ghost use Rattle.x7_packets.specs.CheckedWrites.{clears, RegisterWrite};
 ghost use Rattle.x7_crc.specs.RunningCheck.{Folds, running_check};
 ghost use Rattle.x7_crc.specs.Polynomial.{from_highest, IsRemainder, mirrored};
 ghost use Rattle.x7_crc.specs.Check.{bits_of_writes, check_after, check_of, check_after_one, generator, IsCheckAfter};
@@ -11,16 +11,16 @@ ghost use Rattle.x7_crc.specs.Check.{bits_of_writes, check_after, check_of, chec
 /// The check of writes is the remainder, by the polynomial of CRC-32C, of their bits times x^32; so it is after any
 /// check before them, whose polynomial is added above; and nothing else is.
 pub fn checks_are_remainders()
-    ensures most { (before : ℕ) (writes : List (ℕ × ℕ)) → check_after before writes < 2 ^ 32 }
-    ensures remainder { (writes : List (ℕ × ℕ)) → IsRemainder (from_highest (bits_of_writes writes) * 2 ^ 32) generator 32 (mirrored 32 (check_of writes)) }
-    ensures continued { (before : ℕ) (writes : List (ℕ × ℕ)) → before < 2 ^ 32 → IsCheckAfter before writes (check_after before writes) }
-    ensures only { (before check : ℕ) (writes : List (ℕ × ℕ)) → before < 2 ^ 32 → check < 2 ^ 32 → IsCheckAfter before writes check → check ≡ check_after before writes }
+    ensures most { (before : ℕ) (writes : List RegisterWrite) → check_after before writes < 2 ^ 32 }
+    ensures remainder { (writes : List RegisterWrite) → IsRemainder (from_highest (bits_of_writes writes) * 2 ^ 32) generator 32 (mirrored 32 (check_of writes)) }
+    ensures continued { (before : ℕ) (writes : List RegisterWrite) → before < 2 ^ 32 → IsCheckAfter before writes (check_after before writes) }
+    ensures unique { (before check : ℕ) (writes : List RegisterWrite) → before < 2 ^ 32 → check < 2 ^ 32 → IsCheckAfter before writes check → check ≡ check_after before writes }
 {}
 
 /// The check of no writes is the check before them, and writes in two parts have the check of both.
 pub fn checks_continue()
     ensures no_writes { (before : ℕ) → before < 2 ^ 32 → check_after before [] ≡ before }
-    ensures parts { (before : ℕ) (first second : List (ℕ × ℕ)) → before < 2 ^ 32 → check_after before (first ++ second) ≡ check_after (check_after before first) second }
+    ensures parts { (before : ℕ) (first second : List RegisterWrite) → before < 2 ^ 32 → check_after before (first ++ second) ≡ check_after (check_after before first) second }
 {}
 
 /// The check of one write after any check is that from 0 of the word with the check added.

@@ -3,7 +3,7 @@ use Rattle.std.specs.Prelude.{◌≡◌, ℕ, ◌+◌, ◌%◌, ◌^◌, ◌==�
 use Rattle.std.specs.List.{AllByRecursion}
 use Rattle.x7_packets.specs.History as access
 use Rattle.x7_packets.specs.History.{Access, History, command_held, executed_by, is_command, writes}
-use Rattle.x7_crc.specs.Check.{check_after}
+use Rattle.x7_crc.specs.Check.{check_after, check_after_one}
 use Rattle.x7_crc.specs.RunningCheck.{running_check}
 use Rattle.x7_effects.proofs.Items.{Item, Noop, Dummy, Write, WriteLong, Read, ReadLong, IsItem, item_words}
 
@@ -20,7 +20,7 @@ clears_by held a = is_command 7 (executed_by held a) || writes 0 a
 abbrev pub check_by : ℕ → ℕ → ℕ → ℕ → ℕ
 check_by check held register w =
     if clears_by held (access.Write register w) then 0 else
-    if register == 8 then check else check_after check ((register, w) ∷ [])
+    if register == 8 then check else check_after_one check register w
 
 abbrev pub after_write : Checking → ℕ → ℕ → Checking
 after_write c register w = record { check = check_by c.check c.held register w; held = if register == 4 then w % 2 ^ 5 else c.held }

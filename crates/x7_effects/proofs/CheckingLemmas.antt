@@ -3,7 +3,7 @@ use Rattle.std.proofs.Common.{◌≡◌, ℕ, ◌+◌, ◌*◌, ◌%◌, ◌^◌
 use Rattle.x7_packets.specs.History as access
 use Rattle.x7_packets.specs.History.{History, entry, command_held, last_word, history_of, entered, entered_all}
 use Rattle.x7_packets.specs.CheckedWrites.{RegisterWrite, open_writes, clears}
-use Rattle.x7_crc.specs.Check.{check_after, check_of}
+use Rattle.x7_crc.specs.Check.{check_after, check_after_one, check_of, write_to}
 use Rattle.x7_crc.specs.RunningCheck.{in_order}
 use Rattle.x7_crc.proofs.CheckLemmas.{check_after_none, check_after_fits, check_of_more}
 use Rattle.x7_effects.proofs.Items.{Item, Noop, Dummy, Write, WriteLong, Read, ReadLong, item_words, IsItem, AreItems, writes_entered, item_entered, items_entered}
@@ -13,10 +13,10 @@ checking_is : (c d : Checking) → c.check ≡ d.check → c.held ≡ d.held →
 checking_is c d e f = ap (λ (x : ℕ). record { check = x; held = c.held }) e ∙ ap (λ (x : ℕ). record { check = d.check; held = x }) f
 
 check_by_tests : (b d : Bool) (r w : ℕ) (ws : List RegisterWrite)
-    → check_of (in_order (if b then [] else if d then ws else record { register = r; word = w } ∷ ws)) ≡ (if b then 0 else if d then check_of (in_order ws) else check_after (check_of (in_order ws)) ((r, w) ∷ []))
+    → check_of (in_order (if b then [] else if d then ws else record { register = r; word = w } ∷ ws)) ≡ (if b then 0 else if d then check_of (in_order ws) else check_after (check_of (in_order ws)) (write_to r w ∷ []))
 check_by_tests true d r w ws = check_after_none 0 (lit< tt)
 check_by_tests false true r w ws = refl
-check_by_tests false false r w ws = sym (check_of_more (check_of (in_order ws)) (in_order ws) ((r, w) ∷ []) refl)
+check_by_tests false false r w ws = sym (check_of_more (check_of (in_order ws)) (in_order ws) (write_to r w ∷ []) refl)
 
 held_by_test : (b : Bool) (w old : ℕ) → (if b then w else old) % 2 ^ 5 ≡ (if b then w % 2 ^ 5 else old % 2 ^ 5)
 held_by_test true w old = refl
@@ -49,10 +49,10 @@ items_checked place (i ∷ items) h = items_checked (place + 4 * length (item_wo
 write_fits : (c : Checking) (r w : ℕ) → c.check < 2 ^ 32 → (after_write c r w).check < 2 ^ 32
 write_fits c r w f = by_tests (clears_by c.held (access.Write r w)) (r == 8)
   where
-    by_tests : (b d : Bool) → (if b then 0 else if d then c.check else check_after c.check ((r, w) ∷ [])) < 2 ^ 32
+    by_tests : (b d : Bool) → (if b then 0 else if d then c.check else check_after_one c.check r w) < 2 ^ 32
     by_tests true d = omega arith
     by_tests false true = f
-    by_tests false false = check_after_fits c.check ((r, w) ∷ [])
+    by_tests false false = check_after_fits c.check (write_to r w ∷ [])
 
 writes_fit : (c : Checking) (r : ℕ) (ws : List ℕ) → c.check < 2 ^ 32 → (after_writes c r ws).check < 2 ^ 32
 writes_fit c r [] f = f

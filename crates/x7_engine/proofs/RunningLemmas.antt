@@ -4,7 +4,7 @@ use Rattle.x7_packets.specs.History.{entered_all, entry, History, Write}
 use Rattle.x7_packets.specs.Packet.{payload_steps}
 use Rattle.x7_packets.specs.CheckedWrites.{clears, open_writes}
 use Rattle.x7_crc.specs.RunningCheck.{in_order, running_check}
-use Rattle.x7_crc.specs.Check.{check_after, writes_to}
+use Rattle.x7_crc.specs.Check.{check_after, write_to, writes_to}
 use Rattle.x7_crc.proofs.CheckLemmas.{check_after_append, check_after_none, check_after_fits}
 use Rattle.x7_crc.proofs.CheckerLemmas.{check_folded}
 
@@ -19,4 +19,4 @@ check_all_folded register n [] h e f = sym (check_after_none (running_check h) (
 check_all_folded register n (w ∷ ws) h e f =
     check_all_folded register (n + 4) ws (entry (Write register w) (n + 4) ∷ h) e f
     ∙ ap (λ (c : ℕ). check_after c (writes_to register ws)) (check_folded h register w (n + 4) (f h w) e)
-    ∙ sym (check_after_append (running_check h) ((register, w) ∷ []) (writes_to register ws) (check_fits h))
+    ∙ sym (check_after_append (running_check h) (write_to register w ∷ []) (writes_to register ws) (check_fits h))

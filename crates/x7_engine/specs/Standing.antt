@@ -15,7 +15,7 @@ use Rattle.x7_regs.specs.declared.boot_status.Attempt.{Attempt}
 use Rattle.x7_regs.specs.declared.boot_status.Kind.{Kind}
 use Rattle.x7_regs.specs.declared.boot_status.Kind.TheVariants.{Bench}
 use Rattle.x7_regs.specs.declared.register.Reg.TheVariants.{Ctl0, Ctl1}
-use Rattle.x7_regs.specs.Register.{number_of}
+use Rattle.x7_regs.specs.Register.{number_of, reg_number_count}
 use Rattle.x7_engine.specs.declared.controls.Controls.{Controls}
 use Rattle.x7_memory.specs.FrameMap.{AreSame}
 use Rattle.x7_flow.specs.Flow.{far_in, flow_of}
@@ -142,7 +142,7 @@ registers_in d = record {
 
 -- the stored words are the last ones written to the registers by number, or those that the reset kept
 pub record AreLastWords (kept : Kept) (last : List ℕ) (h : History) : Type 0 where
-  pub each : (register : ℕ) → register < 32 → slice_index last register ≡ word_held kept register h
+  pub each : (register : ℕ) → register < reg_number_count → slice_index last register ≡ word_held kept register h
 
 -- the stored registers under MASK are those of the history
 pub record AreControls (d : ControlsState) (h : History) : Type 0 where

@@ -1,17 +1,18 @@
 //! The running check, and the flags that written words set and clear.
 ghost use Rattle.std.specs.Prelude.{◌≡◌, ◌<◌, false, ◌||◌, ◌&&◌, ℕ, ◌∷◌, [], length, ◌%◌};
+ghost use Rattle.x7_words.specs.Word.{AreWholeWords};
 ghost use Rattle.x7_packets.specs.History.{entry, History, Write};
 ghost use Rattle.x7_crc.specs.RunningCheck.{executed_after};
 ghost use Rattle.x7_regs.specs.Command.{code_of};
+ghost use Rattle.x7_regs.specs.Register.{reg_number_count};
 ghost use Rattle.x7_flow.specs.Controls.{names_part, same_idcode};
 ghost use Rattle.x7_flow.specs.Standing.{word_to, written_to};
 ghost use Rattle.x7_engine.specs.Entering.{words_entered};
 ghost use Rattle.x7_engine.specs.Registers.{clears_by, has_ghigh_after, is_controlling, is_pending_after, takes_shutdown, writes_check, writes_command};
 
 use crate::target::PlainNumber;
-use crate::words::COMMAND_BITS;
 use x7_crc::{check_after_write, fold, fold_slice, is_command};
-use x7_regs::{Command, Reg};
+use x7_regs::{COMMAND_BITS, Command, Reg};
 
 /// The bits of an idcode but its version, bits 31 to 28, which isn't compared (this project's choice).
 const VERSIONLESS: u32 = 0x0FFF_FFFF;
@@ -139,9 +140,9 @@ impl Progress {
 
     /// Takes words, four bytes each, written to a register that moves the check and no flag.
     pub(crate) fn pass_all(&mut self, register: u8, bytes: &[u8])
-        requires register { register < 32 }
+        requires register { register < reg_number_count }
         requires controls_nothing { is_controlling register ≡ false }
-        requires whole { length bytes.now % 4 ≡ 0 }
+        requires whole { AreWholeWords bytes.now }
         ensures { (idcode : ℕ) (h : History) (n : ℕ) → IsProgress idcode (progress_in self.old) h → IsProgress idcode (progress_in self.new) (words_entered register bytes.now n h) }
     {
         self.check = fold_slice(self.check, register, bytes);

@@ -1,6 +1,7 @@
 //! The registers of a device, and what an access does to them.
 ghost use Rattle.std.specs.Prelude.{◌≡◌, ◌≤◌, ◌<◌, ◌+◌, ◌*◌, ◌/◌, ◌%◌, ◌&&◌, ℕ, [], true, Option, None, Some, ◌-◌, length};
 ghost use Rattle.std.specs.Option.{option_or};
+ghost use Rattle.x7_words.specs.Word.{AreWholeWords};
 ghost use Rattle.x7_packets.specs.Cutter.{IsRun};
 ghost use Rattle.x7_packets.specs.History.{command_held, entered, History};
 ghost use Rattle.x7_part.specs.Part.{PartData};
@@ -26,13 +27,13 @@ use crate::kept::{Kept, is_fallback};
 use crate::progress::{Progress, is_same_idcode};
 use crate::stop::StopCause;
 use crate::target::{PlainNumber, Target};
-use crate::words::{COMMAND_BITS, Words};
+use crate::words::Words;
 use x7_crc::{executed, is_command};
 use x7_flow::{FrameSettings, Frames};
 use x7_packets::{Cut, Step};
 use x7_part::Part;
 use x7_pipeline::RunFault;
-use x7_regs::{Attempt, Command, Kind, Reg, has_dec};
+use x7_regs::{Attempt, COMMAND_BITS, Command, Kind, Reg, has_dec};
 use x7_words::word_of;
 
 /// The last byte whose access counts, where `taken` bytes are taken: all do but one at which the watchdog fires, whose
@@ -288,7 +289,7 @@ impl Registers {
     /// Says how many bytes these are.
     fn pass_all(&mut self, part: &Part, plain: PlainNumber, bytes: &[u8]) -> usize
         requires ready { AreReady part.now self.old }
-        requires whole { length bytes.now % 4 ≡ 0 }
+        requires whole { AreWholeWords bytes.now }
         ensures { TookWords (change_of part.now self.old self.new) plain.register bytes.now result }
     {
         let left = self.take_bytes(part, bytes.len());
@@ -336,7 +337,7 @@ impl Registers {
     /// Takes payload words one by one up to a byte that stops the device, and says how many bytes these are.
     fn words_one_by_one(&mut self, part: &Part, reg: Reg, bytes: &[u8]) -> usize
         requires ready { AreReady part.now self.old }
-        requires whole { length bytes.now % 4 ≡ 0 }
+        requires whole { AreWholeWords bytes.now }
         ensures { TookWords (change_of part.now self.old self.new) (number_of reg) bytes.now result }
     {
         let (words, _) = bytes.as_chunks::<4>();
@@ -355,7 +356,7 @@ impl Registers {
     #[inline(always)]
     fn body(&mut self, part: &Part, target: Target, bytes: &[u8]) -> usize
         requires ready { AreReady part.now self.old }
-        requires whole { length bytes.now % 4 ≡ 0 }
+        requires whole { AreWholeWords bytes.now }
         ensures { TookWords (change_of part.now self.old self.new) (target_number target) bytes.now result }
     {
         match target {

@@ -1,6 +1,6 @@
 //! The register that words are written to.
 ghost use Rattle.std.specs.Prelude.{◌≡◌, ◌<◌, false, IfSome, IfNone};
-ghost use Rattle.x7_regs.specs.Register.{number_of};
+ghost use Rattle.x7_regs.specs.Register.{number_of, reg_number_count};
 ghost use Rattle.x7_engine.specs.Registers.{has_effect};
 
 use x7_regs::{Reg, reg_of};
@@ -9,7 +9,7 @@ use x7_regs::{Reg, reg_of};
 #[derive(Clone, Copy)]
 pub(crate) struct PlainNumber {
     pub(crate) register: u8,
-    ghost in_range: { register < 32 },
+    ghost in_range: { register < reg_number_count },
     ghost plain: { has_effect register ≡ false },
 }
 
@@ -58,7 +58,7 @@ impl Target {
 
     /// The register with this number.
     pub(crate) fn numbered(register: u8) -> Target
-        requires { register < 32 }
+        requires { register < reg_number_count }
         ensures { target_number result ≡ register }
     {
         match effective(register) {

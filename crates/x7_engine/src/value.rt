@@ -17,9 +17,8 @@ ghost use Rattle.x7_engine.specs.declared.kept.Kept.{Kept};
 use crate::fault::Fault;
 use crate::registers::Registers;
 use crate::stop::StopCause;
-use crate::words::COMMAND_BITS;
 use x7_part::Part;
-use x7_regs::{Attempt, Cause, Kind, Reg, StatParts, boot_word, reg_of, stat_word};
+use x7_regs::{Attempt, COMMAND_BITS, Cause, Kind, Reg, StatParts, boot_word, reg_of, stat_word};
 
 /// Whether the stop is the fault `Crc`.
 fn is_crc_fault(stop: Option<StopCause>) -> bool

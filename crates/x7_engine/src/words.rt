@@ -2,17 +2,14 @@
 ghost use Rattle.std.specs.Prelude.{◌≡◌, ◌<◌, ℕ, ◌∷◌, [], slice_index, ◌%◌, length};
 ghost use Rattle.x7_packets.specs.History.{entered_all, entry, History, Write};
 ghost use Rattle.x7_packets.specs.Packet.{payload_steps};
-ghost use Rattle.x7_words.specs.Word.{words_of_bytes};
-ghost use Rattle.x7_regs.specs.Register.{number_of};
+ghost use Rattle.x7_words.specs.Word.{AreWholeWords, words_of_bytes};
+ghost use Rattle.x7_regs.specs.Register.{number_of, reg_number_count};
 ghost use Rattle.x7_engine.specs.Registers.{word_held};
 ghost use Rattle.x7_engine.specs.declared.kept.Kept.{Kept as KeptData};
 
 use crate::kept::Kept;
 use x7_regs::Reg;
 use x7_words::word_of;
-
-/// The bits of a word of CMD that are the command, bits 4 to 0 (UG470, command register).
-pub(crate) const COMMAND_BITS: u32 = 0x1F;
 
 /// The number of WBSTAR, which a reset keeps.
 const WBSTAR: usize = 16;
@@ -34,7 +31,7 @@ impl Words {
 
     /// Words that are all 0.
     fn zero() -> Words
-        ensures { (register : ℕ) → register < 32 → slice_index result.last register ≡ 0 }
+        ensures { (register : ℕ) → register < reg_number_count → slice_index result.last register ≡ 0 }
     {
         Words { last: [0; 32] }
     }
@@ -52,7 +49,7 @@ impl Words {
 
     /// Stores a word written to a register.
     pub(crate) fn write(&mut self, register: u8, word: u32)
-        requires { register < 32 }
+        requires { register < reg_number_count }
         ensures { (kept : KeptData) (h : History) (place : ℕ) → AreLastWords kept self.old.last h → AreLastWords kept self.new.last (entry (Write register word) place ∷ h) }
     {
         self.last[register as usize] = word;
@@ -67,8 +64,8 @@ impl Words {
 
     /// Stores the last of the words written to a register, four bytes each.
     pub(crate) fn pass_all(&mut self, register: u8, bytes: &[u8])
-        requires register { register < 32 }
-        requires whole { length bytes.now % 4 ≡ 0 }
+        requires register { register < reg_number_count }
+        requires whole { AreWholeWords bytes.now }
         ensures { (kept : KeptData) (h : History) (n : ℕ) → AreLastWords kept self.old.last h → AreLastWords kept self.new.last (entered_all n (payload_steps register (words_of_bytes bytes.now)) h) }
     {
         let (words, _) = bytes.as_chunks::<4>();

@@ -1,5 +1,6 @@
 //! The frames of a device: its pipeline and its memory, which stand for a history.
 ghost use Rattle.std.specs.Prelude.{◌≡◌, ◌+◌, ◌/◌, ◌%◌, ◌≤◌, ◌∷◌, [], ℕ, suc, length, IfOk};
+ghost use Rattle.x7_words.specs.Word.{AreWholeWords};
 ghost use Rattle.x7_part.specs.Part.{PartData};
 ghost use Rattle.x7_packets.specs.History.{History, Write};
 ghost use Rattle.x7_regs.specs.Register.{number_of};
@@ -97,7 +98,7 @@ impl Frames {
         part: &Part,
     ) -> (usize, Option<RunFault>)
         requires register { TakesWords register }
-        requires whole { length bytes.now % 4 ≡ 0 }
+        requires whole { AreWholeWords bytes.now }
         requires part { FramesFit part.now self.old }
         ensures taken { (n : ℕ) → OfFrames part.now settings self.old (λ h. WordsTaken part.now self.new h (words_to register n bytes.now) result) }
         ensures within { result.0 ≤ length bytes.now / 4 }
@@ -116,7 +117,7 @@ impl Frames {
         bytes: &[u8],
         part: &Part,
     ) -> (usize, Option<RunFault>)
-        requires whole { length bytes.now % 4 ≡ 0 }
+        requires whole { AreWholeWords bytes.now }
         requires part { FramesFit part.now self.old }
         ensures taken { (n : ℕ) → OfFrames part.now settings self.old (λ h. WordsTaken part.now self.new h (words_to reg.Fdri n bytes.now) result) }
         ensures within { result.0 ≤ length bytes.now / 4 }
@@ -135,7 +136,7 @@ impl Frames {
         bytes: &[u8],
         part: &Part,
     ) -> (usize, Option<RunFault>)
-        requires whole { length bytes.now % 4 ≡ 0 }
+        requires whole { AreWholeWords bytes.now }
         requires part { FramesFit part.now self.old }
         ensures taken { (n : ℕ) → OfFrames part.now settings self.old (λ h. WordsTaken part.now self.new h (words_to reg.Mfwr n bytes.now) result) }
         ensures within { result.0 ≤ length bytes.now / 4 }

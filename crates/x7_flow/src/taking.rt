@@ -1,5 +1,6 @@
 //! A pipeline and a memory do what an access asks (UG470, frame address register and frame data registers).
 ghost use Rattle.std.specs.Prelude.{◌≡◌, ◌/◌, ◌%◌, ◌≤◌, ℕ, length, IfNone, OnSome};
+ghost use Rattle.x7_words.specs.Word.{AreWholeWords};
 ghost use Rattle.x7_regs.specs.declared.register.Reg.TheVariants as reg;
 ghost use Rattle.x7_flow.specs.Settings.{AreSettingsAfter, takes_copies as takes_copies_by};
 ghost use Rattle.x7_flow.specs.Words.{OfTaking, WordsTaken, words_to};
@@ -76,7 +77,7 @@ pub(crate) fn take_copies(
     pipeline: &mut Pipeline,
     memory: &mut Memory,
 ) -> (usize, Option<RunFault>)
-    requires whole { length bytes.now % 4 ≡ 0 }
+    requires whole { AreWholeWords bytes.now }
     requires part { AreOfPart part.now pipeline.old memory.old }
     ensures taken { (n : ℕ) → OfTaking part.now takes_copies_by pipeline.old memory.old (λ h. WordsTaken part.now (frames_state pipeline.new memory.new) h (words_to reg.Mfwr n bytes.now) result) }
     ensures within { result.0 ≤ length bytes.now / 4 }

@@ -9,7 +9,7 @@ use Rattle.x7_words.specs.Word.{AreBytes}
 use Rattle.x7_words.proofs.CountLemmas.{risen_from}
 use Rattle.x7_words.proofs.InputLemmas.{preceded_preceded}
 use Rattle.x7_words.proofs.ListLemmas.{shorter_prefix}
-use Rattle.x7_header.specs.Header.{Contents, EndsInHeader, contents_in_order, fixed_bytes, HasOtherLetter, HasOtherLetterAt, HaveHeader, fields_bytes, header_bytes, layout, longest_header}
+use Rattle.x7_header.specs.Header.{Contents, EndsInHeader, contents_in_order, fixed_bytes, HasOtherLetter, HasOtherLetterAt, HaveHeader, fields_bytes, header_bytes, header_fields, longest_header}
 use Rattle.x7_header.specs.Reading.{HeaderWaits, header_at}
 use Rattle.x7_header.specs.declared.fault.HeaderFault.{HeaderFault}
 use Rattle.x7_header.specs.declared.fault.HeaderFault.TheVariants as header
@@ -55,7 +55,7 @@ unheaded bytes line n false long h none zero = λ rest more.
 -- another letter, whatever follows
 other_more : (bytes rest : List ℕ) (place : ℕ) → HasOtherLetterAt bytes place → HasOtherLetterAt (bytes ++ rest) place
 other_more bytes rest place h =
-    let o : HasOtherLetter layout h.0 (length bytes - place) = h.3 in (
+    let o : HasOtherLetter header_fields h.0 (length bytes - place) = h.3 in (
       h.0 ++ rest,
       ap (λ b. b ++ rest) h.1 ∙ append_assoc fixed_bytes h.0 rest,
       omega (arith, h.2, length-append bytes rest),
@@ -136,7 +136,7 @@ fixed_long after = omega (arith, length-append fixed_bytes after)
 
 pub holds_few : (old piece bytes : List ℕ) (n start : ℕ) → IsPiece old piece bytes n → DataBeginAt bytes start → HoldsFew bytes start
 holds_few old piece bytes n start p (inl (x, h, e, size)) =
-    let none = first_judged old piece bytes (header_bytes x) (drop start bytes) n p (fixed_long (fields_bytes layout (contents_in_order x))) e (header_judges x h) in
+    let none = first_judged old piece bytes (header_bytes x) (drop start bytes) n p (fixed_long (fields_bytes header_fields (contents_in_order x))) e (header_judges x h) in
     inl (omega (arith, size, ap length e, ap length none, length-append (header_bytes x) (drop start bytes)))
 holds_few old piece bytes n start p (inr (zero, raw)) = elim p.waiting [
   | inl none ↦ inr (zero, omega (arith, p.short, p.fixed, ap length none, ap length p.joined, length-append old piece))
@@ -154,7 +154,7 @@ record LetterFront (bytes : List ℕ) (place : ℕ) : Type 0 where
 
 letter_prefix : (bytes : List ℕ) (place : ℕ) → HasOtherLetterAt bytes place → LetterFront bytes place
 letter_prefix bytes place h =
-    let o : HasOtherLetter layout h.0 (length bytes - place) = h.3 in
+    let o : HasOtherLetter header_fields h.0 (length bytes - place) = h.3 in
     let before = fields_bytes o.done o.contents in
     let after = before ++ o.other ∷ [] in
     let prefix = fixed_bytes ++ after in

@@ -1,7 +1,7 @@
 //! One line of a frames text.
 ghost use Rattle.std.specs.Prelude.{◌≡◌, ◌+◌, ◌*◌, ◌%◌, ◌<◌, ◌≤◌, ◌++◌, length, take, Some, None, MatchBool, MatchOption, vec_capacity};
 ghost use Rattle.x7_text.specs.EitherCase.{bytes_of_pairs};
-ghost use Rattle.x7_words.specs.Word.{AreBytes, words_of_bytes};
+ghost use Rattle.x7_words.specs.Word.{AreBytes, AreWholeWords, words_of_bytes};
 ghost use Rattle.x7_memory.specs.Plan.{PlanRow};
 ghost use Rattle.x7_part.specs.Limits.{most_frame_words};
 ghost use Rattle.x7_frames.specs.FramesText.{HasNoFrameHead, frame_head, IsFrameLine};
@@ -84,7 +84,7 @@ fn read_digits(bytes: &mut [u8], digits: &[u8]) -> bool
 
 /// Makes the vector, which has room for them, hold the words of these bytes, four bytes each.
 fn replace(words: &mut Vec<u32>, bytes: &[u8])
-    requires whole { length bytes.now % 4 ≡ 0 }
+    requires whole { AreWholeWords bytes.now }
     requires room { length bytes.now ≤ 4 * vec_capacity words.old }
     ensures items { words.new.items ≡ words_of_bytes bytes.now }
     ensures room { vec_capacity words.old ≤ vec_capacity words.new }

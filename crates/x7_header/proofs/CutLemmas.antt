@@ -6,11 +6,11 @@ use Rattle.std.proofs.lemmas.Slice.Eq.{starts_is}
 use Rattle.std.specs.List.{AllByRecursion, starts_with}
 use Rattle.x7_words.specs.Word.{AreBytes}
 use Rattle.x7_words.proofs.ListLemmas.{all_append, all_prefix, all_back}
-use Rattle.x7_header.specs.Header.{fixed_bytes, FieldKind, Field, layout, Holds, Hold, HasOtherLetterAt, EndsInHeader, bytes_of_count, field_bytes, fields_bytes, Contents, header_bytes}
-use Rattle.x7_header.specs.Reading.{◌>>=◌, after_letter, content_at, field_at, fields_at, contents_from, layout_at, header_at, ReturnsAs}
+use Rattle.x7_header.specs.Header.{fixed_bytes, FieldKind, Field, header_fields, Holds, Hold, HasOtherLetterAt, EndsInHeader, bytes_of_count, field_bytes, fields_bytes, Contents, header_bytes}
+use Rattle.x7_header.specs.Reading.{◌>>=◌, after_letter, content_at, field_at, fields_at, contents_from, header_fields_at, header_at, ReturnsAs}
 use Rattle.x7_header.specs.declared.fault.HeaderFault.{HeaderFault}
 use Rattle.x7_header.specs.declared.fault.HeaderFault.TheVariants as fault
-use Rattle.x7_header.proofs.HeaderLemmas.{done, failed, ok_not_err, err_is, bind_err, letter_takes, count_again, two_and, field_takes, from_layout, header_takes, header_again, header_tells, raw_at, cut_at, header_refused, field_at_place}
+use Rattle.x7_header.proofs.HeaderLemmas.{done, failed, ok_not_err, err_is, bind_err, letter_takes, count_again, two_and, field_takes, from_header_fields, header_takes, header_again, header_tells, raw_at, cut_at, header_refused, field_at_place}
 
 -- ---- where the reading says Cut, some header goes on
 
@@ -212,18 +212,18 @@ fields_end total place (field ∷ fields) bytes l f e =
           ]
     ]
 
-layout_letters : HaveLetters layout
-layout_letters = (omega arith, (omega arith, (omega arith, (omega arith, (omega arith, tt)))))
+header_letters : HaveLetters header_fields
+header_letters = (omega arith, (omega arith, (omega arith, (omega arith, (omega arith, tt)))))
 
 cut_in_header : (bytes : List ℕ) (place : ℕ) (b : Bool) → AreBytes bytes → starts_with nat_eq bytes fixed_bytes ≡ b → header_at bytes ≡ Err (fault.Cut place) → EndsInHeader bytes
-unfolding header_at layout_at
+unfolding header_at header_fields_at
 cut_in_header bytes place true f s e =
     let there = (starts_is Decides-eqb bytes fixed_bytes (starts_with nat_eq bytes fixed_bytes) refl).0 s in
-    let at : header_at bytes ≡ layout_at (length bytes) (drop 13 bytes) = rw s refl in
-    elim (bind_err (fields_at (length bytes) layout (drop 13 bytes)) (λ read. Ok (contents_from read.0, length bytes - length read.1)) (fault.Cut place) (sym at ∙ e)) [
+    let at : header_at bytes ≡ header_fields_at (length bytes) (drop 13 bytes) = rw s refl in
+    elim (bind_err (fields_at (length bytes) header_fields (drop 13 bytes)) (λ read. Ok (contents_from read.0, length bytes - length read.1)) (fault.Cut place) (sym at ∙ e)) [
       | inl later ↦
-          let w = fields_end (length bytes) place layout (drop 13 bytes) layout_letters (all_back (λ c. c < 256) fixed_bytes (drop 13 bytes) (subst AreBytes there f)) later in
-          let h = from_layout w.contents w.hold w.contents_are in
+          let w = fields_end (length bytes) place header_fields (drop 13 bytes) header_letters (all_back (λ c. c < 256) fixed_bytes (drop 13 bytes) (subst AreBytes there f)) later in
+          let h = from_header_fields w.contents w.hold w.contents_are in
           record {
             header = contents_from w.contents;
             after = drop 13 bytes;
@@ -231,7 +231,7 @@ cut_in_header bytes place true f s e =
             missing = w.missing;
             have_header = h.have_header;
             fixed_are = there;
-            goes_on = ap (λ (c : List (List ℕ)). fixed_bytes ++ fields_bytes layout c) h.listed_again ∙ ap (λ r. fixed_bytes ++ r) w.goes_on ∙ ap (λ r. r ++ w.next ∷ w.missing) (sym there);
+            goes_on = ap (λ (c : List (List ℕ)). fixed_bytes ++ fields_bytes header_fields c) h.listed_again ∙ ap (λ r. fixed_bytes ++ r) w.goes_on ∙ ap (λ r. r ++ w.next ∷ w.missing) (sym there);
             missing_are = w.missing_are;
           }
       | inr good ↦ absurd (ok_not_err (contents_from good.0.0, length bytes - length good.0.1) (fault.Cut place) good.2)

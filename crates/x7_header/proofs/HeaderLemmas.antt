@@ -10,8 +10,8 @@ use Rattle.x7_words.specs.Word.{AreBytes, bytes_of_word, word_of_bytes}
 use Rattle.x7_words.proofs.ListLemmas.{all_prefix, all_back}
 use Rattle.x7_words.proofs.WordLemmas.{bytes_words, words_fit}
 use Rattle.x7_words.proofs.WordLemmas.{word_whole}
-use Rattle.x7_header.specs.Header.{fixed_bytes, FieldKind, Field, layout, Holds, Hold, HasOtherLetter, HasOtherLetterAt, bytes_of_count, field_bytes, fields_bytes, Contents, contents_in_order, HaveHeader, header_bytes}
-use Rattle.x7_header.specs.Reading.{◌>>=◌, after_letter, first_bytes, content_at, field_at, fields_at, contents_from, after_fixed_bytes, layout_at, header_at, ReturnsAs}
+use Rattle.x7_header.specs.Header.{fixed_bytes, FieldKind, Field, header_fields, Holds, Hold, HasOtherLetter, HasOtherLetterAt, bytes_of_count, field_bytes, fields_bytes, Contents, contents_in_order, HaveHeader, header_bytes}
+use Rattle.x7_header.specs.Reading.{◌>>=◌, after_letter, first_bytes, content_at, field_at, fields_at, contents_from, after_fixed_bytes, header_fields_at, header_at, ReturnsAs}
 use Rattle.x7_header.specs.declared.fault.HeaderFault.{HeaderFault}
 use Rattle.x7_header.specs.declared.fault.HeaderFault.TheVariants as fault
 
@@ -57,10 +57,10 @@ fields_again total (field ∷ fields) (content ∷ contents) rest h =
 
 -- a header that stands at the beginning is read, with its size
 pub header_again : (x : Contents) (rest : List ℕ) → HaveHeader x → header_at (header_bytes x ++ rest) ≡ Ok (x, length (header_bytes x))
-unfolding header_at layout_at
+unfolding header_at header_fields_at
 header_again x rest h =
     let size : length (header_bytes x ++ rest) - length rest ≡ length (header_bytes x) = omega (arith, length-append (header_bytes x) rest) in
-    rw (fields_again (length (header_bytes x ++ rest)) layout (contents_in_order x) rest (h.a, (h.b, (h.c, (h.d, (refl, tt))))), size, word_whole x.data_length h.data_length) refl
+    rw (fields_again (length (header_bytes x ++ rest)) header_fields (contents_in_order x) rest (h.a, (h.b, (h.c, (h.d, (refl, tt))))), size, word_whole x.data_length h.data_length) refl
 
 abbrev pub done : {A : Type 0} → A → Result A HeaderFault
 done x = Ok x
@@ -161,19 +161,19 @@ four_again (a ∷ b ∷ c ∷ []) f l = absurd (omega (arith, l))
 four_again (a ∷ b ∷ c ∷ d ∷ x ∷ more) f l = absurd (omega (arith, l))
 four_again (a ∷ b ∷ c ∷ d ∷ []) f l = (bytes_words (a ∷ b ∷ c ∷ d ∷ []) 1 f refl, (words_fit (a ∷ b ∷ c ∷ d ∷ []) f).0)
 
--- fields that hold what the layout's can are those of a head
+-- fields that hold what those of a header can are those of a head
 pub record FromHead (contents : List (List ℕ)) : Type 0 where
   pub listed_again : contents_in_order (contents_from contents) ≡ contents
   pub have_header : HaveHeader (contents_from contents)
 
-pub from_layout : (contents : List (List ℕ)) → Hold layout contents → AllByRecursion AreBytes contents → FromHead contents
-from_layout [] h f = absurd h
-from_layout (a ∷ []) h f = absurd h.1
-from_layout (a ∷ b ∷ []) h f = absurd h.1.1
-from_layout (a ∷ b ∷ c ∷ []) h f = absurd h.1.1.1
-from_layout (a ∷ b ∷ c ∷ d ∷ []) h f = absurd h.1.1.1.1
-from_layout (a ∷ b ∷ c ∷ d ∷ e ∷ x ∷ more) h f = absurd h.1.1.1.1.1
-from_layout (a ∷ b ∷ c ∷ d ∷ e ∷ []) h f =
+pub from_header_fields : (contents : List (List ℕ)) → Hold header_fields contents → AllByRecursion AreBytes contents → FromHead contents
+from_header_fields [] h f = absurd h
+from_header_fields (a ∷ []) h f = absurd h.1
+from_header_fields (a ∷ b ∷ []) h f = absurd h.1.1
+from_header_fields (a ∷ b ∷ c ∷ []) h f = absurd h.1.1.1
+from_header_fields (a ∷ b ∷ c ∷ d ∷ []) h f = absurd h.1.1.1.1
+from_header_fields (a ∷ b ∷ c ∷ d ∷ e ∷ x ∷ more) h f = absurd h.1.1.1.1.1
+from_header_fields (a ∷ b ∷ c ∷ d ∷ e ∷ []) h f =
     let w = four_again e f.1.1.1.1.0 h.1.1.1.1.0 in
     record {
       listed_again = ap (λ (r : List ℕ). a ∷ b ∷ c ∷ d ∷ r ∷ []) w.0;
@@ -197,14 +197,14 @@ fixed_takes bytes rest e =
     (starts_is Decides-eqb bytes fixed_bytes (starts_with nat_eq bytes fixed_bytes) refl).0 t.0 ∙ ap (λ (r : List ℕ). fixed_bytes ++ r) t.1
 
 pub header_takes : (bytes : List ℕ) (x : Contents × ℕ) → AreBytes bytes → header_at bytes ≡ Ok x → IsPrefix bytes x
-unfolding header_at layout_at
+unfolding header_at header_fields_at
 header_takes bytes x f e =
-    let a = bind_ok (after_fixed_bytes bytes) (layout_at (length bytes)) x e in
+    let a = bind_ok (after_fixed_bytes bytes) (header_fields_at (length bytes)) x e in
     let p = fixed_takes bytes a.0 a.1 in
-    let b = bind_ok (fields_at (length bytes) layout a.0) (λ read. Ok (contents_from read.0, length bytes - length read.1)) x a.2 in
-    let t = fields_take (length bytes) layout a.0 b.0 (all_back (λ c. c < 256) fixed_bytes a.0 (subst AreBytes p f)) b.1 in
-    let h = from_layout b.0.0 t.hold t.fit in
-    let whole : bytes ≡ header_bytes (contents_from b.0.0) ++ b.0.1 = p ∙ ap (λ (r : List ℕ). fixed_bytes ++ r) (t.parts ∙ ap (λ (c : List (List ℕ)). fields_bytes layout c ++ b.0.1) (sym h.listed_again)) in
+    let b = bind_ok (fields_at (length bytes) header_fields a.0) (λ read. Ok (contents_from read.0, length bytes - length read.1)) x a.2 in
+    let t = fields_take (length bytes) header_fields a.0 b.0 (all_back (λ c. c < 256) fixed_bytes a.0 (subst AreBytes p f)) b.1 in
+    let h = from_header_fields b.0.0 t.hold t.fit in
+    let whole : bytes ≡ header_bytes (contents_from b.0.0) ++ b.0.1 = p ∙ ap (λ (r : List ℕ). fixed_bytes ++ r) (t.parts ∙ ap (λ (c : List (List ℕ)). fields_bytes header_fields c ++ b.0.1) (sym h.listed_again)) in
     let n = prefix_of bytes (header_bytes (contents_from b.0.0)) b.0.1 whole in
     let made : Contents × ℕ = (contents_from b.0.0, length bytes - length b.0.1) in
     subst (IsPrefix bytes) (ok_is made x b.2) (record { have_header = h.have_header; prefix = n.1; size = n.0 })
@@ -283,9 +283,9 @@ fields_inside total (field ∷ fields) bytes =
     bind_inside total (field_at total field bytes) (λ first. fields_at total fields first.1 >>= λ others. Ok (first.0 ∷ others.0, others.1)) (field_inside total field bytes)
     (λ first. bind_inside total (fields_at total fields first.1) (λ others. Ok (first.0 ∷ others.0, others.1)) (fields_inside total fields first.1) (λ others. tt))
 
-layout_inside : (total : ℕ) (bytes : List ℕ) → FaultInside total (layout_at total bytes)
-unfolding layout_at
-layout_inside total bytes = bind_inside total (fields_at total layout bytes) (λ read. Ok (contents_from read.0, total - length read.1)) (fields_inside total layout bytes) (λ read. tt)
+header_fields_inside : (total : ℕ) (bytes : List ℕ) → FaultInside total (header_fields_at total bytes)
+unfolding header_fields_at
+header_fields_inside total bytes = bind_inside total (fields_at total header_fields bytes) (λ read. Ok (contents_from read.0, total - length read.1)) (fields_inside total header_fields bytes) (λ read. tt)
 
 inside_not : {A : Type 0} (total : ℕ) (r : Result A HeaderFault) → FaultInside total r → r ≡ Err fault.Raw → ⊥
 inside_not total (Ok x) i e = ok_not_err x fault.Raw e
@@ -295,9 +295,9 @@ inside_not total (Err d) i e = subst (FaultInside total) e i
 pub raw_at : (bytes : List ℕ) (b : Bool) → starts_with nat_eq bytes fixed_bytes ≡ b → (header_at bytes ≡ Err fault.Raw) ↔ ((rest : List ℕ) → bytes ≢ fixed_bytes ++ rest)
 unfolding header_at
 raw_at bytes true s =
-    let at : header_at bytes ≡ layout_at (length bytes) (drop 13 bytes) = rw s refl in
+    let at : header_at bytes ≡ header_fields_at (length bytes) (drop 13 bytes) = rw s refl in
     let there = (starts_is Decides-eqb bytes fixed_bytes (starts_with nat_eq bytes fixed_bytes) refl).0 s in (
-      λ e. absurd (inside_not (length bytes) (layout_at (length bytes) (drop 13 bytes)) (layout_inside (length bytes) (drop 13 bytes)) (sym at ∙ e)),
+      λ e. absurd (inside_not (length bytes) (header_fields_at (length bytes) (drop 13 bytes)) (header_fields_inside (length bytes) (drop 13 bytes)) (sym at ∙ e)),
       λ n. absurd (n (drop 13 bytes) there),
     )
 raw_at bytes false s =
@@ -317,8 +317,8 @@ is_raw {X = X} view (Err d) bytes g =
 pub cut_at : (bytes : List ℕ) (place : ℕ) (b : Bool) → starts_with nat_eq bytes fixed_bytes ≡ b → header_at bytes ≡ Err (fault.Cut place) → place ≡ length bytes
 unfolding header_at
 cut_at bytes place true s e =
-    let at : header_at bytes ≡ layout_at (length bytes) (drop 13 bytes) = rw s refl in
-    subst (FaultInside (length bytes)) (sym at ∙ e) (layout_inside (length bytes) (drop 13 bytes))
+    let at : header_at bytes ≡ header_fields_at (length bytes) (drop 13 bytes) = rw s refl in
+    subst (FaultInside (length bytes)) (sym at ∙ e) (header_fields_inside (length bytes) (drop 13 bytes))
 cut_at bytes place false s e =
     let at : header_at bytes ≡ Err fault.Raw = rw s refl in
     let same : fault.Raw ≡ fault.Cut place = err_is (Contents × ℕ) fault.Raw (fault.Cut place) (sym at ∙ e) in
@@ -416,13 +416,13 @@ other_refused total (field ∷ before) (content ∷ contents) next later other r
     rw (append_assoc (field_bytes field content) (fields_bytes before contents) (other ∷ rest), field_again total field content (fields_bytes before contents ++ other ∷ rest) h.0, other_refused total before contents next later other rest h.1 n) refl
 
 pub field_at_place : (bytes : List ℕ) (place : ℕ) (b : Bool) → AreBytes bytes → starts_with nat_eq bytes fixed_bytes ≡ b → header_at bytes ≡ Err (fault.Field place) → HasOtherLetterAt bytes place
-unfolding header_at layout_at
+unfolding header_at header_fields_at
 field_at_place bytes place true f s e =
     let there = (starts_is Decides-eqb bytes fixed_bytes (starts_with nat_eq bytes fixed_bytes) refl).0 s in
-    let at : header_at bytes ≡ layout_at (length bytes) (drop 13 bytes) = rw s refl in
-    elim (bind_err (fields_at (length bytes) layout (drop 13 bytes)) (λ read. Ok (contents_from read.0, length bytes - length read.1)) (fault.Field place) (sym at ∙ e)) [
+    let at : header_at bytes ≡ header_fields_at (length bytes) (drop 13 bytes) = rw s refl in
+    elim (bind_err (fields_at (length bytes) header_fields (drop 13 bytes)) (λ read. Ok (contents_from read.0, length bytes - length read.1)) (fault.Field place) (sym at ∙ e)) [
       | inl later ↦
-          let w = other_letter (length bytes) place layout (drop 13 bytes) (all_back (λ c. c < 256) fixed_bytes (drop 13 bytes) (subst AreBytes there f)) (omega (arith, ap length there, length-append fixed_bytes (drop 13 bytes))) later in
+          let w = other_letter (length bytes) place header_fields (drop 13 bytes) (all_back (λ c. c < 256) fixed_bytes (drop 13 bytes) (subst AreBytes there f)) (omega (arith, ap length there, length-append fixed_bytes (drop 13 bytes))) later in
           (drop 13 bytes, there, w.0, w.1)
       | inr good ↦ absurd (ok_not_err (contents_from good.0.0, length bytes - length good.0.1) (fault.Field place) good.2)
     ]
@@ -432,14 +432,14 @@ field_at_place bytes place false f s e =
     absurd cc
 
 pub header_refused : (bytes : List ℕ) (place : ℕ) → HasOtherLetterAt bytes place → header_at bytes ≡ Err (fault.Field place)
-unfolding header_at layout_at
+unfolding header_at header_fields_at
 header_refused bytes place (after, prefix, h, w) =
     let refused = other_refused (length bytes) w.done w.contents w.next w.later w.other w.rest w.hold w.differs in
     let l = w.left_is in
     let back : length bytes - length (w.other ∷ w.rest) ≡ place = omega (arith, l, h) in
-    let fields : fields_at (length bytes) layout after ≡ Err (fault.Field place) = rw (w.fields_are, w.bytes_are) refused ∙ ap (λ n. failed (List (List ℕ) × List ℕ) (fault.Field n)) back in
-    let layout_refused : layout_at (length bytes) after ≡ Err (fault.Field place) = rw fields refl in
-    ap header_at prefix ∙ ap (λ n. layout_at n after) (sym (ap length prefix)) ∙ layout_refused
+    let fields : fields_at (length bytes) header_fields after ≡ Err (fault.Field place) = rw (w.fields_are, w.bytes_are) refused ∙ ap (λ n. failed (List (List ℕ) × List ℕ) (fault.Field n)) back in
+    let fields_refused : header_fields_at (length bytes) after ≡ Err (fault.Field place) = rw fields refl in
+    ap header_at prefix ∙ ap (λ n. header_fields_at n after) (sym (ap length prefix)) ∙ fields_refused
 
 pub is_other : {X : Type 0} (view : X → Contents × ℕ) (result : Result X HeaderFault) (bytes : List ℕ) → AreBytes bytes → ReturnsAs view result (header_at bytes) → (place : ℕ) →
     IsErrOf result (fault.Field place) ↔ HasOtherLetterAt bytes place
@@ -451,7 +451,7 @@ is_other {X = X} view (Err d) bytes f g place = (
 )
 
 -- a header is what follows the fixed bytes
-pub header_after : (bytes after : List ℕ) → after_fixed_bytes bytes ≡ Ok after → header_at bytes ≡ layout_at (length bytes) after
+pub header_after : (bytes after : List ℕ) → after_fixed_bytes bytes ≡ Ok after → header_at bytes ≡ header_fields_at (length bytes) after
 unfolding header_at
 header_after bytes after e = rw e refl
 

@@ -3,7 +3,7 @@ use Rattle.std.proofs.Common.{◌≡◌, ℕ, ◌+◌, ◌-◌, ◌*◌, ◌<◌
 use Rattle.std.specs.Prelude.{IfErr, IsErr, IsErrAnd}
 use Rattle.x7_words.specs.Word.{AreBytes}
 use Rattle.x7_header.specs.Header.{EndsInHeader, FieldKind, Field}
-use Rattle.x7_header.specs.Reading.{◌>>=◌, FieldWaits, HeaderWaits, LayoutWaits, first_bytes, content_at, field_at, after_fixed_bytes, header_at, number_lacks, text_lacks}
+use Rattle.x7_header.specs.Reading.{◌>>=◌, FieldWaits, HeaderWaits, HeaderFieldsWait, first_bytes, content_at, field_at, after_fixed_bytes, header_at, number_lacks, text_lacks}
 use Rattle.x7_header.specs.declared.fault.HeaderFault.{HeaderFault}
 use Rattle.x7_header.specs.declared.fault.HeaderFault.TheVariants as fault
 use Rattle.x7_header.proofs.CutLemmas.{header_cut}
@@ -79,5 +79,5 @@ one_waits bytes f e [] h = ap header_at (append-nil bytes) ∙ header_cut bytes 
 one_waits bytes f e (x ∷ more) h = absurd (omega arith)
 
 -- a header waits for what its fields wait for
-pub fields_wait : (bytes after : List ℕ) (count : ℕ) → ((more : List ℕ) → after_fixed_bytes (bytes ++ more) ≡ Ok (after ++ more)) → LayoutWaits after count → HeaderWaits bytes count
+pub fields_wait : (bytes after : List ℕ) (count : ℕ) → ((more : List ℕ) → after_fixed_bytes (bytes ++ more) ≡ Ok (after ++ more)) → HeaderFieldsWait after count → HeaderWaits bytes count
 fields_wait bytes after count g w = λ more h. header_after (bytes ++ more) (after ++ more) (g more) ∙ w (length (bytes ++ more)) more h

@@ -1,4 +1,4 @@
--- The header before a stream's data, as a list of fields (not in UG470: the layout that the vendor's tool writes).
+-- The header before a stream's data, as a list of fields (not in UG470: the form that the vendor's tool writes).
 use Rattle.std.specs.Prelude.{◌≡◌, ◌≢◌, ◌≤◌, ◌+◌, ◌*◌, ◌-◌, ℕ, ◌/◌, ◌%◌, ◌<◌, ◌^◌, List, [], ◌∷◌, ◌++◌, length, drop}
 use Rattle.x7_words.specs.Word.{AreBytes, bytes_of_word}
 use Rattle.x7_header.specs.declared.header.Head.{Head}
@@ -32,8 +32,8 @@ pub record Field : Type 0 where
   pub kind : FieldKind
 
 -- the fields of a header in their order: design, part, date and time, and the length of the data
-abbrev pub layout : List Field
-layout =
+abbrev pub header_fields : List Field
+header_fields =
     record { letter = 0x61; kind = FieldKind.Counted }
     ∷ record { letter = 0x62; kind = FieldKind.Counted }
     ∷ record { letter = 0x63; kind = FieldKind.Counted }
@@ -86,7 +86,7 @@ pub record HasOtherLetter (fields : List Field) (bytes : List ℕ) (left : ℕ) 
 -- the bytes before the place begin a header whose next letter is due there, and another byte stands there
 abbrev pub HasOtherLetterAt : List ℕ → ℕ → Type 0
 HasOtherLetterAt bytes place =
-    (after : List ℕ) × (bytes ≡ fixed_bytes ++ after) × (place ≤ length bytes) × HasOtherLetter layout after (length bytes - place)
+    (after : List ℕ) × (bytes ≡ fixed_bytes ++ after) × (place ≤ length bytes) × HasOtherLetter header_fields after (length bytes - place)
 
 -- what the fields of a header hold
 pub record Contents : Type 0 where
@@ -96,7 +96,7 @@ pub record Contents : Type 0 where
   pub d : List ℕ
   pub data_length : ℕ
 
--- the contents of a header's fields in the layout's order
+-- the contents of a header's fields in their order
 abbrev pub contents_in_order : Contents → List (List ℕ)
 contents_in_order x = x.a ∷ x.b ∷ x.c ∷ x.d ∷ bytes_of_word x.data_length ∷ []
 
@@ -110,7 +110,7 @@ pub record HaveHeader (x : Contents) : Type 0 where
 
 -- the bytes of the header with these contents
 abbrev pub header_bytes : Contents → List ℕ
-header_bytes x = fixed_bytes ++ fields_bytes layout (contents_in_order x)
+header_bytes x = fixed_bytes ++ fields_bytes header_fields (contents_in_order x)
 
 -- the header with these contents and of this size stands at the beginning of the bytes
 abbrev pub BeginsWith : Contents → ℕ → List ℕ → Type 0

@@ -1,9 +1,9 @@
--- Reading a header from left to right by its layout, with the first fault that is met (not in UG470:
--- the layout that the vendor's tool writes).
+-- Reading a header from left to right, field by field, with the first fault that is met (not in UG470:
+-- the form that the vendor's tool writes).
 use Rattle.std.specs.Prelude.{◌≡◌, ℕ, ◌+◌, ◌-◌, ◌*◌, ◌<◌, List, [], ◌∷◌, ◌++◌, length, take, drop, Result, Ok, Err, nat_le, nat_lt, nat_eq, max, ◌==◌, if◌then◌else◌}
 use Rattle.std.specs.List.{starts_with}
 use Rattle.x7_words.specs.Word.{word_of_bytes}
-use Rattle.x7_header.specs.Header.{fixed_bytes, fixed_size, FieldKind, Field, layout, Contents}
+use Rattle.x7_header.specs.Header.{fixed_bytes, fixed_size, FieldKind, Field, header_fields, Contents}
 use Rattle.x7_header.specs.declared.fault.HeaderFault.{HeaderFault}
 use Rattle.x7_header.specs.declared.fault.HeaderFault.TheVariants as fault
 
@@ -63,7 +63,7 @@ fields_at total (field ∷ fields) bytes = do
   others ← fields_at total fields first.1
   Ok (first.0 ∷ others.0, others.1)
 
--- what a header holds, by the contents of its fields in the layout's order
+-- what a header holds, by the contents of its fields in their order
 abbrev pub contents_from : List (List ℕ) → Contents
 contents_from (a ∷ b ∷ c ∷ d ∷ length ∷ more) = record { a = a; b = b; c = c; d = d; data_length = word_of_bytes length }
 contents_from _ = record { a = []; b = []; c = []; d = []; data_length = 0 }
@@ -72,17 +72,17 @@ contents_from _ = record { a = []; b = []; c = []; d = []; data_length = 0 }
 abbrev pub after_fixed_bytes : List ℕ → Result (List ℕ) HeaderFault
 after_fixed_bytes bytes = if starts_with nat_eq bytes fixed_bytes then Ok (drop (length fixed_bytes) bytes) else Err fault.Raw
 
--- what the layout's fields hold, and at which place of the input they end
-unfoldable pub layout_at : ℕ → List ℕ → Result (Contents × ℕ) HeaderFault
-layout_at total bytes = do
-  read ← fields_at total layout bytes
+-- what the fields of a header hold, and at which place of the input they end
+unfoldable pub header_fields_at : ℕ → List ℕ → Result (Contents × ℕ) HeaderFault
+header_fields_at total bytes = do
+  read ← fields_at total header_fields bytes
   Ok (contents_from read.0, total - length read.1)
 
 -- what the header's fields hold, and the header's size in bytes
 unfoldable pub header_at : List ℕ → Result (Contents × ℕ) HeaderFault
 header_at bytes = do
   after ← after_fixed_bytes bytes
-  layout_at (length bytes) after
+  header_fields_at (length bytes) after
 
 -- ---- bytes that wait for more
 
@@ -91,8 +91,8 @@ abbrev pub FieldWaits : Field → List ℕ → ℕ → Type 0
 FieldWaits field bytes count = (total : ℕ) (more : List ℕ) → length more < count → field_at total field (bytes ++ more) ≡ Err (fault.Cut total)
 
 -- the bytes begin fields that lack `count` more: with fewer the input ends inside the fields
-abbrev pub LayoutWaits : List ℕ → ℕ → Type 0
-LayoutWaits bytes count = (total : ℕ) (more : List ℕ) → length more < count → layout_at total (bytes ++ more) ≡ Err (fault.Cut total)
+abbrev pub HeaderFieldsWait : List ℕ → ℕ → Type 0
+HeaderFieldsWait bytes count = (total : ℕ) (more : List ℕ) → length more < count → header_fields_at total (bytes ++ more) ≡ Err (fault.Cut total)
 
 -- the bytes begin a header that lacks `count` more: with fewer the input ends inside the header
 abbrev pub HeaderWaits : List ℕ → ℕ → Type 0
@@ -138,7 +138,7 @@ fields_lack (field ∷ fields) bytes = lacks_by (lacks_of field.kind bytes) (fie
 
 -- how many bytes a header's fields lack, by what the reading of the fixed bytes gave: 0 where these are wrong
 abbrev pub lacks_after : Result (List ℕ) HeaderFault → ℕ
-lacks_after (Ok after) = fields_lack layout after
+lacks_after (Ok after) = fields_lack header_fields after
 lacks_after (Err f) = 0
 
 -- how many bytes to read next of an input that begins with these: what the fixed bytes lack, or what the fields lack,

@@ -1,7 +1,7 @@
 //! How many bytes to read next of a header, for a caller who reads an input piece by piece.
 ghost use Rattle.std.specs.Prelude.{◌≡◌, ◌<◌, ◌+◌, ◌++◌, ℕ, List, length, IfErr, IfOk, MatchResult, Ok};
-ghost use Rattle.x7_header.specs.Header.{EndsInHeader, fixed_size, layout};
-ghost use Rattle.x7_header.specs.Reading.{FieldWaits, HeaderWaits, LayoutWaits, field_at, fields_lack, wanted, number_lacks, number_of_letter, lack_from_number, text_lacks, text_of_letter, lack_from_text};
+ghost use Rattle.x7_header.specs.Header.{EndsInHeader, fixed_size, header_fields};
+ghost use Rattle.x7_header.specs.Reading.{FieldWaits, HeaderWaits, HeaderFieldsWait, field_at, fields_lack, wanted, number_lacks, number_of_letter, lack_from_number, text_lacks, text_of_letter, lack_from_text};
 
 use crate::fault::HeaderFault;
 use crate::field::{after_fixed_bytes, number_field, text_field};
@@ -62,9 +62,9 @@ fn whole_number(bytes: &[u8], letter: u8) -> Result<(), usize>
 
 /// Whether the fields after the fixed bytes are whole, or how many bytes they wait for: 0 where a letter is wrong.
 fn whole_fields(bytes: &[u8]) -> Result<(), usize>
-    ensures waits { IfErr result (λ lack. LayoutWaits bytes.now lack) }
-    ensures whole { IfOk result (λ _. fields_lack layout bytes.now ≡ 0) }
-    ensures lacks { IfErr result (λ lack. fields_lack layout bytes.now ≡ lack) }
+    ensures waits { IfErr result (λ lack. HeaderFieldsWait bytes.now lack) }
+    ensures whole { IfOk result (λ _. fields_lack header_fields bytes.now ≡ 0) }
+    ensures lacks { IfErr result (λ lack. fields_lack header_fields bytes.now ≡ lack) }
 {
     let rest = after_text(bytes, b'a')?;
     let rest = after_text(rest, b'b')?;

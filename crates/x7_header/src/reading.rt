@@ -1,17 +1,17 @@
 //! Reading a header, field by field.
 ghost use Rattle.std.specs.Prelude.{◌≡◌, ◌≢◌, ◌↔◌, IsOkAnd, IsErrOf, ◌≤◌, ◌++◌, ℕ, List, length, IfOk, Ok};
 ghost use Rattle.x7_header.specs.Header.{BeginsWith, Contents, HaveHeader, EndsInHeader, HasOtherLetterAt, contents_of, fixed_bytes, header_bytes, longest_header};
-ghost use Rattle.x7_header.specs.Reading.{ReturnsAs, layout_at, header_at};
+ghost use Rattle.x7_header.specs.Reading.{ReturnsAs, header_fields_at, header_at};
 
 use crate::fault::HeaderFault;
 use crate::field::{after_fixed_bytes, number_field, text_field};
 use crate::header::Head;
 
 /// What a header holds, read from the bytes after its fixed ones, of an input of `total` bytes.
-#[tactic(auto, unfolding(crate::specs::Reading::layout_at, crate::specs::Reading::fields_at))]
-fn read_layout(bytes: &[u8], total: usize) -> Result<Head<'_>, HeaderFault>
+#[tactic(auto, unfolding(crate::specs::Reading::header_fields_at, crate::specs::Reading::fields_at))]
+fn read_fields(bytes: &[u8], total: usize) -> Result<Head<'_>, HeaderFault>
     requires { length bytes.now ≤ total }
-    ensures { ReturnsAs (λ head. (contents_of head, head.size)) result (layout_at total bytes.now) }
+    ensures { ReturnsAs (λ head. (contents_of head, head.size)) result (header_fields_at total bytes.now) }
 {
     let (a, rest) = text_field(bytes, b'a', total)?;
     let (b, rest) = text_field(rest, b'b', total)?;
@@ -48,5 +48,5 @@ pub fn header_of(bytes: &[u8]) -> Result<Head<'_>, HeaderFault>
     // Which fault it is, field by field.
     ensures exact { ReturnsAs (λ head. (contents_of head, head.size)) result (header_at bytes.now) }
 {
-    read_layout(after_fixed_bytes(bytes)?, bytes.len())
+    read_fields(after_fixed_bytes(bytes)?, bytes.len())
 }

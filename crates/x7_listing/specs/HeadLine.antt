@@ -2,6 +2,7 @@
 use Rattle.std.specs.Prelude.{ℕ, ◌<◌, ◌==◌, if◌then◌else◌, List, [], ◌∷◌, ◌++◌, codes}
 use Rattle.x7_regs.specs.Command.{code_of, command_by, command_name_of}
 use Rattle.x7_text.specs.Digits.{hex_word}
+use Rattle.x7_regs.specs.Register.{reg_number_count}
 use Rattle.x7_packets.specs.Packet.{register_of, type1_count_of, type2_count_of, type_and_opcode_of}
 use Rattle.x7_packets.specs.PacketWords.{no_op, sync_word, type1_read_header, type1_write_header, type2_read_header, type2_read_kind, type2_write_header, type2_write_kind}
 use Rattle.x7_packets.specs.declared.header.Step.{Step}
@@ -38,8 +39,8 @@ line_of_head _ w = best_line w
 
 -- the line's register has a number below 32
 abbrev pub HasRegister : HeadLine → Type 0
-HasRegister (Write register count) = register < 32
-HasRegister (Read register count) = register < 32
+HasRegister (Write register count) = register < reg_number_count
+HasRegister (Read register count) = register < reg_number_count
 HasRegister _ = Unit {0}
 
 -- a bound on the bytes of the line of one word, with its end (the longest, `write BOOTSTS 2047`, has 19)

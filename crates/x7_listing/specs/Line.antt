@@ -2,21 +2,14 @@
 use Rattle.std.specs.Prelude.{◌≡◌, ℕ, ◌==◌, ◌^◌, ◌<◌, if◌then◌else◌, List, [], ◌∷◌, ◌++◌, codes, decimal}
 use Rattle.std.specs.List.{flat_map}
 use Rattle.x7_words.specs.Word.{bytes_of_word}
-use Rattle.x7_regs.specs.Register.{number_of, reg_name}
+use Rattle.x7_regs.specs.Register.{number_of, reg_name, reg_number_count}
 use Rattle.x7_regs.specs.Command.{code_of, command_by, command_name_of}
 use Rattle.x7_regs.specs.declared.command.Command.{Command}
 use Rattle.x7_regs.specs.declared.register.Reg.TheVariants.{Crc}
 use Rattle.x7_packets.specs.PacketWords.{no_op, sync_word, type1_read_header, type1_write_header, type2_read_header, type2_write_header}
 use Rattle.x7_text.specs.Digits.{hex_byte, hex_word}
+pub use Rattle.x7_text.specs.Lines.{line_end_byte, space_byte}
 use Rattle.x7_text.specs.Row.{IsByteRow, IsWordRow, spaced}
-
--- the byte of a space
-abbrev pub space_byte : ℕ
-space_byte = 32
-
--- the byte that ends a line
-abbrev pub line_end_byte : ℕ
-line_end_byte = 10
 
 -- a line: nothing, a comment, bytes, a header word, payload words, a command, or
 -- the check of the bytes of the lines before
@@ -37,7 +30,7 @@ pub data Line : Type 0 where
 
 -- the fields of a type 1 header, a register's number and a word count, are each within their bits
 abbrev pub IsType1 : ℕ × ℕ → Type 0
-IsType1 a = (a.0 < 32) × (a.1 < 2 ^ 11)
+IsType1 a = (a.0 < reg_number_count) × (a.1 < 2 ^ 11)
 
 -- the fields of a type 1 header as text: the register's name, a space and the word count
 abbrev pub type1_text : ℕ × ℕ → List ℕ

@@ -2,9 +2,13 @@
 use Rattle.std.specs.Prelude.{ℕ, ◌-◌, ◌==◌, if◌then◌else◌, List, [], ◌∷◌, length, take, get_or}
 pub use Rattle.x7_text.specs.Lines.{on_first, split}
 
+-- the byte that may stand before a line end: 0D
+abbrev pub return_byte : ℕ
+return_byte = 13
+
 -- a line without a 0D at its end
 abbrev pub without_return : List ℕ → List ℕ
-without_return t = if get_or t (length t - 1) 0 == 13 then take (length t - 1) t else t
+without_return t = if get_or t (length t - 1) 0 == return_byte then take (length t - 1) t else t
 
 -- each line but the last has an end, and the end may be 0D 0A
 abbrev pub bare : List (List ℕ) → List (List ℕ)

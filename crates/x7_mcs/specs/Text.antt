@@ -3,6 +3,7 @@ use Rattle.std.specs.Prelude.{ℕ, ◌+◌, ◌*◌, ◌/◌, ◌%◌, ◌==◌,
 use Rattle.std.specs.List.{flat_map}
 use Rattle.x7_text.specs.Digits.{hex_byte}
 use Rattle.x7_text.specs.Row.{rows}
+use Rattle.x7_text.specs.Lines.{line_end_byte}
 use Rattle.x7_mcs.specs.Record.{block_size, byte_values, data_type, linear_base_type, sum_byte}
 
 -- how many bytes of a flash a row has, each but the last
@@ -32,7 +33,7 @@ colon = 58
 
 -- the line of a record's bytes, with the byte that makes their sum 0
 abbrev pub record_line : List ℕ → List ℕ
-record_line bs = colon ∷ (flat_map hex_byte (bs ++ sum_byte bs ∷ []) ++ 10 ∷ [])
+record_line bs = colon ∷ (flat_map hex_byte (bs ++ sum_byte bs ∷ []) ++ line_end_byte ∷ [])
 
 -- the record 04 of a block of 65,536 bytes
 abbrev pub base_line : ℕ → List ℕ

@@ -3,7 +3,7 @@
 use Rattle.std.specs.Prelude.{◌≡◌, ℕ, ◌+◌, ◌*◌, ◌^◌, ◌<◌, ◌≤◌, List, [], ◌++◌, length, take, drop, Some}
 use Rattle.std.specs.Borrow.{Bor}
 use Rattle.x7_words.specs.Word.{bytes_of_word}
-use Rattle.x7_regs.specs.Register.{number_of}
+use Rattle.x7_regs.specs.Register.{number_of, reg_number_count}
 use Rattle.x7_regs.specs.declared.register.Reg.TheVariants.{Cmd}
 pub use Rattle.x7_packets.specs.Cutter.{TakesAsOneRun}
 use Rattle.x7_packets.specs.Cutter.{CutterState}
@@ -32,7 +32,7 @@ short_gap_room = 36
 
 -- the bytes begin with a write of one word, its header's reserved bits 0
 pub record BeginsWrite (bytes : List ℕ) (register w : ℕ) : Type 0 where
-  pub range : register < 32
+  pub range : register < reg_number_count
   pub fits : w < 2 ^ 32
   pub whole : 8 ≤ length bytes
   pub are : take 8 bytes ≡ bytes_of_word (type1_write_header register 1) ++ bytes_of_word w
@@ -44,7 +44,7 @@ in_write register count = record { due = count; register = register; latest = So
 -- the bytes begin with a write of one word, and the new cutter is the old one after the header and then the word
 pub record WritesOne (old new : CutterState) (rest : List ℕ) (register w : ℕ) : Type 0 where
   pub middle : CutterState
-  pub range : register < 32
+  pub range : register < reg_number_count
   pub whole : 8 ≤ length rest
   pub bytes : take 8 rest ≡ bytes_of_word (type1_write_header register 1) ++ bytes_of_word w
   pub head : TakesAsOneRun old middle (bytes_of_word (type1_write_header register 1)) (Head (type1_write_header register 1) (Open register 1))
@@ -55,7 +55,7 @@ pub record WritesOne (old new : CutterState) (rest : List ℕ) (register w : ℕ
 -- one after the header and then the words
 pub record WritesShort (old new : CutterState) (rest : List ℕ) (register count : ℕ) : Type 0 where
   pub middle : CutterState
-  pub range : register < 32
+  pub range : register < reg_number_count
   pub other : register ≡ number_of Cmd → ⊥
   pub some : 0 < count
   pub few : count ≤ most_short_words

@@ -3,7 +3,7 @@
 use Rattle.std.specs.Prelude.{◌≡◌, ℕ, ◌+◌, ◌*◌, ◌-◌, ◌/◌, ◌<◌, ◌≤◌, ◌==◌, List, [], ◌∷◌, ◌++◌, length, min, true, false, ◌⊎◌, take, drop, ◌↔◌, if◌then◌else◌}
 use Rattle.std.specs.List.{flat_map}
 use Rattle.x7_words.specs.Word.{bytes_of_word, words_of_bytes}
-use Rattle.x7_regs.specs.Register.{number_of}
+use Rattle.x7_regs.specs.Register.{number_of, reg_number_count}
 use Rattle.x7_regs.specs.declared.register.Reg.TheVariants.{Cmd}
 use Rattle.x7_packets.specs.SyncWord.{sync_bytes}
 use Rattle.x7_packets.specs.Matching.{LastThree, MatcherStandsFor}
@@ -110,8 +110,8 @@ ChangesMode (Body register bytes) old new place = IsNotDue old × IsNotDue new
 -- and lent payload bytes are whole words, one where the register is CMD
 abbrev pub IsRun : Cut → Type 0
 IsRun (Head w (Payload register x)) = ⊥
-IsRun (Word register w) = register < 32
-IsRun (Body register bytes) = (register < 32) × (0 < length bytes.now) × (length bytes.now ≡ 4 * (length bytes.now / 4)) × (register ≡ number_of Cmd → length bytes.now ≡ 4)
+IsRun (Word register w) = register < reg_number_count
+IsRun (Body register bytes) = (register < reg_number_count) × (0 < length bytes.now) × (length bytes.now ≡ 4 * (length bytes.now / 4)) × (register ≡ number_of Cmd → length bytes.now ≡ 4)
 IsRun (Skip bytes) = 0 < length bytes.now
 IsRun _ = Unit {0}
 

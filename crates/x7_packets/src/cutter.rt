@@ -405,9 +405,9 @@ impl Cutter {
         requires synced { self.old.mode ≡ Mode.Synced }
         requires none_kept { self.old.kept ≡ [] }
         requires whole { length body.now ≡ 4 * (length body.now / 4) }
-        requires some { 0 < length body.now }
+        requires not_empty { 0 < length body.now }
         requires within_due { length body.now / 4 ≤ self.old.machine.due }
-        requires one { self.old.machine.register ≡ number_of Cmd → length body.now ≡ 4 }
+        requires one_word_of_cmd { self.old.machine.register ≡ number_of Cmd → length body.now ≡ 4 }
         ensures body { IsBody self.old.machine.register body.now result }
         ensures ends { EndsWithWord self.new result }
         ensures adds { TakesAsOneRun self.old self.new body.now result }

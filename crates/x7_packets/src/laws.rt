@@ -24,13 +24,13 @@ pub fn one_reading()
 /// Words have packets exactly where none follows a word that ends the session, and they are those found by hand.
 pub fn packets_are_found()
     ensures found { (ws : List ℕ) → AreWords ws → AreOfOneSession ws → Packets ws (packets_of ws) }
-    ensures only { (ws : List ℕ) (ps : List Packet) → Packets ws ps → AreOfOneSession ws × (ps ≡ packets_of ws) }
+    ensures unique { (ws : List ℕ) (ps : List Packet) → Packets ws ps → AreOfOneSession ws × (ps ≡ packets_of ws) }
 {}
 
 /// Bytes have a reading, and it is the one found by hand.
 pub fn reading_is_found()
     ensures found { (bytes : List ℕ) → AreBytes bytes → IsReading bytes (reading_of bytes).sessions (reading_of bytes).place }
-    ensures only { (bytes : List ℕ) (ss : List Session) (p : Place) → IsReading bytes ss p
+    ensures unique { (bytes : List ℕ) (ss : List Session) (p : Place) → IsReading bytes ss p
         → (ss ≡ (reading_of bytes).sessions) × (p ≡ (reading_of bytes).place) }
 {}
 

@@ -1,7 +1,7 @@
 //! The words of a session as packets (UG470, packet types).
 ghost use Rattle.std.specs.Prelude.{◌≡◌, ℕ, List, [], ◌∷◌, ◌≤◌, ◌<◌, ◌*◌, ◌/◌, ◌^◌, ◌==◌, length, min, if◌then◌else◌};
 ghost use Rattle.x7_words.specs.Word.{AreWords, words_of_bytes};
-ghost use Rattle.x7_regs.specs.Register.{number_of};
+ghost use Rattle.x7_regs.specs.Register.{number_of, reg_number_count};
 ghost use Rattle.x7_regs.specs.declared.register.Reg.TheVariants.{Cmd};
 ghost use Rattle.x7_packets.specs.AtOnce.{in_write};
 ghost use Rattle.x7_packets.specs.PacketWords.{type1_write_header};
@@ -15,21 +15,24 @@ use x7_words::word_of;
 /// Takes the words of a session, and says what each word is.
 #[derive(Clone, Copy)]
 pub struct Machine {
+    // How many payload words of the open packet are still to come, and to which register they are written.
     due: u32,
     register: u8,
+    // The register that the session's nearest type 1 read or write named.
     latest: Option<u8>,
 }
 
 impl Model for Machine {
     ghost use Rattle.std.specs.Prelude.{◌<◌};
     ghost use Rattle.std.specs.Option.{ForSome};
+    ghost use Rattle.x7_regs.specs.Register.{reg_number_count};
     ghost use Rattle.x7_packets.specs.Machine.{MachineState};
 
     ghost Value = { MachineState };
 
     ghost view = { λ m. record { due = m.due; register = m.register; latest = m.latest } };
 
-    ghost invariant = { λ m. (m.register < 32) × ForSome m.latest (λ register. register < 32) };
+    ghost invariant = { λ m. (m.register < reg_number_count) × ForSome m.latest (λ register. register < reg_number_count) };
 
     ghost inverse = { λ v. record { due = v.due; register = v.register; latest = v.latest } };
 }
@@ -50,7 +53,7 @@ impl Machine {
     #[inline(always)]
     pub fn take(&mut self, w: u32) -> Step
         ensures payload { 0 < self.old.due → result ≡ Step.Payload self.old.register w }
-        ensures register { (register x : ℕ) → result ≡ Step.Payload register x → (x ≡ w) × (register < 32) × (0 < self.old.due) }
+        ensures register { (register x : ℕ) → result ≡ Step.Payload register x → (x ≡ w) × (register < reg_number_count) × (0 < self.old.due) }
         ensures grows { (ps : List Packet) → MachineStandsFor self.old ps → Grows ps ((w, result) ∷ []) self.new }
     {
         if self.due > 0 {
@@ -96,11 +99,11 @@ impl Machine {
     #[inline(always)]
     pub(crate) fn take_payload(&mut self, body: &[u8]) -> bool
         requires whole { length body.now ≡ 4 * (length body.now / 4) }
-        requires some { 0 < length body.now }
+        requires not_empty { 0 < length body.now }
         requires within_due { length body.now / 4 ≤ self.old.due }
-        requires one { self.old.register ≡ number_of Cmd → length body.now ≡ 4 }
+        requires one_word_of_cmd { self.old.register ≡ number_of Cmd → length body.now ≡ 4 }
         ensures ends { result ≡ ends_by (payload_steps self.old.register (words_of_bytes body.now)) }
-        ensures register { self.old.register < 32 }
+        ensures register { self.old.register < reg_number_count }
         ensures grows { (ps : List Packet) → MachineStandsFor self.old ps → Grows ps (payload_steps self.old.register (words_of_bytes body.now)) self.new }
     {
         if is_cmd(self.register) {
@@ -116,7 +119,7 @@ impl Machine {
     #[inline(always)]
     pub(crate) fn take_write_of_one(&mut self, register: u8, w: u32) -> bool
         requires at_header { self.old.due ≡ 0 }
-        requires register { register < 32 }
+        requires register { register < reg_number_count }
         ensures ends { result ≡ ends_session register w }
         ensures head { (ps : List Packet) → MachineStandsFor self.old ps → Grows ps ((type1_write_header register 1, Step.Open register 1) ∷ []) (in_write register 1) }
         ensures word { (ps : List Packet) → MachineStandsFor (in_write register 1) ps → Grows ps ((w, Step.Payload register w) ∷ []) self.new }
@@ -134,7 +137,7 @@ impl Machine {
     #[inline(always)]
     pub(crate) fn take_write_to_other(&mut self, register: u8)
         requires at_header { self.old.due ≡ 0 }
-        requires register { register < 32 }
+        requires register { register < reg_number_count }
         requires not_cmd { register ≡ number_of Cmd → ⊥ }
         ensures head { (ps : List Packet) (count : ℕ) → 0 < count → count < 2 ^ 11 → MachineStandsFor self.old ps
             → Grows ps ((type1_write_header register count, Step.Open register count) ∷ []) (in_write register count) }
@@ -148,7 +151,7 @@ impl Machine {
     /// The register whose payload words are due.
     pub(crate) fn register(&self) -> u8
         ensures value { result ≡ self.now.register }
-        ensures most { result < 32 }
+        ensures most { result < reg_number_count }
     {
         self.register
     }

@@ -29,7 +29,7 @@ fn count_words(bytes: &[u8], w: u32) -> usize
 /// A block that has no word but `w`.
 #[inline(always)]
 fn block_of(w: u32) -> [u8; BLOCK_BYTES]
-    ensures { result ≡ equal_bytes w 8 }
+    ensures { result ≡ equal_bytes w BLOCK_WORDS }
 {
     let mut block = [0; BLOCK_BYTES];
     block.copy_from_slice([bytes_of(w); BLOCK_WORDS].as_flattened());

@@ -1,5 +1,6 @@
 //! The words of packets, and those that stand between packets (UG470, packet types; configuration sequence).
 ghost use Rattle.std.specs.Prelude.{◌≡◌, ◌<◌, ◌^◌};
+ghost use Rattle.x7_regs.specs.Register.{reg_number_count};
 ghost use Rattle.x7_packets.specs.Packet.{register_of, type1_count_of, type2_count_of, type_and_opcode_of};
 ghost use Rattle.x7_packets.specs.PacketWords.{command, frame_data_headers, frame_read_headers, type1_read_header, type1_write_header, type2_read_header, type2_write_header, write_one};
 
@@ -44,6 +45,15 @@ const BELOW_KIND: u32 = 27;
 /// How many bits of a type 1 header stand below its register.
 const BELOW_REGISTER: u32 = 13;
 
+/// A register's number where nothing stands below it: five bits.
+const REGISTER_BITS: u32 = 0x1F;
+
+/// The bits of a type 1 header that are its word count, 10:0.
+const TYPE1_COUNT_BITS: u32 = 0x7FF;
+
+/// The bits of a type 2 header that are its word count, 26:0.
+const TYPE2_COUNT_BITS: u32 = 0x7FF_FFFF;
+
 /// The packet type and the opcode of a header as one number, bits 31:27.
 #[inline(always)]
 pub fn kind_in(header: u32) -> u32
@@ -56,9 +66,9 @@ pub fn kind_in(header: u32) -> u32
 #[inline(always)]
 pub fn register_in(header: u32) -> u8
     ensures value { result ≡ register_of header }
-    ensures most { result < 32 }
+    ensures most { result < reg_number_count }
 {
-    (header >> BELOW_REGISTER & 31) as u8
+    (header >> BELOW_REGISTER & REGISTER_BITS) as u8
 }
 
 /// The word count of a type 1 header, bits 10:0.
@@ -67,7 +77,7 @@ pub fn type1_count_in(header: u32) -> u32
     ensures value { result ≡ type1_count_of header }
     ensures most { result < 2 ^ 11 }
 {
-    header & 0x7FF
+    header & TYPE1_COUNT_BITS
 }
 
 /// The word count of a type 2 header, bits 26:0.
@@ -76,13 +86,13 @@ pub fn type2_count_in(header: u32) -> u32
     ensures value { result ≡ type2_count_of header }
     ensures most { result < 2 ^ 27 }
 {
-    header & 0x7FF_FFFF
+    header & TYPE2_COUNT_BITS
 }
 
 /// The header of a type 1 read of `count` words, by the register's number. The reserved bits are 0.
 #[inline(always)]
 pub fn type1_read_header(register: u8, count: u32) -> u32
-    requires register { register < 32 }
+    requires register { register < reg_number_count }
     requires count { count < 2 ^ 11 }
     ensures { result ≡ type1_read_header register count }
 {
@@ -92,7 +102,7 @@ pub fn type1_read_header(register: u8, count: u32) -> u32
 /// The header of a type 1 write of `count` words, by the register's number. The reserved bits are 0.
 #[inline(always)]
 pub fn type1_write_header(register: u8, count: u32) -> u32
-    requires register { register < 32 }
+    requires register { register < reg_number_count }
     requires count { count < 2 ^ 11 }
     ensures { result ≡ type1_write_header register count }
 {

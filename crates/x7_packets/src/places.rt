@@ -61,8 +61,8 @@ fn lowest_bit(bits: u64) -> usize
 #[inline(always)]
 fn sync_bits(bytes: &[u8], at: usize) -> u64
     requires { at + places_reach ≤ length bytes.now }
-    ensures only { (k : ℕ) → bit_at result k ≡ 1 → (k < 32) × OccursAt bytes.now sync_bytes (at + k) }
-    ensures all { (k : ℕ) → k < 32 → OccursAt bytes.now sync_bytes (at + k) → bit_at result k ≡ 1 }
+    ensures set_means_found { (k : ℕ) → bit_at result k ≡ 1 → (k < 32) × OccursAt bytes.now sync_bytes (at + k) }
+    ensures found_means_set { (k : ℕ) → k < 32 → OccursAt bytes.now sync_bytes (at + k) → bit_at result k ≡ 1 }
 {
     let first_two = both(
         equal_to(load(bytes, at), 0xAA),

@@ -157,8 +157,8 @@ impl Packets {
     /// Finds the next run: reads and cuts until one was cut, or the tail or the end is next.
     fn advance<I: Inputs>(&mut self, inputs: &mut I) -> Result<(), Failed>
         requires { MayCall self.old (I.state inputs.old) }
-        ensures ok { OnOk result ((r : Run) → IsLastFound self.new r → GivesRun self.old self.new (I.state inputs.old).rest (I.state inputs.new).rest r) }
-        ensures err { OnErr result (GivesUp self.old self.new) }
+        ensures gives_run { OnOk result ((r : Run) → IsLastFound self.new r → GivesRun self.old self.new (I.state inputs.old).rest (I.state inputs.new).rest r) }
+        ensures gives_up { OnErr result (GivesUp self.old self.new) }
         ensures call { CallsOn self.old (I.state inputs.old) (I.state inputs.new) result }
         ensures reads_no_more { self.old.is_done ≡ true → inputs.new ≡ inputs.old }
     {
@@ -221,10 +221,10 @@ impl Packets {
     /// Reads a piece once more, and says whether the input gave some bytes.
     fn fill<I: Inputs>(&mut self, inputs: &mut I) -> Result<bool, Failed>
         requires selected { (I.state inputs.old).selected ≡ true }
-        requires none { self.old.left ≡ [] }
+        requires none_left { self.old.left ≡ [] }
         requires count { self.old.taken + piece_size < 2 ^ 64 }
-        ensures ok { IfOk result (λ gave_bytes. Fills self.old self.new (I.state inputs.old).rest (I.state inputs.new).rest gave_bytes) }
-        ensures err { OnErr result (self.new ≡ record self.old { bytes = []; has_failed = true }) }
+        ensures fills { IfOk result (λ gave_bytes. Fills self.old self.new (I.state inputs.old).rest (I.state inputs.new).rest gave_bytes) }
+        ensures loses_bytes { OnErr result (self.new ≡ record self.old { bytes = []; has_failed = true }) }
         ensures failed { OnErr result (InputsFail (I.state inputs.old) (I.state inputs.new)) }
         ensures selected { OnOk result ((I.state inputs.new).selected ≡ true) }
         ensures inputs { InputsStay (I.state inputs.old) (I.state inputs.new) }

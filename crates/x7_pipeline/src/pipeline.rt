@@ -1,7 +1,7 @@
 //! The frame pipeline (UG470, frame data): frames on their way into the memory, copies, and words on their way out.
 ghost use Rattle.std.specs.Prelude.{◌≡◌, ◌+◌, ◌-◌, ◌*◌, ◌/◌, ◌%◌, ◌^◌, ◌<◌, ◌≤◌, ◌==◌, ◌&&◌, not, [], ◌∷◌, ◌++◌, length, take, is_some, vec_len, vec_capacity, Option, Some, None, IfOk, IfErr, IsTrue, OnOk, OnErr};
 ghost use Rattle.std.specs.Result.{result_err};
-ghost use Rattle.x7_words.specs.Word.{words_of_bytes};
+ghost use Rattle.x7_words.specs.Word.{AreWholeWords, words_of_bytes};
 ghost use Rattle.x7_part.specs.Part.{PartData};
 ghost use Rattle.x7_memory.specs.FrameMap.{AreSame};
 ghost use Rattle.x7_memory.specs.Frames.{frame_at, AreFramesOf};
@@ -187,7 +187,7 @@ impl Pipeline {
         part: &Part,
         memory: &mut Memory,
     ) -> (usize, Option<RunFault>)
-        requires whole { length bytes.now % 4 ≡ 0 }
+        requires whole { AreWholeWords bytes.now }
         requires part { AreOfPart part.now self.old memory.old }
         ensures stands { OfFlow part.now self.old (λ f. HoldsFlow part.now self.new (with_run (flow_written part.now f (words_of_bytes bytes.now)).run f)) }
         ensures lands { OfFlow part.now self.old (λ f. Lands part.now f.base f.run (flow_written part.now f (words_of_bytes bytes.now)).run (frame_at part.now memory.old) (frame_at part.now memory.new)) }

@@ -25,6 +25,10 @@ code_of Ltimer = 17
 code_of BspiRead = 18
 code_of FallEdge = 19
 
+-- how many command codes there are, with a command or without: a code has five bits
+abbrev pub command_code_count : ℕ
+command_code_count = 32
+
 -- how many bytes the name of a command has at most
 abbrev pub command_name_limit : ℕ
 command_name_limit = 9

@@ -24,6 +24,21 @@ shortest_name = 2
 abbrev pub table_size : ℕ
 table_size = 64
 
+-- how often a name's second byte counts in its place; all that is asked of this weight and of those of the last byte
+-- and the length is that no two names of a table share a place
+abbrev pub second_weight : ℕ
+second_weight = 13
+
+-- how often a name's last byte counts in its place
+abbrev pub last_weight : ℕ
+last_weight = 3
+
+-- how often a name's length counts in its place
+abbrev pub length_weight : ℕ
+length_weight = 2
+
 -- the place of a name in a table, which no two registers and no two commands share
 abbrev pub place_of_name : List ℕ → ℕ
-place_of_name name = (get_or name 0 0 + 13 * get_or name 1 0 + 3 * get_or name (length name - 1) 0 + 2 * length name) % table_size
+place_of_name name =
+    (get_or name 0 0 + second_weight * get_or name 1 0 + last_weight * get_or name (length name - 1) 0 + length_weight * length name)
+    % table_size

@@ -50,7 +50,7 @@ reg_with n =
     if n == 24 then Some Ctl1 else
     if n == 31 then Some Bspi else None
 
--- how many register numbers there are, with a register or without
+-- how many register numbers there are, with a register or without: a number has five bits
 abbrev pub reg_number_count : ℕ
 reg_number_count = 32
 

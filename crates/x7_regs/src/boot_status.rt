@@ -48,6 +48,18 @@ const FALLBACK: u32 = 1 << 1;
 /// IPROG: an IPROG command began the attempt, or was ignored in it.
 const IPROG: u32 = 1 << 2;
 
+/// WTO_ERROR: the watchdog fired.
+const WTO_ERROR: u32 = 1 << 3;
+
+/// ID_ERROR: a written idcode was not the part's.
+const ID_ERROR: u32 = 1 << 4;
+
+/// CRC_ERROR: a check word that was written differed from the running check.
+const CRC_ERROR: u32 = 1 << 5;
+
+/// WRAP_ERROR: the flash ended before startup did.
+const WRAP_ERROR: u32 = 1 << 6;
+
 /// The bits of an attempt's kind: VALID, FALLBACK and IPROG.
 #[tactic(auto, unfolding(crate::specs::Status::flag_of))]
 fn kind_bits(kind: Kind, ignored: bool) -> u32
@@ -70,10 +82,10 @@ fn cause_bits(cause: Option<Cause>) -> u32
 {
     match cause {
         None => 0,
-        Some(Cause::Watchdog) => 1 << 3,
-        Some(Cause::Id) => 1 << 4,
-        Some(Cause::Crc) => 1 << 5,
-        Some(Cause::Wrap) => 1 << 6,
+        Some(Cause::Watchdog) => WTO_ERROR,
+        Some(Cause::Id) => ID_ERROR,
+        Some(Cause::Crc) => CRC_ERROR,
+        Some(Cause::Wrap) => WRAP_ERROR,
     }
 }
 

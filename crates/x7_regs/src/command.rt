@@ -1,6 +1,6 @@
 //! Commands of the command register (UG470, command register).
 ghost use Rattle.std.specs.Prelude.{◌≡◌, ◌<◌};
-ghost use Rattle.x7_regs.specs.Command.{code_of, command_by};
+ghost use Rattle.x7_regs.specs.Command.{code_of, command_by, command_code_count};
 
 /// The commands, in the order of their codes.
 #[derive(Clone, Copy)]
@@ -45,15 +45,15 @@ pub enum Command {
     FallEdge,
 }
 
-/// The bits of a word of the command register that have the code of a command.
-const CODE_MASK: u32 = 0x1F;
+/// The bits of a word of CMD that are the code of a command, bits 4 to 0 (UG470, command register).
+pub const COMMAND_BITS: u32 = 0x1F;
 
 /// The command that a word of the command register calls for, by its low five bits: `Null` where these are no code.
 #[rattlefmt::skip]
 pub fn command_of(word: u32) -> Command
     ensures { result ≡ command_by word }
 {
-    match word & CODE_MASK {
+    match word & COMMAND_BITS {
         1  => Command::Wcfg,
         2  => Command::Mfw,
         3  => Command::Lfrm,
@@ -81,7 +81,7 @@ impl Command {
     #[rattlefmt::skip]
     pub fn code(self) -> u32
         ensures value { result ≡ code_of self }
-        ensures most { result < 32 }
+        ensures most { result < command_code_count }
         ensures back { command_by result ≡ self }
     {
         match self {

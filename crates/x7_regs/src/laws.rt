@@ -1,14 +1,14 @@
 //! Laws of the tables, for the proofs of crates above.
 ghost use Rattle.std.specs.Prelude.{◌≡◌, ◌≢◌, ◌<◌, ◌%◌, ◌^◌, ℕ};
-ghost use Rattle.x7_regs.specs.Command.{code_of, command_by, command_name_of};
-ghost use Rattle.x7_regs.specs.Register.{number_of, reg_name};
+ghost use Rattle.x7_regs.specs.Command.{code_of, command_by, command_code_count, command_name_of};
+ghost use Rattle.x7_regs.specs.Register.{number_of, reg_name, reg_number_count};
 ghost use Rattle.x7_regs.specs.declared.command.Command.{Command};
 ghost use Rattle.x7_regs.specs.declared.register.Reg.{Reg};
 
 /// Registers with the same number are the same, and each number is below 32.
 pub fn numbers_are_distinct()
     ensures distinct { (a b : Reg) → number_of a ≡ number_of b → a ≡ b }
-    ensures most { (a : Reg) → number_of a < 32 }
+    ensures most { (a : Reg) → number_of a < reg_number_count }
 {}
 
 /// A word whose low five bits are a command's code calls for that command, and any other for `Null`. Each code is below
@@ -16,11 +16,11 @@ pub fn numbers_are_distinct()
 pub fn codes_are_distinct()
     ensures named { (c : Command) (w : ℕ) → w % 2 ^ 5 ≡ code_of c → command_by w ≡ c }
     ensures unnamed { (w : ℕ) → ((c : Command) → code_of c ≢ w % 2 ^ 5) → command_by w ≡ Command.Null }
-    ensures most { (c : Command) → code_of c < 32 }
+    ensures most { (c : Command) → code_of c < command_code_count }
 {}
 
 /// Different numbers below 32 have different names, and so have different commands.
 pub fn names_are_distinct()
-    ensures registers { (m n : ℕ) → m < 32 → n < 32 → reg_name m ≡ reg_name n → m ≡ n }
+    ensures registers { (m n : ℕ) → m < reg_number_count → n < reg_number_count → reg_name m ≡ reg_name n → m ≡ n }
     ensures commands { (a b : Command) → command_name_of a ≡ command_name_of b → a ≡ b }
 {}

@@ -1,7 +1,7 @@
 //! Names of registers and commands, as UG470 spells them.
 ghost use Rattle.std.specs.Prelude.{◌≡◌, ◌<◌, ◌≤◌, length};
 ghost use Rattle.x7_regs.specs.Command.{command_name_limit, command_name_of};
-ghost use Rattle.x7_regs.specs.Register.{reg_name, reg_name_limit};
+ghost use Rattle.x7_regs.specs.Register.{reg_name, reg_name_limit, reg_number_count};
 
 use crate::command::Command;
 use std::marker::Model;
@@ -63,7 +63,7 @@ impl CommandName {
 /// The name of a register number: of a number without a register, `R` and its two digits (this project's choice).
 #[rattlefmt::skip]
 pub fn name_of(number: u8) -> RegName
-    requires { number < 32 }
+    requires { number < reg_number_count }
     ensures { result ≡ reg_name number }
 {
     let text: &'static [u8] = match number {

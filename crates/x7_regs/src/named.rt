@@ -2,7 +2,7 @@
 ghost use Rattle.std.specs.Prelude.{◌≡◌, ◌≢◌, ◌≤◌, ◌<◌, ℕ, length, slice_index, IfSome, IfNone};
 ghost use Rattle.x7_regs.specs.Command.{command_name_limit, command_name_of};
 ghost use Rattle.x7_regs.specs.Named.{IsCommandName, IsRegName, place_of_name, shortest_name};
-ghost use Rattle.x7_regs.specs.Register.{reg_name};
+ghost use Rattle.x7_regs.specs.Register.{reg_name, reg_number_count};
 ghost use Rattle.x7_regs.specs.declared.command.Command.{Command};
 
 use crate::command::command_of;
@@ -15,9 +15,24 @@ const SHORTEST_NAME: usize = 2;
 /// How many bytes the name of a command has at most.
 const COMMAND_NAME_LIMIT: usize = 9;
 
+/// How many places a table of names has.
+const TABLE_SIZE: usize = 64;
+
+// What counts in the place of a name more than once; its first byte counts once. All that is asked of the three weights
+// is that no two names of a table have one place.
+
+/// How often a name's second byte counts in its place.
+const SECOND_WEIGHT: usize = 13;
+
+/// How often a name's last byte counts in its place.
+const LAST_WEIGHT: usize = 3;
+
+/// How often a name's length counts in its place.
+const LENGTH_WEIGHT: usize = 2;
+
 /// The register numbers, each at the place of its name. A place of no name has 0.
 #[rattlefmt::skip]
-const REGISTERS: [u8; 64] = [
+const REGISTERS: [u8; TABLE_SIZE] = [
     19, 25,  0,  6, 26,  0,  0, 27,  0, 17, 28,  0, 22, 29,  0,  1,
      0,  0,  0,  8,  0,  0,  0,  0, 12, 10,  0,  7, 31,  2,  9,  5,
      0, 14, 24,  0,  0,  0,  0,  0,  0,  0,  0,  0, 11,  0,  0,  3,
@@ -26,7 +41,7 @@ const REGISTERS: [u8; 64] = [
 
 /// The codes of the commands, each at the place of its name. A place of no name has 0.
 #[rattlefmt::skip]
-const COMMANDS: [u8; 64] = [
+const COMMANDS: [u8; TABLE_SIZE] = [
      8,  0,  0,  0,  0,  0,  0,  0,  0,  3,  7,  0,  0, 12,  0,  0,
     10,  0, 17,  0,  0,  0,  4, 18,  0,  0, 13,  1,  0,  5,  0,  0,
      0,  0,  9,  0,  0,  0,  2,  0,  0,  0,  0,  0,  0,  0,  0,  0,
@@ -34,14 +49,15 @@ const COMMANDS: [u8; 64] = [
 ];
 
 /// What a table has at the place of a name.
-fn at_place(table: &[u8; 64], name: &[u8]) -> u8
+fn at_place(table: &[u8; TABLE_SIZE], name: &[u8]) -> u8
     requires least { shortest_name ≤ length name.now }
     requires most { length name.now ≤ command_name_limit }
     ensures { result ≡ slice_index table.now (place_of_name name.now) }
 {
     let (first, second) = (usize::from(name[0]), usize::from(name[1]));
     let last = usize::from(name[name.len() - 1]);
-    table[(first + 13 * second + 3 * last + 2 * name.len()) % 64]
+    let weighed = first + SECOND_WEIGHT * second + LAST_WEIGHT * last + LENGTH_WEIGHT * name.len();
+    table[weighed % TABLE_SIZE]
 }
 
 /// The register number that the table has for a name.
@@ -49,7 +65,7 @@ fn register_at(name: &[u8]) -> u8
     requires least { shortest_name ≤ length name.now }
     requires most { length name.now ≤ command_name_limit }
     ensures value { result ≡ slice_index REGISTERS (place_of_name name.now) }
-    ensures most { result < 32 }
+    ensures most { result < reg_number_count }
 {
     at_place(&REGISTERS, name)
 }
@@ -57,7 +73,7 @@ fn register_at(name: &[u8]) -> u8
 /// The register number of this name: a register's, or `R` and two digits for a number without a register.
 pub fn reg_named(text: &[u8]) -> Option<u8>
     ensures named { IfSome result (λ number. IsRegName text.now number) }
-    ensures unnamed { IfNone result ((number : ℕ) → number < 32 → text.now ≢ reg_name number) }
+    ensures unnamed { IfNone result ((number : ℕ) → number < reg_number_count → text.now ≢ reg_name number) }
 {
     if text.len() < SHORTEST_NAME || text.len() > COMMAND_NAME_LIMIT {
         return None;

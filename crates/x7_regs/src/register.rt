@@ -1,6 +1,6 @@
 //! Configuration registers (UG470, configuration registers).
 ghost use Rattle.std.specs.Prelude.{◌≡◌, ◌≢◌, ◌<◌, Some, IfSome, IfNone};
-ghost use Rattle.x7_regs.specs.Register.{number_of, reg_with};
+ghost use Rattle.x7_regs.specs.Register.{number_of, reg_number_count, reg_with};
 ghost use Rattle.x7_regs.specs.declared.register.Reg.{Reg};
 
 /// The configuration registers, in the order of their numbers.
@@ -85,7 +85,7 @@ impl Reg {
     #[rattlefmt::skip]
     pub fn number(self) -> u8
         ensures value { result ≡ number_of self }
-        ensures most { result < 32 }
+        ensures most { result < reg_number_count }
         ensures back { reg_with result ≡ Some self }
     {
         match self {

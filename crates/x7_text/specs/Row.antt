@@ -5,6 +5,7 @@ use Rattle.std.specs.declared.alloc.Global.{Global}
 use Rattle.x7_words.specs.Word.{AreBytes, AreWords}
 use Rattle.x7_text.specs.Appends.{Appends}
 use Rattle.x7_text.specs.Digits.{hex_byte, hex_word}
+use Rattle.x7_text.specs.Lines.{line_end_byte, space_byte}
 
 -- a row that has elements, and nothing for an empty one
 abbrev pub row_if_any : List ℕ → List (List ℕ)
@@ -36,11 +37,11 @@ row_bytes = 32
 
 -- the line of a row: its keyword, the text of each element, and the line end
 abbrev pub line : List ℕ → (ℕ → List ℕ) → List ℕ → List ℕ
-line keyword text row = keyword ++ flat_map text row ++ 10 ∷ []
+line keyword text row = keyword ++ flat_map text row ++ line_end_byte ∷ []
 
 -- a word of a `data` line: a space and eight digits
 abbrev pub spaced : ℕ → List ℕ
-spaced w = 32 ∷ hex_word w
+spaced w = space_byte ∷ hex_word w
 
 -- bytes as `bytes` lines, the last of which may be shorter
 abbrev pub bytes_text : List ℕ → List ℕ
@@ -66,7 +67,7 @@ line_start keyword in_line = if in_line == 0 then keyword else []
 
 -- what stands after an element of a line: the line end after the one that fills it, and else nothing
 abbrev pub line_end : ℕ → ℕ → List ℕ
-line_end n in_line = if in_line + 1 == n then 10 ∷ [] else []
+line_end n in_line = if in_line + 1 == n then line_end_byte ∷ [] else []
 
 -- the count of elements in the open line after one more
 abbrev pub next_in_line : ℕ → ℕ → ℕ
@@ -122,7 +123,7 @@ pub record PutsWords (in_line : ℕ) (words : List ℕ) (old new : Vec ℕ Globa
 
 -- the end of an open line, and nothing where none is open
 abbrev pub close : ℕ → List ℕ
-close in_line = if in_line == 0 then [] else 10 ∷ []
+close in_line = if in_line == 0 then [] else line_end_byte ∷ []
 
 -- the bytes of one `bytes` line
 abbrev pub IsByteRow : List ℕ → Type 0

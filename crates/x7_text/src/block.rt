@@ -86,6 +86,15 @@ pub(crate) fn hex_of_four(bytes: &[u8; 4]) -> [u8; 8]
     eight_hex_digits(halves_of_four(u8x4::from_array(*bytes))).to_array()
 }
 
+/// How many bytes of text a full `data` line has, with its line end.
+pub(crate) const DATA_LINE_SIZE: usize = 77;
+
+/// How many bytes of text a full `bytes` line has, with its line end.
+pub(crate) const BYTES_LINE_SIZE: usize = 71;
+
+/// How many bytes five vectors of sixteen have, in which a `data` line is put together.
+const WIDE_LINE_SIZE: usize = 80;
+
 /// What a `data` line has beside digits: its keyword, a space and the line end.
 const BESIDE: [u8; 16] = *b"data \n          ";
 
@@ -102,8 +111,8 @@ fn sixteen_of(digits: &[u8; 64], at: usize) -> u8x16
 /// together from one or two vectors of digits, and then from what stands beside digits.
 #[rattlefmt::skip]
 #[inline(always)]
-fn wide_line(bytes: &[u8; 32]) -> [u8; 80]
-    ensures length { length result ≡ 80 }
+fn wide_line(bytes: &[u8; 32]) -> [u8; WIDE_LINE_SIZE]
+    ensures length { length result ≡ WIDE_LINE_SIZE }
     ensures line { take data_line_size result ≡ line (codes "data") spaced (words_of_bytes bytes.now) }
 {
     let digits = hex_of_block(bytes);
@@ -123,7 +132,7 @@ fn wide_line(bytes: &[u8; 32]) -> [u8; 80]
         .shuffle(beside, [ 0, 20,  2,  3,  4,  5,  6,  7,  8,  9, 20, 11, 12, 13, 14, 15]);
     let last = d
         .shuffle(beside, [ 5,  6,  7, 20,  8,  9, 10, 11, 12, 13, 14, 15, 21, 21, 21, 21]);
-    let mut text = [b'\n'; 80];
+    let mut text = [b'\n'; WIDE_LINE_SIZE];
     first.copy_to_slice(&mut text);
     second.copy_to_slice(&mut text[16..]);
     third.copy_to_slice(&mut text[32..]);
@@ -134,20 +143,20 @@ fn wide_line(bytes: &[u8; 32]) -> [u8; 80]
 
 /// The `data` line of eight words, with its line end.
 #[inline(always)]
-pub fn data_line(bytes: &[u8; 32]) -> [u8; 77]
+pub fn data_line(bytes: &[u8; 32]) -> [u8; DATA_LINE_SIZE]
     ensures { result ≡ line (codes "data") spaced (words_of_bytes bytes.now) }
 {
-    let mut text = [0; 77];
-    text.copy_from_slice(&wide_line(bytes)[..77]);
+    let mut text = [0; DATA_LINE_SIZE];
+    text.copy_from_slice(&wide_line(bytes)[..DATA_LINE_SIZE]);
     text
 }
 
 /// The `bytes` line of 32 bytes, with its line end.
 #[inline(always)]
-pub fn bytes_line(bytes: &[u8; 32]) -> [u8; 71]
+pub fn bytes_line(bytes: &[u8; 32]) -> [u8; BYTES_LINE_SIZE]
     ensures { result ≡ line (codes "bytes ") hex_byte bytes.now }
 {
-    let mut text = [b'\n'; 71];
+    let mut text = [b'\n'; BYTES_LINE_SIZE];
     u8x4::from_array(*b"byte").copy_to_slice(&mut text);
     text[4] = b's';
     text[5] = b' ';

@@ -4,7 +4,7 @@ ghost use Rattle.std.specs.List.{flat_map};
 ghost use Rattle.x7_text.specs.Appends.{Appends, HasSpareRoom};
 ghost use Rattle.x7_text.specs.Digits.{hex_byte};
 ghost use Rattle.x7_text.specs.Row.{line, line_start, line_end, next_in_line, in_line_after, spaced, close, PutsBytes, PutsWords, row_words, row_bytes, data_line_size, bytes_line_size, word_text_limit, byte_text_limit, rows_text_limit, open_data, open_bytes};
-ghost use Rattle.x7_words.specs.Word.{words_of_bytes};
+ghost use Rattle.x7_words.specs.Word.{AreWholeWords, words_of_bytes};
 
 use crate::block::{bytes_line, data_line, hex_of_short_block};
 use crate::digits::{hex_of_byte, hex_of_word};
@@ -100,7 +100,7 @@ fn put_bytes_lines(text: &mut Vec<u8>, lines: &[[u8; 32]])
 /// Appends the words of whole groups of four bytes to `data` lines, word by word.
 fn put_each_word(text: &mut Vec<u8>, in_line: usize, bytes: &[u8]) -> usize
     requires open { in_line < row_words }
-    requires whole { length bytes.now % 4 ≡ 0 }
+    requires whole { AreWholeWords bytes.now }
     requires room { HasSpareRoom text.old (3 * length bytes.now + 4) }
     ensures { PutsWords in_line (words_of_bytes bytes.now) text.old text.new (3 * length bytes.now + 1) result }
 {
@@ -141,7 +141,7 @@ fn put_bytes_in_line(text: &mut Vec<u8>, in_line: usize, bytes: &[u8]) -> usize
 
 /// Appends the words of whole groups of four bytes to new `data` lines. Gives how many stand in the open line then.
 fn put_new_words(text: &mut Vec<u8>, bytes: &[u8]) -> usize
-    requires whole { length bytes.now % 4 ≡ 0 }
+    requires whole { AreWholeWords bytes.now }
     requires room { HasSpareRoom text.old (3 * length bytes.now + 4) }
     ensures { PutsWords 0 (words_of_bytes bytes.now) text.old text.new (3 * length bytes.now + 1) result }
 {
@@ -164,7 +164,7 @@ fn put_new_bytes(text: &mut Vec<u8>, bytes: &[u8]) -> usize
 /// has `in_line` words (0 where none is open). Gives that count afterwards. It takes no memory.
 pub fn put_words(text: &mut Vec<u8>, in_line: usize, bytes: &[u8]) -> usize
     requires open { in_line < row_words }
-    requires whole { length bytes.now % 4 ≡ 0 }
+    requires whole { AreWholeWords bytes.now }
     requires room { HasSpareRoom text.old (rows_text_limit (length bytes.now)) }
     ensures count { result ≡ in_line_after row_words in_line (words_of_bytes bytes.now) }
     ensures open { result < row_words }

@@ -1,5 +1,5 @@
 -- Words of 32 bits, the bytes that they are read from, and their bit fields (UG470, configuration details).
-use Rattle.std.specs.Prelude.{ℕ, ◌+◌, ◌*◌, ◌/◌, ◌%◌, ◌^◌, ◌<◌, List, [], ◌∷◌}
+use Rattle.std.specs.Prelude.{◌≡◌, ℕ, ◌+◌, ◌*◌, ◌/◌, ◌%◌, ◌^◌, ◌<◌, List, [], ◌∷◌, length}
 use Rattle.std.specs.List.{AllByRecursion}
 
 -- the word of four bytes, the first the highest; 0 for fewer bytes
@@ -21,6 +21,10 @@ words_of_bytes (a ∷ []) = []
 words_of_bytes (a ∷ b ∷ []) = []
 words_of_bytes (a ∷ b ∷ c ∷ []) = []
 words_of_bytes (a ∷ b ∷ c ∷ d ∷ bs) = word_of_bytes (a ∷ b ∷ c ∷ d ∷ []) ∷ words_of_bytes bs
+
+-- the bytes are those of whole words: their number is a multiple of four
+abbrev pub AreWholeWords : List ℕ → Type 0
+AreWholeWords bytes = length bytes % 4 ≡ 0
 
 -- each number of the list is a byte
 abbrev pub AreBytes : List ℕ → Type 0

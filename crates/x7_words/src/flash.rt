@@ -31,9 +31,9 @@ pub trait Flash {
 
     /// Attaches the flash of this name. After an error none is attached.
     fn attach(&mut self, name: &str) -> Result<(), SelectFault>
-        ensures ok { OnOk result ((state self.new).attached ≡ true) }
+        ensures attached { OnOk result ((state self.new).attached ≡ true) }
         ensures refused { IfErr result (FlashRefuses (state self.old) (state self.new)) }
-        ensures err { OnErr result ((state self.new).attached ≡ false) }
+        ensures not_attached { OnErr result ((state self.new).attached ≡ false) }
         ensures asks { AsksFor (state self.old) name.now (state self.new) }
         ensures stays { FlashStays (state self.old) (state self.new) (found_since self.old) (found_since self.new) }
         ensures known_length { IsSized (state self.new) }

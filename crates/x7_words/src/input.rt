@@ -44,9 +44,9 @@ pub trait Inputs {
     /// Begins the input of this name, at its first byte, also where it was selected before.
     /// After an error no input is selected.
     fn select(&mut self, name: &str) -> Result<(), SelectFault>
-        ensures ok { OnOk result (Opens (state self.old) name.now (state self.new)) }
+        ensures opened { OnOk result (Opens (state self.old) name.now (state self.new)) }
         ensures refused { IfErr result (InputsRefuse (state self.old) name.now (state self.new)) }
-        ensures err { OnErr result ((state self.new).selected ≡ false) }
+        ensures not_selected { OnErr result ((state self.new).selected ≡ false) }
         ensures asks { Asks name.now (state self.new) }
         ensures at_most_one_more { AsksOnce (state self.old) (state self.new) }
         ensures stays { InputsStay (state self.old) (state self.new) }
@@ -57,7 +57,7 @@ pub trait Inputs {
     /// buffer may hold anything: the system promises nothing of it where a read fails.
     fn read(&mut self, buf: &mut [u8]) -> Result<usize, Failed>
         requires { (state self.old).selected ≡ true }
-        ensures ok { IfOk result (λ n. TakesInput (state self.old) (take n buf.new) (state self.new)) }
+        ensures read { IfOk result (λ n. TakesInput (state self.old) (take n buf.new) (state self.new)) }
         ensures within { IfOk result (λ n. n ≤ length buf.old) }
         ensures end { IfOk result (λ n. n ≡ 0 → 0 < length buf.old → AtEnd (state self.new).rest) }
         ensures no_end { IfOk result (λ n. 0 < n → (state self.new).ends ≤ (state self.old).ends) }

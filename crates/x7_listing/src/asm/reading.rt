@@ -2,7 +2,7 @@
 ghost use Rattle.std.specs.Prelude.{◌≡◌, ◌≢◌, ℕ, List, ◌<◌, ◌^◌, ◌∷◌, ◌++◌, length, slice_index, decimal, IfSome, MatchOption};
 ghost use Rattle.x7_words.specs.Word.{bytes_of_word};
 ghost use Rattle.x7_regs.specs.Command.{code_of, command_name_of};
-ghost use Rattle.x7_regs.specs.Register.{reg_name};
+ghost use Rattle.x7_regs.specs.Register.{reg_name, reg_number_count};
 ghost use Rattle.x7_regs.specs.declared.command.Command.{Command};
 ghost use Rattle.x7_packets.specs.PacketWords.{type1_read_header, type1_write_header, type2_read_header, type2_write_header};
 ghost use Rattle.x7_text.specs.Appends.{Appends};
@@ -47,8 +47,8 @@ fn space_in(text: &[u8]) -> Option<usize>
 
 /// The number of the register whose name stands before the first space, and what stands after the space.
 fn register_before(text: &[u8]) -> Option<(u8, &[u8])>
-    ensures { MatchOption result ((n : ℕ) (rest : List ℕ) → n < 32 → text.now ≢ reg_name n ++ space_byte ∷ rest)
-        (λ r. (r.0 < 32) × (text.now ≡ reg_name r.0 ++ space_byte ∷ r.1.now)) }
+    ensures { MatchOption result ((n : ℕ) (rest : List ℕ) → n < reg_number_count → text.now ≢ reg_name n ++ space_byte ∷ rest)
+        (λ r. (r.0 < reg_number_count) × (text.now ≡ reg_name r.0 ++ space_byte ∷ r.1.now)) }
 {
     let Some(at) = space_in(text) else {
         return None;

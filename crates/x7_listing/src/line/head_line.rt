@@ -1,6 +1,6 @@
 //! The lines of single words, written: of a word in a header's place, a command and a sync word.
 ghost use Rattle.std.specs.Prelude.{◌≡◌, [], ◌∷◌, ◌++◌, ◌<◌, ◌≤◌, ◌+◌, length, codes, decimal};
-ghost use Rattle.x7_regs.specs.Register.{reg_name};
+ghost use Rattle.x7_regs.specs.Register.{reg_name, reg_number_count};
 ghost use Rattle.x7_text.specs.Appends.{Appends, HasSpareRoom};
 ghost use Rattle.x7_text.specs.Digits.{hex_word};
 ghost use Rattle.x7_text.specs.Row.{close};
@@ -86,7 +86,7 @@ impl HeadLine {
 fn put_type1(text: &mut Vec<u8>, word: &[u8], register: u8, count: u32)
     requires room { HasSpareRoom text.old line_size }
     requires short { length word.now ≤ 6 }
-    requires register { register < 32 }
+    requires register { register < reg_number_count }
     ensures appends { Appends text.old text.new (word.now ++ reg_name register ++ space_byte ∷ decimal count ++ line_end_byte ∷ []) line_size }
 {
     put(text, word);

@@ -1,5 +1,7 @@
 //! The lines of short writes, ready to be stored at once: rows of 32 bytes, the last of which says how many are text.
 ghost use Rattle.std.specs.Prelude.{◌≡◌, ℕ, List, ◌<◌};
+ghost use Rattle.x7_regs.specs.Register.{reg_number_count};
+ghost use Rattle.x7_regs.specs.Command.{command_code_count};
 ghost use Rattle.x7_listing.specs.Fast.AtOnce.{AreRowsFrom, command_lines, row_text, write_name, write_start};
 
 /// Where in a row it stands how many of its bytes are text: the last of its 32 bytes.
@@ -17,7 +19,7 @@ fn row_in(rows: &[[u8; 32]; 32], n: usize) -> &[u8; 32]
 /// The row of the lines of a write of one word to a register, up to the word's digits.
 #[inline(always)]
 pub(crate) fn write_row(register: u8) -> &'static [u8; 32]
-    requires { register < 32 }
+    requires { register < reg_number_count }
     ensures { row_text result.now ≡ write_start register }
 {
     row_in(&WRITES, register as usize)
@@ -26,7 +28,7 @@ pub(crate) fn write_row(register: u8) -> &'static [u8; 32]
 /// The row of the lines of a write of a word below 32 to CMD.
 #[inline(always)]
 pub(crate) fn command_row(w: u32) -> &'static [u8; 32]
-    requires { w < 32 }
+    requires { w < command_code_count }
     ensures { row_text result.now ≡ command_lines w }
 {
     row_in(&COMMANDS, w as usize)
@@ -35,7 +37,7 @@ pub(crate) fn command_row(w: u32) -> &'static [u8; 32]
 /// The row of the line of a write to a register, up to its word count.
 #[inline(always)]
 pub(crate) fn name_row(register: u8) -> &'static [u8; 32]
-    requires { register < 32 }
+    requires { register < reg_number_count }
     ensures { row_text result.now ≡ write_name register }
 {
     row_in(&NAMES, register as usize)

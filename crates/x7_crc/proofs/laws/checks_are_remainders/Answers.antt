@@ -10,5 +10,5 @@ returns-clause-remainder c = check_of_remainder
 pub returns-clause-continued : goal.returns-clause-continued
 returns-clause-continued c = check_after_remainder
 
-pub returns-clause-only : goal.returns-clause-only
-returns-clause-only c before check writes h k r = check_after_only before check writes h k r
+pub returns-clause-unique : goal.returns-clause-unique
+returns-clause-unique c before check writes h k r = check_after_only before check writes h k r

@@ -14,7 +14,7 @@ returns-in_err-after_fixed_bytes-clause-exact c =
     (header_none c.args.bytes.now c.in_err-after_fixed_bytes.field-0.0 c.in_err-after_fixed_bytes.ensures.value)
 
 pub returns-clause-exact : goal.returns-clause-exact
-returns-clause-exact c = rw (header_after c.args.bytes.now c.in_ok-after_fixed_bytes.field-0.now c.in_ok-after_fixed_bytes.ensures.value) c.read_layout.ensures
+returns-clause-exact c = rw (header_after c.args.bytes.now c.in_ok-after_fixed_bytes.field-0.now c.in_ok-after_fixed_bytes.ensures.value) c.read_fields.ensures
 
 pub returns-in_err-after_fixed_bytes-clause-found : goal.returns-in_err-after_fixed_bytes-clause-found
 returns-in_err-after_fixed_bytes-clause-found c =
@@ -22,7 +22,7 @@ returns-in_err-after_fixed_bytes-clause-found c =
 
 pub returns-clause-found : goal.returns-clause-found
 returns-clause-found c =
-    is_found (λ head. (contents_of head, head.size)) c.read_layout.result c.args.bytes.now (all_from_places (λ b. b < 256) c.args.bytes.now (λ k l. omega (arith, c.type_inv.bytes k))) (returns-clause-exact c)
+    is_found (λ head. (contents_of head, head.size)) c.read_fields.result c.args.bytes.now (all_from_places (λ b. b < 256) c.args.bytes.now (λ k l. omega (arith, c.type_inv.bytes k))) (returns-clause-exact c)
 
 pub returns-in_err-after_fixed_bytes-clause-most : goal.returns-in_err-after_fixed_bytes-clause-most
 returns-in_err-after_fixed_bytes-clause-most c =
@@ -30,7 +30,7 @@ returns-in_err-after_fixed_bytes-clause-most c =
 
 pub returns-clause-most : goal.returns-clause-most
 returns-clause-most c =
-    is_short (λ head. (contents_of head, head.size)) c.read_layout.result c.args.bytes.now (all_from_places (λ b. b < 256) c.args.bytes.now (λ k l. omega (arith, c.type_inv.bytes k))) (returns-clause-exact c)
+    is_short (λ head. (contents_of head, head.size)) c.read_fields.result c.args.bytes.now (all_from_places (λ b. b < 256) c.args.bytes.now (λ k l. omega (arith, c.type_inv.bytes k))) (returns-clause-exact c)
 
 pub returns-in_err-after_fixed_bytes-clause-complete : goal.returns-in_err-after_fixed_bytes-clause-complete
 returns-in_err-after_fixed_bytes-clause-complete c =
@@ -38,7 +38,7 @@ returns-in_err-after_fixed_bytes-clause-complete c =
 
 pub returns-clause-complete : goal.returns-clause-complete
 returns-clause-complete c =
-    is_only (λ head. (contents_of head, head.size)) c.read_layout.result c.args.bytes.now (returns-clause-exact c)
+    is_only (λ head. (contents_of head, head.size)) c.read_fields.result c.args.bytes.now (returns-clause-exact c)
 
 pub returns-in_err-after_fixed_bytes-clause-raw : goal.returns-in_err-after_fixed_bytes-clause-raw
 returns-in_err-after_fixed_bytes-clause-raw c =
@@ -46,7 +46,7 @@ returns-in_err-after_fixed_bytes-clause-raw c =
 
 pub returns-clause-raw : goal.returns-clause-raw
 returns-clause-raw c =
-    is_raw (λ head. (contents_of head, head.size)) c.read_layout.result c.args.bytes.now (returns-clause-exact c)
+    is_raw (λ head. (contents_of head, head.size)) c.read_fields.result c.args.bytes.now (returns-clause-exact c)
 
 pub returns-in_err-after_fixed_bytes-clause-cut : goal.returns-in_err-after_fixed_bytes-clause-cut
 returns-in_err-after_fixed_bytes-clause-cut c =
@@ -54,7 +54,7 @@ returns-in_err-after_fixed_bytes-clause-cut c =
 
 pub returns-clause-cut : goal.returns-clause-cut
 returns-clause-cut c =
-    is_cut (λ head. (contents_of head, head.size)) c.read_layout.result c.args.bytes.now (all_from_places (λ b. b < 256) c.args.bytes.now (λ k l. omega (arith, c.type_inv.bytes k))) (returns-clause-exact c)
+    is_cut (λ head. (contents_of head, head.size)) c.read_fields.result c.args.bytes.now (all_from_places (λ b. b < 256) c.args.bytes.now (λ k l. omega (arith, c.type_inv.bytes k))) (returns-clause-exact c)
 
 pub returns-in_err-after_fixed_bytes-clause-field : goal.returns-in_err-after_fixed_bytes-clause-field
 returns-in_err-after_fixed_bytes-clause-field c =
@@ -62,4 +62,4 @@ returns-in_err-after_fixed_bytes-clause-field c =
 
 pub returns-clause-field : goal.returns-clause-field
 returns-clause-field c =
-    is_other (λ head. (contents_of head, head.size)) c.read_layout.result c.args.bytes.now (all_from_places (λ b. b < 256) c.args.bytes.now (λ k l. omega (arith, c.type_inv.bytes k))) (returns-clause-exact c)
+    is_other (λ head. (contents_of head, head.size)) c.read_fields.result c.args.bytes.now (all_from_places (λ b. b < 256) c.args.bytes.now (λ k l. omega (arith, c.type_inv.bytes k))) (returns-clause-exact c)

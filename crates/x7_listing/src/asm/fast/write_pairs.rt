@@ -4,6 +4,8 @@ ghost use Rattle.std.specs.Simd.Lanes.{chunk, mask_l, zip2};
 ghost use Rattle.x7_words.specs.Word.{bytes_of_word};
 ghost use Rattle.x7_text.specs.Appends.{Appends};
 ghost use Rattle.x7_text.specs.Row.{row_bytes};
+ghost use Rattle.x7_regs.specs.Register.{reg_number_count};
+ghost use Rattle.x7_regs.specs.Command.{command_code_count};
 ghost use Rattle.x7_listing.specs.Fast.AtOnce.{bytes_differ, row_text};
 ghost use Rattle.x7_listing.specs.Assembling.{HasRoomForLine};
 ghost use Rattle.x7_listing.specs.Fast.Looking.{Looks};
@@ -90,7 +92,7 @@ fn put_two(out: &mut Vec<u8>, one: u32, other: u32)
 /// Appends the bytes of a write of one word to this register, if its two lines begin the text.
 #[inline(always)]
 fn put_word_pair(out: &mut Vec<u8>, text: &[u8; LOOK_SIZE], register: u8) -> Option<WholeLines>
-    requires register { register < 32 }
+    requires register { register < reg_number_count }
     requires room { HasRoomForLine out.old }
     ensures { Looks text.now out.old out.new result }
 {
@@ -113,7 +115,7 @@ fn put_word_pair(out: &mut Vec<u8>, text: &[u8; LOOK_SIZE], register: u8) -> Opt
 /// Appends the bytes of a write of this code to CMD, if its two lines begin the text.
 #[inline(always)]
 fn put_command_pair(out: &mut Vec<u8>, text: &[u8; LOOK_SIZE], code: u32) -> Option<WholeLines>
-    requires code { code < 32 }
+    requires code { code < command_code_count }
     requires room { HasRoomForLine out.old }
     ensures { Looks text.now out.old out.new result }
 {

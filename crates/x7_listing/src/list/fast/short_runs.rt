@@ -8,6 +8,7 @@ ghost use Rattle.x7_packets.specs.PacketWords.{no_op, type1_write_header};
 ghost use Rattle.x7_packets.specs.Packet.{payload_steps};
 ghost use Rattle.x7_text.specs.Appends.{HasSpareRoom};
 ghost use Rattle.x7_text.specs.Row.{bytes_text, close, row_bytes, row_words, data_line_size};
+ghost use Rattle.x7_regs.specs.Register.{reg_number_count};
 ghost use Rattle.x7_listing.specs.Fast.AtOnce.{command_lines};
 ghost use Rattle.x7_listing.specs.Fast.OnSheet.{ShowsWords, ListsMoreAfter, on_sheet, one_write_lines_size, head_line_size, short_write_lines_size, nop_lines_size, gap_lines_size};
 ghost use Rattle.x7_listing.specs.Fast.TakingAtOnce.{TakesAtOnce, TakesOnSheet};
@@ -79,7 +80,7 @@ fn put_write_lines(
     register: u8,
     w: u32,
 ) -> TextEnd
-    requires register { register < 32 }
+    requires register { register < reg_number_count }
     requires room { len + one_write_lines_size ≤ SHEET_SIZE }
     ensures count { result.in_line.count ≡ in_line_after_words 0 (payload_steps register (w ∷ [])) }
     ensures within { result.len ≤ len + one_write_lines_size }
@@ -118,7 +119,7 @@ fn put_count(sheet: &mut [u8; SHEET_SIZE], len: usize, count: usize) -> usize
 struct ShortWrite {
     register: u8,
     count: usize,
-    ghost range: { register < 32 },
+    ghost range: { register < reg_number_count },
     ghost some: { 0 < count },
     ghost short: { count ≤ most_short_words },
 }
@@ -212,7 +213,7 @@ fn put_one_write(
     register: u8,
     w: u32,
 ) -> PutRun
-    requires register { register < 32 }
+    requires register { register < reg_number_count }
     requires room { len + one_write_lines_size ≤ SHEET_SIZE }
     ensures size { result.size ≡ 8 }
     ensures within { result.len ≤ len + one_write_lines_size }

@@ -7,9 +7,9 @@ select-tells g c =
     let old = c.args.self.now in
     let new = c.new.self.now in
     record {
-      ok = opened_ok old new new.rest new.refusal c.args.name.now c.result c.ensures.after;
+      opened = opened_ok old new new.rest new.refusal c.args.name.now c.result c.ensures.after;
       refused = opened_refused old new new.rest new.refusal c.args.name.now c.result c.ensures.after;
-      err = opened_err old new new.rest new.refusal c.result c.ensures.after;
+      not_selected = opened_err old new new.rest new.refusal c.result c.ensures.after;
       asks = opened_asks old new new.rest new.refusal c.args.name.now c.result c.ensures.after;
       at_most_one_more = record { selects = c.ensures.at_most_one_more; ends = omega (arith, c.ensures.ends) };
       stays = record { map = refl; faults = c.ensures.counts.faults.rises; absences = c.ensures.counts.absences.rises };
@@ -21,7 +21,7 @@ read-tells g c =
     let old = c.args.self.now in
     let new = c.new.self.now in
     record {
-      ok = read_ok old new c.new.buf.now c.result c.requires (within_buffer c.result (length c.args.buf.now) (length c.new.buf.now) c.ensures.length c.ensures.within) c.ensures.ok;
+      read = read_ok old new c.new.buf.now c.result c.requires (within_buffer c.result (length c.args.buf.now) (length c.new.buf.now) c.ensures.length c.ensures.within) c.ensures.ok;
       within = c.ensures.within;
       end = unknown_read c.result (length c.args.buf.now);
       length = c.ensures.length;

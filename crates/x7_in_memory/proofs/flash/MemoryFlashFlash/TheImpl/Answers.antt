@@ -56,9 +56,9 @@ attach-tells c =
     let old = c.args.self.now in
     let new = c.new.self.now in
     record {
-      ok = search rules;
+      attached = search rules;
       refused = search rules;
-      err = search rules;
+      not_attached = search rules;
       asks = attach_asks old new c.args.name.now c.ensures.after;
       stays = attach_stays old new c.args.name.now c.ensures.after c.ensures.faults.rises c.ensures.absences.rises;
       known_length = refl;

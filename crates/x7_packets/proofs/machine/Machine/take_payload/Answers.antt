@@ -22,7 +22,7 @@ returns-clause-grows c = λ ps s.
     let count : length (words_of_bytes c.args.body.now) ≡ length c.args.body.now / 4 = length_words c.args.body.now (length c.args.body.now / 4) c.requires.whole in
     let fits = words_fit c.args.body.now (all_from_places (λ b. b < 256) c.args.body.now (λ k h. omega (arith, c.type_inv.body k))) in
     elim (subst (λ m. MachineStandsFor m ps) (sym c.self.view_is) s) [
-      | inl a ↦ absurd (let z : c.self.inside.due ≡ 0 = a.due in omega (arith, c.requires.within_due, c.requires.some, c.requires.whole))
+      | inl a ↦ absurd (let z : c.self.inside.due ≡ 0 = a.due in omega (arith, c.requires.within_due, c.requires.not_empty, c.requires.whole))
       | inr a ↦ subst (λ (m : MachineState). Grows ps (payload_steps m.register (words_of_bytes c.args.body.now)) n) c.self.view_is
-          (payload_goes_on v n ps (words_of_bytes c.args.body.now) fits a (other_register c.self.inside.register _ c.is_cmd.ensures c.if-is_cmd.false) (omega (arith, count, c.requires.some, c.requires.whole)) refl refl (omega (arith, count, due, c.requires.within_due)))
+          (payload_goes_on v n ps (words_of_bytes c.args.body.now) fits a (other_register c.self.inside.register _ c.is_cmd.ensures c.if-is_cmd.false) (omega (arith, count, c.requires.not_empty, c.requires.whole)) refl refl (omega (arith, count, due, c.requires.within_due)))
     ]

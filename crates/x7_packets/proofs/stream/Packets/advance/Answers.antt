@@ -6,11 +6,11 @@ use Rattle.x7_packets.specs.Stream.{TookBytes, CutsNext}
 use Rattle.x7_packets.proofs.StreamLemmas.{gives_again, gives_end, gives_up, reads_none, reads_on, room_on, run_is_not_last, tells_run, turns_most}
 use Rattle.x7_packets.proofs.stream.Packets.advance.Goals as goal
 
-pub returns-then-self-clause-err : goal.returns-then-self-clause-err
-returns-then-self-clause-err g c = record { more = []; reads = reads_none c.args.self.now; failed = sym (ap (λ (p : PacketsState). p.has_failed) c.self.view_is) ∙ c.if-self.true }
+pub returns-then-self-clause-gives_up : goal.returns-then-self-clause-gives_up
+returns-then-self-clause-gives_up g c = record { more = []; reads = reads_none c.args.self.now; failed = sym (ap (λ (p : PacketsState). p.has_failed) c.self.view_is) ∙ c.if-self.true }
 
-pub returns-then-self-2-clause-ok : goal.returns-then-self-2-clause-ok
-returns-then-self-2-clause-ok g c = λ r e.
+pub returns-then-self-2-clause-gives_run : goal.returns-then-self-2-clause-gives_run
+returns-then-self-2-clause-gives_run g c = λ r e.
     let end = c.requires.end (sym (ap (λ (p : PacketsState). p.is_done) c.self.view_is) ∙ c.if-self-2.true) in
     rw (← c.self.view_is) (gives_again _ _ r c.if-self-2.true c.if-self.false end e)
 
@@ -26,8 +26,8 @@ loop-self-init g c =
       room = omega (arith, turns_most c.args.self.now.cutter.kept c.args.self.now.left);
     }
 
-pub returns-then-cut_next-clause-ok : goal.returns-then-cut_next-clause-ok
-returns-then-cut_next-clause-ok g c = λ r last.
+pub returns-then-cut_next-clause-gives_run : goal.returns-then-cut_next-clause-gives_run
+returns-then-cut_next-clause-gives_run g c = λ r last.
     let i = c.loop-self.invariant in
     let s : CutsNext c.loop-self.self c.cut_next.new.self true = subst (λ (b : Bool). CutsNext c.loop-self.self c.cut_next.new.self b) c.if-cut_next.true c.cut_next.ensures in
     record {
@@ -37,17 +37,17 @@ returns-then-cut_next-clause-ok g c = λ r last.
       end = λ e. absurd (run_is_not_last c.loop-self.self c.cut_next.new.self r s last e);
     }
 
-pub returns-in-Err-clause-err : goal.returns-in-Err-clause-err
-returns-in-Err-clause-err g c =
+pub returns-in-Err-clause-gives_up : goal.returns-in-Err-clause-gives_up
+returns-in-Err-clause-gives_up g c =
     let i = c.loop-self.invariant in
     let s : CutsNext c.loop-self.self c.cut_next.new.self false = subst (λ (b : Bool). CutsNext c.loop-self.self c.cut_next.new.self b) c.if-cut_next.false c.cut_next.ensures in
-    gives_up c.args.self.now c.loop-self.self c.cut_next.new.self c.fill.new.self i.reads.0 s i.on i.reads.2 c.in-Err.ensures.err
+    gives_up c.args.self.now c.loop-self.self c.cut_next.new.self c.fill.new.self i.reads.0 s i.on i.reads.2 c.in-Err.ensures.loses_bytes
 
-pub returns-then-not-more-clause-ok : goal.returns-then-not-more-clause-ok
-returns-then-not-more-clause-ok g c = λ r last.
+pub returns-then-not-more-clause-gives_run : goal.returns-then-not-more-clause-gives_run
+returns-then-not-more-clause-gives_run g c = λ r last.
     let i = c.loop-self.invariant in
     let s : CutsNext c.loop-self.self c.cut_next.new.self false = subst (λ (b : Bool). CutsNext c.loop-self.self c.cut_next.new.self b) c.if-cut_next.false c.cut_next.ensures in
-    let f = c.in-Ok.ensures.ok in
+    let f = c.in-Ok.ensures.fills in
     let end = f.end c.if-not-more.true in
     gives_end c.args.self.now c.loop-self.self c.cut_next.new.self c.fill.new.self c.finish.new.self i.reads.0 f.piece _ _ _ r s i.on i.good i.reads.2 i.reads.1 f.taken f.is end.0 end.1 c.finish.ensures.tail c.finish.ensures.end last
 
@@ -55,7 +55,7 @@ pub loop-self-preserved : goal.loop-self-preserved
 loop-self-preserved g c =
     let i = c.loop-self.invariant in
     let s : CutsNext c.loop-self.self c.cut_next.new.self false = subst (λ (b : Bool). CutsNext c.loop-self.self c.cut_next.new.self b) c.if-cut_next.false c.cut_next.ensures in
-    let f = c.in-Ok.ensures.ok in
+    let f = c.in-Ok.ensures.fills in
     let o = c.in-Ok.ensures in
     let some : 0 < length f.piece = f.some c.if-not-more.false in
     record {

@@ -7,9 +7,9 @@ attach-tells g c =
     let old = c.args.self.now in
     let new = c.new.self.now in
     record {
-      ok = attached_ok _ new.extent new.file c.result c.ensures.extent;
+      attached = attached_ok _ new.extent new.file c.result c.ensures.extent;
       refused = attached_refused old new c.result c.ensures.after;
-      err = attached_err old new c.result c.ensures.after;
+      not_attached = attached_err old new c.result c.ensures.after;
       asks = record { asked = refl; no_other = λ other had. inl refl };
       stays = record {
         bytes = refl;

@@ -1,5 +1,5 @@
 use Rattle.x7_header.proofs.StepLemmas.{fault_at_c, fault_at_d, fault_at_e, gives_fault, read_whole}
-use Rattle.x7_header.proofs.reading.read_layout.Goals as goal
+use Rattle.x7_header.proofs.reading.read_fields.Goals as goal
 
 pub returns-in_err-c : goal.returns-in_err-c
 returns-in_err-c c =
