@@ -7,7 +7,7 @@ use Rattle.x7_crc.specs.Check.{check_after, check_of}
 use Rattle.x7_crc.specs.RunningCheck.{in_order}
 use Rattle.x7_crc.proofs.CheckLemmas.{check_after_none, check_after_fits, check_of_more}
 use Rattle.x7_effects.proofs.Items.{Item, Noop, Dummy, Write, WriteLong, Read, ReadLong, item_words, IsItem, AreItems, writes_entered, item_entered, items_entered}
-use Rattle.x7_effects.proofs.Checking.{Checking, clears_by, after_write, after_writes, after_item, after_items, checking_of, Piece, Put, Check, piece_item, with_checks, IsPiece, ArePieces}
+use Rattle.x7_effects.proofs.Checking.{Checking, clears_under, after_write, after_writes, after_item, after_items, checking_of, Piece, Put, Check, piece_item, with_checks, IsPiece, ArePieces}
 
 checking_is : (c d : Checking) → c.check ≡ d.check → c.held ≡ d.held → c ≡ d
 checking_is c d e f = ap (λ (x : ℕ). record { check = x; held = c.held }) e ∙ ap (λ (x : ℕ). record { check = d.check; held = x }) f
@@ -47,7 +47,7 @@ items_checked place (i ∷ items) h = items_checked (place + 4 * length (item_wo
 
 -- a check has 32 bits
 write_fits : (c : Checking) (r w : ℕ) → c.check < 2 ^ 32 → (after_write c r w).check < 2 ^ 32
-write_fits c r w f = by_tests (clears_by c.held (access.Write r w)) (r == 8)
+write_fits c r w f = by_tests (clears_under c.held (access.Write r w)) (r == 8)
   where
     by_tests : (b d : Bool) → (if b then 0 else if d then c.check else check_after c.check ((r, w) ∷ [])) < 2 ^ 32
     by_tests true d = omega arith

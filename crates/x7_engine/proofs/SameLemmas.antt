@@ -18,7 +18,7 @@ use Rattle.x7_flow.specs.Controls.{ctl0_held, has_idcode, mask_held, masked_word
 use Rattle.x7_flow.specs.Flow.{Flow, asked_under, asks, fault_by, flow_by, flow_of, frame_fault}
 use Rattle.x7_flow.specs.FrameMemory.{memory_of, puts}
 use Rattle.x7_flow.specs.Settings.{Settings, settings_of}
-use Rattle.x7_engine.specs.Registers.{clears_by, clears_check, is_pending, is_pending_after, takes_shutdown}
+use Rattle.x7_engine.specs.Registers.{clears_check_by, clears_check, is_pending, is_pending_after, takes_shutdown}
 use Rattle.x7_engine.specs.Startup.{startup_call, startup_calls}
 
 -- ---- startup, by two lists of calls
@@ -83,7 +83,7 @@ module _ (part : PartData) (low : ℕ) (g h : History) (s : IsSame part low g h)
       ∙ ap (λ (x : ℕ). record { has_idcode = has_idcode part.idcode h; mask = mask_held h; ctl0 = ctl0_held h; command_code = x }) held
 
   cleared : (a : Access) → clears_check g a ≡ clears_check h a
-  cleared a = ap (λ (c : ℕ). clears_by (executed_by c a) (running_check g) a) held ∙ ap (λ (k : ℕ). clears_by (executed_by (command_held h) a) k a) check
+  cleared a = ap (λ (c : ℕ). clears_check_by (executed_by c a) (running_check g) a) held ∙ ap (λ (k : ℕ). clears_check_by (executed_by (command_held h) a) k a) check
 
   takes : (a : Access) → takes_shutdown g a ≡ takes_shutdown h a
   takes a = ap (λ (c : Bool). c && is_pending g) (cleared a) ∙ ap (λ (p : Bool). clears_check h a && p) s.pending
