@@ -2,7 +2,7 @@
 use Rattle.std.proofs.Common.{◌≡◌, ℕ, ◌+◌, ◌*◌, ◌%◌, ◌^◌, ◌<◌, ◌==◌, Bool, true, false, if◌then◌else◌, List, [], ◌∷◌, ◌++◌, length, refl, ap, sym, ◌∙◌, arith, lit<}
 use Rattle.x7_packets.specs.History as access
 use Rattle.x7_packets.specs.History.{History, entry, command_held, last_word, history_of, entered, entered_all}
-use Rattle.x7_packets.specs.CheckedWrites.{RegisterWrite, open_writes, clears}
+use Rattle.x7_packets.specs.CheckedWrites.{RegisterWrite, checked_writes, clears}
 use Rattle.x7_crc.specs.Check.{check_after, check_of}
 use Rattle.x7_crc.specs.RunningCheck.{in_order}
 use Rattle.x7_crc.proofs.CheckLemmas.{check_after_none, check_after_fits, check_of_more}
@@ -26,7 +26,7 @@ held_by_test false w old = refl
 write_checked : (h : History) (r w place : ℕ) → checking_of (entry (access.Write r w) place ∷ h) ≡ after_write (checking_of h) r w
 write_checked h r w place =
     checking_is (checking_of (entry (access.Write r w) place ∷ h)) (after_write (checking_of h) r w)
-    (check_by_tests (clears h (access.Write r w)) (r == 8) r w (open_writes h))
+    (check_by_tests (clears h (access.Write r w)) (r == 8) r w (checked_writes h))
     (held_by_test (r == 4) w (last_word 4 0 h))
 
 writes_checked : (place r : ℕ) (ws : List ℕ) (h : History) → checking_of (writes_entered place r ws h) ≡ after_writes (checking_of h) r ws

@@ -1,7 +1,7 @@
 -- Histories that differ in what was asked before RCRC: from there on they ask the same of a device.
 use Rattle.std.proofs.Common.{◌≡◌, ◌==◌, ◌&&◌, ◌||◌, ◌%◌, ◌^◌, ◌-◌, ◌≤◌, ◌⊎◌, inl, inr, ℕ, Bool, true, false, if◌then◌else◌, Option, None, List, [], ◌∷◌, ◌++◌, replicate, refl, ap, sym, subst, ◌∙◌, append_assoc, append-nil}
 use Rattle.x7_packets.specs.History.{Access, Entry, History, Write, command_held, entry, executed_by, executes, is_command, last_word, written, writes}
-use Rattle.x7_packets.specs.CheckedWrites.{RegisterWrite, clears, open_writes, with_write}
+use Rattle.x7_packets.specs.CheckedWrites.{RegisterWrite, clears, checked_writes, with_write}
 use Rattle.x7_crc.specs.RunningCheck.{in_order, running_check}
 use Rattle.x7_crc.specs.Check.{check_of}
 use Rattle.x7_part.specs.Part.{PartData}
@@ -59,7 +59,7 @@ pub record IsSame (part : PartData) (low : ℕ) (g h : History) : Type 0 where
   pub words : (r d : ℕ) → (16 == r) ≡ false → last_word r d g ≡ last_word r d h
   pub ctl0 : ctl0_held g ≡ ctl0_held h
   pub matched : has_idcode part.idcode g ≡ has_idcode part.idcode h
-  pub open_are : open_writes g ≡ open_writes h
+  pub checked_are : checked_writes g ≡ checked_writes h
   pub pending : is_pending g ≡ is_pending h
   pub flow : flow_of part g ≡ flow_of part h
   pub memory : memory_of part g ≡ memory_of part h
@@ -73,7 +73,7 @@ module _ (part : PartData) (low : ℕ) (g h : History) (s : IsSame part low g h)
   mask = s.words 6 0 refl
 
   pub check : running_check g ≡ running_check h
-  check = ap (λ (w : List RegisterWrite). check_of (in_order w)) s.open_are
+  check = ap (λ (w : List RegisterWrite). check_of (in_order w)) s.checked_are
 
   settings : settings_of part.idcode g ≡ settings_of part.idcode h
   settings =
@@ -115,8 +115,8 @@ module _ (part : PartData) (low : ℕ) (g h : History) (s : IsSame part low g h)
         words = λ r d o. ap (written r a) (s.words r d o);
         ctl0 = ap (λ (m : ℕ). masked_word 5 m a (ctl0_held g)) mask ∙ ap (masked_word 5 (mask_held h) a) s.ctl0;
         matched = ap (λ (x : Bool). names_part part.idcode a || x) s.matched;
-        open_are = ap (λ (c : ℕ). if is_command 7 (executed_by c a) || writes 0 a then [] else with_write a (open_writes g)) held
-            ∙ ap (λ (w : List RegisterWrite). if clears h a then [] else with_write a w) s.open_are;
+        checked_are = ap (λ (c : ℕ). if is_command 7 (executed_by c a) || writes 0 a then [] else with_write a (checked_writes g)) held
+            ∙ ap (λ (w : List RegisterWrite). if clears h a then [] else with_write a w) s.checked_are;
         pending = ap (λ (c : ℕ). is_pending_after (executed_by c a) (clears_check g a) (is_pending g)) held
             ∙ ap (λ (x : Bool). is_pending_after (executed_by (command_held h) a) x (is_pending g)) (cleared a)
             ∙ ap (is_pending_after (executed_by (command_held h) a) (clears_check h a)) s.pending;
@@ -242,7 +242,7 @@ module _ (part : PartData) (low : ℕ) (g h : History) (s : IsNear part low g h)
         words = λ r d o. written_rcrc r (last_word r d g) (last_word r d h) (4 == r) refl (λ p. s.words r d o p);
         ctl0 = s.ctl0;
         matched = s.matched;
-        open_are = refl;
+        checked_are = refl;
         pending = refl;
         flow = ap (λ (b : ℕ). record { command = c; base = b; run = []; source = source_after part (flow_of part g).command c (flow_of part g).run; given = 0 }) (of_g ∙ sym of_h)
             ∙ ap (λ (x : Option (List ℕ)). record { command = c; base = far_of part (flow_of part h).base (flow_of part h).run (flow_of part h).given; run = []; source = x; given = 0 }) (no_g ∙ sym no_h);
