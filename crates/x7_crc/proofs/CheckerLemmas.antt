@@ -6,7 +6,7 @@ use Rattle.x7_packets.specs.Cutter.{between, CutterState, CutterStandsFor, Comes
 use Rattle.x7_packets.specs.History.{command_held, entered_all, entry, executes, History, history_of, next_word, Write}
 use Rattle.x7_packets.specs.Packet.{payload_steps}
 use Rattle.x7_packets.specs.Reading.{Place, Session}
-use Rattle.x7_packets.specs.CheckedWrites.{clears, open_writes}
+use Rattle.x7_packets.specs.CheckedWrites.{clears, checked_writes}
 use Rattle.x7_packets.specs.declared.cutter.Cut.{Cut}
 use Rattle.x7_packets.specs.declared.cutter.Cut.TheVariants.{Need}
 use Rattle.x7_packets.proofs.HistoryLemmas.{cut_enters, next_word_is}
@@ -22,7 +22,7 @@ pub check_cleared : (h : History) (register word place : ℕ) → clears h (Writ
 check_cleared h register word place e = rw e (check_after_none 0 (lit< tt))
 
 pub check_folded : (h : History) (register word place : ℕ) → clears h (Write register word) ≡ false → (register == 8) ≡ false → running_check (entry (Write register word) place ∷ h) ≡ check_after_one (running_check h) register word
-check_folded h register word place e n = rw (e, n) (sym (check_of_more (running_check h) (in_order (open_writes h)) (write_to register word ∷ []) refl))
+check_folded h register word place e n = rw (e, n) (sym (check_of_more (running_check h) (in_order (checked_writes h)) (write_to register word ∷ []) refl))
 
 -- a write that executes RCRC
 pub check_reset : (h : History) (register word place : ℕ) → executes 7 h (Write register word) ≡ true → running_check (entry (Write register word) place ∷ h) ≡ 0
@@ -96,7 +96,7 @@ plain_open : (register : ℕ) (h : History) (w : ℕ) → (register == 0) ≡ fa
 plain_open register h w a b d = rw (d, b, a) refl
 
 check_fits : (h : History) → running_check h < 2 ^ 32
-check_fits h = check_after_fits 0 (in_order (open_writes h))
+check_fits h = check_after_fits 0 (in_order (checked_writes h))
 
 check_all : (register n : ℕ) (ws : List ℕ) (h : History) → (register == 8) ≡ false → ((h : History) (w : ℕ) → clears h (Write register w) ≡ false)
     → running_check (entered_all n (payload_steps register ws) h) ≡ check_after (running_check h) (writes_to register ws)

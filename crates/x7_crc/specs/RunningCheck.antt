@@ -5,7 +5,7 @@ use Rattle.x7_regs.specs.Register.{number_of}
 use Rattle.x7_regs.specs.declared.register.Reg.{Reg}
 use Rattle.x7_regs.specs.declared.register.Reg.TheVariants.{Lout}
 use Rattle.x7_packets.specs.History.{command_held, executed_by, History, Write}
-use Rattle.x7_packets.specs.CheckedWrites.{RegisterWrite, clears, open_writes}
+use Rattle.x7_packets.specs.CheckedWrites.{RegisterWrite, clears, checked_writes}
 use Rattle.x7_crc.specs.Check.{check_of}
 
 -- writes that stand with the newest first, in the order in which they came
@@ -20,7 +20,7 @@ pub record Folds (h : History) (register word : ℕ) : Type 0 where
 
 -- the running check of a history: that of its writes since the last access that cleared it
 abbrev pub running_check : History → ℕ
-running_check h = check_of (in_order (open_writes h))
+running_check h = check_of (in_order (checked_writes h))
 
 -- the command that a word, written to a register after this history, executes
 abbrev pub executed_after : History → Reg → ℕ → Option ℕ

@@ -9,7 +9,7 @@ use Rattle.x7_part.specs.Part.{PartData}
 use Rattle.x7_engine.specs.Kept.{on_the_bench}
 use Rattle.x7_engine.specs.Standing.{DeviceState, DeviceStandsFor, NoWordDue}
 use Rattle.x7_engine.proofs.BootLemmas.{none_due_at_first}
-use Rattle.x7_engine.specs.Undo.{AreEqual, IsUndoOf, KeepsDevice, TookFewSince, UndoState}
+use Rattle.x7_engine.specs.Undo.{AreEqual, IsUndoOf, SavesDevice, TookFewSince, UndoState}
 use Rattle.x7_debug.specs.Journal.{ComesToPosition, IsFedAtMost, MoveCosts, IsOnStream, IsRecord, JournalState, LeadBack, oldest_by, records_of}
 use Rattle.x7_debug.specs.SessionFields.{session_of}
 use Rattle.x7_debug.specs.Moving.{ComesForward, ComesForwardRecorded}
@@ -115,7 +115,7 @@ took_few part stream d at u r s low high = record {
   past = record { part = part; kept = on_the_bench; wrapped = false; bytes = take u.taken stream };
   more = take (at - u.taken) (drop u.taken stream);
   old = r.device;
-  keeps = r.keeps;
+  saves = r.saves;
   no_word_due = r.stands.no_word_due;
   few = omega (arith, length-take (at - u.taken) (drop u.taken stream), high);
   had = r.stands.stands;
@@ -124,19 +124,19 @@ took_few part stream d at u r s low high = record {
 
 -- a device at up to four bytes after a record goes back to it
 pub goes_back : (part : PartData) (stream : List ℕ) (d new : DeviceState) (at : ℕ) (u : UndoState) (r : IsRecord part stream u) → StandsAtPosition part stream d at → u.taken ≤ at → at ≤ u.taken + 4
-    → ((more : List ℕ) (old : DeviceState) → KeepsDevice u old → NoWordDue old → length more ≤ 4 → DeviceStandsFor part on_the_bench false old (take u.taken stream) → DeviceStandsFor part on_the_bench false d (take u.taken stream ++ more) → AreEqual new old)
+    → ((more : List ℕ) (old : DeviceState) → SavesDevice u old → NoWordDue old → length more ≤ 4 → DeviceStandsFor part on_the_bench false old (take u.taken stream) → DeviceStandsFor part on_the_bench false d (take u.taken stream ++ more) → AreEqual new old)
     → StandsAtPosition part stream new u.taken
 goes_back part stream d new at u r s low high back =
     let more : List ℕ = take (at - u.taken) (drop u.taken stream) in
     let few : length more ≤ 4 = omega (arith, length-take (at - u.taken) (drop u.taken stream), high) in
     let now : DeviceStandsFor part on_the_bench false d (take u.taken stream ++ more) = subst (λ (b : List ℕ). DeviceStandsFor part on_the_bench false d b) (sym (take_up_to stream u.taken at low)) s.stands in
-    refed part stream new r.device u.taken (back more r.device r.keeps r.stands.no_word_due few r.stands.stands now) r.stands
+    refed part stream new r.device u.taken (back more r.device r.saves r.stands.no_word_due few r.stands.stands now) r.stands
 
 -- records of a device that went on, with one more
-pub leads_more : (part : PartData) (stream : List ℕ) (d : DeviceState) (at to : ℕ) (u : UndoState) (us : List UndoState) → StandsAtPosition part stream d at → KeepsDevice u d → at ≤ to → to ≤ at + 4 → LeadBack part stream at us → LeadBack part stream to (u ∷ take 63 us)
+pub leads_more : (part : PartData) (stream : List ℕ) (d : DeviceState) (at to : ℕ) (u : UndoState) (us : List UndoState) → StandsAtPosition part stream d at → SavesDevice u d → at ≤ to → to ≤ at + 4 → LeadBack part stream at us → LeadBack part stream to (u ∷ take 63 us)
 leads_more part stream d at to u us s k low high l =
     let taken : u.taken ≡ at = k.values.taken ∙ s.taken in
-    let is : IsRecord part stream u = record { device = d; keeps = k; stands = subst (λ (n : ℕ). StandsAtPosition part stream d n) (sym taken) s } in
+    let is : IsRecord part stream u = record { device = d; saves = k; stands = subst (λ (n : ℕ). StandsAtPosition part stream d n) (sym taken) s } in
     (is, omega (arith, taken, low), omega (arith, taken, high), subst (λ (n : ℕ). LeadBack part stream n (take 63 us)) (sym taken) (leads_fewer part stream at 63 us l))
 
 -- the newest record goes on to lead back
@@ -205,7 +205,7 @@ pub on_empty : (part : PartData) (stream : List ℕ) (d : DeviceState) (j : Jour
 on_empty part stream d j n s a e = on_without stream d j j part n s a (ap (λ (k : ℕ). record j { count = k }) e)
 
 -- a record more
-pub on_more : (part : PartData) (stream : List ℕ) (d new : DeviceState) (j k : JournalState) (to : ℕ) (u : UndoState) → IsOnStream part stream d j → StandsAtPosition part stream new to → d.taken ≤ to → to ≤ d.taken + 4 → AllByRecursion (IsUndoOf part) k.all → KeepsDevice u d
+pub on_more : (part : PartData) (stream : List ℕ) (d new : DeviceState) (j k : JournalState) (to : ℕ) (u : UndoState) → IsOnStream part stream d j → StandsAtPosition part stream new to → d.taken ≤ to → to ≤ d.taken + 4 → AllByRecursion (IsUndoOf part) k.all → SavesDevice u d
     → records_of k ≡ u ∷ take 63 (records_of j) → IsOnStream new.part stream new k
 on_more part stream d new j k to u o s low high a keeps e =
     let there : new.part ≡ part = s.stands.part_is in
@@ -219,7 +219,7 @@ on_more part stream d new j k to u o s low high a keeps e =
 
 -- a record less
 pub on_less : (part : PartData) (stream : List ℕ) (d new : DeviceState) (j k : JournalState) (u : UndoState) → IsOnStream part stream d j → records_of j ≡ u ∷ records_of k → AllByRecursion (IsUndoOf part) k.all
-    → ((more : List ℕ) (old : DeviceState) → KeepsDevice u old → NoWordDue old → length more ≤ 4 → DeviceStandsFor part on_the_bench false old (take u.taken stream) → DeviceStandsFor part on_the_bench false d (take u.taken stream ++ more) → AreEqual new old)
+    → ((more : List ℕ) (old : DeviceState) → SavesDevice u old → NoWordDue old → length more ≤ 4 → DeviceStandsFor part on_the_bench false old (take u.taken stream) → DeviceStandsFor part on_the_bench false d (take u.taken stream ++ more) → AreEqual new old)
     → IsOnStream new.part stream new k × (new.taken ≡ u.taken) × (u.taken ≤ d.taken) × (d.taken ≤ u.taken + 4)
 on_less part stream d new j k u o e a back =
     let leads : LeadBack part stream d.taken (u ∷ records_of k) = subst (LeadBack part stream d.taken) e o.leads in

@@ -16,7 +16,7 @@ use Rattle.x7_engine.specs.Kept.{on_the_bench}
 use Rattle.x7_engine.specs.Standing.{DeviceState, DeviceStandsFor, NoWordDue}
 use Rattle.x7_engine.specs.State.{stop_in, taken_of}
 use Rattle.x7_engine.specs.Stop.{Stopped}
-use Rattle.x7_engine.specs.Watching.{fires}
+use Rattle.x7_engine.specs.Watching.{watchdog_fires}
 use Rattle.x7_engine.proofs.FirstStopLemmas.{no_stop_none, stop_is_first}
 use Rattle.x7_engine.proofs.StateLemmas.{stop_is_final_stop, stop_place, taken_is}
 use Rattle.x7_debug.specs.declared.order.Stop.{Stop}
@@ -32,8 +32,8 @@ last_within part stream fits = taken_within part on_the_bench stream fits
 -- whether a byte stops a device is known by the bytes up to it
 same_cause : (part : PartData) (stream : List ℕ) (n m : ℕ) → m ≤ n → why_at_byte part on_the_bench (take n stream) m ≡ why_at_byte part on_the_bench stream m
 same_cause part stream n m le =
-    ap (λ (b : List ℕ). if fires part on_the_bench (history_of b) m then Some (stops.Fault faults.Watchdog) else why_at_newest part on_the_bench (history_of (take m (take n stream))) m) (take-take (m - 1) n stream (omega (arith, le)))
-    ∙ ap (λ (b : List ℕ). if fires part on_the_bench (history_of (take (m - 1) stream)) m then Some (stops.Fault faults.Watchdog) else why_at_newest part on_the_bench (history_of b) m) (take-take m n stream le)
+    ap (λ (b : List ℕ). if watchdog_fires part on_the_bench (history_of b) m then Some (stops.Fault faults.Watchdog) else why_at_newest part on_the_bench (history_of (take m (take n stream))) m) (take-take (m - 1) n stream (omega (arith, le)))
+    ∙ ap (λ (b : List ℕ). if watchdog_fires part on_the_bench (history_of (take (m - 1) stream)) m then Some (stops.Fault faults.Watchdog) else why_at_newest part on_the_bench (history_of b) m) (take-take m n stream le)
 
 -- bytes without a stop end at the last position or before it
 goes_on : (part : PartData) (stream : List ℕ) (n : ℕ) → AreBytes stream → n ≤ length stream → stop_in part on_the_bench (take n stream) ≡ None → n ≤ last_of part stream
@@ -49,7 +49,7 @@ goes_on part stream n fits few none = by (stop_in part on_the_bench stream) refl
         elim (cases_lt n s.place) [
           | inl before ↦ omega (arith, taken_stopped part on_the_bench stream s e, before)
           | inr after ↦
-              absurd (none-some s.why (sym (no_stop_none part on_the_bench (take n stream) s.place prefix none first.some (omega (arith, length-take-le n stream few, after))) ∙ same_cause part stream n s.place after ∙ first.holds))
+              absurd (none-some s.why (sym (no_stop_none part on_the_bench (take n stream) s.place prefix none first.at_least_one (omega (arith, length-take-le n stream few, after))) ∙ same_cause part stream n s.place after ∙ first.holds))
         ]
 
 -- how many of the first bytes are taken: all, or those up to the last position

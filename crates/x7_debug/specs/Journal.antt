@@ -4,7 +4,7 @@ use Rattle.std.specs.Prelude.{◌≡◌, ℕ, ◌+◌, ◌-◌, ◌*◌, ◌<◌
 use Rattle.std.specs.List.{AllByRecursion}
 use Rattle.x7_part.specs.Part.{PartData}
 use Rattle.x7_engine.specs.Standing.{DeviceState, fed_of}
-use Rattle.x7_engine.specs.Undo.{IsUndoOf, KeepsDevice, UndoState}
+use Rattle.x7_engine.specs.Undo.{IsUndoOf, SavesDevice, UndoState}
 use Rattle.x7_debug.specs.Session.{MovesTo, SessionState, StandsAtPosition}
 
 -- how many records there is room for
@@ -36,7 +36,7 @@ AreRecordsOf part j = AllByRecursion (IsUndoOf part) j.all
 -- a device that stood at a position of the stream is kept
 pub record IsRecord (part : PartData) (stream : List ℕ) (u : UndoState) : Type 0 where
   pub device : DeviceState
-  pub keeps : KeepsDevice u device
+  pub saves : SavesDevice u device
   pub stands : StandsAtPosition part stream device u.taken
 
 -- each record is at most four bytes before the next newer one, and the newest one at most four before position `at`

@@ -2,7 +2,7 @@
 ghost use Rattle.std.specs.Prelude.{◌≡◌, ◌≤◌, ◌<◌, ◌+◌, ◌-◌, ◌^◌, ◌∷◌, ℕ, List, length, take, IfOk};
 ghost use Rattle.x7_engine.specs.Past.{OfPast};
 ghost use Rattle.x7_engine.specs.Standing.{NoWordDue, fed_of};
-ghost use Rattle.x7_engine.specs.Undo.{KeepsDevice, UndoState};
+ghost use Rattle.x7_engine.specs.Undo.{SavesDevice, UndoState};
 ghost use Rattle.x7_debug.specs.Journal.{AreRecordsOf, IsFedAtMost, IsOnStream, oldest_by, record_bytes, record_room, records_of};
 ghost use Rattle.x7_debug.specs.Session.{TakesPiece};
 
@@ -81,7 +81,7 @@ impl Journal {
         ensures no_word_due { OfPast device.old (λ p. NoWordDue device.new) }
         ensures fed { IsFedAtMost device.old device.new (device.new.taken - device.old.taken) }
         ensures records { AreRecordsOf device.old.part self.new }
-        ensures recorded { (u : UndoState) × KeepsDevice u device.old × (records_of self.new ≡ u ∷ take (record_room - 1) (records_of self.old)) }
+        ensures recorded { (u : UndoState) × SavesDevice u device.old × (records_of self.new ≡ u ∷ take (record_room - 1) (records_of self.old)) }
     {
         let Some(mut undo) = self.records.pop_back() else {
             unreachable!();

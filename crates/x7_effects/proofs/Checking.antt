@@ -13,13 +13,13 @@ pub record Checking : Type 0 where
   pub held : ℕ
 
 -- an access clears the check where CMD holds this command: it executes RCRC, or writes CRC
-abbrev pub clears_by : ℕ → Access → Bool
-clears_by held a = is_command 7 (executed_by held a) || writes 0 a
+abbrev pub clears_under : ℕ → Access → Bool
+clears_under held a = is_command 7 (executed_by held a) || writes 0 a
 
 -- the check after a word written to a register
 abbrev pub check_by : ℕ → ℕ → ℕ → ℕ → ℕ
 check_by check held register w =
-    if clears_by held (access.Write register w) then 0 else
+    if clears_under held (access.Write register w) then 0 else
     if register == 8 then check else check_after_one check register w
 
 abbrev pub after_write : Checking → ℕ → ℕ → Checking

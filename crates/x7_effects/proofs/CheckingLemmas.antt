@@ -2,12 +2,12 @@
 use Rattle.std.proofs.Common.{◌≡◌, ℕ, ◌+◌, ◌*◌, ◌%◌, ◌^◌, ◌<◌, ◌==◌, Bool, true, false, if◌then◌else◌, List, [], ◌∷◌, ◌++◌, length, refl, ap, sym, ◌∙◌, arith, lit<}
 use Rattle.x7_packets.specs.History as access
 use Rattle.x7_packets.specs.History.{History, entry, command_held, last_word, history_of, entered, entered_all}
-use Rattle.x7_packets.specs.CheckedWrites.{RegisterWrite, open_writes, clears}
+use Rattle.x7_packets.specs.CheckedWrites.{RegisterWrite, checked_writes, clears}
 use Rattle.x7_crc.specs.Check.{check_after, check_after_one, check_of, write_to}
 use Rattle.x7_crc.specs.RunningCheck.{in_order}
 use Rattle.x7_crc.proofs.CheckLemmas.{check_after_none, check_after_fits, check_of_more}
 use Rattle.x7_effects.proofs.Items.{Item, Noop, Dummy, Write, WriteLong, Read, ReadLong, item_words, IsItem, AreItems, writes_entered, item_entered, items_entered}
-use Rattle.x7_effects.proofs.Checking.{Checking, clears_by, after_write, after_writes, after_item, after_items, checking_of, Piece, Put, Check, piece_item, with_checks, IsPiece, ArePieces}
+use Rattle.x7_effects.proofs.Checking.{Checking, clears_under, after_write, after_writes, after_item, after_items, checking_of, Piece, Put, Check, piece_item, with_checks, IsPiece, ArePieces}
 
 checking_is : (c d : Checking) → c.check ≡ d.check → c.held ≡ d.held → c ≡ d
 checking_is c d e f = ap (λ (x : ℕ). record { check = x; held = c.held }) e ∙ ap (λ (x : ℕ). record { check = d.check; held = x }) f
@@ -26,7 +26,7 @@ held_by_test false w old = refl
 write_checked : (h : History) (r w place : ℕ) → checking_of (entry (access.Write r w) place ∷ h) ≡ after_write (checking_of h) r w
 write_checked h r w place =
     checking_is (checking_of (entry (access.Write r w) place ∷ h)) (after_write (checking_of h) r w)
-    (check_by_tests (clears h (access.Write r w)) (r == 8) r w (open_writes h))
+    (check_by_tests (clears h (access.Write r w)) (r == 8) r w (checked_writes h))
     (held_by_test (r == 4) w (last_word 4 0 h))
 
 writes_checked : (place r : ℕ) (ws : List ℕ) (h : History) → checking_of (writes_entered place r ws h) ≡ after_writes (checking_of h) r ws
@@ -47,7 +47,7 @@ items_checked place (i ∷ items) h = items_checked (place + 4 * length (item_wo
 
 -- a check has 32 bits
 write_fits : (c : Checking) (r w : ℕ) → c.check < 2 ^ 32 → (after_write c r w).check < 2 ^ 32
-write_fits c r w f = by_tests (clears_by c.held (access.Write r w)) (r == 8)
+write_fits c r w f = by_tests (clears_under c.held (access.Write r w)) (r == 8)
   where
     by_tests : (b d : Bool) → (if b then 0 else if d then c.check else check_after_one c.check r w) < 2 ^ 32
     by_tests true d = omega arith

@@ -9,6 +9,7 @@ use Rattle.x7_part.specs.declared.slot.Slot.TheVariants.{Frame, Pad, End}
 use Rattle.x7_memory.specs.FrameMap.{AreSame, FrameMap, override}
 use Rattle.x7_memory.specs.Plan.{IsPlanFor, PlanData, planned, total}
 use Rattle.x7_pipeline.specs.Runs.{slots_from}
+use Rattle.x7_startup.specs.Phases.{last_phase}
 use Rattle.x7_startup.specs.declared.lines.Lines.{Lines}
 use Rattle.x7_engine.specs.declared.kept.Kept.{Kept}
 use Rattle.x7_engine.specs.declared.regs.Regs.{Regs}
@@ -100,7 +101,7 @@ pub record KeepsSettings (old new : Regs) : Type 0 where
 -- there is no stop, and the device is at rest again.
 pub record PlaysFull (d : DeviceAfter) (stream : List ℕ) (plan : PlanData) : Type 0 where
   pub memory : AreSame (memory_in d.part d.kept (d.bytes ++ stream)) (total d.part plan)
-  pub phase : (wrapped : Bool) → (state_of d.part d.kept wrapped (d.bytes ++ stream)).phase ≡ 7
+  pub phase : (wrapped : Bool) → (state_of d.part d.kept wrapped (d.bytes ++ stream)).phase ≡ last_phase
   pub lines : (wrapped : Bool) → (state_of d.part d.kept wrapped (d.bytes ++ stream)).lines ≡ all_high
   pub registers : (wrapped : Bool) → KeepsUnwritten (state_of d.part d.kept wrapped d.bytes) (state_of d.part d.kept wrapped (d.bytes ++ stream))
   pub reads : reads_of d.part d.kept (d.bytes ++ stream) ≡ reads_of d.part d.kept d.bytes
@@ -140,4 +141,4 @@ pub record ReadsBack (d : DeviceAfter) (written : List ℕ) (memory : FrameMap) 
 -- one over zeros, and startup has ended.
 pub record PlaysBoth (p : PlannedPlay) (later : PlanData) : Type 0 where
   pub memory : AreSame (memory_in p.device.part p.device.kept (bytes_with_both p later)) (override (total p.device.part p.plan) (planned later.rows))
-  pub phase : (wrapped : Bool) → (state_of p.device.part p.device.kept wrapped (bytes_with_both p later)).phase ≡ 7
+  pub phase : (wrapped : Bool) → (state_of p.device.part p.device.kept wrapped (bytes_with_both p later)).phase ≡ last_phase

@@ -17,7 +17,7 @@ use Rattle.x7_engine.specs.Kept.{is_fallback}
 use Rattle.x7_engine.specs.Registers.{takes_shutdown}
 use Rattle.x7_engine.specs.Startup.{has_ended, phase_by, phase_of, startup_call, startup_calls, startup_progress}
 use Rattle.x7_engine.specs.Stop.{why_at, stop_of, stopped_at, stopped_by_watchdog, Stopped}
-use Rattle.x7_engine.specs.Watching.{fired_or, fires, first_firing, timer_held, watch_call, watch_calls, watched_bytes}
+use Rattle.x7_engine.specs.Watching.{fired_or, watchdog_fires, first_firing, timer_held, watch_call, watch_calls, watched_bytes}
 use Rattle.x7_engine.proofs.StartupLemmas.{phase_is}
 
 -- ---- the calls of bytes more
@@ -72,9 +72,9 @@ firing_more part kept h from a (suc b) =
     let next : a + suc b ≡ suc (a + b) = omega arith in
     let here : from + (a + b) + 1 ≡ from + a + b + 1 = omega arith in
     ap (first_firing part kept h from) next
-    ∙ ap (λ (o : Option ℕ). fired_or o (fires part kept h (from + (a + b) + 1)) (from + (a + b) + 1)) (firing_more part kept h from a b)
-    ∙ ap (λ (m : ℕ). fired_or (option_or (first_firing part kept h from a) (first_firing part kept h (from + a) b)) (fires part kept h m) m) here
-    ∙ or_fired (first_firing part kept h from a) (first_firing part kept h (from + a) b) (fires part kept h (from + a + b + 1)) (from + a + b + 1)
+    ∙ ap (λ (o : Option ℕ). fired_or o (watchdog_fires part kept h (from + (a + b) + 1)) (from + (a + b) + 1)) (firing_more part kept h from a b)
+    ∙ ap (λ (m : ℕ). fired_or (option_or (first_firing part kept h from a) (first_firing part kept h (from + a) b)) (watchdog_fires part kept h m) m) here
+    ∙ or_fired (first_firing part kept h from a) (first_firing part kept h (from + a) b) (watchdog_fires part kept h (from + a + b + 1)) (from + a + b + 1)
 
 watchdog_or : (o p : Option ℕ) → stopped_by_watchdog (option_or o p) ≡ option_or (stopped_by_watchdog o) (stopped_by_watchdog p)
 watchdog_or None p = refl
@@ -171,7 +171,7 @@ one_watched part h n l =
     let here : n + 0 + 1 ≡ n + 1 = omega arith in
     watch_more part h n 1 l ∙ ap (λ (m : ℕ). watch_calls part h n ++ Watched (has_ended part h m) ∷ []) here
 
-pub fires_by : (part : PartData) (kept : Kept) (h : History) (n : ℕ) → newest_place h ≤ n → Fires (is_fallback kept.kind) kept.timer (watch_calls part h n) (has_ended part h (n + 1)) → fires part kept h (n + 1) ≡ true
+pub fires_by : (part : PartData) (kept : Kept) (h : History) (n : ℕ) → newest_place h ≤ n → Fires (is_fallback kept.kind) kept.timer (watch_calls part h n) (has_ended part h (n + 1)) → watchdog_fires part kept h (n + 1) ≡ true
 fires_by part kept h n l f =
     let off : Bool = is_fallback kept.kind in
     let eos : Bool = has_ended part h (n + 1) in
@@ -180,7 +180,7 @@ fires_by part kept h n l f =
     let count : watched_count off kept.timer (watch_calls part h (n + 1)) ≡ timer_value_of (timer_held kept h) * 4 = ap (watched_count off kept.timer) (one_watched part h n l) ∙ f.1 ∙ ap (λ (t : ℕ). timer_value_of t * 4) timer in
     full_is (is_on off (timer_held kept h) eos) (watched_count off kept.timer (watch_calls part h (n + 1))) (timer_value_of (timer_held kept h) * 4) on count
 
-pub fires_not : (part : PartData) (kept : Kept) (h : History) (n : ℕ) → newest_place h ≤ n → ¬ Fires (is_fallback kept.kind) kept.timer (watch_calls part h n) (has_ended part h (n + 1)) → fires part kept h (n + 1) ≡ false
+pub fires_not : (part : PartData) (kept : Kept) (h : History) (n : ℕ) → newest_place h ≤ n → ¬ Fires (is_fallback kept.kind) kept.timer (watch_calls part h n) (has_ended part h (n + 1)) → watchdog_fires part kept h (n + 1) ≡ false
 fires_not part kept h n l f =
     let off : Bool = is_fallback kept.kind in
     let eos : Bool = has_ended part h (n + 1) in
@@ -205,30 +205,30 @@ watched_alike part h n (suc k) eos f =
 pub calls_alike : (part : PartData) (h : History) (n k : ℕ) (eos : Bool) → newest_place h ≤ n → ((i : ℕ) → i < k → has_ended part h (n + i + 1) ≡ eos) → watch_calls part h (n + k) ≡ watch_calls part h n ++ bytes_alike k eos
 calls_alike part h n k eos l f = watch_more part h n k l ∙ ap (λ t. watch_calls part h n ++ t) (watched_alike part h n k eos f)
 
-pub none_fires : (part : PartData) (kept : Kept) (h : History) (n count : ℕ) → ((i : ℕ) → i < count → fires part kept h (n + i + 1) ≡ false) → first_firing part kept h n count ≡ None
+pub none_fires : (part : PartData) (kept : Kept) (h : History) (n count : ℕ) → ((i : ℕ) → i < count → watchdog_fires part kept h (n + i + 1) ≡ false) → first_firing part kept h n count ≡ None
 none_fires part kept h n zero f = refl
 none_fires part kept h n (suc count) f =
-    ap (λ (o : Option ℕ). fired_or o (fires part kept h (n + count + 1)) (n + count + 1)) (none_fires part kept h n count (λ i l. f i (omega arith)))
+    ap (λ (o : Option ℕ). fired_or o (watchdog_fires part kept h (n + count + 1)) (n + count + 1)) (none_fires part kept h n count (λ i l. f i (omega arith)))
     ∙ ap (λ (b : Bool). fired_or None b (n + count + 1)) (f count (omega arith))
 
 -- the first byte that fires
-pub first_is : (part : PartData) (kept : Kept) (h : History) (n i count : ℕ) → i < count → first_firing part kept h n i ≡ None → fires part kept h (n + i + 1) ≡ true → first_firing part kept h n count ≡ Some (n + (i + 1))
+pub first_is : (part : PartData) (kept : Kept) (h : History) (n i count : ℕ) → i < count → first_firing part kept h n i ≡ None → watchdog_fires part kept h (n + i + 1) ≡ true → first_firing part kept h n count ≡ Some (n + (i + 1))
 first_is part kept h n i count l e f =
     let split : count ≡ i + (suc (count - i - 1)) = omega arith in
     let sum : count ≡ suc i + (count - i - 1) = omega arith in
     let place : n + i + 1 ≡ n + (i + 1) = omega arith in
     let here : first_firing part kept h n (suc i) ≡ Some (n + (i + 1)) =
-    ap (λ (o : Option ℕ). fired_or o (fires part kept h (n + i + 1)) (n + i + 1)) e ∙ ap (λ (b : Bool). fired_or None b (n + i + 1)) f ∙ ap (λ (m : ℕ). Some m) place in
+    ap (λ (o : Option ℕ). fired_or o (watchdog_fires part kept h (n + i + 1)) (n + i + 1)) e ∙ ap (λ (b : Bool). fired_or None b (n + i + 1)) f ∙ ap (λ (m : ℕ). Some m) place in
     ap (first_firing part kept h n) sum
     ∙ firing_more part kept h n (suc i) (count - i - 1)
     ∙ ap (λ (o : Option ℕ). option_or o (first_firing part kept h (n + suc i) (count - i - 1))) here
 
 -- one byte more that doesn't fire
-pub none_more : (part : PartData) (kept : Kept) (h : History) (n i : ℕ) → first_firing part kept h n i ≡ None → fires part kept h (n + i + 1) ≡ false → first_firing part kept h n (i + 1) ≡ None
+pub none_more : (part : PartData) (kept : Kept) (h : History) (n i : ℕ) → first_firing part kept h n i ≡ None → watchdog_fires part kept h (n + i + 1) ≡ false → first_firing part kept h n (i + 1) ≡ None
 none_more part kept h n i e f =
     let next : i + 1 ≡ suc i = omega arith in
     ap (first_firing part kept h n) next
-    ∙ ap (λ (o : Option ℕ). fired_or o (fires part kept h (n + i + 1)) (n + i + 1)) e ∙ ap (λ (b : Bool). fired_or None b (n + i + 1)) f
+    ∙ ap (λ (o : Option ℕ). fired_or o (watchdog_fires part kept h (n + i + 1)) (n + i + 1)) e ∙ ap (λ (b : Bool). fired_or None b (n + i + 1)) f
 
 -- one byte of those that are alike fires by the calls before it
 alike_here : (part : PartData) (kept : Kept) (h : History) (n i : ℕ) (eos : Bool) → newest_place h ≤ n → ((j : ℕ) → j < i + 1 → has_ended part h (n + j + 1) ≡ eos)
@@ -311,7 +311,7 @@ watch_byte part kept h n eos new l e s =
     subst (λ t. WatchesFor (is_fallback kept.kind) kept.timer new t) (ap (λ (b : Bool). watch_calls part h n ++ Watched b ∷ []) e ∙ sym (one_watched part h n l)) s
 
 pub fires_bool : (part : PartData) (kept : Kept) (h : History) (n : ℕ) (eos b : Bool) → newest_place h ≤ n → eos ≡ has_ended part h (n + 1)
-    → (IsTrue b ↔ Fires (is_fallback kept.kind) kept.timer (watch_calls part h n) eos) → b ≡ fires part kept h (n + 1)
+    → (IsTrue b ↔ Fires (is_fallback kept.kind) kept.timer (watch_calls part h n) eos) → b ≡ watchdog_fires part kept h (n + 1)
 fires_bool part kept h n eos true l e f =
     sym (fires_by part kept h n l (subst (λ (x : Bool). Fires (is_fallback kept.kind) kept.timer (watch_calls part h n) x) e (f.0 refl)))
 fires_bool part kept h n eos false l e f =

@@ -16,7 +16,7 @@ use Rattle.x7_engine.specs.declared.stop.StopCause.TheVariants as stop
 use Rattle.x7_engine.specs.FirstStop.{IsFirstStop, why_at_byte, why_at_newest}
 use Rattle.x7_engine.specs.State.{stop_in}
 use Rattle.x7_engine.specs.Stop.{Stopped, why_at, stop_of, stopped_at, stopped_by_watchdog}
-use Rattle.x7_engine.specs.Watching.{fired_or, fires, first_firing}
+use Rattle.x7_engine.specs.Watching.{fired_or, watchdog_fires, first_firing}
 use Rattle.x7_engine.proofs.ClockLemmas.{stop_more_bytes, or_none}
 use Rattle.x7_engine.proofs.TurnLemmas.{newest_within}
 
@@ -52,12 +52,12 @@ some_newest : (part : PartData) (kept : Kept) (n : ℕ) (h : History) (access : 
 some_newest part kept n h access = let here : (n == n) ≡ true = grind (arith, nat_tests) in rw here refl
 
 -- the stop up to the byte itself, before its access
-fired_next : (part : PartData) (kept : Kept) (h : History) (n : ℕ) → Placed n h → stop_of part kept h (suc n) ≡ option_or (stop_of part kept h n) (stopped_by_watchdog (fired_or None (fires part kept h (suc n)) (suc n)))
+fired_next : (part : PartData) (kept : Kept) (h : History) (n : ℕ) → Placed n h → stop_of part kept h (suc n) ≡ option_or (stop_of part kept h n) (stopped_by_watchdog (fired_or None (watchdog_fires part kept h (suc n)) (suc n)))
 fired_next part kept h n p =
     let next : suc n ≡ n + 1 = omega arith in
     let here : n + 0 + 1 ≡ suc n = omega arith in
     ap (stop_of part kept h) next ∙ stop_more_bytes part kept h n 1 (newest_within n h p)
-    ∙ ap (λ (m : ℕ). option_or (stop_of part kept h n) (stopped_by_watchdog (fired_or None (fires part kept h m) m))) here
+    ∙ ap (λ (m : ℕ). option_or (stop_of part kept h n) (stopped_by_watchdog (fired_or None (watchdog_fires part kept h m) m))) here
 
 -- the stop with the access of the byte
 fired_entered : (part : PartData) (kept : Kept) (h : History) (n : ℕ) (access : Access) → stop_of part kept (entry access n ∷ h) n ≡ option_or (stop_of part kept h n) (stopped_at n (why_at part kept h access))
@@ -67,16 +67,16 @@ fired_entered part kept h n access =
     ∙ ap (option_or (stop_of part kept h n)) (or_none (stopped_at n (why_at part kept h access)))
 
 stop_next : (part : PartData) (kept : Kept) (h g : History) (n : ℕ) → Placed n h → OneMore (suc n) h g
-    → stop_of part kept g (suc n) ≡ option_or (stop_of part kept h n) (stopped_at (suc n) (why_by_fire (fires part kept h (suc n)) (why_at_newest part kept g (suc n))))
+    → stop_of part kept g (suc n) ≡ option_or (stop_of part kept h n) (stopped_at (suc n) (why_by_fire (watchdog_fires part kept h (suc n)) (why_at_newest part kept g (suc n))))
 stop_next part kept h g n p (inl e) =
-    let fired : Bool = fires part kept h (suc n) in
+    let fired : Bool = watchdog_fires part kept h (suc n) in
     ap (λ (x : History). stop_of part kept x (suc n)) e
     ∙ fired_next part kept h n p
     ∙ ap (option_or (stop_of part kept h n)) (sym (or_none (stopped_by_watchdog (fired_or None fired (suc n)))) ∙ fired_why fired (suc n) None)
     ∙ ap (λ (o : Option StopCause). option_or (stop_of part kept h n) (stopped_at (suc n) (why_by_fire fired o))) (sym (ap (λ (x : History). why_at_newest part kept x (suc n)) e ∙ none_newest part kept n h p))
 stop_next part kept h g n p (inr more) =
     let access : Access = more.0 in
-    let fired : Bool = fires part kept h (suc n) in
+    let fired : Bool = watchdog_fires part kept h (suc n) in
     ap (λ (x : History). stop_of part kept x (suc n)) more.1
     ∙ fired_entered part kept h (suc n) access
     ∙ ap (λ (o : Option Stopped). option_or o (stopped_at (suc n) (why_at part kept h access))) (fired_next part kept h n p)
@@ -164,8 +164,8 @@ row_of part kept bytes fits = (
       let before : suc n - 1 ≡ n = omega arith in
       ap (stop_of part kept (history_of (take (suc n) bytes))) whole
       ∙ stop_next part kept (history_of b) (history_of (take (suc n) bytes)) n more.0 more.1
-      ∙ ap (λ (m : ℕ). option_or (stop_of part kept (history_of b) m) (stopped_at (suc n) (why_by_fire (fires part kept (history_of b) (suc n)) (why_at_newest part kept (history_of (take (suc n) bytes)) (suc n))))) (sym count)
-      ∙ ap (λ (m : ℕ). option_or (stop_in part kept b) (stopped_at (suc n) (why_by_fire (fires part kept (history_of (take m bytes)) (suc n)) (why_at_newest part kept (history_of (take (suc n) bytes)) (suc n))))) (sym before),
+      ∙ ap (λ (m : ℕ). option_or (stop_of part kept (history_of b) m) (stopped_at (suc n) (why_by_fire (watchdog_fires part kept (history_of b) (suc n)) (why_at_newest part kept (history_of (take (suc n) bytes)) (suc n))))) (sym count)
+      ∙ ap (λ (m : ℕ). option_or (stop_in part kept b) (stopped_at (suc n) (why_by_fire (watchdog_fires part kept (history_of (take m bytes)) (suc n)) (why_at_newest part kept (history_of (take (suc n) bytes)) (suc n))))) (sym before),
 )
 
 found_in : (part : PartData) (kept : Kept) (bytes : List ℕ) → AreBytes bytes → Found (why_at_byte part kept bytes) (length bytes) (stop_in part kept bytes)
@@ -176,11 +176,11 @@ found_in part kept bytes fits =
 pub stop_is_first : (part : PartData) (kept : Kept) (bytes : List ℕ) (s : Stopped) → AreBytes bytes → stop_in part kept bytes ≡ Some s → IsFirstStop part kept bytes s
 stop_is_first part kept bytes s fits e =
     let f : IsLeast (why_at_byte part kept bytes) (length bytes) s = subst (λ (o : Option Stopped). Found (why_at_byte part kept bytes) (length bytes) o) e (found_in part kept bytes fits) in
-    record { some = f.some; within = f.within; holds = f.holds; none_earlier = f.none_earlier }
+    record { at_least_one = f.some; within = f.within; holds = f.holds; none_earlier = f.none_earlier }
 
 pub first_is_stop : (part : PartData) (kept : Kept) (bytes : List ℕ) (s : Stopped) → AreBytes bytes → IsFirstStop part kept bytes s → stop_in part kept bytes ≡ Some s
 first_is_stop part kept bytes s fits f =
-    one_least (why_at_byte part kept bytes) (length bytes) (stop_in part kept bytes) s (found_in part kept bytes fits) (record { some = f.some; within = f.within; holds = f.holds; none_earlier = f.none_earlier })
+    one_least (why_at_byte part kept bytes) (length bytes) (stop_in part kept bytes) s (found_in part kept bytes fits) (record { some = f.at_least_one; within = f.within; holds = f.holds; none_earlier = f.none_earlier })
 
 pub no_stop_none : (part : PartData) (kept : Kept) (bytes : List ℕ) (n : ℕ) → AreBytes bytes → stop_in part kept bytes ≡ None → 0 < n → n ≤ length bytes → why_at_byte part kept bytes n ≡ None
 no_stop_none part kept bytes n fits e = subst (λ (o : Option Stopped). Found (why_at_byte part kept bytes) (length bytes) o) e (found_in part kept bytes fits) n

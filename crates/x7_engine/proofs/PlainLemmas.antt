@@ -29,7 +29,7 @@ use Rattle.x7_engine.specs.Standing.{AreControls, ControlsState, counted_in}
 use Rattle.x7_engine.specs.Startup.{has_ended, phase_by, startup_call, startup_calls}
 use Rattle.x7_engine.specs.State.{last_counted}
 use Rattle.x7_engine.specs.Stop.{why_by_access, why_by_frames, why_at, stop_of, stopped_at, stopped_by_watchdog}
-use Rattle.x7_engine.specs.Watching.{fired_or, fires, first_firing, timer_held, watch_call, watch_calls, watched_bytes}
+use Rattle.x7_engine.specs.Watching.{fired_or, watchdog_fires, first_firing, timer_held, watch_call, watch_calls, watched_bytes}
 use Rattle.x7_engine.proofs.ClockLemmas.{startup_entered, startup_more, stop_more_bytes, watch_entered, watch_more}
 use Rattle.x7_engine.proofs.TurnLemmas.{prefix_until, newest_within}
 
@@ -217,7 +217,7 @@ plain_watch part h register w place m p l k =
     ∙ sym (watch_more part h place (m - place) l)
     ∙ ap (watch_calls part h) sum
 
-plain_fires : (part : PartData) (kept : Kept) (h : History) (register w place m : ℕ) → IsQuiet register → newest_place h ≤ place → place ≤ m → fires part kept (entry (Write register w) place ∷ h) m ≡ fires part kept h m
+plain_fires : (part : PartData) (kept : Kept) (h : History) (register w place m : ℕ) → IsQuiet register → newest_place h ≤ place → place ≤ m → watchdog_fires part kept (entry (Write register w) place ∷ h) m ≡ watchdog_fires part kept h m
 plain_fires part kept h register w place m p l k =
     let timer : timer_held kept (entry (Write register w) place ∷ h) ≡ timer_held kept h = rw p.timer refl in
     ap (λ (t : ℕ). is_on (is_fallback kept.kind) t (has_ended part (entry (Write register w) place ∷ h) m) && watched_count (is_fallback kept.kind) kept.timer (watch_calls part (entry (Write register w) place ∷ h) m) == timer_value_of t * 4) timer
@@ -227,7 +227,7 @@ plain_fires part kept h register w place m p l k =
 plain_firing : (part : PartData) (kept : Kept) (h : History) (register w place count : ℕ) → IsQuiet register → newest_place h ≤ place → first_firing part kept (entry (Write register w) place ∷ h) place count ≡ first_firing part kept h place count
 plain_firing part kept h register w place zero p l = refl
 plain_firing part kept h register w place (suc count) p l =
-    ap (λ (o : Option ℕ). fired_or o (fires part kept (entry (Write register w) place ∷ h) (place + count + 1)) (place + count + 1)) (plain_firing part kept h register w place count p l)
+    ap (λ (o : Option ℕ). fired_or o (watchdog_fires part kept (entry (Write register w) place ∷ h) (place + count + 1)) (place + count + 1)) (plain_firing part kept h register w place count p l)
     ∙ ap (λ (b : Bool). fired_or (first_firing part kept h place count) b (place + count + 1)) (plain_fires part kept h register w place (place + count + 1) p l (omega arith))
 
 plain_stop : (part : PartData) (kept : Kept) (h : History) (register w place m : ℕ) → IsQuiet register → why_at part kept h (Write register w) ≡ None → newest_place h ≤ place → place ≤ m → stop_of part kept (entry (Write register w) place ∷ h) m ≡ stop_of part kept h m

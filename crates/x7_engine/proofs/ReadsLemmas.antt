@@ -13,7 +13,7 @@ use Rattle.x7_engine.specs.declared.stop.StopCause.{StopCause}
 use Rattle.x7_engine.specs.State.{history_by, history_taken, last_counted, reads_of, stop_in}
 use Rattle.x7_engine.specs.Stop.{Stopped, why_at, stop_of, stopped_at, stopped_by_watchdog}
 use Rattle.x7_engine.specs.Value.{words_read_by, read_out}
-use Rattle.x7_engine.specs.Watching.{fired_or, fires, first_firing}
+use Rattle.x7_engine.specs.Watching.{fired_or, watchdog_fires, first_firing}
 use Rattle.x7_engine.proofs.StateLemmas.{stop_is_final_reads, parts_none, counted_most}
 
 -- ---- where there is no stop in the first bytes, one comes after them
@@ -26,7 +26,7 @@ firing_after part kept h from first zero place none e =
 firing_after part kept h from first (suc more) place none e =
     let next : first + suc more ≡ suc (first + more) = omega arith in
     let here = rw next at e in
-    by (first_firing part kept h from (first + more)) (fires part kept h (from + (first + more) + 1)) refl here (firing_after part kept h from first more place none)
+    by (first_firing part kept h from (first + more)) (watchdog_fires part kept h (from + (first + more) + 1)) refl here (firing_after part kept h from first more place none)
   where
     by : (o : Option ℕ) (now : Bool) → first_firing part kept h from (first + more) ≡ o → fired_or o now (from + (first + more) + 1) ≡ Some place → (first_firing part kept h from (first + more) ≡ Some place → from + first < place) → from + first < place
     by (Some q) now p g before = before (p ∙ g)

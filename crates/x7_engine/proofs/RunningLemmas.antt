@@ -2,7 +2,7 @@
 use Rattle.std.proofs.Common.{◌≡◌, ◌==◌, ◌<◌, ◌+◌, ◌^◌, ℕ, false, [], ◌∷◌, List, sym, ap, ◌∙◌}
 use Rattle.x7_packets.specs.History.{entered_all, entry, History, Write}
 use Rattle.x7_packets.specs.Packet.{payload_steps}
-use Rattle.x7_packets.specs.CheckedWrites.{clears, open_writes}
+use Rattle.x7_packets.specs.CheckedWrites.{clears, checked_writes}
 use Rattle.x7_crc.specs.RunningCheck.{in_order, running_check}
 use Rattle.x7_crc.specs.Check.{check_after, write_to, writes_to}
 use Rattle.x7_crc.proofs.CheckLemmas.{check_after_append, check_after_none, check_after_fits}
@@ -10,7 +10,7 @@ use Rattle.x7_crc.proofs.CheckerLemmas.{check_folded}
 
 -- the running check is one of 32 bits
 pub check_fits : (h : History) → running_check h < 2 ^ 32
-check_fits h = check_after_fits 0 (in_order (open_writes h))
+check_fits h = check_after_fits 0 (in_order (checked_writes h))
 
 -- words written to a register, none of which clears the check
 pub check_all_folded : (register n : ℕ) (ws : List ℕ) (h : History) → (register == 8) ≡ false → ((h : History) (w : ℕ) → clears h (Write register w) ≡ false)

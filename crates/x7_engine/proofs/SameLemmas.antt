@@ -1,7 +1,7 @@
 -- Histories that differ in what was asked before RCRC: from there on they ask the same of a device.
 use Rattle.std.proofs.Common.{◌≡◌, ◌==◌, ◌&&◌, ◌||◌, ◌%◌, ◌^◌, ◌-◌, ◌≤◌, ◌⊎◌, inl, inr, ℕ, Bool, true, false, if◌then◌else◌, Option, None, List, [], ◌∷◌, ◌++◌, replicate, refl, ap, sym, subst, ◌∙◌, append_assoc, append-nil}
 use Rattle.x7_packets.specs.History.{Access, Entry, History, Write, command_held, entry, executed_by, executes, is_command, last_word, written, writes}
-use Rattle.x7_packets.specs.CheckedWrites.{RegisterWrite, clears, open_writes, with_write}
+use Rattle.x7_packets.specs.CheckedWrites.{RegisterWrite, clears, checked_writes, with_write}
 use Rattle.x7_crc.specs.RunningCheck.{in_order, running_check}
 use Rattle.x7_crc.specs.Check.{check_of}
 use Rattle.x7_part.specs.Part.{PartData}
@@ -18,7 +18,7 @@ use Rattle.x7_flow.specs.Controls.{ctl0_held, has_idcode, mask_held, masked_word
 use Rattle.x7_flow.specs.Flow.{Flow, asked_under, asks, fault_by, flow_by, flow_of, frame_fault}
 use Rattle.x7_flow.specs.FrameMemory.{memory_of, puts}
 use Rattle.x7_flow.specs.Settings.{Settings, settings_of}
-use Rattle.x7_engine.specs.Registers.{clears_by, clears_check, is_pending, is_pending_after, takes_shutdown}
+use Rattle.x7_engine.specs.Registers.{clears_check_by, clears_check, is_pending, is_pending_after, takes_shutdown}
 use Rattle.x7_engine.specs.Startup.{startup_call, startup_calls}
 
 -- ---- startup, by two lists of calls
@@ -59,7 +59,7 @@ pub record IsSame (part : PartData) (low : ℕ) (g h : History) : Type 0 where
   pub words : (r d : ℕ) → (16 == r) ≡ false → last_word r d g ≡ last_word r d h
   pub ctl0 : ctl0_held g ≡ ctl0_held h
   pub matched : has_idcode part.idcode g ≡ has_idcode part.idcode h
-  pub open_are : open_writes g ≡ open_writes h
+  pub checked_are : checked_writes g ≡ checked_writes h
   pub pending : is_pending g ≡ is_pending h
   pub flow : flow_of part g ≡ flow_of part h
   pub memory : memory_of part g ≡ memory_of part h
@@ -73,7 +73,7 @@ module _ (part : PartData) (low : ℕ) (g h : History) (s : IsSame part low g h)
   mask = s.words 6 0 refl
 
   pub check : running_check g ≡ running_check h
-  check = ap (λ (w : List RegisterWrite). check_of (in_order w)) s.open_are
+  check = ap (λ (w : List RegisterWrite). check_of (in_order w)) s.checked_are
 
   settings : settings_of part.idcode g ≡ settings_of part.idcode h
   settings =
@@ -83,7 +83,7 @@ module _ (part : PartData) (low : ℕ) (g h : History) (s : IsSame part low g h)
       ∙ ap (λ (x : ℕ). record { has_idcode = has_idcode part.idcode h; mask = mask_held h; ctl0 = ctl0_held h; command_code = x }) held
 
   cleared : (a : Access) → clears_check g a ≡ clears_check h a
-  cleared a = ap (λ (c : ℕ). clears_by (executed_by c a) (running_check g) a) held ∙ ap (λ (k : ℕ). clears_by (executed_by (command_held h) a) k a) check
+  cleared a = ap (λ (c : ℕ). clears_check_by (executed_by c a) (running_check g) a) held ∙ ap (λ (k : ℕ). clears_check_by (executed_by (command_held h) a) k a) check
 
   takes : (a : Access) → takes_shutdown g a ≡ takes_shutdown h a
   takes a = ap (λ (c : Bool). c && is_pending g) (cleared a) ∙ ap (λ (p : Bool). clears_check h a && p) s.pending
@@ -115,8 +115,8 @@ module _ (part : PartData) (low : ℕ) (g h : History) (s : IsSame part low g h)
         words = λ r d o. ap (written r a) (s.words r d o);
         ctl0 = ap (λ (m : ℕ). masked_word 5 m a (ctl0_held g)) mask ∙ ap (masked_word 5 (mask_held h) a) s.ctl0;
         matched = ap (λ (x : Bool). names_part part.idcode a || x) s.matched;
-        open_are = ap (λ (c : ℕ). if is_command 7 (executed_by c a) || writes 0 a then [] else with_write a (open_writes g)) held
-            ∙ ap (λ (w : List RegisterWrite). if clears h a then [] else with_write a w) s.open_are;
+        checked_are = ap (λ (c : ℕ). if is_command 7 (executed_by c a) || writes 0 a then [] else with_write a (checked_writes g)) held
+            ∙ ap (λ (w : List RegisterWrite). if clears h a then [] else with_write a w) s.checked_are;
         pending = ap (λ (c : ℕ). is_pending_after (executed_by c a) (clears_check g a) (is_pending g)) held
             ∙ ap (λ (x : Bool). is_pending_after (executed_by (command_held h) a) x (is_pending g)) (cleared a)
             ∙ ap (is_pending_after (executed_by (command_held h) a) (clears_check h a)) s.pending;
@@ -242,7 +242,7 @@ module _ (part : PartData) (low : ℕ) (g h : History) (s : IsNear part low g h)
         words = λ r d o. written_rcrc r (last_word r d g) (last_word r d h) (4 == r) refl (λ p. s.words r d o p);
         ctl0 = s.ctl0;
         matched = s.matched;
-        open_are = refl;
+        checked_are = refl;
         pending = refl;
         flow = ap (λ (b : ℕ). record { command = c; base = b; run = []; source = source_after part (flow_of part g).command c (flow_of part g).run; given = 0 }) (of_g ∙ sym of_h)
             ∙ ap (λ (x : Option (List ℕ)). record { command = c; base = far_of part (flow_of part h).base (flow_of part h).run (flow_of part h).given; run = []; source = x; given = 0 }) (no_g ∙ sym no_h);

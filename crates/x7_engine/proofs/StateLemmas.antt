@@ -20,7 +20,7 @@ use Rattle.x7_flow.specs.FrameMemory.{memory_of}
 use Rattle.x7_flow.proofs.StandingLemmas.{no_less}
 use Rattle.x7_engine.specs.State.{history_by, history_taken, last_counted, why_of, reads_of, state_by, state_of, stop_in, taken_by, taken_of, memory_in, state_owing}
 use Rattle.x7_engine.specs.Stop.{Stopped, why_at, stop_of, stopped_at, stopped_by_watchdog}
-use Rattle.x7_engine.specs.Watching.{fired_or, fires, first_firing}
+use Rattle.x7_engine.specs.Watching.{fired_or, watchdog_fires, first_firing}
 use Rattle.x7_engine.specs.Value.{read_out}
 
 why_at_end : (n : ℕ) (d : Option StopCause) → why_of (stopped_at n d) ≡ d
@@ -53,7 +53,7 @@ firing_later part kept h from count zero place e =
 firing_later part kept h from count (suc more) place e =
     let next : count + suc more ≡ suc (count + more) = omega arith in
     ap (first_firing part kept h from) next
-    ∙ ap (λ (o : Option ℕ). fired_or o (fires part kept h (from + (count + more) + 1)) (from + (count + more) + 1)) (firing_later part kept h from count more place e)
+    ∙ ap (λ (o : Option ℕ). fired_or o (watchdog_fires part kept h (from + (count + more) + 1)) (from + (count + more) + 1)) (firing_later part kept h from count more place e)
 
 -- a firing after more bytes is the one that there was
 watchdog_later : (part : PartData) (kept : Kept) (h : History) (from n m : ℕ) (s : Stopped) → n ≤ m → stopped_by_watchdog (first_firing part kept h from n) ≡ Some s → stopped_by_watchdog (first_firing part kept h from m) ≡ Some s
@@ -100,7 +100,7 @@ firing_by_sooner from count place (Some q) b f g = ((f g).0, omega (arith, (f g)
 pub firing_within : (part : PartData) (kept : Kept) (h : History) (from count place : ℕ) → first_firing part kept h from count ≡ Some place → (from < place) × (place ≤ from + count)
 firing_within part kept h from zero place e = absurd cc
 firing_within part kept h from (suc count) place e =
-    firing_by_sooner from count place (first_firing part kept h from count) (fires part kept h (from + count + 1)) (firing_within part kept h from count place) e
+    firing_by_sooner from count place (first_firing part kept h from count) (watchdog_fires part kept h (from + count + 1)) (firing_within part kept h from count place) e
 
 watchdog_within : (part : PartData) (kept : Kept) (h : History) (from count n : ℕ) (s : Stopped) → stopped_by_watchdog (first_firing part kept h from count) ≡ Some s → from + count ≤ n → (0 < s.place) × (s.place ≤ n)
 watchdog_within part kept h from count n s e l = by_firing (first_firing part kept h from count) (firing_within part kept h from count) e

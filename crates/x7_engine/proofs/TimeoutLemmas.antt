@@ -9,8 +9,8 @@ use Rattle.x7_startup.proofs.WatchdogLemmas.{count_loaded, count_watched}
 use Rattle.x7_engine.specs.declared.kept.Kept.{Kept}
 use Rattle.x7_engine.specs.Kept.{is_fallback}
 use Rattle.x7_engine.specs.Startup.{has_ended}
-use Rattle.x7_engine.specs.Timeout.{before_byte, bytes_on_since_load, fires_at, is_on_at, last_load, loads, bytes_on_after}
-use Rattle.x7_engine.specs.Watching.{fires, timer_held, watch_call, watch_calls}
+use Rattle.x7_engine.specs.Timeout.{before_byte, bytes_on_since_load, times_out_at, is_on_at, last_load, loads, bytes_on_after}
+use Rattle.x7_engine.specs.Watching.{watchdog_fires, timer_held, watch_call, watch_calls}
 use Rattle.x7_engine.proofs.ClockLemmas.{one_watched, timer_is, watch_entered}
 use Rattle.x7_engine.proofs.FirstStopLemmas.{one_more}
 use Rattle.x7_engine.proofs.TurnLemmas.{newest_within}
@@ -101,7 +101,7 @@ counted_all part kept bytes (suc n) f l =
     let more = one_more bytes n f (omega (arith, l)) in
     counted_next part kept bytes n more.0 more.1 (counted_all part kept bytes n f few)
 
-pub fires_by_bytes : (part : PartData) (kept : Kept) (bytes : List ℕ) (n : ℕ) → AreBytes bytes → 0 < n → n ≤ length bytes → fires part kept (before_byte bytes n) n ≡ fires_at part kept bytes n
+pub fires_by_bytes : (part : PartData) (kept : Kept) (bytes : List ℕ) (n : ℕ) → AreBytes bytes → 0 < n → n ≤ length bytes → watchdog_fires part kept (before_byte bytes n) n ≡ times_out_at part kept bytes n
 fires_by_bytes part kept bytes n f some few =
     let m : ℕ = n - 1 in
     let h : History = before_byte bytes n in

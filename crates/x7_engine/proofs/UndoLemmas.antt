@@ -22,7 +22,7 @@ use Rattle.x7_engine.specs.Past.{Answers, Past}
 use Rattle.x7_engine.specs.Standing.{DeviceState, DeviceStandsFor, NoWordDue, frames_due}
 use Rattle.x7_engine.specs.State.{history_by, history_taken, last_counted, memory_in, stop_in}
 use Rattle.x7_engine.specs.Stop.{Stopped, stopped_at}
-use Rattle.x7_engine.specs.Undo.{Back, KeepsDevice, UndoState}
+use Rattle.x7_engine.specs.Undo.{Back, SavesDevice, UndoState}
 use Rattle.x7_engine.proofs.DeviceLemmas.{going_taken}
 use Rattle.x7_engine.proofs.FrameLemmas.{frames_of, goes_on, none_frames}
 use Rattle.x7_engine.proofs.StateLemmas.{stop_is_final_stop, counted_most}
@@ -108,7 +108,7 @@ frames_back part kept wrapped u old new bytes [] k o n none few s t = frames_non
 frames_back part kept wrapped u old new bytes (x ∷ more) k o n none few s t = frames_more part kept wrapped u old new bytes (x ∷ more) k o n none few (omega arith) s t
 
 -- a device that took up to four bytes since it was kept
-pub leads_back : (part : PartData) (kept : Kept) (wrapped : Bool) (u : UndoState) (old new : DeviceState) (bytes more : List ℕ) → KeepsDevice u old → FramesFit new.part new.registers.frames → NoWordDue old → length more ≤ 4
+pub leads_back : (part : PartData) (kept : Kept) (wrapped : Bool) (u : UndoState) (old new : DeviceState) (bytes more : List ℕ) → SavesDevice u old → FramesFit new.part new.registers.frames → NoWordDue old → length more ≤ 4
     → DeviceStandsFor part kept wrapped old bytes → DeviceStandsFor part kept wrapped new (bytes ++ more) → Back u new old
 leads_back part kept wrapped u old new bytes more k n none few s t =
     let there : old.part ≡ part = s.part_is in

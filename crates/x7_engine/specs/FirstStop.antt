@@ -8,7 +8,7 @@ use Rattle.x7_engine.specs.declared.kept.Kept.{Kept}
 use Rattle.x7_engine.specs.declared.stop.StopCause.{StopCause}
 use Rattle.x7_engine.specs.declared.stop.StopCause.TheVariants as stop
 use Rattle.x7_engine.specs.Stop.{Stopped, why_at}
-use Rattle.x7_engine.specs.Watching.{fires}
+use Rattle.x7_engine.specs.Watching.{watchdog_fires}
 
 -- why the newest access stops a device, where it ends at byte n
 abbrev pub why_at_newest : PartData → Kept → History → ℕ → Option StopCause
@@ -19,11 +19,11 @@ why_at_newest part kept (e ∷ h) n = if e.place == n then why_at part kept h e.
 -- or else the access that ends there stops it.
 abbrev pub why_at_byte : PartData → Kept → List ℕ → ℕ → Option StopCause
 why_at_byte part kept bytes n =
-    if fires part kept (history_of (take (n - 1) bytes)) n then Some (stop.Fault fault.Watchdog) else why_at_newest part kept (history_of (take n bytes)) n
+    if watchdog_fires part kept (history_of (take (n - 1) bytes)) n then Some (stop.Fault fault.Watchdog) else why_at_newest part kept (history_of (take n bytes)) n
 
 -- the least byte that stops a device, and why
 pub record IsFirstStop (part : PartData) (kept : Kept) (bytes : List ℕ) (s : Stopped) : Type 0 where
-  pub some : 0 < s.place
+  pub at_least_one : 0 < s.place
   pub within : s.place ≤ length bytes
   pub holds : why_at_byte part kept bytes s.place ≡ Some s.why
   pub none_earlier : (n : ℕ) → 0 < n → n < s.place → why_at_byte part kept bytes n ≡ None

@@ -8,7 +8,7 @@ pub mod Kept
 pub mod Past
 pub mod ReadBuffer
 pub mod Readout
-pub mod Ready
+pub mod WordCalls
 pub mod Registers
 pub mod Rest
 pub mod Sequence

@@ -8,6 +8,7 @@ use Rattle.x7_regs.specs.declared.boot_status.Cause.{Cause}
 use Rattle.x7_regs.specs.declared.boot_status.Kind.TheVariants.{Bench}
 use Rattle.x7_memory.specs.FrameMap.{FrameMap}
 use Rattle.x7_part.specs.Part.{PartData}
+use Rattle.x7_startup.specs.Phases.{last_phase}
 use Rattle.x7_engine.specs.Checked.{StandsIn}
 use Rattle.x7_engine.specs.Value.{failure_of}
 use Rattle.x7_engine.specs.declared.fault.Fault.{Fault}
@@ -114,7 +115,7 @@ pub record StandsBefore (p : Past) (access : Access) (place : ℕ) (older : Hist
 -- a fallback follows nor an IPROG ended it
 pub record BootGoesOn (p : Past) : Type 0 where
   pub boots : IsBootAttempt p.kept
-  pub not_started : ((state_at p).phase == 7) ≡ false
+  pub not_started : ((state_at p).phase == last_phase) ≡ false
   pub not_failed : cause_in p.part p.kept p.bytes ≡ None
   pub not_left : why_of (stop_at p) ≡ Some stop.Iprog → ⊥
 

@@ -39,19 +39,19 @@ pub record HasMaskedBits (register n : ℕ) (h : History) : Type 0 where
   pub fits : n < 2 ^ 32
   pub bits : (i : ℕ) → i < 32 → bit_at n i ≡ masked_bit register i h
 
--- the access writes this word to CRC
+-- the access writes this check to CRC
 abbrev pub writes_check : ℕ → Access → Bool
 writes_check check (Write register w) = register == number_of Crc && w == check
 writes_check check _ = false
 
 -- an access clears the check without a fault, by the command executed and the running check: RCRC is executed, or the
 -- running check is written to CRC
-abbrev pub clears_by : Option ℕ → ℕ → Access → Bool
-clears_by command check access = is_command (code_of Rcrc) command || writes_check check access
+abbrev pub clears_check_by : Option ℕ → ℕ → Access → Bool
+clears_check_by command check access = is_command (code_of Rcrc) command || writes_check check access
 
--- an access at which the check was right, after a history
+-- an access after a history clears the check without a fault: it executes RCRC, or writes the running check to CRC
 abbrev pub clears_check : History → Access → Bool
-clears_check h access = clears_by (executed_by (command_held h) access) (running_check h) access
+clears_check h access = clears_check_by (executed_by (command_held h) access) (running_check h) access
 
 -- whether a shutdown is pending after a command, by whether the check was cleared
 abbrev pub is_pending_after : Option ℕ → Bool → Bool → Bool

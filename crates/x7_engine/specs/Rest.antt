@@ -5,6 +5,7 @@ use Rattle.x7_packets.specs.History.{history_of}
 use Rattle.x7_packets.specs.Reading.{Searching, is_synced}
 use Rattle.x7_packets.specs.SyncWord.{HasNoSync}
 use Rattle.x7_part.specs.Part.{PartData}
+use Rattle.x7_startup.specs.Phases.{last_phase}
 use Rattle.x7_startup.specs.Startup.{NotBegun}
 use Rattle.x7_engine.specs.declared.kept.Kept.{Kept}
 use Rattle.x7_engine.specs.Kept.{is_fallback}
@@ -20,7 +21,7 @@ use Rattle.x7_engine.specs.Watching.{timer_held, turns_on}
 pub record AtRest (part : PartData) (kept : Kept) (bytes : List ℕ) : Type 0 where
   pub no_stop : stop_in part kept bytes ≡ None
   pub searching : is_synced (reading_of bytes).place ≡ false
-  pub startup : (startup_progress (history_of bytes) (length bytes) ≡ NotBegun) ⊎ (phase_of part (history_of bytes) (length bytes) ≡ 7)
+  pub startup : (startup_progress (history_of bytes) (length bytes) ≡ NotBegun) ⊎ (phase_of part (history_of bytes) (length bytes) ≡ last_phase)
   pub sbits : forbids_reading (ctl0_held (history_of bytes)) ≡ false
   pub no_shutdown : is_pending (history_of bytes) ≡ false
   pub no_watchdog : (turns_on (timer_held kept (history_of bytes)) && not (is_fallback kept.kind)) ≡ false

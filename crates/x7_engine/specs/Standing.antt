@@ -16,6 +16,7 @@ use Rattle.x7_regs.specs.declared.boot_status.Kind.{Kind}
 use Rattle.x7_regs.specs.declared.boot_status.Kind.TheVariants.{Bench}
 use Rattle.x7_regs.specs.declared.register.Reg.TheVariants.{Ctl0, Ctl1}
 use Rattle.x7_regs.specs.Register.{number_of, reg_number_count}
+use Rattle.x7_startup.specs.Phases.{last_phase}
 use Rattle.x7_engine.specs.declared.controls.Controls.{Controls}
 use Rattle.x7_memory.specs.FrameMap.{AreSame}
 use Rattle.x7_flow.specs.Flow.{far_in, flow_of}
@@ -242,7 +243,7 @@ with_wrap d = record d { wrapped = true }
 -- failed or left by an IPROG, and no word is due
 pub record MayWrapWith (d : RegistersState) : Type 0 where
   pub boots : d.kind ≡ Bench → ⊥
-  pub not_started : (d.clock.startup.phase == 7) ≡ false
+  pub not_started : (d.clock.startup.phase == last_phase) ≡ false
   pub not_failed : failure_of (stop_fault d.stop) false ≡ None
   pub not_left : d.stop ≡ Some stop.Iprog → ⊥
   pub no_word_due : due_count d.due ≡ 0

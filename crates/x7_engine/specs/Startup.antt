@@ -6,7 +6,7 @@ use Rattle.x7_regs.specs.declared.command.Command.TheVariants.{Desync, Start}
 use Rattle.x7_regs.specs.declared.register.Reg.TheVariants.{Cor0}
 use Rattle.x7_regs.specs.Command.{code_of}
 use Rattle.x7_regs.specs.Register.{number_of}
-use Rattle.x7_startup.specs.Phases.{arrival, wait_of}
+use Rattle.x7_startup.specs.Phases.{arrival, last_phase, wait_of}
 use Rattle.x7_startup.specs.Startup.{Call, StartupProgress, NotBegun, Begun, progress_of}
 use Rattle.x7_startup.specs.Startup as call
 use Rattle.x7_engine.specs.Registers.{takes_shutdown}
@@ -34,7 +34,7 @@ greatest_begun wait ticks (suc p) = if nat_le (arrival wait (suc p)) ticks then 
 
 -- the phase after `ticks` ticks
 unfoldable pub phase_at : (ℕ → ℕ) → ℕ → ℕ
-phase_at wait ticks = greatest_begun wait ticks 7
+phase_at wait ticks = greatest_begun wait ticks last_phase
 
 -- the phase, by how far startup is
 abbrev pub phase_by : PartData → StartupProgress → ℕ
@@ -47,4 +47,4 @@ phase_of part h n = phase_by part (startup_progress h n)
 
 -- startup has ended
 abbrev pub has_ended : PartData → History → ℕ → Bool
-has_ended part h n = phase_of part h n == 7
+has_ended part h n = phase_of part h n == last_phase

@@ -38,6 +38,7 @@ bytes_on_after part kept bytes from (suc count) = bytes_on_after part kept bytes
 abbrev pub bytes_on_since_load : PartData → Kept → List ℕ → ℕ → ℕ
 bytes_on_since_load part kept bytes n = bytes_on_after part kept bytes (last_load (before_byte bytes n)) (n - last_load (before_byte bytes n))
 
--- the watchdog fires at byte n: it is on there, and four times TIMER's value of the bytes after the last load had it on
-abbrev pub fires_at : PartData → Kept → List ℕ → ℕ → Bool
-fires_at part kept bytes n = is_on_at part kept bytes n && bytes_on_since_load part kept bytes n == timer_value_of (timer_held kept (before_byte bytes n)) * 4
+-- the watchdog's time is out at byte n, where it fires: it is on there, and four times TIMER's value of the bytes after
+-- the last load had it on
+abbrev pub times_out_at : PartData → Kept → List ℕ → ℕ → Bool
+times_out_at part kept bytes n = is_on_at part kept bytes n && bytes_on_since_load part kept bytes n == timer_value_of (timer_held kept (before_byte bytes n)) * 4

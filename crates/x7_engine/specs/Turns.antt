@@ -17,7 +17,7 @@ pub record MayTake (d : DeviceState) (piece : List ℕ) (at : ℕ) : Type 0 wher
 -- ends a write to CMD, a read or a word that is no header
 pub record TakesTurn (old new : DeviceState) (more : List ℕ) : Type 0 where
   pub part : new.part ≡ old.part
-  pub stands : TakesJust old new more
+  pub takes : TakesJust old new more
   pub silent : GivesNoWord old new more
   pub commands : OfPast old (λ p. CommandsLast p.bytes more)
 

@@ -1,4 +1,4 @@
--- What is kept of a device, so that the next bytes up to four can be taken back (this project's choice).
+-- What is saved of a device, so that the next bytes up to four can be taken back (this project's choice).
 use Rattle.std.specs.Prelude.{◌≡◌, ℕ, ◌≤◌, Bool, List, length, Option}
 use Rattle.x7_packets.specs.Cutter.{CutterState}
 use Rattle.x7_part.specs.Part.{PartData}
@@ -30,7 +30,7 @@ pub record SavedRegistersState : Type 0 where
 abbrev pub without_frames : RegistersState → SavedRegistersState
 without_frames r = record { words = r.words; controls = r.controls; progress = r.progress; kind = r.kind; before = r.before; clock = r.clock; stop = r.stop; due = r.due }
 
--- the stored values of kept registers as their fields hold them
+-- the stored values of saved registers as their fields hold them
 abbrev pub saved_registers_in : SavedRegisters → SavedRegistersState
 saved_registers_in s = record {
   words = s.words.last;
@@ -47,7 +47,7 @@ saved_registers_in s = record {
 abbrev pub registers_with : SavedRegistersState → FramesState → RegistersState
 registers_with v f = record { words = v.words; controls = v.controls; progress = v.progress; kind = v.kind; before = v.before; clock = v.clock; stop = v.stop; due = v.due; frames = f }
 
--- what is kept of a device: each stored value but its memory, and at most one frame of that
+-- what is saved of a device: each stored value but its memory, and at most one frame of that
 pub record UndoState : Type 0 where
   pub cutter : CutterState
   pub values : SavedRegistersState
@@ -55,40 +55,40 @@ pub record UndoState : Type 0 where
   pub wrapped : Bool
   pub taken : ℕ
 
--- what is kept is kept of a device of the part
+-- what is saved is saved of a device of the part
 abbrev pub IsUndoOf : PartData → UndoState → Type 0
 IsUndoOf part u = IsSavedOf part u.frames
 
--- the device whose values are kept, with a memory of zeros
-abbrev pub device_kept : PartData → UndoState → DeviceState
-device_kept part u = record { part = part; cutter = u.cutter; registers = registers_with u.values (frames_state u.frames.pipeline (zero_frames part)); wrapped = u.wrapped; taken = u.taken; fed = 0 }
+-- the device whose values are saved, with a memory of zeros
+abbrev pub device_saved : PartData → UndoState → DeviceState
+device_saved part u = record { part = part; cutter = u.cutter; registers = registers_with u.values (frames_state u.frames.pipeline (zero_frames part)); wrapped = u.wrapped; taken = u.taken; fed = 0 }
 
--- each value but the memory is that of a device
-pub record KeepsValues (u : UndoState) (d : DeviceState) : Type 0 where
+-- each saved value is that of a device
+pub record SavesValues (u : UndoState) (d : DeviceState) : Type 0 where
   pub cutter : u.cutter ≡ d.cutter
   pub values : u.values ≡ without_frames d.registers
   pub wrapped : u.wrapped ≡ d.wrapped
   pub taken : u.taken ≡ d.taken
 
--- a device is kept: its values, and the frame that its next word or copy would change
-pub record KeepsDevice (u : UndoState) (d : DeviceState) : Type 0 where
-  pub values : KeepsValues u d
+-- a device is saved: its values, and the frame that its next word or copy would change
+pub record SavesDevice (u : UndoState) (d : DeviceState) : Type 0 where
+  pub values : SavesValues u d
   pub frames : SavesFrames d.part u.frames d.registers.frames
   pub frames_fit : FramesFit d.part d.registers.frames
 
--- What is kept leads from a device back to an old one: the values are those of the old device, and the memory of the
--- new one, with the kept frame put into it, is that of the old one.
+-- What is saved leads from a device back to an old one: the values are those of the old device, and the memory of the
+-- new one, with the saved frame put into it, is that of the old one.
 pub record Back (u : UndoState) (new old : DeviceState) : Type 0 where
   pub part : new.part ≡ old.part
-  pub values : KeepsValues u old
+  pub values : SavesValues u old
   pub frames : FramesBack old.part u.frames new.registers.frames old.registers.frames
 
--- what is kept is an old device, which took at most four bytes since then
+-- what is saved is an old device, which took at most four bytes since then
 pub record TookFewSince (u : UndoState) (d : DeviceState) : Type 0 where
   pub past : Past
   pub more : List ℕ
   pub old : DeviceState
-  pub keeps : KeepsDevice u old
+  pub saves : SavesDevice u old
   pub no_word_due : NoWordDue old
   pub few : length more ≤ 4
   pub had : HasPast old past

@@ -5,6 +5,7 @@ use Rattle.x7_packets.specs.History.{Access, Bad, History, Read, Write, history_
 use Rattle.x7_part.specs.Part.{PartData}
 use Rattle.x7_regs.specs.declared.register.Reg.TheVariants.{Cmd}
 use Rattle.x7_regs.specs.Register.{number_of}
+use Rattle.x7_startup.specs.Phases.{last_phase}
 use Rattle.x7_startup.specs.Startup.{NotBegun}
 use Rattle.x7_engine.specs.declared.kept.Kept.{Kept}
 use Rattle.x7_engine.specs.declared.until_started.UntilStarted.{UntilStarted}
@@ -15,7 +16,7 @@ use Rattle.x7_engine.specs.State.{history_taken, state_of, taken_of}
 
 -- startup has ended at these bytes
 abbrev pub has_started : PartData → Kept → List ℕ → Bool
-has_started part kept bytes = (state_of part kept false bytes).phase == 7
+has_started part kept bytes = (state_of part kept false bytes).phase == last_phase
 
 -- startup hasn't begun at these bytes
 abbrev pub HasNotBegun : PartData → Kept → List ℕ → Type 0

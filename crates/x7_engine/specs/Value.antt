@@ -12,6 +12,7 @@ use Rattle.x7_regs.specs.declared.boot_status.Cause.TheVariants as cause
 use Rattle.x7_regs.specs.declared.register.Reg.{Reg}
 use Rattle.x7_regs.specs.declared.register.Reg.TheVariants.{Crc, Far, Fdri, Fdro, Cmd, Ctl0, Mask, Stat, Lout, Cor0, Mfwr, Cbc, Idcode, Axss, Cor1, Wbstar, Timer, Bootsts, Ctl1, Bspi}
 use Rattle.x7_regs.specs.declared.status.StatParts.{StatParts}
+use Rattle.x7_startup.specs.Phases.{last_phase}
 use Rattle.x7_startup.specs.Startup.{StartupProgress, cor0_of, ticks_of}
 use Rattle.x7_startup.specs.Lines.{done_line, gts_line, gwe_line}
 use Rattle.x7_startup.specs.declared.lines.Lines.{Lines}
@@ -52,7 +53,7 @@ stat_parts part fault p ghigh = record {
   crc_error = is_crc_fault fault;
   lock = nat_le part.lock (ticks_of p);
   matched = nat_le part.matched (ticks_of p);
-  eos = phase_by part p == 7;
+  eos = phase_by part p == last_phase;
   gts = (lines_by part p).gts;
   gwe = (lines_by part p).gwe;
   ghigh = ghigh;

@@ -41,8 +41,8 @@ abbrev pub timer_held : Kept → History → ℕ
 timer_held kept h = word_held kept (number_of Timer) h
 
 -- the watchdog fires at byte n, after the history `h`: it is on, and its count comes to four times TIMER's value
-abbrev pub fires : PartData → Kept → History → ℕ → Bool
-fires part kept h n =
+abbrev pub watchdog_fires : PartData → Kept → History → ℕ → Bool
+watchdog_fires part kept h n =
     is_on (is_fallback kept.kind) (timer_held kept h) (has_ended part h n)
     && watched_count (is_fallback kept.kind) kept.timer (watch_calls part h n) == timer_value_of (timer_held kept h) * 4
 
@@ -54,4 +54,4 @@ fired_or None fires_now n = if fires_now then Some n else None
 -- the least of `count` bytes after byte `from` at which the watchdog fires
 abbrev pub first_firing : PartData → Kept → History → ℕ → ℕ → Option ℕ
 first_firing part kept h from zero = None
-first_firing part kept h from (suc count) = fired_or (first_firing part kept h from count) (fires part kept h (from + count + 1)) (from + count + 1)
+first_firing part kept h from (suc count) = fired_or (first_firing part kept h from count) (watchdog_fires part kept h (from + count + 1)) (from + count + 1)

@@ -3,24 +3,22 @@ ghost use Rattle.std.specs.Prelude.{◌≡◌, ◌<◌, ◌≤◌, ◌+◌, ◌+
 ghost use Rattle.x7_packets.specs.History.{History};
 ghost use Rattle.x7_part.specs.Part.{PartData};
 ghost use Rattle.x7_flow.specs.Standing.{word_to, written_to};
+ghost use Rattle.x7_startup.specs.Phases.{last_phase};
 ghost use Rattle.x7_startup.specs.Startup.{Call, StandsForCalls, ticks_of};
 ghost use Rattle.x7_startup.specs.Watchdog.{WatchCall, WatchesFor};
 ghost use Rattle.x7_engine.specs.Clock.{AreEndedAlike, HasEndedBy, TakesEntry, ClockTakes, ClockTakesInAny, newest_place, startup_call_by, watch_call_by};
 ghost use Rattle.x7_engine.specs.Course.{course_at};
-ghost use Rattle.x7_engine.specs.Kept.{is_fallback};
 ghost use Rattle.x7_engine.specs.Registers.{AreFactsOfWrite};
 ghost use Rattle.x7_engine.specs.Startup.{has_ended, phase_of, startup_calls, startup_progress};
 ghost use Rattle.x7_engine.specs.Value.{lines_by};
-ghost use Rattle.x7_engine.specs.Watching.{fires, first_firing};
-ghost use Rattle.x7_engine.specs.declared.kept.Kept.{Kept};
+ghost use Rattle.x7_engine.specs.Watching.{watchdog_fires, first_firing};
+ghost use Rattle.x7_engine.specs.declared.kept.Kept.{Kept as KeptData};
 
+use crate::kept::{Kept, is_fallback};
 use x7_crc::is_command;
 use x7_part::Part;
 use x7_regs::{Command, Reg};
-use x7_startup::{Lines, Startup, Watchdog};
-
-/// The last phase of startup, in which it has ended.
-const LAST_PHASE: u8 = 7;
+use x7_startup::{LAST_PHASE, Lines, Startup, Watchdog};
 
 /// What a written word asks of startup.
 fn move_startup(startup: &mut Startup, executed: Option<u8>, takes_shutdown: bool, cor0: u32)
@@ -54,11 +52,12 @@ fn move_watchdog(watchdog: &mut Watchdog, executed: Option<u8>, reg: Reg, word: 
     }
 }
 
-/// Whether two conditions hold both or neither: `==`, by a name that proofs cite.
-fn are_same(a: bool, b: bool) -> bool
-    ensures { IsTrue result ↔ (a ≡ b) }
+/// Whether startup has ended at each of some bytes or at none, by whether it had before them, and has after them: it
+/// doesn't go back over bytes.
+fn are_ended_alike(before: bool, after: bool) -> bool
+    ensures { IsTrue result ↔ (before ≡ after) }
 {
-    a == b
+    before == after
 }
 
 /// Startup and the watchdog as the bytes taken and the accesses have left them.
@@ -71,13 +70,14 @@ pub(crate) struct Clock {
 impl Clock {
     ghost use Rattle.x7_engine.specs.Clock.{IsClock, clock_in};
 
-    /// The clock of a device that took nothing, with this word of TIMER; `off` is for an attempt that has no watchdog.
-    pub(crate) fn new(timer: u32, off: bool) -> Clock
-        ensures { (part : PartData) (kept : Kept) → timer ≡ kept.timer → off ≡ is_fallback kept.kind → IsClock part kept (clock_in result) [] 0 }
+    /// The clock of a device that took nothing, with what the reset kept: TIMER, and whether the attempt is a fallback,
+    /// which has no watchdog.
+    pub(crate) fn new(kept: &Kept) -> Clock
+        ensures { (part : PartData) → IsClock part kept.now (clock_in result) [] 0 }
     {
         Clock {
             startup: Startup::new(),
-            watchdog: Watchdog::new(timer, off),
+            watchdog: Watchdog::new(kept.timer, is_fallback(kept.kind)),
         }
     }
 
@@ -98,8 +98,8 @@ impl Clock {
 
     /// The phase of startup.
     pub(crate) fn phase(&self) -> u8
-        ensures now { result ≡ self.now.startup.phase }
-        ensures most { result ≤ 7 }
+        ensures stored { result ≡ self.now.startup.phase }
+        ensures most { result ≤ last_phase }
         ensures value { (part : PartData) (h : History) (n : ℕ) → StandsForCalls part.lock part.matched self.now.startup (startup_calls h n) → result ≡ phase_of part h n }
     {
         self.startup.phase()
@@ -107,7 +107,7 @@ impl Clock {
 
     /// Whether startup has ended.
     pub(crate) fn has_ended(&self) -> bool
-        ensures now { result ≡ (self.now.startup.phase == 7) }
+        ensures stored { result ≡ (self.now.startup.phase == last_phase) }
         ensures value { (part : PartData) (h : History) (n : ℕ) → StandsForCalls part.lock part.matched self.now.startup (startup_calls h n) → result ≡ has_ended part h n }
     {
         self.phase() == LAST_PHASE
@@ -129,8 +129,8 @@ impl Clock {
 
     /// Takes a byte: whether the watchdog fires at it.
     fn byte(&mut self, part: &Part) -> bool
-        ensures stands { (kept : Kept) (h : History) (n : ℕ) → newest_place h ≤ n → IsClock part.now kept (clock_in self.old) h n → IsClock part.now kept (clock_in self.new) h (n + 1) }
-        ensures fires { (kept : Kept) (h : History) (n : ℕ) → newest_place h ≤ n → IsClock part.now kept (clock_in self.old) h n → result ≡ fires part.now kept h (n + 1) }
+        ensures stands { (kept : KeptData) (h : History) (n : ℕ) → newest_place h ≤ n → IsClock part.now kept (clock_in self.old) h n → IsClock part.now kept (clock_in self.new) h (n + 1) }
+        ensures fires { (kept : KeptData) (h : History) (n : ℕ) → newest_place h ≤ n → IsClock part.now kept (clock_in self.old) h n → result ≡ watchdog_fires part.now kept h (n + 1) }
     {
         self.startup.byte(part.lock(), part.matched());
         let eos = self.has_ended();
@@ -158,7 +158,7 @@ impl Clock {
     fn bytes_after_end(&mut self, part: &Part, taken: usize, count: usize) -> Option<usize>
         requires within { taken ≤ count }
         ensures within { IfSome result (λ k. (0 < k) × (k ≤ count)) }
-        ensures takes { (kept : Kept) (h : History) (n : ℕ) → HasEndedBy (course_at part.now kept h n) (clock_in self.old) taken
+        ensures takes { (kept : KeptData) (h : History) (n : ℕ) → HasEndedBy (course_at part.now kept h n) (clock_in self.old) taken
             → ClockTakes (course_at part.now kept h n) (clock_in self.new) count result }
     {
         match self.bytes_alike(part, count - taken, true) {
@@ -171,7 +171,7 @@ impl Clock {
     /// fires: the number of that byte, from 1.
     fn bytes_alike(&mut self, part: &Part, count: usize, eos: bool) -> Option<usize>
         ensures within { IfSome result (λ k. (0 < k) × (k ≤ count)) }
-        ensures takes { (kept : Kept) (h : History) (n : ℕ) → AreEndedAlike (course_at part.now kept h n) (clock_in self.old) count eos
+        ensures takes { (kept : KeptData) (h : History) (n : ℕ) → AreEndedAlike (course_at part.now kept h n) (clock_in self.old) count eos
             → ClockTakes (course_at part.now kept h n) (clock_in self.new) count result }
     {
         let Some(k) = self.watchdog.bytes(count as u64, eos) else {
@@ -185,7 +185,7 @@ impl Clock {
 
     /// Whether startup would have ended after `count` bytes more.
     fn ends_within(&self, part: &Part, count: usize) -> bool
-        ensures { (kept : Kept) (h : History) (n : ℕ) → newest_place h ≤ n → IsClock part.now kept (clock_in self.now) h n → result ≡ has_ended part.now h (n + count) }
+        ensures { (kept : KeptData) (h : History) (n : ℕ) → newest_place h ≤ n → IsClock part.now kept (clock_in self.now) h n → result ≡ has_ended part.now h (n + count) }
     {
         let mut then = *self;
         then.startup
@@ -221,7 +221,7 @@ impl Clock {
     #[inline(always)]
     pub(crate) fn before_firing(&self, part: &Part, count: usize) -> usize
         ensures within { result ≤ count }
-        ensures none_fires { (kept : Kept) (h : History) (n : ℕ) → newest_place h ≤ n → IsClock part.now kept (clock_in self.now) h n → first_firing part.now kept h n result ≡ None }
+        ensures none_fires { (kept : KeptData) (h : History) (n : ℕ) → newest_place h ≤ n → IsClock part.now kept (clock_in self.now) h n → first_firing part.now kept h n result ≡ None }
     {
         let mut then = *self;
         match then.bytes(part, count) {
@@ -237,7 +237,7 @@ impl Clock {
         ensures { ClockTakesInAny part.now (clock_in self.old) (clock_in self.new) count result }
     {
         let eos = self.has_ended();
-        if are_same(eos, self.ends_within(part, count)) {
+        if are_ended_alike(eos, self.ends_within(part, count)) {
             return self.bytes_alike(part, count, eos);
         }
         self.bytes_one_by_one(part, count)

@@ -4,6 +4,7 @@ ghost use Rattle.x7_packets.specs.Cutter.{between, IsNeed};
 ghost use Rattle.x7_packets.specs.History.{history_of};
 ghost use Rattle.x7_memory.specs.FrameMap.{AreSame};
 ghost use Rattle.x7_memory.specs.Frames.{AreFramesOf, frame_at};
+ghost use Rattle.x7_startup.specs.Phases.{last_phase};
 ghost use Rattle.x7_engine.specs.UntilRead.{RoomBefore};
 ghost use Rattle.x7_engine.specs.Kept.{on_the_bench};
 ghost use Rattle.x7_engine.specs.Readout.{DeviceGaveWords};
@@ -309,7 +310,7 @@ impl Device {
         ensures part { self.new.part ≡ self.old.part }
         ensures taken { self.new.taken ≡ self.old.taken + taken_in (length piece.now) result }
         ensures fed { fed_of self.new ≡ fed_more self.old (taken_in (length piece.now) result) }
-        ensures stands { TakesJust self.old self.new (prefix_taken piece.now result) }
+        ensures takes { TakesJust self.old self.new (prefix_taken piece.now result) }
         ensures answer { AnswersFor self.old self.new (prefix_taken piece.now result) read.new result }
         ensures reads { GivesWordsNext self.old self.new (prefix_taken piece.now result) read.old read.new }
         ensures within_most { HoldsWithinMost read.new.most read.new.words }
@@ -334,7 +335,7 @@ impl Device {
 
     /// The frames: those of the part, as the bytes taken have left them.
     pub fn memory(&self) -> &Memory
-        ensures now { result.now ≡ self.now.registers.frames.memory }
+        ensures value { result.now ≡ self.now.registers.frames.memory }
         ensures frames { AreFramesOf self.now.part result.now }
         ensures shows { OfPast self.now (λ p. AreSame (frame_at p.part result.now) (memory_in p.part p.kept p.bytes)) }
     {
@@ -383,7 +384,7 @@ impl Device {
 
     /// The part.
     pub fn part(&self) -> &Part
-        ensures now { result.now ≡ self.now.part }
+        ensures stored { result.now ≡ self.now.part }
         ensures value { OfPast self.now (λ p. result.now ≡ p.part) }
     {
         &self.part
@@ -401,7 +402,7 @@ impl Device {
 
     /// Whether startup has ended.
     pub fn started(&self) -> bool
-        ensures { OfPast self.now (λ p. result ≡ ((state_at p).phase == 7)) }
+        ensures { OfPast self.now (λ p. result ≡ ((state_at p).phase == last_phase)) }
     {
         self.registers.clock.has_ended()
     }
@@ -416,7 +417,7 @@ impl Device {
 
     /// How many bytes were taken since the reset.
     pub fn taken(&self) -> u64
-        ensures now { result ≡ self.now.taken }
+        ensures stored { result ≡ self.now.taken }
         ensures value { OfPast self.now (λ p. result ≡ length p.bytes) }
     {
         self.taken

@@ -1,10 +1,12 @@
 //! Laws of the definitions, for the proofs of crates above.
-ghost use Rattle.std.specs.Prelude.{◌≡◌, ◌+◌, ◌-◌, ◌^◌, ◌<◌, ◌≤◌, ◌++◌, ◌↔◌, ℕ, Bool, IsTrue, List, [], None, Some, false, length, true};
+ghost use Rattle.std.specs.Prelude.{◌≡◌, ◌+◌, ◌-◌, ◌<◌, ◌≤◌, ◌++◌, ◌↔◌, ℕ, Bool, IsTrue, List, [], None, Some, false, length, true};
 ghost use Rattle.x7_words.specs.Word.{AreBytes};
 ghost use Rattle.x7_packets.specs.Gap.{AreAlike};
 ghost use Rattle.x7_packets.specs.History.{Access, AllFit, History, Placed, history_of};
 ghost use Rattle.x7_packets.specs.SyncWord.{HasNoSync};
 ghost use Rattle.x7_part.specs.Part.{PartData};
+ghost use Rattle.x7_regs.specs.BootStatus.{cause_bits_of};
+ghost use Rattle.x7_regs.specs.declared.boot_status.Cause.TheVariants.{Wrap};
 ghost use Rattle.x7_regs.specs.declared.register.Reg.TheVariants.{Crc, Idcode};
 ghost use Rattle.x7_startup.specs.Startup.{Begun, IsPhaseOf};
 ghost use Rattle.x7_crc.specs.RunningCheck.{running_check};
@@ -21,8 +23,8 @@ ghost use Rattle.x7_engine.specs.Standing.{DeviceState, NoWordDue};
 ghost use Rattle.x7_engine.specs.Startup.{phase_of, startup_progress};
 ghost use Rattle.x7_engine.specs.State.{memory_in, reads_of, state_of, stop_in, bootsts_in};
 ghost use Rattle.x7_engine.specs.Stop.{Stopped, why_at};
-ghost use Rattle.x7_engine.specs.Timeout.{before_byte, fires_at};
-ghost use Rattle.x7_engine.specs.Watching.{fires};
+ghost use Rattle.x7_engine.specs.Timeout.{before_byte, times_out_at};
+ghost use Rattle.x7_engine.specs.Watching.{watchdog_fires};
 ghost use Rattle.x7_engine.specs.declared.kept.Kept.{Kept};
 
 /// The stop of bytes is the first one: it comes at one of them, fewer bytes have none, and with further bytes the stop,
@@ -73,7 +75,7 @@ pub fn stops_are_first()
 /// The watchdog fires at a byte that has it on, where four times TIMER's value of
 /// the bytes after the last load had it on.
 pub fn watchdog_fires()
-    ensures { (part : PartData) (kept : Kept) (bytes : List ℕ) (n : ℕ) → AreBytes bytes → 0 < n → n ≤ length bytes → fires part kept (before_byte bytes n) n ≡ fires_at part kept bytes n }
+    ensures { (part : PartData) (kept : Kept) (bytes : List ℕ) (n : ℕ) → AreBytes bytes → 0 < n → n ≤ length bytes → watchdog_fires part kept (before_byte bytes n) n ≡ times_out_at part kept bytes n }
 {}
 
 /// Startup has begun only where START was executed after the part's IDCODE was written, and DESYNC after it. Each check
@@ -90,7 +92,7 @@ pub fn checks_before_startup()
 pub fn rest_lasts()
     ensures stays { (part : PartData) (kept : Kept) (bytes more : List ℕ) → AreBytes (bytes ++ more) → LastGapGoesOn bytes more → AtRest part kept bytes → AtRest part kept (bytes ++ more) }
     ensures same_history { (bytes more : List ℕ) → AreBytes (bytes ++ more) → LastGapGoesOn bytes more → history_of (bytes ++ more) ≡ history_of bytes }
-    ensures new { (part : PartData) → AtRest part on_the_bench [] }
+    ensures new_device { (part : PartData) → AtRest part on_the_bench [] }
 {}
 
 /// The words read out are those given, and then those that are still due: none, where no word is due.
@@ -109,7 +111,7 @@ pub fn reads_grow()
 pub fn wraps_show_in_bootsts()
     ensures alone { (part : PartData) (kept : Kept) (bytes : List ℕ) → state_of part kept true bytes ≡ record (state_of part kept false bytes) { bootsts = (state_of part kept true bytes).bootsts } }
     ensures bit { (part : PartData) (kept : Kept) (bytes : List ℕ) → IsBootAttempt kept → cause_in part kept bytes ≡ None
-        → bootsts_in part kept true bytes ≡ bootsts_in part kept false bytes + 2 ^ 6 }
+        → bootsts_in part kept true bytes ≡ bootsts_in part kept false bytes + cause_bits_of (Some Wrap) }
 {}
 
 /// Bytes that ask the same at the same places, as those after two gaps do, bring a

@@ -8,7 +8,7 @@ ghost use Rattle.x7_regs.specs.Register.{reg_number_count};
 ghost use Rattle.x7_flow.specs.Controls.{names_part, same_idcode};
 ghost use Rattle.x7_flow.specs.Standing.{word_to, written_to};
 ghost use Rattle.x7_engine.specs.Entering.{words_entered};
-ghost use Rattle.x7_engine.specs.Registers.{clears_by, has_ghigh_after, is_controlling, is_pending_after, takes_shutdown, writes_check, writes_command};
+ghost use Rattle.x7_engine.specs.Registers.{clears_check_by, has_ghigh_after, is_controlling, is_pending_after, takes_shutdown, writes_check, writes_command};
 
 use crate::target::PlainNumber;
 use x7_crc::{check_after_write, fold, fold_slice, is_command};
@@ -35,8 +35,8 @@ fn writes_check(check: u32, reg: Reg, word: u32) -> bool
 }
 
 /// Whether a written word clears the check without a fault: RCRC is executed, or the running check is written to CRC.
-fn clears_by(executed: Option<u8>, check: u32, reg: Reg, word: u32) -> bool
-    ensures { result ≡ clears_by executed check (word_to reg word) }
+fn clears_check_by(executed: Option<u8>, check: u32, reg: Reg, word: u32) -> bool
+    ensures { result ≡ clears_check_by executed check (word_to reg word) }
 {
     is_command(Command::Rcrc, executed) || writes_check(check, reg, word)
 }
@@ -56,11 +56,11 @@ fn has_ghigh_after(ghigh: bool, executed: Option<u8>, takes_shutdown: bool) -> b
         || ghigh && !is_command(Command::Aghigh, executed) && !takes_shutdown
 }
 
-/// Whether two conditions hold both: `&&`, by a name that proofs cite.
-fn both(a: bool, b: bool) -> bool
-    ensures { result ≡ (a && b) }
+/// Whether a written word takes a shutdown: it clears the check while one is pending.
+fn takes_shutdown(cleared: bool, pending: bool) -> bool
+    ensures { result ≡ (cleared && pending) }
 {
-    a && b
+    cleared && pending
 }
 
 /// Whether the part's IDCODE was written, after a written word.
@@ -126,16 +126,16 @@ impl Progress {
             → IsProgress idcode (progress_in self.new) (written_to reg word place ∷ h) }
         ensures takes { (h : History) → executed ≡ executed_after h reg word → IsProgress idcode (progress_in self.old) h → result ≡ takes_shutdown h (word_to reg word) }
     {
-        let cleared = clears_by(executed, self.check, reg, word);
-        let takes_shutdown = both(cleared, self.pending);
+        let cleared = clears_check_by(executed, self.check, reg, word);
+        let taken = takes_shutdown(cleared, self.pending);
         *self = Progress {
             check: check_after_write(self.check, reg, word, executed),
             has_idcode: has_idcode_after(self.has_idcode, idcode, reg, word),
             pending: is_pending_after(self.pending, executed, cleared),
-            ghigh: has_ghigh_after(self.ghigh, executed, takes_shutdown),
+            ghigh: has_ghigh_after(self.ghigh, executed, taken),
             iprog: wrote_iprog_after(self.iprog, reg, word),
         };
-        takes_shutdown
+        taken
     }
 
     /// Takes words, four bytes each, written to a register that moves the check and no flag.

@@ -135,7 +135,7 @@ impl ReadBuf {
 
     /// The words gathered since the buffer was made or cleared.
     pub fn words(&self) -> &[u32]
-        ensures now { result.now ≡ self.now.words }
+        ensures value { result.now ≡ self.now.words }
         ensures within_most { HoldsWithinMost self.now.most result.now }
     {
         match &self.room {

@@ -4,7 +4,7 @@ ghost use Rattle.x7_packets.specs.History.{History};
 ghost use Rattle.x7_flow.specs.Standing.{FramesFit, FramesStandFor, HaveDue, read_entry, words_due};
 ghost use Rattle.x7_engine.specs.Readout.{GaveWordsDue, GotAllBut, MayGive};
 ghost use Rattle.x7_engine.specs.ReadBuffer.{HoldsWithinMost, IsFull};
-ghost use Rattle.x7_engine.specs.Ready.{AreReady, HasNoneDueAtStop};
+ghost use Rattle.x7_engine.specs.WordCalls.{MayTakeWords, HasNoneDueAtStop};
 ghost use Rattle.x7_engine.specs.Standing.{due_count};
 ghost use Rattle.x7_engine.specs.Entering.{AreReadBy, EntersAt, OfHistory, change_of, read_entered};
 
@@ -53,11 +53,11 @@ impl Registers {
 
     /// A read of `count` words of a register, which are due from now on.
     pub(crate) fn read(&mut self, part: &Part, register: u8, count: u32)
-        requires ready { AreReady part.now self.old }
-        requires some { 0 < count }
+        requires may_take { MayTakeWords part.now self.old }
+        requires at_least_one { 0 < count }
         ensures none_due_at_stop { HasNoneDueAtStop part.now self.new }
         ensures counts { (n : ℕ) → counted_in self.new.stop n ≡ n }
-        ensures stands { EntersAt (change_of part.now self.old self.new) (read_entered register count) }
+        ensures enters { EntersAt (change_of part.now self.old self.new) (read_entered register count) }
         ensures reads { OfHistory part.now (registers_in self.old) (λ kept h place. AreReadBy part.now kept h (read_entry register count place) self.new.due) }
     {
         if !reads_frames(self.settings(), register, count) {

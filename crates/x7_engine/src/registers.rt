@@ -10,7 +10,7 @@ ghost use Rattle.x7_flow.specs.Settings.{AreSettingsAfter};
 ghost use Rattle.x7_flow.specs.Standing.{FramesFit, FramesStandFor, word_to};
 ghost use Rattle.x7_flow.specs.Words.{TakesWords, count_taken};
 ghost use Rattle.x7_crc.specs.RunningCheck.{executed_after};
-ghost use Rattle.x7_engine.specs.Ready.{AreReady, LeavesBytes, LeavesDue, HasNoneDueAtStop};
+ghost use Rattle.x7_engine.specs.WordCalls.{MayTakeWords, LeavesBytes, LeavesDue, HasNoneDueAtStop};
 ghost use Rattle.x7_engine.specs.Standing.{counted_in, due_count};
 ghost use Rattle.x7_engine.specs.State.{last_counted};
 ghost use Rattle.x7_engine.specs.Stop.{why_by_access, why_by_frames, stop_of_refused};
@@ -116,7 +116,7 @@ impl Registers {
             progress: Progress::new(),
             kind: kept.kind,
             before: kept.before,
-            clock: Clock::new(kept.timer, is_fallback(kept.kind)),
+            clock: Clock::new(kept),
             stop: None,
             due: Due::Nothing,
             frames,
@@ -135,7 +135,7 @@ impl Registers {
         self.progress = Progress::new();
         self.kind = kept.kind;
         self.before = kept.before;
-        self.clock = Clock::new(kept.timer, is_fallback(kept.kind));
+        self.clock = Clock::new(kept);
         self.stop = None;
         self.due = Due::Nothing;
         self.frames.reset();
@@ -213,7 +213,7 @@ impl Registers {
 
     /// Takes a written word: it is folded, then stored, and then come its faults and effects.
     fn write(&mut self, part: &Part, reg: Reg, word: u32)
-        requires ready { AreReady part.now self.old }
+        requires may_take { MayTakeWords part.now self.old }
         ensures { TookWrite (change_of part.now self.old self.new) (number_of reg) word }
     {
         let idcode = part.idcode();
@@ -232,7 +232,7 @@ impl Registers {
 
     /// Takes a word written to a register in which it stays, and is folded.
     fn pass(&mut self, plain: PlainNumber, word: u32)
-        ensures { (part : PartData) → AreReady part self.old → TookWrite (change_of part self.old self.new) plain.register word }
+        ensures { (part : PartData) → MayTakeWords part self.old → TookWrite (change_of part self.old self.new) plain.register word }
     {
         self.progress.pass(plain, word);
         self.words.write(plain.register, word);
@@ -240,7 +240,7 @@ impl Registers {
 
     /// Takes a written word.
     pub(crate) fn write_to(&mut self, part: &Part, target: Target, word: u32)
-        requires ready { AreReady part.now self.old }
+        requires may_take { MayTakeWords part.now self.old }
         ensures { TookWrite (change_of part.now self.old self.new) (target_number target) word }
     {
         match target {
@@ -259,7 +259,7 @@ impl Registers {
         ensures fired { (why : StopCause) → self.new.stop ≡ Some why → (why ≡ StopCause.Fault Fault.Watchdog) × (result < count) }
         ensures due { self.new.due ≡ self.old.due }
         ensures frames { self.new.frames ≡ self.old.frames }
-        ensures stands { Enters (change_of part.now self.old self.new) (λ n h. h) (count - result) }
+        ensures enters { Enters (change_of part.now self.old self.new) (λ n h. h) (count - result) }
     {
         let Some(taken) = self.clock.bytes(part, count) else {
             return 0;
@@ -270,11 +270,11 @@ impl Registers {
 
     /// Takes the last bytes of a payload word, and then the word. Says how many bytes are left.
     fn word(&mut self, part: &Part, target: Target, word: u32, count: usize) -> usize
-        requires ready { AreReady part.now self.old }
+        requires may_take { MayTakeWords part.now self.old }
         ensures left { LeavesBytes count result self.new }
         ensures takes_some { 0 < count → result < count }
         ensures leaves { LeavesDue (change_of part.now self.old self.new) }
-        ensures stands { EntersIf (0 < count) (change_of part.now self.old self.new)
+        ensures enters { EntersIf (0 < count) (change_of part.now self.old self.new)
             (up_to_stop (registers_in self.new) (word_entered (target_number target) word count) (count - result)) (count - result) }
     {
         let left = self.take_bytes(part, count);
@@ -288,7 +288,7 @@ impl Registers {
     /// Takes words written to a register in which they stay, and are folded, up to a byte at which the watchdog fires.
     /// Says how many bytes these are.
     fn pass_all(&mut self, part: &Part, plain: PlainNumber, bytes: &[u8]) -> usize
-        requires ready { AreReady part.now self.old }
+        requires may_take { MayTakeWords part.now self.old }
         requires whole { AreWholeWords bytes.now }
         ensures { TookWords (change_of part.now self.old self.new) plain.register bytes.now result }
     {
@@ -304,7 +304,7 @@ impl Registers {
     /// Takes frame data or copies at once, on a device whose IDCODE was written: the words before the first that is
     /// refused or in which the watchdog fires. Says how many bytes these are.
     fn frame_words(&mut self, part: &Part, reg: Reg, bytes: &[u8]) -> usize
-        requires ready { AreReady part.now self.old }
+        requires may_take { MayTakeWords part.now self.old }
         requires register { TakesWords reg }
         requires has_idcode { self.old.progress.has_idcode ≡ true }
         ensures { TookFirst (change_of part.now self.old self.new) (number_of reg) bytes.now result }
@@ -325,7 +325,7 @@ impl Registers {
 
     /// Takes those of a payload's words that can be taken at once, and says how many bytes these are.
     fn words_at_once(&mut self, part: &Part, reg: Reg, bytes: &[u8]) -> usize
-        requires ready { AreReady part.now self.old }
+        requires may_take { MayTakeWords part.now self.old }
         ensures { TookFirst (change_of part.now self.old self.new) (number_of reg) bytes.now result }
     {
         match reg {
@@ -336,7 +336,7 @@ impl Registers {
 
     /// Takes payload words one by one up to a byte that stops the device, and says how many bytes these are.
     fn words_one_by_one(&mut self, part: &Part, reg: Reg, bytes: &[u8]) -> usize
-        requires ready { AreReady part.now self.old }
+        requires may_take { MayTakeWords part.now self.old }
         requires whole { AreWholeWords bytes.now }
         ensures { TookWords (change_of part.now self.old self.new) (number_of reg) bytes.now result }
     {
@@ -355,7 +355,7 @@ impl Registers {
     /// Takes the payload words of a packet up to a byte that stops the device, and says how many bytes these are.
     #[inline(always)]
     fn body(&mut self, part: &Part, target: Target, bytes: &[u8]) -> usize
-        requires ready { AreReady part.now self.old }
+        requires may_take { MayTakeWords part.now self.old }
         requires whole { AreWholeWords bytes.now }
         ensures { TookWords (change_of part.now self.old self.new) (target_number target) bytes.now result }
     {
@@ -370,11 +370,11 @@ impl Registers {
 
     /// Takes a word in a header's place.
     fn take_step(&mut self, part: &Part, step: Step)
-        requires ready { AreReady part.now self.old }
+        requires may_take { MayTakeWords part.now self.old }
         requires header { IsHeaderStep step }
         ensures none_due_at_stop { HasNoneDueAtStop part.now self.new }
         ensures counts { (n : ℕ) → counted_in self.new.stop n ≡ n }
-        ensures stands { EntersAt (change_of part.now self.old self.new) (λ place h. entered place step h) }
+        ensures enters { EntersAt (change_of part.now self.old self.new) (λ place h. entered place step h) }
         ensures reads { OfHistory part.now (registers_in self.old) (λ kept h place. AreRead part.now kept h (entered place step h) self.new.due) }
     {
         match step {
@@ -387,11 +387,11 @@ impl Registers {
     /// Takes the last bytes of a word in a header's place, and then the word. Says how many bytes are left.
     #[inline(always)]
     fn header(&mut self, part: &Part, step: Step, count: usize) -> usize
-        requires ready { AreReady part.now self.old }
+        requires may_take { MayTakeWords part.now self.old }
         requires header { IsHeaderStep step }
         ensures left { LeavesBytes count result self.new }
         ensures none_due_at_stop { HasNoneDueAtStop part.now self.new }
-        ensures stands { EntersIf (0 < count) (change_of part.now self.old self.new)
+        ensures enters { EntersIf (0 < count) (change_of part.now self.old self.new)
             (up_to_stop (registers_in self.new) (step_entered step count) (count - result)) (count - result) }
         ensures reads { ReadsIf (0 < count) (change_of part.now self.old self.new) (up_to_stop (registers_in self.new) (step_entered step count) (count - result)) }
     {
@@ -407,13 +407,13 @@ impl Registers {
     /// Says how many of the last bytes are left.
     #[inline(always)]
     pub(crate) fn run(&mut self, part: &Part, run: Cut<'_>, count: usize) -> usize
-        requires ready { AreReady part.now self.old }
+        requires may_take { MayTakeWords part.now self.old }
         requires run { IsRun run }
         requires holds { HoldsRun run count }
         ensures left { LeavesBytes count result self.new }
         ensures no_word_due { HasNoWord run.entry → due_count self.new.due ≡ 0 }
         ensures none_due_at_stop { HasNoneDueAtStop part.now self.new }
-        ensures stands { RunEnters run.entry count (change_of part.now self.old self.new) (count - result) }
+        ensures enters { RunEnters run.entry count (change_of part.now self.old self.new) (count - result) }
         ensures reads { RunReads run.entry count (change_of part.now self.old self.new) (count - result) }
     {
         match run {

@@ -48,7 +48,7 @@ impl SavedRegisters {
             progress: Progress::new(),
             kind: Kind::Bench,
             before: None,
-            clock: Clock::new(0, false),
+            clock: Clock::new(&ON_THE_BENCH),
             stop: None,
             due: Due::Nothing,
         }
@@ -74,11 +74,11 @@ impl Registers {
         }
     }
 
-    /// Takes the registers back: their values to the kept ones, their frames by what is kept of those.
+    /// Takes the registers back: their values to the saved ones, their frames by what is saved of those.
     pub(crate) fn restore(&mut self, part: &Part, values: &SavedRegisters, frames: &Saved)
         requires frames { FramesFit part.now self.old.frames }
         requires saved { IsSavedOf part.now frames.now }
-        ensures back { (kept : RegistersState) → saved_registers_in values.now ≡ without_frames kept → FramesBack part.now frames.now self.old.frames kept.frames → registers_in self.new ≡ kept }
+        ensures back { (old : RegistersState) → saved_registers_in values.now ≡ without_frames old → FramesBack part.now frames.now self.old.frames old.frames → registers_in self.new ≡ old }
         ensures frames { FramesFit part.now self.new.frames }
     {
         self.words = values.words;

@@ -11,7 +11,7 @@ use Rattle.x7_flow.specs.Settings.{Settings, command_code_after, settings_from}
 use Rattle.x7_flow.specs.Flow.{Flow, asked_under, flow_by, write_asked}
 use Rattle.x7_flow.specs.FrameMemory.{puts}
 use Rattle.x7_flow.specs.Later.{flow_from, flow_loaded, pairs_from, pairs_loaded}
-use Rattle.x7_flow.specs.Alike.{AreSameButForMask, MasksFirst, sets_mask}
+use Rattle.x7_flow.specs.Alike.{AreSameButForMask, WritesMaskBeforeCtl0, sets_mask}
 
 -- ---- settings
 
@@ -33,7 +33,7 @@ mask_same (Write r w) b m n p e = by (r == 6) e
 mask_same (Read r count) b m n p e = p e
 mask_same (Bad w) b m n p e = p e
 
-pub settings_alike : (idcode : ℕ) (s t : Settings) (later : History) → AreSameButForMask s t → MasksFirst later →
+pub settings_alike : (idcode : ℕ) (s t : Settings) (later : History) → AreSameButForMask s t → WritesMaskBeforeCtl0 later →
     AreSameButForMask (settings_from idcode s later) (settings_from idcode t later) × (sets_mask later ≡ true → (settings_from idcode s later).mask ≡ (settings_from idcode t later).mask)
 unfolding settings_from
 settings_alike idcode s t [] a m = (a, λ e. absurd cc)
@@ -61,7 +61,7 @@ asked_alike s t (Read r count) a =
     ap (λ (c : ℕ). by c s.command_code) a.ctl0_same ∙ ap (λ (d : ℕ). by t.ctl0 d) a.command_code_same
 asked_alike s t (Bad w) a = refl
 
-pub flow_alike : (part : PartData) (s t : Settings) (f : Flow) (later : History) → AreSameButForMask s t → MasksFirst later → flow_from part s f later ≡ flow_from part t f later
+pub flow_alike : (part : PartData) (s t : Settings) (f : Flow) (later : History) → AreSameButForMask s t → WritesMaskBeforeCtl0 later → flow_from part s f later ≡ flow_from part t f later
 unfolding flow_from
 flow_alike part s t f [] a m = refl
 flow_alike part s t f (e ∷ later) a m =
@@ -70,7 +70,7 @@ flow_alike part s t f (e ∷ later) a m =
     ap (λ (q : Asked). flow_by part q (flow_from part s f later)) (asked_alike x y e.access (settings_alike part.idcode s t later a m.1).0)
     ∙ ap (flow_by part (asked_under y e.access)) (flow_alike part s t f later a m.1)
 
-pub pairs_alike : (part : PartData) (s t : Settings) (f : Flow) (later : History) → AreSameButForMask s t → MasksFirst later → pairs_from part s f later ≡ pairs_from part t f later
+pub pairs_alike : (part : PartData) (s t : Settings) (f : Flow) (later : History) → AreSameButForMask s t → WritesMaskBeforeCtl0 later → pairs_from part s f later ≡ pairs_from part t f later
 unfolding pairs_from
 pairs_alike part s t f [] a m = refl
 pairs_alike part s t f (e ∷ later) a m =
@@ -80,7 +80,7 @@ pairs_alike part s t f (e ∷ later) a m =
     ∙ ap (λ (g : Flow). puts part (asked_under y e.access) g ++ pairs_from part s f later) (flow_alike part s t f later a m.1)
     ∙ ap (λ (ps : List PlanRow). puts part (asked_under y e.access) (flow_from part t f later) ++ ps) (pairs_alike part s t f later a m.1)
 
-pub loaded_alike : (part : PartData) (s t : Settings) (source : Option (List ℕ)) (w : ℕ) (later : History) → AreSameButForMask s t → MasksFirst later → pairs_loaded part s source w later ≡ pairs_loaded part t source w later
+pub loaded_alike : (part : PartData) (s t : Settings) (source : Option (List ℕ)) (w : ℕ) (later : History) → AreSameButForMask s t → WritesMaskBeforeCtl0 later → pairs_loaded part s source w later ≡ pairs_loaded part t source w later
 loaded_alike part s t source w later a m =
     ap (λ (held : ℕ). pairs_from part s (record { command = command_with held; base = loaded_base part w; run = []; source = source; given = 0 }) later) a.command_code_same
     ∙ pairs_alike part s t (flow_loaded part t source w) later a m

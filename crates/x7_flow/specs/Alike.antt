@@ -17,6 +17,6 @@ sets_mask [] = false
 sets_mask (e ∷ h) = writes (number_of reg.Mask) e.access || sets_mask h
 
 -- at each word of CTL0 some earlier access wrote MASK
-abbrev pub MasksFirst : History → Type 0
-MasksFirst [] = Unit {0}
-MasksFirst (e ∷ h) = (writes (number_of reg.Ctl0) e.access ≡ true → sets_mask h ≡ true) × MasksFirst h
+abbrev pub WritesMaskBeforeCtl0 : History → Type 0
+WritesMaskBeforeCtl0 [] = Unit {0}
+WritesMaskBeforeCtl0 (e ∷ h) = (writes (number_of reg.Ctl0) e.access ≡ true → sets_mask h ≡ true) × WritesMaskBeforeCtl0 h

@@ -10,7 +10,7 @@ ghost use Rattle.x7_pipeline.specs.Flow.{LandsAt, after_words};
 ghost use Rattle.x7_pipeline.specs.Runs.{written_frames, onto};
 ghost use Rattle.x7_pipeline.specs.Saved.{SavedState};
 ghost use Rattle.x7_pipeline.specs.declared.fault.RunFault.{RunFault};
-ghost use Rattle.x7_flow.specs.Alike.{AreSameButForMask, MasksFirst};
+ghost use Rattle.x7_flow.specs.Alike.{AreSameButForMask, WritesMaskBeforeCtl0};
 ghost use Rattle.x7_flow.specs.Flow.{Flow, HasAddress, asks, base_of, begins_stretch, far_read, flow_of, frame_fault, count_given, is_copy, is_read, is_word, run_of, source_of};
 ghost use Rattle.x7_flow.specs.FrameAccess.{copies_frame, reads_frame_data, writes_frame_data};
 ghost use Rattle.x7_flow.specs.FrameMemory.{written_frames_more, memory_of};
@@ -113,7 +113,7 @@ pub fn later_histories_join()
     ensures settings { (idcode : ℕ) (s : Settings) (later middle : History) → settings_from idcode s (later ++ middle) ≡ settings_from idcode (settings_from idcode s middle) later }
     ensures flow { (x : Start) (later middle : History) → flow_on x (later ++ middle) ≡ flow_on (start_on x middle) later }
     ensures pairs { (x : Start) (later middle : History) → pairs_on x (later ++ middle) ≡ pairs_on (start_on x middle) later ++ pairs_on x middle }
-    ensures same_but_for_mask { (part : PartData) (s t : Settings) (source : Option (List ℕ)) (w : ℕ) (h : History) → AreSameButForMask s t → MasksFirst h →
+    ensures same_but_for_mask { (part : PartData) (s t : Settings) (source : Option (List ℕ)) (w : ℕ) (h : History) → AreSameButForMask s t → WritesMaskBeforeCtl0 h →
         pairs_loaded part s source w h ≡ pairs_loaded part t source w h }
     ensures without_source { (part : PartData) (later earlier : History) (w place : ℕ) → has_mfw earlier ≡ false →
         MemoryGets part (later ++ after_load w place earlier) earlier (pairs_alone part earlier w later) }

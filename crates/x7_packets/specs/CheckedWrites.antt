@@ -22,6 +22,6 @@ with_write (Write r w) writes = if r == number_of Lout then writes else record {
 with_write _ writes = writes
 
 -- the writes since the last clearing access, the newest first
-abbrev pub open_writes : History → List RegisterWrite
-open_writes [] = []
-open_writes (e ∷ h) = if clears h e.access then [] else with_write e.access (open_writes h)
+abbrev pub checked_writes : History → List RegisterWrite
+checked_writes [] = []
+checked_writes (e ∷ h) = if clears h e.access then [] else with_write e.access (checked_writes h)

@@ -4,7 +4,7 @@ ghost use Rattle.x7_packets.specs.ByHand.{packets_of, reading_of};
 ghost use Rattle.x7_packets.specs.Examples.{bad, bad_at, desync, desynced, filler, in_session, nop, opened, opening, read, read_at, reading_of_place, session_with, synced, then_gap, session_with_tail, write_at, write_of, write_packet};
 ghost use Rattle.x7_packets.specs.History.{executed, history_of};
 ghost use Rattle.x7_packets.specs.Reading.{Searching, Synced};
-ghost use Rattle.x7_packets.specs.CheckedWrites.{open_writes};
+ghost use Rattle.x7_packets.specs.CheckedWrites.{checked_writes};
 
 /// Where the sync word is found.
 pub fn examples_of_the_search()
@@ -60,7 +60,7 @@ pub fn examples_of_the_history()
     ensures sessions { history_of (0xFF ∷ synced (desync ++ 0xAA995566 ∷ 0x30002001 ∷ 5 ∷ 0x28006002 ∷ 0xE0000000 ∷ []))
         ≡ bad_at 0xE0000000 33 ∷ read_at 3 2 29 ∷ write_at 1 5 25 ∷ write_at 4 13 13 ∷ [] }
     ensures desync_once { executed (history_of (0xFF ∷ synced (desync ++ 0xAA995566 ∷ 0x30002001 ∷ 5 ∷ []))) ≡ 13 ∷ [] }
-    ensures cleared { open_writes (history_of (synced (0x30008001 ∷ 7 ∷ 0x30002001 ∷ 0 ∷ []))) ≡ [] }
-    ensures still_open { open_writes (history_of (synced (0x30008001 ∷ 7 ∷ 0x30018001 ∷ 9 ∷ 0x30010001 ∷ 1 ∷ 0x30008001 ∷ 1 ∷ [])))
+    ensures cleared { checked_writes (history_of (synced (0x30008001 ∷ 7 ∷ 0x30002001 ∷ 0 ∷ []))) ≡ [] }
+    ensures not_cleared { checked_writes (history_of (synced (0x30008001 ∷ 7 ∷ 0x30018001 ∷ 9 ∷ 0x30010001 ∷ 1 ∷ 0x30008001 ∷ 1 ∷ [])))
         ≡ write_of 4 1 ∷ write_of 12 9 ∷ [] }
 {}

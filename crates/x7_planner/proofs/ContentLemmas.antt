@@ -13,7 +13,7 @@ use Rattle.std.proofs.lemmas.List.{get_or-take, get_or-drop, get_or-map, get_or_
 use Rattle.std.proofs.lemmas.List.Elements.{Contains-get_or}
 use Rattle.std.proofs.lemmas.List.Sorted.{sorted_far, ranks_by, All-permutation, Contains-permutation, IsPermutation-map}
 use Rattle.x7_memory.specs.Plan.{PlanRow}
-use Rattle.x7_planner.specs.Content.{AreFirsts, AreGrouped, AreStarts, AreTogether, IsStartBefore, IsFirst, IsPlaced, planned_row, planned_rows}
+use Rattle.x7_planner.specs.Content.{AreFirsts, AreFramesByContent, AreStarts, AreTogether, IsStartBefore, IsFirst, IsPlaced, planned_row, planned_rows}
 use Rattle.x7_planner.specs.PartialStream.{same_words, with_content}
 use Rattle.x7_planner.specs.declared.content.PlannedFrame.{PlannedFrame}
 
@@ -205,7 +205,7 @@ row_there (c ∷ frames) i p l =
     (Contains-get_or (map (λ (c : PlannedFrame). c.row) (c ∷ frames)) i 0 (omega (arith, l, length-map (c ∷ frames) (λ (c : PlannedFrame). c.row))))
 
 pub grouped_is : (rows : List PlanRow) (old new : List PlannedFrame) → planned_rows old ≡ rows → ((k : ℕ) (d : PlannedFrame) → k < length old → (get_or old k d).row ≡ k) → IsPermutation old new → IsSortedBy by_words new → IsStableBy by_words old new
-    → AreGrouped rows new
+    → AreFramesByContent rows new
 grouped_is rows old new e p m s t =
     let long : length rows ≡ length old = ap length (sym e) ∙ length-map old planned_row in
     record {
@@ -306,7 +306,7 @@ place_other rows words firsts a k d t m f l n e =
 pub record StartsUpTo (rows : List PlanRow) (frames : List PlannedFrame) (starts : List ℕ) (k : ℕ) : Type 0 where
   pub done : (j : ℕ) (d : PlannedFrame) (e : PlanRow) → j < k → IsFirst (planned_rows frames) (get_or rows (get_or frames j d).row e).words (get_or starts (get_or frames j d).row 0)
 
-pub starts_more : (rows : List PlanRow) (frames : List PlannedFrame) (starts : List ℕ) (k s : ℕ) (c : PlannedFrame) → AreGrouped rows frames → StartsUpTo rows frames starts k → length starts ≡ length rows → k < length frames
+pub starts_more : (rows : List PlanRow) (frames : List PlannedFrame) (starts : List ℕ) (k s : ℕ) (c : PlannedFrame) → AreFramesByContent rows frames → StartsUpTo rows frames starts k → length starts ≡ length rows → k < length frames
     → c ≡ get_or frames k c → ((d : PlanRow) → IsFirst (planned_rows frames) (get_or (planned_rows frames) k d).words s) → StartsUpTo rows frames (set starts c.row s) (k + 1)
 starts_more rows frames starts k s c g u n l r f = record {
   done = (λ j d e h. at j d e h (cases_eq j k));
@@ -326,7 +326,7 @@ starts_more rows frames starts k s c g u n l r f = record {
       | inr differs ↦ rw (get_or-set_other starts c.row (get_or frames j d).row s 0 differs) (u.done j d e (omega (arith, h, other)))
     ]
 
-pub starts_step : (rows : List PlanRow) (frames : List PlannedFrame) (starts firsts : List ℕ) (k x : ℕ) (e : PlannedFrame) → AreGrouped rows frames → AreFirsts (planned_rows frames) firsts → StartsUpTo rows frames starts k → length starts ≡ length rows → k < length frames
+pub starts_step : (rows : List PlanRow) (frames : List PlannedFrame) (starts firsts : List ℕ) (k x : ℕ) (e : PlannedFrame) → AreFramesByContent rows frames → AreFirsts (planned_rows frames) firsts → StartsUpTo rows frames starts k → length starts ≡ length rows → k < length frames
     → StartsUpTo rows frames (set starts (get_or frames k e).row (get_or firsts k x)) (k + 1)
 starts_step rows frames starts firsts k x e g m u n l =
     let inside : k < length (planned_rows frames) = omega (arith, l, length-map frames planned_row) in
@@ -334,7 +334,7 @@ starts_step rows frames starts firsts k x e g m u n l =
     starts_more rows frames starts k (get_or firsts k x) (get_or frames k e) g u n l (get_or_default frames k e (get_or frames k e) l)
     (λ d. subst (λ (i : ℕ). IsFirst (planned_rows frames) (get_or (planned_rows frames) k d).words i) known (m.each k d inside))
 
-pub starts_all : (rows : List PlanRow) (frames : List PlannedFrame) (starts : List ℕ) (k : ℕ) → AreGrouped rows frames → StartsUpTo rows frames starts k → length starts ≡ length rows → length frames ≤ k → AreStarts rows (planned_rows frames) starts
+pub starts_all : (rows : List PlanRow) (frames : List PlannedFrame) (starts : List ℕ) (k : ℕ) → AreFramesByContent rows frames → StartsUpTo rows frames starts k → length starts ≡ length rows → length frames ≤ k → AreStarts rows (planned_rows frames) starts
 starts_all rows frames starts k g u n l = record {
   count = n;
   each = (λ i d h. at i d (g.each i h));

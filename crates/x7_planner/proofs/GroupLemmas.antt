@@ -10,7 +10,7 @@ use Rattle.x7_part.specs.Part.{PartData, frame_words}
 use Rattle.x7_regs.specs.declared.command.Command.TheVariants.{Mfw, Wcfg}
 use Rattle.x7_regs.specs.declared.register.Reg.TheVariants.{Far}
 use Rattle.x7_packets.specs.PacketWords.{command, frame_data_headers, write_one}
-use Rattle.x7_planner.specs.Content.{AreFirsts, AreGrouped, AreStarts, AreTogether, IsFirst, planned_row, planned_rows}
+use Rattle.x7_planner.specs.Content.{AreFirsts, AreFramesByContent, AreStarts, AreTogether, IsFirst, planned_row, planned_rows}
 use Rattle.x7_planner.specs.PartialStream.{Copies, copy_words, groups_led, is_shared, leads_group, others, section_words, with_content}
 use Rattle.x7_planner.specs.Writer.{bytes_of_words}
 use Rattle.x7_planner.specs.declared.content.PlannedFrame.{PlannedFrame}
@@ -83,7 +83,7 @@ first_at rows frames starts i d e r s l at =
 pub inside_at : (frames : List PlannedFrame) (words : List ℕ) (a : ℕ) → IsFirst (planned_rows frames) words a → a < length frames
 inside_at frames words a f = let i = f.inside in omega (arith, i, length-map frames planned_row)
 
-pub same_content : (rows : List PlanRow) (frames : List PlannedFrame) (words : List ℕ) (a : ℕ) → AreGrouped rows frames → IsFirst (planned_rows frames) words a → with_content words (planned_rows frames) ≡ with_content words rows
+pub same_content : (rows : List PlanRow) (frames : List PlannedFrame) (words : List ℕ) (a : ℕ) → AreFramesByContent rows frames → IsFirst (planned_rows frames) words a → with_content words (planned_rows frames) ≡ with_content words rows
 same_content rows [] words a g f = absurd (let i = f.inside in omega (arith, i))
 same_content rows (c ∷ frames) words a g f =
     let l : a < length (c ∷ frames) = inside_at (c ∷ frames) words a f in
@@ -100,7 +100,7 @@ others_append all (x ∷ xs) ys = by (is_shared all x) (others_append all xs ys)
     by true ih = ih
     by false ih = ap (λ t. x ∷ t) ih
 
-pub other_more : (rows : List PlanRow) (frames old new : List PlannedFrame) (a n : ℕ) (c : PlannedFrame) (d : PlanRow) (b : Bool) → AreGrouped rows frames → IsFirst (planned_rows frames) c.words.now a → n < length rows → get_or rows n d ≡ planned_row c
+pub other_more : (rows : List PlanRow) (frames old new : List PlannedFrame) (a n : ℕ) (c : PlannedFrame) (d : PlanRow) (b : Bool) → AreFramesByContent rows frames → IsFirst (planned_rows frames) c.words.now a → n < length rows → get_or rows n d ≡ planned_row c
     → b ≡ nat_le 3 (length (with_content c.words.now (planned_rows frames))) → planned_rows old ≡ others rows (take n rows) → new ≡ (if b then old else old ++ c ∷ []) → planned_rows new ≡ others rows (take (n + 1) rows)
 other_more rows frames old new a n c d b g f l at e h m =
     ap planned_rows m ∙ by b (e ∙ ap (λ t. nat_le 3 (length t)) (same_content rows frames c.words.now a g f))
@@ -126,7 +126,7 @@ pub same_led : (rows others : List PlanRow) (r : PlanRow) → with_content r.wor
 same_led rows others r e =
     ap (λ t. if nat_le 3 (length t) && (get_or (planned_addresses t) 0 0 == r.far) then Copies r.words (planned_addresses t) ∷ [] else []) e
 
-pub group_more : (part : PartData) (rows : List PlanRow) (frames : List PlannedFrame) (old mid new : List ℕ) (a n : ℕ) (r : PlanRow) (d : PlanRow) → AreGrouped rows frames → IsFirst (planned_rows frames) r.words a → n < length rows → get_or rows n d ≡ r
+pub group_more : (part : PartData) (rows : List PlanRow) (frames : List PlannedFrame) (old mid new : List ℕ) (a n : ℕ) (r : PlanRow) (d : PlanRow) → AreFramesByContent rows frames → IsFirst (planned_rows frames) r.words a → n < length rows → get_or rows n d ≡ r
     → mid ≡ old ++ bytes_of_words (flat_map (section_words part) (groups_led rows (take n rows))) → new ≡ mid ++ bytes_of_words (flat_map (section_words part) (groups_led (planned_rows frames) (r ∷ [])))
     → new ≡ old ++ bytes_of_words (flat_map (section_words part) (groups_led rows (take (n + 1) rows)))
 group_more part rows frames old mid new a n r d g f l at e h =

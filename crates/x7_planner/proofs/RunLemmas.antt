@@ -41,8 +41,8 @@ begins part s rows = by (runs_of part rows) refl
     by ((r ∷ run) ∷ runs) h = test r run runs (follows part s.far r.far) refl h
 
 pub first_run : (part : PartData) (rows : List PlanRow) (count : ℕ) → IsRunLength part rows count → runs_of part rows ≡ take count rows ∷ runs_of part (drop count rows)
-first_run part [] count l = absurd (let a = l.some in let b = l.inside in omega (arith, a, b))
-first_run part (r ∷ rows) zero l = absurd (let a = l.some in omega (arith, a))
+first_run part [] count l = absurd (let a = l.at_least_one in let b = l.inside in omega (arith, a, b))
+first_run part (r ∷ rows) zero l = absurd (let a = l.at_least_one in omega (arith, a))
 first_run part (r ∷ []) (suc zero) l = refl
 first_run part (r ∷ []) (suc (suc k)) l = absurd (let b = l.inside in omega (arith, b))
 first_run part (r ∷ s ∷ rows) (suc zero) l =
@@ -52,7 +52,7 @@ first_run part (r ∷ s ∷ rows) (suc zero) l =
 first_run part (r ∷ s ∷ rows) (suc (suc k)) l =
     let inside : suc (suc k) ≤ length (r ∷ s ∷ rows) = l.inside in
     let rest : IsRunLength part (s ∷ rows) (suc k) = record {
-      some = omega arith;
+      at_least_one = omega arith;
       inside = omega (arith, inside);
       joined = (λ j d h. let next : suc (j + 1) ≡ suc j + 1 = omega arith in ap (λ (i : ℕ). follows part (get_or (s ∷ rows) j d).far (get_or (r ∷ s ∷ rows) i d).far) next ∙ l.joined (suc j) d (omega (arith, h)));
       ends = (λ d h. let back : suc (suc k - 1) ≡ suc (suc k) - 1 = omega arith in ap (λ (i : ℕ). follows part (get_or (r ∷ s ∷ rows) i d).far (get_or (s ∷ rows) (suc k) d).far) back ∙ l.ends d (omega (arith, h)));
@@ -64,7 +64,7 @@ pub run_found : (part : PartData) (frames : List PlannedFrame) (k : ℕ) (e : Pl
     → ((j : ℕ) (d : PlanRow) → j + 1 < k → follows part (get_or (planned_rows frames) j d).far (get_or (planned_rows frames) (j + 1) d).far ≡ true)
     → b ≡ follows part (get_or frames (k - 1) e).far (get_or frames k e).far → b ≡ false → IsRunLength part (planned_rows frames) k
 run_found part frames k e b l h j s y = record {
-  some = omega (arith, l);
+  at_least_one = omega (arith, l);
   inside = omega (arith, h, length-map frames planned_row);
   joined = j;
   ends = (λ d m. ap (λ (r : PlanRow). follows part r.far (get_or (planned_rows frames) k d).far) (row_at frames (k - 1) d e (omega (arith, h)))
@@ -87,7 +87,7 @@ run_more part frames k e b l h p s y j d m = elim (cases_eq (j + 1) k) [
 pub run_whole : (part : PartData) (frames : List PlannedFrame) (k : ℕ) → 0 < length frames → length frames ≤ k → k ≤ length frames
     → ((j : ℕ) (d : PlanRow) → j + 1 < k → follows part (get_or (planned_rows frames) j d).far (get_or (planned_rows frames) (j + 1) d).far ≡ true) → IsRunLength part (planned_rows frames) (length frames)
 run_whole part frames k l h m p = record {
-  some = l;
+  at_least_one = l;
   inside = omega (arith, length-map frames planned_row);
   joined = (λ j d n. p j d (omega (arith, n, h)));
   ends = (λ d n. absurd (omega (arith, n, length-map frames planned_row)));

@@ -14,6 +14,10 @@ planned_row c = record { far = c.far; words = c.words.now }
 abbrev pub planned_rows : List PlannedFrame → List PlanRow
 planned_rows frames = map planned_row frames
 
+-- the rows of a plan's frames in the order by content
+abbrev pub rows_by_content : ByContent → List PlanRow
+rows_by_content b = planned_rows b.frames.now
+
 -- rows with equal words stand together
 abbrev pub AreTogether : List PlanRow → Type 0
 AreTogether rows = (i k j : ℕ) (d : PlanRow) → i ≤ k → k ≤ j → j < length rows
@@ -24,7 +28,7 @@ abbrev pub IsPlaced : List PlanRow → PlannedFrame → Type 0
 IsPlaced rows c = (c.row < length rows) × ((d : PlanRow) → slice_index_or rows c.row d ≡ planned_row c)
 
 -- the frames of all rows of a plan: equal ones together, and these in the plan's order
-pub record AreGrouped (rows : List PlanRow) (frames : List PlannedFrame) : Type 0 where
+pub record AreFramesByContent (rows : List PlanRow) (frames : List PlannedFrame) : Type 0 where
   pub together : AreTogether (planned_rows frames)
   pub same : All (λ c. with_content c.words.now (planned_rows frames) ≡ with_content c.words.now rows) frames
   pub placed : All (IsPlaced rows) frames
@@ -47,15 +51,15 @@ pub record AreFirsts (rows : List PlanRow) (firsts : List ℕ) : Type 0 where
   pub count : length firsts ≡ length rows
   pub each : (k : ℕ) (d : PlanRow) → k < length rows → IsFirst rows (slice_index_or rows k d).words (slice_index_or firsts k 0)
 
--- for each row of the plan `starts` has the first place of its words among the grouped rows
-pub record AreStarts (rows grouped : List PlanRow) (starts : List ℕ) : Type 0 where
+-- for each row of the plan `starts` has the first place of its words among the rows by content
+pub record AreStarts (rows by_content : List PlanRow) (starts : List ℕ) : Type 0 where
   pub count : length starts ≡ length rows
-  pub each : (i : ℕ) (d : PlanRow) → i < length rows → IsFirst grouped (slice_index_or rows i d).words (slice_index_or starts i 0)
+  pub each : (i : ℕ) (d : PlanRow) → i < length rows → IsFirst by_content (slice_index_or rows i d).words (slice_index_or starts i 0)
 
 -- a plan's frames by content: equal ones stand together, and it is known where the content of each frame, and of each
 -- row of the plan, begins
 pub record AreByContent (rows : List PlanRow) (b : ByContent) : Type 0 where
-  pub grouped : AreGrouped rows b.frames.now
+  pub frames : AreFramesByContent rows b.frames.now
   pub firsts : AreFirsts (planned_rows b.frames.now) b.firsts.now
   pub starts : AreStarts rows (planned_rows b.frames.now) b.starts.now
 

@@ -20,7 +20,7 @@ pub record IsFirstForeign (part : PartData) (rows : List PlanRow) (address : ℕ
 -- n slots can be read from an address: at least one, and no more than there are
 pub record CanRead (part : PartData) (address n : ℕ) : Type 0 where
   pub has : Contains (addresses_in part) address
-  pub some : 0 < n
+  pub at_least_one : 0 < n
   pub within : n ≤ length (from address (slots_in part))
 
 -- n slots can't be read from an address of the part: n is 0, or more than there are

@@ -31,6 +31,10 @@ abbrev pub with_content : List ℕ → List PlanRow → List PlanRow
 with_content words [] = []
 with_content words (r ∷ rows) = if same_words r.words words then r ∷ with_content words rows else with_content words rows
 
+-- the addresses that have a content, in the order of the rows
+abbrev pub addresses_with : List ℕ → List PlanRow → List ℕ
+addresses_with words rows = planned_addresses (with_content words rows)
+
 -- how many addresses a content has at least that is written once and copied
 abbrev pub group_least : ℕ
 group_least = 3
@@ -45,13 +49,13 @@ is_shared all r = are_shared all r.words
 
 -- a row's content stands at `group_least` addresses or more, and the row is the first of them
 abbrev pub leads_group : List PlanRow → PlanRow → Bool
-leads_group all r = is_shared all r && (slice_index (planned_addresses (with_content r.words all)) 0 == r.far)
+leads_group all r = is_shared all r && (slice_index (addresses_with r.words all) 0 == r.far)
 
 -- the groups that these rows lead, in order
 abbrev pub groups_led : List PlanRow → List PlanRow → List Section
 groups_led all [] = []
 groups_led all (r ∷ rows) =
-    if leads_group all r then Copies r.words (planned_addresses (with_content r.words all)) ∷ groups_led all rows else groups_led all rows
+    if leads_group all r then Copies r.words (addresses_with r.words all) ∷ groups_led all rows else groups_led all rows
 
 -- the rows whose content stands at fewer than `group_least` addresses
 abbrev pub others : List PlanRow → List PlanRow → List PlanRow
@@ -81,7 +85,7 @@ runs_of part (r ∷ rows) = with_row part r (runs_of part rows)
 
 -- the longest run that rows begin with has `count` of them: each follows the one before it, and the next one doesn't
 pub record IsRunLength (part : PartData) (rows : List PlanRow) (count : ℕ) : Type 0 where
-  pub some : 0 < count
+  pub at_least_one : 0 < count
   pub inside : count ≤ length rows
   pub joined : (k : ℕ) (d : PlanRow) → k + 1 < count → follows part (slice_index_or rows k d).far (slice_index_or rows (k + 1) d).far ≡ true
   pub ends : (d : PlanRow) → count < length rows → follows part (slice_index_or rows (count - 1) d).far (slice_index_or rows count d).far ≡ false
@@ -109,6 +113,10 @@ section_words part (Rows rows) =
 -- what a partial stream begins with, before the groups
 abbrev pub partial_opening : PartData → List ℕ
 partial_opening part = opening_words ++ (command Rcrc ++ (no_op ∷ write_one Idcode part.idcode))
+
+-- the words of the groups that rows lead among all rows of a plan
+abbrev pub groups_words : PartData → List PlanRow → List PlanRow → List ℕ
+groups_words part all rows = flat_map (section_words part) (groups_led all rows)
 
 -- the words of the longest runs of rows
 abbrev pub runs_words : PartData → List PlanRow → List ℕ

@@ -1,7 +1,7 @@
 //! A plan's frames by content: equal ones together, and where each content begins.
 ghost use Rattle.std.specs.Prelude.{◌≡◌, ℕ, ◌<◌, ◌≤◌, length, slice_index_or, IfOk};
 ghost use Rattle.x7_memory.specs.Plan.{PlanRow};
-ghost use Rattle.x7_planner.specs.Content.{AreFirsts, AreGrouped, AreStarts, IsStartBefore, IsFirst, planned_rows};
+ghost use Rattle.x7_planner.specs.Content.{AreFirsts, AreFramesByContent, AreStarts, IsStartBefore, IsFirst, planned_rows};
 ghost use Rattle.x7_planner.specs.PartialStream.{same_words};
 
 use std::alloc::{AllocError, Global};
@@ -53,7 +53,7 @@ pub(crate) fn frames_by_content(
     alloc: Global,
     plan: &Plan,
 ) -> Result<Vec<PlannedFrame<'_>>, AllocError>
-    ensures { IfOk result (λ frames. AreGrouped plan.now.rows frames.items) }
+    ensures { IfOk result (λ frames. AreFramesByContent plan.now.rows frames.items) }
 {
     let mut frames = frames_of(alloc, plan)?;
     frames.sort_by(|a, b| a.words.cmp(b.words))?;
@@ -94,7 +94,7 @@ pub(crate) fn starts_of(
     frames: &[PlannedFrame],
     firsts: &[usize],
 ) -> Result<Vec<usize>, AllocError>
-    requires frames { AreGrouped plan.now.rows frames.now }
+    requires frames { AreFramesByContent plan.now.rows frames.now }
     requires firsts { AreFirsts (planned_rows frames.now) firsts.now }
     ensures { IfOk result (λ starts. AreStarts plan.now.rows (planned_rows frames.now) starts.items) }
 {

@@ -1,9 +1,8 @@
 //! Contents at three addresses or more, which are written once and copied.
-ghost use Rattle.std.specs.Prelude.{◌≡◌, ◌==◌, ◌&&◌, ◌<◌, ◌++◌, if◌then◌else◌, [], ◌∷◌, slice_index, IfOk, OnOk};
+ghost use Rattle.std.specs.Prelude.{◌≡◌, ◌++◌, if◌then◌else◌, [], ◌∷◌, IfOk, OnOk};
 ghost use Rattle.std.specs.List.{flat_map};
-ghost use Rattle.x7_memory.specs.Plan.{planned_addresses};
-ghost use Rattle.x7_planner.specs.Content.{AreByContent, BeginsAt, planned_rows};
-ghost use Rattle.x7_planner.specs.PartialStream.{are_shared, copy_words, groups_led, others, section_words, with_content, Copies};
+ghost use Rattle.x7_planner.specs.Content.{AreByContent, BeginsAt, planned_rows, rows_by_content};
+ghost use Rattle.x7_planner.specs.PartialStream.{addresses_with, are_shared, copy_words, groups_words, leads_group, others, section_words, Copies};
 ghost use Rattle.x7_planner.specs.Writer.{with_piece, Words};
 
 use crate::content::{ByContent, PlannedFrame};
@@ -21,7 +20,7 @@ const GROUP_LEAST: usize = 3;
 /// Whether the content that begins at `start` stands at three addresses or more.
 fn are_shared(by_content: &ByContent<'_>, start: usize, _words: &[u32]) -> bool
     requires { BeginsAt by_content.now _words.now start }
-    ensures { result ≡ are_shared (planned_rows by_content.now.frames.now) _words.now }
+    ensures { result ≡ are_shared (rows_by_content by_content.now) _words.now }
 {
     if by_content.frames.len() - start < GROUP_LEAST {
         return false;
@@ -32,7 +31,7 @@ fn are_shared(by_content: &ByContent<'_>, start: usize, _words: &[u32]) -> bool
 /// Whether the row at an address is the first of three or more with its content, which begins at `start`.
 fn leads_group(by_content: &ByContent<'_>, start: usize, far: u32, words: &[u32]) -> bool
     requires { BeginsAt by_content.now words.now start }
-    ensures { result ≡ (are_shared (planned_rows by_content.now.frames.now) words.now && (slice_index (planned_addresses (with_content words.now (planned_rows by_content.now.frames.now))) 0 == far)) }
+    ensures { result ≡ leads_group (rows_by_content by_content.now) record { far = far; words = words.now } }
 {
     if !are_shared(by_content, start, words) {
         return false;
@@ -48,7 +47,7 @@ fn put_copies(
     _words: &[u32],
 ) -> Result<(), NoMemory>
     requires { BeginsAt by_content.now _words.now start }
-    ensures { OnOk result (writer.new ≡ with_piece writer.old (Words (flat_map copy_words (planned_addresses (with_content _words.now (planned_rows by_content.now.frames.now)))))) }
+    ensures { OnOk result (writer.new ≡ with_piece writer.old (Words (flat_map copy_words (addresses_with _words.now (rows_by_content by_content.now))))) }
 {
     for k in start..by_content.frames.len() {
         if by_content.firsts[k] != start {
@@ -71,7 +70,7 @@ fn put_group(
     words: &[u32],
 ) -> Result<(), NoMemory>
     requires { BeginsAt by_content.now words.now start }
-    ensures { OnOk result (writer.new ≡ with_piece writer.old (Words (section_words part.now (Copies words.now (planned_addresses (with_content words.now (planned_rows by_content.now.frames.now))))))) }
+    ensures { OnOk result (writer.new ≡ with_piece writer.old (Words (section_words part.now (Copies words.now (addresses_with words.now (rows_by_content by_content.now)))))) }
 {
     let far = by_content.frames[start].far;
     writer.packets(&[
@@ -95,7 +94,7 @@ fn put_led_group(
     words: &[u32],
 ) -> Result<(), NoMemory>
     requires { BeginsAt by_content.now words.now start }
-    ensures { OnOk result (writer.new ≡ with_piece writer.old (Words (flat_map (section_words part.now) (groups_led (planned_rows by_content.now.frames.now) (record { far = far; words = words.now } ∷ []))))) }
+    ensures { OnOk result (writer.new ≡ with_piece writer.old (Words (groups_words part.now (rows_by_content by_content.now) (record { far = far; words = words.now } ∷ [])))) }
 {
     if !leads_group(by_content, start, far, words) {
         return Ok(());
@@ -112,7 +111,7 @@ pub(crate) fn put_groups(
     by_content: &ByContent<'_>,
 ) -> Result<(), NoMemory>
     requires { AreByContent plan.now.rows by_content.now }
-    ensures { OnOk result (writer.new ≡ with_piece writer.old (Words (flat_map (section_words part.now) (groups_led plan.now.rows plan.now.rows)))) }
+    ensures { OnOk result (writer.new ≡ with_piece writer.old (Words (groups_words part.now plan.now.rows plan.now.rows))) }
 {
     for i in 0..plan.len() {
         let Some((far, words)) = plan.row(i) else {

@@ -27,7 +27,7 @@ fn follows(part: &Part, far: u32, next: u32) -> bool
 
 /// How many frames the longest run has that frames begin with.
 fn run_length(part: &Part, frames: &[PlannedFrame]) -> usize
-    requires some { 0 < length frames.now }
+    requires at_least_one { 0 < length frames.now }
     requires addresses { All (λ row. Contains (addresses_in part.now) row.far) (planned_rows frames.now) }
     ensures { IsRunLength part.now (planned_rows frames.now) result }
 {
@@ -51,7 +51,7 @@ fn put_frames(writer: &mut Writer, frames: &[PlannedFrame]) -> Result<(), NoMemo
 
 /// Writes a section: WCFG, FAR, and as frame data the run's frames and a pad frame.
 fn put_run(writer: &mut Writer, part: &Part, run: &[PlannedFrame]) -> Result<(), NoMemory>
-    requires some { 0 < length run.now }
+    requires at_least_one { 0 < length run.now }
     requires limit { length run.now ≤ most_frames }
     ensures { OnOk result (writer.new ≡ with_piece writer.old (Words (section_words part.now (Rows (planned_rows run.now))))) }
 {

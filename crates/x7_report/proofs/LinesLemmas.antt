@@ -1,4 +1,4 @@
--- Lines of frames, written group by group.
+-- Lines of frames, some written at once.
 use Rattle.std.proofs.Common.{◌≡◌, ◌++◌, ℕ, List, [], Option, codes, decimal, length, take, drop, refl, sym, ap, subst, ◌∙◌, append_assoc, append-nil}
 use Rattle.std.proofs.lemmas.Grind.{flat_map-append}
 use Rattle.std.proofs.lemmas.List.{take-append-drop}
@@ -37,8 +37,8 @@ module _ (first now : Option (List ℕ)) (memory : FrameMap) (fars rest group mo
     lines = g.lines ∙ ap (λ t. g.done ++ t) (parted memory k rest group more e f) ∙ sym (append_assoc g.done (frame_lines_text memory group) (frame_lines_text memory more));
   }
 
-  pub group_failed : (next : Option (List ℕ)) → PutsPrefix now (frame_lines_text memory group) next → PutsPrefix first (frame_lines_text memory fars) next
-  group_failed next p = rw (g.lines, parted memory k rest group more e f) (prefix_more first now next g.done (frame_lines_text memory group) (frame_lines_text memory more) g.put p)
+  pub next_failed : (next : Option (List ℕ)) → PutsPrefix now (frame_lines_text memory group) next → PutsPrefix first (frame_lines_text memory fars) next
+  next_failed next p = rw (g.lines, parted memory k rest group more e f) (prefix_more first now next g.done (frame_lines_text memory group) (frame_lines_text memory more) g.put p)
 
 -- a text that was put after a head
 pub after_head : (first mid new : Option (List ℕ)) (head lines : List ℕ) → mid ≡ appended first head → new ≡ appended mid lines → new ≡ appended first (head ++ lines)

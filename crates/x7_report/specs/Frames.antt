@@ -15,13 +15,13 @@ frame_line_size count = 16 + 8 * count
 abbrev pub frame_line_room : ℕ
 frame_line_room = frame_line_size most_frame_words
 
--- how many lines of frames are written at once, as a group
-abbrev pub group_lines : ℕ
-group_lines = 128
+-- how many lines of frames are written at once
+abbrev pub lines_at_once : ℕ
+lines_at_once = 128
 
--- the most bytes that the lines of a group take
-abbrev pub group_room : ℕ
-group_room = group_lines * frame_line_room
+-- the most bytes that the lines written at once take
+abbrev pub room_at_once : ℕ
+room_at_once = lines_at_once * frame_line_room
 
 -- the line of a frame: its address and the digits of its words
 unfoldable pub frame_text : ℕ → List ℕ → List ℕ

@@ -5,7 +5,7 @@ ghost use Rattle.x7_text.specs.Appends.{Appends, HasSpareRoom};
 ghost use Rattle.x7_memory.specs.Frames.{AreFramesOf, frame_at};
 ghost use Rattle.x7_engine.specs.Past.{OfPast, memory_at, state_at};
 ghost use Rattle.x7_engine.specs.Standing.{NoWordDue};
-ghost use Rattle.x7_report.specs.Frames.{frame_line_room, frame_text_if, group_room, frame_lines_text};
+ghost use Rattle.x7_report.specs.Frames.{frame_line_room, frame_text_if, room_at_once, frame_lines_text};
 ghost use Rattle.x7_report.specs.Reports.{report_text, state_reported};
 
 use crate::frames::{put_frame, shown_frames};
@@ -17,17 +17,17 @@ use x7_memory::Memory;
 use x7_part::Part;
 use x7_words::{Failed, NoMemory, Sink, write_all};
 
-/// How many lines of frames are written at once, as a group.
-const GROUP_LINES: usize = 128;
+/// How many lines of frames are written at once.
+const LINES_AT_ONCE: usize = 128;
 
 /// The most bytes that the line of a frame takes: the digits of 255 words, and 16 bytes for its
 /// name, its address, a blank and a line end.
 const FRAME_LINE_ROOM: usize = 2_056;
 
-/// The most bytes that the lines of a group take.
-const GROUP_ROOM: usize = GROUP_LINES * FRAME_LINE_ROOM;
+/// The most bytes that the lines written at once take.
+const ROOM_AT_ONCE: usize = LINES_AT_ONCE * FRAME_LINE_ROOM;
 
-/// Appends the line of the frame at an address.
+/// Appends the line of the frame at an address, where there is room for it, and so takes no memory.
 fn put_frame_at(text: &mut Vec<u8>, part: &Part, memory: &Memory, far: u32)
     requires memory { AreFramesOf part.now memory.now }
     requires room { HasSpareRoom text.old frame_line_room }
@@ -41,7 +41,7 @@ fn put_frame_at(text: &mut Vec<u8>, part: &Part, memory: &Memory, far: u32)
     }
 }
 
-/// Appends the lines of the frames at these addresses.
+/// Appends the lines of the frames at these addresses, where there is room for them, and so takes no memory.
 fn put_lines(text: &mut Vec<u8>, part: &Part, memory: &Memory, fars: &[u32])
     requires memory { AreFramesOf part.now memory.now }
     requires room { HasSpareRoom text.old (frame_line_room * length fars.now) }
@@ -52,7 +52,7 @@ fn put_lines(text: &mut Vec<u8>, part: &Part, memory: &Memory, fars: &[u32])
     }
 }
 
-/// Writes the lines of the frames at these addresses, those of a group at a time. No memory is taken.
+/// Writes the lines of the frames at these addresses, up to 128 at once. No memory is taken.
 fn write_lines<S: Sink>(
     out: &mut S,
     part: &Part,
@@ -61,18 +61,18 @@ fn write_lines<S: Sink>(
     buffer: &mut Vec<u8>,
 ) -> Result<(), Failed>
     requires memory { AreFramesOf part.now memory.now }
-    requires room { group_room ≤ vec_capacity buffer.old }
+    requires room { room_at_once ≤ vec_capacity buffer.old }
     ensures whole { OnOk result (PutsAll (S.state out.old) (frame_lines_text (frame_at part.now memory.now) fars.now) (S.state out.new)) }
     ensures prefix { PutsSome (S.state out.old) (frame_lines_text (frame_at part.now memory.now) fars.now) (S.state out.new) }
     ensures failed { OnErr result (SinkFails (S.state out.old) (S.state out.new)) }
     ensures counts { SinkFaultsRise (S.state out.old) (S.state out.new) }
-    ensures room { group_room ≤ vec_capacity buffer.new }
+    ensures room { room_at_once ≤ vec_capacity buffer.new }
 {
     let mut rest = fars;
     while rest.len() > 0 {
-        let (group, more) = rest.split_at(rest.len().min(GROUP_LINES));
+        let (next, more) = rest.split_at(rest.len().min(LINES_AT_ONCE));
         buffer.clear();
-        put_lines(buffer, part, memory, group);
+        put_lines(buffer, part, memory, next);
         write_all(out, buffer)?;
         rest = more;
     }
@@ -80,7 +80,7 @@ fn write_lines<S: Sink>(
 }
 
 /// The report of a device, ready to be written: what comes before the lines of its frames, the addresses of the frames
-/// that it shows, and room for a group of their lines.
+/// that it shows, and room for the lines that are written at once.
 #[derive(Drop)]
 pub struct PlayText {
     stopped: bool,
@@ -93,14 +93,14 @@ pub struct PlayText {
 impl Model for PlayText {
     ghost use Rattle.std.specs.Prelude.{◌++◌, ◌≤◌, vec_capacity};
     ghost use Rattle.x7_memory.specs.Frames.{frame_at};
-    ghost use Rattle.x7_report.specs.Frames.{group_room, frame_lines_text};
+    ghost use Rattle.x7_report.specs.Frames.{room_at_once, frame_lines_text};
     ghost use Rattle.x7_report.specs.Reports.{PlayTextState};
 
     ghost Value = { PlayTextState };
 
     ghost view = { λ t. record { stopped = t.stopped; text = t.head.items ++ frame_lines_text (frame_at t.device.part t.device.registers.frames.memory) t.fars.items } };
 
-    ghost invariant = { λ t. group_room ≤ vec_capacity t.buffer };
+    ghost invariant = { λ t. room_at_once ≤ vec_capacity t.buffer };
 }
 
 impl PlayText {
@@ -118,7 +118,7 @@ impl PlayText {
     {
         let fars = shown_frames(alloc, device.part(), device.memory())?;
         let head = report_head(alloc, &device, reads, fars.len())?;
-        let Ok(buffer) = Vec::with_capacity(alloc, GROUP_ROOM) else {
+        let Ok(buffer) = Vec::with_capacity(alloc, ROOM_AT_ONCE) else {
             return Err(NoMemory);
         };
         Ok(PlayText {

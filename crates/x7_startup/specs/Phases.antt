@@ -13,7 +13,7 @@ wait_of lock_ticks match_ticks cor0 phase =
 abbrev pub tick_limit : ℕ
 tick_limit = 65535
 
--- the number of the last phase, at which startup has ended
+-- the number of the last phase of startup, in which it has ended
 abbrev pub last_phase : ℕ
 last_phase = 7
 

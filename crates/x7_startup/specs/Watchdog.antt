@@ -1,5 +1,6 @@
 -- The bytes that the configuration watchdog counts, and the byte at which it fires (UG470, watchdog; the count is this
--- project's choice).
+-- project's choice). Two flags have one meaning throughout: `eos` is the guide's EOS, end of startup, which is 1 in
+-- phase 7; `off` is true for an attempt that has no watchdog.
 use Rattle.std.specs.Prelude.{◌≡◌, ◌==◌, ℕ, ◌+◌, ◌-◌, ◌*◌, ◌^◌, ◌<◌, ◌≤◌, min, Bool, true, false, not, ◌&&◌, List, [], ◌∷◌, ◌++◌, if◌then◌else◌, IsTrue, replicate}
 use Rattle.x7_words.specs.Word.{field_of}
 
@@ -77,17 +78,17 @@ pub record Watch : Type 0 where
   pub limit : ℕ
   pub count : ℕ
 
--- what is stored stands for the calls after a making with `first` in TIMER
+-- what is stored stands for the calls of a watchdog that was made with `first` in TIMER
 pub record WatchesFor (off : Bool) (first : ℕ) (w : Watch) (calls : List WatchCall) : Type 0 where
   pub off_is : w.off ≡ off
   pub limit_is : w.limit ≡ full_count off (timer_after first calls)
   pub count_is : w.count ≡ min (watched_count off first calls) (2 ^ 32 - 1)
 
--- `Fact` holds of every making and every list of calls that the watchdog stands for
+-- `Fact` holds of each word of TIMER at first, and each list of calls, that the watchdog stands for
 abbrev pub OfCalls : Watch → (Bool → ℕ → List WatchCall → Type 0) → Type 0
 OfCalls w Fact = (off : Bool) (first : ℕ) (calls : List WatchCall) → WatchesFor off first w calls → Fact off first calls
 
--- the calls after a making, and whether the bytes after them are taken in phase 7
+-- an attempt, TIMER at first, the calls since then, and whether the bytes after these are taken in phase 7
 module _ (off : Bool) (first : ℕ) (calls : List WatchCall) (eos : Bool) where
   -- the watchdog fires at byte `n` of `count`, from 1, and at none before it, and it took the bytes up to that one
   abbrev pub FiredAt : ℕ → ℕ → Watch → Type 0

@@ -8,8 +8,8 @@ use x7_regs::{LOCK_CYCLE, MATCH_CYCLE};
 /// The number up to which ticks are counted, the last of 16 bits: no part waits for more.
 const TICK_LIMIT: u64 = 65_535;
 
-/// The number of the last phase, at which startup has ended.
-const LAST_PHASE: u8 = 7;
+/// The number of the last phase of startup, in which it has ended.
+pub const LAST_PHASE: u8 = 7;
 
 /// A phase of at most 7, and the ticks since startup began, at most 65,535.
 #[derive(Clone, Copy)]

@@ -127,7 +127,7 @@ impl Startup {
 
     /// The phase, 0 to 7.
     pub fn phase(&self) -> u8
-        ensures now { result ≡ self.now.phase }
+        ensures value { result ≡ self.now.phase }
         ensures most { result ≤ last_phase }
         ensures stands { (lock_ticks match_ticks : ℕ) (calls : List Call) → StandsForCalls lock_ticks match_ticks self.now calls
             → IsPhaseOf lock_ticks match_ticks (progress_of calls) result }
@@ -137,7 +137,7 @@ impl Startup {
 
     /// The ticks since startup began, at most 65,535.
     pub fn ticks(&self) -> u16
-        ensures now { result ≡ self.now.ticks }
+        ensures value { result ≡ self.now.ticks }
         ensures stands { (lock_ticks match_ticks : ℕ) (calls : List Call) → StandsForCalls lock_ticks match_ticks self.now calls
             → result ≡ min (ticks_of (progress_of calls)) tick_limit }
     {

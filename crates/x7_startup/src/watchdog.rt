@@ -10,13 +10,17 @@ const CFG_MON: u32 = 30;
 /// The bits of TIMER that are its value.
 const TIMER_VALUE: u32 = 0x3FFF_FFFF;
 
+/// The number up to which bytes are counted, the last of 32 bits, which is above each count at which a watchdog fires.
+const COUNT_LIMIT: u64 = 0xFFFF_FFFF;
+
 /// The watchdog of one attempt, as the calls so far have left it.
 #[derive(Clone, Copy)]
 pub struct Watchdog {
+    // whether the attempt has no watchdog
     off: bool,
     // the count at which it fires: four times TIMER's value, or 0 where TIMER or the attempt has it off
     limit: u32,
-    // at most 2^32 - 1, which is above each limit
+    // how many bytes it counted since its count began anew, up to `COUNT_LIMIT`
     count: u32,
 }
 
@@ -29,7 +33,7 @@ impl Model for Watchdog {
 }
 
 impl Watchdog {
-    /// A watchdog after a reset with this TIMER; `off` is for an attempt that has none.
+    /// A watchdog after a reset with this TIMER; `off` is true for an attempt that has none.
     pub fn new(timer: u32, off: bool) -> Self
         ensures stands { WatchesFor off timer result [] }
     {
@@ -65,7 +69,7 @@ impl Watchdog {
         self.limit != 0
     }
 
-    /// One byte more was taken, in phase 7 (`eos`) or not: whether the watchdog fires at it.
+    /// One byte more was taken, with EOS (end of startup, phase 7) as `eos` says: whether the watchdog fires at it.
     pub fn byte(&mut self, eos: bool) -> bool
         ensures stands { OfCalls self.old (λ off first calls. WatchesFor off first self.new (calls ++ Watched eos ∷ [])) }
         ensures fires { OfCalls self.old (λ off first calls. (IsTrue result ↔ Fires off first calls eos)) }
@@ -77,8 +81,8 @@ impl Watchdog {
         self.count == self.limit
     }
 
-    /// `count` bytes more were taken, all in phase 7 (`eos`) or none, up to the one at which the watchdog fires: the
-    /// number of that byte, from 1, or none where it doesn't fire.
+    /// `count` bytes more were taken, each with EOS (end of startup, phase 7) as `eos` says, up to the one at which the
+    /// watchdog fires: the number of that byte, from 1, or none where it doesn't fire.
     pub fn bytes(&mut self, count: u64, eos: bool) -> Option<u64>
         ensures within { IfSome result (λ n. (0 < n) × (n ≤ count)) }
         ensures fires { OfCalls self.old (λ off first calls.
@@ -107,7 +111,7 @@ fn limit_of(off: bool, timer: u32) -> u32
     }
 }
 
-/// Whether the watchdog with this limit is on at a byte, and counts it; `eos` is phase 7.
+/// Whether the watchdog with this limit is on at a byte, and counts it; `eos` is EOS, 1 in phase 7.
 fn is_on(limit: u32, eos: bool) -> bool
     ensures { result ≡ not (limit == 0) && not eos }
 {
@@ -131,7 +135,7 @@ fn count_after(on: bool, count: u32, bytes: u64) -> u32
     ensures { result ≡ min (count + bytes * (if on then 1 else 0)) (2 ^ 32 - 1) }
 {
     if on {
-        u64::from(count).saturating_add(bytes).min(0xFFFF_FFFF) as u32
+        u64::from(count).saturating_add(bytes).min(COUNT_LIMIT) as u32
     } else {
         count
     }

@@ -69,7 +69,7 @@ impl Device {
         ensures part { self.new.part ≡ self.old.part }
         ensures taken { self.new.taken ≡ self.old.taken + taken_until (length piece.now) result }
         ensures fed { fed_of self.new ≡ fed_more self.old (taken_until (length piece.now) result) }
-        ensures stands { TakesJust self.old self.new (prefix_taken_until piece.now result) }
+        ensures takes { TakesJust self.old self.new (prefix_taken_until piece.now result) }
         ensures first { OfPast self.old (λ p. NoneStarted p.part p.kept p.bytes piece.now (taken_until (length piece.now) result)) }
         ensures started { OfPast self.old (λ p. NoWordDue self.new → says_started result ≡ started_at (later p (prefix_taken_until piece.now result))) }
         ensures answer { AnswersUntilFor self.old self.new (prefix_taken_until piece.now result) read.new result }
@@ -97,7 +97,7 @@ impl Device {
 
     /// Whether startup has begun since the last shutdown taken.
     fn has_begun(&self) -> bool
-        ensures now { result ≡ is_some self.now.registers.clock.startup.begun_with }
+        ensures value { result ≡ is_some self.now.registers.clock.startup.begun_with }
         ensures not_begun { OfPast self.now (λ p. result ≡ false → HasNotBegun p.part p.kept p.bytes) }
     {
         self.registers.clock.startup.has_begun()
@@ -111,7 +111,7 @@ impl Device {
         ensures part { self.new.part ≡ self.old.part }
         ensures taken { self.new.taken ≡ self.old.taken + result }
         ensures fed { fed_of self.new ≡ fed_more self.old result }
-        ensures stands { TakesJust self.old self.new (take result piece.now) }
+        ensures takes { TakesJust self.old self.new (take result piece.now) }
         ensures no_word_due { OfPast self.old (λ p. NoWordDue self.new) }
         ensures first { OfPast self.old (λ p. NoneBegun p.part p.kept p.bytes piece.now result) }
         ensures ends { OfPast self.old (λ p. result < length piece.now → HasStopped self.new ⊎ HasBegun self.new) }

@@ -4,7 +4,7 @@ ghost use Rattle.x7_flow.specs.Standing.{FramesFit};
 ghost use Rattle.x7_engine.specs.Kept.{on_the_bench};
 ghost use Rattle.x7_engine.specs.ReadBuffer.{dropping};
 ghost use Rattle.x7_engine.specs.Standing.{DeviceState, DeviceStandsFor, NoWordDue, answer_at_stop, fed_more, fed_of, taken_in};
-ghost use Rattle.x7_engine.specs.Undo.{AreEqual, Back, IsUndoOf, KeepsDevice, TookFewSince, device_kept};
+ghost use Rattle.x7_engine.specs.Undo.{AreEqual, Back, IsUndoOf, SavesDevice, TookFewSince, device_saved};
 ghost use Rattle.x7_engine.specs.declared.stop.StopCause.{StopCause};
 ghost use Rattle.x7_engine.specs.Past.{AnswersFor, OfPast, TakesJust, prefix_taken, stop_at, HasPast, Past, later};
 
@@ -19,7 +19,7 @@ use x7_part::Part;
 use x7_pipeline::Saved;
 use x7_words::NoMemory;
 
-/// A device as it stood, kept so that the bytes that it takes next, up to four, can be taken back.
+/// A device as it stood, saved so that the bytes that it takes next, up to four, can be taken back.
 #[derive(Drop)]
 pub struct Undo {
     cutter: Cutter,
@@ -38,10 +38,10 @@ impl Model for Undo {
 }
 
 impl Undo {
-    /// Takes room for what is kept of a device of this part. What is kept at first is a new device,
+    /// Takes room for what is saved of a device of this part. What is saved at first is a new device,
     /// and no frame. No other call takes memory.
     pub fn new(alloc: Global, part: &Part) -> Result<Undo, NoMemory>
-        ensures device { IfOk result (λ u. DeviceStandsFor part.now on_the_bench false (device_kept part.now u) []) }
+        ensures device { IfOk result (λ u. DeviceStandsFor part.now on_the_bench false (device_saved part.now u) []) }
         ensures no_frame { IfOk result (λ u. u.frames.pair ≡ []) }
         ensures part { IfOk result (IsUndoOf part.now) }
     {
@@ -71,10 +71,10 @@ impl Device {
         self.fed
     }
 
-    /// Keeps the device.
+    /// Saves the device.
     fn save(&self, undo: &mut Undo)
         requires { IsUndoOf self.now.part undo.old }
-        ensures keeps { KeepsDevice undo.new self.now }
+        ensures saves { SavesDevice undo.new self.now }
         ensures undo { IsUndoOf self.now.part undo.new }
     {
         undo.cutter = self.cutter.copy();
@@ -84,20 +84,20 @@ impl Device {
         undo.taken = self.taken;
     }
 
-    /// Keeps the device, and takes up to four bytes as `feed` does. Words read out are dropped.
+    /// Saves the device, and takes up to four bytes as `feed` does. Words read out are dropped.
     pub fn feed_word(&mut self, piece: &[u8], undo: &mut Undo) -> Fed
         requires four { length piece.now ≤ 4 }
         requires fits { self.old.taken + length piece.now ≤ 2 ^ 63 }
         requires no_word_due { NoWordDue self.old }
         requires undo { IsUndoOf self.old.part undo.old }
         ensures within { taken_in (length piece.now) result ≤ length piece.now }
-        ensures stands { TakesJust self.old self.new (prefix_taken piece.now result) }
+        ensures takes { TakesJust self.old self.new (prefix_taken piece.now result) }
         ensures answer { AnswersFor self.old self.new (prefix_taken piece.now result) dropping result }
         ensures part { self.new.part ≡ self.old.part }
         ensures taken { self.new.taken ≡ self.old.taken + taken_in (length piece.now) result }
         ensures fed { fed_of self.new ≡ fed_more self.old (taken_in (length piece.now) result) }
         ensures stays { (why : StopCause) → self.old.registers.stop ≡ Some why → (self.new ≡ self.old) × (result ≡ answer_at_stop why 0) }
-        ensures keeps { KeepsDevice undo.new self.old }
+        ensures saves { SavesDevice undo.new self.old }
         ensures back { OfPast self.old (λ p. Back undo.new self.new self.old) }
         ensures stopped { OfPast self.old (λ p. IsSome (stop_at p) → (self.new ≡ self.old) × (taken_in (length piece.now) result ≡ 0)) }
         ensures undo { IsUndoOf self.old.part undo.new }
@@ -117,13 +117,13 @@ impl Device {
         let _taken = self.taken;
     }
 
-    /// Makes the device the one to which what is kept leads back: that of before `feed_word`, or of before it and later
-    /// calls of `feed` with four bytes at most in all.
+    /// Makes the device the one to which what is saved leads back: that of before `feed_word`, or of before it and
+    /// later calls of `feed` with four bytes at most in all.
     pub fn undo(&mut self, undo: &Undo)
         requires undo { IsUndoOf self.old.part undo.now }
         requires back { TookFewSince undo.now self.old }
         ensures back { (old : DeviceState) → Back undo.now self.old old → AreEqual self.new old }
-        ensures after_more { (p : Past) (more : List ℕ) (old : DeviceState) → KeepsDevice undo.now old → NoWordDue old → length more ≤ 4
+        ensures after_more { (p : Past) (more : List ℕ) (old : DeviceState) → SavesDevice undo.now old → NoWordDue old → length more ≤ 4
             → HasPast old p → HasPast self.old (later p more) → AreEqual self.new old }
         ensures part { self.new.part ≡ self.old.part }
         ensures fed { fed_of self.new ≡ fed_of self.old }
@@ -132,7 +132,7 @@ impl Device {
         self.go_back(undo);
     }
 
-    /// Does what `undo` does: a call of its own, which is proved by what is kept alone.
+    /// Does what `undo` does: a call of its own, which is proved by what is saved alone.
     fn go_back(&mut self, undo: &Undo)
         requires undo { IsUndoOf self.old.part undo.now }
         requires back { TookFewSince undo.now self.old }

@@ -10,7 +10,7 @@ returns-clause-stands c = λ part kept wrapped bytes s.
     let fits : AreBytes piece = all_from_places (λ b. b < 256) piece (λ k h. omega (arith, c.type_inv.piece k)) in
     let reads = c.feed.ensures.reads part kept wrapped bytes s in
     fed_stands part kept wrapped bytes piece c.feed.new.self c.feed.new.read c.feed.result (all_append (λ b. b < 256) bytes piece s.fits fits)
-    (drops c.dropping-read.result c.feed.new.read reads.0 c.dropping-read.ensures reads.1) (c.feed.ensures.stands part kept wrapped bytes s) (c.feed.ensures.answer part kept wrapped bytes s)
+    (drops c.dropping-read.result c.feed.new.read reads.0 c.dropping-read.ensures reads.1) (c.feed.ensures.takes part kept wrapped bytes s) (c.feed.ensures.answer part kept wrapped bytes s)
 
 pub returns-clause-no_word_due : goal.returns-clause-no_word_due
 returns-clause-no_word_due c = λ part kept wrapped bytes s.

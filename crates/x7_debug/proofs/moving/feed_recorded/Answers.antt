@@ -23,7 +23,7 @@ returns-clause-at_position c =
     let there : StandsAtPosition part stream c.feed.new.device c.args.to =
     stands_there part stream c.feed.new.device c.args.to c.requires.may_move.may.within
     (moved part stream (take (c.args.to - c.taken-from.result) (drop c.taken-from.result stream)) c.feed.new.device from c.args.to fits c.requires.may_move.forward few
-    (ap (λ (k : ℕ). take (c.args.to - k) (drop k stream)) c.taken-from.ensures.now)
+    (ap (λ (k : ℕ). take (c.args.to - k) (drop k stream)) c.taken-from.ensures.stored)
     (c.feed.ensures.stands part on_the_bench false (take from stream) stands) (c.feed.ensures.no_word_due part on_the_bench false (take from stream) stands)) in
     record {
       there = record {

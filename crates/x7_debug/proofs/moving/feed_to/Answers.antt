@@ -19,5 +19,5 @@ returns-clause-stands c =
     let few : c.args.to ≤ length stream = omega (arith, last_within part stream fits, c.requires.within) in
     stands_there part stream c.feed_piece.new.device c.args.to c.requires.within
     (moved part stream (take (c.args.to - c.taken-from.result) (drop c.taken-from.result stream)) c.feed_piece.new.device from c.args.to fits c.requires.forward few
-    (ap (λ (k : ℕ). take (c.args.to - k) (drop k stream)) c.taken-from.ensures.now)
+    (ap (λ (k : ℕ). take (c.args.to - k) (drop k stream)) c.taken-from.ensures.stored)
     (c.feed_piece.ensures.stands part on_the_bench false (take from stream) c.requires.stands.stands) (c.feed_piece.ensures.no_word_due part on_the_bench false (take from stream) c.requires.stands.stands))

@@ -20,7 +20,7 @@ returns-then-taken-to-clause-at_position c =
 pub returns-else-taken-to-clause-at_position : goal.returns-else-taken-to-clause-at_position
 returns-else-taken-to-clause-at_position c =
     let here = c.take_back.ensures in
-    record { on = here.at_position.on; part = here.at_position.part; taken = omega (arith, here.within, c.if-taken-to.false, c.taken.ensures.now) }
+    record { on = here.at_position.on; part = here.at_position.part; taken = omega (arith, here.within, c.if-taken-to.false, c.taken.ensures.stored) }
 
 pub returns-then-taken-to-clause-fed : goal.returns-then-taken-to-clause-fed
 returns-then-taken-to-clause-fed c =

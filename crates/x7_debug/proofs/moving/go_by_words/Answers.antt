@@ -15,11 +15,11 @@ pub loop-device-preserved : goal.loop-device-preserved
 loop-device-preserved c =
     let before : ℕ = c.loop-device.device.taken in
     let to : ℕ = c.feed_recorded.new.device.taken in
-    let next : to ≡ before + 4 = omega (arith, c.feed_recorded.ensures.at_position.there.taken, c.taken-next.ensures.now) in
+    let next : to ≡ before + 4 = omega (arith, c.feed_recorded.ensures.at_position.there.taken, c.taken-next.ensures.stored) in
     record {
       comes = comes_here c.args.stream.now c.args.device.now c.feed_recorded.new.device c.feed_recorded.new.journal (c.taken-next.result + 4)
           (comes_on c.args.stream.now c.args.device.now c.loop-device.device c.feed_recorded.new.device c.loop-device.journal c.feed_recorded.new.journal before (c.taken-next.result + 4) c.loop-device.invariant.since (omega (arith, next)) c.loop-device.invariant.comes c.feed_recorded.ensures.at_position);
-      within = omega (arith, next, c.loop-device-test.true, c.taken.ensures.now);
+      within = omega (arith, next, c.loop-device-test.true, c.taken.ensures.stored);
       since = omega (arith, next, c.loop-device.invariant.since);
       reaches = subst (Reaches c.args.device.now.taken to) (sym c.feed_recorded.ensures.recorded.2)
           (reaches_whole c.args.device.now.taken before to c.feed_recorded.ensures.recorded.0 (records_of c.loop-device.journal) c.feed_recorded.ensures.recorded.1 next c.loop-device.invariant.reaches);
@@ -31,7 +31,7 @@ returns-then-taken-to c =
     let there = c.feed_recorded-then-taken-to.ensures.at_position in
     let more = c.feed_recorded-then-taken-to.ensures.recorded in
     let before : ℕ = c.loop-device.device.taken in
-    let l : before < c.args.to = omega (arith, c.if-taken-to.true, c.taken-2.ensures.now) in
+    let l : before < c.args.to = omega (arith, c.if-taken-to.true, c.taken-2.ensures.stored) in
     let last : oldest_by c.args.to (more.0 ∷ take 63 (records_of c.loop-device.journal)) ≤ max c.args.device.now.taken (c.args.to - 253) =
     reaches_last c.args.device.now.taken before c.args.to more.0 (records_of c.loop-device.journal) more.1 l here.reaches in
     let same : oldest_by c.feed_recorded-then-taken-to.new.device.taken (records_of c.feed_recorded-then-taken-to.new.journal) ≡ oldest_by c.args.to (more.0 ∷ take 63 (records_of c.loop-device.journal)) =
@@ -49,7 +49,7 @@ returns-else-taken-to c =
     record {
       at_position = record {
         forward = record {
-          there = record { on = here.comes.there.on; part = here.comes.there.part; taken = omega (arith, here.within, c.if-taken-to.false, c.taken-2.ensures.now) };
+          there = record { on = here.comes.there.on; part = here.comes.there.part; taken = omega (arith, here.within, c.if-taken-to.false, c.taken-2.ensures.stored) };
           fed = here.comes.fed;
         };
         oldest = reaches_now c.args.device.now.taken c.loop-device.device.taken (records_of c.loop-device.journal) here.comes.there.on.few here.reaches;
@@ -59,11 +59,11 @@ returns-else-taken-to c =
 pub feed_recorded-requires-clause-may_move : goal.feed_recorded-requires-clause-may_move
 feed_recorded-requires-clause-may_move c =
     let here = c.loop-device.invariant in
-    let next = c.taken-next.ensures.now in
+    let next = c.taken-next.ensures.stored in
     record {
       may = record {
         on = here.comes.there.on;
-        within = within_still c.args.device.now.part c.loop-device.device.part c.args.stream.now (c.taken-next.result + 4) c.args.to here.comes.there.part (omega (arith, next, c.loop-device-test.true, c.taken.ensures.now)) c.requires.may.within;
+        within = within_still c.args.device.now.part c.loop-device.device.part c.args.stream.now (c.taken-next.result + 4) c.args.to here.comes.there.part (omega (arith, next, c.loop-device-test.true, c.taken.ensures.stored)) c.requires.may.within;
       };
       forward = omega (arith, next);
     }

@@ -3,7 +3,7 @@ use Rattle.x7_debug.proofs.JournalLemmas.{comes_on, within_still}
 use Rattle.x7_debug.proofs.moving.go_forward.Goals as goal
 
 pub leap-requires : goal.leap-requires
-leap-requires c = record { may = record { on = c.requires.may.on; within = omega (arith, c.requires.may.within) }; forward = omega (arith, c.if-to-taken-gt-RECORDED_BYTES.true, c.taken.ensures.now) }
+leap-requires c = record { may = record { on = c.requires.may.on; within = omega (arith, c.requires.may.within) }; forward = omega (arith, c.if-to-taken-gt-RECORDED_BYTES.true, c.taken.ensures.stored) }
 
 pub go_by_words-requires : goal.go_by_words-requires
 go_by_words-requires c =
@@ -21,7 +21,7 @@ returns-then-to-taken-gt-RECORDED_BYTES c =
     let near = c.leap.ensures.at_position in
     let there = c.go_by_words.ensures.at_position in
     let far = c.if-to-taken-gt-RECORDED_BYTES.true in
-    let from = c.taken.ensures.now in
+    let from = c.taken.ensures.stored in
     record {
       at_position = record {
         forward = comes_on c.args.stream.now c.args.device.now c.leap.new.device c.go_by_words.new.device c.leap.new.journal c.go_by_words.new.journal _ c.args.to (omega (arith, near.there.taken, far, from)) (omega (arith, near.there.taken, there.forward.there.taken)) near there.forward;

@@ -11,14 +11,14 @@ returns-then-to-from-clause-costs c =
 pub returns-then-from-to-clause-costs : goal.returns-then-from-to-clause-costs
 returns-then-from-to-clause-costs c =
     let there = c.go_forward.ensures.at_position in
-    let l : c.args.device.now.taken < c.go_forward.new.device.taken = omega (arith, c.if-from-to.true, c.taken-from.ensures.now, there.forward.there.taken) in
+    let l : c.args.device.now.taken < c.go_forward.new.device.taken = omega (arith, c.if-from-to.true, c.taken-from.ensures.stored, there.forward.there.taken) in
     goes_recorded c.args.stream.now c.args.device.now c.go_forward.new.device c.args.journal.now c.go_forward.new.journal c.args.to c.requires.on l there
 
 pub returns-then-from-to-clause-at_position : goal.returns-then-from-to-clause-at_position
 returns-then-from-to-clause-at_position c = c.go_forward.ensures.at_position.forward.there
 
 pub returns-then-to-from-clause-at_position : goal.returns-then-to-from-clause-at_position
-returns-then-to-from-clause-at_position c = record { on = c.requires.on; part = refl; taken = omega (arith, c.if-to-from.true, c.taken-from.ensures.now) }
+returns-then-to-from-clause-at_position c = record { on = c.requires.on; part = refl; taken = omega (arith, c.if-to-from.true, c.taken-from.ensures.stored) }
 
 pub go_forward-requires : goal.go_forward-requires
-go_forward-requires c = record { may = c.requires; forward = omega (arith, c.if-from-to.true, c.taken-from.ensures.now) }
+go_forward-requires c = record { may = c.requires; forward = omega (arith, c.if-from-to.true, c.taken-from.ensures.stored) }

@@ -23,7 +23,7 @@ seek_word-requires c =
     record {
       on = here.comes.there.on;
       last_is = c.requires.last_is ∙ ap (λ (p : PartData). last_of p c.args.stream.now) (sym here.comes.there.part);
-      before = omega (arith, c.loop-stop-test.true, c.taken.ensures.now);
+      before = omega (arith, c.loop-stop-test.true, c.taken.ensures.stored);
     }
 
 pub returns-then-seek_word-clause-at_position : goal.returns-then-seek_word-clause-at_position
@@ -37,7 +37,7 @@ returns-then-seek_word-clause-at_position c =
     let there = c.seek_word.ensures in
     let found : holds_at part stream c.args.stop m ≡ true = subst (λ (p : PartData). holds_at p stream c.args.stop m ≡ true) here.comes.there.part (there.found c.if-seek_word.true) in
     let later : (k : ℕ) → n < k → k < m → holds_at part stream c.args.stop k ≡ false = λ k h j. subst (λ (p : PartData). holds_at p stream c.args.stop k ≡ false) here.comes.there.part (there.none_before k h j) in
-    let some : n < c.args.last = omega (arith, c.loop-stop-test.true, c.taken.ensures.now) in
+    let some : n < c.args.last = omega (arith, c.loop-stop-test.true, c.taken.ensures.stored) in
     let last : oldest_by m (there.recorded.0 ∷ take (record_room - 1) (records_of c.loop-stop.journal)) ≤ max from (m - reach) =
     reaches_last from n m there.recorded.0 (records_of c.loop-stop.journal) there.recorded.1 there.forward.0 (here.reaches some) in
     let both : ComesForward stream c.args.device.now c.seek_word.new.device c.seek_word.new.journal m =
@@ -63,7 +63,7 @@ loop-stop-preserved c =
     let n : ℕ = c.loop-stop.device.taken in
     let m : ℕ = c.seek_word.new.device.taken in
     let same = c.loop-stop.invariant.comes.there.part in
-    let some : n < c.args.last = omega (arith, c.loop-stop-test.true, c.taken.ensures.now) in
+    let some : n < c.args.last = omega (arith, c.loop-stop-test.true, c.taken.ensures.stored) in
     let here : holds_at part stream c.args.stop m ≡ false = subst (λ (p : PartData). holds_at p stream c.args.stop m ≡ false) same (c.seek_word.ensures.none_at_end c.if-seek_word.false) in
     let later : (k : ℕ) → n < k → k < m → holds_at part stream c.args.stop k ≡ false = λ k h j. subst (λ (p : PartData). holds_at p stream c.args.stop k ≡ false) same (c.seek_word.ensures.none_before k h j) in
     let last : oldest_by m (c.seek_word.ensures.recorded.0 ∷ take (record_room - 1) (records_of c.loop-stop.journal)) ≤ max from (m - reach) =
@@ -81,7 +81,7 @@ loop-stop-preserved c =
 
 pub returns-clause-at_position : goal.returns-clause-at_position
 returns-clause-at_position c =
-    let at = c.taken.ensures.now in
+    let at = c.taken.ensures.stored in
     let here = c.loop-stop.invariant in
     record {
       forward = record {

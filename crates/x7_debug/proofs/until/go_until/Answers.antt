@@ -52,7 +52,7 @@ pub move_to-requires : goal.move_to-requires
 move_to-requires c = record { on = c.requires.on; within = omega (arith, c.requires.last_is) }
 
 pub forward_until-requires : goal.forward_until-requires
-forward_until-requires c = record { on = c.requires.on; last_is = c.requires.last_is; before = omega (arith, c.if-taken-outline.false, c.taken.ensures.now) }
+forward_until-requires c = record { on = c.requires.on; last_is = c.requires.last_is; before = omega (arith, c.if-taken-outline.false, c.taken.ensures.stored) }
 
 pub returns-then-taken-outline-clause-at_position : goal.returns-then-taken-outline-clause-at_position
 returns-then-taken-outline-clause-at_position c =
@@ -62,5 +62,5 @@ returns-then-taken-outline-clause-at_position c =
     record {
       on = c.requires.on;
       part = refl;
-      taken = sym (until_last part c.args.stream.now c.args.stop from from (omega (arith, c.if-taken-outline.true, c.requires.last_is, c.taken.ensures.now)) within (omega arith) (λ k h j. absurd (omega (arith, h, j))));
+      taken = sym (until_last part c.args.stream.now c.args.stop from from (omega (arith, c.if-taken-outline.true, c.requires.last_is, c.taken.ensures.stored)) within (omega arith) (λ k h j. absurd (omega (arith, h, j))));
     }

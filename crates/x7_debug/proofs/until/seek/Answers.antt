@@ -31,7 +31,7 @@ returns-then-at-bound-clause-none_at_end c = λ q.
     let there : StandsAtPosition part stream c.loop-stop.device n = stands_of c.loop-stop.device.part part stream c.loop-stop.device c.args.journal.now c.loop-stop.invariant.comes.there.part c.loop-stop.invariant.comes.there.on in
     let here : holds_at part stream c.args.stop n ≡ false =
     holds_is part stream c.args.stop n c.end.result c.phase.result c.holds_in.result (c.end.ensures part on_the_bench false (take n stream) there.stands) (c.phase.ensures part on_the_bench false (take n stream) there.stands) c.holds_in.ensures ∙ c.if-holds_in.false in
-    let same : n ≡ c.args.bound = omega (arith, c.if-at-bound.true, c.taken-at.ensures.now, c.loop-stop.invariant.within) in
+    let same : n ≡ c.args.bound = omega (arith, c.if-at-bound.true, c.taken-at.ensures.stored, c.loop-stop.invariant.within) in
     subst (λ (k : ℕ). holds_at part stream c.args.stop k ≡ false) same here
 
 pub loop-stop-preserved : goal.loop-stop-preserved
@@ -42,7 +42,7 @@ loop-stop-preserved c =
     let there : StandsAtPosition part stream c.loop-stop.device n = stands_of c.loop-stop.device.part part stream c.loop-stop.device c.args.journal.now c.loop-stop.invariant.comes.there.part c.loop-stop.invariant.comes.there.on in
     let here : holds_at part stream c.args.stop n ≡ false =
     holds_is part stream c.args.stop n c.end.result c.phase.result c.holds_in.result (c.end.ensures part on_the_bench false (take n stream) there.stands) (c.phase.ensures part on_the_bench false (take n stream) there.stands) c.holds_in.ensures ∙ c.if-holds_in.false in
-    let at : c.taken-at.result ≡ n = c.taken-at.ensures.now in
+    let at : c.taken-at.result ≡ n = c.taken-at.ensures.stored in
     let next : c.feed_to.new.device.taken ≡ n + 1 = omega (arith, at, c.feed_to.ensures.stands.taken) in
     let less : n < c.args.bound = omega (arith, at, c.if-at-bound.false) in
     record {

@@ -7,5 +7,5 @@ returns-clause-stays c = rest_on
 pub returns-clause-same_history : goal.returns-clause-same_history
 returns-clause-same_history c = history_on
 
-pub returns-clause-new : goal.returns-clause-new
-returns-clause-new c = rest_new
+pub returns-clause-new_device : goal.returns-clause-new_device
+returns-clause-new_device c = rest_new

@@ -7,11 +7,11 @@ pub put_led_group-requires : goal.put_led_group-requires
 put_led_group-requires c =
     let row : PlanRow = record { far = c.in-Some.far; words = c.in-Some.words.now } in
     let first = first_at c.args.plan.now.rows c.args.by_content.now.frames.now c.args.by_content.now.starts.now c.loop-i.i row 0 row c.requires.starts c.in-Some.ensures.found.0 (c.in-Some.ensures.found.1 row) in
-    record { together = c.requires.grouped.together; firsts = c.requires.firsts; first = first; inside = inside_at c.args.by_content.now.frames.now c.in-Some.words.now _ first }
+    record { together = c.requires.frames.together; firsts = c.requires.firsts; first = first; inside = inside_at c.args.by_content.now.frames.now c.in-Some.words.now _ first }
 
 pub loop-i-preserved : goal.loop-i-preserved
 loop-i-preserved c =
     let row : PlanRow = record { far = c.in-Some.far; words = c.in-Some.words.now } in
-    group_more c.args.part.now c.args.plan.now.rows c.args.by_content.now.frames.now c.args.writer.now c.loop-i.writer c.put_led_group.new.writer (get_or c.args.by_content.now.starts.now c.loop-i.i 0) c.loop-i.i row row c.requires.grouped
+    group_more c.args.part.now c.args.plan.now.rows c.args.by_content.now.frames.now c.args.writer.now c.loop-i.writer c.put_led_group.new.writer (get_or c.args.by_content.now.starts.now c.loop-i.i 0) c.loop-i.i row row c.requires.frames
     (first_at c.args.plan.now.rows c.args.by_content.now.frames.now c.args.by_content.now.starts.now c.loop-i.i row 0 row c.requires.starts c.in-Some.ensures.found.0 (c.in-Some.ensures.found.1 row))
     c.in-Some.ensures.found.0 (c.in-Some.ensures.found.1 row) c.loop-i.invariant c.in_ok-put_led_group.ensures

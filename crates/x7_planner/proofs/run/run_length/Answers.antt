@@ -16,4 +16,4 @@ pub follows-requires : goal.follows-requires
 follows-requires c = address_at c.args.part.now c.args.frames.now (c.loop-k.k - 1) _ c.requires.addresses (omega (arith, c.loop-k-test.true))
 
 pub returns : goal.returns
-returns c = run_whole c.args.part.now c.args.frames.now c.loop-k.k c.requires.some (omega (arith, c.loop-k-test.false)) (omega (arith, c.loop-k.auto.k-end)) c.loop-k.invariant.1
+returns c = run_whole c.args.part.now c.args.frames.now c.loop-k.k c.requires.at_least_one (omega (arith, c.loop-k-test.false)) (omega (arith, c.loop-k.auto.k-end)) c.loop-k.invariant.1

@@ -2,7 +2,7 @@ use Rattle.std.proofs.Common.{◌≡◌, ◌++◌, List, ℕ, ap, arith, ◌∙�
 use Rattle.x7_words.proofs.SinkLemmas.{counts_at, counts_on}
 use Rattle.x7_memory.specs.Frames.{frame_at}
 use Rattle.x7_report.specs.Frames.{frame_lines_text}
-use Rattle.x7_report.proofs.LinesLemmas.{none_sent, more_sent, group_failed}
+use Rattle.x7_report.proofs.LinesLemmas.{none_sent, more_sent, next_failed}
 use Rattle.x7_report.proofs.streamed.write_lines.Goals as goal
 
 pub loop-rest-init : goal.loop-rest-init
@@ -15,7 +15,7 @@ returns-in_err-write_all-clause-prefix g c =
     let s = g.S.Sink in
     let m = frame_at c.args.part.now c.args.memory.now in
     let block : c.deref.result.now ≡ frame_lines_text m c.split_at.result.0.now = c.deref.ensures.value ∙ c.put_lines.ensures.appends.items ∙ ap (λ (t : List ℕ). t ++ frame_lines_text m c.split_at.result.0.now) c.clear.ensures.items in
-    group_failed (s.state c.args.out.now).written (s.state c.loop-rest.out).written m c.args.fars.now c.loop-rest.rest.now c.split_at.result.0.now c.split_at.result.1.now c.min.result
+    next_failed (s.state c.args.out.now).written (s.state c.loop-rest.out).written m c.args.fars.now c.loop-rest.rest.now c.split_at.result.0.now c.split_at.result.1.now c.min.result
     c.loop-rest.invariant.sent c.split_at.ensures.front c.split_at.ensures.back (s.state c.write_all.new.sink).written (rw (← block) c.in_err-write_all.ensures.prefix)
 
 pub loop-rest-preserved : goal.loop-rest-preserved

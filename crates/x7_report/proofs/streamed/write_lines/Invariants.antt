@@ -1,7 +1,7 @@
 use Rattle.std.proofs.Common.{◌≤◌, length, vec_capacity}
 use Rattle.x7_words.specs.Sink.{SinkFaultsRise}
 use Rattle.x7_memory.specs.Frames.{frame_at}
-use Rattle.x7_report.specs.Frames.{group_room}
+use Rattle.x7_report.specs.Frames.{room_at_once}
 use Rattle.x7_report.proofs.LinesLemmas.{Sent}
 use Rattle.x7_report.proofs.streamed.write_lines.Given as goal
 
@@ -10,7 +10,7 @@ invariant-loop-rest g l =
     let s = g.S.Sink in
     record {
       sent : Sent (s.state l.fn.out).written (s.state l.out).written (frame_at l.part l.memory) l.fars l.rest;
-      room : group_room ≤ vec_capacity l.buffer;
+      room : room_at_once ≤ vec_capacity l.buffer;
       counts : SinkFaultsRise (s.state l.fn.out) (s.state l.out);
     }
 

@@ -23,7 +23,7 @@ returns-clause-recorded c =
     let pushed : c.push_front.new.self.items ≡ take c.pop_back.new.self.capacity (c.feed_word.new.undo ∷ take (length items - 1) items) =
     ap (λ (b : Buffer UndoState). b.items) c.push_front.ensures.items ∙ ap (λ (t : List UndoState). take c.pop_back.new.self.capacity (c.feed_word.new.undo ∷ t)) popped in (
       c.feed_word.new.undo,
-      c.feed_word.ensures.keeps,
+      c.feed_word.ensures.saves,
       records_more items c.push_front.new.self.items c.feed_word.new.undo c.self.inside.count c.min-self-inside.result c.pop_back.new.self.capacity pushed room c.self.invariant.0 c.self.invariant.2 c.min-self-inside.ensures
           ∙ ap (λ (j : JournalState). c.feed_word.new.undo ∷ take 63 (records_of j)) c.self.view_is,
     )
@@ -32,7 +32,7 @@ pub returns-clause-stands : goal.returns-clause-stands
 returns-clause-stands c = λ part kept wrapped bytes s.
     let piece = c.args.piece.now in
     let fits : AreBytes piece = all_from_places (λ b. b < 256) piece (λ k h. omega (arith, c.type_inv.piece k)) in
-    fed_stands part kept wrapped bytes piece c.feed_word.new.self dropping c.feed_word.result (all_append (λ b. b < 256) bytes piece s.fits fits) refl (c.feed_word.ensures.stands part kept wrapped bytes s) (c.feed_word.ensures.answer part kept wrapped bytes s)
+    fed_stands part kept wrapped bytes piece c.feed_word.new.self dropping c.feed_word.result (all_append (λ b. b < 256) bytes piece s.fits fits) refl (c.feed_word.ensures.takes part kept wrapped bytes s) (c.feed_word.ensures.answer part kept wrapped bytes s)
 
 pub returns-clause-no_word_due : goal.returns-clause-no_word_due
 returns-clause-no_word_due c = λ part kept wrapped bytes s.

@@ -10,7 +10,7 @@ use Rattle.x7_debug.proofs.outline.Outline.new.Goals as goal
 pub feed_piece-requires : goal.feed_piece-requires
 feed_piece-requires c =
     let fed = c.feed_until_begun-begins.ensures in
-    let stands = fed.stands c.args.part.now on_the_bench false [] c.in_ok-device.ensures.stands in
+    let stands = fed.takes c.args.part.now on_the_bench false [] c.in_ok-device.ensures.stands in
     let from = c.feed_until_begun-begins.result in
     let stream = c.args.stream.now in
     omega (arith, stands.taken_is, length-take-le from stream fed.within, length-drop from stream, fed.within)
@@ -22,10 +22,10 @@ returns-clause-last c =
     let stream = c.args.stream.now in
     let from = c.feed_until_begun-begins.result in
     let fits : AreBytes stream = all_from_places (λ b. b < 256) stream (λ k h. omega (arith, c.type_inv.stream k)) in
-    let stands = fed.stands part on_the_bench false [] c.in_ok-device.ensures.stands in
+    let stands = fed.takes part on_the_bench false [] c.in_ok-device.ensures.stands in
     let there = moved part stream (take (length stream - from) (drop from stream)) c.feed_piece.new.device from (length stream) fits fed.within (omega arith) refl
     (c.feed_piece.ensures.stands part on_the_bench false (take from stream) stands) (c.feed_piece.ensures.no_word_due part on_the_bench false (take from stream) stands) in
-    omega (arith, c.taken.ensures.now, there.taken, last_within part stream fits)
+    omega (arith, c.taken.ensures.stored, there.taken, last_within part stream fits)
 
 pub returns-clause-begins : goal.returns-clause-begins
 returns-clause-begins c =
@@ -33,5 +33,5 @@ returns-clause-begins c =
     let new = c.in_ok-device.ensures.stands in
     let fits : AreBytes c.args.stream.now = all_from_places (λ b. b < 256) c.args.stream.now (λ k h. omega (arith, c.type_inv.stream k)) in
     let there : StandsAtPosition c.args.part.now c.args.stream.now c.feed_until_begun-begins.new.self c.feed_until_begun-begins.result =
-    stands_first_bytes c.args.part.now c.args.stream.now c.feed_until_begun-begins.new.self c.feed_until_begun-begins.result fits fed.within (fed.stands c.args.part.now on_the_bench false [] new) (fed.no_word_due c.args.part.now on_the_bench false [] new) in
+    stands_first_bytes c.args.part.now c.args.stream.now c.feed_until_begun-begins.new.self c.feed_until_begun-begins.result fits fed.within (fed.takes c.args.part.now on_the_bench false [] new) (fed.no_word_due c.args.part.now on_the_bench false [] new) in
     record { within = there.within; zero = λ k l. ap (phase_by c.args.part.now) (fed.first c.args.part.now on_the_bench false [] new k l) }

@@ -10,8 +10,8 @@ returns-clause-within c =
     omega (
       arith,
       c.oldest.ensures,
-      c.taken.ensures.now,
-      ap (λ (n : _). oldest_by n (records_of c.self.inside.journal)) c.taken.ensures.now,
+      c.taken.ensures.stored,
+      ap (λ (n : _). oldest_by n (records_of c.self.inside.journal)) c.taken.ensures.stored,
       oldest_within d.part c.self.inside.stream.items d.taken (records_of c.self.inside.journal) c.self.invariant.on.leads,
       ap (λ (s : SessionState). s.at) c.self.view_is,
     )

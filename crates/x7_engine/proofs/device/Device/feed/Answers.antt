@@ -32,8 +32,8 @@ returns-in-Some-clause-answer c = λ part kept wrapped bytes s.
     (subst (λ (k : ℕ). Answers (past_of part kept wrapped (bytes ++ take k piece)) c.runs.self c.runs.read (answer_at_stop c.in-Some.stop c.runs.at)) (sym (taken_by_stop c.in-Some.stop (length piece) c.runs.at))
     (answers_stop part kept wrapped c.runs.self (bytes ++ take c.runs.at piece) c.runs.read c.in-Some.stop c.runs.at (c.runs.invariant.stands part kept wrapped bytes s) c.in-Some.ensures))
 
-pub returns-in-Some-clause-stands : goal.returns-in-Some-clause-stands
-returns-in-Some-clause-stands c = λ part kept wrapped bytes s.
+pub returns-in-Some-clause-takes : goal.returns-in-Some-clause-takes
+returns-in-Some-clause-takes c = λ part kept wrapped bytes s.
     let piece : List ℕ = c.args.piece.now in
     let count : taken_in (length piece) c.answer_at_stop.result ≡ c.runs.at = ap (taken_in (length piece)) c.answer_at_stop.ensures ∙ taken_by_stop c.in-Some.stop (length piece) c.runs.at in
     subst (λ (k : ℕ). DeviceStandsFor part kept wrapped c.runs.self (bytes ++ take k piece)) (sym count) (c.runs.invariant.stands part kept wrapped bytes s)
@@ -51,8 +51,8 @@ returns-in-Some-clause-room c = λ part kept wrapped bytes s.
     let count : taken_in (length piece) c.answer_at_stop.result ≡ c.runs.at = ap (taken_in (length piece)) c.answer_at_stop.ensures ∙ taken_by_stop c.in-Some.stop (length piece) c.runs.at in
     subst (λ (k : ℕ). RoomBefore (record { part = part; kept = kept; wrapped = wrapped; bytes = bytes }) piece k (reads_given part kept c.args.self.now bytes) c.args.read.now) (sym count) (c.runs.invariant.room part kept wrapped bytes s)
 
-pub returns-then-not-give-clause-stands : goal.returns-then-not-give-clause-stands
-returns-then-not-give-clause-stands c = λ part kept wrapped bytes s.
+pub returns-then-not-give-clause-takes : goal.returns-then-not-give-clause-takes
+returns-then-not-give-clause-takes c = λ part kept wrapped bytes s.
     (c.give.ensures.given part kept wrapped (bytes ++ take c.runs.at c.args.piece.now) (c.runs.invariant.stands part kept wrapped bytes s)).stands
 
 pub returns-then-not-give-clause-reads : goal.returns-then-not-give-clause-reads
@@ -68,23 +68,23 @@ returns-then-turn-clause-room c = λ part kept wrapped bytes s.
     let gives = c.give.ensures.given part kept wrapped taken (c.runs.invariant.stands part kept wrapped bytes s) in
     let due : NoWordDue c.give.new.self = c.give.ensures.none_left.0 c.if-not-give.false in
     room_read_on part kept wrapped c.give.new.self c.turn.new.self c.args.read.now c.give.new.read bytes c.args.piece.now (reads_given part kept c.args.self.now bytes) c.runs.at c.turn.new.at c.turn.ensures.turned.forward c.turn.ensures.turned.within
-    c.give.ensures.going due gives.stands (c.turn.ensures.turned.turn.stands part kept wrapped taken gives.stands) (c.turn.ensures.turned.turn.commands part kept wrapped taken gives.stands) c.give.ensures.within_most
+    c.give.ensures.going due gives.stands (c.turn.ensures.turned.turn.takes part kept wrapped taken gives.stands) (c.turn.ensures.turned.turn.commands part kept wrapped taken gives.stands) c.give.ensures.within_most
     (now_given part kept wrapped c.runs.self c.give.new.self c.args.read.now c.runs.read c.give.new.read taken (reads_given part kept c.args.self.now bytes) gives (c.runs.invariant.reads part kept wrapped bytes s))
     (c.runs.invariant.room part kept wrapped bytes s))
 
-pub returns-then-turn-clause-stands : goal.returns-then-turn-clause-stands
-returns-then-turn-clause-stands c = λ part kept wrapped bytes s.
+pub returns-then-turn-clause-takes : goal.returns-then-turn-clause-takes
+returns-then-turn-clause-takes c = λ part kept wrapped bytes s.
     let piece : List ℕ = c.args.piece.now in
     let used = c.turn.ensures.used_up c.if-turn.true in
     subst (λ (k : ℕ). DeviceStandsFor part kept wrapped c.turn.new.self (bytes ++ take k piece)) used.all
-    (stands_on part kept wrapped c.give.new.self c.turn.new.self bytes piece c.runs.at c.turn.new.at c.turn.ensures.turned.forward (c.turn.ensures.turned.turn.stands part kept wrapped)
+    (stands_on part kept wrapped c.give.new.self c.turn.new.self bytes piece c.runs.at c.turn.new.at c.turn.ensures.turned.forward (c.turn.ensures.turned.turn.takes part kept wrapped)
     (c.give.ensures.given part kept wrapped (bytes ++ take c.runs.at piece) (c.runs.invariant.stands part kept wrapped bytes s)).stands)
 
 pub returns-then-turn-clause-answer : goal.returns-then-turn-clause-answer
 returns-then-turn-clause-answer c = λ part kept wrapped bytes s.
     let piece : List ℕ = c.args.piece.now in
     let used = c.turn.ensures.used_up c.if-turn.true in
-    let stands : DeviceStandsFor part kept wrapped c.turn.new.self (bytes ++ take (length piece) piece) = returns-then-turn-clause-stands c part kept wrapped bytes s in
+    let stands : DeviceStandsFor part kept wrapped c.turn.new.self (bytes ++ take (length piece) piece) = returns-then-turn-clause-takes c part kept wrapped bytes s in
     (stands.stop_is ∙ ap (stopped_at (length (bytes ++ take (length piece) piece))) used.going, used.no_word_due)
 
 pub returns-then-turn-clause-reads : goal.returns-then-turn-clause-reads
@@ -107,7 +107,7 @@ runs-preserved c =
       taken = omega (arith, taken, c.turn.ensures.turned.taken, c.turn.ensures.turned.forward, c.runs.invariant.taken);
       fits = omega (arith, taken, c.turn.ensures.turned.taken, c.turn.ensures.turned.forward, c.turn.ensures.turned.within, c.runs.invariant.fits);
       stands = λ part kept wrapped bytes s.
-          stands_on part kept wrapped c.give.new.self c.turn.new.self bytes piece c.runs.at c.turn.new.at c.turn.ensures.turned.forward (c.turn.ensures.turned.turn.stands part kept wrapped)
+          stands_on part kept wrapped c.give.new.self c.turn.new.self bytes piece c.runs.at c.turn.new.at c.turn.ensures.turned.forward (c.turn.ensures.turned.turn.takes part kept wrapped)
           (c.give.ensures.given part kept wrapped (bytes ++ take c.runs.at piece) (c.runs.invariant.stands part kept wrapped bytes s)).stands;
       reads = λ part kept wrapped bytes s.
           read_here part kept wrapped c.runs.self c.give.new.self c.turn.new.self c.args.read.now c.runs.read c.give.new.read bytes piece (reads_given part kept c.args.self.now bytes) c.runs.at c.turn.new.at
@@ -117,7 +117,7 @@ runs-preserved c =
           let gives = c.give.ensures.given part kept wrapped taken (c.runs.invariant.stands part kept wrapped bytes s) in
           let due : NoWordDue c.give.new.self = c.give.ensures.none_left.0 c.if-not-give.false in
           room_read_on part kept wrapped c.give.new.self c.turn.new.self c.args.read.now c.give.new.read bytes c.args.piece.now (reads_given part kept c.args.self.now bytes) c.runs.at c.turn.new.at c.turn.ensures.turned.forward c.turn.ensures.turned.within
-          c.give.ensures.going due gives.stands (c.turn.ensures.turned.turn.stands part kept wrapped taken gives.stands) (c.turn.ensures.turned.turn.commands part kept wrapped taken gives.stands) c.give.ensures.within_most
+          c.give.ensures.going due gives.stands (c.turn.ensures.turned.turn.takes part kept wrapped taken gives.stands) (c.turn.ensures.turned.turn.commands part kept wrapped taken gives.stands) c.give.ensures.within_most
           (now_given part kept wrapped c.runs.self c.give.new.self c.args.read.now c.runs.read c.give.new.read taken (reads_given part kept c.args.self.now bytes) gives (c.runs.invariant.reads part kept wrapped bytes s))
           (c.runs.invariant.room part kept wrapped bytes s));
       few = c.give.ensures.within_most;

@@ -33,8 +33,8 @@ none_full : (n : ℕ) (b : ReadBufState) → b.most ≡ None → (0 < n → IsFu
 none_full zero b e f = refl
 none_full (suc n) b e f = absurd (subst (λ (o : Option ℕ). IsFullBy o (length b.words)) e (f (omega arith)))
 
-pub returns-then-not-give-clause-stands : goal.returns-then-not-give-clause-stands
-returns-then-not-give-clause-stands c = λ part kept wrapped bytes s. (c.give.ensures.given part kept wrapped (bytes ++ take c.runs.at c.args.piece.now) (c.runs.invariant.stands part kept wrapped bytes s)).stands
+pub returns-then-not-give-clause-takes : goal.returns-then-not-give-clause-takes
+returns-then-not-give-clause-takes c = λ part kept wrapped bytes s. (c.give.ensures.given part kept wrapped (bytes ++ take c.runs.at c.args.piece.now) (c.runs.invariant.stands part kept wrapped bytes s)).stands
 
 pub returns-then-not-give-clause-no_word_due : goal.returns-then-not-give-clause-no_word_due
 returns-then-not-give-clause-no_word_due c = λ part kept wrapped bytes s.
@@ -50,16 +50,16 @@ returns-then-not-give-clause-ends c = λ part kept wrapped bytes s l.
     absurd (let both : true ≡ false = sym yes ∙ no in cc)
 
 -- startup has begun
-pub returns-then-has_begun-clause-stands : goal.returns-then-has_begun-clause-stands
-returns-then-has_begun-clause-stands c = λ part kept wrapped bytes s. (c.give.ensures.given part kept wrapped (bytes ++ take c.runs.at c.args.piece.now) (c.runs.invariant.stands part kept wrapped bytes s)).stands
+pub returns-then-has_begun-clause-takes : goal.returns-then-has_begun-clause-takes
+returns-then-has_begun-clause-takes c = λ part kept wrapped bytes s. (c.give.ensures.given part kept wrapped (bytes ++ take c.runs.at c.args.piece.now) (c.runs.invariant.stands part kept wrapped bytes s)).stands
 
 pub returns-then-has_begun-clause-ends : goal.returns-then-has_begun-clause-ends
-returns-then-has_begun-clause-ends c = λ part kept wrapped bytes s l. inr (sym c.has_begun.ensures.now ∙ c.if-has_begun.true)
+returns-then-has_begun-clause-ends c = λ part kept wrapped bytes s l. inr (sym c.has_begun.ensures.value ∙ c.if-has_begun.true)
 
 -- a turn
-pub returns-then-turn-clause-stands : goal.returns-then-turn-clause-stands
-returns-then-turn-clause-stands c = λ part kept wrapped bytes s.
-    stands_on part kept wrapped c.give.new.self c.turn.new.self bytes c.args.piece.now c.runs.at c.turn.new.at c.turn.ensures.turned.forward (c.turn.ensures.turned.turn.stands part kept wrapped)
+pub returns-then-turn-clause-takes : goal.returns-then-turn-clause-takes
+returns-then-turn-clause-takes c = λ part kept wrapped bytes s.
+    stands_on part kept wrapped c.give.new.self c.turn.new.self bytes c.args.piece.now c.runs.at c.turn.new.at c.turn.ensures.turned.forward (c.turn.ensures.turned.turn.takes part kept wrapped)
     (c.give.ensures.given part kept wrapped (bytes ++ take c.runs.at c.args.piece.now) (c.runs.invariant.stands part kept wrapped bytes s)).stands
 
 pub returns-then-turn-clause-first : goal.returns-then-turn-clause-first
@@ -67,7 +67,7 @@ returns-then-turn-clause-first c = λ part kept wrapped bytes s.
     let taken : List ℕ = bytes ++ take c.runs.at c.args.piece.now in
     let given : DeviceStandsFor part kept wrapped c.give.new.self taken = (c.give.ensures.given part kept wrapped taken (c.runs.invariant.stands part kept wrapped bytes s)).stands in
     unbegun_on part kept wrapped c.give.new.self c.turn.new.self bytes c.args.piece.now c.runs.at c.turn.new.at c.turn.ensures.turned.forward c.turn.ensures.turned.within c.give.ensures.going given
-    (c.turn.ensures.turned.turn.stands part kept wrapped taken given) (c.turn.ensures.turned.turn.commands part kept wrapped taken given)
+    (c.turn.ensures.turned.turn.takes part kept wrapped taken given) (c.turn.ensures.turned.turn.commands part kept wrapped taken given)
     (c.has_begun.ensures.not_begun part kept wrapped taken given c.if-has_begun.false) (c.runs.invariant.first part kept wrapped bytes s)
 
 pub runs-preserved : goal.runs-preserved
@@ -85,12 +85,12 @@ runs-preserved c =
           let given = c.give.ensures.given part kept wrapped (bytes ++ take c.runs.at piece) (c.runs.invariant.stands part kept wrapped bytes s) in
           ap (λ (b : ReadBufState). b.most) given.read_is ∙ c.runs.invariant.drops part kept wrapped bytes s;
       stands = λ part kept wrapped bytes s.
-          stands_on part kept wrapped c.give.new.self c.turn.new.self bytes piece c.runs.at at c.turn.ensures.turned.forward (c.turn.ensures.turned.turn.stands part kept wrapped)
+          stands_on part kept wrapped c.give.new.self c.turn.new.self bytes piece c.runs.at at c.turn.ensures.turned.forward (c.turn.ensures.turned.turn.takes part kept wrapped)
           (c.give.ensures.given part kept wrapped (bytes ++ take c.runs.at piece) (c.runs.invariant.stands part kept wrapped bytes s)).stands;
       first = λ part kept wrapped bytes s.
           let taken : List ℕ = bytes ++ take c.runs.at piece in
           let given : DeviceStandsFor part kept wrapped c.give.new.self taken = (c.give.ensures.given part kept wrapped taken (c.runs.invariant.stands part kept wrapped bytes s)).stands in
           unbegun_on part kept wrapped c.give.new.self c.turn.new.self bytes piece c.runs.at at c.turn.ensures.turned.forward c.turn.ensures.turned.within c.give.ensures.going given
-          (c.turn.ensures.turned.turn.stands part kept wrapped taken given) (c.turn.ensures.turned.turn.commands part kept wrapped taken given)
+          (c.turn.ensures.turned.turn.takes part kept wrapped taken given) (c.turn.ensures.turned.turn.commands part kept wrapped taken given)
           (c.has_begun.ensures.not_begun part kept wrapped taken given c.if-has_begun.false) (c.runs.invariant.first part kept wrapped bytes s);
     }

@@ -34,8 +34,8 @@ stop_count c =
     count_is c.answer.result c.started.result c.answer_at_stop.result (length c.args.piece.now) c.runs.at c.answer.ensures
     (ap (taken_in (length c.args.piece.now)) c.answer_at_stop.ensures ∙ taken_by_stop c.in-Some.stop (length c.args.piece.now) c.runs.at)
 
-pub returns-in-Some-clause-stands : goal.returns-in-Some-clause-stands
-returns-in-Some-clause-stands c = λ part kept wrapped bytes s.
+pub returns-in-Some-clause-takes : goal.returns-in-Some-clause-takes
+returns-in-Some-clause-takes c = λ part kept wrapped bytes s.
     subst (λ (k : ℕ). DeviceStandsFor part kept wrapped c.runs.self (bytes ++ take k c.args.piece.now)) (sym (stop_count c)) (c.runs.invariant.stands part kept wrapped bytes s)
 
 pub returns-in-Some-clause-first : goal.returns-in-Some-clause-first
@@ -68,8 +68,8 @@ returns-in-Some-clause-room c = λ part kept wrapped bytes s.
 
 -- ---- words due
 
-pub returns-then-not-give-clause-stands : goal.returns-then-not-give-clause-stands
-returns-then-not-give-clause-stands c = λ part kept wrapped bytes s.
+pub returns-then-not-give-clause-takes : goal.returns-then-not-give-clause-takes
+returns-then-not-give-clause-takes c = λ part kept wrapped bytes s.
     (c.give.ensures.given part kept wrapped (bytes ++ take c.runs.at c.args.piece.now) (c.runs.invariant.stands part kept wrapped bytes s)).stands
 
 pub returns-then-not-give-clause-reads : goal.returns-then-not-give-clause-reads
@@ -80,8 +80,8 @@ returns-then-not-give-clause-reads c = λ part kept wrapped bytes s.
 
 -- ---- startup has ended
 
-pub returns-then-started-clause-stands : goal.returns-then-started-clause-stands
-returns-then-started-clause-stands c = λ part kept wrapped bytes s.
+pub returns-then-started-clause-takes : goal.returns-then-started-clause-takes
+returns-then-started-clause-takes c = λ part kept wrapped bytes s.
     (c.give.ensures.given part kept wrapped (bytes ++ take c.runs.at c.args.piece.now) (c.runs.invariant.stands part kept wrapped bytes s)).stands
 
 pub returns-then-started-clause-started : goal.returns-then-started-clause-started
@@ -97,14 +97,14 @@ returns-then-started-clause-reads c = λ part kept wrapped bytes s.
 
 -- ---- the piece is used up
 
-pub returns-then-turn_until_started-clause-stands : goal.returns-then-turn_until_started-clause-stands
-returns-then-turn_until_started-clause-stands c = λ part kept wrapped bytes s.
+pub returns-then-turn_until_started-clause-takes : goal.returns-then-turn_until_started-clause-takes
+returns-then-turn_until_started-clause-takes c = λ part kept wrapped bytes s.
     let piece : List ℕ = c.args.piece.now in
     let at : ℕ = c.turn_until_started.new.at in
     let used = c.turn_until_started.ensures.took.used_up c.if-turn_until_started.true in
     let count : taken_until (length piece) c.answer-then-turn_until_started.result ≡ at = count_is c.answer-then-turn_until_started.result c.started-then-turn_until_started.result fed.All (length piece) at c.answer-then-turn_until_started.ensures (sym used.all) in
     subst (λ (k : ℕ). DeviceStandsFor part kept wrapped c.turn_until_started.new.self (bytes ++ take k piece)) (sym count)
-    (stands_on part kept wrapped c.give.new.self c.turn_until_started.new.self bytes piece c.runs.at at c.turn_until_started.ensures.took.turned.forward (c.turn_until_started.ensures.took.turned.turn.stands part kept wrapped)
+    (stands_on part kept wrapped c.give.new.self c.turn_until_started.new.self bytes piece c.runs.at at c.turn_until_started.ensures.took.turned.forward (c.turn_until_started.ensures.took.turned.turn.takes part kept wrapped)
     (c.give.ensures.given part kept wrapped (bytes ++ take c.runs.at piece) (c.runs.invariant.stands part kept wrapped bytes s)).stands)
 
 pub returns-then-turn_until_started-clause-first : goal.returns-then-turn_until_started-clause-first
@@ -128,7 +128,7 @@ returns-then-turn_until_started-clause-started c = λ part kept wrapped bytes s 
     let taken : List ℕ = bytes ++ take c.runs.at piece in
     let given = c.give.ensures.given part kept wrapped taken (c.runs.invariant.stands part kept wrapped bytes s) in
     let here : DeviceStandsFor part kept wrapped c.turn_until_started.new.self (bytes ++ take at piece) =
-    stands_on part kept wrapped c.give.new.self c.turn_until_started.new.self bytes piece c.runs.at at c.turn_until_started.ensures.took.turned.forward (c.turn_until_started.ensures.took.turned.turn.stands part kept wrapped) given.stands in
+    stands_on part kept wrapped c.give.new.self c.turn_until_started.new.self bytes piece c.runs.at at c.turn_until_started.ensures.took.turned.forward (c.turn_until_started.ensures.took.turned.turn.takes part kept wrapped) given.stands in
     ap says_started c.answer-then-turn_until_started.ensures ∙ says_answer c.started-then-turn_until_started.result fed.All at
     ∙ c.started-then-turn_until_started.ensures part kept wrapped (bytes ++ take at piece) here
     ∙ ap (λ (k : ℕ). has_started part kept (bytes ++ take k piece)) (sym count)
@@ -143,7 +143,7 @@ returns-then-turn_until_started-clause-answer c = λ part kept wrapped bytes s.
     let taken : List ℕ = bytes ++ take c.runs.at piece in
     let given = c.give.ensures.given part kept wrapped taken (c.runs.invariant.stands part kept wrapped bytes s) in
     let here : DeviceStandsFor part kept wrapped c.turn_until_started.new.self all =
-    stands_on part kept wrapped c.give.new.self c.turn_until_started.new.self bytes piece c.runs.at at c.turn_until_started.ensures.took.turned.forward (c.turn_until_started.ensures.took.turned.turn.stands part kept wrapped) given.stands in
+    stands_on part kept wrapped c.give.new.self c.turn_until_started.new.self bytes piece c.runs.at at c.turn_until_started.ensures.took.turned.forward (c.turn_until_started.ensures.took.turned.turn.takes part kept wrapped) given.stands in
     subst (λ (k : ℕ). AnswersUntil (past_of part kept wrapped (bytes ++ take k piece)) c.turn_until_started.new.self c.give.new.read c.answer-then-turn_until_started.result) (sym count)
     (subst (AnswersUntil (past_of part kept wrapped all) c.turn_until_started.new.self c.give.new.read) (sym c.answer-then-turn_until_started.ensures)
     (answers_until (past_of part kept wrapped all) c.turn_until_started.new.self c.give.new.read c.started-then-turn_until_started.result fed.All at used.no_word_due (here.stop_is ∙ ap (stopped_at (length all)) used.going, used.no_word_due)))
@@ -169,7 +169,7 @@ returns-then-turn_until_started-clause-room c = λ part kept wrapped bytes s.
     let gives = c.give.ensures.given part kept wrapped taken (c.runs.invariant.stands part kept wrapped bytes s) in
     let due : NoWordDue c.give.new.self = c.give.ensures.none_left.0 c.if-not-give.false in
     room_read_on part kept wrapped c.give.new.self c.turn_until_started.new.self c.args.read.now c.give.new.read bytes c.args.piece.now (reads_given part kept c.args.self.now bytes) c.runs.at c.turn_until_started.new.at c.turn_until_started.ensures.took.turned.forward c.turn_until_started.ensures.took.turned.within
-    c.give.ensures.going due gives.stands (c.turn_until_started.ensures.took.turned.turn.stands part kept wrapped taken gives.stands) (c.turn_until_started.ensures.took.turned.turn.commands part kept wrapped taken gives.stands) c.give.ensures.within_most
+    c.give.ensures.going due gives.stands (c.turn_until_started.ensures.took.turned.turn.takes part kept wrapped taken gives.stands) (c.turn_until_started.ensures.took.turned.turn.commands part kept wrapped taken gives.stands) c.give.ensures.within_most
     (now_given part kept wrapped c.runs.self c.give.new.self c.args.read.now c.runs.read c.give.new.read taken (reads_given part kept c.args.self.now bytes) gives (c.runs.invariant.reads part kept wrapped bytes s))
     (c.runs.invariant.room part kept wrapped bytes s))
 
@@ -187,7 +187,7 @@ runs-preserved c =
       fed = omega (arith, c.turn_until_started.ensures.took.turned.fed, c.give.ensures.fed, c.runs.invariant.fed, c.turn_until_started.ensures.took.turned.forward);
       fits = omega (arith, same, c.turn_until_started.ensures.took.turned.taken, c.turn_until_started.ensures.took.turned.forward, c.turn_until_started.ensures.took.turned.within, c.runs.invariant.fits);
       stands = λ part kept wrapped bytes s.
-          stands_on part kept wrapped c.give.new.self c.turn_until_started.new.self bytes piece c.runs.at at c.turn_until_started.ensures.took.turned.forward (c.turn_until_started.ensures.took.turned.turn.stands part kept wrapped)
+          stands_on part kept wrapped c.give.new.self c.turn_until_started.new.self bytes piece c.runs.at at c.turn_until_started.ensures.took.turned.forward (c.turn_until_started.ensures.took.turned.turn.takes part kept wrapped)
           (c.give.ensures.given part kept wrapped (bytes ++ take c.runs.at piece) (c.runs.invariant.stands part kept wrapped bytes s)).stands;
       first = λ part kept wrapped bytes s.
           let taken : List ℕ = bytes ++ take c.runs.at piece in
@@ -202,7 +202,7 @@ runs-preserved c =
           let gives = c.give.ensures.given part kept wrapped taken (c.runs.invariant.stands part kept wrapped bytes s) in
           let due : NoWordDue c.give.new.self = c.give.ensures.none_left.0 c.if-not-give.false in
           room_read_on part kept wrapped c.give.new.self c.turn_until_started.new.self c.args.read.now c.give.new.read bytes c.args.piece.now (reads_given part kept c.args.self.now bytes) c.runs.at c.turn_until_started.new.at c.turn_until_started.ensures.took.turned.forward c.turn_until_started.ensures.took.turned.within
-          c.give.ensures.going due gives.stands (c.turn_until_started.ensures.took.turned.turn.stands part kept wrapped taken gives.stands) (c.turn_until_started.ensures.took.turned.turn.commands part kept wrapped taken gives.stands) c.give.ensures.within_most
+          c.give.ensures.going due gives.stands (c.turn_until_started.ensures.took.turned.turn.takes part kept wrapped taken gives.stands) (c.turn_until_started.ensures.took.turned.turn.commands part kept wrapped taken gives.stands) c.give.ensures.within_most
           (now_given part kept wrapped c.runs.self c.give.new.self c.args.read.now c.runs.read c.give.new.read taken (reads_given part kept c.args.self.now bytes) gives (c.runs.invariant.reads part kept wrapped bytes s))
           (c.runs.invariant.room part kept wrapped bytes s));
       stopped = λ e. absurd (let none : true ≡ false = sym e ∙ ap (λ (d : DeviceState). is_some d.registers.stop) (sym (c.runs.invariant.stopped e).0) ∙ sym (ap (λ (o : Option StopCause). is_some o) c.in_default.ensures) in cc);

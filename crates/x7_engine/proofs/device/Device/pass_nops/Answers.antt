@@ -55,7 +55,7 @@ passed_here c kept wrapped bytes s =
     (ap (λ (d : DeviceState). d.registers.stop) c.self.view_is ∙ c.requires.going)
     (ap (λ (d : DeviceState). due_count d.registers.due) c.self.view_is ∙ c.requires.no_word_due)
     (λ sessions place i. subst (λ (b : List ℕ). Idles c.self.inside.cutter (bytes ++ b) sessions place) prefix (c.nop_count-count.ensures.idles bytes sessions place i))
-    (c.take_bytes-left.ensures.stands kept) (sym all) split (length-drop (from + count - left - from) cut ∙ omega (arith, all, few))
+    (c.take_bytes-left.ensures.enters kept) (sym all) split (length-drop (from + count - left - from) cut ∙ omega (arith, all, few))
     c.take_bytes-left.ensures.left.goes_on c.take_bytes-left.ensures.fired refl refl refl (omega (arith, taken))
     (ap due_count c.take_bytes-left.ensures.due ∙ ap (λ (d : DeviceState). due_count d.registers.due) c.self.view_is ∙ c.requires.no_word_due)
 
@@ -97,7 +97,7 @@ returns-clause-turned c = record {
   fed = search rules;
   turn = record {
     part = ap (λ (d : DeviceState). d.part) c.self.view_is;
-    stands = stands_after c;
+    takes = stands_after c;
     silent = silent_after c;
     commands = λ part kept wrapped bytes s.
         quiet_commands bytes (between c.args.piece.now c.args.at.now (c.args.at.now + ((4 * c.nop_count-count.result) - c.take_bytes-left.result))) (stands_after c part kept wrapped bytes s).fits (quiet_after c part kept wrapped bytes s);

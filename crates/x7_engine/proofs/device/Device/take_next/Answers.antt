@@ -22,14 +22,14 @@ turn_taken c =
     let run : List ℕ = between c.args.piece.now c.pass_nops.new.at c.take_run.new.at in
     record {
       part = c.take_run.ensures.turned.turn.part ∙ c.pass_nops.ensures.turned.turn.part;
-      stands = λ part kept wrapped bytes s.
-          subst (λ (t : List ℕ). DeviceStandsFor part kept wrapped c.take_run.new.self t) (joined c bytes) (c.take_run.ensures.turned.turn.stands part kept wrapped (bytes ++ nops) (c.pass_nops.ensures.turned.turn.stands part kept wrapped bytes s));
+      takes = λ part kept wrapped bytes s.
+          subst (λ (t : List ℕ). DeviceStandsFor part kept wrapped c.take_run.new.self t) (joined c bytes) (c.take_run.ensures.turned.turn.takes part kept wrapped (bytes ++ nops) (c.pass_nops.ensures.turned.turn.takes part kept wrapped bytes s));
       silent = λ part kept wrapped bytes s.
           ap (reads_given part kept c.take_run.new.self) (sym (joined c bytes))
-          ∙ c.take_run.ensures.turned.turn.silent part kept wrapped (bytes ++ nops) (c.pass_nops.ensures.turned.turn.stands part kept wrapped bytes s)
+          ∙ c.take_run.ensures.turned.turn.silent part kept wrapped (bytes ++ nops) (c.pass_nops.ensures.turned.turn.takes part kept wrapped bytes s)
           ∙ c.pass_nops.ensures.turned.turn.silent part kept wrapped bytes s;
       commands = λ part kept wrapped bytes s. (
-          let stands = c.pass_nops.ensures.turned.turn.stands part kept wrapped bytes s in
+          let stands = c.pass_nops.ensures.turned.turn.takes part kept wrapped bytes s in
           subst (CommandsLast bytes) (between_join c.args.piece.now c.args.at.now c.pass_nops.new.at c.take_run.new.at c.pass_nops.ensures.turned.forward c.take_run.ensures.turned.forward)
           (then_commands bytes nops run stands.fits (c.pass_nops.ensures.same_history part kept wrapped bytes s) (c.take_run.ensures.turned.turn.commands part kept wrapped (bytes ++ nops) stands)));
     }

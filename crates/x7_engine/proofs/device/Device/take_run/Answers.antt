@@ -53,14 +53,14 @@ turned_here c kept wrapped bytes s =
     let inside : DeviceStandsFor c.self.inside.part kept wrapped (device_before c) bytes = subst (λ (d : DeviceState). DeviceStandsFor c.self.inside.part kept wrapped d bytes) (sym c.self.view_is) s in
     turned c.self.inside.part kept wrapped (device_before c) (device_after c) bytes cut more (drop (at - left - from) cut) c.cut-run.result (at - from) left (length piece - from) inside
     (ap (λ (d : DeviceState). d.registers.stop) c.self.view_is ∙ c.requires.going)
-    (c.cut-run.ensures.adds bytes) (c.run-left.ensures.stands kept) (c.run-left.ensures.reads kept)
+    (c.cut-run.ensures.adds bytes) (c.run-left.ensures.enters kept) (c.run-left.ensures.reads kept)
     (sym all) (between_prefix piece from at left forward) (length-drop (at - left - from) cut ∙ omega (arith, all, some)) c.cut-run.ensures.run c.cut-run.ensures.lent
     c.run-left.ensures.left.goes_on c.run-left.ensures.none_due_at_stop.none_due_at_stop refl refl (omega (arith, taken))
 
 turn_taken : (c : goal.After-is_done) → TakesTurn c.args.self.now (device_after c) (between c.args.piece.now c.args.at.now (c.cut-run.new.at - c.run-left.result))
 turn_taken c = record {
   part = ap (λ (d : DeviceState). d.part) c.self.view_is;
-  stands = λ part kept wrapped bytes s. (
+  takes = λ part kept wrapped bytes s. (
       let here : c.self.inside.part ≡ part = ap (λ (d : DeviceState). d.part) c.self.view_is ∙ s.part_is in
       let more : List ℕ = between c.args.piece.now c.args.at.now (c.cut-run.new.at - c.run-left.result) in
       subst (λ (p : PartData). DeviceStandsFor p kept wrapped (device_after c) (bytes ++ more)) here
@@ -90,7 +90,7 @@ turn_taken c = record {
 pub invariant_of-self : goal.invariant_of-self
 invariant_of-self c = record {
   frames = c.run-left.ensures.none_due_at_stop.frames;
-  past = past_later c.args.self.now (device_after c) (between c.args.piece.now c.args.at.now (c.cut-run.new.at - c.run-left.result)) (turn_taken c).stands (subst HasSomePast c.self.view_is c.self.invariant.past);
+  past = past_later c.args.self.now (device_after c) (between c.args.piece.now c.args.at.now (c.cut-run.new.at - c.run-left.result)) (turn_taken c).takes (subst HasSomePast c.self.view_is c.self.invariant.past);
 }
 
 -- a run that says that the piece is used up leaves nothing of it, and tells of no word; any other comes nearer to that

@@ -48,12 +48,12 @@ written_here c given kept wrapped bytes s =
     (write_at part kept wrapped (device_before c) (device_after c) bytes c.args.piece.now c.args.at.now c.in-Some.register c.in-Some.word inside
     (ap (λ (d : DeviceState). d.registers.stop) c.self.view_is ∙ c.requires.going)
     (c.is_idle.ensures.not_begun c.if-not-is_idle.false) (c.is_idle.ensures.no_limit c.if-not-is_idle.false)
-    c.in-Some.ensures.writes (subst (λ (r : ℕ). EntersAt (wrote c) (λ place h. entry (Write r c.in-Some.word) place ∷ h)) c.numbered.ensures c.write_to.ensures.stands kept) c.write_to.ensures.counts (no_word_due c) refl refl refl)
+    c.in-Some.ensures.writes (subst (λ (r : ℕ). EntersAt (wrote c) (λ place h. entry (Write r c.in-Some.word) place ∷ h)) c.numbered.ensures c.write_to.ensures.enters kept) c.write_to.ensures.counts (no_word_due c) refl refl refl)
 
 turn_taken : (c : goal.After-self-2-1) → TakesTurn c.args.self.now (device_after c) (between c.args.piece.now c.args.at.now (c.args.at.now + 8))
 turn_taken c = record {
   part = ap (λ (d : DeviceState). d.part) c.self.view_is;
-  stands = λ part kept wrapped bytes s. (written_here c part kept wrapped bytes s).0;
+  takes = λ part kept wrapped bytes s. (written_here c part kept wrapped bytes s).0;
   silent = λ part kept wrapped bytes s.
       given_same part kept c.args.self.now (device_after c) bytes (bytes ++ between c.args.piece.now c.args.at.now (c.args.at.now + 8)) c.requires.no_word_due (no_word_due c) (written_here c part kept wrapped bytes s).1;
   commands = λ part kept wrapped bytes s. (written_here c part kept wrapped bytes s).2;
@@ -62,7 +62,7 @@ turn_taken c = record {
 pub invariant_of-self-2 : goal.invariant_of-self-2
 invariant_of-self-2 c = record {
   frames = c.write_to.ensures.leaves.frames;
-  past = past_later c.args.self.now (device_after c) (between c.args.piece.now c.args.at.now (c.args.at.now + 8)) (turn_taken c).stands (subst HasSomePast c.self.view_is c.self.invariant.past);
+  past = past_later c.args.self.now (device_after c) (between c.args.piece.now c.args.at.now (c.args.at.now + 8)) (turn_taken c).takes (subst HasSomePast c.self.view_is c.self.invariant.past);
 }
 
 pub returns-clause-turned : goal.returns-clause-turned

@@ -37,7 +37,7 @@ returns-then-turn-clause-took c =
 pub returns-then-turn-clause-first : goal.returns-then-turn-clause-first
 returns-then-turn-clause-first c = λ part kept wrapped bytes s not.
     turn_first part kept wrapped c.args.self.now c.turn.new.self bytes c.args.piece.now c.turn_end-end.result c.args.at.now c.turn.new.at c.turn_end-end.ensures.within c.turn.ensures.turned.forward c.turn.ensures.turned.within c.requires.going
-    s (c.turn.ensures.turned.turn.stands part kept wrapped bytes s) (c.turn.ensures.turned.turn.commands part kept wrapped bytes s) (c.turn_end-end.ensures.soonest part kept wrapped bytes s) not
+    s (c.turn.ensures.turned.turn.takes part kept wrapped bytes s) (c.turn.ensures.turned.turn.commands part kept wrapped bytes s) (c.turn_end-end.ensures.soonest part kept wrapped bytes s) not
 
 pub returns-clause-took : goal.returns-clause-took
 returns-clause-took c = record {
@@ -52,4 +52,4 @@ returns-clause-took c = record {
 pub returns-clause-first : goal.returns-clause-first
 returns-clause-first c = λ part kept wrapped bytes s not.
     turn_first part kept wrapped c.args.self.now c.turn.new.self bytes c.args.piece.now c.turn_end-end.result c.args.at.now c.turn.new.at c.turn_end-end.ensures.within c.turn.ensures.turned.forward c.turn.ensures.turned.within c.requires.going
-    s (c.turn.ensures.turned.turn.stands part kept wrapped bytes s) (c.turn.ensures.turned.turn.commands part kept wrapped bytes s) (c.turn_end-end.ensures.soonest part kept wrapped bytes s) not
+    s (c.turn.ensures.turned.turn.takes part kept wrapped bytes s) (c.turn.ensures.turned.turn.commands part kept wrapped bytes s) (c.turn_end-end.ensures.soonest part kept wrapped bytes s) not

@@ -29,10 +29,10 @@ returns-in-Effective c =
         goes_on = λ e. omega (arith, size, c.words_at_once-taken.ensures.within, c.words_one_by_one.ensures.takes.goes_on e);
       };
       leaves = record { due = c.words_one_by_one.ensures.leaves.due ∙ c.words_at_once-taken.ensures.leaves.due; frames = c.words_one_by_one.ensures.leaves.frames };
-      stands = λ kept h n s. (
+      enters = λ kept h n s. (
           let prefix : History = entered_all n (payload_steps register (words_of_bytes (take k bytes))) h in
-          let one : RegistersStandFor part kept (registers_in c.words_at_once-taken.new.self) prefix (n + k) = c.words_at_once-taken.ensures.stands kept h n s in
-          let rest = c.words_one_by_one.ensures.stands kept prefix (n + k) one in
+          let one : RegistersStandFor part kept (registers_in c.words_at_once-taken.new.self) prefix (n + k) = c.words_at_once-taken.ensures.enters kept h n s in
+          let rest = c.words_one_by_one.ensures.enters kept prefix (n + k) one in
           let same : entered_all (n + k) (payload_steps register (words_of_bytes (take (length bytes - k) (drop k bytes)))) prefix ≡ entered_all n (payload_steps register (words_of_bytes bytes)) h = rest_entered register n k bytes h c.words_at_once-taken.ensures.whole c.words_at_once-taken.ensures.within in
           let sum : n + k + r ≡ n + (k + r) = omega arith in
           subst (λ (x : ℕ). RegistersStandFor part kept (registers_in c.words_one_by_one.new.self) (until (counted_in c.words_one_by_one.new.self.stop x) (entered_all n (payload_steps register (words_of_bytes bytes)) h)) x) sum

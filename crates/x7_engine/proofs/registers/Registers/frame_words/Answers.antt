@@ -29,9 +29,9 @@ returns c = record {
       let inner : length (take (b * 4) c.args.bytes.now) ≡ b * 4 = length-take-le (b * 4) c.args.bytes.now (omega (arith, c.before_firing.ensures.within)) in
       omega (arith, inner, c.count_taken-taken.ensures.within, c.write_bytes-count.ensures.within, c.before_firing.ensures.within));
   whole = omega arith;
-  going = c.requires.ready.going;
+  going = c.requires.may_take.going;
   leaves = record { due = refl; frames = c.write_bytes-count.ensures.part };
-  stands = λ kept h n s. (
+  enters = λ kept h n s. (
       let part : PartData = c.args.part.now in
       let bytes : List ℕ = c.args.bytes.now in
       let r : Reg = c.args.reg in
@@ -50,8 +50,8 @@ returns c = record {
       let newest : newest_place h ≤ n = newest_within n h s.places in
       let none : first_firing part kept h n (k * 4) ≡ None = firing_less part kept h n (k * 4) c.before_firing.result (omega (arith, few)) (c.before_firing.ensures.none_fires kept h n newest s.clock) in
       let ticks : ClockTakes (course_at part kept h n) clock (k * 4) None = ticks_quiet part kept clock h n (k * 4) c.bytes.result none (c.bytes.ensures.takes kept h n newest s.clock) in
-      let after = ticked part kept (registers_in c.args.self.now) clock h n (k * 4) m refl c.requires.ready.going s ticks in
-      let are : FramesStandFor part c.args.self.now.frames h 0 = standing_frames part c.args.self.now.frames c.args.self.now.stop h c.args.self.now.due c.requires.ready.going c.requires.ready.no_word_due s.frames in
+      let after = ticked part kept (registers_in c.args.self.now) clock h n (k * 4) m refl c.requires.may_take.going s ticks in
+      let are : FramesStandFor part c.args.self.now.frames h 0 = standing_frames part c.args.self.now.frames c.args.self.now.stop h c.args.self.now.due c.requires.may_take.going c.requires.may_take.no_word_due s.frames in
       let words = given part c.write_bytes-count.new.self h (words_to r n (take (b * 4) bytes)) c.write_bytes-count.result (c.write_bytes-count.ensures.taken n h (c.settings-settings.ensures.after part kept h n s) are) in
       let before : take _ looked ≡ prefix = ap (λ (j : ℕ). take j looked) (sym c.count_taken-taken.ensures.value) ∙ same in
       let unrefused : NoneRefused part r n prefix h = subst (λ (x : List ℕ). NoneRefused part r n x h) before words.0 in
@@ -69,7 +69,7 @@ returns c = record {
         before = s.before;
         clock = clocked.clock;
         stop = clocked.stop;
-        frames = frames_none part c.write_bytes-count.new.self c.args.self.now.stop all c.args.self.now.due c.requires.ready.going c.requires.ready.no_word_due frames;
-        due_kind = none_among c.args.self.now.due all c.requires.ready.no_word_due;
+        frames = frames_none part c.write_bytes-count.new.self c.args.self.now.stop all c.args.self.now.due c.requires.may_take.going c.requires.may_take.no_word_due frames;
+        due_kind = none_among c.args.self.now.due all c.requires.may_take.no_word_due;
       });
 }

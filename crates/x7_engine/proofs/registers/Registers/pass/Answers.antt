@@ -11,7 +11,7 @@ use Rattle.x7_engine.proofs.registers.Registers.pass.Goals as goal
 
 pub returns : goal.returns
 returns c = λ part ready. record {
-  stands = λ kept h place next s. (
+  enters = λ kept h place next s. (
       let p : IsPlain c.args.plain.register = plain_is c.args.plain.register c.args.plain.plain in
       let q = p.quiet in
       let going : stop_of part kept h place ≡ None = s.stop ∙ ap (stopped_at place) ready.going in

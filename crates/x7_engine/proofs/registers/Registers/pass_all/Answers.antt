@@ -23,8 +23,8 @@ returns c = record {
     takes_some = λ l. omega (arith, c.take_bytes-left.ensures.takes_some l);
     goes_on = λ e. omega (arith, c.take_bytes-left.ensures.left.goes_on e);
   };
-  leaves = record { due = c.take_bytes-left.ensures.due; frames = subst (FramesFit c.args.part.now) (sym c.take_bytes-left.ensures.frames) c.requires.ready.frames };
-  stands = λ kept h n s. (
+  leaves = record { due = c.take_bytes-left.ensures.due; frames = subst (FramesFit c.args.part.now) (sym c.take_bytes-left.ensures.frames) c.requires.may_take.frames };
+  enters = λ kept h n s. (
       let part : PartData = c.args.part.now in
       let bytes : List ℕ = c.args.bytes.now in
       let ws : List ℕ = words_of_bytes bytes in
@@ -32,7 +32,7 @@ returns c = record {
       let m : ℕ = n + (length bytes - left) in
       let k : ℕ = c.counted_in.result / 4 in
       let p : IsPlain c.args.plain.register = plain_is c.args.plain.register c.args.plain.plain in
-      let t : RegistersStandFor part kept (registers_in c.take_bytes-left.new.self) h m = c.take_bytes-left.ensures.stands kept h n s in
+      let t : RegistersStandFor part kept (registers_in c.take_bytes-left.new.self) h m = c.take_bytes-left.ensures.enters kept h n s in
       let words : length ws ≡ length bytes / 4 = length_of_words bytes in
       let within : c.counted_in.result ≤ length bytes - left = c.counted_in.ensures.within in
       let few : k ≤ length ws = omega (arith, words, within) in
@@ -55,7 +55,7 @@ returns c = record {
         before = t.before;
         clock = clocked.clock;
         stop = clocked.stop;
-        frames = plain_are part c.take_bytes-left.new.self.frames c.take_bytes-left.new.self.stop c.args.plain.register n prefix h c.take_bytes-left.new.self.due p (ticks_on c.take_bytes-left.new.self.stop _ c.take_bytes-left.ensures.fired) (ap due_count c.take_bytes-left.ensures.due ∙ c.requires.ready.no_word_due) t.frames;
-        due_kind = none_among c.take_bytes-left.new.self.due (entered_all n (payload_steps c.args.plain.register prefix) h) (ap due_count c.take_bytes-left.ensures.due ∙ c.requires.ready.no_word_due);
+        frames = plain_are part c.take_bytes-left.new.self.frames c.take_bytes-left.new.self.stop c.args.plain.register n prefix h c.take_bytes-left.new.self.due p (ticks_on c.take_bytes-left.new.self.stop _ c.take_bytes-left.ensures.fired) (ap due_count c.take_bytes-left.ensures.due ∙ c.requires.may_take.no_word_due) t.frames;
+        due_kind = none_among c.take_bytes-left.new.self.due (entered_all n (payload_steps c.args.plain.register prefix) h) (ap due_count c.take_bytes-left.ensures.due ∙ c.requires.may_take.no_word_due);
       });
 }

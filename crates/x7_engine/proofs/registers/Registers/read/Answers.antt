@@ -24,12 +24,12 @@ read_why part kept h register count result e = ap why_by_frames e
 answered : (part : PartData) (kept : Kept) (h : History) (register count place : ℕ) (why : Option StopCause) → why_at part kept h (Read register count) ≡ why → words_read_by part kept h (Read register count) place ≡ (if is_some why then [] else words_of_read (course_at part kept h place) register count)
 answered part kept h register count place why e = ap (λ (o : Option StopCause). if is_some o then [] else words_of_read (course_at part kept h place) register count) e
 
-pub returns-then-not-reads_frames-clause-stands : goal.returns-then-not-reads_frames-clause-stands
-returns-then-not-reads_frames-clause-stands c = λ kept h place next s.
+pub returns-then-not-reads_frames-clause-enters : goal.returns-then-not-reads_frames-clause-enters
+returns-then-not-reads_frames-clause-enters c = λ kept h place next s.
     let part : PartData = c.args.part.now in
-    let going : stop_of part kept h place ≡ None = s.stop ∙ ap (stopped_at place) c.requires.ready.going in
+    let going : stop_of part kept h place ≡ None = s.stop ∙ ap (stopped_at place) c.requires.may_take.going in
     let other : reads_frame_data h (Read c.args.register c.args.count) ≡ false = sym (c.reads_frames.ensures part.idcode h (c.settings.ensures.after part kept h place s)) ∙ c.if-not-reads_frames.true in
-    let are : FramesStandFor part c.args.self.now.frames h 0 = standing_frames part c.args.self.now.frames c.args.self.now.stop h c.args.self.now.due c.requires.ready.going c.requires.ready.no_word_due s.frames in
+    let are : FramesStandFor part c.args.self.now.frames h 0 = standing_frames part c.args.self.now.frames c.args.self.now.stop h c.args.self.now.due c.requires.may_take.going c.requires.may_take.no_word_due s.frames in
     let read = other_read part c.args.self.now.frames.pipeline c.args.self.now.frames.memory h c.args.register c.args.count place other are in
     record {
       places = (next.0, omega arith, next.1);
@@ -39,8 +39,8 @@ returns-then-not-reads_frames-clause-stands c = λ kept h place next s.
       kind = s.kind;
       before = s.before;
       clock = clock_other part kept (registers_in c.args.self.now).clock h (Read c.args.register c.args.count) place refl refl s.clock;
-      stop = stop_of_access part kept h (Read c.args.register c.args.count) place going ∙ ap (stopped_at place) (read_why part kept h c.args.register c.args.count None read.0) ∙ sym (ap (stopped_at place) c.requires.ready.going);
-      frames = frames_at part c.args.self.now.frames c.args.self.now.stop (entry (Read c.args.register c.args.count) place ∷ h) 0 (goes_on c.args.self.now.stop c.requires.ready.going) read.1;
+      stop = stop_of_access part kept h (Read c.args.register c.args.count) place going ∙ ap (stopped_at place) (read_why part kept h c.args.register c.args.count None read.0) ∙ sym (ap (stopped_at place) c.requires.may_take.going);
+      frames = frames_at part c.args.self.now.frames c.args.self.now.stop (entry (Read c.args.register c.args.count) place ∷ h) 0 (goes_on c.args.self.now.stop c.requires.may_take.going) read.1;
       due_kind = sym (ap (λ (b : Bool). if b then c.args.count else 0) other);
     }
 
@@ -48,18 +48,18 @@ pub returns-then-not-reads_frames-clause-reads : goal.returns-then-not-reads_fra
 returns-then-not-reads_frames-clause-reads c = λ kept h place s.
     let part : PartData = c.args.part.now in
     let other : reads_frame_data h (Read c.args.register c.args.count) ≡ false = sym (c.reads_frames.ensures part.idcode h (c.settings.ensures.after part kept h place s)) ∙ c.if-not-reads_frames.true in
-    let are : FramesStandFor part c.args.self.now.frames h 0 = standing_frames part c.args.self.now.frames c.args.self.now.stop h c.args.self.now.due c.requires.ready.going c.requires.ready.no_word_due s.frames in
+    let are : FramesStandFor part c.args.self.now.frames h 0 = standing_frames part c.args.self.now.frames c.args.self.now.stop h c.args.self.now.due c.requires.may_take.going c.requires.may_take.no_word_due s.frames in
     let read = other_read part c.args.self.now.frames.pipeline c.args.self.now.frames.memory h c.args.register c.args.count place other are in
     answered part kept h c.args.register c.args.count place None (read_why part kept h c.args.register c.args.count None read.0)
     ∙ ap (λ b. if b then frames_read part h c.args.count else replicate c.args.count (read_value (course_at part kept h place) c.args.register)) other
-    ∙ ap (replicate c.args.count) (sym (c.read_value.ensures c.requires.ready.going c.requires.ready.no_word_due kept h place s))
+    ∙ ap (replicate c.args.count) (sym (c.read_value.ensures c.requires.may_take.going c.requires.may_take.no_word_due kept h place s))
 
-pub returns-in-Some-clause-stands : goal.returns-in-Some-clause-stands
-returns-in-Some-clause-stands c = λ kept h place next s.
+pub returns-in-Some-clause-enters : goal.returns-in-Some-clause-enters
+returns-in-Some-clause-enters c = λ kept h place next s.
     let part : PartData = c.args.part.now in
-    let going : stop_of part kept h place ≡ None = s.stop ∙ ap (stopped_at place) c.requires.ready.going in
+    let going : stop_of part kept h place ≡ None = s.stop ∙ ap (stopped_at place) c.requires.may_take.going in
     let frames : reads_frame_data h (Read c.args.register c.args.count) ≡ true = sym (c.reads_frames.ensures part.idcode h (c.settings.ensures.after part kept h place s)) ∙ c.if-not-reads_frames.false in
-    let are : FramesStandFor part c.args.self.now.frames h 0 = standing_frames part c.args.self.now.frames c.args.self.now.stop h c.args.self.now.due c.requires.ready.going c.requires.ready.no_word_due s.frames in
+    let are : FramesStandFor part c.args.self.now.frames h 0 = standing_frames part c.args.self.now.frames c.args.self.now.stop h c.args.self.now.due c.requires.may_take.going c.requires.may_take.no_word_due s.frames in
     let refusal : frame_fault part h (Read c.args.register c.args.count) ≡ Some c.in-Some.fault = c.in-Some.ensures h c.args.register c.args.count place frames are in
     let why : c.stop_of_refused.result ≡ stop_of_refused c.in-Some.fault = c.stop_of_refused.ensures.value in
     record {
@@ -72,26 +72,26 @@ returns-in-Some-clause-stands c = λ kept h place next s.
       clock = clock_other part kept (registers_in c.args.self.now).clock h (Read c.args.register c.args.count) place refl refl s.clock;
       stop = stop_of_access part kept h (Read c.args.register c.args.count) place going ∙ ap (stopped_at place) (read_why part kept h c.args.register c.args.count (Some c.in-Some.fault) refusal ∙ ap Some (sym why));
       frames = subst (λ (l : StopCause). FramesAre part c.args.self.now.frames (Some l) (entry (Read c.args.register c.args.count) place ∷ h) (frames_due c.args.self.now.due)) (sym why)
-          (subst (λ (n : ℕ). FramesAre part c.args.self.now.frames (Some (stop_of_refused c.in-Some.fault)) (entry (Read c.args.register c.args.count) place ∷ h) n) (sym (none_frames c.args.self.now.due c.requires.ready.no_word_due))
+          (subst (λ (n : ℕ). FramesAre part c.args.self.now.frames (Some (stop_of_refused c.in-Some.fault)) (entry (Read c.args.register c.args.count) place ∷ h) n) (sym (none_frames c.args.self.now.due c.requires.may_take.no_word_due))
           (refused part c.args.self.now.frames h (entry (Read c.args.register c.args.count) place) c.in-Some.fault refusal are));
-      due_kind = none_among c.args.self.now.due (entry (Read c.args.register c.args.count) place ∷ h) c.requires.ready.no_word_due;
+      due_kind = none_among c.args.self.now.due (entry (Read c.args.register c.args.count) place ∷ h) c.requires.may_take.no_word_due;
     }
 
 pub returns-in-Some-clause-reads : goal.returns-in-Some-clause-reads
 returns-in-Some-clause-reads c = λ kept h place s.
     let part : PartData = c.args.part.now in
     let frames : reads_frame_data h (Read c.args.register c.args.count) ≡ true = sym (c.reads_frames.ensures part.idcode h (c.settings.ensures.after part kept h place s)) ∙ c.if-not-reads_frames.false in
-    let are : FramesStandFor part c.args.self.now.frames h 0 = standing_frames part c.args.self.now.frames c.args.self.now.stop h c.args.self.now.due c.requires.ready.going c.requires.ready.no_word_due s.frames in
+    let are : FramesStandFor part c.args.self.now.frames h 0 = standing_frames part c.args.self.now.frames c.args.self.now.stop h c.args.self.now.due c.requires.may_take.going c.requires.may_take.no_word_due s.frames in
     let refusal : frame_fault part h (Read c.args.register c.args.count) ≡ Some c.in-Some.fault = c.in-Some.ensures h c.args.register c.args.count place frames are in
     answered part kept h c.args.register c.args.count place (Some (stop_of_refused c.in-Some.fault)) (read_why part kept h c.args.register c.args.count (Some c.in-Some.fault) refusal)
-    ∙ sym (none_left part (entry (Read c.args.register c.args.count) place ∷ h) c.args.self.now.due c.requires.ready.no_word_due)
+    ∙ sym (none_left part (entry (Read c.args.register c.args.count) place ∷ h) c.args.self.now.due c.requires.may_take.no_word_due)
 
-pub returns-in-None-clause-stands : goal.returns-in-None-clause-stands
-returns-in-None-clause-stands c = λ kept h place next s.
+pub returns-in-None-clause-enters : goal.returns-in-None-clause-enters
+returns-in-None-clause-enters c = λ kept h place next s.
     let part : PartData = c.args.part.now in
-    let going : stop_of part kept h place ≡ None = s.stop ∙ ap (stopped_at place) c.requires.ready.going in
+    let going : stop_of part kept h place ≡ None = s.stop ∙ ap (stopped_at place) c.requires.may_take.going in
     let frames : reads_frame_data h (Read c.args.register c.args.count) ≡ true = sym (c.reads_frames.ensures part.idcode h (c.settings.ensures.after part kept h place s)) ∙ c.if-not-reads_frames.false in
-    let are : FramesStandFor part c.args.self.now.frames h 0 = standing_frames part c.args.self.now.frames c.args.self.now.stop h c.args.self.now.due c.requires.ready.going c.requires.ready.no_word_due s.frames in
+    let are : FramesStandFor part c.args.self.now.frames h 0 = standing_frames part c.args.self.now.frames c.args.self.now.stop h c.args.self.now.due c.requires.may_take.going c.requires.may_take.no_word_due s.frames in
     let read = c.in-None.ensures h c.args.register c.args.count place frames are in
     record {
       places = (next.0, omega arith, next.1);
@@ -101,8 +101,8 @@ returns-in-None-clause-stands c = λ kept h place next s.
       kind = s.kind;
       before = s.before;
       clock = clock_other part kept (registers_in c.args.self.now).clock h (Read c.args.register c.args.count) place refl refl s.clock;
-      stop = stop_of_access part kept h (Read c.args.register c.args.count) place going ∙ ap (stopped_at place) (read_why part kept h c.args.register c.args.count None read.0) ∙ sym (ap (stopped_at place) c.requires.ready.going);
-      frames = frames_at part c.args.self.now.frames c.args.self.now.stop (entry (Read c.args.register c.args.count) place ∷ h) c.args.count (goes_on c.args.self.now.stop c.requires.ready.going) read.1;
+      stop = stop_of_access part kept h (Read c.args.register c.args.count) place going ∙ ap (stopped_at place) (read_why part kept h c.args.register c.args.count None read.0) ∙ sym (ap (stopped_at place) c.requires.may_take.going);
+      frames = frames_at part c.args.self.now.frames c.args.self.now.stop (entry (Read c.args.register c.args.count) place ∷ h) c.args.count (goes_on c.args.self.now.stop c.requires.may_take.going) read.1;
       due_kind = sym (ap (λ (b : Bool). if b then c.args.count else 0) frames);
     }
 
@@ -110,7 +110,7 @@ pub returns-in-None-clause-reads : goal.returns-in-None-clause-reads
 returns-in-None-clause-reads c = λ kept h place s.
     let part : PartData = c.args.part.now in
     let frames : reads_frame_data h (Read c.args.register c.args.count) ≡ true = sym (c.reads_frames.ensures part.idcode h (c.settings.ensures.after part kept h place s)) ∙ c.if-not-reads_frames.false in
-    let are : FramesStandFor part c.args.self.now.frames h 0 = standing_frames part c.args.self.now.frames c.args.self.now.stop h c.args.self.now.due c.requires.ready.going c.requires.ready.no_word_due s.frames in
+    let are : FramesStandFor part c.args.self.now.frames h 0 = standing_frames part c.args.self.now.frames c.args.self.now.stop h c.args.self.now.due c.requires.may_take.going c.requires.may_take.no_word_due s.frames in
     let read = c.in-None.ensures h c.args.register c.args.count place frames are in
     answered part kept h c.args.register c.args.count place None (read_why part kept h c.args.register c.args.count None read.0)
     ∙ ap (λ b. if b then frames_read part h c.args.count else replicate c.args.count (read_value (course_at part kept h place) c.args.register)) frames

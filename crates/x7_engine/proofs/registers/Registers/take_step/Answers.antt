@@ -11,14 +11,14 @@ use Rattle.x7_engine.proofs.FrameLemmas.{frames_none_at, standing_frames, none_a
 use Rattle.x7_engine.proofs.PlainLemmas.{clock_other}
 use Rattle.x7_engine.proofs.registers.Registers.take_step.Goals as goal
 
-pub returns-in-Read-clause-stands : goal.returns-in-Read-clause-stands
-returns-in-Read-clause-stands c = λ kept h place next s.
+pub returns-in-Read-clause-enters : goal.returns-in-Read-clause-enters
+returns-in-Read-clause-enters c = λ kept h place next s.
     let some : (c.in-Read.count == 0) ≡ false = grind (arith, nat_tests, c.if-count-gt0.true) in
-    rw (c.in-Read.is, some) (c.read.ensures.stands kept h place next s)
+    rw (c.in-Read.is, some) (c.read.ensures.enters kept h place next s)
 
-pub returns-in-Bad-clause-stands : goal.returns-in-Bad-clause-stands
-returns-in-Bad-clause-stands c = λ kept h place next s.
-    let going : stop_of c.args.part.now kept h place ≡ None = s.stop ∙ ap (stopped_at place) c.requires.ready.going in
+pub returns-in-Bad-clause-enters : goal.returns-in-Bad-clause-enters
+returns-in-Bad-clause-enters c = λ kept h place next s.
+    let going : stop_of c.args.part.now kept h place ≡ None = s.stop ∙ ap (stopped_at place) c.requires.may_take.going in
     rw c.in-Bad.is record {
       places = (next.0, omega arith, next.1);
       words = record { each = s.words.each };
@@ -28,7 +28,7 @@ returns-in-Bad-clause-stands c = λ kept h place next s.
       before = s.before;
       clock = clock_other c.args.part.now kept (registers_in c.args.self.now).clock h (Bad c.in-Bad.word) place refl refl s.clock;
       stop = stop_of_access c.args.part.now kept h (Bad c.in-Bad.word) place going;
-      frames = frames_none_at c.args.part.now c.args.self.now.frames (Some (stop.Fault (fault.Packet c.in-Bad.word))) (entry (Bad c.in-Bad.word) place ∷ h) c.args.self.now.due refl c.requires.ready.no_word_due
-          (other_access c.args.part.now c.args.self.now.frames h (entry (Bad c.in-Bad.word) place) refl (standing_frames c.args.part.now c.args.self.now.frames c.args.self.now.stop h c.args.self.now.due c.requires.ready.going c.requires.ready.no_word_due s.frames));
-      due_kind = none_among c.args.self.now.due (entry (Bad c.in-Bad.word) place ∷ h) c.requires.ready.no_word_due;
+      frames = frames_none_at c.args.part.now c.args.self.now.frames (Some (stop.Fault (fault.Packet c.in-Bad.word))) (entry (Bad c.in-Bad.word) place ∷ h) c.args.self.now.due refl c.requires.may_take.no_word_due
+          (other_access c.args.part.now c.args.self.now.frames h (entry (Bad c.in-Bad.word) place) refl (standing_frames c.args.part.now c.args.self.now.frames c.args.self.now.stop h c.args.self.now.due c.requires.may_take.going c.requires.may_take.no_word_due s.frames));
+      due_kind = none_among c.args.self.now.due (entry (Bad c.in-Bad.word) place ∷ h) c.requires.may_take.no_word_due;
     }

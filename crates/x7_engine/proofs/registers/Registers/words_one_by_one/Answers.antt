@@ -10,10 +10,10 @@ use Rattle.x7_engine.proofs.registers.Registers.words_one_by_one.Goals as goal
 
 pub loop-word-init : goal.loop-word-init
 loop-word-init c = record {
-  going = c.requires.ready.going;
+  going = c.requires.may_take.going;
   count = refl;
   due = refl;
-  frames = c.requires.ready.frames;
+  frames = c.requires.may_take.frames;
   stands = λ kept h n s. let none : n ≡ n + 0 = omega arith in subst (λ (m : ℕ). RegistersStandFor c.args.part.now kept (registers_in c.args.self.now) h m) none s;
 }
 
@@ -27,13 +27,13 @@ returns-then-is_some c = record {
     goes_on = λ e. absurd (let both : true ≡ false = sym c.if-is_some.true ∙ c.is_some.ensures ∙ ap (λ (o : Option StopCause). is_some o) e in cc);
   };
   leaves = record { due = c.word-left.ensures.leaves.due ∙ c.loop-word.invariant.due; frames = c.word-left.ensures.leaves.frames };
-  stands = λ kept h n s. (
+  enters = λ kept h n s. (
       let ws : List ℕ = words_of_bytes c.args.bytes.now in
       let word : take (c.loop-word.word-index + 1) ws ≡ take c.loop-word.word-index ws ++ c.word_of.result ∷ [] =
       chunk_word c.args.bytes.now c.as_chunks.result.0.now c.loop-word.word-index c.word_of.result c.as_chunks.ensures.front c.loop-word-test.true c.word_of.ensures.value in
       let few : c.loop-word.word-index < length ws = let all : length ws ≡ length c.as_chunks.result.0.now = chunks_are c.args.bytes.now c.as_chunks.result.0.now c.as_chunks.ensures.front in omega (arith, all, c.loop-word-test.true) in
       word_after c.args.part.now kept (registers_in c.loop-word.self) (registers_in c.word-left.new.self) (number_of c.args.reg) n c.loop-word.word-index c.word_of.result c.word-left.result c.loop-word.taken (n + (c.loop-word.taken + (4 - c.word-left.result))) ws h
-      word few c.loop-word.invariant.count c.word-left.ensures.left.within refl (c.word-left.ensures.stands kept) (c.loop-word.invariant.stands kept h n s));
+      word few c.loop-word.invariant.count c.word-left.ensures.left.within refl (c.word-left.ensures.enters kept) (c.loop-word.invariant.stands kept h n s));
 }
 
 pub loop-word-preserved : goal.loop-word-preserved
@@ -51,7 +51,7 @@ loop-word-preserved c =
       frames = c.word-left.ensures.leaves.frames;
       stands = λ kept h n s.
           word_on c.args.part.now kept (registers_in c.loop-word.self) (registers_in c.word-left.new.self) (number_of c.args.reg) n c.loop-word.word-index c.word_of.result c.word-left.result c.loop-word.taken (n + (c.loop-word.taken + (4 - c.word-left.result))) ws h
-          word few c.loop-word.invariant.count none refl going (c.word-left.ensures.stands kept) (c.loop-word.invariant.stands kept h n s);
+          word few c.loop-word.invariant.count none refl going (c.word-left.ensures.enters kept) (c.loop-word.invariant.stands kept h n s);
     }
 
 pub returns : goal.returns
@@ -61,7 +61,7 @@ returns c = record {
       let size : length (words_of_bytes c.args.bytes.now) ≡ length c.args.bytes.now / 4 = length_of_words c.args.bytes.now in
       record { within = omega (arith, all, size); takes_some = λ l. omega (arith, all, size, l); goes_on = λ e. omega (arith, all, size) });
   leaves = record { due = c.loop-word.invariant.due; frames = c.loop-word.invariant.frames };
-  stands = λ kept h n s. (
+  enters = λ kept h n s. (
       let all : length (words_of_bytes c.args.bytes.now) ≡ length c.as_chunks.result.0.now = chunks_are c.args.bytes.now c.as_chunks.result.0.now c.as_chunks.ensures.front in
       words_all c.args.part.now kept (registers_in c.loop-word.self) (number_of c.args.reg) n c.loop-word.word-index (n + c.loop-word.taken) (words_of_bytes c.args.bytes.now) h (omega (arith, all, c.loop-word-test.false)) c.loop-word.invariant.going (c.loop-word.invariant.stands kept h n s));
 }

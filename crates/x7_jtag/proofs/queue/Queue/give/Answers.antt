@@ -25,7 +25,7 @@ returns-clause-stands c = λ part q s.
     read.2 ∙ ap (λ (words : List ℕ). words_taken part c.args.device.now bytes ++ words) none ∙ append-nil (words_taken part c.args.device.now bytes) in
     gives part c.args.self.now c.feed.new.self c.args.device.now c.feed-fed.new.self c.feed.new.device q piece c.feed-fed.new.read c.feed-fed.result c.given_of-count.result s
     (omega (arith, c.if-self-gt0.false, ap (λ (q : QueueState). q.bits_left) c.self.view_is)) fits c.feed-fed.ensures.within
-    (c.feed-fed.ensures.stands part on_the_bench false bytes device) (c.feed-fed.ensures.answer part on_the_bench false bytes device) silent
+    (c.feed-fed.ensures.takes part on_the_bench false bytes device) (c.feed-fed.ensures.answer part on_the_bench false bytes device) silent
     (subst (λ (b : ReadBufState). RoomBefore (record { part = part; kept = on_the_bench; wrapped = false; bytes = bytes }) piece (taken_in (length piece) c.feed-fed.result) (words_taken part c.args.device.now bytes) b) c.without_room.ensures
     (c.feed-fed.ensures.room part on_the_bench false bytes device)) (λ stop. (let all = c.feed-fed.ensures.stopped part on_the_bench false bytes device stop in (all.0, all.2))) c.given_of-count.ensures
     (λ given held out t. c.feed.ensures.stands part (queue_of given held out) t (λ l. absurd (omega (arith, l))))

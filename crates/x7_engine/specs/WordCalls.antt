@@ -9,7 +9,7 @@ use Rattle.x7_engine.specs.Standing.{due_count}
 
 -- registers that can take a word: nothing stopped them, no word is due, and their
 -- frames are those of a device of the part
-pub record AreReady (part : PartData) (d : Registers) : Type 0 where
+pub record MayTakeWords (part : PartData) (d : Registers) : Type 0 where
   pub going : d.stop ≡ None
   pub no_word_due : due_count d.due ≡ 0
   pub frames : FramesFit part d.frames
