@@ -116,9 +116,9 @@ took_few part stream d at u r s low high = record {
   more = take (at - u.taken) (drop u.taken stream);
   old = r.device;
   saves = r.saves;
-  no_word_due = r.stands.no_word_due;
+  no_word_due = r.at_position.no_word_due;
   few = omega (arith, length-take (at - u.taken) (drop u.taken stream), high);
-  had = r.stands.stands;
+  had = r.at_position.stands;
   has = subst (λ (b : List ℕ). DeviceStandsFor part on_the_bench false d b) (sym (take_up_to stream u.taken at low)) s.stands;
 }
 
@@ -130,13 +130,13 @@ goes_back part stream d new at u r s low high back =
     let more : List ℕ = take (at - u.taken) (drop u.taken stream) in
     let few : length more ≤ 4 = omega (arith, length-take (at - u.taken) (drop u.taken stream), high) in
     let now : DeviceStandsFor part on_the_bench false d (take u.taken stream ++ more) = subst (λ (b : List ℕ). DeviceStandsFor part on_the_bench false d b) (sym (take_up_to stream u.taken at low)) s.stands in
-    refed part stream new r.device u.taken (back more r.device r.saves r.stands.no_word_due few r.stands.stands now) r.stands
+    refed part stream new r.device u.taken (back more r.device r.saves r.at_position.no_word_due few r.at_position.stands now) r.at_position
 
 -- records of a device that went on, with one more
 pub leads_more : (part : PartData) (stream : List ℕ) (d : DeviceState) (at to : ℕ) (u : UndoState) (us : List UndoState) → StandsAtPosition part stream d at → SavesDevice u d → at ≤ to → to ≤ at + 4 → LeadBack part stream at us → LeadBack part stream to (u ∷ take 63 us)
 leads_more part stream d at to u us s k low high l =
     let taken : u.taken ≡ at = k.values.taken ∙ s.taken in
-    let is : IsRecord part stream u = record { device = d; saves = k; stands = subst (λ (n : ℕ). StandsAtPosition part stream d n) (sym taken) s } in
+    let is : IsRecord part stream u = record { device = d; saves = k; at_position = subst (λ (n : ℕ). StandsAtPosition part stream d n) (sym taken) s } in
     (is, omega (arith, taken, low), omega (arith, taken, high), subst (λ (n : ℕ). LeadBack part stream n (take 63 us)) (sym taken) (leads_fewer part stream at 63 us l))
 
 -- the newest record goes on to lead back
@@ -195,7 +195,7 @@ pub on_without : (stream : List ℕ) (d : DeviceState) (j k : JournalState) (par
 on_without stream d j k part n s a e =
     let there : d.part ≡ part = s.stands.part_is in
     subst (λ (x : JournalState). IsOnStream d.part stream d x) (sym e) (record {
-      stands = own part stream d n s;
+      at_position = own part stream d n s;
       records = subst (λ (p : PartData). AllByRecursion (IsUndoOf p) j.all) (sym there) a;
       few = omega arith;
       leads = tt;
@@ -209,9 +209,9 @@ pub on_more : (part : PartData) (stream : List ℕ) (d new : DeviceState) (j k :
     → records_of k ≡ u ∷ take 63 (records_of j) → IsOnStream new.part stream new k
 on_more part stream d new j k to u o s low high a keeps e =
     let there : new.part ≡ part = s.stands.part_is in
-    let leads : LeadBack part stream to (records_of k) = subst (LeadBack part stream to) (sym e) (leads_more part stream d d.taken to u (records_of j) o.stands keeps low high o.leads) in
+    let leads : LeadBack part stream to (records_of k) = subst (LeadBack part stream to) (sym e) (leads_more part stream d d.taken to u (records_of j) o.at_position keeps low high o.leads) in
     subst (λ (p : PartData). IsOnStream p stream new k) (sym there) (record {
-      stands = by_taken part stream new to s;
+      at_position = by_taken part stream new to s;
       records = a;
       few = omega (arith, ap length e, length-take 63 (records_of j));
       leads = subst (λ (n : ℕ). LeadBack part stream n (records_of k)) (sym s.taken) leads;
@@ -223,9 +223,9 @@ pub on_less : (part : PartData) (stream : List ℕ) (d new : DeviceState) (j k :
     → IsOnStream new.part stream new k × (new.taken ≡ u.taken) × (u.taken ≤ d.taken) × (d.taken ≤ u.taken + 4)
 on_less part stream d new j k u o e a back =
     let leads : LeadBack part stream d.taken (u ∷ records_of k) = subst (LeadBack part stream d.taken) e o.leads in
-    let s : StandsAtPosition part stream new u.taken = goes_back part stream d new d.taken u leads.0 o.stands leads.1 leads.2 back in (
+    let s : StandsAtPosition part stream new u.taken = goes_back part stream d new d.taken u leads.0 o.at_position leads.1 leads.2 back in (
       subst (λ (p : PartData). IsOnStream p stream new k) (sym s.stands.part_is) (record {
-        stands = by_taken part stream new u.taken s;
+        at_position = by_taken part stream new u.taken s;
         records = a;
         few = omega (arith, ap length e, o.few);
         leads = subst (λ (n : ℕ). LeadBack part stream n (records_of k)) (sym s.taken) leads.3;
@@ -241,7 +241,7 @@ pub on_further : (part : PartData) (stream : List ℕ) (d new : DeviceState) (j 
 on_further part stream d new j to u older o e s low high =
     let leads : LeadBack part stream to (records_of j) = subst (LeadBack part stream to) (sym e) (leads_further part stream d.taken to u older low high (subst (LeadBack part stream d.taken) e o.leads)) in
     subst (λ (p : PartData). IsOnStream p stream new j) (sym s.stands.part_is) (record {
-      stands = by_taken part stream new to s;
+      at_position = by_taken part stream new to s;
       records = o.records;
       few = o.few;
       leads = subst (λ (n : ℕ). LeadBack part stream n (records_of j)) (sym s.taken) leads;
@@ -249,7 +249,7 @@ on_further part stream d new j to u older o e s low high =
 
 -- the position, by the part that a device had before
 pub stands_of : (p q : PartData) (stream : List ℕ) (d : DeviceState) (j : JournalState) → p ≡ q → IsOnStream p stream d j → StandsAtPosition q stream d d.taken
-stands_of p q stream d j e o = subst (λ (x : PartData). StandsAtPosition x stream d d.taken) e o.stands
+stands_of p q stream d j e o = subst (λ (x : PartData). StandsAtPosition x stream d d.taken) e o.at_position
 
 -- a device after a reset
 pub stands_first : (part : PartData) (stream : List ℕ) (d : DeviceState) → DeviceStandsFor part on_the_bench false d [] → StandsAtPosition part stream d 0

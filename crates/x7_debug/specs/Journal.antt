@@ -37,7 +37,7 @@ AreRecordsOf part j = AllByRecursion (IsUndoOf part) j.all
 pub record IsRecord (part : PartData) (stream : List ℕ) (u : UndoState) : Type 0 where
   pub device : DeviceState
   pub saves : SavesDevice u device
-  pub stands : StandsAtPosition part stream device u.taken
+  pub at_position : StandsAtPosition part stream device u.taken
 
 -- each record is at most four bytes before the next newer one, and the newest one at most four before position `at`
 abbrev pub LeadBack : PartData → List ℕ → ℕ → List UndoState → Type 0
@@ -51,7 +51,7 @@ oldest_by at (u ∷ older) = oldest_by u.taken older
 
 -- a device at its position of the stream, and records that lead back from there
 pub record IsOnStream (part : PartData) (stream : List ℕ) (d : DeviceState) (j : JournalState) : Type 0 where
-  pub stands : StandsAtPosition part stream d d.taken
+  pub at_position : StandsAtPosition part stream d d.taken
   pub records : AreRecordsOf part j
   pub few : length (records_of j) ≤ record_room
   pub leads : LeadBack part stream d.taken (records_of j)
@@ -71,6 +71,14 @@ pub record IsFedAtMost (old new : DeviceState) (count : ℕ) : Type 0 where
   pub never_less : fed_of old ≤ fed_of new
   pub most : fed_of new ≤ fed_of old + count
 
+-- a device was fed at most as many bytes more as it took
+abbrev pub IsFedAsTaken : DeviceState → DeviceState → Type 0
+IsFedAsTaken old new = IsFedAtMost old new (new.taken - old.taken)
+
+-- a device and its records went on or back, and the oldest record is at the same position
+abbrev pub KeepsOldest : DeviceState → JournalState → DeviceState → JournalState → Type 0
+KeepsOldest old j new k = oldest_by new.taken (records_of k) ≡ oldest_by old.taken (records_of j)
+
 -- how far records lead back after a move, and how many bytes the device was fed in it
 pub record MoveCosts (old new : SessionState) : Type 0 where
   pub stays_oldest : new.at ≡ old.at → new.oldest ≡ old.oldest
@@ -85,5 +93,5 @@ pub record MoveCosts (old new : SessionState) : Type 0 where
 
 -- a session moved to position n; how many bytes were fed and how far records lead back is as `MoveCosts` says
 pub record IsMove (old new : SessionState) (n : ℕ) : Type 0 where
-  pub stands : MovesTo old new n
+  pub there : MovesTo old new n
   pub costs : MoveCosts old new

@@ -2,7 +2,7 @@
 -- what they come to (this project's choice).
 use Rattle.std.specs.Prelude.{◌≡◌, ◌≤◌, ◌<◌, ◌-◌, ℕ, List, max}
 use Rattle.x7_engine.specs.Standing.{DeviceState}
-use Rattle.x7_debug.specs.Journal.{ComesToPosition, IsFedAtMost, IsOnStream, JournalState, oldest_by, reach, records_of}
+use Rattle.x7_debug.specs.Journal.{ComesToPosition, IsFedAsTaken, IsOnStream, JournalState, oldest_by, reach, records_of}
 use Rattle.x7_debug.specs.Position.{last_of}
 
 -- a device on its stream, with its records, can be brought to a position, which isn't past the last one
@@ -31,7 +31,7 @@ pub record IsBeforeLast (stream : List ℕ) (d : DeviceState) (j : JournalState)
 -- and was fed at most the bytes up to there
 pub record ComesForward (stream : List ℕ) (old new : DeviceState) (j : JournalState) (n : ℕ) : Type 0 where
   pub there : ComesToPosition stream old new j n
-  pub fed : IsFedAtMost old new (new.taken - old.taken)
+  pub fed : IsFedAsTaken old new
 
 -- a device came forward to position n of its stream and was fed at most the bytes up to there; its records lead back to
 -- where it was, or as far as they reach

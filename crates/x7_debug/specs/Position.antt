@@ -23,12 +23,12 @@ state_at_position part stream n = state_of part on_the_bench false (take n strea
 abbrev pub memory_at_position : PartData → List ℕ → ℕ → FrameMap
 memory_at_position part stream n = memory_in part on_the_bench (take n stream)
 
--- the bytes end in a session
+-- the bytes end in a session of the stream: after a sync word, and no DESYNC has ended it
 abbrev pub is_synced : End → Bool
 is_synced at_end.Synced = true
 is_synced _ = false
 
--- the bytes end in a gap, where the sync word is searched
+-- the bytes end in a gap of the stream, where the sync word is searched
 abbrev pub is_searching : End → Bool
 is_searching at_end.Searching = true
 is_searching _ = false

@@ -1,4 +1,5 @@
--- A session: a device that stands at a position of a stream (this project's choice).
+-- A user's session: a device that stands at a position of a stream (this project's choice). What a stream has from a
+-- sync word up to a DESYNC is called a session too (`docs/MAP.md`, words of the house).
 use Rattle.std.specs.Prelude.{◌≡◌, ◌≤◌, ◌++◌, ℕ, List, false, take}
 use Rattle.x7_part.specs.Part.{PartData}
 use Rattle.x7_engine.specs.Kept.{on_the_bench}
@@ -29,6 +30,7 @@ pub record StandsAtPosition (part : PartData) (stream : List ℕ) (d : DeviceSta
   pub within : n ≤ last_of part stream
   pub no_word_due : NoWordDue d
 
--- a device takes a piece, up to what stops it
+-- a device takes a piece, up to what stops it, and no word that it read out is due
 abbrev pub TakesPiece : DeviceState → DeviceState → List ℕ → Type 0
-TakesPiece old new piece = OfPast old (λ p. DeviceStandsFor p.part p.kept p.wrapped new (take (taken_of p.part p.kept (p.bytes ++ piece)) (p.bytes ++ piece)))
+TakesPiece old new piece =
+    OfPast old (λ p. DeviceStandsFor p.part p.kept p.wrapped new (take (taken_of p.part p.kept (p.bytes ++ piece)) (p.bytes ++ piece)) × NoWordDue new)

@@ -1,9 +1,8 @@
 //! Records of a device on its way, which lead it back.
 ghost use Rattle.std.specs.Prelude.{◌≡◌, ◌≤◌, ◌<◌, ◌+◌, ◌-◌, ◌^◌, ◌∷◌, ℕ, List, length, take, IfOk};
-ghost use Rattle.x7_engine.specs.Past.{OfPast};
 ghost use Rattle.x7_engine.specs.Standing.{NoWordDue, fed_of};
 ghost use Rattle.x7_engine.specs.Undo.{SavesDevice, UndoState};
-ghost use Rattle.x7_debug.specs.Journal.{AreRecordsOf, IsFedAtMost, IsOnStream, oldest_by, record_bytes, record_room, records_of};
+ghost use Rattle.x7_debug.specs.Journal.{AreRecordsOf, IsFedAsTaken, IsOnStream, KeepsOldest, oldest_by, record_bytes, record_room, records_of};
 ghost use Rattle.x7_debug.specs.Session.{TakesPiece};
 
 use circular_buffer::HeapCircularBuffer;
@@ -77,9 +76,8 @@ impl Journal {
         requires fits { device.old.taken + length piece.now ≤ 2 ^ 63 }
         requires no_word_due { NoWordDue device.old }
         requires records { AreRecordsOf device.old.part self.old }
-        ensures stands { TakesPiece device.old device.new piece.now }
-        ensures no_word_due { OfPast device.old (λ p. NoWordDue device.new) }
-        ensures fed { IsFedAtMost device.old device.new (device.new.taken - device.old.taken) }
+        ensures takes { TakesPiece device.old device.new piece.now }
+        ensures fed { IsFedAsTaken device.old device.new }
         ensures records { AreRecordsOf device.old.part self.new }
         ensures recorded { (u : UndoState) × SavesDevice u device.old × (records_of self.new ≡ u ∷ take (record_room - 1) (records_of self.old)) }
     {
@@ -99,7 +97,7 @@ impl Journal {
         ensures back { (stream : List ℕ) → IsOnStream device.old.part stream device.old self.old → IsOnStream device.new.part stream device.new self.new }
         ensures one_record { (stream : List ℕ) → IsOnStream device.old.part stream device.old self.old → device.new.taken ≤ device.old.taken × device.old.taken ≤ device.new.taken + record_bytes }
         ensures fed { fed_of device.new ≡ fed_of device.old }
-        ensures oldest { (stream : List ℕ) → IsOnStream device.old.part stream device.old self.old → oldest_by device.new.taken (records_of self.new) ≡ oldest_by device.old.taken (records_of self.old) }
+        ensures oldest { (stream : List ℕ) → IsOnStream device.old.part stream device.old self.old → KeepsOldest device.old self.old device.new self.new }
         ensures room_for_one { (stream : List ℕ) → IsOnStream device.old.part stream device.old self.old → length (records_of self.new) < record_room }
         ensures count { self.new.count + 1 ≡ self.old.count }
         ensures part { device.new.part ≡ device.old.part }

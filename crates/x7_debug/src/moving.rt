@@ -1,8 +1,7 @@
 //! A device is brought from one position of a stream to another one, forwards by pieces and backwards by records.
 ghost use Rattle.std.specs.Prelude.{◌≡◌, ◌≤◌, ◌<◌, ◌+◌, ◌-◌, ◌^◌, length};
-ghost use Rattle.x7_engine.specs.Past.{OfPast};
-ghost use Rattle.x7_engine.specs.Standing.{NoWordDue, fed_of};
-ghost use Rattle.x7_debug.specs.Journal.{ComesToPosition, MoveCosts, HasRecorded, IsFedAtMost, IsOnStream, oldest_by, reach, record_bytes, record_room, records_of};
+ghost use Rattle.x7_engine.specs.Standing.{fed_of};
+ghost use Rattle.x7_debug.specs.Journal.{ComesToPosition, MoveCosts, HasRecorded, IsFedAsTaken, IsFedAtMost, IsOnStream, KeepsOldest, oldest_by, reach, record_bytes, record_room, records_of};
 ghost use Rattle.x7_debug.specs.SessionFields.{session_of};
 ghost use Rattle.x7_debug.specs.Moving.{ComesForward, ComesForwardRecorded, MayMove, MayMoveBack, MayMoveForward};
 ghost use Rattle.x7_debug.specs.Position.{last_of};
@@ -25,9 +24,8 @@ const RECORDED_BYTES: u64 = RECORD_ROOM as u64 * RECORD_BYTES;
 /// Feeds a piece to a device, up to what stops it. Words read out are dropped.
 pub(crate) fn feed_piece(device: &mut Device, piece: &[u8])
     requires { device.old.taken + length piece.now ≤ 2 ^ 63 }
-    ensures stands { TakesPiece device.old device.new piece.now }
-    ensures no_word_due { OfPast device.old (λ p. NoWordDue device.new) }
-    ensures fed { IsFedAtMost device.old device.new (device.new.taken - device.old.taken) }
+    ensures takes { TakesPiece device.old device.new piece.now }
+    ensures fed { IsFedAsTaken device.old device.new }
 {
     let mut read = ReadBuf::dropping();
     device.feed(piece, &mut read);
@@ -35,11 +33,11 @@ pub(crate) fn feed_piece(device: &mut Device, piece: &[u8])
 
 /// Feeds a device the bytes of the stream up to a position.
 pub(crate) fn feed_to(device: &mut Device, stream: &[u8], to: u64)
-    requires stands { StandsAtPosition device.old.part stream.now device.old device.old.taken }
+    requires at_position { StandsAtPosition device.old.part stream.now device.old device.old.taken }
     requires within { to ≤ last_of device.old.part stream.now }
     requires forward { device.old.taken ≤ to }
-    ensures stands { StandsAtPosition device.old.part stream.now device.new to }
-    ensures fed { IsFedAtMost device.old device.new (device.new.taken - device.old.taken) }
+    ensures at_position { StandsAtPosition device.old.part stream.now device.new to }
+    ensures fed { IsFedAsTaken device.old device.new }
 {
     let from = device.taken() as usize;
     feed_piece(device, &stream[from..to as usize]);
@@ -120,7 +118,7 @@ fn take_back(device: &mut Device, journal: &mut Journal, stream: &[u8], to: u64)
     ensures one_record { to < device.new.taken + record_bytes }
     ensures fed { fed_of device.new ≡ fed_of device.old }
     ensures room_for_one { length (records_of journal.new) < record_room }
-    ensures oldest { oldest_by device.new.taken (records_of journal.new) ≡ oldest_by device.old.taken (records_of journal.old) }
+    ensures oldest { KeepsOldest device.old journal.old device.new journal.new }
 {
     while device.taken() > to {
         journal.back(device);
@@ -132,7 +130,7 @@ fn go_back(device: &mut Device, journal: &mut Journal, stream: &[u8], to: u64)
     requires { MayMoveBack stream.now device.old journal.old to }
     ensures at_position { ComesToPosition stream.now device.old device.new journal.new to }
     ensures fed { IsFedAtMost device.old device.new (record_bytes - 1) }
-    ensures oldest { oldest_by device.new.taken (records_of journal.new) ≡ oldest_by device.old.taken (records_of journal.old) }
+    ensures oldest { KeepsOldest device.old journal.old device.new journal.new }
 {
     take_back(device, journal, stream, to);
     if device.taken() < to {

@@ -3,17 +3,17 @@
 /// What holds at the position that an order `until` goes forward to.
 #[derive(Clone, Copy, Drop)]
 pub enum Stop {
-    /// The bytes end in a session.
+    /// The bytes end in a session of the stream: after a sync word, and no DESYNC has ended it.
     Synced,
-    /// The sync word is searched.
+    /// The bytes end in a gap of the stream, where the sync word is searched.
     Searching,
-    /// A fault, or an IPROG that was obeyed.
+    /// The device has stopped: by a fault, or by an IPROG that was obeyed.
     Stopped,
-    /// A phase of startup, 0 to 7.
+    /// Startup is in this phase, 0 to 7.
     Phase(u8),
 }
 
-/// What a line of a script asks for.
+/// What a line of a script asks for. A position is a count of bytes from the stream's first.
 #[derive(Clone, Copy, Drop)]
 pub enum Order {
     /// Goes forward by this many bytes.

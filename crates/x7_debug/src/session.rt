@@ -1,4 +1,5 @@
-//! A session: forwards and backwards through a stream.
+//! A user's session: forwards and backwards through a stream. A session of the stream, from a sync word up to a DESYNC,
+//! is another thing (`docs/MAP.md`, words of the house).
 ghost use Rattle.std.specs.Prelude.{◌≡◌, ◌≤◌, ◌+◌, ◌-◌, IfOk, min};
 ghost use Rattle.x7_engine.specs.Standing.{fed_of};
 ghost use Rattle.x7_debug.specs.Journal.{IsMove};
@@ -16,7 +17,8 @@ use x7_engine::Device;
 use x7_part::Part;
 use x7_words::NoMemory;
 
-/// A stream, and a device that took its first bytes. The number of these bytes is the session's position.
+/// A user's way through a stream: the stream, and a device that took its first bytes. The number of these bytes is the
+/// session's position.
 #[derive(Drop)]
 pub struct Session {
     stream: Vec<u8>,
@@ -82,7 +84,7 @@ impl Session {
     /// The device, as the bytes of the stream before the position have left it.
     pub fn device(&self) -> &Device
         ensures part { result.now.part ≡ self.now.part }
-        ensures stands { StandsAtPosition self.now.part self.now.stream result.now self.now.at }
+        ensures at_position { StandsAtPosition self.now.part self.now.stream result.now self.now.at }
         ensures fed { fed_of result.now ≡ self.now.fed }
     {
         &self.device

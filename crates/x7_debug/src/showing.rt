@@ -105,8 +105,8 @@ pub fn transcript(
 ) -> Result<Vec<u8>, NoMemory>
     requires { session.old.at ≡ 0 }
     ensures text { IfOk result (λ text. text.items ≡ transcript_of session.old.part session.old.stream script.now) }
-    ensures position { OnOk result (FollowsOrders session.old session.new script.now) }
-    ensures err { OnErr result (FollowsSome session.old session.new script.now) }
+    ensures all_orders { OnOk result (FollowsOrders session.old session.new script.now) }
+    ensures some_orders { OnErr result (FollowsSome session.old session.new script.now) }
 {
     let mut text = Vec::new(alloc);
     for order in script.orders() {

@@ -99,13 +99,9 @@ port_played part ss = port_after part (clocks_played ss (first_difference part s
 abbrev pub walk_clocks : List Bool → List Clock
 walk_clocks path = map (λ tms. clock tms false) path
 
--- ---- what a step does to a tap and its device
+-- ---- what a step finds, and what holds after clocks
 
--- the step makes these clocks, by the port before them
-abbrev pub MakesClocks : TapState → DeviceState → TapState → DeviceState → (Port → List Clock) → Type 0
-MakesClocks t d u e made = (part : PartData) (cs : List Clock) → TapStandsFor part t d cs → TapStandsFor part u e (cs ++ made (port_after part cs))
-
--- a step's answer is `sought` of the port before the step
+-- the bit that a step found is `sought` of the port before the step
 abbrev pub FindsBy : TapState → DeviceState → (PartData → Port → Option ℕ) → Option ℕ → Type 0
 FindsBy t d sought found = (part : PartData) (cs : List Clock) → TapStandsFor part t d cs → found ≡ sought part (port_after part cs)
 

@@ -38,6 +38,10 @@ lowest_bit register = register % 2 == 1
 abbrev pub register_shifted : ℕ → ℕ → Bool → ℕ
 register_shifted top register tdi = register / 2 + top * number_of_bit tdi
 
+-- what the highest bit of a register of 32 bits is worth
+abbrev pub top_of_32 : ℕ
+top_of_32 = 2 ^ 31
+
 -- what the highest bit of the instruction register, which has six, is worth
 abbrev pub top_of_instruction : ℕ
 top_of_instruction = 32
@@ -70,7 +74,7 @@ abbrev pub idled : PartData → Instruction → Port → Port
 idled part instruction.Jstart p = record p { count = (p.count + 1) % 8; queue = if p.count == 7 then offered (words_read_out part) p.queue startup_byte else p.queue }
 idled part _ p = p
 
--- Capture-DR: the idcode, the user code FFFFFFFF, the first bit of a byte, or a 0
+-- Capture-DR: the register takes the idcode, the user code or 0; under CFG_IN the next bit is a byte's first
 abbrev pub captured : PartData → Instruction → Port → Port
 captured part instruction.Idcode p = record p { register = part.idcode }
 captured part instruction.Usercode p = record p { register = user_code }
@@ -85,8 +89,8 @@ data_shifted part instruction.CfgIn p tdi = record p {
   queue = if p.count == 7 then offered (words_read_out part) p.queue (with_bit p.register tdi) else p.queue;
 }
 data_shifted part instruction.CfgOut p tdi = record p { queue = shifted_out (words_read_out part) p.queue }
-data_shifted part instruction.Idcode p tdi = record p { register = register_shifted (2 ^ 31) p.register tdi }
-data_shifted part instruction.Usercode p tdi = record p { register = register_shifted (2 ^ 31) p.register tdi }
+data_shifted part instruction.Idcode p tdi = record p { register = register_shifted top_of_32 p.register tdi }
+data_shifted part instruction.Usercode p tdi = record p { register = register_shifted top_of_32 p.register tdi }
 data_shifted part _ p tdi = record p { register = register_shifted 1 p.register tdi }
 
 -- what an instruction does as it comes: JPROGRAM resets the device

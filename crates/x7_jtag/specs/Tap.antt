@@ -12,7 +12,7 @@ use Rattle.x7_jtag.specs.declared.instruction.Instruction.{Instruction}
 use Rattle.x7_jtag.specs.declared.instruction.Instruction.TheVariants as instruction
 use Rattle.x7_jtag.specs.declared.state.State.{State}
 use Rattle.x7_jtag.specs.declared.state.State.TheVariants as state
-use Rattle.x7_jtag.specs.Port.{Port, port_after}
+use Rattle.x7_jtag.specs.Port.{Port, port_after, words_read_out}
 use Rattle.x7_jtag.specs.Queue.{Queue, most_bytes_held}
 use Rattle.x7_jtag.specs.State.{Clock}
 
@@ -71,9 +71,9 @@ CanAllBeOffered k d count = CanBeGiven d (length k.held + count + (most_bytes_he
 abbrev pub AreGivenAtMost : QueueState → DeviceState → QueueState → DeviceState → ℕ → Type 0
 AreGivenAtMost k d n e count = e.taken + length n.held ≤ d.taken + length k.held + count
 
--- ---- what they stand for
+-- ---- what a queue, or a tap, and its device stand for
 
--- a queue and its device stand for one of a port, where a word may be due though none waits
+-- a queue and its device stand for the queue of a port; the device may owe a word though no bit of one is left
 pub record QueueHolds (part : PartData) (k : QueueState) (d : DeviceState) (q : Queue) : Type 0 where
   pub bytes : List ℕ
   pub took : TookOfGiven part q.given bytes
@@ -85,14 +85,16 @@ pub record QueueHolds (part : PartData) (k : QueueState) (d : DeviceState) (q : 
   pub prefix : List ℕ
   pub word_is : 0 < k.bits_left → words_taken part d bytes ≡ prefix ++ k.word ∷ []
 
--- the next word is taken of the device as soon as the last bit of the one before has gone out
+-- a queue and its device stand for the queue of a port, and where no bit is left the device owes no word: the next one
+-- is taken of it as soon as the last bit of the one before has gone out
 pub record QueueStandsFor (part : PartData) (k : QueueState) (d : DeviceState) (q : Queue) : Type 0 where
   pub holds : QueueHolds part k d q
   pub no_word_due : k.bits_left ≡ 0 → NoWordDue d
 
--- a step on a queue and its device does this to the queue of a port that they stand for
-abbrev pub QueueBecomes : QueueState → DeviceState → QueueState → DeviceState → (PartData → Queue → Queue) → Type 0
-QueueBecomes k d n e after = (part : PartData) (q : Queue) → QueueStandsFor part k d q → QueueStandsFor part n e (after part q)
+-- a step on a queue and its device does this to the queue of a port that they stand for; `after` is given the words
+-- that a device of the part reads out, as a function of the bytes given to it
+abbrev pub QueueBecomes : QueueState → DeviceState → QueueState → DeviceState → ((List ℕ → List ℕ) → Queue → Queue) → Type 0
+QueueBecomes k d n e after = (part : PartData) (q : Queue) → QueueStandsFor part k d q → QueueStandsFor part n e (after (words_read_out part) q)
 
 -- a tap and its device stand for a port
 pub record StandsForPort (part : PartData) (t : TapState) (d : DeviceState) (p : Port) : Type 0 where
@@ -109,6 +111,10 @@ PortBecomes t d u e after = (part : PartData) (p : Port) → StandsForPort part 
 -- a tap and its device were new before these clocks
 abbrev pub TapStandsFor : PartData → TapState → DeviceState → List Clock → Type 0
 TapStandsFor part t d cs = StandsForPort part t d (port_after part cs)
+
+-- a step on a tap and its device makes these clocks, by the port before them
+abbrev pub MakesClocks : TapState → DeviceState → TapState → DeviceState → (Port → List Clock) → Type 0
+MakesClocks t d u e made = (part : PartData) (cs : List Clock) → TapStandsFor part t d cs → TapStandsFor part u e (cs ++ made (port_after part cs))
 
 -- what holds of each device and of the port that it and a tap stand for
 abbrev pub OfEachPort : (PartData → DeviceState → Port → Type 0) → Type 0

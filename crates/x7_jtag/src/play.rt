@@ -3,9 +3,9 @@ ghost use Rattle.std.specs.Prelude.{◌≡◌, ◌≤◌, ◌<◌, ◌+◌, ◌-
 ghost use Rattle.std.specs.List.{slice_get};
 ghost use Rattle.x7_part.specs.Part.{PartData};
 ghost use Rattle.x7_jtag.specs.Clocks.{clock as clock_of, clocks_of, from_reset, shift_clocks, to_shift as to_shift_clocks};
-ghost use Rattle.x7_jtag.specs.Play.{AreNew, FindsBy, AfterClocks, MakesClocks, MayClock, bits_differ, bit_at, clocks_played, count_limit, counts as counts_at, difference, difference_from, first_difference, first_found, differs_from_wanted, statement_limit, walk_clocks};
+ghost use Rattle.x7_jtag.specs.Play.{AreNew, FindsBy, AfterClocks, MayClock, bits_differ, bit_at, clocks_played, count_limit, counts as counts_at, difference, difference_from, first_difference, first_found, differs_from_wanted, statement_limit, walk_clocks};
 ghost use Rattle.x7_jtag.specs.Port.{port_after};
-ghost use Rattle.x7_jtag.specs.Tap.{TapStandsFor};
+ghost use Rattle.x7_jtag.specs.Tap.{MakesClocks, TapStandsFor};
 ghost use Rattle.x7_jtag.specs.declared.state.State.{State as StateData};
 ghost use Rattle.x7_svf.specs.declared.statement.Statement.{Statement as StatementData};
 
@@ -39,7 +39,7 @@ fn walk(tap: &mut Tap, device: &mut Device, path: &[bool])
 fn run(tap: &mut Tap, device: &mut Device, count: u32)
     requires { MayClock tap.old device.old count_limit }
     ensures most { count < count_limit }
-    ensures stands { MakesClocks tap.old device.old tap.new device.new (λ p. replicate count (clock_of false false)) }
+    ensures clocks { MakesClocks tap.old device.old tap.new device.new (λ p. replicate count (clock_of false false)) }
 {
     for _ in 0..count {
         tap.clock(false, false, device);
@@ -121,7 +121,7 @@ fn first_found(found: Option<u32>, differs: bool, i: u32) -> Option<u32>
 fn shift_bytes(tap: &mut Tap, device: &mut Device, scan: &Scan<'_>) -> u32
     requires { MayClock tap.old device.old count_limit }
     ensures within { result ≤ length scan.now.tdi }
-    ensures stands { MakesClocks tap.old device.old tap.new device.new (λ p. take result (shift_clocks scan.now.tdi)) }
+    ensures clocks { MakesClocks tap.old device.old tap.new device.new (λ p. take result (shift_clocks scan.now.tdi)) }
     ensures none_wanted { 0 < result → scan.now.tdo ≡ None }
     ensures ready { MayClock tap.new device.new (count_limit - result) }
 {
@@ -147,7 +147,7 @@ fn shift_bytes(tap: &mut Tap, device: &mut Device, scan: &Scan<'_>) -> u32
 fn shift_from(tap: &mut Tap, device: &mut Device, scan: &Scan<'_>, first: u32) -> Option<u32>
     requires ready { MayClock tap.old device.old (count_limit - first) }
     requires within { first ≤ length scan.now.tdi }
-    ensures stands { AfterClocks tap.old device.old (take first (shift_clocks scan.now.tdi)) (λ part cs. TapStandsFor part tap.new device.new (cs ++ shift_clocks scan.now.tdi)) }
+    ensures clocks { AfterClocks tap.old device.old (take first (shift_clocks scan.now.tdi)) (λ part cs. TapStandsFor part tap.new device.new (cs ++ shift_clocks scan.now.tdi)) }
     ensures most { length scan.now.tdi < count_limit }
     ensures found { AfterClocks tap.old device.old (take first (shift_clocks scan.now.tdi)) (λ part cs. result ≡ difference_from part (port_after part cs) scan.now first) }
 {
@@ -164,7 +164,7 @@ fn shift_from(tap: &mut Tap, device: &mut Device, scan: &Scan<'_>, first: u32) -
 /// Shifts the bits of a scan, with TMS 1 at the last, and finds the least bit at which TDO differs from what is wanted.
 fn shift(tap: &mut Tap, device: &mut Device, scan: &Scan<'_>) -> Option<u32>
     requires { MayClock tap.old device.old count_limit }
-    ensures stands { MakesClocks tap.old device.old tap.new device.new (λ p. shift_clocks scan.now.tdi) }
+    ensures clocks { MakesClocks tap.old device.old tap.new device.new (λ p. shift_clocks scan.now.tdi) }
     ensures most { length scan.now.tdi < count_limit }
     ensures found { FindsBy tap.old device.old (λ part p. difference_from part p scan.now 0) result }
 {
@@ -175,7 +175,7 @@ fn shift(tap: &mut Tap, device: &mut Device, scan: &Scan<'_>) -> Option<u32>
 /// A scan of a register, and the least bit at which TDO differs from what is wanted.
 fn play_scan(tap: &mut Tap, device: &mut Device, scan: &Scan<'_>) -> Option<u32>
     requires { MayClock tap.old device.old statement_limit }
-    ensures stands { MakesClocks tap.old device.old tap.new device.new (λ p. clocks_of p.state (StatementData.Scan scan.now)) }
+    ensures clocks { MakesClocks tap.old device.old tap.new device.new (λ p. clocks_of p.state (StatementData.Scan scan.now)) }
     ensures most { length scan.now.tdi < count_limit }
     ensures found { FindsBy tap.old device.old (λ part p. difference part p (StatementData.Scan scan.now)) result }
 {
@@ -189,7 +189,7 @@ fn play_scan(tap: &mut Tap, device: &mut Device, scan: &Scan<'_>) -> Option<u32>
 /// The clocks of a statement, and the least bit at which TDO differs from what is wanted.
 fn play_statement(statement: &Statement<'_>, tap: &mut Tap, device: &mut Device) -> Option<u32>
     requires { MayClock tap.old device.old statement_limit }
-    ensures stands { MakesClocks tap.old device.old tap.new device.new (λ p. clocks_of p.state statement.now) }
+    ensures clocks { MakesClocks tap.old device.old tap.new device.new (λ p. clocks_of p.state statement.now) }
     ensures most { (s : StateData) → length (clocks_of s statement.now) ≤ statement_limit }
     ensures found { FindsBy tap.old device.old (λ part p. difference part p statement.now) result }
 {
@@ -215,7 +215,7 @@ fn play_statement(statement: &Statement<'_>, tap: &mut Tap, device: &mut Device)
 /// The clocks of statement i of a text, from 0, and the least bit at which TDO differs from what is wanted.
 fn play_at(svf: &Svf, i: usize, tap: &mut Tap, device: &mut Device) -> Option<u32>
     requires { MayClock tap.old device.old statement_limit }
-    ensures stands { (x : StatementData) → slice_get svf.now i ≡ Some x → MakesClocks tap.old device.old tap.new device.new (λ p. clocks_of p.state x) }
+    ensures clocks { (x : StatementData) → slice_get svf.now i ≡ Some x → MakesClocks tap.old device.old tap.new device.new (λ p. clocks_of p.state x) }
     ensures most { (x : StatementData) → slice_get svf.now i ≡ Some x → (s : StateData) → length (clocks_of s x) ≤ statement_limit }
     ensures found { (x : StatementData) → slice_get svf.now i ≡ Some x → FindsBy tap.old device.old (λ part p. difference part p x) result }
 {

@@ -73,7 +73,7 @@ impl Queue {
         requires fits { CanBeGiven device.old (length piece.now) }
         ensures taken { device.new.taken ≤ device.old.taken + length piece.now }
         ensures held { self.new.held ≡ self.old.held }
-        ensures stands { (part : PartData) (q : QueueData) → QueueHolds part self.old device.old q → (0 < length piece.now → NoWordDue device.old)
+        ensures queue { (part : PartData) (q : QueueData) → QueueHolds part self.old device.old q → (0 < length piece.now → NoWordDue device.old)
             → QueueStandsFor part self.new device.new (with_given q piece.now) }
     {
         let mut read = ReadBuf::one();
@@ -88,7 +88,7 @@ impl Queue {
         ensures taken { device.new.taken ≤ device.old.taken + 1 }
         ensures held { length self.new.held ≤ length self.old.held + 1 }
         ensures at_most { AreGivenAtMost self.old device.old self.new device.new 1 }
-        ensures stands { QueueBecomes self.old device.old self.new device.new (λ part q. in_turn (words_read_out part) q byte) }
+        ensures queue { QueueBecomes self.old device.old self.new device.new (λ reads q. in_turn reads q byte) }
     {
         if self.bits_left > 0 {
             self.held.push(byte);
@@ -103,7 +103,7 @@ impl Queue {
         ensures taken { device.new.taken ≤ device.old.taken + length self.old.held }
         ensures held { self.new.held ≡ [] }
         ensures none_waits { self.new.bits_left ≡ 0 }
-        ensures stands { QueueBecomes self.old device.old self.new device.new (λ part q. dropped (words_read_out part) q) }
+        ensures queue { QueueBecomes self.old device.old self.new device.new (λ reads q. dropped reads q) }
     {
         let mut read = ReadBuf::dropping();
         device.feed(self.held.as_slice(), &mut read);
@@ -125,7 +125,7 @@ impl Queue {
         ensures at_most { AreGivenAtMost self.old device.old self.new device.new 0 }
         ensures taken { device.new.taken ≤ device.old.taken + most_bytes_held }
         ensures room { 0 < self.new.bits_left → length self.new.held < most_bytes_held }
-        ensures stands { QueueBecomes self.old device.old self.new device.new (λ part q. queue_with_room (words_read_out part) q) }
+        ensures queue { QueueBecomes self.old device.old self.new device.new (λ reads q. queue_with_room reads q) }
     {
         if self.overflows() {
             self.drop_all(device);
@@ -136,7 +136,7 @@ impl Queue {
     pub(crate) fn offer(&mut self, byte: u8, device: &mut Device)
         requires fits { CanBeOffered device.old }
         ensures at_most { AreGivenAtMost self.old device.old self.new device.new 1 }
-        ensures stands { QueueBecomes self.old device.old self.new device.new (λ part q. offered (words_read_out part) q byte) }
+        ensures queue { QueueBecomes self.old device.old self.new device.new (λ reads q. offered reads q byte) }
     {
         self.make_room(device);
         self.take(byte, device);
@@ -147,7 +147,7 @@ impl Queue {
         requires fits { CanBeGiven device.old (length bytes.now) }
         ensures within { result ≤ length bytes.now }
         ensures at_most { AreGivenAtMost self.old device.old self.new device.new result }
-        ensures stands { QueueBecomes self.old device.old self.new device.new (λ part q. fold (offered (words_read_out part)) q (take result bytes.now)) }
+        ensures queue { QueueBecomes self.old device.old self.new device.new (λ reads q. fold (offered reads) q (take result bytes.now)) }
     {
         if self.bits_left > 0 {
             return 0;
@@ -160,12 +160,12 @@ impl Queue {
 
     /// Takes the first of bytes that are offered, as many as go at once. Says how many.
     fn offer_some(&mut self, bytes: &[u8], device: &mut Device) -> usize
-        requires some { 0 < length bytes.now }
+        requires not_empty { 0 < length bytes.now }
         requires fits { CanAllBeOffered self.old device.old (length bytes.now) }
         ensures at_least_one { 0 < result }
         ensures within { result ≤ length bytes.now }
         ensures at_most { AreGivenAtMost self.old device.old self.new device.new result }
-        ensures stands { QueueBecomes self.old device.old self.new device.new (λ part q. fold (offered (words_read_out part)) q (take result bytes.now)) }
+        ensures queue { QueueBecomes self.old device.old self.new device.new (λ reads q. fold (offered reads) q (take result bytes.now)) }
     {
         let count = self.give(bytes, device);
         if count > 0 {
@@ -178,7 +178,7 @@ impl Queue {
     /// Takes bytes that are offered, one after another.
     pub(crate) fn offer_all(&mut self, bytes: &[u8], device: &mut Device)
         requires fits { CanAllBeOffered self.old device.old (length bytes.now) }
-        ensures stands { QueueBecomes self.old device.old self.new device.new (λ part q. fold (offered (words_read_out part)) q bytes.now) }
+        ensures queue { QueueBecomes self.old device.old self.new device.new (λ reads q. fold (offered reads) q bytes.now) }
     {
         let mut rest = bytes;
         while !rest.is_empty() {
@@ -190,7 +190,7 @@ impl Queue {
     /// Gives held bytes in order until a word waits.
     fn give_held(&mut self, device: &mut Device)
         requires fits { CanBeGiven device.old most_bytes_held }
-        ensures stands { QueueBecomes self.old device.old self.new device.new (λ part q. give_held_by (words_read_out part) q) }
+        ensures queue { QueueBecomes self.old device.old self.new device.new (λ reads q. give_held_by reads q) }
     {
         let held = mem::replace(&mut self.held, ArrayVec::new());
         let mut rest = held.as_slice();
@@ -203,7 +203,7 @@ impl Queue {
     /// The next bit of the word, which is then out.
     fn next_bit(&mut self) -> bool
         requires { 0 < self.old.bits_left }
-        ensures new { self.new ≡ record self.old { bits_left = self.old.bits_left - 1 } }
+        ensures one_out { self.new ≡ record self.old { bits_left = self.old.bits_left - 1 } }
         ensures bit { result ≡ (self.old.word / 2 ^ (self.old.bits_left - 1) % 2 == 1) }
     {
         self.bits_left -= 1;
@@ -214,7 +214,7 @@ impl Queue {
     fn refill(&mut self, device: &mut Device)
         requires none_waits { self.old.bits_left ≡ 0 }
         requires fits { CanBeGiven device.old most_bytes_held }
-        ensures stands { (part : PartData) (q : QueueData) → QueueHolds part self.old device.old q
+        ensures queue { (part : PartData) (q : QueueData) → QueueHolds part self.old device.old q
             → QueueStandsFor part self.new device.new (give_held_by (words_read_out part) q) }
     {
         self.feed(&[], device);
@@ -224,7 +224,7 @@ impl Queue {
     /// Shifts a bit out; 0 where none waits.
     pub(crate) fn shift(&mut self, device: &mut Device) -> bool
         requires fits { CanBeGiven device.old most_bytes_held }
-        ensures stands { QueueBecomes self.old device.old self.new device.new (λ part q. shifted_out (words_read_out part) q) }
+        ensures queue { QueueBecomes self.old device.old self.new device.new (λ reads q. shifted_out reads q) }
         ensures bit { (part : PartData) (q : QueueData) → QueueStandsFor part self.old device.old q → result ≡ bit_shown (words_read_out part) q }
     {
         if self.bits_left == 0 {
@@ -239,7 +239,7 @@ impl Queue {
 
     /// Resets the device, and empties the queue.
     pub(crate) fn program(&mut self, device: &mut Device)
-        ensures { QueueBecomes self.old device.old self.new device.new (λ part q. empty_queue) }
+        ensures { QueueBecomes self.old device.old self.new device.new (λ reads q. empty_queue) }
     {
         device.reset(ON_THE_BENCH);
         self.held.clear();

@@ -1,14 +1,14 @@
 //! The test access port of a device.
-ghost use Rattle.std.specs.Prelude.{◌≡◌, ◌≤◌, ◌<◌, ◌+◌, ◌*◌, ◌/◌, ◌%◌, ◌^◌, ◌==◌, ◌∷◌, ◌++◌, ℕ, false, [], List, length, IsTrue};
+ghost use Rattle.std.specs.Prelude.{◌≡◌, ◌≤◌, ◌<◌, ◌+◌, ◌*◌, ◌/◌, ◌%◌, ◌^◌, ◌==◌, ◌∷◌, ℕ, false, [], List, length, IsTrue};
 ghost use Rattle.x7_part.specs.Part.{PartData};
 ghost use Rattle.x7_engine.specs.Kept.{on_the_bench};
 ghost use Rattle.x7_engine.specs.Standing.{DeviceStandsFor, DeviceState};
 ghost use Rattle.x7_jtag.specs.Port.{Port, acted, captured, data_shifted, data_shown, idled, lowest_bit, number_of_bit, port_after, register_shifted as shifted_in, ir_status, ir_status_with, tdo_of, updated, with_bit as with_bit_in};
 ghost use Rattle.x7_jtag.specs.State.{Clock};
 ghost use Rattle.x7_jtag.specs.declared.instruction.Instruction.TheVariants.{CfgIn};
-ghost use Rattle.x7_jtag.specs.Tap.{CanAllBeOffered, CanBeOffered, PortBecomes, StandsForPort, TakesBytes, TapStandsFor, TookOfGiven, last_or};
+ghost use Rattle.x7_jtag.specs.Tap.{CanAllBeOffered, CanBeOffered, MakesClocks, PortBecomes, StandsForPort, TakesBytes, TapStandsFor, TookOfGiven, last_or};
 ghost use Rattle.x7_svf.specs.Bits.{bytes_bits};
-ghost use Rattle.x7_jtag.specs.Clocks.{inner_clocks};
+ghost use Rattle.x7_jtag.specs.Clocks.{clock as clock_of, inner_clocks};
 
 use crate::instruction::{Instruction, instruction_of};
 use crate::queue::Queue;
@@ -134,7 +134,7 @@ impl Tap {
 
     /// Counts to eight, and says whether it has.
     fn count_to_eight(&mut self) -> bool
-        ensures new { self.new ≡ record self.old { count = (self.old.count + 1) % 8 } }
+        ensures counted { self.new ≡ record self.old { count = (self.old.count + 1) % 8 } }
         ensures eighth { result ≡ (self.old.count == 7) }
     {
         let is_eighth = self.count == 7;
@@ -145,7 +145,7 @@ impl Tap {
     /// Run-Test/Idle: under JSTART each eighth clock offers a byte FF.
     fn idle(&mut self, device: &mut Device)
         requires { CanBeOffered device.old }
-        ensures stands { PortBecomes self.old device.old self.new device.new (λ part p. idled part p.instruction p) }
+        ensures port { PortBecomes self.old device.old self.new device.new (λ part p. idled part p.instruction p) }
     {
         match self.instruction {
             Instruction::Jstart => {
@@ -157,9 +157,9 @@ impl Tap {
         }
     }
 
-    /// Capture-DR: the register takes the idcode, the user code, or 0.
+    /// Capture-DR: the register takes the idcode, the user code or 0. Under CFG_IN the next bit is a byte's first.
     fn capture(&mut self, device: &Device)
-        ensures stands { PortBecomes self.old device.now self.new device.now (λ part p. captured part p.instruction p) }
+        ensures port { PortBecomes self.old device.now self.new device.now (λ part p. captured part p.instruction p) }
     {
         match self.instruction {
             Instruction::Idcode => self.register = device.part().idcode(),
@@ -175,7 +175,7 @@ impl Tap {
     /// Shift-DR under CFG_IN: each eighth bit completes a byte, which is offered.
     fn shift_byte(&mut self, tdi: bool, device: &mut Device)
         requires { CanBeOffered device.old }
-        ensures stands { PortBecomes self.old device.old self.new device.new (λ part p. data_shifted part CfgIn p tdi) }
+        ensures port { PortBecomes self.old device.old self.new device.new (λ part p. data_shifted part CfgIn p tdi) }
     {
         let byte = with_bit(self.register, tdi);
         self.register = u32::from(byte);
@@ -187,7 +187,7 @@ impl Tap {
     /// One shift of the register, whose highest bit is worth `top`. Gives the bit that goes out.
     fn shift_register(&mut self, top: u32, tdi: bool) -> bool
         requires { top ≤ 2 ^ 31 }
-        ensures new { self.new ≡ record self.old { register = shifted_in top self.old.register tdi } }
+        ensures shifted { self.new ≡ record self.old { register = shifted_in top self.old.register tdi } }
         ensures out { result ≡ lowest_bit self.old.register }
     {
         let out = lowest_bit(self.register);
@@ -210,7 +210,7 @@ impl Tap {
         requires takes { TakesBytes self.old }
         requires fits { CanAllBeOffered self.old.queue device.old (length bytes.now) }
         ensures takes { TakesBytes self.new }
-        ensures stands { (part : PartData) (cs : List Clock) → TapStandsFor part self.old device.old cs → TapStandsFor part self.new device.new (cs ++ inner_clocks (bytes_bits bytes.now)) }
+        ensures clocks { MakesClocks self.old device.old self.new device.new (λ p. inner_clocks (bytes_bits bytes.now)) }
     {
         self.queue.offer_all(bytes, device);
         self.register = last_or(bytes, self.register);
@@ -219,7 +219,7 @@ impl Tap {
     /// Shift-DR: one bit through what the instruction selects. Gives TDO.
     fn shift(&mut self, tdi: bool, device: &mut Device) -> bool
         requires { CanBeOffered device.old }
-        ensures stands { PortBecomes self.old device.old self.new device.new (λ part p. data_shifted part p.instruction p tdi) }
+        ensures port { PortBecomes self.old device.old self.new device.new (λ part p. data_shifted part p.instruction p tdi) }
         ensures tdo { (part : PartData) (p : Port) → StandsForPort part self.old device.old p → result ≡ data_shown part p.instruction p }
     {
         match self.instruction {
@@ -236,7 +236,7 @@ impl Tap {
 
     /// Update-IR: the register becomes the instruction, and JPROGRAM resets the device.
     fn update(&mut self, device: &mut Device)
-        ensures stands { PortBecomes self.old device.old self.new device.new (λ part p. updated p) }
+        ensures port { PortBecomes self.old device.old self.new device.new (λ part p. updated p) }
     {
         self.instruction = instruction_of(self.register);
         self.count = 0;
@@ -249,7 +249,7 @@ impl Tap {
     /// Does the action of the present state, and gives TDO.
     fn act(&mut self, tdi: bool, device: &mut Device) -> bool
         requires { CanBeOffered device.old }
-        ensures stands { PortBecomes self.old device.old self.new device.new (λ part p. acted part p.state p tdi) }
+        ensures port { PortBecomes self.old device.old self.new device.new (λ part p. acted part p.state p tdi) }
         ensures tdo { (part : PartData) (p : Port) → StandsForPort part self.old device.old p → result ≡ tdo_of part p }
     {
         match self.state {
@@ -284,7 +284,7 @@ impl Tap {
     /// The tap is new, or was clocked with this device alone since the device was new.
     pub fn clock(&mut self, tms: bool, tdi: bool, device: &mut Device) -> bool
         requires { CanBeOffered device.old }
-        ensures stands { (part : PartData) (cs : List Clock) → TapStandsFor part self.old device.old cs → TapStandsFor part self.new device.new (cs ++ record { tms = tms; tdi = tdi } ∷ []) }
+        ensures clocks { MakesClocks self.old device.old self.new device.new (λ p. clock_of tms tdi ∷ []) }
         ensures tdo { (part : PartData) (cs : List Clock) → TapStandsFor part self.old device.old cs → result ≡ tdo_of part (port_after part cs) }
     {
         let tdo = self.act(tdi, device);

@@ -9,12 +9,14 @@ use Rattle.x7_packets.specs.Packet.{Packet, named_by, stepped, words}
 use Rattle.x7_packets.specs.Reading.{Place, Searching, Synced, Session, IsPlace, IsSession, packet_bytes, place_bytes, session_bytes}
 use Rattle.x7_packets.specs.declared.header.Step.{Step}
 use Rattle.x7_packets.specs.declared.header.Step.TheVariants.{Payload, Filler, Nop, Open, Read, Bad}
-use Rattle.x7_text.specs.Digits.{hex_byte, hex_word}
+use Rattle.x7_text.specs.Digits.{hex_byte}
 use Rattle.x7_text.specs.Row.{bytes_text, close, element_text, in_line_after, line_end, line_start, next_in_line, open_text, spaced}
-use Rattle.x7_regs.specs.Command.{code_of, command_by, command_name_of}
+use Rattle.x7_regs.specs.Command.{code_of, command_by}
+use Rattle.x7_regs.specs.declared.command.Command.{Command}
 use Rattle.x7_regs.specs.Register.{reg_name}
 use Rattle.x7_packets.proofs.ByHandLemmas.{reading_is_found}
 use Rattle.x7_text.proofs.LineLemmas.{bytes_closed, open_text_append}
+use Rattle.x7_listing.specs.Line.{Cmd, Data, ended_text}
 use Rattle.x7_listing.specs.HeadLine.{command_line, line_of_head, text_of_head, line_text}
 use Rattle.x7_listing.specs.Listing.{listing_of, packet_text, place_text, session_text}
 use Rattle.x7_listing.specs.Lister.{GapListed, ListerStandsFor, ListerState, HasListedAt, TakerStandsFor, open_payload, in_line_after_word, open_session_word, open_words, in_line_after_words, written_of}
@@ -43,12 +45,12 @@ line_long (line.Write2 count) = omega (arith, length-append (codes "write2 ") (d
 line_long (line.Read2 count) = omega (arith, length-append (codes "read2 ") (decimal count ++ 10 ∷ []))
 line_long (line.Word w) = omega arith
 
-command_by_case : (b : Bool) (name digits : List ℕ) → 4 ≤ length (if b then codes "cmd " ++ name ++ 10 ∷ [] else codes "data " ++ digits ++ 10 ∷ [])
-command_by_case true name digits = omega arith
-command_by_case false name digits = omega arith
+command_by_case : (b : Bool) (c : Command) (w : ℕ) → 4 ≤ length (ended_text (if b then Cmd c else Data (w ∷ [])))
+command_by_case true c w = omega arith
+command_by_case false c w = omega arith
 
 command_long : (w : ℕ) → 4 ≤ length (command_line w)
-command_long w = command_by_case (code_of (command_by w) == w) (command_name_of (command_by w)) (hex_word w)
+command_long w = command_by_case (code_of (command_by w) == w) (command_by w) w
 
 payload_by : (b : Bool) (i w : ℕ) → 4 ≤ length (open_payload b i w)
 payload_by true i w = omega (arith, command_long w, length-append (close i) (command_line w))

@@ -114,7 +114,7 @@ pub record AppendsLines (text rest old new : List ℕ) (count : ℕ) : Type 0 wh
 -- the first `size` bytes of the text are `count` whole lines, one at least, none of which is a comment or the check;
 -- their bytes were appended
 pub record AppendsFirstLines (text old new : List ℕ) (size count : ℕ) : Type 0 where
-  pub some : 0 < size
+  pub not_empty : 0 < size
   pub within : size ≤ length text
   pub counted : count ≤ size
   pub takes : AppendsLines text (drop size text) old new count

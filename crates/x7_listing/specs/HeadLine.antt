@@ -1,7 +1,5 @@
 -- The lines of single words: header words, and payload words of CMD (this project's choice).
-use Rattle.std.specs.Prelude.{ℕ, ◌<◌, ◌==◌, if◌then◌else◌, List, [], ◌∷◌, ◌++◌, codes}
-use Rattle.x7_regs.specs.Command.{code_of, command_by, command_name_of}
-use Rattle.x7_text.specs.Digits.{hex_word}
+use Rattle.std.specs.Prelude.{ℕ, ◌<◌, ◌==◌, if◌then◌else◌, List}
 use Rattle.x7_regs.specs.Register.{reg_number_count}
 use Rattle.x7_packets.specs.Packet.{register_of, type1_count_of, type2_count_of, type_and_opcode_of}
 use Rattle.x7_packets.specs.PacketWords.{no_op, sync_word, type1_read_header, type1_write_header, type2_read_header, type2_read_kind, type2_write_header, type2_write_kind}
@@ -9,7 +7,7 @@ use Rattle.x7_packets.specs.declared.header.Step.{Step}
 use Rattle.x7_packets.specs.declared.header.Step.TheVariants.{Bad}
 use Rattle.x7_listing.specs.declared.line.head_line.HeadLine.{HeadLine}
 use Rattle.x7_listing.specs.declared.line.head_line.HeadLine.TheVariants.{Nop, Sync, Write, Read, Write2, Read2, Word}
-use Rattle.x7_listing.specs.Line.{Line, ended_text, line_end_byte}
+use Rattle.x7_listing.specs.Line.{Line, cmd_line, ended_text}
 use Rattle.x7_listing.specs.Line as line
 
 -- the word that a line stands for
@@ -65,8 +63,6 @@ line_text l = ended_text (line_as l)
 abbrev pub text_of_head : Step → ℕ → List ℕ
 text_of_head step w = line_text (line_of_head step w)
 
--- the text of the line of a payload word of CMD, with its end: the command whose code the whole word is, else the word
+-- the text of the line of a payload word of CMD, with its end
 abbrev pub command_line : ℕ → List ℕ
-command_line w =
-    if code_of (command_by w) == w then codes "cmd " ++ command_name_of (command_by w) ++ line_end_byte ∷ [] else
-    codes "data " ++ hex_word w ++ line_end_byte ∷ []
+command_line w = ended_text (cmd_line w)

@@ -39,7 +39,7 @@ type1_text a = reg_name a.0 ++ space_byte ∷ decimal a.1
 -- the text of a line, without its end
 abbrev pub text_of : Line → List ℕ
 text_of Empty = []
-text_of (Comment text) = 35 ∷ text
+text_of (Comment text) = codes "#" ++ text
 text_of (Bytes bytes) = codes "bytes " ++ flat_map hex_byte bytes
 text_of Sync = codes "sync"
 text_of Nop = codes "nop"

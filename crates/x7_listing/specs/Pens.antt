@@ -1,4 +1,5 @@
--- What a lister lists with its pen (this project's choice).
+-- What a lister lists with its pen, which is what it keeps between two runs (`src/list/pen/state.rt`; this project's
+-- choice).
 use Rattle.std.specs.Prelude.{◌≡◌, Bool, List, [], ℕ, ◌++◌, take, false, true}
 use Rattle.x7_words.specs.Word.{bytes_of_word}
 use Rattle.x7_packets.specs.AtOnce.{TakesAsOneRun}

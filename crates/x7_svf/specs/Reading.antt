@@ -14,7 +14,7 @@ pub record PassesBlanks (old new : SourceState) : Type 0 where
 
 -- the rest of the text begins with a token's bytes, of which there is one at least
 pub record ComesNext (s : SourceState) (t : NextToken) : Type 0 where
-  pub some : 0 < token_size t
+  pub not_empty : 0 < token_size t
   pub within : token_size t ≤ length s.rest
 
 -- `count` bytes were passed, none of them a line end, and some of them may be kept

@@ -80,7 +80,7 @@ fn byte_from(digits: &[u8], at: u32) -> u8
 /// bits, and at most 1,024.
 fn bytes_of(digits: &[u8], count: u32, from: u32) -> ArrayVec<u8, MOST_BYTES_AT_ONCE>
     requires whole { from % 8 ≡ 0 }
-    requires some { from + 8 < count }
+    requires more_than_a_byte { from + 8 < count }
     ensures at_least_one { 0 < length result.items }
     ensures within { from + 8 * length result.items < count }
     ensures bits { bytes_bits result.items ≡ bits_from digits.now from (8 * length result.items) }
@@ -123,7 +123,7 @@ impl<'t> Bits<'t> {
     /// 1,024. The first of eight bits is the highest of its byte.
     pub fn bytes_from(&self, from: u32) -> ArrayVec<u8, MOST_BYTES_AT_ONCE>
         requires whole { from % 8 ≡ 0 }
-        requires some { from + 8 < length self.now }
+        requires more_than_a_byte { from + 8 < length self.now }
         ensures at_least_one { 0 < length result.items }
         ensures within { from + 8 * length result.items < length self.now }
         ensures bits { bytes_bits result.items ≡ take (8 * length result.items) (drop from self.now) }

@@ -22,7 +22,7 @@ use crate::stored::{Stored, StoredScan};
 use crate::token::{NextToken, next_within, pass_end};
 use crate::words::{Words, is_free_word, is_keyword, number_within, statement_of_kept, with_word};
 
-/// The most bits of a scan.
+/// The most bits of a scan: 2^29.
 const MOST_BITS: u32 = 536_870_912;
 
 /// Whether a token that a text begins with is a bracket, or a word without 0D.

@@ -73,7 +73,7 @@ fn bracket_or_end(byte: u8) -> NextToken
 
 /// The token that a text begins with, which begins with no blank.
 fn first_token(text: &[u8]) -> NextToken
-    requires some { 0 < length text.now }
+    requires not_empty { 0 < length text.now }
     requires begins { is_blank_byte (slice_index text.now 0) ≡ false }
     ensures tokens { (line : ℕ) → tokens line text.now ≡ record { line = line; token = token_of result text.now } ∷ tokens line (drop (token_size result) text.now) }
     ensures at_least_one { 0 < token_size result }

@@ -1,9 +1,8 @@
 //! Statements of words alone.
 ghost use Rattle.std.specs.Prelude.{◌≡◌, ◌<◌, ◌&&◌, ◌≤◌, ◌∷◌, ◌++◌, ℕ, [], List, length, codes, IfSome, IfNone, Option, Some, None};
-ghost use Rattle.x7_svf.specs.Words.{chain_statement, end_state_statement, is_digit, is_free_byte, is_free_word, is_keyword, is_time, is_time_byte, most_clocks, number_within, run_by, run_if, runtest_statement, some_if, state_statement, statement_of_words, trst_statement, word_list};
+ghost use Rattle.x7_svf.specs.Words.{chain_statement, end_state_statement, is_digit, is_free_byte, is_free_word, is_keyword, is_time, is_time_byte, most_clocks, number_within, run_by, runtest_statement, state_statement, statement_of_words, trst_statement, word_list};
 ghost use Rattle.x7_svf.specs.Span.{AreWordsWithin, bytes_in, span_end, words_kept};
 ghost use Rattle.x7_svf.specs.Stored.{IsStored};
-ghost use Rattle.x7_svf.specs.declared.statement.Statement.{Statement as StatementData};
 ghost use Rattle.std.specs.List.{list_all};
 
 use crate::span::Span;
@@ -94,20 +93,6 @@ fn run_for(digits: &[u8]) -> Option<Stored>
     Some(Stored::Run(count))
 }
 
-/// The run of as many clocks as the digits say, where the condition is met.
-fn run_if(is_met: bool, digits: &[u8]) -> Option<Stored>
-    ensures { IsStored [] result (run_if is_met digits.now) }
-{
-    if is_met { run_for(digits) } else { None }
-}
-
-/// A statement that asks for nothing, where the condition is met.
-fn nothing_if(is_met: bool) -> Option<Stored>
-    ensures { IsStored [] result (some_if is_met StatementData.Nothing) }
-{
-    if is_met { Some(Stored::Nothing) } else { None }
-}
-
 /// The statement of the words after STATE.
 fn state_statement(words: &[&[u8]]) -> Option<Stored>
     ensures { IsStored [] result (state_statement (word_list words.now)) }
@@ -148,12 +133,26 @@ fn runtest_statement(words: &[&[u8]]) -> Option<Stored>
         [count, unit] => {
             if is_keyword(unit, b"TCK") {
                 run_for(count)
+            } else if is_keyword(unit, b"SEC") && is_time(count) {
+                Some(Stored::Nothing)
             } else {
-                nothing_if(is_keyword(unit, b"SEC") && is_time(count))
+                None
             }
         }
-        [state, count, unit] => { run_if(are_idle_clocks(state, unit), count) }
-        [count, unit, time, second] => { run_if(are_timed_clocks(unit, time, second), count) }
+        [state, count, unit] => {
+            if are_idle_clocks(state, unit) {
+                run_for(count)
+            } else {
+                None
+            }
+        }
+        [count, unit, time, second] => {
+            if are_timed_clocks(unit, time, second) {
+                run_for(count)
+            } else {
+                None
+            }
+        }
         _ => None,
     }
 }
@@ -163,7 +162,13 @@ fn end_state_statement(words: &[&[u8]]) -> Option<Stored>
     ensures { IsStored [] result (end_state_statement (word_list words.now)) }
 {
     match words {
-        [word] => nothing_if(is_keyword(word, b"IDLE")),
+        [word] => {
+            if is_keyword(word, b"IDLE") {
+                Some(Stored::Nothing)
+            } else {
+                None
+            }
+        }
         _ => None,
     }
 }
@@ -174,7 +179,13 @@ fn chain_statement(words: &[&[u8]]) -> Option<Stored>
     ensures { IsStored [] result (chain_statement (word_list words.now)) }
 {
     match words {
-        [word] => nothing_if(is_keyword(word, b"0")),
+        [word] => {
+            if is_keyword(word, b"0") {
+                Some(Stored::Nothing)
+            } else {
+                None
+            }
+        }
         _ => None,
     }
 }
@@ -184,7 +195,13 @@ fn trst_statement(words: &[&[u8]]) -> Option<Stored>
     ensures { IsStored [] result (trst_statement (word_list words.now)) }
 {
     match words {
-        [word] => nothing_if(is_free_word(word)),
+        [word] => {
+            if is_free_word(word) {
+                Some(Stored::Nothing)
+            } else {
+                None
+            }
+        }
         _ => None,
     }
 }

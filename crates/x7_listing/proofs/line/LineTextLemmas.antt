@@ -126,9 +126,5 @@ pub no_command_line : (w : ℕ) → (code_of (command_by w) ≡ w → ⊥) → c
 no_command_line w c = rw (is_apart (code_of (command_by w)) w c) refl
 
 -- the text of the line of a payload word of CMD
-cmd_text_by : (b : Bool) (w : ℕ) → ended_text (if b then Cmd (command_by w) else Data (w ∷ [])) ≡ (if b then codes "cmd " ++ command_name_of (command_by w) ++ 10 ∷ [] else codes "data " ++ hex_word w ++ 10 ∷ [])
-cmd_text_by true w = refl
-cmd_text_by false w = refl
-
 pub cmd_text : (w : ℕ) → ended_text (cmd_line w) ≡ command_line w
-cmd_text w = cmd_text_by (code_of (command_by w) == w) w
+cmd_text w = refl

@@ -1,4 +1,4 @@
--- Looks at a text: what begins it is read at once (this project's choice).
+-- Whole lines at the beginning of a text that are read at once (this project's choice).
 use Rattle.std.specs.Prelude.{◌≡◌, ℕ, ◌≤◌, List, Option, MatchOption, Vec, drop, length, vec_len}
 use Rattle.std.specs.declared.alloc.Global.{Global}
 use Rattle.x7_text.specs.Reads.{StaysWithin}
@@ -7,9 +7,9 @@ use Rattle.x7_listing.specs.Assembling.{HasRoomForLine, AppendsFirstLines, Appen
 use Rattle.x7_listing.specs.Assembly.{asm_limit}
 use Rattle.x7_listing.specs.declared.asm.fast.quick.WholeLines.{WholeLines}
 
--- a look at the first bytes of a text found whole lines and appended their bytes, a row at
--- most; or it found none and appended nothing
-pub record Looks (text : List ℕ) (old new : Vec ℕ Global) (found : Option WholeLines) : Type 0 where
+-- what was found at the beginning of a text: whole lines, whose bytes were appended, a row at most; or none, and then
+-- nothing was appended
+pub record AppendsFoundLines (text : List ℕ) (old new : Vec ℕ Global) (found : Option WholeLines) : Type 0 where
   pub takes : MatchOption found (new.items ≡ old.items) (λ taken. AppendsFirstLines text old.items new.items taken.size taken.count)
   pub room : StaysWithin old new row_bytes
 

@@ -1,10 +1,12 @@
--- What stands on a sheet after short runs were put there (this project's choice).
-use Rattle.std.specs.Prelude.{◌≡◌, ℕ, ◌+◌, ◌*◌, List, ◌++◌, take}
+-- What stands on a sheet (`src/list/fast/sheet.rt`) after short runs were put there (this project's choice).
+use Rattle.std.specs.Prelude.{◌≡◌, ℕ, ◌+◌, ◌*◌, List, [], ◌∷◌, ◌++◌, take}
 use Rattle.x7_words.specs.Word.{words_of_bytes}
 use Rattle.x7_packets.specs.Cutter.{CutterState}
-use Rattle.x7_text.specs.Row.{data_line_size, in_line_after, open_data, row_words}
+use Rattle.x7_packets.specs.Packet.{payload_steps}
+use Rattle.x7_text.specs.Row.{close, data_line_size, in_line_after, open_data, row_words}
+use Rattle.x7_listing.specs.Fast.AtOnce.{write_head_text}
 use Rattle.x7_listing.specs.Pens.{ListsMore, lister_with}
-use Rattle.x7_listing.specs.Lister.{ListerState}
+use Rattle.x7_listing.specs.Lister.{ListerState, open_words}
 use Rattle.x7_listing.specs.declared.list.pen.state.OpenWords.{OpenWords}
 use Rattle.x7_listing.specs.declared.list.pen.state.Pen.TheVariants.{Session}
 
@@ -33,6 +35,11 @@ abbrev pub gap_lines_size : ℕ
 gap_lines_size = 74
 
 -- ---- what stands there
+
+-- what a write of one word adds after an open line of `in_line` words: that line's end, its header's line, and the line
+-- of its word, which stays open where it is a `data` line
+abbrev pub one_write_text : ℕ → ℕ → ℕ → List ℕ
+one_write_text in_line register w = close in_line ++ write_head_text register 1 ++ open_words 0 (payload_steps register (w ∷ []))
 
 -- after a shown text the words of a payload stand in new `data` lines, of which the last has
 -- this many words, or none where it is full

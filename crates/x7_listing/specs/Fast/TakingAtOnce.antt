@@ -8,7 +8,7 @@ use Rattle.x7_listing.specs.declared.list.pen.TheConstants.{CALL_ROOM}
 -- `size` of the bytes that come next were taken, and the text grew from one length to another: of the room that a
 -- lister asks for those bytes, that of one call of a pen is left over
 pub record TakesAtOnce (old new : CutterState) (rest : List ℕ) (size from to : ℕ) : Type 0 where
-  pub some : 0 < size
+  pub at_least_one : 0 < size
   pub within : size ≤ length rest
   pub kept : length new.kept ≤ length old.kept
   pub grown : to + CALL_ROOM ≤ from + BYTE_ROOM * size
@@ -20,7 +20,7 @@ most_text = 25
 -- `size` of the bytes that come next were taken, and the text of a sheet grew from one length to another: by
 -- `most_text` bytes at most for each
 pub record TakesOnSheet (old new : CutterState) (rest : List ℕ) (size from to : ℕ) : Type 0 where
-  pub some : 4 ≤ size
+  pub at_least_a_word : 4 ≤ size
   pub within : size ≤ length rest
   pub kept : length new.kept ≤ length old.kept
   pub grown : to ≤ from + most_text * size

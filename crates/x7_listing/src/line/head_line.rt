@@ -83,13 +83,13 @@ impl HeadLine {
 }
 
 /// Appends a line of a type 1 header: a keyword, the register's name and the word count.
-fn put_type1(text: &mut Vec<u8>, word: &[u8], register: u8, count: u32)
+fn put_type1(text: &mut Vec<u8>, keyword: &[u8], register: u8, count: u32)
     requires room { HasSpareRoom text.old line_size }
-    requires short { length word.now ≤ 6 }
+    requires short { length keyword.now ≤ 6 }
     requires register { register < reg_number_count }
-    ensures appends { Appends text.old text.new (word.now ++ reg_name register ++ space_byte ∷ decimal count ++ line_end_byte ∷ []) line_size }
+    ensures appends { Appends text.old text.new (keyword.now ++ reg_name register ++ space_byte ∷ decimal count ++ line_end_byte ∷ []) line_size }
 {
-    put(text, word);
+    put(text, keyword);
     put(text, name_of(register).bytes());
     put(text, b" ");
     put_decimal(text, u64::from(count));
@@ -97,24 +97,24 @@ fn put_type1(text: &mut Vec<u8>, word: &[u8], register: u8, count: u32)
 }
 
 /// Appends a line of a type 2 header: a keyword and the word count.
-fn put_count(text: &mut Vec<u8>, word: &[u8], count: u32)
+fn put_count(text: &mut Vec<u8>, keyword: &[u8], count: u32)
     requires room { HasSpareRoom text.old line_size }
-    requires short { length word.now ≤ 7 }
-    ensures appends { Appends text.old text.new (word.now ++ decimal count ++ line_end_byte ∷ []) line_size }
+    requires short { length keyword.now ≤ 7 }
+    ensures appends { Appends text.old text.new (keyword.now ++ decimal count ++ line_end_byte ∷ []) line_size }
 {
-    put(text, word);
+    put(text, keyword);
     put_decimal(text, u64::from(count));
     put(text, b"\n");
 }
 
 /// Appends a line of one word: a keyword of four letters, a space and eight digits.
-fn put_whole_word(text: &mut Vec<u8>, word: &[u8; 5], w: u32)
+fn put_whole_word(text: &mut Vec<u8>, keyword: &[u8; 5], w: u32)
     requires { HasSpareRoom text.old line_size }
-    ensures appends { Appends text.old text.new (word.now ++ hex_word w ++ line_end_byte ∷ []) line_size }
+    ensures appends { Appends text.old text.new (keyword.now ++ hex_word w ++ line_end_byte ∷ []) line_size }
 {
     let mut line = [b'\n'; 14];
     line[5..13].copy_from_slice(&hex_of_word(w));
-    line[..5].copy_from_slice(word);
+    line[..5].copy_from_slice(keyword);
     put(text, &line);
 }
 

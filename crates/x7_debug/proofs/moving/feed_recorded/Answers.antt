@@ -19,12 +19,12 @@ returns-clause-at_position c =
     let from = c.args.device.now.taken in
     let fits : AreBytes stream = all_from_places (λ b. b < 256) stream (λ k h. omega (arith, c.type_inv.stream k)) in
     let few : c.args.to ≤ length stream = omega (arith, last_within part stream fits, c.requires.may_move.may.within) in
-    let stands = c.requires.may_move.may.on.stands.stands in
+    let takes = c.feed.ensures.takes part on_the_bench false (take from stream) c.requires.may_move.may.on.at_position.stands in
     let there : StandsAtPosition part stream c.feed.new.device c.args.to =
     stands_there part stream c.feed.new.device c.args.to c.requires.may_move.may.within
     (moved part stream (take (c.args.to - c.taken-from.result) (drop c.taken-from.result stream)) c.feed.new.device from c.args.to fits c.requires.may_move.forward few
     (ap (λ (k : ℕ). take (c.args.to - k) (drop k stream)) c.taken-from.ensures.stored)
-    (c.feed.ensures.stands part on_the_bench false (take from stream) stands) (c.feed.ensures.no_word_due part on_the_bench false (take from stream) stands)) in
+    takes.0 takes.1) in
     record {
       there = record {
         on = on_more part stream c.args.device.now c.feed.new.device c.args.journal.now c.feed.new.self c.args.to c.feed.ensures.recorded.0 c.requires.may_move.may.on there

@@ -10,14 +10,15 @@ slice_bounds-feed_piece-end c =
     let fits : AreBytes c.args.stream.now = all_from_places (λ b. b < 256) c.args.stream.now (λ k h. omega (arith, c.type_inv.stream k)) in
     omega (arith, last_within c.args.device.now.part c.args.stream.now fits, c.requires.within)
 
-pub returns-clause-stands : goal.returns-clause-stands
-returns-clause-stands c =
+pub returns-clause-at_position : goal.returns-clause-at_position
+returns-clause-at_position c =
     let stream = c.args.stream.now in
     let part = c.args.device.now.part in
     let from = c.args.device.now.taken in
     let fits : AreBytes stream = all_from_places (λ b. b < 256) stream (λ k h. omega (arith, c.type_inv.stream k)) in
     let few : c.args.to ≤ length stream = omega (arith, last_within part stream fits, c.requires.within) in
+    let takes = c.feed_piece.ensures.takes part on_the_bench false (take from stream) c.requires.at_position.stands in
     stands_there part stream c.feed_piece.new.device c.args.to c.requires.within
     (moved part stream (take (c.args.to - c.taken-from.result) (drop c.taken-from.result stream)) c.feed_piece.new.device from c.args.to fits c.requires.forward few
     (ap (λ (k : ℕ). take (c.args.to - k) (drop k stream)) c.taken-from.ensures.stored)
-    (c.feed_piece.ensures.stands part on_the_bench false (take from stream) c.requires.stands.stands) (c.feed_piece.ensures.no_word_due part on_the_bench false (take from stream) c.requires.stands.stands))
+    takes.0 takes.1)

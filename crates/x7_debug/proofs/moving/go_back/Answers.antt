@@ -34,7 +34,7 @@ feed_recorded-requires-clause-may_move c =
     record {
       may = record {
         on = back.at_position.on;
-        within = within_still c.args.device.now.part c.take_back.new.device.part c.args.stream.now c.args.to c.args.device.now.taken back.at_position.part (omega (arith, c.requires.before)) c.requires.on.stands.within;
+        within = within_still c.args.device.now.part c.take_back.new.device.part c.args.stream.now c.args.to c.args.device.now.taken back.at_position.part (omega (arith, c.requires.before)) c.requires.on.at_position.within;
       };
       forward = back.within;
     }

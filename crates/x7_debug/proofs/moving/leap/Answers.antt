@@ -3,7 +3,7 @@ use Rattle.x7_debug.proofs.moving.leap.Goals as goal
 
 pub returns : goal.returns
 returns c =
-    let there = c.feed_to.ensures.stands in
+    let there = c.feed_to.ensures.at_position in
     record {
       at_position = record {
         there = record {

@@ -15,6 +15,6 @@ returns-in-Frame c =
     let memory = c.memory.result.now in
     let same : frame_at c.part.result.now memory far ≡ memory_at_position session.part session.stream session.at far
     = ap (λ (p : PartData). frame_at p memory far) (c.part.ensures.stored ∙ c.device-device.ensures.part)
-    ∙ c.memory.ensures.shows session.part on_the_bench false (take session.at session.stream) c.device-device.ensures.stands.stands far in
+    ∙ c.memory.ensures.shows session.part on_the_bench false (take session.at session.stream) c.device-device.ensures.at_position.stands far in
     subst (λ (o : Order). OnOk c.put_frame_shown.result (c.put_frame_shown.new.text.items ≡ c.args.text.now.items ++ order_shown session.part session.stream session.at o)) (sym c.in-Frame.is)
     (subst (λ (f : Option (List ℕ)). OnOk c.put_frame_shown.result (c.put_frame_shown.new.text.items ≡ c.args.text.now.items ++ frame_shown far f)) same c.put_frame_shown.ensures)

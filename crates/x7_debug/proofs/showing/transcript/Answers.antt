@@ -7,8 +7,8 @@ use Rattle.x7_debug.specs.Showing.{FollowsSome, final_position, order_shown}
 use Rattle.x7_debug.proofs.ShowingLemmas.{moves_on, position_more, shows, text_more}
 use Rattle.x7_debug.proofs.showing.transcript.Goals as goal
 
-pub returns-in_err-show-clause-err : goal.returns-in_err-show-clause-err
-returns-in_err-show-clause-err c =
+pub returns-in_err-show-clause-some_orders : goal.returns-in_err-show-clause-some_orders
+returns-in_err-show-clause-some_orders c =
     let old = c.args.session.now in
     let orders : List Order = c.args.script.now in
     let i = c.loop-order.order-index in

@@ -25,7 +25,7 @@ returns-in-Stopped-clause-at_position c =
     record {
       on = there.on;
       part = there.part;
-      taken = there.taken ∙ c.requires.last_is ∙ sym (until_stopped part stream from fits c.requires.on.stands.within) ∙ ap (λ (s : Stop). until_of part stream s from) (sym c.in-Stopped.is);
+      taken = there.taken ∙ c.requires.last_is ∙ sym (until_stopped part stream from fits c.requires.on.at_position.within) ∙ ap (λ (s : Stop). until_of part stream s from) (sym c.in-Stopped.is);
     }
 
 pub returns-in_default : goal.returns-in_default
@@ -58,7 +58,7 @@ pub returns-then-taken-outline-clause-at_position : goal.returns-then-taken-outl
 returns-then-taken-outline-clause-at_position c =
     let part = c.args.device.now.part in
     let from : ℕ = c.args.device.now.taken in
-    let within = c.requires.on.stands.within in
+    let within = c.requires.on.at_position.within in
     record {
       on = c.requires.on;
       part = refl;

@@ -43,14 +43,14 @@ loop-stop-preserved c =
     let here : holds_at part stream c.args.stop n ≡ false =
     holds_is part stream c.args.stop n c.end.result c.phase.result c.holds_in.result (c.end.ensures part on_the_bench false (take n stream) there.stands) (c.phase.ensures part on_the_bench false (take n stream) there.stands) c.holds_in.ensures ∙ c.if-holds_in.false in
     let at : c.taken-at.result ≡ n = c.taken-at.ensures.stored in
-    let next : c.feed_to.new.device.taken ≡ n + 1 = omega (arith, at, c.feed_to.ensures.stands.taken) in
+    let next : c.feed_to.new.device.taken ≡ n + 1 = omega (arith, at, c.feed_to.ensures.at_position.taken) in
     let less : n < c.args.bound = omega (arith, at, c.if-at-bound.false) in
     record {
       comes = record {
         there = record {
-          on = on_further c.loop-stop.device.part stream c.loop-stop.device c.feed_to.new.device c.args.journal.now (c.taken-at.result + 1) c.requires.newest_record.0 c.requires.newest_record.1 c.loop-stop.invariant.comes.there.on c.requires.newest_record.2 c.feed_to.ensures.stands
+          on = on_further c.loop-stop.device.part stream c.loop-stop.device c.feed_to.new.device c.args.journal.now (c.taken-at.result + 1) c.requires.newest_record.0 c.requires.newest_record.1 c.loop-stop.invariant.comes.there.on c.requires.newest_record.2 c.feed_to.ensures.at_position
               (omega (arith, at)) (omega (arith, at, less, c.requires.newest_record.3));
-          part = c.feed_to.ensures.stands.stands.part_is ∙ c.loop-stop.invariant.comes.there.part;
+          part = c.feed_to.ensures.at_position.stands.part_is ∙ c.loop-stop.invariant.comes.there.part;
           taken = refl;
         };
         fed = fed_on c.args.device.now c.loop-stop.device c.feed_to.new.device c.loop-stop.invariant.since (omega (arith, next)) c.loop-stop.invariant.comes.fed c.feed_to.ensures.fed;

@@ -10,15 +10,15 @@ use Rattle.x7_jtag.proofs.play.play_statement.Goals as goal
 pub run-requires : goal.run-requires
 run-requires c = ready_left c.args.tap.now c.leave_reset-in-Run.new.tap c.args.device.now c.leave_reset-in-Run.new.device (2 ^ 33) (2 ^ 32) c.requires c.leave_reset-in-Run.ensures (omega arith)
 
-pub returns-in-Run-clause-stands : goal.returns-in-Run-clause-stands
-returns-in-Run-clause-stands c = λ part cs s.
+pub returns-in-Run-clause-clocks : goal.returns-in-Run-clause-clocks
+returns-in-Run-clause-clocks c = λ part cs s.
     let t = (port_after part cs).state in
     of_statement part c.run.new.tap c.run.new.device cs t (statement.Run c.in-Run.count) c.args.statement.now c.in-Run.is
-    (run_ends part c.run.new.tap c.run.new.device cs t c.in-Run.count (c.run.ensures.stands part (cs ++ from_reset t) (c.leave_reset-in-Run.ensures part cs s)))
+    (run_ends part c.run.new.tap c.run.new.device cs t c.in-Run.count (c.run.ensures.clocks part (cs ++ from_reset t) (c.leave_reset-in-Run.ensures part cs s)))
 
-pub returns-in-Scan-clause-stands : goal.returns-in-Scan-clause-stands
-returns-in-Scan-clause-stands c = λ part cs s.
-    of_statement part c.play_scan.new.tap c.play_scan.new.device cs (port_after part cs).state (statement.Scan c.in-Scan.scan) c.args.statement.now c.in-Scan.is (c.play_scan.ensures.stands part cs s)
+pub returns-in-Scan-clause-clocks : goal.returns-in-Scan-clause-clocks
+returns-in-Scan-clause-clocks c = λ part cs s.
+    of_statement part c.play_scan.new.tap c.play_scan.new.device cs (port_after part cs).state (statement.Scan c.in-Scan.scan) c.args.statement.now c.in-Scan.is (c.play_scan.ensures.clocks part cs s)
 
 pub returns-in-Scan-clause-found : goal.returns-in-Scan-clause-found
 returns-in-Scan-clause-found c = λ part cs s. c.play_scan.ensures.found part cs s ∙ ap (difference part (port_after part cs)) (sym c.in-Scan.is)
@@ -28,21 +28,21 @@ returns-in-Scan-clause-most c = λ s. short_scan s c.in-Scan.scan c.args.stateme
 
 pub returns-in-Reset : goal.returns-in-Reset
 returns-in-Reset c = record {
-  stands = λ part cs s. of_statement part c.walk.new.tap c.walk.new.device cs (port_after part cs).state statement.Reset c.args.statement.now c.in-Reset.is (c.walk.ensures part cs s);
+  clocks = λ part cs s. of_statement part c.walk.new.tap c.walk.new.device cs (port_after part cs).state statement.Reset c.args.statement.now c.in-Reset.is (c.walk.ensures part cs s);
   most = λ s. omega (arith, ap (λ (x : Statement). length (clocks_of s x)) c.in-Reset.is);
   found = λ part cs s. ap (difference part (port_after part cs)) (sym c.in-Reset.is);
 }
 
 pub returns-in-Idle : goal.returns-in-Idle
 returns-in-Idle c = record {
-  stands = λ part cs s. of_statement part c.leave_reset.new.tap c.leave_reset.new.device cs (port_after part cs).state statement.Idle c.args.statement.now c.in-Idle.is (c.leave_reset.ensures part cs s);
+  clocks = λ part cs s. of_statement part c.leave_reset.new.tap c.leave_reset.new.device cs (port_after part cs).state statement.Idle c.args.statement.now c.in-Idle.is (c.leave_reset.ensures part cs s);
   most = λ s. omega (arith, ap (λ (x : Statement). length (clocks_of s x)) c.in-Idle.is, leave_length s);
   found = λ part cs s. ap (difference part (port_after part cs)) (sym c.in-Idle.is);
 }
 
 pub returns-in-Nothing : goal.returns-in-Nothing
 returns-in-Nothing c = record {
-  stands = λ part cs s.
+  clocks = λ part cs s.
       of_statement part c.args.tap.now c.args.device.now cs (port_after part cs).state statement.Nothing c.args.statement.now c.in-Nothing.is (stands_at part c.args.tap.now c.args.device.now cs (cs ++ []) (sym (append-nil cs)) s);
   most = λ s. omega (arith, ap (λ (x : Statement). length (clocks_of s x)) c.in-Nothing.is);
   found = λ part cs s. ap (difference part (port_after part cs)) (sym c.in-Nothing.is);

@@ -15,9 +15,9 @@ loop-at-preserved c =
       stands = λ part cs s.
           bytes_on part c.shift_bytes.new.self c.shift_bytes.new.device cs c.args.scan.now.tdi bytes c.loop-at.at _
           (ap bytes_bits c.as_slice-bytes.ensures.value ∙ c.bytes_from-piece.ensures.bits ∙ ap (λ (n : ℕ). take (8 * n) (drop c.loop-at.at c.args.scan.now.tdi)) (sym count)) (omega (arith, c.bytes_from-piece.ensures.within, count)) (omega arith)
-          (c.shift_bytes.ensures.stands part (cs ++ take c.loop-at.at (shift_clocks c.args.scan.now.tdi)) (c.loop-at.invariant.stands part cs s));
+          (c.shift_bytes.ensures.clocks part (cs ++ take c.loop-at.at (shift_clocks c.args.scan.now.tdi)) (c.loop-at.invariant.stands part cs s));
       takes = c.shift_bytes.ensures.takes;
       whole = omega (arith, c.loop-at.invariant.whole);
       within = omega (arith, c.bytes_from-piece.ensures.within, count);
-      ready = ready_bytes c.loop-at.tap c.shift_bytes.new.self c.loop-at.device c.shift_bytes.new.device (2 ^ 32 - c.loop-at.at) _ bytes c.loop-at.invariant.ready c.shift_bytes.ensures.stands (omega (arith, c.bytes_from-piece.ensures.within, count));
+      ready = ready_bytes c.loop-at.tap c.shift_bytes.new.self c.loop-at.device c.shift_bytes.new.device (2 ^ 32 - c.loop-at.at) _ bytes c.loop-at.invariant.ready c.shift_bytes.ensures.clocks (omega (arith, c.bytes_from-piece.ensures.within, count));
     }

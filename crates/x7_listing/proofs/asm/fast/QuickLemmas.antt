@@ -42,7 +42,7 @@ takes_row l word row text old new a b f i e w r end h n =
     sym (take-append-drop a text) ∙ ap (λ t. t ++ drop a text) w ∙ ap (λ t. word ++ t) (sym (take-append-drop b (drop a text)) ∙ ap (λ t. t ++ drop b (drop a text)) r ∙ ap (λ t. row ++ t) (both ∙ drop_more text (a + b) 0 h ∙ ap (λ (c : ℕ). c ∷ drop (a + b + 1) text) end))
     ∙ sym (append_assoc word row (10 ∷ drop (a + b + 1) text)) ∙ ap (λ t. t ++ 10 ∷ drop (a + b + 1) text) (sym e) ∙ sym (append_assoc (text_of l) (10 ∷ []) (drop (a + b + 1) text)) in
     record {
-      some = omega arith;
+      not_empty = omega arith;
       within = omega (arith, h);
       counted = omega arith;
       takes = record { lines = l ∷ []; fit = (f, tt); listed = (i, tt); text_is = is ∙ ap (λ t. t ++ drop (a + b + 1) text) (sym (append-nil (ended_text l))); appended = n ∙ ap (λ t. old ++ t) (sym (append-nil (line_bytes 0 l))); count_is = refl };
@@ -117,7 +117,7 @@ pub takes_seen : (text first old new : List ℕ) (n size count : ℕ) → first 
 takes_seen text first old new n size count e t =
     let s : AppendsFirstLines (take n text) old new size count = subst (λ (f : List ℕ). AppendsFirstLines f old new size count) e t in
     record {
-      some = s.some;
+      not_empty = s.not_empty;
       within = omega (arith, s.within, length-take n text);
       counted = s.counted;
       takes = record {

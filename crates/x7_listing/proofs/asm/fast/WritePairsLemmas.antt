@@ -54,7 +54,7 @@ takes_two : (a b : Line) (text old new : List ℕ) (size : ℕ) → size ≤ len
 takes_two a b text old new size within f g e n =
     let long : 2 ≤ size = omega (arith, ap length e, length-take-le size text within, length-append (ended_text a) (ended_text b), length-append (text_of a) (10 ∷ []), length-append (text_of b) (10 ∷ [])) in
     record {
-      some = omega (arith, long);
+      not_empty = omega (arith, long);
       within = within;
       counted = long;
       takes = record {

@@ -2,6 +2,7 @@
 ghost use Rattle.std.specs.Prelude.{◌≡◌, ◌<◌, ◌==◌, [], ◌∷◌, length, map, MatchOption};
 ghost use Rattle.std.specs.Simd.Lanes.{mask_l};
 ghost use Rattle.x7_text.specs.Lines.{split};
+ghost use Rattle.x7_listing.specs.Line.{line_end_byte};
 
 use std::simd::prelude::*;
 use x7_text::first_line;
@@ -9,7 +10,7 @@ use x7_text::first_line;
 /// A bit for each line end among 32 bytes, that of the first byte lowest.
 #[inline(always)]
 fn line_ends(bytes: u8x32) -> u64
-    ensures { result ≡ mask_l (map (λ c. c == 10) bytes) }
+    ensures { result ≡ mask_l (map (λ c. c == line_end_byte) bytes) }
 {
     bytes.simd_eq(u8x32::splat(b'\n')).to_bitmask()
 }

@@ -5,7 +5,8 @@ ghost use Rattle.std.specs.Simd.Lanes.{chunk};
 ghost use Rattle.x7_text.specs.Row.{row_words};
 ghost use Rattle.x7_listing.specs.Fast.AtOnce.{words_in_row};
 ghost use Rattle.x7_listing.specs.Assembling.{HasRoomForLine};
-ghost use Rattle.x7_listing.specs.Fast.Looking.{Looks, ReadsAtOnce};
+ghost use Rattle.x7_listing.specs.Line.{space_byte};
+ghost use Rattle.x7_listing.specs.Fast.Looking.{AppendsFoundLines, ReadsAtOnce};
 
 use super::write_pairs::{differences, put_pair};
 use crate::asm::reading::{MOST_LINE_BYTES, put_word, type1_at};
@@ -36,7 +37,7 @@ pub(crate) struct WholeLines {
 #[inline(always)]
 fn put_nops(out: &mut Vec<u8>, text: &[u8; LOOK_SIZE]) -> Option<WholeLines>
     requires room { HasRoomForLine out.old }
-    ensures { Looks text.now out.old out.new result }
+    ensures { AppendsFoundLines text.now out.old out.new result }
 {
     if (differences(text, NOP_LINES).trailing_zeros() as usize) < 32 {
         return None;
@@ -97,7 +98,7 @@ fn row_digits(text: &[u8; LOOK_SIZE]) -> [u8; 64]
 #[inline(always)]
 fn has_spaces(text: &[u8; LOOK_SIZE], count: usize) -> bool
     requires in_row { count ≤ row_words }
-    ensures { IsTrue result → (k : ℕ) → k < count → slice_index text.now (4 + 9 * k) ≡ 32 }
+    ensures { IsTrue result → (k : ℕ) → k < count → slice_index text.now (4 + 9 * k) ≡ space_byte }
 {
     for k in 0..count {
         if text[4 + 9 * k] != b' ' {
@@ -112,7 +113,7 @@ fn has_spaces(text: &[u8; LOOK_SIZE], count: usize) -> bool
 #[inline(always)]
 fn is_spaced(text: &[u8; LOOK_SIZE], count: usize) -> bool
     requires in_row { count ≤ row_words }
-    ensures { IsTrue result → (k : ℕ) → k < count → slice_index text.now (4 + 9 * k) ≡ 32 }
+    ensures { IsTrue result → (k : ℕ) → k < count → slice_index text.now (4 + 9 * k) ≡ space_byte }
 {
     if count == 8 {
         return has_spaces(text, 8);
@@ -132,7 +133,7 @@ fn is_data(text: &[u8; LOOK_SIZE]) -> bool
 #[inline(always)]
 fn put_data_row(out: &mut Vec<u8>, text: &[u8; LOOK_SIZE]) -> Option<WholeLines>
     requires room { HasRoomForLine out.old }
-    ensures { Looks text.now out.old out.new result }
+    ensures { AppendsFoundLines text.now out.old out.new result }
 {
     let prefix = prefix_of_hex(&row_digits(text));
     let count = prefix.digit_count / 8;
@@ -171,7 +172,7 @@ fn bytes_digits(text: &[u8; LOOK_SIZE]) -> [u8; 64]
 #[inline(always)]
 fn put_bytes(out: &mut Vec<u8>, text: &[u8; LOOK_SIZE]) -> Option<WholeLines>
     requires room { HasRoomForLine out.old }
-    ensures { Looks text.now out.old out.new result }
+    ensures { AppendsFoundLines text.now out.old out.new result }
 {
     if !is_bytes(text) {
         return None;
@@ -207,7 +208,7 @@ fn place_of(byte: u8, bytes: u8x16) -> usize {
 #[inline(always)]
 fn put_write_line(out: &mut Vec<u8>, text: &[u8; LOOK_SIZE]) -> Option<WholeLines>
     requires room { HasRoomForLine out.old }
-    ensures { Looks text.now out.old out.new result }
+    ensures { AppendsFoundLines text.now out.old out.new result }
 {
     let space = place_of(b' ', u8x16::from_slice(&text[6..]));
     if space > 16 || !is_same(&text[..6], b"write ") || text[8 + space] != b'\n' {
@@ -227,7 +228,7 @@ fn put_write_line(out: &mut Vec<u8>, text: &[u8; LOOK_SIZE]) -> Option<WholeLine
 #[inline(always)]
 fn put_pair_or_line(out: &mut Vec<u8>, text: &[u8; LOOK_SIZE]) -> Option<WholeLines>
     requires room { HasRoomForLine out.old }
-    ensures { Looks text.now out.old out.new result }
+    ensures { AppendsFoundLines text.now out.old out.new result }
 {
     match put_pair(out, text) {
         Some(taken) => Some(taken),
@@ -239,7 +240,7 @@ fn put_pair_or_line(out: &mut Vec<u8>, text: &[u8; LOOK_SIZE]) -> Option<WholeLi
 #[inline(always)]
 fn put_some(out: &mut Vec<u8>, text: &[u8; LOOK_SIZE]) -> Option<WholeLines>
     requires room { HasRoomForLine out.old }
-    ensures { Looks text.now out.old out.new result }
+    ensures { AppendsFoundLines text.now out.old out.new result }
 {
     match text[0] {
         b'd' => put_data_row(out, text),

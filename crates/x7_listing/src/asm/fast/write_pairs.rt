@@ -8,7 +8,7 @@ ghost use Rattle.x7_regs.specs.Register.{reg_number_count};
 ghost use Rattle.x7_regs.specs.Command.{command_code_count};
 ghost use Rattle.x7_listing.specs.Fast.AtOnce.{bytes_differ, row_text};
 ghost use Rattle.x7_listing.specs.Assembling.{HasRoomForLine};
-ghost use Rattle.x7_listing.specs.Fast.Looking.{Looks};
+ghost use Rattle.x7_listing.specs.Fast.Looking.{AppendsFoundLines};
 
 use super::quick::{LOOK_SIZE, WholeLines};
 use crate::line::{TEXT_SIZE_AT, command_row, write_row};
@@ -94,7 +94,7 @@ fn put_two(out: &mut Vec<u8>, one: u32, other: u32)
 fn put_word_pair(out: &mut Vec<u8>, text: &[u8; LOOK_SIZE], register: u8) -> Option<WholeLines>
     requires register { register < reg_number_count }
     requires room { HasRoomForLine out.old }
-    ensures { Looks text.now out.old out.new result }
+    ensures { AppendsFoundLines text.now out.old out.new result }
 {
     let Some(size) = matched_size(text, write_row(register)) else {
         return None;
@@ -117,7 +117,7 @@ fn put_word_pair(out: &mut Vec<u8>, text: &[u8; LOOK_SIZE], register: u8) -> Opt
 fn put_command_pair(out: &mut Vec<u8>, text: &[u8; LOOK_SIZE], code: u32) -> Option<WholeLines>
     requires code { code < command_code_count }
     requires room { HasRoomForLine out.old }
-    ensures { Looks text.now out.old out.new result }
+    ensures { AppendsFoundLines text.now out.old out.new result }
 {
     let Some(size) = matched_size(text, command_row(code)) else {
         return None;
@@ -130,7 +130,7 @@ fn put_command_pair(out: &mut Vec<u8>, text: &[u8; LOOK_SIZE], code: u32) -> Opt
 #[inline(always)]
 pub(crate) fn put_pair(out: &mut Vec<u8>, text: &[u8; LOOK_SIZE]) -> Option<WholeLines>
     requires room { HasRoomForLine out.old }
-    ensures { Looks text.now out.old out.new result }
+    ensures { AppendsFoundLines text.now out.old out.new result }
 {
     let register = number_at(&REGISTERS, text, REGISTER_NAME_AT);
     if register == Reg::Cmd.number() {

@@ -4,19 +4,18 @@ ghost use Rattle.std.specs.Prelude.{◌≡◌, ℕ, ◌+◌, ◌*◌, ◌<◌, �
 ghost use Rattle.x7_packets.specs.AtOnce.{EndsGap, WritesOne, WritesShort, longest_gap_and_sync, longest_short_write, most_short_words, short_gap_room};
 ghost use Rattle.x7_packets.specs.Cutter.{CutterState};
 ghost use Rattle.x7_packets.specs.Nops.{nop_bytes};
-ghost use Rattle.x7_packets.specs.PacketWords.{no_op, type1_write_header};
+ghost use Rattle.x7_packets.specs.PacketWords.{no_op};
 ghost use Rattle.x7_packets.specs.Packet.{payload_steps};
 ghost use Rattle.x7_text.specs.Appends.{HasSpareRoom};
 ghost use Rattle.x7_text.specs.Row.{bytes_text, close, row_bytes, row_words, data_line_size};
 ghost use Rattle.x7_regs.specs.Register.{reg_number_count};
-ghost use Rattle.x7_listing.specs.Fast.AtOnce.{command_lines};
-ghost use Rattle.x7_listing.specs.Fast.OnSheet.{ShowsWords, ListsMoreAfter, on_sheet, one_write_lines_size, head_line_size, short_write_lines_size, nop_lines_size, gap_lines_size};
+ghost use Rattle.x7_listing.specs.Fast.AtOnce.{command_lines, write_head_text};
+ghost use Rattle.x7_listing.specs.Fast.OnSheet.{ShowsWords, ListsMoreAfter, on_sheet, one_write_lines_size, head_line_size, one_write_text, short_write_lines_size, nop_lines_size, gap_lines_size};
 ghost use Rattle.x7_listing.specs.Fast.TakingAtOnce.{TakesAtOnce, TakesOnSheet};
-ghost use Rattle.x7_listing.specs.HeadLine.{text_of_head};
 ghost use Rattle.x7_listing.specs.Line.{line_end_byte};
 ghost use Rattle.x7_listing.specs.Pens.{TakesHead, ListsMore, lister_with};
 ghost use Rattle.x7_listing.specs.declared.list.pen.state.Pen.{Pen};
-ghost use Rattle.x7_listing.specs.Lister.{in_line_after_words, open_words};
+ghost use Rattle.x7_listing.specs.Lister.{in_line_after_words};
 
 use super::sheet::{SHEET_SIZE, put_prefix, put_row, put_whole};
 use crate::line::{command_row, name_row, write_row};
@@ -84,7 +83,7 @@ fn put_write_lines(
     requires room { len + one_write_lines_size ≤ SHEET_SIZE }
     ensures count { result.in_line.count ≡ in_line_after_words 0 (payload_steps register (w ∷ [])) }
     ensures within { result.len ≤ len + one_write_lines_size }
-    ensures appends { take result.len sheet.new ≡ take len sheet.old ++ (close in_line ++ text_of_head (Step.Open register 1) (type1_write_header register 1) ++ open_words 0 (payload_steps register (w ∷ []))) }
+    ensures appends { take result.len sheet.new ≡ take len sheet.old ++ one_write_text in_line register w }
 {
     if register == Reg::Cmd.number() {
         return TextEnd {
@@ -120,7 +119,7 @@ struct ShortWrite {
     register: u8,
     count: usize,
     ghost range: { register < reg_number_count },
-    ghost some: { 0 < count },
+    ghost not_empty: { 0 < count },
     ghost short: { count ≤ most_short_words },
 }
 
@@ -129,7 +128,7 @@ struct ShortWrite {
 fn put_head(sheet: &mut [u8; SHEET_SIZE], len: usize, in_line: usize, write: ShortWrite) -> usize
     requires room { len + head_line_size ≤ SHEET_SIZE }
     ensures within { result ≤ len + head_line_size }
-    ensures appends { take result sheet.new ≡ take len sheet.old ++ (close in_line ++ text_of_head (Step.Open write.register write.count) (type1_write_header write.register write.count)) }
+    ensures appends { take result sheet.new ≡ take len sheet.old ++ (close in_line ++ write_head_text write.register write.count) }
 {
     let begin = put_close(sheet, len, in_line);
     let start = put_row(sheet, begin, name_row(write.register));
@@ -139,7 +138,7 @@ fn put_head(sheet: &mut [u8; SHEET_SIZE], len: usize, in_line: usize, write: Sho
 /// Puts the first of eight words, one or more, in a new `data` line.
 #[inline(always)]
 fn put_in_row(sheet: &mut [u8; SHEET_SIZE], len: usize, bytes: &[u8; 32], count: usize) -> TextEnd
-    requires some { 0 < count }
+    requires at_least_one { 0 < count }
     requires in_row { count ≤ row_words }
     requires room { len + data_line_size ≤ SHEET_SIZE }
     ensures within { result.len ≤ len + data_line_size }
@@ -161,7 +160,7 @@ fn put_in_row(sheet: &mut [u8; SHEET_SIZE], len: usize, bytes: &[u8; 32], count:
 /// Puts the first of sixteen words, one or more, in new `data` lines.
 #[inline(always)]
 fn put_words(sheet: &mut [u8; SHEET_SIZE], len: usize, bytes: &[u8; 64], count: usize) -> TextEnd
-    requires some { 0 < count }
+    requires at_least_one { 0 < count }
     requires in_two_rows { count ≤ 2 * row_words }
     requires room { len + 2 * data_line_size ≤ SHEET_SIZE }
     ensures within { result.len ≤ len + 2 * data_line_size }
@@ -281,7 +280,7 @@ fn put_few_nops(
     in_line: OpenWords,
     count: usize,
 ) -> PutRun
-    requires some { 0 < count }
+    requires at_least_one { 0 < count }
     requires in_table { count ≤ MOST_NOPS }
     requires room { len + nop_lines_size ≤ SHEET_SIZE }
     ensures size { result.size ≡ 4 * count }

@@ -7,5 +7,5 @@ pub returns-clause-ok : goal.returns-clause-ok
 returns-clause-ok c =
     let begin = c.args.session.now in
     let now = c.transcript.new.session in
-    shown_is begin.part begin.stream c.args.script.now begin now c.in_ok-text.text.items c.fault.result c.is_some.result refl refl c.in_ok-text.ensures.text c.in_ok-text.ensures.position
-    (c.fault.ensures now.part on_the_bench false (take now.at now.stream) c.device.ensures.stands.stands) c.is_some.ensures
+    shown_is begin.part begin.stream c.args.script.now begin now c.in_ok-text.text.items c.fault.result c.is_some.result refl refl c.in_ok-text.ensures.text c.in_ok-text.ensures.all_orders
+    (c.fault.ensures now.part on_the_bench false (take now.at now.stream) c.device.ensures.at_position.stands) c.is_some.ensures

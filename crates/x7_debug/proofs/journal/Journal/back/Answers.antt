@@ -19,7 +19,7 @@ undo-requires-clause-back c =
     ∙ ap (take c.self.inside.count) (first_of c.self.inside.records.items c.in-Some.undo c.in-Some.ensures.value)
     ∙ ap (λ (n : ℕ). take n (c.in-Some.undo ∷ rest)) some in
     let leads = subst (LeadBack c.args.device.now.part stream c.args.device.now.taken) here o.leads in
-    took_few c.args.device.now.part stream c.args.device.now c.args.device.now.taken c.in-Some.undo leads.0 o.stands leads.1 leads.2
+    took_few c.args.device.now.part stream c.args.device.now c.args.device.now.taken c.in-Some.undo leads.0 o.at_position leads.1 leads.2
 
 -- the journal after the call
 abbrev after : goal.After-self-1 → JournalState

@@ -28,12 +28,10 @@ returns-clause-recorded c =
           ∙ ap (λ (j : JournalState). c.feed_word.new.undo ∷ take 63 (records_of j)) c.self.view_is,
     )
 
-pub returns-clause-stands : goal.returns-clause-stands
-returns-clause-stands c = λ part kept wrapped bytes s.
+pub returns-clause-takes : goal.returns-clause-takes
+returns-clause-takes c = λ part kept wrapped bytes s.
     let piece = c.args.piece.now in
-    let fits : AreBytes piece = all_from_places (λ b. b < 256) piece (λ k h. omega (arith, c.type_inv.piece k)) in
-    fed_stands part kept wrapped bytes piece c.feed_word.new.self dropping c.feed_word.result (all_append (λ b. b < 256) bytes piece s.fits fits) refl (c.feed_word.ensures.takes part kept wrapped bytes s) (c.feed_word.ensures.answer part kept wrapped bytes s)
-
-pub returns-clause-no_word_due : goal.returns-clause-no_word_due
-returns-clause-no_word_due c = λ part kept wrapped bytes s.
-    fed_none_due part kept wrapped bytes c.args.piece.now c.feed_word.new.self dropping c.feed_word.result refl (c.feed_word.ensures.answer part kept wrapped bytes s)
+    let fits : AreBytes piece = all_from_places (λ b. b < 256) piece (λ k h. omega (arith, c.type_inv.piece k)) in (
+      fed_stands part kept wrapped bytes piece c.feed_word.new.self dropping c.feed_word.result (all_append (λ b. b < 256) bytes piece s.fits fits) refl (c.feed_word.ensures.takes part kept wrapped bytes s) (c.feed_word.ensures.answer part kept wrapped bytes s),
+      fed_none_due part kept wrapped bytes piece c.feed_word.new.self dropping c.feed_word.result refl (c.feed_word.ensures.answer part kept wrapped bytes s),
+    )

@@ -23,8 +23,9 @@ returns-clause-last c =
     let from = c.feed_until_begun-begins.result in
     let fits : AreBytes stream = all_from_places (λ b. b < 256) stream (λ k h. omega (arith, c.type_inv.stream k)) in
     let stands = fed.takes part on_the_bench false [] c.in_ok-device.ensures.stands in
+    let takes = c.feed_piece.ensures.takes part on_the_bench false (take from stream) stands in
     let there = moved part stream (take (length stream - from) (drop from stream)) c.feed_piece.new.device from (length stream) fits fed.within (omega arith) refl
-    (c.feed_piece.ensures.stands part on_the_bench false (take from stream) stands) (c.feed_piece.ensures.no_word_due part on_the_bench false (take from stream) stands) in
+    takes.0 takes.1 in
     omega (arith, c.taken.ensures.stored, there.taken, last_within part stream fits)
 
 pub returns-clause-begins : goal.returns-clause-begins

@@ -18,7 +18,7 @@ returns c =
     subst (λ (b : List ℕ). MoveCosts (session_of c.self.inside.device b c.self.inside.journal) (session_of c.move_to.new.device b c.move_to.new.journal)) c.deref.ensures.value c.move_to.ensures.costs in
     record {
       moves = record {
-        stands = record { part = there.part ∙ ap (λ (s : SessionState). s.part) c.self.view_is; stream = ap (λ (s : SessionState). s.stream) c.self.view_is; at = there.taken };
+        there = record { part = there.part ∙ ap (λ (s : SessionState). s.part) c.self.view_is; stream = ap (λ (s : SessionState). s.stream) c.self.view_is; at = there.taken };
         costs = subst (λ (s : SessionState). MoveCosts s (session_of c.move_to.new.device c.self.inside.stream.items c.move_to.new.journal)) c.self.view_is goes;
       };
     }

@@ -13,8 +13,8 @@ use Rattle.x7_jtag.proofs.queue.Queue.give.Goals as goal
 pub returns-clause-within : goal.returns-clause-within
 returns-clause-within c = omega (arith, c.given_of-count.ensures, given_within c.feed-fed.result _ c.feed-fed.ensures.within)
 
-pub returns-clause-stands : goal.returns-clause-stands
-returns-clause-stands c = λ part q s.
+pub returns-clause-queue : goal.returns-clause-queue
+returns-clause-queue c = λ part q s.
     let piece = c.args.bytes.now in
     let fits : AreBytes piece = all_from_places (λ b. b < 256) piece (λ k l. omega (arith, c.type_inv.bytes k)) in
     let bytes = s.holds.bytes in
@@ -28,4 +28,4 @@ returns-clause-stands c = λ part q s.
     (c.feed-fed.ensures.takes part on_the_bench false bytes device) (c.feed-fed.ensures.answer part on_the_bench false bytes device) silent
     (subst (λ (b : ReadBufState). RoomBefore (record { part = part; kept = on_the_bench; wrapped = false; bytes = bytes }) piece (taken_in (length piece) c.feed-fed.result) (words_taken part c.args.device.now bytes) b) c.without_room.ensures
     (c.feed-fed.ensures.room part on_the_bench false bytes device)) (λ stop. (let all = c.feed-fed.ensures.stopped part on_the_bench false bytes device stop in (all.0, all.2))) c.given_of-count.ensures
-    (λ given held out t. c.feed.ensures.stands part (queue_of given held out) t (λ l. absurd (omega (arith, l))))
+    (λ given held out t. c.feed.ensures.queue part (queue_of given held out) t (λ l. absurd (omega (arith, l))))

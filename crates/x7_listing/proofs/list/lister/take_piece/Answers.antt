@@ -54,7 +54,7 @@ loop-taken-preserved-in-Some c =
     let left : length (take (length c.args.piece.now - c.loop-taken.at) (drop c.loop-taken.at c.args.piece.now)) ≡ length c.args.piece.now - c.loop-taken.at = rest_length c.args.piece.now c.loop-taken.at c.loop-taken.invariant.within in
     record {
       within = omega (arith, left, taken.within, c.loop-taken.invariant.within);
-      room = omega (arith, left, taken.within, taken.some, taken.kept, taken.grown, one_due c.take_short.new.cutter.mode, c.loop-taken.invariant.within, c.loop-taken.invariant.room, c.take_short.ensures.room);
+      room = omega (arith, left, taken.within, taken.at_least_one, taken.kept, taken.grown, one_due c.take_short.new.cutter.mode, c.loop-taken.invariant.within, c.loop-taken.invariant.room, c.take_short.ensures.room);
       has_listed = λ given before bytes s.
           subst (HasListedJust (lister_with c.take_short.new.cutter (Session c.in-Some.taken.in_line) c.take_short.new.text.items) given before)
           (seam c.args.piece.now bytes _ c.loop-taken.at c.in-Some.taken.size c.loop-taken.invariant.within refl)

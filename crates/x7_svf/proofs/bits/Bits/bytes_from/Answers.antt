@@ -3,8 +3,8 @@ use Rattle.x7_svf.proofs.BitLemmas.{count_of}
 use Rattle.x7_svf.proofs.ByteLemmas.{from_part}
 use Rattle.x7_svf.proofs.bits.Bits.bytes_from.Goals as goal
 
-pub bytes_of-requires-clause-some : goal.bytes_of-requires-clause-some
-bytes_of-requires-clause-some c = omega (arith, c.requires.some, count_of c.self.inside.digits.now c.self.inside.count 0, ap length c.self.view_is)
+pub bytes_of-requires-clause-more_than_a_byte : goal.bytes_of-requires-clause-more_than_a_byte
+bytes_of-requires-clause-more_than_a_byte c = omega (arith, c.requires.more_than_a_byte, count_of c.self.inside.digits.now c.self.inside.count 0, ap length c.self.view_is)
 
 pub returns-clause-within : goal.returns-clause-within
 returns-clause-within c = omega (arith, c.bytes_of.ensures.within, count_of c.self.inside.digits.now c.self.inside.count 0, ap length c.self.view_is)

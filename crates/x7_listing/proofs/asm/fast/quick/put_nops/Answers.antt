@@ -10,7 +10,7 @@ returns c =
     let same = same_by_mask 32 c.differences.result c.args.text.now _ (omega arith) refl (omega arith) c.differences.ensures (omega arith) in
     record {
       takes = record {
-        some = omega arith;
+        not_empty = omega arith;
         within = omega (arith, c.told-text);
         counted = omega arith;
         takes = record {

@@ -24,7 +24,7 @@ loop-len-preserved c =
     let left : length (take (length c.args.rest.now - c.loop-len.at) (drop c.loop-len.at c.args.rest.now)) ≡ length c.args.rest.now - c.loop-len.at = rest_length c.args.rest.now c.loop-len.at c.loop-len.invariant.within in
     record {
       within = omega (arith, left, next.within, c.loop-len.invariant.within);
-      first = λ e. absurd (omega (arith, e, next.some));
+      first = λ e. absurd (omega (arith, e, next.at_least_a_word));
       kept = omega (arith, next.kept, c.loop-len.invariant.kept);
       inside = next.inside;
       few = omega (arith, next.grown, c.loop-len.invariant.few);
