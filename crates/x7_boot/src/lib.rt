@@ -7,7 +7,7 @@ mod cache;
 mod fault;
 mod flash_attempt;
 mod laws;
-mod layout;
+mod flash_image;
 mod next;
 mod pages;
 mod text;
@@ -19,6 +19,6 @@ pub use laws::{
     every_flash_boots, one_boot, one_course, only_taken_bytes_count, starts_are_checked,
     startup_is_checked,
 };
-pub use layout::{image, image_for};
+pub use flash_image::{image, image_for};
 pub use next::Next;
 pub use text::boot_lines;

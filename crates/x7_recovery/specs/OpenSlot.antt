@@ -44,7 +44,7 @@ pub record BeginsAsImage (part : PartData) (flash : List ℕ) (place : ℕ) : Ty
 abbrev pub image_of_flash : PartData → List ℕ → ℕ → OpenFlash
 image_of_flash part flash place = record { part = part; flash = flash; slot = 0; start = place / part.start_unit; place = place }
 
--- ---- a flash with a layout
+-- ---- a flash that can be updated
 
 -- a flash for a part whose start address counts bytes, and one of its slots, which leads to this place
 abbrev pub slot_of_flash : PartData → List ℕ → ℕ → ℕ → OpenFlash

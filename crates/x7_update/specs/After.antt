@@ -3,7 +3,7 @@ use Rattle.std.specs.Prelude.{◌≡◌, ℕ, ◌+◌, ◌-◌, ◌*◌, ◌%◌
 use Rattle.x7_words.specs.Flash.{erased_byte, replaced}
 use Rattle.x7_words.specs.Word.{AreBytes}
 use Rattle.x7_packets.specs.FlashSlot.{sector_bytes, slot_bytes, slot_count}
-use Rattle.x7_update.specs.Layout.{HasLayout, HasNoOpenSlot, IsNextFreeSlot, IsOpen, open_switch, spent_switch, switch_bytes, switch_of, update_place}
+use Rattle.x7_update.specs.Layout.{IsUpdatable, HasNoOpenSlot, IsNextFreeSlot, IsOpen, open_switch, spent_switch, switch_bytes, switch_of, update_place}
 
 -- the flash with this switch word, four bytes, in a slot
 abbrev pub switched : ℕ → List ℕ → List ℕ → List ℕ
@@ -38,9 +38,9 @@ pub record IsBetweenSlots (flash found : List ℕ) : Type 0 where
   pub switches : (slot : ℕ) → slot < slot_count → (IsOpen flash slot → ⊥) → (IsNextFreeSlot flash slot → ⊥) → switch_of found slot ≡ switch_of flash slot
   pub golden : (i : ℕ) → sector_bytes ≤ i → i < update_place flash → get_or found i 0 ≡ get_or flash i 0
 
--- What a power loss may leave of a flash that is being updated with a stream: itself; and of one with a layout bytes
--- that are between, or the flash after the update.
+-- What a power loss may leave of a flash that is being updated with a stream: itself; and of one that can be updated
+-- bytes that are between, or the flash after the update.
 pub data MayBeLeft (stream flash found : List ℕ) : Type 0 where
   untouched : found ≡ flash → MayBeLeft stream flash found
-  between : HasLayout flash → AreBytes found → IsBetweenSlots flash found → MayBeLeft stream flash found
-  after : HasLayout flash → IsAfterUpdate stream flash found → MayBeLeft stream flash found
+  between : IsUpdatable flash → AreBytes found → IsBetweenSlots flash found → MayBeLeft stream flash found
+  after : IsUpdatable flash → IsAfterUpdate stream flash found → MayBeLeft stream flash found

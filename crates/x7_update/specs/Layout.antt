@@ -81,8 +81,8 @@ pub record HasSlots (size : ℕ) (flash : List ℕ) : Type 0 where
   pub one_open : (slot other : ℕ) → slot < slot_count → other < slot_count → IsOpen flash slot → IsOpen flash other → slot ≡ other
   pub last_free : IsFree flash (slot_count - 1)
 
--- a flash that can be updated
-pub record HasLayout (flash : List ℕ) : Type 0 where
+-- a flash can be updated: its size and its slots are those of the layout
+pub record IsUpdatable (flash : List ℕ) : Type 0 where
   pub size : HasSize (length flash)
   pub slots : HasSlots (length flash) flash
 

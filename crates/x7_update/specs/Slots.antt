@@ -27,8 +27,8 @@ pub record SlotsAmong (flash : List ℕ) (count : ℕ) (slots : Slots) : Type 0 
   pub free : (slot : ℕ) → slots.next ≤ slot → slot < count → IsFree flash slot
   pub first : (slot : ℕ) → suc slot ≡ slots.next → switch_of flash slot ≢ free_switch
 
--- where an update of a flash of this size goes: the first sector is slots of a layout, with this U, this open slot or
--- none, and this next one
+-- where an update of a flash of this size goes: the first sector is slots as the layout has them, with this U, this
+-- open slot or none, and this next one
 pub record IsTargetIn (size : ℕ) (flash : List ℕ) (target : UpdateTarget) : Type 0 where
   pub sized : HasSize size
   pub has : HasSlots size flash

@@ -106,9 +106,9 @@ wanted_at stream_place stream place = if nat_lt (place - stream_place) (length s
 abbrev pub HasWanted : ℕ → List ℕ → List ℕ → Type 0
 HasWanted stream_place stream flash = (place : ℕ) → stream_place ≤ place → place < length flash → get_or flash place 0 ≡ wanted_at stream_place stream place
 
--- an update with a stream can be read back: the flash is attached, the stream stands at its place with FF after it, and
+-- an update with a stream can be verified: the flash is attached, the stream stands at its place with FF after it, and
 -- the buffer is of a sector's size
-pub record CanReadBack (state : FlashState) (stream_place : ℕ) (stream buffer : List ℕ) : Type 0 where
+pub record CanVerify (state : FlashState) (stream_place : ℕ) (stream buffer : List ℕ) : Type 0 where
   pub attached : state.attached ≡ true
   pub size : HasSize state.extent
   pub place : CanStandAt state.extent stream_place

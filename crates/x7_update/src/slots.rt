@@ -47,7 +47,7 @@ fn slot_difference(first_sector: &[u8], wanted: &[u8; 32], slot: usize) -> Optio
     None
 }
 
-/// The slots up to this one, by the slots before it, or the place that shows that it is none of a layout.
+/// The slots up to this one, by the slots before it, or the place that shows that this one isn't as the layout has it.
 fn look_at_slot(
     first_sector: &[u8],
     wanted: &[u8; 32],
@@ -83,7 +83,7 @@ fn look_at_slot(
     })
 }
 
-/// The slots of the first sector, or the place that shows that one is none of a layout.
+/// The slots of the first sector, or the place that shows that one isn't as the layout has it.
 fn look_at_slots(first_sector: &[u8], wanted: &[u8; 32]) -> Result<Slots, u64>
     requires { HasFirstSlot first_sector.now wanted.now }
     ensures slots { IfOk result (SlotsAmong first_sector.now slot_count) }
@@ -133,7 +133,7 @@ pub(crate) fn find_target<F: Flash>(
     ensures found { IfOk result (HasTarget (F.state flash.old)) }
     ensures refused { (stream : List ℕ) → IfErr result (HasCause stream (F.state flash.old) (F.state flash.new)) }
     ensures bytes { KnowsBytes (F.state flash.old) }
-    ensures only { OnlyReads (F.state flash.old) (F.state flash.new) (F.found_since flash.old) (F.found_since flash.new) }
+    ensures only_reads { OnlyReads (F.state flash.old) (F.state flash.new) (F.found_since flash.old) (F.found_since flash.new) }
 {
     let size = flash.size();
     if !has_size(size) {

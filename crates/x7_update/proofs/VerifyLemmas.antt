@@ -1,4 +1,4 @@
--- Lemmas on bytes that are read back: one that is another than the one wanted there is a byte that
+-- Lemmas on bytes that are read to verify them: one that is another than the one wanted there is a byte that
 -- an update writes, and none of known bytes.
 use Rattle.std.proofs.Common.{◌≡◌, ℕ, ◌+◌, ◌-◌, ◌*◌, ◌<◌, ◌≤◌, IsTrue, true, false, List, length, Option, None, Some, option_map, Result, Ok, Err, IfErr, get_or, slice_range, refl, ap, sym, subst, ◌∙◌, arith}
 use Rattle.x7_words.specs.Flash.{FlashState, IfKnown, Sees}
@@ -66,7 +66,7 @@ stream_wanted : (known : Option (List ℕ)) (update : ℕ) (stream : List ℕ) (
 stream_wanted None update stream place count size after within s h = tt
 stream_wanted (Some all) update stream place count size after within s h = λ i l. h (place + i) (omega arith) (omega (arith, s))
 
--- this many bytes of the stream, or of FF after it, were read back from a place on
+-- this many bytes of the stream, or of FF after it, were verified from a place on
 pub stream_fails : (update : ℕ) (stream : List ℕ) (place count : ℕ) (buffer : List ℕ) (old new : FlashState) (result : Result (Unit {0}) UpdateFault) → length buffer ≡ count → Sees new place buffer → new.extent ≡ old.extent → HasSize old.extent → CanStandAt old.extent update
     → update + length stream ≤ old.extent → update ≤ place → place + count ≤ old.extent → IfKnown old.bytes (λ all. old.extent ≡ length all) → IfKnown old.bytes (HasWanted update stream)
     → IfKnown old.bytes (λ all. buffer ≡ slice_range all place (place + count)) → SeesWanted update stream update place new → IfErr result (IsWrong update stream place buffer) → IfErr result (EndFails stream old new)
@@ -84,7 +84,7 @@ switch_wanted (Some all) slot h = λ i l.
     let short : place + i - place < 4 = omega arith in
     same_four all open_switch place 0 i h l ∙ ap (λ k. get_or open_switch k 0) at ∙ sym (wanted_inside place open_switch (place + i) short)
 
--- the switch word of a slot that was opened was read back
+-- the switch word of a slot that was opened was verified
 pub switch_fails : (slot : ℕ) (buffer stream : List ℕ) (old new : FlashState) (result : Result (Unit {0}) UpdateFault) → length buffer ≡ 4 → Sees new (32 * slot) buffer → new.extent ≡ old.extent → HasSize old.extent → slot < 2048 → IfKnown old.bytes (λ all. IsOpen all slot)
     → IfKnown old.bytes (λ all. buffer ≡ slice_range all (32 * slot) (32 * slot + 4)) → IfErr result (IsWrong (32 * slot) open_switch (32 * slot) buffer) → IfErr result (EndFails stream old new)
 switch_fails slot buffer stream old new result long seen same sized h opened r w =
