@@ -26,7 +26,7 @@ fn run_out(device: &mut Device) -> Ending
     ensures ending { result ≡ ending.Failed Wrap }
     ensures device { device.new ≡ with_wrap device.old }
     ensures no_word_due { NoWordDue device.new }
-    ensures stands { (part : PartData) (kept : KeptData) (bytes : List ℕ) → DeviceStandsFor part kept false device.old bytes → DeviceStandsFor part kept true device.new bytes }
+    ensures wrapped { (part : PartData) (kept : KeptData) (bytes : List ℕ) → DeviceStandsFor part kept false device.old bytes → DeviceStandsFor part kept true device.new bytes }
 {
     device.wrap();
     Ending::Failed(Cause::Wrap)

@@ -2,7 +2,7 @@
 -- project's choice).
 use Rattle.std.specs.Prelude.{◌≡◌, ℕ, ◌+◌, ◌*◌, ◌<◌, ◌≤◌, List}
 use Rattle.x7_words.specs.Flash.{FlashState, IfKnown, Sees}
-use Rattle.x7_packets.specs.FlashSlot.{slot_bytes, slot_count}
+use Rattle.x7_packets.specs.FlashSlot.{flash_slot_bytes, flash_slot_count}
 use Rattle.x7_update.specs.After.{IsAfterUpdate}
 use Rattle.x7_update.specs.Layout.{CanStandAt, IsUpdatable, HasNoOpenSlot, IsNextFreeSlot, open_switch, update_place}
 use Rattle.x7_update.specs.Writing.{SeesWanted}
@@ -32,6 +32,6 @@ module _ {F : Type 0} (state : F → FlashState) where
   pub record AllVerified (stream : List ℕ) (old new : FlashState) : Type 0 where
     pub before : IsVerified stream old new
     pub slot : ℕ
-    pub within : slot < slot_count
+    pub within : slot < flash_slot_count
     pub next : IfKnown old.bytes (λ all. IsNextFreeSlot all slot)
-    pub switch : Sees new (slot_bytes * slot) open_switch
+    pub switch : Sees new (flash_slot_bytes * slot) open_switch

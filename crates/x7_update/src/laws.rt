@@ -1,6 +1,6 @@
 //! Laws of flashes that can be updated, and of updates.
 ghost use Rattle.std.specs.Prelude.{◌≡◌, ◌≢◌, ◌-◌, ◌<◌, ℕ, List, length};
-ghost use Rattle.x7_packets.specs.FlashSlot.{sector_bytes, slot_count};
+ghost use Rattle.x7_packets.specs.FlashSlot.{sector_bytes, flash_slot_count};
 ghost use Rattle.x7_update.specs.After.{IsAfterUpdate, IsBetweenSlots, MayBeLeft};
 ghost use Rattle.x7_update.specs.Layout.{IsUpdatable, IsNextFreeSlot, four_at, open_switch};
 ghost use Rattle.x7_update.specs.Fault.{NoLayoutAt};
@@ -27,5 +27,5 @@ pub fn flashes_between_slots_hold_no_sync_word()
 /// slot was the last.
 pub fn left_flashes_are_updatable()
     ensures { (stream flash found : List ℕ) → IsUpdatable flash → MayBeLeft stream flash found
-        → (IsNextFreeSlot flash (slot_count - 1) → ⊥) → IsUpdatable found }
+        → (IsNextFreeSlot flash (flash_slot_count - 1) → ⊥) → IsUpdatable found }
 {}

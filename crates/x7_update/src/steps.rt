@@ -1,7 +1,7 @@
 //! The steps of an update, in their order: look, spend the open slot, write, verify, open the next.
 ghost use Rattle.std.specs.Prelude.{◌≡◌, ◌+◌, ◌*◌, ◌<◌, ◌≤◌, ◌⊎◌, ℕ, List, true, length, IfErr, OnOk, OnErr, option_map};
 ghost use Rattle.x7_words.specs.Flash.{OnlyReads, IfKnown, Sees, WriteFails};
-ghost use Rattle.x7_packets.specs.FlashSlot.{slot_bytes, slot_count};
+ghost use Rattle.x7_packets.specs.FlashSlot.{flash_slot_bytes, flash_slot_count};
 ghost use Rattle.x7_update.specs.After.{SpendsOpen, IsAfterUpdate, MayBeLeft, switched};
 ghost use Rattle.x7_update.specs.Layout.{IsUpdatable, HasNoOpenSlot, IsFree, open_switch};
 ghost use Rattle.x7_update.specs.Verified.{AllVerified, OpensVerified, WasReady};
@@ -53,7 +53,7 @@ fn verify_and_open<F: Flash>(
     buffer: &mut [u8],
 ) -> Result<(), UpdateFault>
     requires written { CanVerify (F.state flash.old) target.place stream.now buffer.old }
-    requires next { target.slots.next < slot_count }
+    requires next { target.slots.next < flash_slot_count }
     requires free { IfKnown (F.state flash.old).bytes (λ all. IsFree all target.slots.next) }
     requires none_open { IfKnown (F.state flash.old).bytes HasNoOpenSlot }
     ensures opened { OnOk result ((F.state flash.new).bytes ≡ option_map (switched target.slots.next open_switch) (F.state flash.old).bytes) }
@@ -62,7 +62,7 @@ fn verify_and_open<F: Flash>(
     ensures stays_bytes { AtAnyMoment (F.state flash.old) (F.state flash.new) (F.found_since flash.old) (F.found_since flash.new)
         StaysBytes }
     ensures was_ready { OnOk result (WasReady F.state target.place stream.now (F.state flash.new)) }
-    ensures seen { OnOk result (Sees (F.state flash.new) (slot_bytes * target.slots.next) open_switch) }
+    ensures seen { OnOk result (Sees (F.state flash.new) (flash_slot_bytes * target.slots.next) open_switch) }
     ensures opens { AtAnyMoment (F.state flash.old) (F.state flash.new) (F.found_since flash.old) (F.found_since flash.new)
         (λ all found. (found ≡ all) ⊎ WasReady F.state target.place stream.now (F.state flash.new)) }
     ensures fault { IfErr result (EndFails stream.now (F.state flash.old) (F.state flash.new)) }

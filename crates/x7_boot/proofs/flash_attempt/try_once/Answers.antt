@@ -26,7 +26,7 @@ pub returns-then-place-size-clause-tried : goal.returns-then-place-size-clause-t
 returns-then-place-size-clause-tried g c =
     let f = c.pages.invariant.feeds in
     known_out c.args.device.now.part c.args.kept c.args.address (g.F.Flash.state c.args.flash.now).bytes c.pages.device c.run_out.new.device c.pages.place c.size-size.result c.run_out.result f c.if-place-size.true
-    (subst (λ (n : ℕ). IfKnown (g.F.Flash.state c.args.flash.now).bytes (λ all. n ≡ length all)) (sym c.size-size.ensures.extent) c.size-size.ensures.known_length) (c.run_out.ensures.stands c.args.device.now.part c.args.kept f.bytes f.stands) c.run_out.ensures.ending
+    (subst (λ (n : ℕ). IfKnown (g.F.Flash.state c.args.flash.now).bytes (λ all. n ≡ length all)) (sym c.size-size.ensures.extent) c.size-size.ensures.known_length) (c.run_out.ensures.wrapped c.args.device.now.part c.args.kept f.bytes f.stands) c.run_out.ensures.ending
 
 pub pages-preserved : goal.pages-preserved
 pages-preserved g c =
@@ -74,7 +74,7 @@ returns-in-Stops-clause-tried g c =
     let from = c.bytes_from-bytes.ensures known extent below are read in
     let t = c.take_page.ensures c.args.device.now.part c.args.kept f.bytes f.stands f.going f.not_ended in
     known_stopped c.args.device.now.part c.args.kept c.args.address (g.F.Flash.state c.args.flash.now).bytes c.pages.device c.take_page.new.device c.run_out-in-Stops.new.device c.bytes_from-bytes.result.now c.pages.place c.take_page.result c.run_out-in-Stops.result f from.bytes_are t c.in-Stops.is
-    (c.run_out-in-Stops.ensures.stands c.args.device.now.part c.args.kept _ t.stands) c.run_out-in-Stops.ensures.ending
+    (c.run_out-in-Stops.ensures.wrapped c.args.device.now.part c.args.kept _ t.stands) c.run_out-in-Stops.ensures.ending
 
 pub returns-then-place-size-clause-pages : goal.returns-then-place-size-clause-pages
 returns-then-place-size-clause-pages g c = c.pages.invariant.kept
