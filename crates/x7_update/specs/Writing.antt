@@ -164,11 +164,11 @@ pub record IsFirstRead (state : FlashState) (from : ℕ) (piece : List ℕ) (pla
 
 -- why an update with a stream fails once the stream is written: a read or a write failed, or the bytes aren't known and
 -- one was read that is another than the one written, the first of its piece that is
-abbrev pub EndFails : List ℕ → FlashState → FlashState → UpdateFault → Type 0
-EndFails stream old new (Differs at wrote read) =
+abbrev pub HasLateCause : List ℕ → FlashState → FlashState → UpdateFault → Type 0
+HasLateCause stream old new (Differs at wrote read) =
     (wrong : IsReadWrong new.extent stream at wrote read) × (old.bytes ≡ None) × IsFirstRead new wrong.from wrong.piece at read
-EndFails stream old new (Failed true) = WriteFails old new
-EndFails stream old new (Failed false) = FlashFails old new
-EndFails stream old new TooLong = ⊥
-EndFails stream old new (NoLayout at) = ⊥
-EndFails stream old new NoMemory = ⊥
+HasLateCause stream old new (Failed true) = WriteFails old new
+HasLateCause stream old new (Failed false) = FlashFails old new
+HasLateCause stream old new TooLong = ⊥
+HasLateCause stream old new (NoLayout at) = ⊥
+HasLateCause stream old new NoMemory = ⊥

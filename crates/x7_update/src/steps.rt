@@ -7,7 +7,7 @@ ghost use Rattle.x7_update.specs.Layout.{IsUpdatable, HasNoOpenSlot, IsFree, ope
 ghost use Rattle.x7_update.specs.Verified.{AllVerified, OpensVerified, WasReady};
 ghost use Rattle.x7_update.specs.Fault.{HasNoCause, HasCause, IsEarly};
 ghost use Rattle.x7_update.specs.Slots.{HasTarget};
-ghost use Rattle.x7_update.specs.Writing.{AtAnyMoment, Becomes, CanVerify, EndFails, OnlyUses, OpeningSlot, Replaced, ReplacingUpdate, StaysBytes, Writes};
+ghost use Rattle.x7_update.specs.Writing.{AtAnyMoment, Becomes, CanVerify, HasLateCause, OnlyUses, OpeningSlot, Replaced, ReplacingUpdate, StaysBytes, Writes};
 ghost use Rattle.x7_update.specs.declared.fault.UpdateFault.TheVariants.{NoMemory};
 
 use crate::fault::UpdateFault;
@@ -65,7 +65,7 @@ fn verify_and_open<F: Flash>(
     ensures seen { OnOk result (Sees (F.state flash.new) (flash_slot_bytes * target.slots.next) open_switch) }
     ensures opens { AtAnyMoment (F.state flash.old) (F.state flash.new) (F.found_since flash.old) (F.found_since flash.new)
         (λ all found. (found ≡ all) ⊎ WasReady F.state target.place stream.now (F.state flash.new)) }
-    ensures fault { IfErr result (EndFails stream.now (F.state flash.old) (F.state flash.new)) }
+    ensures fault { IfErr result (HasLateCause stream.now (F.state flash.old) (F.state flash.new)) }
     ensures only_uses { OnlyUses (F.state flash.old) (F.state flash.new) }
 {
     verify_stream(flash, target.place, stream, buffer)?;

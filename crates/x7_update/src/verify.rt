@@ -3,7 +3,7 @@ ghost use Rattle.std.specs.Prelude.{◌≡◌, ◌+◌, ◌*◌, ◌<◌, ◌≤
 ghost use Rattle.x7_words.specs.Flash.{OnlyReads, IfKnown, Sees};
 ghost use Rattle.x7_packets.specs.FlashSlot.{sector_bytes, flash_slot_bytes, flash_slot_count};
 ghost use Rattle.x7_update.specs.Layout.{HasSize, IsOpen, open_switch};
-ghost use Rattle.x7_update.specs.Writing.{CanVerify, EndFails, IsWrong, ReadsWanted, SeesWanted, wanted_at};
+ghost use Rattle.x7_update.specs.Writing.{CanVerify, HasLateCause, IsWrong, ReadsWanted, SeesWanted, wanted_at};
 
 use crate::fault::UpdateFault;
 use crate::layout::OPEN_SWITCH;
@@ -52,7 +52,7 @@ pub(crate) fn verify_stream<F: Flash>(
 ) -> Result<(), UpdateFault>
     requires { CanVerify (F.state flash.old) stream_place stream.now buffer.old }
     ensures seen { OnOk result (SeesWanted stream_place stream.now stream_place (F.state flash.old).extent (F.state flash.new)) }
-    ensures fault { IfErr result (EndFails stream.now (F.state flash.old) (F.state flash.new)) }
+    ensures fault { IfErr result (HasLateCause stream.now (F.state flash.old) (F.state flash.new)) }
     ensures only_reads { OnlyReads (F.state flash.old) (F.state flash.new) (F.found_since flash.old) (F.found_since flash.new) }
 {
     for sector in stream_place / SECTOR_BYTES..flash.size() / SECTOR_BYTES {
@@ -74,7 +74,7 @@ fn verify_sector<F: Flash>(
     requires after { stream_place ≤ sector * sector_bytes }
     requires before { SeesWanted stream_place stream.now stream_place (sector * sector_bytes) (F.state flash.old) }
     ensures seen { OnOk result (SeesWanted stream_place stream.now stream_place (sector * sector_bytes + sector_bytes) (F.state flash.new)) }
-    ensures fault { IfErr result (EndFails stream.now (F.state flash.old) (F.state flash.new)) }
+    ensures fault { IfErr result (HasLateCause stream.now (F.state flash.old) (F.state flash.new)) }
     ensures only_reads { OnlyReads (F.state flash.old) (F.state flash.new) (F.found_since flash.old) (F.found_since flash.new) }
     ensures length { length buffer.new ≡ sector_bytes }
 {
@@ -97,7 +97,7 @@ pub(crate) fn verify_switch<F: Flash>(flash: &mut F, slot: u64) -> Result<(), Up
     requires slot { slot < flash_slot_count }
     requires opened { IfKnown (F.state flash.old).bytes (λ all. IsOpen all slot) }
     ensures seen { OnOk result (Sees (F.state flash.new) (flash_slot_bytes * slot) open_switch) }
-    ensures fault { (stream : List ℕ) → IfErr result (EndFails stream (F.state flash.old) (F.state flash.new)) }
+    ensures fault { (stream : List ℕ) → IfErr result (HasLateCause stream (F.state flash.old) (F.state flash.new)) }
     ensures only_reads { OnlyReads (F.state flash.old) (F.state flash.new) (F.found_since flash.old) (F.found_since flash.new) }
 {
     let mut word = [0; 4];

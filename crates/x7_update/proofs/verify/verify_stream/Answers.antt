@@ -1,6 +1,6 @@
 use Rattle.std.proofs.Common.{◌≤◌, ◌+◌, ◌*◌, IfErr, sym, ◌∙◌, arith, rules}
 use Rattle.x7_words.proofs.FlashLemmas.{reads_on}
-use Rattle.x7_update.specs.Writing.{EndFails}
+use Rattle.x7_update.specs.Writing.{HasLateCause}
 use Rattle.x7_update.proofs.VerifyLemmas.{fails_since}
 use Rattle.x7_update.proofs.ReadyLemmas.{sees_up_to, can_still_verify}
 use Rattle.x7_update.proofs.verify.verify_stream.Goals as goal
@@ -27,7 +27,7 @@ returns-in_err-verify_sector-clause-fault g c =
     let first = g.F.Flash.state c.args.flash.now in
     let mid = g.F.Flash.state c.loop-sector.flash in
     let only = c.loop-sector.invariant.only in
-    let since : IfErr c.verify_sector.result (EndFails c.args.stream.now first (g.F.Flash.state c.verify_sector.new.flash)) =
+    let since : IfErr c.verify_sector.result (HasLateCause c.args.stream.now first (g.F.Flash.state c.verify_sector.new.flash)) =
     fails_since c.args.stream.now first mid (g.F.Flash.state c.verify_sector.new.flash) c.verify_sector.result only.faults (omega (arith, only.unwritten.write_faults)) (λ none. sym only.bytes ∙ none) c.verify_sector.ensures.fault in
     search rules
 
