@@ -21,7 +21,7 @@ returns-clause-fault g c =
     fails_since c.args.stream.now old mid last c.verify_switch.result (omega (arith, read.faults, wrote.faults)) (omega (arith, read.unwritten.write_faults, wrote.write_faults)) (λ none. was_unknown change old.bytes (sym is ∙ none))
     (c.verify_switch.ensures.fault c.args.stream.now)
 
-pub returns-clause-was_ready : goal.returns-clause-ready
+pub returns-clause-was_ready : goal.returns-clause-was_ready
 returns-clause-was_ready g c =
     let old = g.F.Flash.state c.args.flash.now in
     let last = g.F.Flash.state c.verify_switch.new.flash in
