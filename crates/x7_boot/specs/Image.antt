@@ -10,7 +10,7 @@
 use Rattle.std.specs.Prelude.{ℕ, ◌+◌, ◌-◌, ◌*◌, ◌/◌, max, List, ◌++◌, length, replicate}
 use Rattle.std.specs.List.{repeat}
 use Rattle.x7_words.specs.Word.{bytes_of_word}
-use Rattle.x7_packets.specs.FlashSlot.{flash_slot, sector_bytes, slot_count}
+use Rattle.x7_packets.specs.FlashSlot.{flash_slot, sector_bytes, flash_slot_count}
 use Rattle.x7_packets.specs.PacketWords.{dummy_word, sync_word}
 use Rattle.x7_words.specs.Flash.{erased_byte}
 pub use Rattle.x7_words.specs.Flash.{flash_limit}
@@ -37,7 +37,7 @@ free_slot start = slot dummy_word start
 
 -- the slots of the first sector after its first: they are free, and have this start address
 unfoldable pub free_slots : ℕ → List ℕ
-free_slots start = repeat (slot_count - 1) (free_slot start)
+free_slots start = repeat (flash_slot_count - 1) (free_slot start)
 
 -- bytes, and FF after them up to a place
 abbrev pub filled_to : ℕ → List ℕ → List ℕ

@@ -65,7 +65,7 @@ impl PageCache {
         ensures no_fault { OnOk result ((F.state flash.new).faults ≡ (F.state flash.old).faults) }
         ensures no_memory { IsErrOf result BootFault.NoMemory → (F.state flash.new).faults ≡ (F.state flash.old).faults }
         ensures not_large { IsErrOf result BootFault.TooLarge → ⊥ }
-        ensures only { OnlyReads (F.state flash.old) (F.state flash.new) (F.found_since flash.old) (F.found_since flash.new) }
+        ensures only_reads { OnlyReads (F.state flash.old) (F.state flash.new) (F.found_since flash.old) (F.found_since flash.new) }
     {
         if self.pages.promote(&number) {
             return Ok(Loaded::Kept);

@@ -26,7 +26,7 @@ fn run_out(device: &mut Device) -> Ending
     ensures ending { result ≡ ending.Failed Wrap }
     ensures device { device.new ≡ with_wrap device.old }
     ensures no_word_due { NoWordDue device.new }
-    ensures stands { (part : PartData) (kept : KeptData) (bytes : List ℕ) → DeviceStandsFor part kept false device.old bytes → DeviceStandsFor part kept true device.new bytes }
+    ensures wrapped { (part : PartData) (kept : KeptData) (bytes : List ℕ) → DeviceStandsFor part kept false device.old bytes → DeviceStandsFor part kept true device.new bytes }
 {
     device.wrap();
     Ending::Failed(Cause::Wrap)
@@ -59,7 +59,7 @@ pub(crate) fn try_once<F: Flash>(
     ensures no_fault { OnOk result ((F.state flash.new).faults ≡ (F.state flash.old).faults) }
     ensures no_memory { IsErrOf result BootFault.NoMemory → (F.state flash.new).faults ≡ (F.state flash.old).faults }
     ensures not_large { IsErrOf result BootFault.TooLarge → ⊥ }
-    ensures only { OnlyReads (F.state flash.old) (F.state flash.new) (F.found_since flash.old) (F.found_since flash.new) }
+    ensures only_reads { OnlyReads (F.state flash.old) (F.state flash.new) (F.found_since flash.old) (F.found_since flash.new) }
 {
     let size = flash.size();
     begin(device, kept, address);

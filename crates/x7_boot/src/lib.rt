@@ -6,8 +6,8 @@ mod boots;
 mod cache;
 mod fault;
 mod flash_attempt;
+mod flash_image;
 mod laws;
-mod layout;
 mod next;
 mod pages;
 mod text;
@@ -15,10 +15,10 @@ mod text;
 pub use attempt::Ending;
 pub use boots::{BootEnd, Booted, Tried, boot};
 pub use fault::{BootFault, ImageFault};
+pub use flash_image::{image, image_for};
 pub use laws::{
     every_flash_boots, one_boot, one_course, only_taken_bytes_count, starts_are_checked,
     startup_is_checked,
 };
-pub use layout::{image, image_for};
 pub use next::Next;
 pub use text::boot_lines;

@@ -195,8 +195,8 @@ after_attach old (Err fault) new =
 pub record TriesWrite {F : Type 0} (asked : F → F → Type 0) (old : RealFlash F) (answer : Result (Unit {0}) FailedCall) (new : RealFlash F) : Type 0 where
   pub written : OnOk answer (WhileOpen asked old.file new.file)
   pub is_open : is_some new.file ≡ true
-  pub ok : OnOk answer (new ≡ record old { file = new.file })
-  pub err : OnErr answer (new ≡ record old { file = new.file; write_faults = raised old.write_faults })
+  pub no_fault : OnOk answer (new ≡ record old { file = new.file })
+  pub failed : OnErr answer (new ≡ record old { file = new.file; write_faults = raised old.write_faults })
   pub write_faults : IsLaterCount old.write_faults new.write_faults
 
 -- a writer as a sink; its count stops at 2^64 - 1

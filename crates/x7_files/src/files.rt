@@ -142,9 +142,9 @@ impl<'r, R: Files> Inputs for FileInputs<'r, R> {
         ensures within { IfOk result (λ n. n ≤ length buf.old) }
         ensures length { length buf.new ≡ length buf.old }
         ensures bytes { IfOk result (ReadGives self.old.rest self.new.rest buf.new) }
-        ensures ok { IfOk result (λ n. self.new ≡
+        ensures counted { IfOk result (λ n. self.new ≡
             record self.old { rest = self.new.rest; ends = ends_counted n self.old.ends; given = added self.old.given n }) }
-        ensures err { OnErr result (self.new ≡
+        ensures failed { OnErr result (self.new ≡
             record self.old { selected = false; rest = None; faults = raised self.old.faults }) }
         ensures at_most_one_more { self.new.ends ≤ self.old.ends + 1 }
         ensures counts { CountsFaults self.old self.new }

@@ -48,7 +48,7 @@ pub enum InputFault {
     Image,
     /// The stream would end past the end of the flash.
     Long,
-    /// The flash has no layout that can be updated: the first place at which it is otherwise.
+    /// The flash can't be updated: the first place, in bytes, that shows it, or its size.
     Layout(u64),
 }
 

@@ -41,7 +41,7 @@ impl Calls {
 
     /// The call of this number is to fail.
     pub(crate) fn fail_at(&mut self, call: u64) -> Result<(), NoMemory>
-        ensures ok { OnOk result (self.new ≡ with_failing_call self.old call) }
+        ensures planned { OnOk result (self.new ≡ with_failing_call self.old call) }
         ensures unchanged { OnErr result (self.new ≡ self.old) }
     {
         self.failing.push(call)?;

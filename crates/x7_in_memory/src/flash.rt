@@ -145,7 +145,7 @@ impl MemoryFlash {
 
     /// The call of this number, from 1, is to fail.
     pub fn fail_at(&mut self, call: u64) -> Result<(), NoMemory>
-        ensures ok { OnOk result (self.new ≡ record self.old { calls = with_failing_call self.old.calls call }) }
+        ensures planned { OnOk result (self.new ≡ record self.old { calls = with_failing_call self.old.calls call }) }
         ensures unchanged { OnErr result (self.new ≡ self.old) }
     {
         self.calls.fail_at(call)
@@ -153,7 +153,7 @@ impl MemoryFlash {
 
     /// Makes room for `writes` writes more, with ranges of `bytes` bytes in all. A new flash has room for none.
     pub fn make_room(&mut self, writes: u64, bytes: u64) -> Result<(), NoMemory>
-        ensures ok { OnOk result (self.new ≡ record self.old { writes = with_room self.old.writes writes bytes }) }
+        ensures room { OnOk result (self.new ≡ record self.old { writes = with_room self.old.writes writes bytes }) }
         ensures unchanged { OnErr result (self.new ≡ self.old) }
     {
         let all = self.writes.bytes_left().checked_add(bytes).ok_or(NoMemory)?;
@@ -200,8 +200,8 @@ impl MemoryFlash {
     /// where the record has no room for the write.
     fn begin_write(&mut self, count: usize) -> Result<(), Failed>
         ensures answer { is_err result ≡ write_refused self.old count }
-        ensures ok { OnOk result (self.new ≡ begun self.old) }
-        ensures err { OnErr result (self.new ≡ after_refusal self.old) }
+        ensures begun { OnOk result (self.new ≡ begun self.old) }
+        ensures refused { OnErr result (self.new ≡ after_refusal self.old) }
         ensures rises { self.old.write_faults ≤ self.new.write_faults }
     {
         self.seen_from = usize::MAX;
@@ -228,8 +228,8 @@ impl MemoryFlash {
     /// Ends a write, which was torn or not. Torn it is a fault, and all later calls fail.
     fn end_write(&mut self, torn: Option<u8>) -> Result<(), Failed>
         ensures answer { is_err result ≡ is_some torn }
-        ensures ok { OnOk result (self.new ≡ self.old) }
-        ensures err { OnErr result (self.new ≡ after_tear self.old) }
+        ensures unchanged { OnOk result (self.new ≡ self.old) }
+        ensures torn { OnErr result (self.new ≡ after_tear self.old) }
     {
         if torn.is_none() {
             return Ok(());

@@ -81,7 +81,7 @@ impl MemoryInputs {
     /// Puts the bytes under the name, in place of what was there before.
     /// An input that is being read goes on with the bytes that it began with.
     pub fn put(&mut self, name: &str, bytes: &[u8]) -> Result<(), NoMemory>
-        ensures ok { OnOk result (self.new ≡ after_put self.old name.now bytes.now) }
+        ensures put { OnOk result (self.new ≡ after_put self.old name.now bytes.now) }
         ensures unchanged { OnErr result (self.new ≡ self.old) }
     {
         let bytes = Vec::from_slice(self.alloc, bytes)?;
@@ -94,7 +94,7 @@ impl MemoryInputs {
 
     /// The call of this number, from 1, is to fail.
     pub fn fail_at(&mut self, call: u64) -> Result<(), NoMemory>
-        ensures ok { OnOk result (self.new ≡ record self.old { calls = with_failing_call self.old.calls call }) }
+        ensures planned { OnOk result (self.new ≡ record self.old { calls = with_failing_call self.old.calls call }) }
         ensures unchanged { OnErr result (self.new ≡ self.old) }
     {
         self.calls.fail_at(call)

@@ -57,7 +57,7 @@ impl MemorySink {
 
     /// The call of this number, from 1, is to fail.
     pub fn fail_at(&mut self, call: u64) -> Result<(), NoMemory>
-        ensures ok { OnOk result (self.new ≡ record self.old { calls = with_failing_call self.old.calls call }) }
+        ensures planned { OnOk result (self.new ≡ record self.old { calls = with_failing_call self.old.calls call }) }
         ensures unchanged { OnErr result (self.new ≡ self.old) }
     {
         self.calls.fail_at(call)

@@ -9,13 +9,13 @@ use Rattle.x7_regs.specs.declared.command.Command.TheVariants.{Desync, Iprog}
 use Rattle.x7_regs.specs.declared.register.Reg.TheVariants.{Wbstar}
 use Rattle.x7_packets.specs.PacketWords.{command, no_op, type1_write_header}
 
--- how many bytes a slot has
-abbrev pub slot_bytes : ℕ
-slot_bytes = 32
+-- how many bytes a slot of a flash has
+abbrev pub flash_slot_bytes : ℕ
+flash_slot_bytes = 32
 
--- how many slots fill a sector
-abbrev pub slot_count : ℕ
-slot_count = 2048
+-- how many slots of a flash fill its first sector
+abbrev pub flash_slot_count : ℕ
+flash_slot_count = 2048
 
 -- the bytes of a slot with a switch word and a start address, four bytes each: a no-op, a write of the address to
 -- WBSTAR, IPROG, and then DESYNC for a fallback, which ignores IPROG

@@ -6,11 +6,11 @@ use crate::packet_words::{NO_OP, type1_write_header};
 use x7_regs::{Command, Reg};
 use x7_words::bytes_of;
 
-/// How many bytes a slot has.
-pub const SLOT_BYTES: u64 = 32;
+/// How many bytes a slot of a flash has.
+pub const FLASH_SLOT_BYTES: u64 = 32;
 
-/// How many slots fill a sector.
-pub const SLOT_COUNT: u64 = 2048;
+/// How many slots of a flash fill its first sector.
+pub const FLASH_SLOT_COUNT: u64 = 2048;
 
 /// The slot with this switch word and this start address. A device that finds it by its switch word, the sync word,
 /// goes to the start address by IPROG; a fallback ignores IPROG, and comes to its DESYNC.

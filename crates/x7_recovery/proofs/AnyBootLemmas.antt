@@ -42,7 +42,7 @@ image_boots part golden update after is fits =
 
 updated_is_opened : (part : PartData) (flash found : List ℕ) (golden : AttemptCourse) → (u : IsUpdated part flash found golden) → IsOpenFlash (opened_by part flash found golden u)
 updated_is_opened part flash found golden u =
-    subst (λ (place : ℕ). IsOpenFlash (slot_of_flash part found u.after.next place)) (place_later flash u.before u.updates) (after_is_opened part u.stream u.before found u.unit u.layout u.fits u.after)
+    subst (λ (place : ℕ). IsOpenFlash (slot_of_flash part found u.after.next place)) (place_later flash u.before u.updates) (after_is_opened part u.stream u.before found u.unit u.updatable u.fits u.after)
 
 pub updated_boots : (part : PartData) (flash found : List ℕ) (golden : AttemptCourse) → (u : IsUpdated part flash found golden) → EachBootsOpen (opened_by part flash found golden u)
 updated_boots part flash found golden u = boots_open (opened_by part flash found golden u) (updated_is_opened part flash found golden u)
@@ -51,4 +51,4 @@ pub updated_falls_back : (part : PartData) (flash found : List ℕ) (golden t : 
     → FallsBackClean (opened_by part flash found golden u) cause golden c
 updated_falls_back part flash found golden t cause c u course fails =
     let boots : BootsOpen (opened_by part flash found golden u) c = updated_boots part flash found golden u c course in
-    boots.falls_clean t cause golden (clean_later part flash found golden (one_more u.before found u.stream u.updates u.layout u.after) u.starts.ends u.clean) fails
+    boots.falls_clean t cause golden (clean_later part flash found golden (one_more u.before found u.stream u.updates u.updatable u.after) u.starts.ends u.clean) fails

@@ -25,7 +25,7 @@ pub found_boots : (u : Updating) (found : List ℕ) (b : BootedState) → IsPrep
 found_boots u found b p left boot =
     let g : (t : AttemptCourse) × StartsAsPlanned u t = full_golden u p in
     let v : UpdatingAny = record { part = u.part; flash = u.flash; stream = u.stream; golden = g.0 } in
-    by g (found_alike v found b (record { layout = p.layout; golden = g.1.golden }) left boot)
+    by g (found_alike v found b (record { updatable = p.updatable; golden = g.1.golden }) left boot)
   where
     by : (g : (t : AttemptCourse) × StartsAsPlanned u t) → BootsAlike (record { part = u.part; flash = u.flash; stream = u.stream; golden = g.0 }) found b → BootsAs u found b
     by g (any.as_before before) = as_before before

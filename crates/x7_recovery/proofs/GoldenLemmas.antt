@@ -32,7 +32,7 @@ use Rattle.x7_boot.specs.declared.boots.Tried.{Tried}
 use Rattle.x7_boot.proofs.BootsLemmas.{along, boot_course, tried_is}
 use Rattle.x7_boot.proofs.OverLemmas.{alike_ends, alike_attempt, started_first, taken_is, attempt_over}
 use Rattle.x7_boot.proofs.StartLemmas.{NeverStarts}
-use Rattle.x7_update.specs.Layout.{HasLayout, four_at, open_switch, update_place}
+use Rattle.x7_update.specs.Layout.{IsUpdatable, four_at, open_switch, update_place}
 use Rattle.x7_update.specs.After.{IsBetweenSlots, MayBeLeft, after, between, untouched}
 use Rattle.x7_update.proofs.LawLemmas.{no_sync}
 use Rattle.x7_recovery.specs.Golden.{BootsAlike, GoldenStarts, HaveSameGolden, IsPreparedAny, LeadsNowhere, StartsAlike, StartsAsPlanned, StartsAtPower, UpdatingAny, as_after, as_before, golden, with_erased}
@@ -193,7 +193,7 @@ erased_prefix k l = (prefix_asks_nothing erased_sector [] k (omega (arith, l, le
 
 -- ---- what a power loss leaves
 
-pub golden_stands : (flash found : List ℕ) (n : ℕ) → HasLayout flash → IsBetweenSlots flash found → n ≤ update_place flash → take (n - 65536) (drop 65536 found) ≡ take (n - 65536) (drop 65536 flash)
+pub golden_stands : (flash found : List ℕ) (n : ℕ) → IsUpdatable flash → IsBetweenSlots flash found → n ≤ update_place flash → take (n - 65536) (drop 65536 found) ≡ take (n - 65536) (drop 65536 flash)
 golden_stands flash found n l b most = ext_get_or 0 (take (n - 65536) (drop 65536 found)) (take (n - 65536) (drop 65536 flash)) (found_long ∙ sym flash_long) each
   where
     place : update_place flash ≤ length flash
@@ -214,7 +214,7 @@ golden_stands flash found n l b most = ext_get_or 0 (take (n - 65536) (drop 6553
         ∙ sym (get_or-drop 65536 flash i 0)
         ∙ sym (get_or-take (n - 65536) (drop 65536 flash) i 0 short)
 
-pub between_alike : (part : PartData) (flash found : List ℕ) (t : AttemptCourse) (b : BootedState) → HasLayout flash → IsBetweenSlots flash found → GoldenStarts part flash t → AreBytes found → (boot : IsBoot part found b) → StartsAlike part t (course_of b boot.last)
+pub between_alike : (part : PartData) (flash found : List ℕ) (t : AttemptCourse) (b : BootedState) → IsUpdatable flash → IsBetweenSlots flash found → GoldenStarts part flash t → AreBytes found → (boot : IsBoot part found b) → StartsAlike part t (course_of b boot.last)
 between_alike part flash found t b l left starts fits boot =
     leading_nowhere_alike part (with_erased flash) found t (erased_leads_nowhere (drop 65536 flash)) (no_sync flash found l left) (subst AreBytes (sym (erased_take (drop 65536 flash))) bytes_erased_sector) fits
     (omega (arith, length-append erased_sector (drop 65536 flash), length_erased_sector)) (omega (arith, left.size, l.size.least)) starts.starts

@@ -1,4 +1,4 @@
--- Which flashes have an open slot: one with a layout and an open slot, one after an
+-- Which flashes have an open slot: one that can be updated, with an open slot, one after an
 -- update, and one that begins as an image does.
 use Rattle.std.proofs.Common.{◌≡◌, ◌+◌, ◌-◌, ◌*◌, ◌/◌, ◌%◌, ◌<◌, ◌≤◌, ◌⊎◌, inl, inr, ℕ, zero, suc, List, [], ◌∷◌, ◌++◌, drop, take, get_or, length, length-append, length-drop, refl, ap, sym, subst, ◌∙◌, append_assoc, take-append-drop, length-take-le, replicate, arith}
 use Rattle.std.proofs.lemmas.Bool.{cases_eq, cases_lt}
@@ -15,7 +15,7 @@ use Rattle.x7_planner.specs.FullStream.{full_stream}
 use Rattle.x7_boot.specs.Image as image
 use Rattle.x7_boot.specs.Image.{free_slot, free_slots, first_sector, flash_limit, image_of, image_size, open_slot, slot}
 use Rattle.x7_update.specs.After.{IsAfterUpdate, IsBetweenSlots, spends, switched, with_stream}
-use Rattle.x7_update.specs.Layout.{HasLayout, IsOpen, first_slot, four_at, open_switch, spent_switch, switch_of, update_place}
+use Rattle.x7_update.specs.Layout.{IsUpdatable, IsOpen, first_slot, four_at, open_switch, spent_switch, switch_of, update_place}
 use Rattle.x7_update.proofs.CaseLemmas.{between_below, between_spent, outside_switch, stream_keeps}
 use Rattle.x7_update.proofs.LawLemmas.{no_sync}
 use Rattle.x7_update.proofs.SwitchLemmas.{length_switched, same_four, switch_switched, switched_others}
@@ -25,7 +25,7 @@ use Rattle.x7_recovery.specs.OpenSlot.{BeginsAsImage, HasOpenSlot, IsOpenFlash, 
 use Rattle.x7_recovery.specs.PlannedImage.{HasImage, golden_image, place_after}
 use Rattle.x7_recovery.specs.Recovery.{HasGolden}
 use Rattle.x7_recovery.proofs.GoldenLemmas.{golden_stands}
-use Rattle.x7_recovery.proofs.LayoutLemmas.{free_byte, open_is}
+use Rattle.x7_recovery.proofs.UpdatableLemmas.{free_byte, open_is}
 use Rattle.x7_recovery.proofs.SlotLemmas.{free_none, image_begins, image_has, open_none, place_whole, sector_fits, sector_long, size_after, slot_long, start_small, start_whole}
 
 fits_at : (xs : List ℕ) (i : ℕ) → AreBytes xs → i < length xs → get_or xs i 0 < 256
@@ -38,7 +38,7 @@ bytes_back a b c d f = bytes_words (a ∷ b ∷ c ∷ d ∷ []) 1 f refl
 
 -- ---- a flash that has a slot opened in what is between
 
-module _ (flash now found : List ℕ) (number : ℕ) (l : HasLayout flash) (b : IsBetweenSlots flash now) (within : number < 2048) (size : length found ≡ length now)
+module _ (flash now found : List ℕ) (number : ℕ) (l : IsUpdatable flash) (b : IsBetweenSlots flash now) (within : number < 2048) (size : length found ≡ length now)
     (others : (i : ℕ) → (i < 32 * number) ⊎ (32 * number + 4 ≤ i) → get_or found i 0 ≡ get_or now i 0) (is_open : switch_of found number ≡ open_switch) where
   found_long : 131072 ≤ length found
   found_long = omega (arith, size, b.size, l.size.least)
@@ -148,24 +148,24 @@ module _ (flash now found : List ℕ) (number : ℕ) (l : HasLayout flash) (b : 
         same_from 65536 (omega arith) ∙ sym (take-append-drop (length stream) (drop 65536 now)) ∙ ap (λ (x : List ℕ). x ++ drop (length stream) (drop 65536 now)) here,
       )
 
--- ---- a flash with a layout
+-- ---- a flash that can be updated
 
-module _ (flash : List ℕ) (number : ℕ) (l : HasLayout flash) (within : number < 2048) (is : IsOpen flash number) where
+module _ (flash : List ℕ) (number : ℕ) (l : IsUpdatable flash) (within : number < 2048) (is : IsOpen flash number) where
   abbrev spent : List ℕ
   spent = switched number spent_switch flash
 
   room : 32 * number + 4 ≤ length flash
   room = omega (arith, within, l.size.least)
 
-  layout_between : IsBetweenSlots flash spent
-  layout_between = between_spent flash spent l.slots (spends number within is refl)
+  spent_between : IsBetweenSlots flash spent
+  spent_between = between_spent flash spent l.slots (spends number within is refl)
 
-  pub layout_opened : AreBytes (take 65536 flash) → HasOpenSlot flash number (update_place flash)
-  layout_opened fits = opened flash spent flash number l layout_between within (sym (length_switched number spent_switch flash refl room)) (λ i h. sym (switched_others number spent_switch flash refl room i h)) is fits
+  pub updatable_opened : AreBytes (take 65536 flash) → HasOpenSlot flash number (update_place flash)
+  updatable_opened fits = opened flash spent flash number l spent_between within (sym (length_switched number spent_switch flash refl room)) (λ i h. sym (switched_others number spent_switch flash refl room i h)) is fits
 
 -- ---- a flash after an update
 
-module _ (stream flash found : List ℕ) (l : HasLayout flash) (a : IsAfterUpdate stream flash found) where
+module _ (stream flash found : List ℕ) (l : IsUpdatable flash) (a : IsAfterUpdate stream flash found) where
   abbrev now : List ℕ
   now = with_stream (update_place flash) stream a.spent
 
@@ -312,15 +312,15 @@ start_leads unit place (inr e) whole l = ap (λ (u : ℕ). start_address u (plac
 leads_itself : (unit place : ℕ) → unit ≡ 1 → place ≤ 134217728 → start_address unit place ≡ place
 leads_itself unit place e l = ap (λ (u : ℕ). start_address u place) e ∙ omega (arith, l)
 
-place_small : (flash : List ℕ) → HasLayout flash → update_place flash ≤ 134217728
+place_small : (flash : List ℕ) → IsUpdatable flash → update_place flash ≤ 134217728
 place_small flash l = omega (arith, l.slots.place.most, l.size.most)
 
-pub open_is_opened : (part : PartData) (flash : List ℕ) (number : ℕ) → part.start_unit ≡ 1 → HasLayout flash → AreBytes (take 65536 flash) → number < 2048 → IsOpen flash number → IsOpenFlash (slot_of_flash part flash number (update_place flash))
+pub open_is_opened : (part : PartData) (flash : List ℕ) (number : ℕ) → part.start_unit ≡ 1 → IsUpdatable flash → AreBytes (take 65536 flash) → number < 2048 → IsOpen flash number → IsOpenFlash (slot_of_flash part flash number (update_place flash))
 open_is_opened part flash number unit l fits within is =
     let small : update_place flash ≤ 134217728 = place_small flash l in
-    record { has = layout_opened flash number l within is fits; small = omega (arith, small); leads = leads_itself part.start_unit (update_place flash) unit small }
+    record { has = updatable_opened flash number l within is fits; small = omega (arith, small); leads = leads_itself part.start_unit (update_place flash) unit small }
 
-pub after_is_opened : (part : PartData) (stream flash found : List ℕ) → part.start_unit ≡ 1 → HasLayout flash → AreBytes (take 65536 found) → (a : IsAfterUpdate stream flash found) → IsOpenFlash (slot_of_flash part found a.next (update_place flash))
+pub after_is_opened : (part : PartData) (stream flash found : List ℕ) → part.start_unit ≡ 1 → IsUpdatable flash → AreBytes (take 65536 found) → (a : IsAfterUpdate stream flash found) → IsOpenFlash (slot_of_flash part found a.next (update_place flash))
 after_is_opened part stream flash found unit l fits a =
     let small : update_place flash ≤ 134217728 = place_small flash l in
     record { has = after_opened stream flash found l a fits; small = omega (arith, small); leads = leads_itself part.start_unit (update_place flash) unit small }

@@ -21,10 +21,10 @@ use Rattle.x7_effects.proofs.FormLemmas.{full_length}
 use Rattle.x7_effects.proofs.PlannerLemmas.{full_same}
 use Rattle.x7_boot.specs.Image.{free_slots, filled_to, first_sector, flash_limit, image_of, image_size, open_slot, slot, place_after_golden}
 use Rattle.x7_update.specs.After.{IsBetweenSlots, MayBeLeft, between, spends, switched}
-use Rattle.x7_update.specs.Layout.{HasLayout, IsOpen, four_at, open_switch, spent_switch, switch_of}
+use Rattle.x7_update.specs.Layout.{IsUpdatable, IsOpen, four_at, open_switch, spent_switch, switch_of}
 use Rattle.x7_update.proofs.CaseLemmas.{between_spent}
 use Rattle.x7_recovery.specs.Recovery.{IsPrepared, updating_image}
-use Rattle.x7_recovery.proofs.LayoutLemmas.{image_prepared}
+use Rattle.x7_recovery.proofs.UpdatableLemmas.{image_prepared}
 use Rattle.x7_recovery.proofs.FullAttemptLemmas.{full_stream_fits}
 use Rattle.x7_recovery.proofs.SlotLemmas.{image_begins, image_fits, place_whole, sector_long, slot_long, update_after}
 use Rattle.x7_recovery.specs.OpenBoot.{UpdateFails, kept_at_update}
@@ -135,7 +135,7 @@ begins_open flash start e =
     let byte : (i : ℕ) → i < 32 → get_or flash i 0 ≡ get_or (open_slot start) i 0 = λ i h. sym (get_or-take 32 flash i 0 h) ∙ ap (λ (x : List ℕ). get_or x i 0) e in
     rw (byte 0 (omega arith), byte 1 (omega arith), byte 2 (omega arith), byte 3 (omega arith)) (slot_begins start)
 
-pub left_torn : (part : PartData) (golden : PlanData) (update stream : List ℕ) → HasImage part golden update → AreBytes update → HasLayout (golden_image part golden update)
+pub left_torn : (part : PartData) (golden : PlanData) (update stream : List ℕ) → HasImage part golden update → AreBytes update → IsUpdatable (golden_image part golden update)
     → (found : List ℕ) × MayBeLeft stream (golden_image part golden update) found × (found ≢ golden_image part golden update)
 left_torn part golden update stream image bytes l =
     let flash : List ℕ = golden_image part golden update in

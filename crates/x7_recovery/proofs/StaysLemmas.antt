@@ -8,7 +8,7 @@ use Rattle.std.proofs.Math.Seq.{take-append-add}
 use Rattle.x7_part.specs.Part.{PartData}
 use Rattle.x7_boot.specs.Attempt.{AttemptCourse}
 use Rattle.x7_update.specs.After.{IsAfterUpdate}
-use Rattle.x7_update.specs.Layout.{HasLayout, update_place}
+use Rattle.x7_update.specs.Layout.{IsUpdatable, update_place}
 use Rattle.x7_recovery.specs.Clean.{StartsClean}
 use Rattle.x7_recovery.specs.Golden.{GoldenStarts, StartsAtPower, with_erased}
 use Rattle.x7_recovery.specs.Updated.{AfterUpdates, none, one_more}
@@ -36,13 +36,13 @@ power_moves part flash other t s same =
       started = s.started;
     }
 
-pub golden_stays : (part : PartData) (stream flash found : List ℕ) (t : AttemptCourse) → HasLayout flash → IsAfterUpdate stream flash found → GoldenStarts part flash t → GoldenStarts part found t
+pub golden_stays : (part : PartData) (stream flash found : List ℕ) (t : AttemptCourse) → IsUpdatable flash → IsAfterUpdate stream flash found → GoldenStarts part flash t → GoldenStarts part found t
 golden_stays part stream flash found t l a g = record {
   starts = power_moves part flash found t g.starts (after_golden_same stream flash found l a (length t.bytes) g.ends);
   ends = omega (arith, g.ends, after_place stream flash found l a);
 }
 
-pub clean_stays : (part : PartData) (stream flash found : List ℕ) (t : AttemptCourse) → HasLayout flash → IsAfterUpdate stream flash found → length t.bytes ≤ update_place flash → StartsClean part flash t → StartsClean part found t
+pub clean_stays : (part : PartData) (stream flash found : List ℕ) (t : AttemptCourse) → IsUpdatable flash → IsAfterUpdate stream flash found → length t.bytes ≤ update_place flash → StartsClean part flash t → StartsClean part found t
 clean_stays part stream flash found t l a ends c = record {
   starts = power_moves part flash found t c.starts (after_golden_same stream flash found l a (length t.bytes) ends);
   going = c.going;

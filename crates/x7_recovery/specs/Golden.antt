@@ -16,7 +16,7 @@ use Rattle.x7_boot.specs.declared.boots.BootEnd.TheVariants as boot_end
 use Rattle.x7_boot.specs.Boots.{BootCourse, course_of}
 use Rattle.x7_recovery.specs.Recovery.{Updating, power_status, started_at_power}
 use Rattle.x7_update.specs.After.{IsAfterUpdate}
-use Rattle.x7_update.specs.Layout.{HasLayout, four_at, open_switch, update_place}
+use Rattle.x7_update.specs.Layout.{IsUpdatable, four_at, open_switch, update_place}
 
 -- the first sector leads nowhere: no sync word begins in it, as where none of its slots is open, or where it is erased
 abbrev pub LeadsNowhere : List ℕ → Type 0
@@ -71,9 +71,9 @@ pub record UpdatingAny : Type 0 where
   pub stream : List ℕ
   pub golden : AttemptCourse
 
--- an update is prepared: the flash has a layout, with a golden stream of any kind that starts by this attempt
+-- an update is prepared: the flash can be updated, and has a golden stream of any kind that starts by this attempt
 pub record IsPreparedAny (u : UpdatingAny) : Type 0 where
-  pub layout : HasLayout u.flash
+  pub updatable : IsUpdatable u.flash
   pub golden : GoldenStarts u.part u.flash u.golden
 
 -- a boot of what was left: that of the flash before the update, or one that starts as the golden

@@ -2,7 +2,7 @@
 -- fallback; the layout is this project's choice).
 use Rattle.std.specs.Prelude.{◌≡◌, ℕ, ◌*◌, ◌/◌, ◌%◌, ◌^◌, ◌<◌, ◌≤◌, List, ◌++◌, length, take, drop}
 use Rattle.x7_words.specs.Word.{AreBytes}
-use Rattle.x7_packets.specs.FlashSlot.{sector_bytes, slot_bytes, slot_count}
+use Rattle.x7_packets.specs.FlashSlot.{sector_bytes, flash_slot_bytes, flash_slot_count}
 use Rattle.x7_part.specs.Part.{PartData}
 use Rattle.x7_boot.specs.Boot.{start_address}
 use Rattle.x7_boot.specs.Image.{first_sector, flash_limit, open_slot}
@@ -11,9 +11,9 @@ use Rattle.x7_update.specs.Layout.{four_at, open_switch}
 -- One slot of the first sector is open, with the start address `start` in the part's unit: no sync word begins in the
 -- sector but that of the slot.
 pub record HasOpenSlot (flash : List ℕ) (slot start : ℕ) : Type 0 where
-  pub within : slot < slot_count
-  pub stands : take slot_bytes (drop (slot_bytes * slot) flash) ≡ open_slot start
-  pub alone : (place : ℕ) → place < sector_bytes → four_at flash place ≡ open_switch → place ≡ slot_bytes * slot
+  pub within : slot < flash_slot_count
+  pub stands : take flash_slot_bytes (drop (flash_slot_bytes * slot) flash) ≡ open_slot start
+  pub alone : (place : ℕ) → place < sector_bytes → four_at flash place ≡ open_switch → place ≡ flash_slot_bytes * slot
   pub long : sector_bytes ≤ length flash
   pub fits : AreBytes (take sector_bytes flash)
 
@@ -44,7 +44,7 @@ pub record BeginsAsImage (part : PartData) (flash : List ℕ) (place : ℕ) : Ty
 abbrev pub image_of_flash : PartData → List ℕ → ℕ → OpenFlash
 image_of_flash part flash place = record { part = part; flash = flash; slot = 0; start = place / part.start_unit; place = place }
 
--- ---- a flash with a layout
+-- ---- a flash that can be updated
 
 -- a flash for a part whose start address counts bytes, and one of its slots, which leads to this place
 abbrev pub slot_of_flash : PartData → List ℕ → ℕ → ℕ → OpenFlash

@@ -18,7 +18,7 @@ use Rattle.x7_boot.specs.declared.attempt.Ending.TheVariants as ending
 use Rattle.x7_boot.specs.declared.boots.BootEnd.TheVariants as boot_end
 use Rattle.x7_boot.specs.declared.boots.Tried.{Tried}
 use Rattle.x7_update.specs.After.{IsAfterUpdate}
-use Rattle.x7_update.specs.Layout.{HasLayout, update_place}
+use Rattle.x7_update.specs.Layout.{IsUpdatable, update_place}
 
 -- a flash that is being updated with a stream, the part that boots from it, and the plan of its golden stream
 pub record Updating : Type 0 where
@@ -37,12 +37,12 @@ pub record HasGolden (part : PartData) (golden : PlanData) (flash : List ℕ) : 
   pub stands : drop sector_bytes flash ≡ full_stream part golden ++ rest
   pub ends : sector_bytes + length (full_stream part golden) ≤ update_place flash
 
--- an update is prepared: the part's numbers are in range, the plan is one for the part, and the flash has a layout,
--- with the full stream of the plan as its golden stream
+-- an update is prepared: the part's numbers are in range, the plan is one for the part, and the flash can be
+-- updated, with the full stream of the plan as its golden stream
 pub record IsPrepared (u : Updating) : Type 0 where
   pub is_part : IsPart u.part
   pub plan : IsPlanFor u.part u.golden
-  pub layout : HasLayout u.flash
+  pub updatable : IsUpdatable u.flash
   pub golden : HasGolden u.part u.golden u.flash
 
 -- the attempts of a boot that starts at power: this one alone

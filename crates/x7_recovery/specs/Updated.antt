@@ -8,12 +8,12 @@ use Rattle.x7_recovery.specs.Clean.{StartsClean}
 use Rattle.x7_recovery.specs.Golden.{GoldenStarts}
 use Rattle.x7_recovery.specs.OpenSlot.{OpenFlash, slot_of_flash}
 use Rattle.x7_update.specs.After.{IsAfterUpdate}
-use Rattle.x7_update.specs.Layout.{HasLayout, update_place}
+use Rattle.x7_update.specs.Layout.{IsUpdatable, update_place}
 
--- the flash after updates, one after another; each was one of a flash with a layout
+-- the flash after updates, one after another; each was one of a flash that could be updated
 pub data AfterUpdates (flash : List ℕ) : List ℕ → Type 0 where
   none : AfterUpdates flash flash
-  one_more : (before found stream : List ℕ) → AfterUpdates flash before → HasLayout before → IsAfterUpdate stream before found → AfterUpdates flash found
+  one_more : (before found stream : List ℕ) → AfterUpdates flash before → IsUpdatable before → IsAfterUpdate stream before found → AfterUpdates flash found
 
 -- A flash for a part whose start address counts bytes was updated, and then with a stream; before that a golden stream
 -- of any kind started, and began clean, as one attempt shows.
@@ -23,7 +23,7 @@ pub record IsUpdated (part : PartData) (flash found : List ℕ) (golden : Attemp
   pub clean : StartsClean part flash golden
   pub before : List ℕ
   pub updates : AfterUpdates flash before
-  pub layout : HasLayout before
+  pub updatable : IsUpdatable before
   pub stream : List ℕ
   pub after : IsAfterUpdate stream before found
   pub fits : AreBytes (take sector_bytes found)

@@ -9,11 +9,11 @@ ghost use Rattle.x7_boot.specs.Boots.{BootCourse, IsCourse};
 ghost use Rattle.x7_recovery.specs.Golden.{GoldenStarts};
 ghost use Rattle.x7_recovery.specs.OpenBoot.{EachBootsOpen, FallsBackClean, UpdateFails};
 ghost use Rattle.x7_recovery.specs.Updated.{AfterUpdates, IsUpdated, opened_by};
-ghost use Rattle.x7_update.specs.Layout.{HasLayout, update_place};
+ghost use Rattle.x7_update.specs.Layout.{IsUpdatable, update_place};
 
-/// After any number of updates, each of a flash with a layout, a golden stream that started before the first starts by
-/// the same attempt, and the update's place is what it was. A golden stream that began clean before the first still
-/// begins clean, where its attempt ended at the update's place or before it.
+/// After any number of updates, each of a flash that could be updated, a golden stream that started before the first
+/// starts by the same attempt, and the update's place is what it was. A golden stream that began clean before the first
+/// still begins clean, where its attempt ended at the update's place or before it.
 pub fn updates_keep_golden_streams()
     ensures starts { (part : PartData) (flash found : List ℕ) (t : AttemptCourse) → AfterUpdates flash found → GoldenStarts part flash t → GoldenStarts part found t }
     ensures clean { (part : PartData) (flash found : List ℕ) (t : AttemptCourse) → AfterUpdates flash found → length t.bytes ≤ update_place flash

@@ -9,7 +9,7 @@ ghost use Rattle.x7_recovery.specs.Golden.{BootsAlike, HaveSameGolden, IsPrepare
 ghost use Rattle.x7_boot.specs.Boots.{course_of};
 ghost use Rattle.x7_recovery.specs.Recovery.{IsPrepared, Updating};
 ghost use Rattle.x7_update.specs.After.{IsBetweenSlots, MayBeLeft};
-ghost use Rattle.x7_update.specs.Layout.{HasLayout};
+ghost use Rattle.x7_update.specs.Layout.{IsUpdatable};
 
 /// Where no sync word begins in the first sector, what stands there makes no difference: where the attempt at power
 /// over one such flash starts, a boot from each other one with the same bytes from the first sector's end to that of
@@ -20,25 +20,25 @@ pub fn flashes_that_lead_nowhere_start_alike()
         → (boot : IsBoot part other b) → StartsAlike part t (course_of b boot.last) }
 {}
 
-/// The first sector leads nowhere where it is erased, and in a flash with a layout that was left after its open slot
-/// was spent and before the next was opened.
+/// The first sector leads nowhere where it is erased, and in a flash that could be updated, and was left after its open
+/// slot was spent and before the next was opened.
 pub fn flashes_between_slots_lead_nowhere()
     ensures erased { (flash : List ℕ) → LeadsNowhere (with_erased flash) }
-    ensures between { (flash found : List ℕ) → HasLayout flash → IsBetweenSlots flash found → LeadsNowhere found }
+    ensures between { (flash found : List ℕ) → IsUpdatable flash → IsBetweenSlots flash found → LeadsNowhere found }
 {}
 
-/// Of a flash with a layout, whose golden stream starts where the first sector is erased and ends at the update's place
-/// or before it, whatever a power loss left in an update boots as the flash did before, or starts as the golden stream
-/// does, or boots as the updated flash.
+/// Of a flash that can be updated, whose golden stream starts where the first sector is erased and ends at the update's
+/// place or before it, whatever a power loss left in an update boots as the flash did before, or starts as the golden
+/// stream does, or boots as the updated flash.
 pub fn found_flashes_start()
     ensures { (u : UpdatingAny) (found : List ℕ) (b : BootedState) → IsPreparedAny u
         → MayBeLeft u.stream u.flash found → IsBoot u.part found b → BootsAlike u found b }
 {}
 
-/// Of a flash with a layout, whose golden stream is the full stream of a plan for the part and ends at the update's
-/// place or before it: with the first sector erased the attempt at power starts at the stream's last byte or before it,
-/// with the memory of the plan over zeros, and BOOTSTS shows no other attempt. Each attempt that starts so begins
-/// clean.
+/// Of a flash that can be updated, whose golden stream is the full stream of a plan for the part and ends at the
+/// update's place or before it: with the first sector erased the attempt at power starts at the stream's last byte or
+/// before it, with the memory of the plan over zeros, and BOOTSTS shows no other attempt. Each attempt that starts so
+/// begins clean.
 pub fn full_streams_start()
     ensures starts { (u : Updating) → IsPrepared u → (t : AttemptCourse) × StartsAsPlanned u t }
     ensures clean { (u : Updating) (t : AttemptCourse) → IsPrepared u → StartsAsPlanned u t → StartsClean u.part u.flash t }

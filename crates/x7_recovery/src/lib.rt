@@ -14,5 +14,5 @@ pub use golden_law::{
     full_streams_start,
 };
 pub use image_law::{images_boot, premises_hold};
-pub use laws::{found_flashes_boot, images_are_prepared, images_have_a_layout};
+pub use laws::{found_flashes_boot, images_are_prepared, images_are_updatable};
 pub use open_law::{flashes_have_an_open_slot, open_slots_boot};

@@ -2,7 +2,7 @@
 //! stream. The functions do nothing: their contracts are the laws.
 ghost use Rattle.std.specs.Prelude.{◌≡◌, ◌<◌, ◌++◌, List, ℕ, drop, take};
 ghost use Rattle.x7_words.specs.Word.{AreBytes};
-ghost use Rattle.x7_packets.specs.FlashSlot.{sector_bytes, slot_count};
+ghost use Rattle.x7_packets.specs.FlashSlot.{sector_bytes, flash_slot_count};
 ghost use Rattle.x7_part.specs.Part.{PartData};
 ghost use Rattle.x7_part.specs.Ranges.{IsPart};
 ghost use Rattle.x7_memory.specs.Plan.{PlanData};
@@ -10,7 +10,7 @@ ghost use Rattle.x7_recovery.specs.OpenBoot.{EachBootsOpen};
 ghost use Rattle.x7_recovery.specs.OpenSlot.{BeginsAsImage, IsOpenFlash, OpenFlash, image_of_flash, slot_of_flash};
 ghost use Rattle.x7_recovery.specs.Recovery.{HasGolden};
 ghost use Rattle.x7_update.specs.After.{IsAfterUpdate};
-ghost use Rattle.x7_update.specs.Layout.{HasLayout, IsOpen, update_place};
+ghost use Rattle.x7_update.specs.Layout.{IsUpdatable, IsOpen, update_place};
 
 /// From a flash with an open slot a boot tries the update at the place to which the slot leads; where it starts the
 /// boot ends there, and where it fails and CTL0 forbids a fallback it stops. Else it falls back, and starts with a
@@ -22,17 +22,17 @@ pub fn open_slots_boot()
 {}
 
 /// A flash that begins with the first sector of an image for a part has its first slot open, whatever follows. For a
-/// part whose start address counts bytes a flash with a layout has each slot open that begins with the sync word, and
-/// after an update the next one, where the items of the first sector are bytes. After an update of a flash with a
-/// layout the full stream of a plan that stood as golden stream stands as it did, and the stream of the update stands
-/// at the update's place.
+/// part whose start address counts bytes a flash that can be updated has each slot open that begins with the sync word,
+/// and after an update the next one, where the items of the first sector are bytes. After an update of a flash that can
+/// be updated the full stream of a plan that stood as golden stream stands as it did, and the stream of the update
+/// stands at the update's place.
 pub fn flashes_have_an_open_slot()
     ensures image { (part : PartData) (flash : List ℕ) (place : ℕ) → IsPart part → BeginsAsImage part flash place → IsOpenFlash (image_of_flash part flash place) }
-    ensures layout { (part : PartData) (flash : List ℕ) (slot : ℕ) → part.start_unit ≡ 1 → HasLayout flash → AreBytes (take sector_bytes flash) → slot < slot_count → IsOpen flash slot
+    ensures updatable { (part : PartData) (flash : List ℕ) (slot : ℕ) → part.start_unit ≡ 1 → IsUpdatable flash → AreBytes (take sector_bytes flash) → slot < flash_slot_count → IsOpen flash slot
         → IsOpenFlash (slot_of_flash part flash slot (update_place flash)) }
-    ensures after { (part : PartData) (stream flash found : List ℕ) → part.start_unit ≡ 1 → HasLayout flash → AreBytes (take sector_bytes found)
+    ensures after { (part : PartData) (stream flash found : List ℕ) → part.start_unit ≡ 1 → IsUpdatable flash → AreBytes (take sector_bytes found)
         → (a : IsAfterUpdate stream flash found) → IsOpenFlash (slot_of_flash part found a.next (update_place flash)) }
-    ensures golden { (part : PartData) (golden : PlanData) (stream flash found : List ℕ) → HasLayout flash → IsAfterUpdate stream flash found → HasGolden part golden flash
+    ensures golden { (part : PartData) (golden : PlanData) (stream flash found : List ℕ) → IsUpdatable flash → IsAfterUpdate stream flash found → HasGolden part golden flash
         → HasGolden part golden found }
-    ensures stream { (stream flash found : List ℕ) → HasLayout flash → IsAfterUpdate stream flash found → (rest : List ℕ) × (drop (update_place flash) found ≡ stream ++ rest) }
+    ensures stream { (stream flash found : List ℕ) → IsUpdatable flash → IsAfterUpdate stream flash found → (rest : List ℕ) × (drop (update_place flash) found ≡ stream ++ rest) }
 {}

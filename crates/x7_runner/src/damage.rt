@@ -1,8 +1,6 @@
-//! An input that is damaged in each of many ways, one after the other.
+//! The damages of an input, one after the other.
 use crate::fault::Fault;
-use crate::named::{Named, bytes_of};
-use crate::token::{first_word, range_of};
-use std::alloc::Global;
+use crate::token::range_of;
 
 /// How an input is damaged.
 #[derive(Clone, Copy, Drop)]
@@ -13,10 +11,9 @@ pub(crate) enum Damage {
     Bit,
 }
 
-/// An input, and the numbers of its damages: a run for each.
-#[derive(Drop)]
-pub(crate) struct Damaged {
-    pub(crate) named: Named,
+/// The damages of an input by their numbers: a run for each.
+#[derive(Clone, Copy, Drop)]
+pub(crate) struct Damages {
     damage: Damage,
     /// The first number.
     pub(crate) from: u32,
@@ -24,56 +21,35 @@ pub(crate) struct Damaged {
     pub(crate) to: u32,
 }
 
-/// The bit with this number in its byte, from 0 at the highest.
-fn bit_of(number: u32) -> u8 {
-    match number % 8 {
-        0 => 0x80,
-        1 => 0x40,
-        2 => 0x20,
-        3 => 0x10,
-        4 => 0x08,
-        5 => 0x04,
-        6 => 0x02,
-        _ => 0x01,
-    }
-}
-
 /// Changes the bit of this number, where there is one.
 fn change_bit(bytes: &mut [u8], number: u32) {
     let place = (number / 8) as usize;
     if let Some(byte) = bytes.get_mut(place) {
-        *byte ^= bit_of(number);
+        *byte ^= 0x80 >> (number % 8);
     }
 }
 
-impl Damaged {
-    /// Reads `NAME OTHER FROM TO`: the bytes of OTHER, to be damaged at each number from FROM up to TO - 1, given under
-    /// NAME.
-    pub(crate) fn new(
-        alloc: Global,
-        damage: Damage,
-        others: &[Named],
-        line: &str,
-    ) -> Result<Damaged, Fault> {
-        let (name, rest) = first_word(line);
-        let (other, places) = first_word(rest);
-        let (from, to) = range_of(places)?;
-        let bytes = bytes_of(others, other)?;
-        Ok(Damaged {
-            named: Named::new(alloc, name, bytes)?,
-            damage,
-            from,
-            to,
-        })
+impl Damages {
+    /// No damage.
+    pub(crate) fn none() -> Damages {
+        Damages {
+            damage: Damage::Cut,
+            from: 0,
+            to: 0,
+        }
     }
 
-    /// The bytes with the damage of this number.
-    pub(crate) fn bytes_of(&self, alloc: Global, number: u32) -> Result<Vec<u8>, Fault> {
-        let mut bytes = Vec::from_slice(alloc, &self.named.bytes)?;
+    /// Reads `FROM TO`: the numbers from FROM up to TO - 1.
+    pub(crate) fn new(damage: Damage, places: &str) -> Result<Damages, Fault> {
+        let (from, to) = range_of(places)?;
+        Ok(Damages { damage, from, to })
+    }
+
+    /// Damages the bytes by the damage of this number.
+    pub(crate) fn put(&self, bytes: &mut Vec<u8>, number: u32) {
         match self.damage {
             Damage::Cut => bytes.truncate(number as usize),
-            Damage::Bit => change_bit(&mut bytes, number),
+            Damage::Bit => change_bit(bytes, number),
         }
-        Ok(bytes)
     }
 }

@@ -56,7 +56,7 @@ impl Expected {
     /// Appends a line that the text has.
     fn put_has(&mut self, line: &str) -> Result<(), Fault> {
         self.extent = Extent::Parts;
-        put_line(self.alloc, &mut self.out, line)
+        put_line(&mut self.out, line)
     }
 
     /// Takes the number of bytes of the text.
@@ -79,14 +79,14 @@ impl Expected {
                 self.status = rest.parse::<u8>()?;
                 Ok(())
             }
-            "out" => put_line(self.alloc, &mut self.out, rest),
+            "out" => put_line(&mut self.out, rest),
             "out_lines" => put_lines(self.alloc, &mut self.out, rest),
             "out_bytes" => put_tokens(self.alloc, &mut self.out, rest),
             "has" => self.put_has(rest),
             "length" => self.put_length(rest),
             "prefix" => self.put_extent(Extent::Prefix),
             "any" => self.put_extent(Extent::Any),
-            "err" => put_line(self.alloc, &mut self.err, rest),
+            "err" => put_line(&mut self.err, rest),
             "flash_after" => self.put_flash(rest),
             _ => Err(Fault::Key),
         }

@@ -83,7 +83,7 @@ pub(crate) fn put_bytes(alloc: Global, list: &mut Vec<Named>, line: &str) -> Res
 /// Appends the line of `NAME LINE`, and its end.
 pub(crate) fn put_text(alloc: Global, list: &mut Vec<Named>, line: &str) -> Result<(), Fault> {
     let (name, text) = first_word(line);
-    put_line(alloc, bytes_under(alloc, list, name)?, text)
+    put_line(bytes_under(alloc, list, name)?, text)
 }
 
 /// Appends the line of `NAME N LINE`, and its end, N times.

@@ -32,50 +32,44 @@ pub(crate) fn range_of(places: &str) -> Result<(u32, u32), Fault> {
     Ok((from.parse::<u32>()?, to.parse::<u32>()?))
 }
 
-/// Appends `TEXT*N>REST`: the text N times, and the rest.
-fn put_group(text: &mut String, group: &str) -> Result<(), Fault> {
-    let Some((repeated, rest)) = group.split_once('>') else {
-        return Err(Fault::Line);
-    };
+/// Appends the text N times for `TEXT*N`.
+fn put_repeated(text: &mut Vec<u8>, repeated: &str) -> Result<(), Fault> {
     let Some((piece, times)) = repeated.split_once('*') else {
         return Err(Fault::Line);
     };
-    for _ in 0..positive(times)? {
-        text.push_str(piece)?;
-    }
-    text.push_str(rest)?;
+    put_times(text, piece.as_bytes(), positive(times)?)
+}
+
+/// Appends the text N times and then the rest for `TEXT*N>REST`.
+fn put_group(text: &mut Vec<u8>, group: &str) -> Result<(), Fault> {
+    let Some((repeated, rest)) = group.split_once('>') else {
+        return Err(Fault::Line);
+    };
+    put_repeated(text, repeated)?;
+    text.extend_from_slice(rest.as_bytes())?;
     Ok(())
 }
 
-/// Appends the line, in which `<TEXT*N>` is the text N times, and its end.
-fn put_expanded(text: &mut String, line: &str) -> Result<(), Fault> {
+/// Appends a line, in which `<TEXT*N>` is the text N times, and its end.
+pub(crate) fn put_line(text: &mut Vec<u8>, line: &str) -> Result<(), Fault> {
     for (place, group) in line.split('<').enumerate() {
         if place == 0 {
-            text.push_str(group)?;
+            text.extend_from_slice(group.as_bytes())?;
         } else {
             put_group(text, group)?;
         }
     }
-    text.push('\n')?;
+    text.push(b'\n')?;
     Ok(())
 }
 
-/// Appends a line and its end `times` times.
-fn put_copies(alloc: Global, text: &mut Vec<u8>, line: &str, times: u32) -> Result<(), Fault> {
-    let mut copy = String::new(alloc);
-    put_expanded(&mut copy, line)?;
-    put_times(text, copy.as_bytes(), times)
-}
-
-/// Appends a line and its end.
-pub(crate) fn put_line(alloc: Global, text: &mut Vec<u8>, line: &str) -> Result<(), Fault> {
-    put_copies(alloc, text, line, 1)
-}
-
-/// Appends the line of `N LINE` and its end N times.
-pub(crate) fn put_lines(alloc: Global, text: &mut Vec<u8>, line: &str) -> Result<(), Fault> {
-    let (times, line) = first_word(line);
-    put_copies(alloc, text, line, positive(times)?)
+/// Appends the line of `N LINE`, and its end, N times.
+pub(crate) fn put_lines(alloc: Global, text: &mut Vec<u8>, lines: &str) -> Result<(), Fault> {
+    let (times, line) = first_word(lines);
+    let times = positive(times)?;
+    let mut copy = Vec::new(alloc);
+    put_line(&mut copy, line)?;
+    put_times(text, &copy, times)
 }
 
 /// Appends the bytes `times` times.
@@ -93,6 +87,15 @@ fn put_byte(bytes: &mut Vec<u8>, byte: u8, times: u32) -> Result<(), Fault> {
     Ok(())
 }
 
+/// Appends a piece `times` times; one without bytes is refused.
+fn put_piece(bytes: &mut Vec<u8>, piece: &[u8], times: u32) -> Result<(), Fault> {
+    match piece {
+        [] => Err(Fault::Line),
+        [byte] => put_byte(bytes, *byte, times),
+        piece => put_times(bytes, piece, times),
+    }
+}
+
 /// Appends the bytes of one token: hex digits, and after a star how many times they come.
 fn put_token(alloc: Global, bytes: &mut Vec<u8>, token: &str) -> Result<(), Fault> {
     let (digits, times) = match token.split_once('*') {
@@ -100,11 +103,7 @@ fn put_token(alloc: Global, bytes: &mut Vec<u8>, token: &str) -> Result<(), Faul
         None => (token, 1),
     };
     let piece = hex::decode(alloc, digits.as_bytes())?;
-    match piece.as_slice() {
-        [] => Err(Fault::Line),
-        [byte] => put_byte(bytes, *byte, times),
-        piece => put_times(bytes, piece, times),
-    }
+    put_piece(bytes, &piece, times)
 }
 
 /// Appends the bytes of all tokens, of which there may be none.

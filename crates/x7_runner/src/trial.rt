@@ -144,10 +144,11 @@ impl<'a, C: Command> Trial<'a, C> {
 
     /// All runs of the case.
     pub(crate) fn run(&mut self) {
-        let Some(damaged) = self.case.given.damaged.first() else {
+        if self.case.given.damaged.is_empty() {
             return self.run_pieces(None);
-        };
-        for number in damaged.from..damaged.to {
+        }
+        let damages = self.case.given.damages;
+        for number in damages.from..damages.to {
             self.run_pieces(Some(number));
         }
     }

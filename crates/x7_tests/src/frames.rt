@@ -11,28 +11,38 @@ use x7_words::NoMemory;
 const PART: &str =
     "name = \"t\"\nidcode = 1\nrow = [{block = 0, half = 0, row = 0, minors = [2]}]\n";
 
-/// The memory has a frame of this word at the address.
+/// How many words a frame of the part has.
+const FRAME_WORDS: usize = 101;
+
+/// How many words a frame of any part has at most.
+const MOST_WORDS: usize = 255;
+
+/// Whether the memory has a frame of this word, again and again, at the address.
 fn has_frame(part: &Part, memory: &Memory, far: u32, word: u32) -> bool
     requires { AreFramesOf part.now memory.now }
 {
-    memory.frame(part, far) == Some([word; 101].as_slice())
+    memory.frame(part, far) == Some([word; FRAME_WORDS].as_slice())
 }
 
-/// Puts a frame of equal words, at an address of the part.
-fn put(memory: &mut Memory, part: &Part, far: u32, word: u32)
+/// Puts a frame of this word, again and again, at the address. False, and the memory as it was, where the part lacks
+/// the address.
+fn put(memory: &mut Memory, part: &Part, far: u32, word: u32) -> bool
     requires { AreFramesOf part.now memory.old }
     ensures { AreFramesOf part.now memory.new }
 {
-    if part.is_address(far) {
-        memory.put(part, far, &[word; 255][..part.words() as usize]);
+    if !part.is_address(far) {
+        return false;
     }
+    memory.put(part, far, &[word; MOST_WORDS][..part.words() as usize]);
+    true
 }
 
 #[test]
 fn a_copy_keeps_the_frames_that_are_cleared(rt: HostRuntime) -> Result<(), Fail> {
     let part = part_of(rt.alloc(), PART.as_bytes())?;
     let mut memory = Memory::new(rt.alloc(), &part)?;
-    put(&mut memory, &part, 1, 7);
+    let is_put = put(&mut memory, &part, 1, 7);
+    assert!(rt; is_put);
     let copied = memory.copy(rt.alloc())?;
     memory.clear();
     assert!(rt; has_frame(&part, &copied, 1, 7));

@@ -11,7 +11,7 @@ use Rattle.x7_words.proofs.CountLemmas.{risen_from}
 use Rattle.x7_words.proofs.SinkLemmas.{appended_nil}
 use Rattle.x7_boot.specs.Image.{flash_limit}
 use Rattle.x7_update.specs.After.{IsAfterUpdate, MayBeLeft}
-use Rattle.x7_update.specs.Layout.{HasLayout}
+use Rattle.x7_update.specs.Layout.{IsUpdatable}
 use Rattle.x7_update.specs.Fault.{CanTake, HasCause, IsEarly, IsTooLong, NoLayoutAt}
 use Rattle.x7_update.specs.Writing.{AtAnyMoment, Becomes, BecomesBytes, OnlyUses}
 use Rattle.x7_update.specs.declared.fault.UpdateFault.{UpdateFault}
@@ -266,18 +266,18 @@ fault_ends flash stream bytes old new (Differs place wrote read) out asked withi
 }
 fault_ends flash stream bytes old new NoMemory out asked within has reads size h early = refused_ends flash stream old new no_memory out (fault_measured (Some (UpdatingFlash flash stream)) (names flash stream) new.flash NoMemory) (fault_last flash stream bytes old.inputs new.flash NoMemory reads size) (inl (inl refl)) (early tt)
 
-can_take : (known now : Option (List ℕ)) (bytes : List ℕ) → IfKnown known HasLayout → BecomesBytes (IsAfterUpdate bytes) known now → IfKnown known (CanTake bytes)
+can_take : (known now : Option (List ℕ)) (bytes : List ℕ) → IfKnown known IsUpdatable → BecomesBytes (IsAfterUpdate bytes) known now → IfKnown known (CanTake bytes)
 can_take None now bytes l b = tt
-can_take (Some all) now bytes l b = record { layout = l; fits = b.2.fits }
+can_take (Some all) now bytes l b = record { updatable = l; fits = b.2.fits }
 
 -- an update that is done
-pub done_ends : (flash stream bytes : List ℕ) (old new : Outside) → new.out ≡ old.out → IsWithin old.flash.bytes → HasData (known_in old) stream bytes → IfKnown old.flash.bytes HasLayout → new.flash.extent ≤ flash_limit → Becomes old.flash new.flash (IsAfterUpdate bytes)
+pub done_ends : (flash stream bytes : List ℕ) (old new : Outside) → new.out ≡ old.out → IsWithin old.flash.bytes → HasData (known_in old) stream bytes → IfKnown old.flash.bytes IsUpdatable → new.flash.extent ≤ flash_limit → Becomes old.flash new.flash (IsAfterUpdate bytes)
     → EndsAs (Some (UpdatingFlash flash stream)) old new (Ok false)
-done_ends flash stream bytes old new out within has layout size becomes =
+done_ends flash stream bytes old new out within has updatable size becomes =
     let known = old.flash.bytes in (
       [],
       record {
-        cause = could_end flash stream bytes old within has (can_take known new.flash.bytes bytes layout becomes);
+        cause = could_end flash stream bytes old within has (can_take known new.flash.bytes bytes updatable becomes);
         wrote = out_same old new out ∙ sym (appended_nil old.out.written);
         near = near_all (UpdatingFlash flash stream) (text_status false) old new refl;
         measured = λ name a. size;

@@ -33,7 +33,7 @@ pub record UsesFlash (form : Option AskedForm) (old : Sources) (new : FlashState
 abbrev pub PowerLossMayLeave : Option AskedForm → Sources → List ℕ → Type 0
 PowerLossMayLeave form old found = IfKnown old.flash.bytes (λ all. MayBeFound (known_from old) (updated_by form) all found)
 
--- A run updates a flash with a stream, whose bytes and data are known; the flash has a layout, and its golden stream,
+-- A run updates a flash with a stream, whose bytes and data are known; the flash can be updated, and its golden stream,
 -- of any kind, starts where the first sector is erased, and ends at the update's place or before it.
 pub record IsUpdateOf (form : Option AskedForm) (old : Sources) (u : UpdatingAny) : Type 0 where
   pub known : Known

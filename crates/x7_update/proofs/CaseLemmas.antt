@@ -3,7 +3,7 @@ use Rattle.std.proofs.Common.{◌≡◌, ℕ, ◌+◌, ◌*◌, ◌%◌, ◌<◌
 use Rattle.std.proofs.lemmas.Bool.{cases_eq, cases_lt}
 use Rattle.x7_words.specs.Word.{AreBytes}
 use Rattle.x7_words.specs.Flash.{FlashState, IfKnown}
-use Rattle.x7_update.specs.Layout.{HasLayout, HasSlots, IsOpen, IsFree, IsNextFreeSlot, switch_of, open_switch, free_switch, spent_switch, update_place}
+use Rattle.x7_update.specs.Layout.{IsUpdatable, HasSlots, IsOpen, IsFree, IsNextFreeSlot, switch_of, open_switch, free_switch, spent_switch, update_place}
 use Rattle.x7_update.specs.After.{SpendsOpen, already, spends, IsAfterUpdate, IsBetweenSlots, MayBeLeft, untouched, between, after, switched, with_stream}
 use Rattle.x7_update.specs.Writing.{AtAnyMoment, SpendingSlot, HasWanted, KeepsBelow, OnlySwitch, OpeningSlot, Replaced, ReplacingUpdate}
 use Rattle.x7_update.specs.Slots.{IsTargetIn}
@@ -128,8 +128,8 @@ next_free next all spent found has n is_spent keeps =
 -- ---- the steps, by the slots that were found
 
 module _ (all : List ℕ) (target : UpdateTarget) (finds : IsTargetIn (length all) all target) where
-  layout : HasLayout all
-  layout = record { size = finds.sized; slots = finds.has }
+  updatable : IsUpdatable all
+  updatable = record { size = finds.sized; slots = finds.has }
 
   -- while the open slot is spent
   pub spending_replaces : (slot : ℕ) (found : List ℕ) → slot < 2048 → IsOpen all slot → SpendingSlot slot all found → ReplacingUpdate all found
@@ -144,7 +144,7 @@ module _ (all : List ℕ) (target : UpdateTarget) (finds : IsTargetIn (length al
   -- what is found while the update is replaced may be left
   pub replacing_left : (stream found : List ℕ) → ReplacingUpdate all found → AreBytes found → MayBeLeft stream all found
   replacing_left stream found (inl same) fits = untouched same
-  replacing_left stream found (inr b) fits = between layout fits b
+  replacing_left stream found (inr b) fits = between updatable fits b
 
   module _ (stream now : List ℕ) (fits : target.place + length stream ≤ length all) (r : Replaced target.place stream all now) where
     is_between : IsBetweenSlots all r.spent
@@ -181,8 +181,8 @@ module _ (all : List ℕ) (target : UpdateTarget) (finds : IsTargetIn (length al
 
     -- while the next slot is opened
     pub opening_left : (found : List ℕ) → OpeningSlot target.slots.next now found → AreBytes found → MayBeLeft stream all found
-    opening_left found (inl is) fits = after layout (subst (IsAfterUpdate stream all) (sym is) opened_after)
-    opening_left found (inr only) fits = between layout fits (between_opening target.slots.next all now found replaced_between finds.next only)
+    opening_left found (inl is) fits = after updatable (subst (IsAfterUpdate stream all) (sym is) opened_after)
+    opening_left found (inr only) fits = between updatable fits (between_opening target.slots.next all now found replaced_between finds.next only)
 
 -- what may be found since a call's start is what was there then, or was found within it
 pub found_left : (stream : List ℕ) (old new : FlashState) (past since : ℕ → List ℕ → Type 0) → ((found : List ℕ) → past old.moments found → IfKnown old.bytes (λ all. found ≡ all)) → AtAnyMoment old new past since (MayBeLeft stream)

@@ -4,7 +4,7 @@ use Rattle.std.proofs.lemmas.Bool.{cases_eq, cases_lt, cases_order}
 use Rattle.std.proofs.lemmas.List.{get_or-drop, get_or-take}
 use Rattle.x7_words.specs.Word.{word_of_bytes}
 use Rattle.x7_packets.specs.FlashSlot.{flash_slot}
-use Rattle.x7_update.specs.Layout.{CanStandAt, HasLayout, HasSize, IsFree, IsNextFreeSlot, IsOpen, first_slot, four_at, open_switch, switch_of}
+use Rattle.x7_update.specs.Layout.{CanStandAt, IsUpdatable, HasSize, IsFree, IsNextFreeSlot, IsOpen, first_slot, four_at, open_switch, switch_of}
 use Rattle.x7_update.specs.After.{SpendsOpen, already, spends, IsAfterUpdate, IsBetweenSlots, MayBeLeft, after, between, untouched, switched, with_stream}
 use Rattle.x7_update.specs.Layout.{spent_switch, update_place}
 use Rattle.x7_update.proofs.CaseLemmas.{between_below, between_spent, open_not_free, outside_switch, stream_keeps, true_or_false}
@@ -53,7 +53,7 @@ back_apart flash = (
   ),
 )
 
-module _ (flash found : List ℕ) (l : HasLayout flash) (b : IsBetweenSlots flash found) where
+module _ (flash found : List ℕ) (l : IsUpdatable flash) (b : IsBetweenSlots flash found) where
   -- a byte after a switch word
   byte_at : (i m : ℕ) → i < 65536 → i % 32 ≡ m → 4 ≤ m → get_or found i 0 ≡ get_or (first_slot flash) m 0
   byte_at i m h e k =
@@ -108,12 +108,12 @@ module _ (flash found : List ℕ) (l : HasLayout flash) (b : IsBetweenSlots flas
         ]
       ]
 
--- ---- a flash that was left has a layout again
+-- ---- a flash that was left can be updated again
 
 -- one whose slots lead to U still, of which one at most is open and the last is free
-layout_with : (flash found : List ℕ) → HasLayout flash → length found ≡ length flash → ((i : ℕ) → i < 65536 → 4 ≤ i % 32 → get_or found i 0 ≡ get_or flash i 0)
-    → ((slot other : ℕ) → slot < 2048 → other < 2048 → IsOpen found slot → IsOpen found other → slot ≡ other) → IsFree found 2047 → HasLayout found
-layout_with flash found l size slots one_open last_free =
+updatable_with : (flash found : List ℕ) → IsUpdatable flash → length found ≡ length flash → ((i : ℕ) → i < 65536 → 4 ≤ i % 32 → get_or found i 0 ≡ get_or flash i 0)
+    → ((slot other : ℕ) → slot < 2048 → other < 2048 → IsOpen found slot → IsOpen found other → slot ≡ other) → IsFree found 2047 → IsUpdatable found
+updatable_with flash found l size slots one_open last_free =
     let start : four_at found 12 ≡ four_at flash 12 = rw (slots 12 (omega arith) (omega arith), slots 13 (omega arith) (omega arith), slots 14 (omega arith) (omega arith), slots 15 (omega arith) (omega arith)) refl in
     record {
       size = subst HasSize (sym size) l.size;
@@ -125,13 +125,13 @@ layout_with flash found l size slots one_open last_free =
       };
     }
 
-last_stays : (flash found : List ℕ) → HasLayout flash → IsBetweenSlots flash found → (IsNextFreeSlot flash 2047 → ⊥) → IsFree found 2047
+last_stays : (flash found : List ℕ) → IsUpdatable flash → IsBetweenSlots flash found → (IsNextFreeSlot flash 2047 → ⊥) → IsFree found 2047
 last_stays flash found l b more = b.switches 2047 (omega arith) (λ o. open_not_free flash 2047 o l.slots.last_free) more ∙ l.slots.last_free
 
 -- the updated flash
-layout_after : (stream flash found : List ℕ) → HasLayout flash → IsAfterUpdate stream flash found → (IsNextFreeSlot flash 2047 → ⊥) → HasLayout found
-layout_after stream flash found l a more =
-    layout_with flash found l (ap length a.is ∙ length_switched a.next open_switch now refl within ∙ b.size)
+updatable_after : (stream flash found : List ℕ) → IsUpdatable flash → IsAfterUpdate stream flash found → (IsNextFreeSlot flash 2047 → ⊥) → IsUpdatable found
+updatable_after stream flash found l a more =
+    updatable_with flash found l (ap length a.is ∙ length_switched a.next open_switch now refl within ∙ b.size)
     (λ i h k. ap (λ f. get_or f i 0) a.is ∙ switched_others a.next open_switch now refl within i (outside_switch a.next i k) ∙ b.slots i h k)
     (λ slot other h k o p. the_next slot h o ∙ sym (the_next other k p))
     (ap (λ f. switch_of f 2047) a.is ∙ switch_other a.next 2047 open_switch now refl within (λ same. more (subst (IsNextFreeSlot flash) (sym same) a.is_next)) ∙ last_stays flash now l b more)
@@ -155,10 +155,10 @@ layout_after stream flash found l a more =
       | inr n ↦ absurd (b.none_open slot h (sym (ap (λ f. switch_of f slot) a.is ∙ switch_other a.next slot open_switch now refl within n) ∙ o))
     ]
 
-pub left_layout : (stream flash found : List ℕ) → HasLayout flash → MayBeLeft stream flash found → (IsNextFreeSlot flash 2047 → ⊥) → HasLayout found
-left_layout stream flash found l (untouched same) more = subst HasLayout (sym same) l
-left_layout stream flash found l (between layout fits b) more = layout_with flash found l b.size b.slots (λ slot other h k o p. absurd (b.none_open slot h o)) (last_stays flash found l b more)
-left_layout stream flash found l (after layout a) more = layout_after stream flash found l a more
+pub left_updatable : (stream flash found : List ℕ) → IsUpdatable flash → MayBeLeft stream flash found → (IsNextFreeSlot flash 2047 → ⊥) → IsUpdatable found
+left_updatable stream flash found l (untouched same) more = subst IsUpdatable (sym same) l
+left_updatable stream flash found l (between can fits b) more = updatable_with flash found l b.size b.slots (λ slot other h k o p. absurd (b.none_open slot h o)) (last_stays flash found l b more)
+left_updatable stream flash found l (after can a) more = updatable_after stream flash found l a more
 
 -- ---- an update has one outcome
 
@@ -176,7 +176,7 @@ one_next flash one other a b = elim (cases_order one other) [
   ]
 ]
 
-pub one_spent : (flash one other : List ℕ) → HasLayout flash → SpendsOpen flash one → SpendsOpen flash other → one ≡ other
+pub one_spent : (flash one other : List ℕ) → IsUpdatable flash → SpendsOpen flash one → SpendsOpen flash other → one ≡ other
 one_spent flash one other l (already s e) (already t f) = e ∙ sym f
 one_spent flash one other l (already s e) (spends slot h is f) = absurd (s slot h is)
 one_spent flash one other l (spends slot h is e) (already t f) = absurd (t slot h is)
@@ -184,7 +184,7 @@ one_spent flash one other l (spends slot h is e) (spends slot_2 h_2 is_2 f) =
     let same : slot ≡ slot_2 = l.slots.one_open slot slot_2 h h_2 is is_2 in
     e ∙ ap (λ k. switched k spent_switch flash) same ∙ sym f
 
-pub one_after : (stream flash one other : List ℕ) → HasLayout flash → IsAfterUpdate stream flash one → IsAfterUpdate stream flash other → one ≡ other
+pub one_after : (stream flash one other : List ℕ) → IsUpdatable flash → IsAfterUpdate stream flash one → IsAfterUpdate stream flash other → one ≡ other
 one_after stream flash one other l a b =
     a.is
     ∙ ap (λ k. switched k open_switch (with_stream (update_place flash) stream a.spent)) (one_next flash a.next b.next a.is_next b.is_next)

@@ -1,12 +1,12 @@
--- Lemmas on what was read back before a slot is opened.
+-- Lemmas on what was verified before a slot is opened.
 use Rattle.std.proofs.Common.{◌≡◌, ℕ, ◌+◌, ◌-◌, ◌*◌, ◌≤◌, inl, inr, IsTrue, List, length, get_or, Option, Result, Ok, Err, OnOk, ap, sym, subst, ◌∙◌, arith}
 use Rattle.std.proofs.lemmas.Bool.{cases_lt}
 use Rattle.x7_words.specs.Flash.{FlashState, IfKnown, Sees}
 use Rattle.x7_update.specs.After.{IsAfterUpdate, IsBetweenSlots, with_stream}
-use Rattle.x7_update.specs.Layout.{CanStandAt, HasLayout, HasSize, HasNoOpenSlot, IsNextFreeSlot, IsOpen, open_switch, switch_of, update_place}
-use Rattle.x7_update.specs.ReadBack.{AllReadBack, ReadBack, WasReady}
+use Rattle.x7_update.specs.Layout.{CanStandAt, IsUpdatable, HasSize, HasNoOpenSlot, IsNextFreeSlot, IsOpen, open_switch, switch_of, update_place}
+use Rattle.x7_update.specs.Verified.{AllVerified, IsVerified, WasReady}
 use Rattle.x7_update.specs.Slots.{IsTargetIn, HasTarget, TargetFits}
-use Rattle.x7_update.specs.Writing.{CanReadBack, HasWanted, ReadsWanted, ReadsWantedTo, ReplacingUpdate, SeesWanted, wanted_at}
+use Rattle.x7_update.specs.Writing.{CanVerify, HasWanted, ReadsWanted, ReadsWantedTo, ReplacingUpdate, SeesWanted, wanted_at}
 use Rattle.x7_update.proofs.CaseLemmas.{between_below, between_spent, open_not_free, stream_keeps}
 use Rattle.x7_update.proofs.StreamLemmas.{wanted_inside}
 use Rattle.x7_update.proofs.SwitchLemmas.{switch_switched}
@@ -54,9 +54,9 @@ still_found old new target attached size bytes found = record {
   finds = subst (λ (o : Option (List ℕ)). IfKnown o (λ all. IsTargetIn (length all) all target)) (sym bytes) found.finds;
 }
 
--- what can be read back still can, after reads alone
-pub still_read_back : (old new : FlashState) (update : ℕ) (stream buffer after : List ℕ) → new.attached ≡ old.attached → new.extent ≡ old.extent → new.bytes ≡ old.bytes → length after ≡ 65536 → CanReadBack old update stream buffer → CanReadBack new update stream after
-still_read_back old new update stream buffer after attached size bytes long can = record {
+-- what can be verified still can, after reads alone
+pub can_still_verify : (old new : FlashState) (update : ℕ) (stream buffer after : List ℕ) → new.attached ≡ old.attached → new.extent ≡ old.extent → new.bytes ≡ old.bytes → length after ≡ 65536 → CanVerify old update stream buffer → CanVerify new update stream after
+can_still_verify old new update stream buffer after attached size bytes long can = record {
   attached = attached ∙ can.attached;
   size = subst HasSize (sym size) can.size;
   place = subst (λ n. CanStandAt n update) (sym size) can.place;
@@ -75,21 +75,21 @@ was_ready state update stream old new ready size seen same none_open last = reco
   last = last;
 }
 
--- what was read back of the slots of the flash
+-- what was verified of the slots of the flash
 module _ {F : Type 0} (state : F → FlashState) (stream : List ℕ) (old new : FlashState) (target : UpdateTarget) where
-  pub read_back : TargetFits new.extent target → IfKnown old.bytes (λ all. IsTargetIn (length all) all target) → WasReady state target.place stream new → ReadBack state stream old new
-  read_back fits finds was = record {
+  pub verified : TargetFits new.extent target → IfKnown old.bytes (λ all. IsTargetIn (length all) all target) → WasReady state target.place stream new → IsVerified state stream old new
+  verified fits finds was = record {
     stream_place = target.place;
     stands = fits.place;
     place = known_map old.bytes (λ all. IsTargetIn (length all) all target) (λ all. target.place ≡ update_place all) (λ all e f. f.update) finds;
     ready = was;
   }
 
-  pub all_back : {E : Type 0} (result : Result (Unit {0}) E) → TargetFits new.extent target → IfKnown old.bytes (λ all. IsTargetIn (length all) all target) → OnOk result (WasReady state target.place stream new)
-      → OnOk result (Sees new (32 * target.slots.next) open_switch) → OnOk result (AllReadBack state stream old new)
-  all_back (Err fault) fits finds was seen = tt
-  all_back (Ok _) fits finds was seen = record {
-    before = read_back fits finds was;
+  pub all_verified : {E : Type 0} (result : Result (Unit {0}) E) → TargetFits new.extent target → IfKnown old.bytes (λ all. IsTargetIn (length all) all target) → OnOk result (WasReady state target.place stream new)
+      → OnOk result (Sees new (32 * target.slots.next) open_switch) → OnOk result (AllVerified state stream old new)
+  all_verified (Err fault) fits finds was seen = tt
+  all_verified (Ok _) fits finds was seen = record {
+    before = verified fits finds was;
     slot = target.slots.next;
     within = fits.next;
     next = known_map old.bytes (λ all. IsTargetIn (length all) all target) (λ all. IsNextFreeSlot all target.slots.next) (λ all e f. f.next) finds;
@@ -98,7 +98,7 @@ module _ {F : Type 0} (state : F → FlashState) (stream : List ℕ) (old new : 
 
 -- ---- the updated flash has an open slot
 
-module _ (stream flash found : List ℕ) (l : HasLayout flash) (a : IsAfterUpdate stream flash found) where
+module _ (stream flash found : List ℕ) (l : IsUpdatable flash) (a : IsAfterUpdate stream flash found) where
   abbrev now : List ℕ
   now = with_stream (update_place flash) stream a.spent
 

@@ -1,8 +1,8 @@
--- Why an update is refused, and where a flash has no layout (this project's choice).
+-- Why an update is refused, and the place that shows that a flash can't be updated (this project's choice).
 use Rattle.std.specs.Prelude.{◌≡◌, ◌≢◌, ℕ, ◌+◌, ◌-◌, ◌*◌, ◌<◌, ◌≤◌, ◌⊎◌, true, false, List, length, get_or, None, Some}
 use Rattle.x7_words.specs.Flash.{FlashFails, FlashState, IfKnown, WriteFails}
-use Rattle.x7_packets.specs.FlashSlot.{slot_bytes, slot_count}
-use Rattle.x7_update.specs.Layout.{CanStandAt, HasLayout, HasSize, IsFree, IsOpen, LeadsToUpdate, first_slot, start_place, switch_bytes, update_place}
+use Rattle.x7_packets.specs.FlashSlot.{flash_slot_bytes, flash_slot_count}
+use Rattle.x7_update.specs.Layout.{CanStandAt, IsUpdatable, HasSize, IsFree, IsOpen, LeadsToUpdate, first_slot, start_place, switch_bytes, update_place}
 use Rattle.x7_update.specs.Writing.{IsFirstRead, IsReadWrong}
 use Rattle.x7_update.specs.declared.fault.UpdateFault.{UpdateFault}
 use Rattle.x7_update.specs.declared.fault.UpdateFault.TheVariants.{Differs, Failed, NoLayout, NoMemory, TooLong}
@@ -11,10 +11,10 @@ use Rattle.x7_update.specs.declared.fault.UpdateFault.TheVariants.{Differs, Fail
 pub record DiffersAt (flash : List ℕ) (slot place : ℕ) : Type 0 where
   pub i : ℕ
   pub after_switch : switch_bytes ≤ i
-  pub within : i < slot_bytes
-  pub is : place ≡ slot_bytes * slot + i
+  pub within : i < flash_slot_bytes
+  pub is : place ≡ flash_slot_bytes * slot + i
   pub differs : get_or flash place 0 ≢ get_or (first_slot flash) i 0
-  pub first : (j : ℕ) → switch_bytes ≤ j → j < i → get_or flash (slot_bytes * slot + j) 0 ≡ get_or (first_slot flash) j 0
+  pub first : (j : ℕ) → switch_bytes ≤ j → j < i → get_or flash (flash_slot_bytes * slot + j) 0 ≡ get_or (first_slot flash) j 0
 
 -- a slot is open, and so is one before it
 pub record OpensAgain (flash : List ℕ) (slot : ℕ) : Type 0 where
@@ -27,10 +27,10 @@ pub record OpensAgain (flash : List ℕ) (slot : ℕ) : Type 0 where
 abbrev pub IsGoodSlot : List ℕ → ℕ → Type 0
 IsGoodSlot flash slot = LeadsToUpdate flash slot × (OpensAgain flash slot → ⊥)
 
--- why a slot is none of a layout, and the place that shows it: the slot doesn't lead to the update's place
+-- why a slot isn't as the layout has it, and the place that shows it: the slot doesn't lead to the update's place
 -- (where it differs), or is open as one before it is (the slot's place)
 abbrev pub IsBadSlotAt : List ℕ → ℕ → ℕ → Type 0
-IsBadSlotAt flash slot place = DiffersAt flash slot place ⊎ (LeadsToUpdate flash slot × OpensAgain flash slot × (place ≡ slot_bytes * slot))
+IsBadSlotAt flash slot place = DiffersAt flash slot place ⊎ (LeadsToUpdate flash slot × OpensAgain flash slot × (place ≡ flash_slot_bytes * slot))
 
 -- a flash can be updated by its size and its first slot: the slot leads to a place at which an update can stand
 pub record BeginsWell (size : ℕ) (flash : List ℕ) : Type 0 where
@@ -38,26 +38,26 @@ pub record BeginsWell (size : ℕ) (flash : List ℕ) : Type 0 where
   pub leads : LeadsToUpdate flash 0
   pub place : CanStandAt size (update_place flash)
 
--- The place at which a flash of a size has no layout. The first of these lines that holds gives it: the size is bad
--- (the size); the first slot differs (there); the update's place is none where an update can stand (where the first
--- slot has it); a further slot is bad, the slots in their order; the last slot isn't free (its place).
+-- The place that shows that a flash of a size can't be updated. The first of these lines that holds gives it: the size
+-- is bad (the size); the first slot differs (there); the update's place is none where an update can stand (where the
+-- first slot has it); a further slot is bad, the slots in their order; the last slot isn't free (its place).
 pub data NoLayoutAt (size : ℕ) (flash : List ℕ) (place : ℕ) : Type 0 where
   bad_size : (HasSize size → ⊥) → place ≡ size → NoLayoutAt size flash place
   bad_first : HasSize size → DiffersAt flash 0 place → NoLayoutAt size flash place
   bad_place : HasSize size → LeadsToUpdate flash 0 → (CanStandAt size (update_place flash) → ⊥) → place ≡ start_place → NoLayoutAt size flash place
-  bad_slot : BeginsWell size flash → (slot : ℕ) → slot < slot_count → ((earlier : ℕ) → earlier < slot → IsGoodSlot flash earlier)
+  bad_slot : BeginsWell size flash → (slot : ℕ) → slot < flash_slot_count → ((earlier : ℕ) → earlier < slot → IsGoodSlot flash earlier)
       → IsBadSlotAt flash slot place → NoLayoutAt size flash place
-  last_taken : BeginsWell size flash → ((slot : ℕ) → slot < slot_count → IsGoodSlot flash slot) → (IsFree flash (slot_count - 1) → ⊥) → place ≡ slot_bytes * (slot_count - 1)
+  last_taken : BeginsWell size flash → ((slot : ℕ) → slot < flash_slot_count → IsGoodSlot flash slot) → (IsFree flash (flash_slot_count - 1) → ⊥) → place ≡ flash_slot_bytes * (flash_slot_count - 1)
       → NoLayoutAt size flash place
 
--- the stream passes the end of a flash with a layout
+-- the stream passes the end of a flash that can be updated
 pub record IsTooLong (stream flash : List ℕ) : Type 0 where
-  pub layout : HasLayout flash
+  pub updatable : IsUpdatable flash
   pub passes : length flash < update_place flash + length stream
 
--- a flash has a layout in which the stream fits
+-- a flash can be updated, and the stream fits in it
 pub record CanTake (stream flash : List ℕ) : Type 0 where
-  pub layout : HasLayout flash
+  pub updatable : IsUpdatable flash
   pub fits : update_place flash + length stream ≤ length flash
 
 -- the cause of each refusal
@@ -67,9 +67,9 @@ abbrev pub HasCause : List ℕ → FlashState → FlashState → UpdateFault →
 HasCause stream old new (Failed true) = WriteFails old new × HasSize new.extent × IfKnown old.bytes (CanTake stream)
 -- a read failed: its count has risen, and the flash's size is good
 HasCause stream old new (Failed false) = FlashFails old new × HasSize new.extent
--- known bytes have a layout in which the stream doesn't fit
+-- a flash whose bytes are known can be updated, and the stream doesn't fit in it
 HasCause stream old new TooLong = IfKnown old.bytes (IsTooLong stream)
--- known bytes have no layout, as the place shows
+-- a flash whose bytes are known can't be updated, as the place shows
 HasCause stream old new (NoLayout place) = IfKnown old.bytes (λ flash. NoLayoutAt (length flash) flash place)
 -- The bytes aren't known. A byte that was read at the place, with no write since, is another than the one written
 -- there, and the first that is: of the stream and FF after it, or of the switch word, each byte before it was read as
@@ -87,11 +87,12 @@ IsEarly (NoLayout place) = Unit {0}
 IsEarly (Differs place wrote read) = ⊥
 IsEarly NoMemory = Unit {0}
 
--- the flash's bytes were known, with a layout in which the stream fits, and no write and no read failed
-pub record CanBeUpdated (stream : List ℕ) (old new : FlashState) : Type 0 where
+-- No fault but want of memory has a cause: the flash's bytes were known, it can be updated, the stream fits in it, and
+-- no write and no read failed.
+pub record HasNoCause (stream : List ℕ) (old new : FlashState) : Type 0 where
   pub flash : List ℕ
   pub known : old.bytes ≡ Some flash
-  pub layout : HasLayout flash
+  pub updatable : IsUpdatable flash
   pub fits : update_place flash + length stream ≤ length flash
   pub writes : WriteFails old new → ⊥
   pub reads : FlashFails old new → ⊥

@@ -10,7 +10,7 @@
 use Rattle.std.specs.Prelude.{◌≡◌, ◌≢◌, ℕ, suc, ◌+◌, ◌-◌, ◌*◌, ◌%◌, ◌<◌, ◌≤◌, List, [], ◌∷◌, length, get_or}
 use Rattle.x7_words.specs.Flash.{flash_limit}
 use Rattle.x7_words.specs.Word.{word_of_bytes}
-use Rattle.x7_packets.specs.FlashSlot.{flash_slot, sector_bytes, slot_bytes, slot_count}
+use Rattle.x7_packets.specs.FlashSlot.{flash_slot, sector_bytes, flash_slot_bytes, flash_slot_count}
 use Rattle.x7_packets.specs.SyncWord.{sync_bytes}
 
 -- how many bytes a switch word has
@@ -23,7 +23,7 @@ four_at flash place = get_or flash place 0 ∷ get_or flash (place + 1) 0 ∷ ge
 
 -- the switch word of a slot, by its bytes
 abbrev pub switch_of : List ℕ → ℕ → List ℕ
-switch_of flash slot = four_at flash (slot_bytes * slot)
+switch_of flash slot = four_at flash (flash_slot_bytes * slot)
 
 -- the switch word of an open slot: the sync word
 abbrev pub open_switch : List ℕ
@@ -63,7 +63,7 @@ pub record CanStandAt (size place : ℕ) : Type 0 where
 
 -- a slot of the flash leads to U: after its switch word it has the bytes that the first one has to have
 abbrev pub LeadsToUpdate : List ℕ → ℕ → Type 0
-LeadsToUpdate flash slot = (i : ℕ) → switch_bytes ≤ i → i < slot_bytes → get_or flash (slot_bytes * slot + i) 0 ≡ get_or (first_slot flash) i 0
+LeadsToUpdate flash slot = (i : ℕ) → switch_bytes ≤ i → i < flash_slot_bytes → get_or flash (flash_slot_bytes * slot + i) 0 ≡ get_or (first_slot flash) i 0
 
 -- a slot of the flash is open
 abbrev pub IsOpen : List ℕ → ℕ → Type 0
@@ -77,21 +77,21 @@ IsFree flash slot = switch_of flash slot ≡ free_switch
 -- is free.
 pub record HasSlots (size : ℕ) (flash : List ℕ) : Type 0 where
   pub place : CanStandAt size (update_place flash)
-  pub leads : (slot : ℕ) → slot < slot_count → LeadsToUpdate flash slot
-  pub one_open : (slot other : ℕ) → slot < slot_count → other < slot_count → IsOpen flash slot → IsOpen flash other → slot ≡ other
-  pub last_free : IsFree flash (slot_count - 1)
+  pub leads : (slot : ℕ) → slot < flash_slot_count → LeadsToUpdate flash slot
+  pub one_open : (slot other : ℕ) → slot < flash_slot_count → other < flash_slot_count → IsOpen flash slot → IsOpen flash other → slot ≡ other
+  pub last_free : IsFree flash (flash_slot_count - 1)
 
--- a flash that can be updated
-pub record HasLayout (flash : List ℕ) : Type 0 where
+-- a flash can be updated: its size and its slots are those of the layout
+pub record IsUpdatable (flash : List ℕ) : Type 0 where
   pub size : HasSize (length flash)
   pub slots : HasSlots (length flash) flash
 
 -- no slot of the flash is open
 abbrev pub HasNoOpenSlot : List ℕ → Type 0
-HasNoOpenSlot flash = (slot : ℕ) → slot < slot_count → switch_of flash slot ≢ open_switch
+HasNoOpenSlot flash = (slot : ℕ) → slot < flash_slot_count → switch_of flash slot ≢ open_switch
 
 -- the slot that the next update opens: the first from which on all are free
 pub record IsNextFreeSlot (flash : List ℕ) (next : ℕ) : Type 0 where
-  pub within : next < slot_count
-  pub free : (slot : ℕ) → next ≤ slot → slot < slot_count → IsFree flash slot
+  pub within : next < flash_slot_count
+  pub free : (slot : ℕ) → next ≤ slot → slot < flash_slot_count → IsFree flash slot
   pub first : (slot : ℕ) → suc slot ≡ next → switch_of flash slot ≢ free_switch

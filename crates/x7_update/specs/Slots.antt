@@ -1,7 +1,7 @@
 -- What a look at the first sector of a flash finds (this project's choice).
 use Rattle.std.specs.Prelude.{◌≡◌, ◌≢◌, ℕ, suc, ◌<◌, ◌≤◌, true, List, length, Option, None, Some}
 use Rattle.x7_words.specs.Flash.{FlashState, IfKnown}
-use Rattle.x7_packets.specs.FlashSlot.{sector_bytes, slot_count}
+use Rattle.x7_packets.specs.FlashSlot.{sector_bytes, flash_slot_count}
 use Rattle.x7_update.specs.Layout.{CanStandAt, HasSize, HasSlots, IsFree, IsNextFreeSlot, IsOpen, LeadsToUpdate, first_slot, free_switch, open_switch, switch_of, update_place}
 use Rattle.x7_update.specs.Fault.{OpensAgain}
 use Rattle.x7_update.specs.declared.slots.Slots.{Slots}
@@ -27,25 +27,25 @@ pub record SlotsAmong (flash : List ℕ) (count : ℕ) (slots : Slots) : Type 0 
   pub free : (slot : ℕ) → slots.next ≤ slot → slot < count → IsFree flash slot
   pub first : (slot : ℕ) → suc slot ≡ slots.next → switch_of flash slot ≢ free_switch
 
--- where an update of a flash of this size goes: the first sector is slots of a layout, with this U, this open slot or
--- none, and this next one
+-- where an update of a flash of this size goes: the first sector is slots as the layout has them, with this U, this
+-- open slot or none, and this next one
 pub record IsTargetIn (size : ℕ) (flash : List ℕ) (target : UpdateTarget) : Type 0 where
   pub sized : HasSize size
   pub has : HasSlots size flash
   pub update : target.place ≡ update_place flash
-  pub opens : OpenAmong flash slot_count target.slots.open_slot
+  pub opens : OpenAmong flash flash_slot_count target.slots.open_slot
   pub next : IsNextFreeSlot flash target.slots.next
 
 -- a slot of the first sector, or none
 abbrev pub WithinSlots : Option ℕ → Type 0
 WithinSlots None = Unit {0}
-WithinSlots (Some slot) = slot < slot_count
+WithinSlots (Some slot) = slot < flash_slot_count
 
 -- the update's place and the slots are within a flash of a size
 pub record TargetFits (size : ℕ) (target : UpdateTarget) : Type 0 where
   pub sized : HasSize size
   pub place : CanStandAt size target.place
-  pub next : target.slots.next < slot_count
+  pub next : target.slots.next < flash_slot_count
   pub opens : WithinSlots target.slots.open_slot
 
 -- a flash is attached, and its update goes to this target, which fits its size, and its bytes where these are known

@@ -2,7 +2,7 @@
 use Rattle.std.specs.Prelude.{◌≡◌, ◌≢◌, ℕ, ◌+◌, ◌-◌, ◌*◌, ◌%◌, ◌<◌, ◌≤◌, ◌⊎◌, IsTrue, List, length, get_or, Option, Some, None, nat_lt, if◌then◌else◌, true, false}
 use Rattle.x7_words.specs.Flash.{erased_byte, Elapses, FlashFails, FlashState, IfKnown, OnlyWrites, WriteFails}
 use Rattle.x7_words.specs.Word.{AreBytes}
-use Rattle.x7_packets.specs.FlashSlot.{sector_bytes, slot_bytes, slot_count}
+use Rattle.x7_packets.specs.FlashSlot.{sector_bytes, flash_slot_bytes, flash_slot_count}
 use Rattle.x7_update.specs.After.{SpendsOpen, IsBetweenSlots, switched, with_stream}
 use Rattle.x7_update.specs.Layout.{CanStandAt, HasSize, open_switch, switch_bytes, switch_of}
 use Rattle.x7_update.specs.declared.fault.UpdateFault.{UpdateFault}
@@ -50,8 +50,8 @@ pub record Writes (old new : FlashState) (past since : ℕ → List ℕ → Type
 -- the switch word of a slot can be written: the flash is attached, and the slot is one of its first sector
 pub record CanSwitch (state : FlashState) (slot : ℕ) : Type 0 where
   pub attached : state.attached ≡ true
-  pub among : slot < slot_count
-  pub within : slot_bytes * slot + switch_bytes ≤ state.extent
+  pub among : slot < flash_slot_count
+  pub within : flash_slot_bytes * slot + switch_bytes ≤ state.extent
 
 -- all from a place on can be erased: the flash is attached, and whole sectors are before the place and up to the end
 pub record CanEraseFrom (state : FlashState) (place : ℕ) : Type 0 where
@@ -73,7 +73,7 @@ pub record ErasedTo (place end : ℕ) (old now : List ℕ) : Type 0 where
 -- nothing of the flash has changed but, perhaps, the switch word of a slot, which isn't open
 pub record OnlySwitch (slot : ℕ) (old found : List ℕ) : Type 0 where
   pub size : length found ≡ length old
-  pub others : (i : ℕ) → (i < slot_bytes * slot) ⊎ (slot_bytes * slot + switch_bytes ≤ i) → get_or found i 0 ≡ get_or old i 0
+  pub others : (i : ℕ) → (i < flash_slot_bytes * slot) ⊎ (flash_slot_bytes * slot + switch_bytes ≤ i) → get_or found i 0 ≡ get_or old i 0
   pub not_open : switch_of found slot ≢ open_switch
 
 -- while an open slot is spent nothing has changed, or the slot isn't open
@@ -106,9 +106,9 @@ wanted_at stream_place stream place = if nat_lt (place - stream_place) (length s
 abbrev pub HasWanted : ℕ → List ℕ → List ℕ → Type 0
 HasWanted stream_place stream flash = (place : ℕ) → stream_place ≤ place → place < length flash → get_or flash place 0 ≡ wanted_at stream_place stream place
 
--- an update with a stream can be read back: the flash is attached, the stream stands at its place with FF after it, and
+-- an update with a stream can be verified: the flash is attached, the stream stands at its place with FF after it, and
 -- the buffer is of a sector's size
-pub record CanReadBack (state : FlashState) (stream_place : ℕ) (stream buffer : List ℕ) : Type 0 where
+pub record CanVerify (state : FlashState) (stream_place : ℕ) (stream buffer : List ℕ) : Type 0 where
   pub attached : state.attached ≡ true
   pub size : HasSize state.extent
   pub place : CanStandAt state.extent stream_place
@@ -143,7 +143,7 @@ IsWrong stream_place stream place buffer NoMemory = ⊥
 -- the switch word of the slot that is opened.
 pub data IsWritten (size : ℕ) (stream piece : List ℕ) (from end : ℕ) : Type 0 where
   in_stream : CanStandAt size from → from + length stream ≤ size → piece ≡ stream → end ≡ size → IsWritten size stream piece from end
-  in_switch : (slot : ℕ) → slot < slot_count → from ≡ slot_bytes * slot → piece ≡ open_switch → end ≡ from + switch_bytes → IsWritten size stream piece from end
+  in_switch : (slot : ℕ) → slot < flash_slot_count → from ≡ flash_slot_bytes * slot → piece ≡ open_switch → end ≡ from + switch_bytes → IsWritten size stream piece from end
 
 -- a byte is another than the one that an update with this stream writes at a place of a flash of a size
 pub record IsReadWrong (size : ℕ) (stream : List ℕ) (place wrote read : ℕ) : Type 0 where
@@ -164,11 +164,11 @@ pub record IsFirstRead (state : FlashState) (from : ℕ) (piece : List ℕ) (pla
 
 -- why an update with a stream fails once the stream is written: a read or a write failed, or the bytes aren't known and
 -- one was read that is another than the one written, the first of its piece that is
-abbrev pub EndFails : List ℕ → FlashState → FlashState → UpdateFault → Type 0
-EndFails stream old new (Differs at wrote read) =
+abbrev pub HasLateCause : List ℕ → FlashState → FlashState → UpdateFault → Type 0
+HasLateCause stream old new (Differs at wrote read) =
     (wrong : IsReadWrong new.extent stream at wrote read) × (old.bytes ≡ None) × IsFirstRead new wrong.from wrong.piece at read
-EndFails stream old new (Failed true) = WriteFails old new
-EndFails stream old new (Failed false) = FlashFails old new
-EndFails stream old new TooLong = ⊥
-EndFails stream old new (NoLayout at) = ⊥
-EndFails stream old new NoMemory = ⊥
+HasLateCause stream old new (Failed true) = WriteFails old new
+HasLateCause stream old new (Failed false) = FlashFails old new
+HasLateCause stream old new TooLong = ⊥
+HasLateCause stream old new (NoLayout at) = ⊥
+HasLateCause stream old new NoMemory = ⊥

@@ -1,31 +1,31 @@
-//! Laws of layouts and updates.
+//! Laws of flashes that can be updated, and of updates.
 ghost use Rattle.std.specs.Prelude.{◌≡◌, ◌≢◌, ◌-◌, ◌<◌, ℕ, List, length};
-ghost use Rattle.x7_packets.specs.FlashSlot.{sector_bytes, slot_count};
+ghost use Rattle.x7_packets.specs.FlashSlot.{sector_bytes, flash_slot_count};
 ghost use Rattle.x7_update.specs.After.{IsAfterUpdate, IsBetweenSlots, MayBeLeft};
-ghost use Rattle.x7_update.specs.Layout.{HasLayout, IsNextFreeSlot, four_at, open_switch};
+ghost use Rattle.x7_update.specs.Layout.{IsUpdatable, IsNextFreeSlot, four_at, open_switch};
 ghost use Rattle.x7_update.specs.Fault.{NoLayoutAt};
 
-/// No place shows that a flash with a layout lacks one. `NoLayoutAt` takes a size beside the bytes, since an update
+/// No place shows that a flash that can be updated can't. `NoLayoutAt` takes a size beside the bytes, since an update
 /// sees those of the first sector alone; here it is the flash's own.
-pub fn layouts_are_not_refused()
-    ensures { (flash : List ℕ) (place : ℕ) → HasLayout flash → NoLayoutAt (length flash) flash place → ⊥ }
+pub fn updatable_flashes_are_not_refused()
+    ensures { (flash : List ℕ) (place : ℕ) → IsUpdatable flash → NoLayoutAt (length flash) flash place → ⊥ }
 {}
 
-/// An update with a stream of a flash with a layout has one outcome.
+/// An update with a stream of a flash that can be updated has one outcome.
 pub fn updates_have_one_outcome()
-    ensures { (stream flash one other : List ℕ) → HasLayout flash → IsAfterUpdate stream flash one → IsAfterUpdate stream flash other → one ≡ other }
+    ensures { (stream flash one other : List ℕ) → IsUpdatable flash → IsAfterUpdate stream flash one → IsAfterUpdate stream flash other → one ≡ other }
 {}
 
-/// In a flash with a layout that was left after its open slot was spent and before the next was opened no sync word
-/// begins in the first sector.
+/// In a flash that could be updated, and was left after its open slot was spent and before the next was opened, no sync
+/// word begins in the first sector.
 pub fn flashes_between_slots_hold_no_sync_word()
-    ensures { (flash found : List ℕ) → HasLayout flash → IsBetweenSlots flash found
+    ensures { (flash found : List ℕ) → IsUpdatable flash → IsBetweenSlots flash found
         → (place : ℕ) → place < sector_bytes → four_at found place ≢ open_switch }
 {}
 
-/// Whatever a power loss in an update leaves of a flash with a layout has a layout again, unless the next free slot was
-/// the last.
-pub fn left_flashes_have_a_layout()
-    ensures { (stream flash found : List ℕ) → HasLayout flash → MayBeLeft stream flash found
-        → (IsNextFreeSlot flash (slot_count - 1) → ⊥) → HasLayout found }
+/// Whatever a power loss in an update leaves of a flash that can be updated can be updated again, unless the next free
+/// slot was the last.
+pub fn left_flashes_are_updatable()
+    ensures { (stream flash found : List ℕ) → IsUpdatable flash → MayBeLeft stream flash found
+        → (IsNextFreeSlot flash (flash_slot_count - 1) → ⊥) → IsUpdatable found }
 {}

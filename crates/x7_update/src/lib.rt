@@ -13,7 +13,7 @@ mod write;
 
 pub use fault::UpdateFault;
 pub use laws::{
-    flashes_between_slots_hold_no_sync_word, layouts_are_not_refused, left_flashes_have_a_layout,
-    updates_have_one_outcome,
+    flashes_between_slots_hold_no_sync_word, left_flashes_are_updatable,
+    updatable_flashes_are_not_refused, updates_have_one_outcome,
 };
 pub use steps::update;

@@ -1,7 +1,7 @@
 //! A look at the first sector: where the update goes, which slot is open, and which is the next.
 ghost use Rattle.std.specs.Prelude.{◌≡◌, ◌+◌, ◌<◌, ℕ, List, true, length, IfErr, IfOk, IfNone, IfSome};
 ghost use Rattle.x7_words.specs.Flash.{KnowsBytes, OnlyReads};
-ghost use Rattle.x7_packets.specs.FlashSlot.{sector_bytes, slot_count};
+ghost use Rattle.x7_packets.specs.FlashSlot.{sector_bytes, flash_slot_count};
 ghost use Rattle.x7_update.specs.Layout.{HasSize, LeadsToUpdate};
 ghost use Rattle.x7_update.specs.Fault.{DiffersAt, HasCause, IsBadSlotAt, IsGoodSlot, NoLayoutAt};
 ghost use Rattle.x7_update.specs.Slots.{IsTargetIn, HasFirstSlot, HasTarget, SlotsAmong};
@@ -10,7 +10,7 @@ use crate::fault::UpdateFault;
 use crate::layout::{
     FREE_SWITCH, OPEN_SWITCH, START_PLACE, SWITCH_BYTES, can_stand, first_slot, four_at, has_size,
 };
-use x7_packets::{SLOT_BYTES, SLOT_COUNT};
+use x7_packets::{FLASH_SLOT_BYTES, FLASH_SLOT_COUNT};
 use x7_words::{Flash, is_same, word_of};
 
 /// The slots that an update switches, by their numbers.
@@ -33,13 +33,13 @@ pub(crate) struct UpdateTarget {
 
 /// The first place in the flash, after a slot's switch word, at which the slot differs from what it has to be.
 fn slot_difference(first_sector: &[u8], wanted: &[u8; 32], slot: usize) -> Option<u64>
-    requires slot { slot < slot_count }
+    requires slot { slot < flash_slot_count }
     requires sector { HasFirstSlot first_sector.now wanted.now }
     ensures leads { IfNone result (LeadsToUpdate first_sector.now slot) }
     ensures differs { IfSome result (λ place. DiffersAt first_sector.now slot place) }
 {
-    let slot_place = SLOT_BYTES as usize * slot;
-    for i in SWITCH_BYTES..SLOT_BYTES as usize {
+    let slot_place = FLASH_SLOT_BYTES as usize * slot;
+    for i in SWITCH_BYTES..FLASH_SLOT_BYTES as usize {
         if first_sector[slot_place + i] != wanted[i] {
             return Some((slot_place + i) as u64);
         }
@@ -47,14 +47,14 @@ fn slot_difference(first_sector: &[u8], wanted: &[u8; 32], slot: usize) -> Optio
     None
 }
 
-/// The slots up to this one, by the slots before it, or the place that shows that it is none of a layout.
+/// The slots up to this one, by the slots before it, or the place that shows that this one isn't as the layout has it.
 fn look_at_slot(
     first_sector: &[u8],
     wanted: &[u8; 32],
     slot: u64,
     before: Slots,
 ) -> Result<Slots, u64>
-    requires slot { slot < slot_count }
+    requires slot { slot < flash_slot_count }
     requires sector { HasFirstSlot first_sector.now wanted.now }
     requires before { SlotsAmong first_sector.now slot before }
     ensures slots { IfOk result (SlotsAmong first_sector.now (slot + 1)) }
@@ -63,11 +63,11 @@ fn look_at_slot(
     if let Some(place) = slot_difference(first_sector, wanted, slot as usize) {
         return Err(place);
     }
-    let switch = four_at(first_sector, SLOT_BYTES as usize * slot as usize);
+    let switch = four_at(first_sector, FLASH_SLOT_BYTES as usize * slot as usize);
     let Slots { open_slot, next } = before;
     if is_same(&switch, &OPEN_SWITCH) {
         if open_slot.is_some() {
-            return Err(SLOT_BYTES * slot);
+            return Err(FLASH_SLOT_BYTES * slot);
         }
         return Ok(Slots {
             open_slot: Some(slot),
@@ -83,18 +83,18 @@ fn look_at_slot(
     })
 }
 
-/// The slots of the first sector, or the place that shows that one is none of a layout.
+/// The slots of the first sector, or the place that shows that one isn't as the layout has it.
 fn look_at_slots(first_sector: &[u8], wanted: &[u8; 32]) -> Result<Slots, u64>
     requires { HasFirstSlot first_sector.now wanted.now }
-    ensures slots { IfOk result (SlotsAmong first_sector.now slot_count) }
-    ensures bad_slot { IfErr result (λ place. (slot : ℕ) × (slot < slot_count)
+    ensures slots { IfOk result (SlotsAmong first_sector.now flash_slot_count) }
+    ensures bad_slot { IfErr result (λ place. (slot : ℕ) × (slot < flash_slot_count)
         × ((earlier : ℕ) → earlier < slot → IsGoodSlot first_sector.now earlier) × IsBadSlotAt first_sector.now slot place) }
 {
     let mut slots = Slots {
         open_slot: None,
         next: 0,
     };
-    for slot in 0..SLOT_COUNT {
+    for slot in 0..FLASH_SLOT_COUNT {
         slots = look_at_slot(first_sector, wanted, slot, slots)?;
     }
     Ok(slots)
@@ -117,8 +117,8 @@ fn target_of(first_sector: &[u8], size: u64) -> Result<UpdateTarget, u64>
     }
     let slots = look_at_slots(first_sector, &wanted)?;
     // No free slot is left.
-    if slots.next >= SLOT_COUNT {
-        return Err(SLOT_BYTES * (SLOT_COUNT - 1));
+    if slots.next >= FLASH_SLOT_COUNT {
+        return Err(FLASH_SLOT_BYTES * (FLASH_SLOT_COUNT - 1));
     }
     Ok(UpdateTarget { place, slots })
 }
@@ -133,7 +133,7 @@ pub(crate) fn find_target<F: Flash>(
     ensures found { IfOk result (HasTarget (F.state flash.old)) }
     ensures refused { (stream : List ℕ) → IfErr result (HasCause stream (F.state flash.old) (F.state flash.new)) }
     ensures bytes { KnowsBytes (F.state flash.old) }
-    ensures only { OnlyReads (F.state flash.old) (F.state flash.new) (F.found_since flash.old) (F.found_since flash.new) }
+    ensures only_reads { OnlyReads (F.state flash.old) (F.state flash.new) (F.found_since flash.old) (F.found_since flash.new) }
 {
     let size = flash.size();
     if !has_size(size) {

@@ -1,13 +1,13 @@
-//! The steps of an update, in their order: look, spend the open slot, write, read back, open the next.
+//! The steps of an update, in their order: look, spend the open slot, write, verify, open the next.
 ghost use Rattle.std.specs.Prelude.{◌≡◌, ◌+◌, ◌*◌, ◌<◌, ◌≤◌, ◌⊎◌, ℕ, List, true, length, IfErr, OnOk, OnErr, option_map};
 ghost use Rattle.x7_words.specs.Flash.{OnlyReads, IfKnown, Sees, WriteFails};
-ghost use Rattle.x7_packets.specs.FlashSlot.{slot_bytes, slot_count};
+ghost use Rattle.x7_packets.specs.FlashSlot.{flash_slot_bytes, flash_slot_count};
 ghost use Rattle.x7_update.specs.After.{SpendsOpen, IsAfterUpdate, MayBeLeft, switched};
-ghost use Rattle.x7_update.specs.Layout.{HasLayout, HasNoOpenSlot, IsFree, open_switch};
-ghost use Rattle.x7_update.specs.ReadBack.{AllReadBack, OpensReadBack, WasReady};
-ghost use Rattle.x7_update.specs.Fault.{CanBeUpdated, HasCause, IsEarly};
+ghost use Rattle.x7_update.specs.Layout.{IsUpdatable, HasNoOpenSlot, IsFree, open_switch};
+ghost use Rattle.x7_update.specs.Verified.{AllVerified, OpensVerified, WasReady};
+ghost use Rattle.x7_update.specs.Fault.{HasNoCause, HasCause, IsEarly};
 ghost use Rattle.x7_update.specs.Slots.{HasTarget};
-ghost use Rattle.x7_update.specs.Writing.{AtAnyMoment, Becomes, CanReadBack, EndFails, OnlyUses, OpeningSlot, Replaced, ReplacingUpdate, StaysBytes, Writes};
+ghost use Rattle.x7_update.specs.Writing.{AtAnyMoment, Becomes, CanVerify, HasLateCause, OnlyUses, OpeningSlot, Replaced, ReplacingUpdate, StaysBytes, Writes};
 ghost use Rattle.x7_update.specs.declared.fault.UpdateFault.TheVariants.{NoMemory};
 
 use crate::fault::UpdateFault;
@@ -45,15 +45,15 @@ fn replace<F: Flash>(flash: &mut F, target: UpdateTarget, stream: &[u8]) -> Resu
     write_stream(flash, target.place, stream)
 }
 
-/// Reads the stream back, opens the next slot, and reads its switch word back.
-fn read_back_and_open<F: Flash>(
+/// Verifies the stream, opens the next slot, and verifies its switch word.
+fn verify_and_open<F: Flash>(
     flash: &mut F,
     target: UpdateTarget,
     stream: &[u8],
     buffer: &mut [u8],
 ) -> Result<(), UpdateFault>
-    requires written { CanReadBack (F.state flash.old) target.place stream.now buffer.old }
-    requires next { target.slots.next < slot_count }
+    requires written { CanVerify (F.state flash.old) target.place stream.now buffer.old }
+    requires next { target.slots.next < flash_slot_count }
     requires free { IfKnown (F.state flash.old).bytes (λ all. IsFree all target.slots.next) }
     requires none_open { IfKnown (F.state flash.old).bytes HasNoOpenSlot }
     ensures opened { OnOk result ((F.state flash.new).bytes ≡ option_map (switched target.slots.next open_switch) (F.state flash.old).bytes) }
@@ -61,12 +61,12 @@ fn read_back_and_open<F: Flash>(
         (OpeningSlot target.slots.next) }
     ensures stays_bytes { AtAnyMoment (F.state flash.old) (F.state flash.new) (F.found_since flash.old) (F.found_since flash.new)
         StaysBytes }
-    ensures ready { OnOk result (WasReady F.state target.place stream.now (F.state flash.new)) }
-    ensures seen { OnOk result (Sees (F.state flash.new) (slot_bytes * target.slots.next) open_switch) }
+    ensures was_ready { OnOk result (WasReady F.state target.place stream.now (F.state flash.new)) }
+    ensures seen { OnOk result (Sees (F.state flash.new) (flash_slot_bytes * target.slots.next) open_switch) }
     ensures opens { AtAnyMoment (F.state flash.old) (F.state flash.new) (F.found_since flash.old) (F.found_since flash.new)
         (λ all found. (found ≡ all) ⊎ WasReady F.state target.place stream.now (F.state flash.new)) }
-    ensures fault { IfErr result (EndFails stream.now (F.state flash.old) (F.state flash.new)) }
-    ensures only { OnlyUses (F.state flash.old) (F.state flash.new) }
+    ensures fault { IfErr result (HasLateCause stream.now (F.state flash.old) (F.state flash.new)) }
+    ensures only_uses { OnlyUses (F.state flash.old) (F.state flash.new) }
 {
     verify_stream(flash, target.place, stream, buffer)?;
     match open_slot(flash, target.slots.next) {
@@ -76,27 +76,27 @@ fn read_back_and_open<F: Flash>(
     verify_switch(flash, target.slots.next)
 }
 
-/// Updates a flash with a stream: the open slot is spent, the stream is written at its place with FF after it and read
-/// back, and the next slot is opened.
+/// Updates a flash with a stream: the open slot is spent, the stream is written at its place with FF after it and
+/// verified, and the next slot is opened.
 ///
 /// Power may be lost at any moment. What is found then is the flash as it was, or a flash without an open slot, whose
 /// golden stream stands, or the updated flash.
 pub fn update<F: Flash>(alloc: Global, flash: &mut F, stream: &[u8]) -> Result<(), UpdateFault>
     requires { (F.state flash.old).attached ≡ true }
     ensures updated { OnOk result (Becomes (F.state flash.old) (F.state flash.new) (IsAfterUpdate stream.now)) }
-    ensures layout { OnOk result (IfKnown (F.state flash.old).bytes HasLayout) }
+    ensures updatable { OnOk result (IfKnown (F.state flash.old).bytes IsUpdatable) }
     ensures found { (found : List ℕ) → F.found_since flash.new (F.state flash.old).moments found →
         IfKnown (F.state flash.old).bytes (λ all. MayBeLeft stream.now all found) }
     ensures any_moment { AtAnyMoment (F.state flash.old) (F.state flash.new) (F.found_since flash.old) (F.found_since flash.new)
         (MayBeLeft stream.now) }
-    ensures read_back { OnOk result (AllReadBack F.state stream.now (F.state flash.old) (F.state flash.new)) }
+    ensures verified { OnOk result (AllVerified F.state stream.now (F.state flash.old) (F.state flash.new)) }
     ensures opens { AtAnyMoment (F.state flash.old) (F.state flash.new) (F.found_since flash.old) (F.found_since flash.new)
-        (OpensReadBack F.state stream.now (F.state flash.old) (F.state flash.new)) }
+        (OpensVerified F.state stream.now (F.state flash.old) (F.state flash.new)) }
     ensures refused { IfErr result (HasCause stream.now (F.state flash.old) (F.state flash.new)) }
-    ensures complete { IfErr result (λ fault. CanBeUpdated stream.now (F.state flash.old) (F.state flash.new) → fault ≡ NoMemory) }
+    ensures complete { IfErr result (λ fault. HasNoCause stream.now (F.state flash.old) (F.state flash.new) → fault ≡ NoMemory) }
     ensures unchanged { IfErr result (λ fault. IsEarly fault →
         OnlyReads (F.state flash.old) (F.state flash.new) (F.found_since flash.old) (F.found_since flash.new)) }
-    ensures only { OnlyUses (F.state flash.old) (F.state flash.new) }
+    ensures only_uses { OnlyUses (F.state flash.old) (F.state flash.new) }
 {
     let mut buffer = Vec::new(alloc);
     let Ok(()) = buffer.resize(SECTOR_BYTES as usize, 0) else {
@@ -110,5 +110,5 @@ pub fn update<F: Flash>(alloc: Global, flash: &mut F, stream: &[u8]) -> Result<(
         Ok(()) => (),
         Err(_) => return Err(UpdateFault::Failed { writing: true }),
     }
-    read_back_and_open(flash, target, stream, &mut buffer)
+    verify_and_open(flash, target, stream, &mut buffer)
 }

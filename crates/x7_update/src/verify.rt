@@ -1,13 +1,13 @@
-//! What an update has written is read back and compared.
+//! What an update has written is verified: read again and compared.
 ghost use Rattle.std.specs.Prelude.{◌≡◌, ◌+◌, ◌*◌, ◌<◌, ◌≤◌, ◌^◌, ℕ, List, true, length, IfErr, OnOk};
 ghost use Rattle.x7_words.specs.Flash.{OnlyReads, IfKnown, Sees};
-ghost use Rattle.x7_packets.specs.FlashSlot.{sector_bytes, slot_bytes, slot_count};
+ghost use Rattle.x7_packets.specs.FlashSlot.{sector_bytes, flash_slot_bytes, flash_slot_count};
 ghost use Rattle.x7_update.specs.Layout.{HasSize, IsOpen, open_switch};
-ghost use Rattle.x7_update.specs.Writing.{CanReadBack, EndFails, IsWrong, ReadsWanted, SeesWanted, wanted_at};
+ghost use Rattle.x7_update.specs.Writing.{CanVerify, HasLateCause, IsWrong, ReadsWanted, SeesWanted, wanted_at};
 
 use crate::fault::UpdateFault;
 use crate::layout::OPEN_SWITCH;
-use x7_packets::SLOT_BYTES;
+use x7_packets::FLASH_SLOT_BYTES;
 use x7_words::{ERASED_BYTE, Flash, SECTOR_BYTES};
 
 /// The byte that is wanted `after` bytes after the stream's place: the stream's, or FF after the stream.
@@ -50,10 +50,10 @@ pub(crate) fn verify_stream<F: Flash>(
     stream: &[u8],
     buffer: &mut [u8],
 ) -> Result<(), UpdateFault>
-    requires { CanReadBack (F.state flash.old) stream_place stream.now buffer.old }
+    requires { CanVerify (F.state flash.old) stream_place stream.now buffer.old }
     ensures seen { OnOk result (SeesWanted stream_place stream.now stream_place (F.state flash.old).extent (F.state flash.new)) }
-    ensures fault { IfErr result (EndFails stream.now (F.state flash.old) (F.state flash.new)) }
-    ensures only { OnlyReads (F.state flash.old) (F.state flash.new) (F.found_since flash.old) (F.found_since flash.new) }
+    ensures fault { IfErr result (HasLateCause stream.now (F.state flash.old) (F.state flash.new)) }
+    ensures only_reads { OnlyReads (F.state flash.old) (F.state flash.new) (F.found_since flash.old) (F.found_since flash.new) }
 {
     for sector in stream_place / SECTOR_BYTES..flash.size() / SECTOR_BYTES {
         verify_sector(flash, sector, stream_place, stream, buffer)?;
@@ -61,7 +61,7 @@ pub(crate) fn verify_stream<F: Flash>(
     Ok(())
 }
 
-/// Reads a sector of the update, and compares it with the stream and FF after it; those before it were read back.
+/// Reads a sector of the update, and compares it with the stream and FF after it; those before it were verified.
 fn verify_sector<F: Flash>(
     flash: &mut F,
     sector: u64,
@@ -69,13 +69,13 @@ fn verify_sector<F: Flash>(
     stream: &[u8],
     buffer: &mut [u8],
 ) -> Result<(), UpdateFault>
-    requires written { CanReadBack (F.state flash.old) stream_place stream.now buffer.old }
+    requires written { CanVerify (F.state flash.old) stream_place stream.now buffer.old }
     requires within { sector * sector_bytes + sector_bytes ≤ (F.state flash.old).extent }
     requires after { stream_place ≤ sector * sector_bytes }
     requires before { SeesWanted stream_place stream.now stream_place (sector * sector_bytes) (F.state flash.old) }
     ensures seen { OnOk result (SeesWanted stream_place stream.now stream_place (sector * sector_bytes + sector_bytes) (F.state flash.new)) }
-    ensures fault { IfErr result (EndFails stream.now (F.state flash.old) (F.state flash.new)) }
-    ensures only { OnlyReads (F.state flash.old) (F.state flash.new) (F.found_since flash.old) (F.found_since flash.new) }
+    ensures fault { IfErr result (HasLateCause stream.now (F.state flash.old) (F.state flash.new)) }
+    ensures only_reads { OnlyReads (F.state flash.old) (F.state flash.new) (F.found_since flash.old) (F.found_since flash.new) }
     ensures length { length buffer.new ≡ sector_bytes }
 {
     match flash.read_at(sector * SECTOR_BYTES, buffer) {
@@ -94,16 +94,16 @@ fn verify_sector<F: Flash>(
 pub(crate) fn verify_switch<F: Flash>(flash: &mut F, slot: u64) -> Result<(), UpdateFault>
     requires attached { (F.state flash.old).attached ≡ true }
     requires size { HasSize (F.state flash.old).extent }
-    requires slot { slot < slot_count }
+    requires slot { slot < flash_slot_count }
     requires opened { IfKnown (F.state flash.old).bytes (λ all. IsOpen all slot) }
-    ensures seen { OnOk result (Sees (F.state flash.new) (slot_bytes * slot) open_switch) }
-    ensures fault { (stream : List ℕ) → IfErr result (EndFails stream (F.state flash.old) (F.state flash.new)) }
-    ensures only { OnlyReads (F.state flash.old) (F.state flash.new) (F.found_since flash.old) (F.found_since flash.new) }
+    ensures seen { OnOk result (Sees (F.state flash.new) (flash_slot_bytes * slot) open_switch) }
+    ensures fault { (stream : List ℕ) → IfErr result (HasLateCause stream (F.state flash.old) (F.state flash.new)) }
+    ensures only_reads { OnlyReads (F.state flash.old) (F.state flash.new) (F.found_since flash.old) (F.found_since flash.new) }
 {
     let mut word = [0; 4];
-    match flash.read_at(SLOT_BYTES * slot, &mut word) {
+    match flash.read_at(FLASH_SLOT_BYTES * slot, &mut word) {
         Ok(()) => (),
         Err(_) => return Err(UpdateFault::Failed { writing: false }),
     }
-    compare(&word, 0, SLOT_BYTES * slot, &OPEN_SWITCH)
+    compare(&word, 0, FLASH_SLOT_BYTES * slot, &OPEN_SWITCH)
 }

@@ -236,8 +236,8 @@ impl<'r, R: Files> Flash for FileFlash<'r, R> {
             (WhileOpen (ReadsAt (file_tells R.File.stream_position R.File.remaining) place buf.new) self.old.file self.new.file) }
         ensures length { length buf.new ≡ length buf.old }
         ensures is_open { is_some self.new.file ≡ true }
-        ensures ok { OnOk result (self.new ≡ record self.old { file = self.new.file }) }
-        ensures err { OnErr result (self.new ≡
+        ensures no_fault { OnOk result (self.new ≡ record self.old { file = self.new.file }) }
+        ensures failed { OnErr result (self.new ≡
             record self.old { file = self.new.file; faults = raised self.old.faults }) }
         ensures faults { IsLaterCount self.old.faults self.new.faults }
     {

@@ -24,7 +24,7 @@ attempts-preserved g c =
       limit = i.limit;
       pages = pages_of (f.state c.args.flash.now).bytes (f.state c.attempts.flash).bytes (f.state c.args.flash.now).extent (f.state c.attempts.flash).extent c.try_once.new.pages.pages.entries i.flash.bytes i.flash.extent c.try_once.ensures.pages;
       no_fault = t.no_fault ∙ i.no_fault;
-      flash = reads_on _ _ _ _ _ _ i.flash t.only;
+      flash = reads_on _ _ _ _ _ _ i.flash t.only_reads;
     }
 
 pub returns-in-Ends-clause-booted : goal.returns-in-Ends-clause-booted
@@ -41,11 +41,11 @@ try_once-requires-clause-pages g c =
     let i = c.attempts.invariant in
     pages_of (f.state c.attempts.flash).bytes (f.state c.args.flash.now).bytes (f.state c.attempts.flash).extent (f.state c.args.flash.now).extent c.attempts.pages.pages.entries (sym i.flash.bytes) (sym i.flash.extent) i.pages
 
-pub returns-in_err-ending-clause-only : goal.returns-in_err-ending-clause-only
-returns-in_err-ending-clause-only g c = reads_on _ _ _ _ _ _ c.attempts.invariant.flash c.try_once.ensures.only
+pub returns-in_err-ending-clause-only_reads : goal.returns-in_err-ending-clause-only_reads
+returns-in_err-ending-clause-only_reads g c = reads_on _ _ _ _ _ _ c.attempts.invariant.flash c.try_once.ensures.only_reads
 
-pub returns-in_default-push-clause-only : goal.returns-in_default-push-clause-only
-returns-in_default-push-clause-only g c = reads_on _ _ _ _ _ _ c.attempts.invariant.flash c.try_once.ensures.only
+pub returns-in_default-push-clause-only_reads : goal.returns-in_default-push-clause-only_reads
+returns-in_default-push-clause-only_reads g c = reads_on _ _ _ _ _ _ c.attempts.invariant.flash c.try_once.ensures.only_reads
 
 -- ---- an attempt that was not read
 

@@ -26,7 +26,7 @@ pub returns-then-place-size-clause-tried : goal.returns-then-place-size-clause-t
 returns-then-place-size-clause-tried g c =
     let f = c.pages.invariant.feeds in
     known_out c.args.device.now.part c.args.kept c.args.address (g.F.Flash.state c.args.flash.now).bytes c.pages.device c.run_out.new.device c.pages.place c.size-size.result c.run_out.result f c.if-place-size.true
-    (subst (λ (n : ℕ). IfKnown (g.F.Flash.state c.args.flash.now).bytes (λ all. n ≡ length all)) (sym c.size-size.ensures.extent) c.size-size.ensures.known_length) (c.run_out.ensures.stands c.args.device.now.part c.args.kept f.bytes f.stands) c.run_out.ensures.ending
+    (subst (λ (n : ℕ). IfKnown (g.F.Flash.state c.args.flash.now).bytes (λ all. n ≡ length all)) (sym c.size-size.ensures.extent) c.size-size.ensures.known_length) (c.run_out.ensures.wrapped c.args.device.now.part c.args.kept f.bytes f.stands) c.run_out.ensures.ending
 
 pub pages-preserved : goal.pages-preserved
 pages-preserved g c =
@@ -42,7 +42,7 @@ pages-preserved g c =
       feeds = feeds_on c.args.device.now.part c.args.kept c.args.address (g.F.Flash.state c.args.flash.now).bytes c.pages.device c.take_page.new.device c.bytes_from-bytes.result.now c.pages.place (c.pages.place + length c.bytes_from-bytes.result.now) c.take_page.result refl f from.bytes_are t c.in-GoesOn.is;
       kept = are;
       no_fault = c.in_ok-loaded.ensures.no_fault ∙ c.pages.invariant.no_fault;
-      flash = reads_on _ _ _ _ _ _ c.pages.invariant.flash c.in_ok-loaded.ensures.only;
+      flash = reads_on _ _ _ _ _ _ c.pages.invariant.flash c.in_ok-loaded.ensures.only_reads;
       size = c.pages.invariant.size;
     }
 
@@ -74,7 +74,7 @@ returns-in-Stops-clause-tried g c =
     let from = c.bytes_from-bytes.ensures known extent below are read in
     let t = c.take_page.ensures c.args.device.now.part c.args.kept f.bytes f.stands f.going f.not_ended in
     known_stopped c.args.device.now.part c.args.kept c.args.address (g.F.Flash.state c.args.flash.now).bytes c.pages.device c.take_page.new.device c.run_out-in-Stops.new.device c.bytes_from-bytes.result.now c.pages.place c.take_page.result c.run_out-in-Stops.result f from.bytes_are t c.in-Stops.is
-    (c.run_out-in-Stops.ensures.stands c.args.device.now.part c.args.kept _ t.stands) c.run_out-in-Stops.ensures.ending
+    (c.run_out-in-Stops.ensures.wrapped c.args.device.now.part c.args.kept _ t.stands) c.run_out-in-Stops.ensures.ending
 
 pub returns-then-place-size-clause-pages : goal.returns-then-place-size-clause-pages
 returns-then-place-size-clause-pages g c = c.pages.invariant.kept
@@ -140,8 +140,8 @@ returns-in_err-loaded-clause-pages g c =
     let i = c.pages.invariant in
     pages_of (g.F.Flash.state c.args.flash.now).bytes (g.F.Flash.state c.pages.flash).bytes (g.F.Flash.state c.args.flash.now).extent (g.F.Flash.state c.pages.flash).extent c.load.new.self.pages.entries i.flash.bytes i.flash.extent c.load.ensures.pages
 
-pub returns-in_err-loaded-clause-only : goal.returns-in_err-loaded-clause-only
-returns-in_err-loaded-clause-only g c = reads_on _ _ _ _ _ _ c.pages.invariant.flash c.load.ensures.only
+pub returns-in_err-loaded-clause-only_reads : goal.returns-in_err-loaded-clause-only_reads
+returns-in_err-loaded-clause-only_reads g c = reads_on _ _ _ _ _ _ c.pages.invariant.flash c.load.ensures.only_reads
 
 -- ---- an attempt that ended
 
@@ -150,13 +150,13 @@ returns-in-Ends-clause-pages g c =
     let i = c.pages.invariant in
     pages_of (g.F.Flash.state c.args.flash.now).bytes (g.F.Flash.state c.pages.flash).bytes (g.F.Flash.state c.args.flash.now).extent (g.F.Flash.state c.pages.flash).extent c.load.new.self.pages.entries i.flash.bytes i.flash.extent c.load.ensures.pages
 
-pub returns-in-Ends-clause-only : goal.returns-in-Ends-clause-only
-returns-in-Ends-clause-only g c = reads_on _ _ _ _ _ _ c.pages.invariant.flash c.in_ok-loaded.ensures.only
+pub returns-in-Ends-clause-only_reads : goal.returns-in-Ends-clause-only_reads
+returns-in-Ends-clause-only_reads g c = reads_on _ _ _ _ _ _ c.pages.invariant.flash c.in_ok-loaded.ensures.only_reads
 
 pub returns-in-Stops-clause-pages : goal.returns-in-Stops-clause-pages
 returns-in-Stops-clause-pages g c =
     let i = c.pages.invariant in
     pages_of (g.F.Flash.state c.args.flash.now).bytes (g.F.Flash.state c.pages.flash).bytes (g.F.Flash.state c.args.flash.now).extent (g.F.Flash.state c.pages.flash).extent c.load.new.self.pages.entries i.flash.bytes i.flash.extent c.load.ensures.pages
 
-pub returns-in-Stops-clause-only : goal.returns-in-Stops-clause-only
-returns-in-Stops-clause-only g c = reads_on _ _ _ _ _ _ c.pages.invariant.flash c.in_ok-loaded.ensures.only
+pub returns-in-Stops-clause-only_reads : goal.returns-in-Stops-clause-only_reads
+returns-in-Stops-clause-only_reads g c = reads_on _ _ _ _ _ _ c.pages.invariant.flash c.in_ok-loaded.ensures.only_reads

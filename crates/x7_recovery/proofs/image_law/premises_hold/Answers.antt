@@ -19,4 +19,4 @@ pub returns-clause-prepared : goal.returns-clause-prepared
 returns-clause-prepared c = tiny_prepared
 
 pub returns-clause-torn : goal.returns-clause-torn
-returns-clause-torn c = λ stream. left_torn tiny nothing_planned [] stream tiny_image tt (tiny_prepared stream).layout
+returns-clause-torn c = λ stream. left_torn tiny nothing_planned [] stream tiny_image tt (tiny_prepared stream).updatable

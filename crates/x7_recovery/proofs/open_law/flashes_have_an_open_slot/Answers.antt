@@ -4,8 +4,8 @@ use Rattle.x7_recovery.proofs.open_law.flashes_have_an_open_slot.Goals as goal
 pub returns-clause-image : goal.returns-clause-image
 returns-clause-image c = image_is_opened
 
-pub returns-clause-layout : goal.returns-clause-layout
-returns-clause-layout c = open_is_opened
+pub returns-clause-updatable : goal.returns-clause-updatable
+returns-clause-updatable c = open_is_opened
 
 pub returns-clause-after : goal.returns-clause-after
 returns-clause-after c = after_is_opened

@@ -4,7 +4,7 @@ use Rattle.x7_words.specs.Flash.{IfKnown}
 use Rattle.x7_words.proofs.InputLemmas.{few_at, few_more, stays_at}
 use Rattle.x7_boot.specs.Image.{flash_limit}
 use Rattle.x7_update.specs.After.{IsAfterUpdate}
-use Rattle.x7_update.specs.Layout.{HasLayout}
+use Rattle.x7_update.specs.Layout.{IsUpdatable}
 use Rattle.x7_update.specs.Writing.{BecomesBytes}
 use Rattle.x7_forms.specs.Event.{Event, event_of}
 use Rattle.x7_forms.specs.Form.{UpdatingFlash}
@@ -68,11 +68,11 @@ returns-in-Ok-clause-answered g c = λ before after out.
     let new : Outside = record after { inputs = i.state c.read_stream.new.inputs; flash = last } in
     let within = subst (λ (o : Option (List ℕ)). IfKnown o (λ all. length all ≤ flash_limit)) same c.in_ok-open_flash.ensures.within in
     let has = data_given (with_inputs old.inputs.contents first.bytes) (CameIn (step_over (stream ∷ []) old.inputs new.inputs)) stream (data_from read) bytes (c.in_ok-read.ensures.caused first.bytes) (rest_of c.deref.result.now read.bytes.items read.start c.deref.ensures.value) in
-    let layout = subst (λ (o : Option (List ℕ)). IfKnown o HasLayout) same c.in-Ok.ensures.layout in
+    let updatable = subst (λ (o : Option (List ℕ)). IfKnown o IsUpdatable) same c.in-Ok.ensures.updatable in
     let becomes = subst (λ (o : Option (List ℕ)). BecomesBytes (IsAfterUpdate bytes) o last.bytes) same c.in-Ok.ensures.updated in
-    let size = subst (λ (n : ℕ). n ≤ flash_limit) (sym c.update.ensures.only.extent) c.in_ok-open_flash.ensures.size in
+    let size = subst (λ (n : ℕ). n ≤ flash_limit) (sym c.update.ensures.only_uses.extent) c.in_ok-open_flash.ensures.size in
     record {
-      ends = done_ends c.args.flash_name.now stream bytes old new out within has layout size becomes;
+      ends = done_ends c.args.flash_name.now stream bytes old new out within has updatable size becomes;
       stops = tt;
       judges = tt;
       asks = c.read_stream.ensures.asks;
@@ -89,7 +89,7 @@ returns-in-Ok-clause-flash g c =
     let old = i.state c.args.inputs.now in
     let new = i.state c.read_stream.new.inputs in
     let has = data_given (with_inputs old.contents first.bytes) (CameIn (step_over (stream ∷ []) old new)) stream (data_from read) bytes (c.in_ok-read.ensures.caused first.bytes) (rest_of c.deref.result.now read.bytes.items read.start c.deref.ensures.value) in
-    uses_updated c.args.flash_name.now stream bytes old first (g.F.Flash.state c.open_flash.new.flash) (g.F.Flash.state c.update.new.flash) _ _ _ c.open_flash.ensures.stays c.open_flash.ensures.asks has c.update.ensures.only c.update.ensures.any_moment
+    uses_updated c.args.flash_name.now stream bytes old first (g.F.Flash.state c.open_flash.new.flash) (g.F.Flash.state c.update.new.flash) _ _ _ c.open_flash.ensures.stays c.open_flash.ensures.asks has c.update.ensures.only_uses c.update.ensures.any_moment
 
 pub returns-clause-answered : goal.returns-clause-answered
 returns-clause-answered g c = λ before after out.
@@ -107,14 +107,14 @@ returns-clause-answered g c = λ before after out.
     let within = subst (λ (o : Option (List ℕ)). IfKnown o (λ all. length all ≤ flash_limit)) stays.bytes c.in_ok-open_flash.ensures.within in
     let has = data_given (with_inputs old.inputs.contents first.bytes) (CameIn (step_over (stream ∷ []) old.inputs new.inputs)) stream (data_from read) bytes (c.in_ok-read.ensures.caused first.bytes) (rest_of c.deref.result.now read.bytes.items read.start c.deref.ensures.value) in
     let reads = data_given (with_inputs old.inputs.contents None) (CameIn (step_over (stream ∷ []) old.inputs new.inputs)) stream (data_from read) bytes (c.in_ok-read.ensures.caused None) (rest_of c.deref.result.now read.bytes.items read.start c.deref.ensures.value) in
-    let size = subst (λ (n : ℕ). n ≤ flash_limit) (sym c.update.ensures.only.extent) c.in_ok-open_flash.ensures.size in
-    let asked = subst (λ (names : List ℕ → Bool). IsTrue (names name)) (sym c.update.ensures.only.names) c.open_flash.ensures.asks.asked in
+    let size = subst (λ (n : ℕ). n ≤ flash_limit) (sym c.update.ensures.only_uses.extent) c.in_ok-open_flash.ensures.size in
+    let asked = subst (λ (names : List ℕ → Bool). IsTrue (names name)) (sym c.update.ensures.only_uses.names) c.open_flash.ensures.asks.asked in
     let cause = cause_from bytes first mid last c.in-Err.fault stays.bytes stays.unwritten.write_faults stays.faults c.in-Err.ensures.refused in
     record {
       ends = subst (λ (e : Event). EndsAs (Some (UpdatingFlash name stream)) old new (Err e)) (sym c.refusal_of.ensures)
           (fault_ends name stream bytes old new c.in-Err.fault out asked within has reads size cause (λ early. let only = c.in-Err.ensures.unchanged early in only.bytes ∙ stays.bytes));
       stops = updated_stops c.args.flash_name.now c.args.stream.now (g.I.Inputs.state c.args.inputs.now) (g.I.Inputs.state c.read_stream.new.inputs) c.in-Err.fault (event_of c.refusal_of.result) c.refusal_of.ensures c.read_stream.ensures.stands c.read_stream.ensures.asks;
-      judges = updated_judges c.args.flash_name.now c.args.stream.now (sources (g.I.Inputs.state c.args.inputs.now) (g.F.Flash.state c.args.flash.now)) (sources (g.I.Inputs.state c.read_stream.new.inputs) (g.F.Flash.state c.update.new.flash)) c.in-Err.fault (event_of c.refusal_of.result) c.refusal_of.ensures (c.update.ensures.only.attached ∙ c.in_ok-open_flash.ensures.attached);
+      judges = updated_judges c.args.flash_name.now c.args.stream.now (sources (g.I.Inputs.state c.args.inputs.now) (g.F.Flash.state c.args.flash.now)) (sources (g.I.Inputs.state c.read_stream.new.inputs) (g.F.Flash.state c.update.new.flash)) c.in-Err.fault (event_of c.refusal_of.result) c.refusal_of.ensures (c.update.ensures.only_uses.attached ∙ c.in_ok-open_flash.ensures.attached);
       asks = c.read_stream.ensures.asks;
       stays = c.read_stream.ensures.inputs;
     }
@@ -129,7 +129,7 @@ returns-clause-flash g c =
     let old = i.state c.args.inputs.now in
     let new = i.state c.read_stream.new.inputs in
     let has = data_given (with_inputs old.contents first.bytes) (CameIn (step_over (stream ∷ []) old new)) stream (data_from read) bytes (c.in_ok-read.ensures.caused first.bytes) (rest_of c.deref.result.now read.bytes.items read.start c.deref.ensures.value) in
-    uses_updated c.args.flash_name.now stream bytes old first (g.F.Flash.state c.open_flash.new.flash) (g.F.Flash.state c.update.new.flash) _ _ _ c.open_flash.ensures.stays c.open_flash.ensures.asks has c.update.ensures.only c.update.ensures.any_moment
+    uses_updated c.args.flash_name.now stream bytes old first (g.F.Flash.state c.open_flash.new.flash) (g.F.Flash.state c.update.new.flash) _ _ _ c.open_flash.ensures.stays c.open_flash.ensures.asks has c.update.ensures.only_uses c.update.ensures.any_moment
 
 pub returns-in_err-open_flash-clause-flash : goal.returns-in_err-open_flash-clause-flash
 returns-in_err-open_flash-clause-flash g c =

@@ -11,14 +11,14 @@ returns-clause-found c =
     let is : c.from-place.result ≡ update_place c.args.first_sector.now = c.from-place.ensures ∙ c.word_of.ensures.value ∙ ap word_of_bytes c.four_at.ensures in
     let P : ℕ → Type 0 = λ u. CanStandAt c.args.size u in
     all_found c.args.size c.args.first_sector.now (record { place = c.from-place.result; slots = c.in_ok-slots.slots }) c.requires.size
-    (subst P is (c.can_stand.ensures.0 c.if-not-can_stand.false)) c.in_ok-slots.ensures.slots c.if-slots-ge-SLOT_COUNT.false is
+    (subst P is (c.can_stand.ensures.0 c.if-not-can_stand.false)) c.in_ok-slots.ensures.slots c.if-slots-ge-FLASH_SLOT_COUNT.false is
 
-pub returns-then-slots-ge-SLOT_COUNT-clause-no_layout : goal.returns-then-slots-ge-SLOT_COUNT-clause-no_layout
-returns-then-slots-ge-SLOT_COUNT-clause-no_layout c =
+pub returns-then-slots-ge-FLASH_SLOT_COUNT-clause-no_layout : goal.returns-then-slots-ge-FLASH_SLOT_COUNT-clause-no_layout
+returns-then-slots-ge-FLASH_SLOT_COUNT-clause-no_layout c =
     let is : c.from-place.result ≡ update_place c.args.first_sector.now = c.from-place.ensures ∙ c.word_of.ensures.value ∙ ap word_of_bytes c.four_at.ensures in
     let P : ℕ → Type 0 = λ u. CanStandAt c.args.size u in
     none_free c.args.size c.args.first_sector.now c.in_ok-slots.slots 65504
-    (record { sized = c.requires.size; leads = c.in_default.ensures.leads; place = subst P is (c.can_stand.ensures.0 c.if-not-can_stand.false) }) c.in_ok-slots.ensures.slots c.if-slots-ge-SLOT_COUNT.true refl
+    (record { sized = c.requires.size; leads = c.in_default.ensures.leads; place = subst P is (c.can_stand.ensures.0 c.if-not-can_stand.false) }) c.in_ok-slots.ensures.slots c.if-slots-ge-FLASH_SLOT_COUNT.true refl
 
 pub returns-in_err-slots-clause-no_layout : goal.returns-in_err-slots-clause-no_layout
 returns-in_err-slots-clause-no_layout c =

@@ -1,6 +1,6 @@
 use Rattle.std.proofs.Common.{◌≡◌, ◌+◌, ◌-◌, ◌*◌, ℕ, length, IfErr, arith, subst, ◌∙◌}
 use Rattle.x7_update.specs.Writing.{IsWrong, wanted_at}
-use Rattle.x7_update.proofs.BackLemmas.{stream_fails}
+use Rattle.x7_update.proofs.VerifyLemmas.{stream_fails}
 use Rattle.x7_update.proofs.ReadyLemmas.{sees_wanted}
 use Rattle.x7_update.proofs.verify.verify_sector.Goals as goal
 

@@ -1,8 +1,8 @@
 use Rattle.std.proofs.Common.{◌≤◌, ◌+◌, ◌*◌, IfErr, sym, ◌∙◌, arith, rules}
 use Rattle.x7_words.proofs.FlashLemmas.{reads_on}
-use Rattle.x7_update.specs.Writing.{EndFails}
-use Rattle.x7_update.proofs.BackLemmas.{fails_since}
-use Rattle.x7_update.proofs.ReadyLemmas.{sees_up_to, still_read_back}
+use Rattle.x7_update.specs.Writing.{HasLateCause}
+use Rattle.x7_update.proofs.VerifyLemmas.{fails_since}
+use Rattle.x7_update.proofs.ReadyLemmas.{sees_up_to, can_still_verify}
 use Rattle.x7_update.proofs.verify.verify_stream.Goals as goal
 
 pub loop-sector-preserved : goal.loop-sector-preserved
@@ -11,7 +11,7 @@ loop-sector-preserved g c =
     let mid = g.F.Flash.state c.loop-sector.flash in
     let last = g.F.Flash.state c.verify_sector.new.flash in
     record {
-      only = reads_on first mid last _ _ _ c.loop-sector.invariant.only c.verify_sector.ensures.only;
+      only = reads_on first mid last _ _ _ c.loop-sector.invariant.only c.verify_sector.ensures.only_reads;
       buffer = c.verify_sector.ensures.length;
       seen = sees_up_to c.args.stream_place c.args.stream.now c.args.stream_place (c.loop-sector.sector * 65536 + 65536) ((c.loop-sector.sector + 1) * 65536) last (omega arith) c.in_ok-verify_sector.ensures.seen;
     }
@@ -27,11 +27,11 @@ returns-in_err-verify_sector-clause-fault g c =
     let first = g.F.Flash.state c.args.flash.now in
     let mid = g.F.Flash.state c.loop-sector.flash in
     let only = c.loop-sector.invariant.only in
-    let since : IfErr c.verify_sector.result (EndFails c.args.stream.now first (g.F.Flash.state c.verify_sector.new.flash)) =
+    let since : IfErr c.verify_sector.result (HasLateCause c.args.stream.now first (g.F.Flash.state c.verify_sector.new.flash)) =
     fails_since c.args.stream.now first mid (g.F.Flash.state c.verify_sector.new.flash) c.verify_sector.result only.faults (omega (arith, only.unwritten.write_faults)) (λ none. sym only.bytes ∙ none) c.verify_sector.ensures.fault in
     search rules
 
 pub verify_sector-requires-clause-written : goal.verify_sector-requires-clause-written
 verify_sector-requires-clause-written g c =
     let i = c.loop-sector.invariant in
-    still_read_back (g.F.Flash.state c.args.flash.now) (g.F.Flash.state c.loop-sector.flash) c.args.stream_place c.args.stream.now c.args.buffer.now c.loop-sector.buffer i.only.attached i.only.extent i.only.bytes i.buffer c.requires
+    can_still_verify (g.F.Flash.state c.args.flash.now) (g.F.Flash.state c.loop-sector.flash) c.args.stream_place c.args.stream.now c.args.buffer.now c.loop-sector.buffer i.only.attached i.only.extent i.only.bytes i.buffer c.requires

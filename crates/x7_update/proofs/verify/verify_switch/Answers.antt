@@ -1,7 +1,7 @@
 use Rattle.std.proofs.Common.{◌≡◌, ◌+◌, ◌*◌, ℕ, IfErr, arith, subst}
 use Rattle.x7_update.specs.Layout.{open_switch}
 use Rattle.x7_update.specs.Writing.{IsWrong}
-use Rattle.x7_update.proofs.BackLemmas.{switch_fails}
+use Rattle.x7_update.proofs.VerifyLemmas.{switch_fails}
 use Rattle.x7_update.proofs.ReadyLemmas.{sees_open}
 use Rattle.x7_update.proofs.verify.verify_switch.Goals as goal
 

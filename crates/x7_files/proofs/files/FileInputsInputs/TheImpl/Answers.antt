@@ -21,13 +21,13 @@ read-tells g c =
     let old = c.args.self.now in
     let new = c.new.self.now in
     record {
-      read = read_ok old new c.new.buf.now c.result c.requires (within_buffer c.result (length c.args.buf.now) (length c.new.buf.now) c.ensures.length c.ensures.within) c.ensures.ok;
+      read = read_ok old new c.new.buf.now c.result c.requires (within_buffer c.result (length c.args.buf.now) (length c.new.buf.now) c.ensures.length c.ensures.within) c.ensures.counted;
       within = c.ensures.within;
       end = unknown_read c.result (length c.args.buf.now);
       length = c.ensures.length;
-      no_end = read_no_end old new c.result c.ensures.ok;
-      failed = failed_read old new c.result c.ensures.err;
-      asks = record { asked = refl; selects = read_selects old new c.result c.ensures.ok c.ensures.err; ends = c.ensures.at_most_one_more };
+      no_end = read_no_end old new c.result c.ensures.counted;
+      failed = failed_read old new c.result c.ensures.failed;
+      asks = record { asked = refl; selects = read_selects old new c.result c.ensures.counted c.ensures.failed; ends = c.ensures.at_most_one_more };
       stays = record { map = refl; faults = c.ensures.counts.faults.rises; absences = c.ensures.counts.absences.rises };
       fits = (c.ensures.counts.faults.fits, c.ensures.counts.absences.fits);
     }

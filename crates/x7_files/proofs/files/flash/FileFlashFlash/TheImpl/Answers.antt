@@ -30,9 +30,9 @@ read_at-tells g c =
       read = unknown_read_at c.result;
       length = c.ensures.length;
       seen = on_ok c.result (λ i h. refl);
-      no_fault = quiet_read_at old new new.file c.result c.ensures.ok;
-      failed = failed_read_at old new new.file c.result c.ensures.err;
-      only = only_reads old new c.result c.requires.attached c.ensures.is_open c.ensures.ok c.ensures.err c.ensures.faults.rises;
+      no_fault = quiet_read_at old new new.file c.result c.ensures.no_fault;
+      failed = failed_read_at old new new.file c.result c.ensures.failed;
+      only = only_reads old new c.result c.requires.attached c.ensures.is_open c.ensures.no_fault c.ensures.failed c.ensures.faults.rises;
       known_length = tt;
       fits = c.ensures.faults.fits;
     }
@@ -46,8 +46,8 @@ erase-tells g c =
       torn = unknown_torn c.result;
       passes = unknown_passes;
       moment = omega arith;
-      failed = failed_write old new new.file c.result c.ensures.err;
-      only = only_writes old new c.result c.requires.attached c.ensures.is_open c.ensures.ok c.ensures.err c.ensures.write_faults.rises;
+      failed = failed_write old new new.file c.result c.ensures.failed;
+      only = only_writes old new c.result c.requires.attached c.ensures.is_open c.ensures.no_fault c.ensures.failed c.ensures.write_faults.rises;
       known_length = tt;
       fits = c.ensures.write_faults.fits;
     }
@@ -61,8 +61,8 @@ program-tells g c =
       torn = unknown_torn c.result;
       passes = unknown_passes;
       moment = omega arith;
-      failed = failed_write old new new.file c.result c.ensures.err;
-      only = only_writes old new c.result c.requires.attached c.ensures.is_open c.ensures.ok c.ensures.err c.ensures.write_faults.rises;
+      failed = failed_write old new new.file c.result c.ensures.failed;
+      only = only_writes old new c.result c.requires.attached c.ensures.is_open c.ensures.no_fault c.ensures.failed c.ensures.write_faults.rises;
       known_length = tt;
       fits = c.ensures.write_faults.fits;
     }

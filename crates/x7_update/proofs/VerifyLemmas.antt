@@ -1,4 +1,4 @@
--- Lemmas on bytes that are read back: one that is another than the one wanted there is a byte that
+-- Lemmas on bytes that are read to verify them: one that is another than the one wanted there is a byte that
 -- an update writes, and none of known bytes.
 use Rattle.std.proofs.Common.{◌≡◌, ℕ, ◌+◌, ◌-◌, ◌*◌, ◌<◌, ◌≤◌, IsTrue, true, false, List, length, Option, None, Some, option_map, Result, Ok, Err, IfErr, get_or, slice_range, refl, ap, sym, subst, ◌∙◌, arith}
 use Rattle.x7_words.specs.Flash.{FlashState, IfKnown, Sees}
@@ -6,7 +6,7 @@ use Rattle.x7_words.proofs.CountLemmas.{risen_from}
 use Rattle.x7_words.proofs.FlashLemmas.{get_or_slice_range}
 use Rattle.x7_update.specs.Layout.{CanStandAt, HasSize, IsOpen, open_switch}
 use Rattle.x7_update.specs.Fault.{CanTake, HasCause}
-use Rattle.x7_update.specs.Writing.{BecomesBytes, EndFails, HasWanted, IsWritten, IsWrong, SeesWanted, in_stream, in_switch, wanted_at}
+use Rattle.x7_update.specs.Writing.{BecomesBytes, HasLateCause, HasWanted, IsWritten, IsWrong, SeesWanted, in_stream, in_switch, wanted_at}
 use Rattle.x7_update.specs.declared.fault.UpdateFault.{UpdateFault}
 use Rattle.x7_update.specs.declared.fault.UpdateFault.TheVariants.{Differs, Failed, NoLayout, NoMemory, TooLong}
 use Rattle.x7_update.proofs.ReadyLemmas.{sees_to}
@@ -29,7 +29,7 @@ not_known (Some all) from piece place count buffer at wrote read long r h w =
 
 -- a fault of what was read from a place on and compared with what is wanted there
 wrong_fails : (from : ℕ) (piece : List ℕ) (place count end : ℕ) (buffer stream : List ℕ) (old new : FlashState) (fault : UpdateFault) → length buffer ≡ count → Sees new place buffer → HasSize new.extent → IfKnown old.bytes (λ all. buffer ≡ slice_range all place (place + count))
-    → IfKnown old.bytes (AreWanted from piece place count) → IsWritten new.extent stream piece from end → from ≤ place → place + count ≤ end → SeesWanted from piece from place new → IsWrong from piece place buffer fault → EndFails stream old new fault
+    → IfKnown old.bytes (AreWanted from piece place count) → IsWritten new.extent stream piece from end → from ≤ place → place + count ≤ end → SeesWanted from piece from place new → IsWrong from piece place buffer fault → HasLateCause stream old new fault
 wrong_fails from piece place count end buffer stream old new (Differs at wrote read) long seen sized r h written after within had w = (
   record {
     sized = sized;
@@ -55,7 +55,7 @@ wrong_fails from piece place count end buffer stream old new (NoLayout at) long 
 wrong_fails from piece place count end buffer stream old new NoMemory long seen sized r h written after within had w = absurd w
 
 compared_fails : (from : ℕ) (piece : List ℕ) (place count end : ℕ) (buffer stream : List ℕ) (old new : FlashState) (result : Result (Unit {0}) UpdateFault) → length buffer ≡ count → Sees new place buffer → HasSize new.extent → IfKnown old.bytes (λ all. buffer ≡ slice_range all place (place + count))
-    → IfKnown old.bytes (AreWanted from piece place count) → IsWritten new.extent stream piece from end → from ≤ place → place + count ≤ end → SeesWanted from piece from place new → IfErr result (IsWrong from piece place buffer) → IfErr result (EndFails stream old new)
+    → IfKnown old.bytes (AreWanted from piece place count) → IsWritten new.extent stream piece from end → from ≤ place → place + count ≤ end → SeesWanted from piece from place new → IfErr result (IsWrong from piece place buffer) → IfErr result (HasLateCause stream old new)
 compared_fails from piece place count end buffer stream old new (Ok _) long seen sized r h written after within had w = tt
 compared_fails from piece place count end buffer stream old new (Err fault) long seen sized r h written after within had w =
     wrong_fails from piece place count end buffer stream old new fault long seen sized r h written after within had w
@@ -66,10 +66,10 @@ stream_wanted : (known : Option (List ℕ)) (update : ℕ) (stream : List ℕ) (
 stream_wanted None update stream place count size after within s h = tt
 stream_wanted (Some all) update stream place count size after within s h = λ i l. h (place + i) (omega arith) (omega (arith, s))
 
--- this many bytes of the stream, or of FF after it, were read back from a place on
+-- this many bytes of the stream, or of FF after it, were verified from a place on
 pub stream_fails : (update : ℕ) (stream : List ℕ) (place count : ℕ) (buffer : List ℕ) (old new : FlashState) (result : Result (Unit {0}) UpdateFault) → length buffer ≡ count → Sees new place buffer → new.extent ≡ old.extent → HasSize old.extent → CanStandAt old.extent update
     → update + length stream ≤ old.extent → update ≤ place → place + count ≤ old.extent → IfKnown old.bytes (λ all. old.extent ≡ length all) → IfKnown old.bytes (HasWanted update stream)
-    → IfKnown old.bytes (λ all. buffer ≡ slice_range all place (place + count)) → SeesWanted update stream update place new → IfErr result (IsWrong update stream place buffer) → IfErr result (EndFails stream old new)
+    → IfKnown old.bytes (λ all. buffer ≡ slice_range all place (place + count)) → SeesWanted update stream update place new → IfErr result (IsWrong update stream place buffer) → IfErr result (HasLateCause stream old new)
 stream_fails update stream place count buffer old new result long seen same sized stands fits after within counted wanted r had w =
     compared_fails update stream place count new.extent buffer stream old new result long seen (subst HasSize (sym same) sized) r (stream_wanted old.bytes update stream place count old.extent after within counted wanted)
     (in_stream (subst (λ (n : ℕ). CanStandAt n update) (sym same) stands) (omega (arith, same, fits)) refl refl) after (omega (arith, same, within)) had w
@@ -84,9 +84,9 @@ switch_wanted (Some all) slot h = λ i l.
     let short : place + i - place < 4 = omega arith in
     same_four all open_switch place 0 i h l ∙ ap (λ k. get_or open_switch k 0) at ∙ sym (wanted_inside place open_switch (place + i) short)
 
--- the switch word of a slot that was opened was read back
+-- the switch word of a slot that was opened was verified
 pub switch_fails : (slot : ℕ) (buffer stream : List ℕ) (old new : FlashState) (result : Result (Unit {0}) UpdateFault) → length buffer ≡ 4 → Sees new (32 * slot) buffer → new.extent ≡ old.extent → HasSize old.extent → slot < 2048 → IfKnown old.bytes (λ all. IsOpen all slot)
-    → IfKnown old.bytes (λ all. buffer ≡ slice_range all (32 * slot) (32 * slot + 4)) → IfErr result (IsWrong (32 * slot) open_switch (32 * slot) buffer) → IfErr result (EndFails stream old new)
+    → IfKnown old.bytes (λ all. buffer ≡ slice_range all (32 * slot) (32 * slot + 4)) → IfErr result (IsWrong (32 * slot) open_switch (32 * slot) buffer) → IfErr result (HasLateCause stream old new)
 switch_fails slot buffer stream old new result long seen same sized h opened r w =
     compared_fails (32 * slot) open_switch (32 * slot) 4 (32 * slot + 4) buffer stream old new result long seen (subst HasSize (sym same) sized) r (switch_wanted old.bytes slot opened) (in_switch slot h refl refl refl) (omega arith) (omega arith)
     (λ place l below. absurd (omega (arith, l, below))) w
@@ -103,7 +103,7 @@ pub was_unknown : (f : List ℕ → List ℕ) (known : Option (List ℕ)) → op
 was_unknown f None e = refl
 was_unknown f (Some all) e = absurd (cc)
 
-fails_before : (stream : List ℕ) (a b c : FlashState) (fault : UpdateFault) → a.faults ≤ b.faults → a.write_faults ≤ b.write_faults → (b.bytes ≡ None → a.bytes ≡ None) → EndFails stream b c fault → EndFails stream a c fault
+fails_before : (stream : List ℕ) (a b c : FlashState) (fault : UpdateFault) → a.faults ≤ b.faults → a.write_faults ≤ b.write_faults → (b.bytes ≡ None → a.bytes ≡ None) → HasLateCause stream b c fault → HasLateCause stream a c fault
 fails_before stream a b c (Differs at wrote read) r w e h = (h.0, e h.1, h.2)
 fails_before stream a b c (Failed true) r w e h = risen_from a.write_faults b.write_faults c.write_faults w h
 fails_before stream a b c (Failed false) r w e h = risen_from a.faults b.faults c.faults r h
@@ -112,12 +112,12 @@ fails_before stream a b c (NoLayout at) r w e h = h
 fails_before stream a b c NoMemory r w e h = h
 
 -- why the end of an update fails, since before a call
-pub fails_since : (stream : List ℕ) (a b c : FlashState) (result : Result (Unit {0}) UpdateFault) → a.faults ≤ b.faults → a.write_faults ≤ b.write_faults → (b.bytes ≡ None → a.bytes ≡ None) → IfErr result (EndFails stream b c) → IfErr result (EndFails stream a c)
+pub fails_since : (stream : List ℕ) (a b c : FlashState) (result : Result (Unit {0}) UpdateFault) → a.faults ≤ b.faults → a.write_faults ≤ b.write_faults → (b.bytes ≡ None → a.bytes ≡ None) → IfErr result (HasLateCause stream b c) → IfErr result (HasLateCause stream a c)
 fails_since stream a b c (Ok _) r w e h = tt
 fails_since stream a b c (Err fault) r w e h = fails_before stream a b c fault r w e h
 
 -- why an update is refused whose end fails, of a flash that can take the stream
-pub end_refused : (stream : List ℕ) (old new : FlashState) (result : Result (Unit {0}) UpdateFault) → HasSize new.extent → IfKnown old.bytes (CanTake stream) → IfErr result (EndFails stream old new) → IfErr result (HasCause stream old new)
+pub end_refused : (stream : List ℕ) (old new : FlashState) (result : Result (Unit {0}) UpdateFault) → HasSize new.extent → IfKnown old.bytes (CanTake stream) → IfErr result (HasLateCause stream old new) → IfErr result (HasCause stream old new)
 end_refused stream old new (Ok _) sized can h = tt
 end_refused stream old new (Err (Differs at wrote read)) sized can h = h
 end_refused stream old new (Err (Failed true)) sized can h = (h, sized, can)

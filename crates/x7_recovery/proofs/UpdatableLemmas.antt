@@ -1,4 +1,4 @@
--- Lemmas on images: each has a layout.
+-- Lemmas on images: each can be updated.
 use Rattle.std.proofs.Common.{◌≡◌, ℕ, zero, suc, ◌+◌, ◌-◌, ◌*◌, ◌/◌, ◌%◌, ◌^◌, ◌<◌, ◌≤◌, List, ◌++◌, length, get_or, replicate, refl, drop, ap, sym, subst, ◌∙◌, arith, length-append, append_assoc}
 use Rattle.std.specs.List.{repeat}
 use Rattle.std.proofs.lemmas.List.{length-replicate, get_or-drop, get_or_append_left, get_or-append_right}
@@ -14,7 +14,7 @@ use Rattle.x7_part.specs.Part.{PartData}
 use Rattle.x7_memory.specs.Plan.{PlanData}
 use Rattle.x7_planner.specs.FullStream.{full_stream}
 use Rattle.x7_recovery.specs.Recovery.{IsPrepared}
-use Rattle.x7_update.specs.Layout.{HasLayout, LeadsToUpdate, IsOpen, four_at, first_slot, free_switch, open_switch, switch_of, update_place}
+use Rattle.x7_update.specs.Layout.{IsUpdatable, LeadsToUpdate, IsOpen, four_at, first_slot, free_switch, open_switch, switch_of, update_place}
 
 -- the byte of a slot among equal ones
 slot_among : (one rest : List ℕ) (n k i : ℕ) → length one ≡ 32 → k < n → i < 32 → get_or (repeat n one ++ rest) (32 * k + i) 0 ≡ get_or one i 0
@@ -118,9 +118,9 @@ image_long golden update =
     let whole_long : length whole ≤ image_size (length golden) (length update) = omega (arith, length-append (filled_to place prefix) update, filled_long place prefix prefix_long, size_after (length golden) (length update)) in
     filled_long (image_size (length golden) (length update)) whole whole_long
 
--- an image for a part that counts in bytes has a layout
-pub image_layout : (golden update : List ℕ) → image_size (length golden) (length update) ≤ 134217728 → HasLayout (image_of 1 golden update)
-image_layout golden update limit =
+-- an image for a part that counts in bytes can be updated
+pub image_updatable : (golden update : List ℕ) → image_size (length golden) (length update) ≤ 134217728 → IsUpdatable (image_of 1 golden update)
+image_updatable golden update limit =
     let all : List ℕ = image_of 1 golden update in
     let place = image.place_after_golden (length golden) in
     let b = image_begins 1 golden update in
@@ -167,7 +167,7 @@ image_prepared part golden update stream has unit =
     record {
       is_part = has.is_part;
       plan = has.plan;
-      layout = subst HasLayout (sym same) (image_layout full update has.fits);
+      updatable = subst IsUpdatable (sym same) (image_updatable full update has.fits);
       golden = record {
         rest = stands.0;
         stands = ap (drop 65536) same ∙ stands.1;

@@ -1,9 +1,10 @@
--- That an update is read back before its slot is opened, and the slot's switch word after it (this project's choice).
+-- That an update is read again and compared before its slot is opened, and the slot's switch word after it (this
+-- project's choice).
 use Rattle.std.specs.Prelude.{◌≡◌, ℕ, ◌+◌, ◌*◌, ◌<◌, ◌≤◌, List}
 use Rattle.x7_words.specs.Flash.{FlashState, IfKnown, Sees}
-use Rattle.x7_packets.specs.FlashSlot.{slot_bytes, slot_count}
+use Rattle.x7_packets.specs.FlashSlot.{flash_slot_bytes, flash_slot_count}
 use Rattle.x7_update.specs.After.{IsAfterUpdate}
-use Rattle.x7_update.specs.Layout.{CanStandAt, HasLayout, HasNoOpenSlot, IsNextFreeSlot, open_switch, update_place}
+use Rattle.x7_update.specs.Layout.{CanStandAt, IsUpdatable, HasNoOpenSlot, IsNextFreeSlot, open_switch, update_place}
 use Rattle.x7_update.specs.Writing.{SeesWanted}
 
 module _ {F : Type 0} (state : F → FlashState) where
@@ -15,22 +16,22 @@ module _ {F : Type 0} (state : F → FlashState) where
     pub none_open : IfKnown (state ready).bytes HasNoOpenSlot
     pub last : new.moments ≤ (state ready).moments + 1
 
-  -- all of an update with a stream was read back, and no slot was open as yet
-  pub record ReadBack (stream : List ℕ) (old new : FlashState) : Type 0 where
+  -- all of an update with a stream was verified, and no slot was open as yet
+  pub record IsVerified (stream : List ℕ) (old new : FlashState) : Type 0 where
     pub stream_place : ℕ
     pub stands : CanStandAt new.extent stream_place
     pub place : IfKnown old.bytes (λ all. stream_place ≡ update_place all)
     pub ready : WasReady stream_place stream new
 
-  -- what is found may be the updated flash only where all was read back before
-  abbrev pub OpensReadBack : List ℕ → FlashState → FlashState → List ℕ → List ℕ → Type 0
-  OpensReadBack stream old new flash found = HasLayout flash → IsAfterUpdate stream flash found → ReadBack stream old new
+  -- what is found may be the updated flash only where all was verified before
+  abbrev pub OpensVerified : List ℕ → FlashState → FlashState → List ℕ → List ℕ → Type 0
+  OpensVerified stream old new flash found = IsUpdatable flash → IsAfterUpdate stream flash found → IsVerified stream old new
 
-  -- An update with a stream that is done was read back, and then the switch word of the slot that it opened: as that of
+  -- An update with a stream that is done was verified, and then the switch word of the slot that it opened: as that of
   -- an open slot, with no write since.
-  pub record AllReadBack (stream : List ℕ) (old new : FlashState) : Type 0 where
-    pub before : ReadBack stream old new
+  pub record AllVerified (stream : List ℕ) (old new : FlashState) : Type 0 where
+    pub before : IsVerified stream old new
     pub slot : ℕ
-    pub within : slot < slot_count
+    pub within : slot < flash_slot_count
     pub next : IfKnown old.bytes (λ all. IsNextFreeSlot all slot)
-    pub switch : Sees new (slot_bytes * slot) open_switch
+    pub switch : Sees new (flash_slot_bytes * slot) open_switch

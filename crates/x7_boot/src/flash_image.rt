@@ -1,11 +1,11 @@
 //! A flash image with a golden and an update stream.
 ghost use Rattle.std.specs.Prelude.{◌≡◌, ◌+◌, ◌-◌, ◌*◌, ◌/◌, ◌<◌, ◌≤◌, ◌++◌, ◌↔◌, length, Err, IfOk, IfSome, OnOk, IfNone};
-ghost use Rattle.x7_packets.specs.FlashSlot.{sector_bytes, slot_bytes};
+ghost use Rattle.x7_packets.specs.FlashSlot.{sector_bytes, flash_slot_bytes};
 ghost use Rattle.x7_boot.specs.Image.{free_slots, filled_to, first_sector, flash_limit, image_of, image_size, sector_from, slot, place_after_golden};
 
 use crate::fault::ImageFault;
 use std::alloc::Global;
-use x7_packets::{DUMMY_WORD, SLOT_COUNT, SYNC_WORD, flash_slot};
+use x7_packets::{DUMMY_WORD, FLASH_SLOT_COUNT, SYNC_WORD, flash_slot};
 use x7_part::Part;
 use x7_words::{ERASED_BYTE, FLASH_LIMIT, NoMemory, SECTOR_BYTES, bytes_of};
 
@@ -58,9 +58,9 @@ fn slot(switch: u32, start: u32) -> [u8; 32]
 #[tactic(auto, unfolding(crate::specs::Image::free_slots, crate::specs::Image::slot))]
 fn free_slots(alloc: Global, start: u32) -> Result<Vec<u8>, NoMemory>
     ensures items { IfOk result (λ all. all.items ≡ free_slots start) }
-    ensures length { IfOk result (λ all. length all.items ≡ sector_bytes - slot_bytes) }
+    ensures length { IfOk result (λ all. length all.items ≡ sector_bytes - flash_slot_bytes) }
 {
-    Ok(slot(DUMMY_WORD, start).repeat(alloc, SLOT_COUNT as usize - 1)?)
+    Ok(slot(DUMMY_WORD, start).repeat(alloc, FLASH_SLOT_COUNT as usize - 1)?)
 }
 
 /// Appends the first sector of an image, which leads to the start address.
