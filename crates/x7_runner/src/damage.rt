@@ -1,6 +1,8 @@
-//! The damages of an input, one after the other.
+//! An input that is damaged in each of many ways, one after the other.
 use crate::fault::Fault;
-use crate::token::range_of;
+use crate::named::{Named, bytes_of};
+use crate::token::{first_word, range_of};
+use std::alloc::Global;
 
 /// How an input is damaged.
 #[derive(Clone, Copy, Drop)]
@@ -11,9 +13,10 @@ pub(crate) enum Damage {
     Bit,
 }
 
-/// The damages of an input by their numbers: a run for each.
-#[derive(Clone, Copy, Drop)]
-pub(crate) struct Damages {
+/// An input, and the numbers of its damages: a run for each.
+#[derive(Drop)]
+pub(crate) struct Damaged {
+    pub(crate) named: Named,
     damage: Damage,
     /// The first number.
     pub(crate) from: u32,
@@ -29,27 +32,34 @@ fn change_bit(bytes: &mut [u8], number: u32) {
     }
 }
 
-impl Damages {
-    /// No damage.
-    pub(crate) fn none() -> Damages {
-        Damages {
-            damage: Damage::Cut,
-            from: 0,
-            to: 0,
-        }
-    }
-
-    /// Reads `FROM TO`: the numbers from FROM up to TO - 1.
-    pub(crate) fn new(damage: Damage, places: &str) -> Result<Damages, Fault> {
+impl Damaged {
+    /// Reads `NAME OTHER FROM TO`: the bytes of OTHER, to be damaged at each number from FROM up to TO - 1, given under
+    /// NAME.
+    pub(crate) fn new(
+        alloc: Global,
+        damage: Damage,
+        others: &[Named],
+        line: &str,
+    ) -> Result<Damaged, Fault> {
+        let (name, rest) = first_word(line);
+        let (other, places) = first_word(rest);
         let (from, to) = range_of(places)?;
-        Ok(Damages { damage, from, to })
+        let bytes = bytes_of(others, other)?;
+        Ok(Damaged {
+            named: Named::new(alloc, name, bytes)?,
+            damage,
+            from,
+            to,
+        })
     }
 
-    /// Damages the bytes by the damage of this number.
-    pub(crate) fn put(&self, bytes: &mut Vec<u8>, number: u32) {
+    /// The bytes with the damage of this number.
+    pub(crate) fn bytes_of(&self, alloc: Global, number: u32) -> Result<Vec<u8>, Fault> {
+        let mut bytes = Vec::from_slice(alloc, &self.named.bytes)?;
         match self.damage {
             Damage::Cut => bytes.truncate(number as usize),
-            Damage::Bit => change_bit(bytes, number),
+            Damage::Bit => change_bit(&mut bytes, number),
         }
+        Ok(bytes)
     }
 }

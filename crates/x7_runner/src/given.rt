@@ -1,8 +1,8 @@
 //! What a run is given: words, inputs, a flash, and what fails.
-use crate::damage::{Damage, Damages};
+use crate::damage::{Damage, Damaged};
 use crate::fault::Fault;
-use crate::named::{Named, bytes_of, put_bytes, put_slice, put_text, put_texts, put_under};
-use crate::token::{first_word, positive, put_numbers};
+use crate::named::{Named, put_bytes, put_slice, put_text, put_texts};
+use crate::token::{positive, put_numbers};
 use crate::writing::Writing;
 use std::alloc::Global;
 
@@ -55,8 +55,7 @@ pub(crate) struct Given {
     pub(crate) words: Vec<String>,
     pub(crate) inputs: Vec<Named>,
     /// At most one: an input that has another damage in each run.
-    pub(crate) damaged: Vec<Named>,
-    pub(crate) damages: Damages,
+    pub(crate) damaged: Vec<Damaged>,
     /// The flash of the run; at most one.
     pub(crate) flash: Vec<Named>,
     pub(crate) writing: Writing,
@@ -82,7 +81,6 @@ impl Given {
             words: Vec::new(alloc),
             inputs: Vec::new(alloc),
             damaged: Vec::new(alloc),
-            damages: Damages::none(),
             flash: Vec::new(alloc),
             writing: Writing::new(),
             pieces: Vec::new(alloc),
@@ -102,8 +100,7 @@ impl Given {
         Ok(())
     }
 
-    /// Takes `NAME OTHER FROM TO`: the bytes of OTHER, given under NAME with each damage from FROM up to TO - 1 in turn.
-    /// There is at most one such input.
+    /// Takes an input that is damaged in many ways; there is at most one.
     pub(crate) fn put_damaged(
         &mut self,
         damage: Damage,
@@ -113,15 +110,9 @@ impl Given {
         if !self.damaged.is_empty() {
             return Err(Fault::Line);
         }
-        let (name, rest) = first_word(line);
-        let (other, places) = first_word(rest);
-        self.damages = Damages::new(damage, places)?;
-        put_under(
-            self.alloc,
-            &mut self.damaged,
-            name,
-            bytes_of(shared, other)?,
-        )
+        self.damaged
+            .push(Damaged::new(self.alloc, damage, shared, line)?)?;
+        Ok(())
     }
 
     /// Appends calls of the object that fail.

@@ -1,5 +1,6 @@
 //! One run of the command over objects in memory.
 use crate::command::Command;
+use crate::damage::Damaged;
 use crate::fault::Fault;
 use crate::given::{Given, Object};
 use crate::named::Named;
@@ -133,13 +134,12 @@ fn put_all(inputs: &mut MemoryInputs, list: &[Named]) -> Result<(), Fault> {
 fn put_damaged(
     inputs: &mut MemoryInputs,
     alloc: Global,
-    given: &Given,
+    damaged: &[Damaged],
     variation: &Variation,
 ) -> Result<(), Fault> {
-    if let (Some(named), Some(number)) = (given.damaged.first(), variation.damage) {
-        let mut bytes = Vec::from_slice(alloc, &named.bytes)?;
-        given.damages.put(&mut bytes, number);
-        inputs.put(named.name.as_str(), &bytes)?;
+    if let (Some(damaged), Some(number)) = (damaged.first(), variation.damage) {
+        let bytes = damaged.bytes_of(alloc, number)?;
+        inputs.put(damaged.named.name.as_str(), &bytes)?;
     }
     Ok(())
 }
@@ -154,7 +154,7 @@ fn put_inputs(
 ) -> Result<(), Fault> {
     put_all(inputs, shared)?;
     put_all(inputs, &given.inputs)?;
-    put_damaged(inputs, alloc, given, variation)?;
+    put_damaged(inputs, alloc, &given.damaged, variation)?;
     if variation.piece > 0 {
         inputs.piece(variation.piece as usize);
     }

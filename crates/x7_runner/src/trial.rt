@@ -144,11 +144,10 @@ impl<'a, C: Command> Trial<'a, C> {
 
     /// All runs of the case.
     pub(crate) fn run(&mut self) {
-        if self.case.given.damaged.is_empty() {
+        let Some(damaged) = self.case.given.damaged.first() else {
             return self.run_pieces(None);
-        }
-        let damages = self.case.given.damages;
-        for number in damages.from..damages.to {
+        };
+        for number in damaged.from..damaged.to {
             self.run_pieces(Some(number));
         }
     }
