@@ -115,7 +115,7 @@ impl Rows {
     pub(crate) fn get(&self, i: usize) -> Option<(u32, &[u32])>
         ensures found { IfSome result (λ row. (i < length self.now.rows) × ((d : PlanRow) → slice_index_or self.now.rows i d ≡ record { far = row.0; words = row.1.now })) }
         ensures width { IfSome result (λ row. length row.1.now ≡ self.now.width) }
-        ensures none { IfNone result (length self.now.rows ≤ i) }
+        ensures past_end { IfNone result (length self.now.rows ≤ i) }
     {
         let row = self.rows.get(i)?;
         Some((

@@ -55,7 +55,7 @@ pub(crate) fn column_index(columns: &[Column], far: u32) -> Option<usize>
     requires { AreColumns columns.now }
     ensures found { IfSome result (λ i. (i < length columns.now) × ((d : Column) → IsIn (slice_index_or columns.now i d) far)) }
     ensures address { IfSome result (λ i. Contains (column_addresses columns.now) far) }
-    ensures none { IfNone result (¬ Contains (column_addresses columns.now) far) }
+    ensures absent { IfNone result (¬ Contains (column_addresses columns.now) far) }
 {
     let after = begun_by_address(columns, far);
     if after == 0 {
@@ -73,7 +73,7 @@ pub(crate) fn column_index(columns: &[Column], far: u32) -> Option<usize>
 pub(crate) fn rank_of(columns: &[Column], far: u32) -> Option<u32>
     requires { AreColumns columns.now }
     ensures found { IfSome result (λ r. (r < length (column_addresses columns.now)) × (slice_index (column_addresses columns.now) r ≡ far)) }
-    ensures none { IfNone result (¬ Contains (column_addresses columns.now) far) }
+    ensures absent { IfNone result (¬ Contains (column_addresses columns.now) far) }
 {
     let index = column_index(columns, far)?;
     let column = columns[index];
@@ -84,7 +84,7 @@ pub(crate) fn rank_of(columns: &[Column], far: u32) -> Option<u32>
 pub(crate) fn address_of(columns: &[Column], rank: u32) -> Option<u32>
     requires { AreColumns columns.now }
     ensures found { IfSome result (λ far. (rank < length (column_addresses columns.now)) × (slice_index (column_addresses columns.now) rank ≡ far)) }
-    ensures none { IfNone result (length (column_addresses columns.now) ≤ rank) }
+    ensures past_end { IfNone result (length (column_addresses columns.now) ≤ rank) }
 {
     let after = begun_by_rank(columns, rank);
     if after == 0 {
@@ -103,7 +103,7 @@ pub(crate) fn address_of(columns: &[Column], rank: u32) -> Option<u32>
 pub(crate) fn next_of(columns: &[Column], far: u32) -> Option<u32>
     requires { AreColumns columns.now }
     ensures found { IfSome result (λ y. IsFollowedBy (column_addresses columns.now) far y) }
-    ensures none { IfNone result (IsLastIn (column_addresses columns.now) far ⊎ (¬ Contains (column_addresses columns.now) far)) }
+    ensures last_or_absent { IfNone result (IsLastIn (column_addresses columns.now) far ⊎ (¬ Contains (column_addresses columns.now) far)) }
 {
     let index = column_index(columns, far)?;
     let column = columns[index];
@@ -140,7 +140,7 @@ fn slot_at(columns: &[Column], slot_number: u64) -> Slot
 fn rank_in(columns: &[Column], index: usize, slot_number: u64) -> Option<u32>
     requires { AreColumns columns.now }
     ensures found { IfSome result (λ r. HasFrameOf (column_addresses columns.now) (column_slots columns.now) slot_number r) }
-    ensures none { IfNone result ((d : Column) → index < length columns.now → (slice_index_or columns.now index d).place ≤ slot_number →
+    ensures no_frame { IfNone result ((d : Column) → index < length columns.now → (slice_index_or columns.now index d).place ≤ slot_number →
         (slice_index_or columns.now index d).count ≤ slot_number - (slice_index_or columns.now index d).place) }
 {
     if columns.len() <= index {
@@ -164,7 +164,7 @@ fn rank_in(columns: &[Column], index: usize, slot_number: u64) -> Option<u32>
 pub(crate) fn rank_at(columns: &[Column], slot_number: u64, hint: &mut usize) -> Option<u32>
     requires { AreColumns columns.now }
     ensures found { IfSome result (λ r. HasFrameOf (column_addresses columns.now) (column_slots columns.now) slot_number r) }
-    ensures none { IfNone result ((far : ℕ) → slice_index_or (column_slots columns.now) slot_number Slot.End ≡ Slot.Frame far → ⊥) }
+    ensures no_frame { IfNone result ((far : ℕ) → slice_index_or (column_slots columns.now) slot_number Slot.End ≡ Slot.Frame far → ⊥) }
 {
     if let Some(rank) = rank_in(columns, *hint, slot_number) {
         return Some(rank);

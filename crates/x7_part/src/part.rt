@@ -174,7 +174,7 @@ impl Part {
     /// The next address in number order, none for the last one and for what is no address.
     pub fn next(&self, far: u32) -> Option<u32>
         ensures found { IfSome result (λ y. IsFollowedBy (addresses_in self.now) far y) }
-        ensures none { IfNone result (IsLastIn (addresses_in self.now) far ⊎ (¬ Contains (addresses_in self.now) far)) }
+        ensures last_or_absent { IfNone result (IsLastIn (addresses_in self.now) far ⊎ (¬ Contains (addresses_in self.now) far)) }
     {
         column::next_of(self.table(), far)
     }
@@ -183,7 +183,7 @@ impl Part {
     pub fn rank(&self, far: u32) -> Option<u32>
         ensures found { IfSome result (λ r. (r < length (addresses_in self.now)) × (slice_index (addresses_in self.now) r ≡ far)) }
         ensures smaller { IfSome result (λ r. r ≡ count_by (λ y. nat_lt y far) (addresses_in self.now)) }
-        ensures none { IfNone result (¬ Contains (addresses_in self.now) far) }
+        ensures absent { IfNone result (¬ Contains (addresses_in self.now) far) }
     {
         column::rank_of(self.table(), far)
     }
@@ -192,7 +192,7 @@ impl Part {
     pub fn address(&self, rank: u32) -> Option<u32>
         ensures found { IfSome result (λ far. (rank < length (addresses_in self.now)) × (slice_index (addresses_in self.now) rank ≡ far)) }
         ensures smaller { IfSome result (λ far. rank ≡ count_by (λ y. nat_lt y far) (addresses_in self.now)) }
-        ensures none { IfNone result (length (addresses_in self.now) ≤ rank) }
+        ensures past_end { IfNone result (length (addresses_in self.now) ≤ rank) }
     {
         column::address_of(self.table(), rank)
     }
@@ -219,7 +219,7 @@ impl Part {
     /// where to look first, 0 at the start; whatever it is, the answer is the same.
     pub fn rank_at(&self, slot_number: u64, hint: &mut usize) -> Option<u32>
         ensures found { IfSome result (λ r. HasFrameOf (addresses_in self.now) (slots_in self.now) slot_number r) }
-        ensures none { IfNone result ((far : ℕ) → slice_index_or (slots_in self.now) slot_number Slot.End ≡ Slot.Frame far → ⊥) }
+        ensures no_frame { IfNone result ((far : ℕ) → slice_index_or (slots_in self.now) slot_number Slot.End ≡ Slot.Frame far → ⊥) }
     {
         column::rank_at(self.table(), slot_number, hint)
     }

@@ -215,7 +215,7 @@ impl Pipeline {
         part: &Part,
         memory: &mut Memory,
     ) -> Result<usize, RunFault>
-        requires some { 4 ≤ length bytes.now }
+        requires word { 4 ≤ length bytes.now }
         requires part { AreOfPart part.now self.old memory.old }
         ensures words { IfOk result (λ taken. (1 ≤ taken / 4) × (taken % 4 ≡ 0) × (taken ≤ length bytes.now)) }
         ensures stands { IfOk result (λ taken. FlowGoesOn part.now self.old self.new (after_words (words_of_bytes (take taken bytes.now)))) }

@@ -10,5 +10,5 @@ returns-clause-smaller c =
     let of = c.table.ensures in
     IfSome_then c.rank_of.result (rw of.addresses at c.rank_of.ensures.found) (λ r at. (rank_counts c.args.self.now.far c.args.self.now.rows r c.args.far of.is_part.far of.is_part.rows at.0 at.1).1)
 
-pub returns-clause-none : goal.returns-clause-none
-returns-clause-none c = rw (← c.table.ensures.addresses) c.rank_of.ensures.none
+pub returns-clause-absent : goal.returns-clause-absent
+returns-clause-absent c = rw (← c.table.ensures.addresses) c.rank_of.ensures.absent
