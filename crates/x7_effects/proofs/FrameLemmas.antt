@@ -22,13 +22,13 @@ use Rattle.x7_part.specs.Slot.{addresses_among, slots, slots_in}
 use Rattle.x7_part.specs.declared.slot.Slot.{Slot}
 use Rattle.x7_part.specs.declared.slot.Slot.TheVariants.{Frame, Pad, End}
 use Rattle.x7_memory.specs.FrameMap.{FrameMap, AreSame}
-use Rattle.x7_memory.specs.Frames.{zeros, zero_frames}
+use Rattle.x7_memory.specs.PartFrames.{zeros, zero_frames}
 use Rattle.x7_memory.specs.Plan.{PlanRow, PlanData, planned, planned_addresses, IsPlan, total}
 use Rattle.x7_memory.proofs.FrameLemmas.{among_none}
 use Rattle.x7_memory.proofs.MapLemmas.{zeros_at, unnamed_none}
 use Rattle.x7_memory.proofs.PlanLemmas.{planned_here, planned_after}
 use Rattle.x7_pipeline.specs.Runs.{onto, slots_from, written_frames, put_over}
-use Rattle.x7_pipeline.specs.InWords.{pair_of}
+use Rattle.x7_pipeline.specs.RunsInWords.{pair_of}
 use Rattle.x7_pipeline.proofs.SlotLemmas.{addresses_among_slots}
 use Rattle.x7_flow.proofs.InsideLemmas.{contains_or_not}
 use Rattle.x7_flow.proofs.StreamLemmas.{frames_land}

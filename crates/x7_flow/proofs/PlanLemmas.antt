@@ -16,15 +16,15 @@ use Rattle.x7_memory.specs.FrameMap.{AreSame, override}
 use Rattle.x7_memory.specs.Plan.{PlanRow, planned, planned_addresses}
 use Rattle.x7_memory.proofs.MapLemmas.{override_same, planned_joined}
 use Rattle.x7_memory.proofs.PlanLemmas.{planned_after, planned_here}
-use Rattle.x7_pipeline.specs.InWords.{pair_of}
+use Rattle.x7_pipeline.specs.RunsInWords.{pair_of}
 use Rattle.x7_pipeline.specs.Runs.{frames_of, onto, slots_from}
 use Rattle.x7_pipeline.specs.Copies.{newest_of}
 use Rattle.x7_pipeline.specs.FarAsRead.{loaded_base}
 use Rattle.x7_pipeline.proofs.SlotLemmas.{addresses_among_slots}
 use Rattle.x7_flow.specs.Settings.{settings_of, takes_copies, takes_frames}
 use Rattle.x7_flow.specs.Asking.{Copies, Other}
-use Rattle.x7_flow.specs.Flow.{Flow, flow_by, flow_of, run_of, source_of}
-use Rattle.x7_flow.specs.InWords.{frame_taken, words_written}
+use Rattle.x7_flow.specs.HistoryFlow.{Flow, flow_by, flow_of, run_of, source_of}
+use Rattle.x7_flow.specs.FlowInWords.{frame_taken, words_written}
 use Rattle.x7_flow.proofs.FlowLemmas.{flow_more}
 use Rattle.x7_flow.proofs.WordLemmas.{run_is, source_is}
 use Rattle.x7_flow.specs.FrameMemory.{memory_of}

@@ -4,7 +4,7 @@ use Rattle.x7_words.specs.Word.{AreWords}
 use Rattle.x7_part.specs.AddressOrder.{addresses_in}
 use Rattle.x7_part.specs.Part.{PartData, frame_words}
 use Rattle.x7_memory.specs.FrameMap.{FrameMap, override}
-use Rattle.x7_memory.specs.Frames.{zeros}
+use Rattle.x7_memory.specs.PartFrames.{zeros}
 
 -- a frame and its address
 pub record PlanRow : Type 0 where

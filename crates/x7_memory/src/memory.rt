@@ -3,7 +3,7 @@ ghost use Rattle.std.specs.Prelude.{◌≡◌, ℕ, ◌<◌, ◌≤◌, ◌+◌,
 ghost use Rattle.x7_part.specs.AddressOrder.{addresses_in};
 ghost use Rattle.x7_part.specs.Part.{PartData, frame_words};
 ghost use Rattle.x7_memory.specs.Flat.{words_with_frame};
-ghost use Rattle.x7_memory.specs.Frames.{frame_at, zero_frames, AreFramesOf};
+ghost use Rattle.x7_memory.specs.PartFrames.{frame_at, zero_frames, AreFramesOf};
 
 use crate::zeros::are_zeros;
 use std::alloc::Global;
@@ -27,7 +27,7 @@ pub struct Memory {
 
 impl Model for Memory {
     ghost use Rattle.std.specs.Prelude.{ℕ, List};
-    ghost use Rattle.x7_memory.specs.Memory.{frames_seen, HasRoom};
+    ghost use Rattle.x7_memory.specs.MemoryFields.{frames_seen, HasRoom};
 
     ghost Value = { List (List ℕ) };
 

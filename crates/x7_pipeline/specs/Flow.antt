@@ -14,7 +14,7 @@ use Rattle.x7_pipeline.specs.Fault.{copy_fault}
 use Rattle.x7_pipeline.specs.Readback.{given_stored, read_slot}
 use Rattle.x7_pipeline.specs.Pipeline.{PipelineData}
 use Rattle.x7_pipeline.specs.Runs.{Lands, at_slot, frames_of, onto, put_over, rest_of, slots_from}
-use Rattle.x7_pipeline.specs.Words.{RunWritten, run_written}
+use Rattle.x7_pipeline.specs.RunWritten.{RunWritten, run_written}
 
 -- the command, the address that the run or readback began at, the words of the run (the newest first), the frame that
 -- copies take, and the count of words given

@@ -16,7 +16,7 @@ use Rattle.x7_effects.proofs.FrameLemmas.{address_small}
 use Rattle.x7_frames.proofs.OneLemmas.{same_order}
 use Rattle.std.proofs.lemmas.List.Elements.{All-cons, All-contains_itself, All-head, All-nil, All-tail}
 use Rattle.std.proofs.lemmas.List.Sorted.{All-permutation, IsPermutation-sym}
-use Rattle.x7_memory.specs.Frames.{frame_at}
+use Rattle.x7_memory.specs.PartFrames.{frame_at}
 use Rattle.x7_part.specs.Ranges.{IsPart}
 use Rattle.x7_part.specs.Slot.{slots_in}
 use Rattle.x7_part.proofs.SlotLemmas.{slots_number}

@@ -10,7 +10,7 @@ use Rattle.x7_regs.specs.Register.{number_of}
 use Rattle.x7_pipeline.specs.Runs.{slots_from}
 use Rattle.x7_pipeline.specs.declared.fault.RunFault.{RunFault}
 use Rattle.x7_pipeline.specs.Pipeline.{PipelineData}
-use Rattle.x7_flow.specs.Flow.{base_of, frame_fault, run_of}
+use Rattle.x7_flow.specs.HistoryFlow.{base_of, frame_fault, run_of}
 use Rattle.x7_flow.specs.Settings.{Settings, settings_of}
 use Rattle.x7_flow.specs.Standing.{AreFramesAfter, FramesStandFor, FramesState}
 
