@@ -95,7 +95,7 @@ pub write_plans : (part : PartData) (earlier : History) (w place n : ℕ) (frame
 write_plans part earlier w place n frames last some rises t all far =
     let rows : List PlanRow = filter_map pair_of (zip (slots_from part (loaded_base part w)) frames) in
     let up : Rises 0 (planned_addresses rows) =
-    rows_rise 0 (slots_from part (loaded_base part w)) frames (rises_from 0 (loaded_base part w) (slots_in part) (rw (addresses_among_slots part.far part.rows) rises)) in
+    rows_rise 0 (slots_from part (loaded_base part w)) frames (rises_from 0 (loaded_base part w) (slots_in part) (rw (addresses_among_slots part.field_widths part.rows) rises)) in
     write_puts part earlier w place n frames last some t all far
     ∙ override_same (memory_of part earlier) (memory_of part earlier) (planned (reverse rows)) (planned rows) (λ a. refl) (planned_reversed 0 rows up) far
 

@@ -25,7 +25,7 @@ addresses widths rows = flat_map (addresses_of widths) rows
 
 -- the addresses of a part
 abbrev pub addresses_in : PartData → List ℕ
-addresses_in part = addresses part.far part.rows
+addresses_in part = addresses part.field_widths part.rows
 
 -- each number is above those before it, and the first is at least `least`
 pub data Rises : ℕ → List ℕ → Type 0 where

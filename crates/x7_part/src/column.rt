@@ -1,7 +1,7 @@
 //! The table of a part's columns, in which addresses and slots are found by binary search.
 ghost use Rattle.std.specs.Prelude.{◌≡◌, ◌<◌, ◌≤◌, ◌+◌, ◌-◌, ◌⊎◌, ℕ, length, slice_index, slice_index_or, Contains, IfSome, IfNone};
 ghost use Rattle.x7_part.specs.AddressOrder.{IsFollowedBy, IsLastIn};
-ghost use Rattle.x7_part.specs.Column.{IsIn, column_addresses, column_slots, AreColumns};
+ghost use Rattle.x7_part.specs.Column.{IsInColumn, column_addresses, column_slots, AreColumns};
 ghost use Rattle.x7_part.specs.Slot.{HasFrameOf, from};
 ghost use Rattle.x7_part.specs.declared.column.Column.{Column};
 ghost use Rattle.x7_part.specs.declared.slot.Slot.{Slot};
@@ -53,7 +53,7 @@ fn begun_by_slot(columns: &[Column], slot_number: u64) -> usize
 /// The index in the table of the column that has the address, none where no column has it.
 pub(crate) fn column_index(columns: &[Column], far: u32) -> Option<usize>
     requires { AreColumns columns.now }
-    ensures found { IfSome result (λ i. (i < length columns.now) × ((d : Column) → IsIn (slice_index_or columns.now i d) far)) }
+    ensures found { IfSome result (λ i. (i < length columns.now) × ((d : Column) → IsInColumn (slice_index_or columns.now i d) far)) }
     ensures address { IfSome result (λ i. Contains (column_addresses columns.now) far) }
     ensures absent { IfNone result (¬ Contains (column_addresses columns.now) far) }
 {

@@ -34,7 +34,7 @@ impl Model for Part {
 
     ghost view = { λ p. part_data (string_bytes p.name) p.settings p.rows.items };
 
-    ghost invariant = { λ p. (p.columns.items ≡ columns_of p.settings.far 0 0 p.rows.items) × IsPart (part_data (string_bytes p.name) p.settings p.rows.items) };
+    ghost invariant = { λ p. (p.columns.items ≡ columns_of p.settings.field_widths 0 0 p.rows.items) × IsPart (part_data (string_bytes p.name) p.settings p.rows.items) };
 }
 
 impl Part {
@@ -47,12 +47,12 @@ impl Part {
     ) -> Result<Part, AllocError>
         requires rows { All IsRow rows.items }
         requires apart { same_row_fault [] rows.items ≡ None }
-        requires part { IsPart (part_data (string_bytes name) settings (sorted_rows settings.far rows.items)) }
-        ensures { IfOk result (λ part. part ≡ part_data (string_bytes name) settings (sorted_rows settings.far rows.items)) }
+        requires part { IsPart (part_data (string_bytes name) settings (sorted_rows settings.field_widths rows.items)) }
+        ensures { IfOk result (λ part. part ≡ part_data (string_bytes name) settings (sorted_rows settings.field_widths rows.items)) }
     {
         let mut rows = rows;
-        row::sort_rows(&mut rows, settings.far);
-        let columns = table_of(alloc, settings.far, &rows)?;
+        row::sort_rows(&mut rows, settings.field_widths);
+        let columns = table_of(alloc, settings.field_widths, &rows)?;
         Ok(Part {
             name,
             settings,
@@ -133,7 +133,7 @@ impl Part {
         ensures least { least_address_width ≤ result }
         ensures most { result ≤ most_address_width }
     {
-        self.settings.far.width()
+        self.settings.field_widths.width()
     }
 
     /// The bytes of the flash that one step of the start address in WBSTAR stands for.
@@ -210,7 +210,7 @@ impl Part {
         requires address { Contains (addresses_in self.now) far }
         ensures within { result < length (slots_in self.now) }
         ensures slots { (n : ℕ) → slice_index_or (slots_in self.now) (result + n) Slot.End ≡ slice_index_or (from far (slots_in self.now)) n Slot.End }
-        ensures most { length (slots_in self.now) < 2 ^ 63 }
+        ensures few_slots { length (slots_in self.now) < 2 ^ 63 }
     {
         column::place_of(self.table(), far)
     }

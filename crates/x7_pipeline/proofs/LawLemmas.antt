@@ -279,7 +279,7 @@ from_end base (End ∷ places) ends = from_end base places (λ i far h e. ends (
 
 last_slot : (part : PartData) (base i far : ℕ) → length (slots_from part base) ≤ i + 1 → get_or (slots_from part base) i End ≡ Frame far → ⊥
 unfolding EndsInPad
-last_slot part base = from_end base (slots_in part) (slots_end part.far part.rows)
+last_slot part base = from_end base (slots_in part) (slots_end part.field_widths part.rows)
 
 -- ---- faults
 
