@@ -87,7 +87,7 @@ HaveWordsDue part f count = (more : ℕ) × HaveDue part f (more + count)
 abbrev pub frames_map : PartData → FramesState → FrameMap
 frames_map part f = frame_at part f.memory
 
--- what holds of a history that the frames stand for with no word due, and these settings too
+-- a fact holds of each history that the frames stand for with no word due, and that leaves these settings
 abbrev pub OfFrames : PartData → FrameSettings → FramesState → (History → Type 0) → Type 0
 OfFrames part settings f Fact = (h : History) → AreSettingsAfter part.idcode settings h → FramesStandFor part f h 0 → Fact h
 

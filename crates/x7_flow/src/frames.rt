@@ -87,8 +87,8 @@ impl Frames {
         )
     }
 
-    /// Takes words written to FDRI or MFWR on a device whose IDCODE was written, four bytes each, up to the first that
-    /// is refused. The answer is the number of words looked at, a refused one included, and the fault.
+    /// Takes words written to FDRI or MFWR, four bytes each, up to the first that is refused. The answer is the number
+    /// of words looked at, a refused one included, and the fault.
     pub fn write_bytes(
         &mut self,
         settings: FrameSettings,
