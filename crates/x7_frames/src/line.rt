@@ -14,7 +14,7 @@ const MOST_FRAME_BYTES: usize = 4 * x7_part::MOST_FRAME_WORDS as usize;
 
 /// How many bytes stand before the digits of a frame's line: `frame`, a space, the eight digits of its address, a
 /// space.
-const HEAD_SIZE: usize = 15;
+pub(crate) const HEAD_SIZE: usize = 15;
 
 /// What stands on a frame's line: its address, and the digits of its words.
 #[derive(Clone, Copy)]

@@ -86,7 +86,7 @@ impl Rows {
         Ok(self.rows.insert(place, Row { far, start })?)
     }
 
-    /// The place of the row with the address among rows in order, or the place where such a row would go.
+    /// The place, from 0, of the row with the address among rows in order, or the place where such a row would go.
     pub(crate) fn search(&self, far: u32) -> Result<usize, usize>
         requires { AreInOrder self.now.rows }
         ensures found { IfOk result (IsRowPlace self.now.rows far) }

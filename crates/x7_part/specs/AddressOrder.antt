@@ -32,6 +32,10 @@ pub data Rises : ℕ → List ℕ → Type 0 where
   risen : (least : ℕ) → Rises least []
   rise : (least x : ℕ) (xs : List ℕ) → least ≤ x → Rises (x + 1) xs → Rises least (x ∷ xs)
 
+-- of a list of addresses that rise, the number from 0, or rank, of an address
+abbrev pub HasRank : List ℕ → ℕ → ℕ → Type 0
+HasRank addresses far rank = (rank < length addresses) × (slice_index addresses rank ≡ far)
+
 -- y stands right after x in a list
 abbrev pub IsFollowedBy : List ℕ → ℕ → ℕ → Type 0
 IsFollowedBy xs x y = (k : ℕ) × (k + 1 < length xs) × (slice_index xs k ≡ x) × (slice_index xs (k + 1) ≡ y)

@@ -1,6 +1,6 @@
 //! The table of a part's columns, in which addresses and slots are found by binary search.
-ghost use Rattle.std.specs.Prelude.{◌≡◌, ◌<◌, ◌≤◌, ◌+◌, ◌-◌, ◌⊎◌, ℕ, length, slice_index, slice_index_or, Contains, IfSome, IfNone};
-ghost use Rattle.x7_part.specs.AddressOrder.{IsFollowedBy, IsLastIn};
+ghost use Rattle.std.specs.Prelude.{◌≡◌, ◌<◌, ◌≤◌, ◌+◌, ◌-◌, ◌⊎◌, ℕ, length, slice_index_or, Contains, IfSome, IfNone};
+ghost use Rattle.x7_part.specs.AddressOrder.{HasRank, IsFollowedBy, IsLastIn};
 ghost use Rattle.x7_part.specs.Column.{IsInColumn, column_addresses, column_slots, AreColumns};
 ghost use Rattle.x7_part.specs.Slot.{HasFrameOf, from};
 ghost use Rattle.x7_part.specs.declared.column.Column.{Column};
@@ -72,7 +72,7 @@ pub(crate) fn column_index(columns: &[Column], far: u32) -> Option<usize>
 /// The number of the part's addresses below this one, none for what is no address.
 pub(crate) fn rank_of(columns: &[Column], far: u32) -> Option<u32>
     requires { AreColumns columns.now }
-    ensures found { IfSome result (λ r. (r < length (column_addresses columns.now)) × (slice_index (column_addresses columns.now) r ≡ far)) }
+    ensures found { IfSome result (λ rank. HasRank (column_addresses columns.now) far rank) }
     ensures absent { IfNone result (¬ Contains (column_addresses columns.now) far) }
 {
     let index = column_index(columns, far)?;
@@ -83,7 +83,7 @@ pub(crate) fn rank_of(columns: &[Column], far: u32) -> Option<u32>
 /// The address with `rank` smaller ones, none where there are no more than `rank` addresses.
 pub(crate) fn address_of(columns: &[Column], rank: u32) -> Option<u32>
     requires { AreColumns columns.now }
-    ensures found { IfSome result (λ far. (rank < length (column_addresses columns.now)) × (slice_index (column_addresses columns.now) rank ≡ far)) }
+    ensures found { IfSome result (λ far. HasRank (column_addresses columns.now) far rank) }
     ensures past_end { IfNone result (length (column_addresses columns.now) ≤ rank) }
 {
     let after = begun_by_rank(columns, rank);

@@ -1,6 +1,6 @@
 //! A part, and the questions that are asked of its addresses and slots.
-ghost use Rattle.std.specs.Prelude.{◌≡◌, ◌+◌, ◌*◌, ◌<◌, ◌≤◌, ◌⊎◌, ◌↔◌, ◌%◌, ◌^◌, ℕ, true, None, [], All, length, slice_index, slice_index_or, count_by, nat_lt, string_bytes, Contains, IfSome, IfNone, IfOk};
-ghost use Rattle.x7_part.specs.AddressOrder.{addresses_in, IsFollowedBy, IsLastIn, Rises};
+ghost use Rattle.std.specs.Prelude.{◌≡◌, ◌+◌, ◌*◌, ◌<◌, ◌≤◌, ◌⊎◌, ◌↔◌, ◌%◌, ◌^◌, ℕ, true, None, [], All, length, slice_index_or, count_by, nat_lt, string_bytes, Contains, IfSome, IfNone, IfOk};
+ghost use Rattle.x7_part.specs.AddressOrder.{addresses_in, HasRank, IsFollowedBy, IsLastIn, Rises};
 ghost use Rattle.x7_part.specs.Column.{AreColumnsOf, table_of as columns_of};
 ghost use Rattle.x7_part.specs.Address.{IsAddressOf, IsRow, far_width};
 ghost use Rattle.x7_part.specs.Limits.{IsStartUnit, greatest_bus_width, greatest_mode, least_address_width, least_frame_words, most_address_width, most_frame_words, most_frames, most_words};
@@ -181,7 +181,7 @@ impl Part {
 
     /// The number of smaller addresses of the part, none for what is no address.
     pub fn rank(&self, far: u32) -> Option<u32>
-        ensures found { IfSome result (λ r. (r < length (addresses_in self.now)) × (slice_index (addresses_in self.now) r ≡ far)) }
+        ensures found { IfSome result (λ rank. HasRank (addresses_in self.now) far rank) }
         ensures smaller { IfSome result (λ r. r ≡ count_by (λ y. nat_lt y far) (addresses_in self.now)) }
         ensures absent { IfNone result (¬ Contains (addresses_in self.now) far) }
     {
@@ -190,7 +190,7 @@ impl Part {
 
     /// The address with `rank` smaller ones, none from `frames()` on. This is the inverse of `rank()`.
     pub fn address(&self, rank: u32) -> Option<u32>
-        ensures found { IfSome result (λ far. (rank < length (addresses_in self.now)) × (slice_index (addresses_in self.now) rank ≡ far)) }
+        ensures found { IfSome result (λ far. HasRank (addresses_in self.now) far rank) }
         ensures smaller { IfSome result (λ far. rank ≡ count_by (λ y. nat_lt y far) (addresses_in self.now)) }
         ensures past_end { IfNone result (length (addresses_in self.now) ≤ rank) }
     {
