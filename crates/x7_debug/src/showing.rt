@@ -1,6 +1,6 @@
 //! What a script shows of a stream.
 ghost use Rattle.std.specs.Prelude.{◌≡◌, ◌++◌, IfOk, OnErr, OnOk};
-ghost use Rattle.x7_memory.specs.Frames.{AreFramesOf, frame_at};
+ghost use Rattle.x7_memory.specs.PartFrames.{AreFramesOf, frame_at};
 ghost use Rattle.x7_debug.specs.Session.{MovesTo};
 ghost use Rattle.x7_debug.specs.Showing.{FollowsOrders, FollowsSome, frame_shown, none_text, position_after, position_text, order_shown, transcript_of};
 

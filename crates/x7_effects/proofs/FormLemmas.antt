@@ -88,7 +88,7 @@ frames_long part plan places is e =
 pub full_fits : (part : PartData) (plan : PlanData) → IsPart part → IsPlan plan → plan.width ≡ frame_words part → HaveWords plan.rows → ArePieces (full_pieces part plan)
 full_fits part plan is p e f =
     let data_words : List ℕ = joined (frames_at part plan (slots_in part)) in
-    let few : length data_words < 2 ^ 27 = omega (arith, frames_long part plan (slots_in part) p e, ap (λ (k : ℕ). frame_words part * k) (slots_count part.far part.rows), is.slots) in (
+    let few : length data_words < 2 ^ 27 = omega (arith, frames_long part plan (slots_in part) p e, ap (λ (k : ℕ). frame_words part * k) (slots_count part.field_widths part.rows), is.slots) in (
       (tt, λ s. cc),
       (
         one_fits 4 11 (omega arith) (λ h. omega (arith, h)) refl (omega arith),

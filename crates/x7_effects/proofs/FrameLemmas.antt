@@ -22,13 +22,13 @@ use Rattle.x7_part.specs.Slot.{addresses_among, slots, slots_in}
 use Rattle.x7_part.specs.declared.slot.Slot.{Slot}
 use Rattle.x7_part.specs.declared.slot.Slot.TheVariants.{Frame, Pad, End}
 use Rattle.x7_memory.specs.FrameMap.{FrameMap, AreSame}
-use Rattle.x7_memory.specs.Frames.{zeros, zero_frames}
+use Rattle.x7_memory.specs.PartFrames.{zeros, zero_frames}
 use Rattle.x7_memory.specs.Plan.{PlanRow, PlanData, planned, planned_addresses, IsPlan, total}
 use Rattle.x7_memory.proofs.FrameLemmas.{among_none}
 use Rattle.x7_memory.proofs.MapLemmas.{zeros_at, unnamed_none}
 use Rattle.x7_memory.proofs.PlanLemmas.{planned_here, planned_after}
 use Rattle.x7_pipeline.specs.Runs.{onto, slots_from, written_frames, put_over}
-use Rattle.x7_pipeline.specs.InWords.{pair_of}
+use Rattle.x7_pipeline.specs.RunsInWords.{pair_of}
 use Rattle.x7_pipeline.proofs.SlotLemmas.{addresses_among_slots}
 use Rattle.x7_flow.proofs.InsideLemmas.{contains_or_not}
 use Rattle.x7_flow.proofs.StreamLemmas.{frames_land}
@@ -125,12 +125,12 @@ pub slots_land : (part : PartData) (plan : PlanData) → IsPart part → IsPlan 
     → written_frames part (get_or (addresses_in part) 0 0) (onto (joined (frames_at part plan (slots_in part))) []) ≡ reverse (map (row_of part plan) (addresses_in part))
 slots_land part plan is p same_width =
     let first : ℕ = get_or (addresses_in part) 0 0 in
-    let e : EndsInPad (slots_in part) = slots_end part.far part.rows is.some in
+    let e : EndsInPad (slots_in part) = slots_end part.field_widths part.rows is.some in
     let frames : List (List ℕ) = frames_at part plan e.prefix in
     let last : List ℕ = zero_frame part in
     let split : frames_at part plan (slots_in part) ≡ frames ++ last ∷ [] = ap (frames_at part plan) e.split ∙ frames_at_append part plan e.prefix (Pad ∷ []) in
     let wide : AreWide (frame_words part) (frames ++ last ∷ []) = rw split at (all_wide part plan (slots_in part) (plan_wide part plan p same_width)) in
-    let fars : addresses_in part ≡ addresses_among e.prefix = sym (addresses_among_slots part.far part.rows) ∙ ap addresses_among e.split ∙ addresses_before_pad e.prefix in
+    let fars : addresses_in part ≡ addresses_among e.prefix = sym (addresses_among_slots part.field_widths part.rows) ∙ ap addresses_among e.split ∙ addresses_before_pad e.prefix in
     ap (λ t. written_frames part first (onto (joined t) [])) split
     ∙ frames_land part first frames last (omega (arith, is.words)) wide
     ∙ ap (λ t. reverse (filter_map pair_of (zip t frames))) (slots_all part is ∙ e.split)
@@ -204,17 +204,17 @@ of_contained P (y ∷ xs) x a (zero, low, e) = subst P e a.0
 of_contained P (y ∷ xs) x a (suc k, low, e) = of_contained P xs x a.1 (k, omega arith, e)
 
 pub address_low : (part : PartData) (far : ℕ) → IsPart part → Contains (addresses_in part) far → far < 2 ^ far_width part
-address_low part far is h = of_contained (λ a. a < 2 ^ far_width part) (addresses_in part) far (addresses_low part.far 0 part.rows is.far is.rows) h
+address_low part far is h = of_contained (λ a. a < 2 ^ far_width part) (addresses_in part) far (addresses_low part.field_widths 0 part.rows is.field_widths is.rows) h
 
 first_of : (top : ℕ) (xs : List ℕ) → 0 < top → AllByRecursion (λ a. a < top) xs → get_or xs 0 0 < top
 first_of top [] s a = s
 first_of top (x ∷ xs) s a = a.0
 
 pub first_low : (part : PartData) → IsPart part → get_or (addresses_in part) 0 0 < 2 ^ far_width part
-first_low part is = first_of (2 ^ far_width part) (addresses_in part) (pow_pos (far_width part)) (addresses_low part.far 0 part.rows is.far is.rows)
+first_low part is = first_of (2 ^ far_width part) (addresses_in part) (pow_pos (far_width part)) (addresses_low part.field_widths 0 part.rows is.field_widths is.rows)
 
 most_width : (part : PartData) → IsPart part → 2 ^ far_width part ≤ 2 ^ 32
-most_width part is = pow-le-pow_right (omega arith) is.far.sum
+most_width part is = pow-le-pow_right (omega arith) is.field_widths.sum
 
 pub address_small : (part : PartData) (far : ℕ) → IsPart part → Contains (addresses_in part) far → far < 2 ^ 32
 address_small part far is h = omega (arith, address_low part far is h, most_width part is)

@@ -11,7 +11,7 @@ use Rattle.x7_engine.specs.declared.kept.Kept.{Kept}
 use Rattle.x7_flow.specs.Controls.{ctl0_held, has_idcode, mask_held, masked_word}
 use Rattle.x7_engine.specs.Registers.{clears_check, is_pending, takes_shutdown}
 use Rattle.x7_engine.specs.Startup.{startup_call}
-use Rattle.x7_flow.specs.Flow.{frame_fault}
+use Rattle.x7_flow.specs.HistoryFlow.{frame_fault}
 use Rattle.x7_regs.specs.Control.{has_dec}
 use Rattle.x7_engine.specs.Stop.{why_by_access, why_by_frames, why_at}
 use Rattle.x7_effects.proofs.Items.{Item, item_words, items_entered, item_entered}

@@ -153,12 +153,12 @@ groups_land part all (r ∷ qs) some w = by_test (leads_group all r) (groups_lan
     by_test false ih = ih
 
 here_of : (part : PartData) (rows : List PlanRow) → All (λ row. Contains (addresses_in part) row.far) rows → AreHere part rows
-here_of part rows a = rw (addresses_among_slots part.far part.rows) (by_rows (λ row. Contains (addresses_in part) row.far) rows a)
+here_of part rows a = rw (addresses_among_slots part.field_widths part.rows) (by_rows (λ row. Contains (addresses_in part) row.far) rows a)
 
 -- the runs of a plan's other rows stand at slots that follow one another
 pub plan_placed : (part : PartData) (rows : List PlanRow) → IsPart part → All (λ row. Contains (addresses_in part) row.far) rows → AllByRecursion (IsPlaced part) (runs_of part (others rows rows))
 plan_placed part rows is h =
-    let rises : Rises 0 (addresses_among (slots_in part)) = rw (addresses_among_slots part.far part.rows) (part_rises part.far part.rows is.far is.rows) in
+    let rises : Rises 0 (addresses_among (slots_in part)) = rw (addresses_among_slots part.field_widths part.rows) (part_rises part.field_widths part.rows is.field_widths is.rows) in
     runs_placed part (others rows rows) rises (others_all (λ row. Contains (addresses_among (slots_in part)) row.far) rows rows (here_of part rows h))
 
 pub sections_land : (part : PartData) (rows : List PlanRow) → IsPart part → All (λ row. length row.words ≡ frame_words part) rows → All (λ row. Contains (addresses_in part) row.far) rows → AllByRecursion (LandsAs part) (sections_of part rows)

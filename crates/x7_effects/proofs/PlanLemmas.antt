@@ -61,7 +61,7 @@ no_pad (r ∷ rows) (s ∷ prefix) e = no_pad rows prefix (let t : row_slots row
 one_more : (part : PartData) (far : ℕ) (rows : List PlanRow) (more : List Slot) → IsPart part → has_frame_at part far ≡ true → slots_from part far ≡ row_slots rows ++ more → length rows + 1 ≤ length (slots_from part far)
 one_more part far rows [] is a e =
     let some : 0 < length (slots_from part far) = grind (arith, nat_tests, a) in
-    let pads : EndsInPad (slots_in part) = slots_end part.far part.rows is.some in
+    let pads : EndsInPad (slots_in part) = slots_end part.field_widths part.rows is.some in
     let whole : slots_from part far ≡ from far (pads.prefix ++ Pad ∷ []) = ap (from far) pads.split in
     let ends : EndsInPad (from far (pads.prefix ++ Pad ∷ [])) = from_pad far pads.prefix (subst (λ (t : List Slot). 0 < length t) whole some) in
     absurd (no_pad rows ends.prefix (sym (append-nil (row_slots rows)) ∙ sym e ∙ whole ∙ ends.split))

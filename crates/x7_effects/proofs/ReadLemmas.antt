@@ -10,7 +10,7 @@ use Rattle.x7_pipeline.specs.Runs.{slots_from}
 use Rattle.x7_pipeline.proofs.LawLemmas.{read_frames, read_pad_frame}
 use Rattle.x7_flow.specs.Standing.{readback_words}
 use Rattle.x7_effects.specs.Played.{slot_words, words_along}
-use Rattle.x7_flow.specs.Inside.{HasFrames}
+use Rattle.x7_flow.specs.HasFrames.{HasFrames}
 
 -- this many values of a function from a place on
 abbrev listed : (ℕ → ℕ) → ℕ → ℕ → List ℕ

@@ -23,7 +23,7 @@ use Rattle.x7_pipeline.specs.Runs.{slots_from}
 use Rattle.x7_flow.specs.Asking.{Other, Reads}
 use Rattle.x7_regs.specs.Control.{forbids_reading}
 use Rattle.x7_flow.specs.Controls.{ctl0_held}
-use Rattle.x7_flow.specs.Flow.{Flow, base_of, fault_by, flow_of, frame_fault, count_given}
+use Rattle.x7_flow.specs.HistoryFlow.{Flow, base_of, fault_by, flow_of, frame_fault, count_given}
 use Rattle.x7_flow.specs.FrameAccess.{reads_frame_data}
 use Rattle.x7_flow.specs.FrameMemory.{memory_of}
 use Rattle.x7_flow.specs.Standing.{frames_read, readback_words}

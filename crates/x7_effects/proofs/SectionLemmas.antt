@@ -19,7 +19,7 @@ use Rattle.x7_pipeline.specs.Runs.{written_frames, onto, put_over, slots_from}
 use Rattle.x7_pipeline.proofs.LawLemmas.{put_twice}
 use Rattle.x7_flow.specs.Asking.{Copies, Other}
 use Rattle.x7_flow.specs.Controls.{ctl0_held}
-use Rattle.x7_flow.specs.Flow.{Flow, base_of, fault_by, flow_of, frame_fault, run_of, source_of}
+use Rattle.x7_flow.specs.HistoryFlow.{Flow, base_of, fault_by, flow_of, frame_fault, run_of, source_of}
 use Rattle.x7_flow.specs.FrameMemory.{memory_of}
 use Rattle.x7_flow.specs.Settings.{settings_of, takes_copies}
 use Rattle.x7_flow.proofs.FlowLemmas.{flow_more, flow_sound, put_none}

@@ -16,10 +16,10 @@ use Rattle.x7_pipeline.specs.Runs.{written_frames, onto, put_over, slots_from}
 use Rattle.x7_words.specs.Word.{field_of}
 use Rattle.x7_regs.specs.Control.{forbids_reading, forbids_writing}
 use Rattle.x7_flow.specs.Controls.{ctl0_held, has_idcode}
-use Rattle.x7_flow.specs.Flow.{Flow, base_of, frame_fault, run_of}
+use Rattle.x7_flow.specs.HistoryFlow.{Flow, base_of, frame_fault, run_of}
 use Rattle.x7_flow.specs.FrameMemory.{memory_of}
 use Rattle.x7_flow.specs.Settings.{Settings, settings_of, takes_frames}
-use Rattle.x7_flow.specs.Words.{NoneRefused}
+use Rattle.x7_flow.specs.WordsTaken.{NoneRefused}
 use Rattle.x7_regs.specs.declared.register.Reg.TheVariants as reg
 use Rattle.x7_flow.proofs.FlowLemmas.{flow_more}
 use Rattle.x7_flow.proofs.ManyLemmas.{words_settings}

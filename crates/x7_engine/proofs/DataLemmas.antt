@@ -10,9 +10,9 @@ use Rattle.x7_packets.proofs.HistoryLemmas.{entered_all_append}
 use Rattle.x7_part.specs.Part.{PartData}
 use Rattle.x7_pipeline.specs.declared.fault.RunFault.{RunFault}
 use Rattle.x7_flow.specs.Controls.{has_idcode}
-use Rattle.x7_flow.specs.Flow.{frame_fault}
+use Rattle.x7_flow.specs.HistoryFlow.{frame_fault}
 use Rattle.x7_flow.specs.Standing.{FramesStandFor, FramesState}
-use Rattle.x7_flow.specs.Words.{NoneRefused, TakesWords, WordsTaken, WordsTo, with_words_to, count_taken, count_seen}
+use Rattle.x7_flow.specs.WordsTaken.{NoneRefused, TakesWords, WordsTaken, WordsTo, with_words_to, count_taken, count_seen}
 use Rattle.x7_regs.specs.declared.register.Reg.{Reg}
 use Rattle.x7_regs.specs.declared.register.Reg.TheVariants as reg
 use Rattle.x7_regs.specs.Register.{number_of}

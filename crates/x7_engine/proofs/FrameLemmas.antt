@@ -18,7 +18,7 @@ use Rattle.x7_flow.specs.Asking.{Copies, Load, Commands, Other, Word}
 use Rattle.x7_flow.specs.Controls.{has_idcode, same_idcode}
 use Rattle.x7_flow.specs.FrameAccess.{reads_frame_data}
 use Rattle.x7_flow.specs.Settings.{settings_of, takes_copies, takes_frames}
-use Rattle.x7_flow.specs.Flow.{far_in, fault_by, flow_of, frame_fault}
+use Rattle.x7_flow.specs.HistoryFlow.{far_in, fault_by, flow_of, frame_fault}
 use Rattle.x7_flow.specs.FrameMemory.{memory_of}
 use Rattle.x7_flow.specs.Standing.{AfterAccess, FramesStandFor, FramesState, without_due, words_due, readback_words}
 use Rattle.x7_flow.proofs.FaultLemmas.{refused_far_read, refused_memory}

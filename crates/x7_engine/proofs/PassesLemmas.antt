@@ -10,7 +10,7 @@ use Rattle.x7_regs.specs.Register.{number_of}
 use Rattle.x7_regs.specs.declared.command.Command.TheVariants as command
 use Rattle.x7_regs.specs.declared.register.Reg.TheVariants as reg
 use Rattle.x7_flow.specs.Controls.{ctl0_held, has_idcode, mask_held, masked_word, same_idcode}
-use Rattle.x7_flow.specs.Flow.{frame_fault}
+use Rattle.x7_flow.specs.HistoryFlow.{frame_fault}
 use Rattle.x7_engine.specs.Kept.{is_fallback}
 use Rattle.x7_regs.specs.Control.{has_dec}
 use Rattle.x7_engine.specs.Stop.{Stopped, stop_of, stopped_at, stopped_by_watchdog, why_at, why_by_access, why_by_frames, why_by_write}

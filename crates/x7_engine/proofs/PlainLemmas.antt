@@ -16,7 +16,7 @@ use Rattle.x7_startup.specs.Startup.{StandsForCalls, progress_of}
 use Rattle.x7_startup.specs.Startup as call
 use Rattle.x7_startup.specs.Watchdog.{Watched, WatchesFor, watched_count, is_on, timer_value_of}
 use Rattle.x7_flow.specs.Asking.{Asked, Other}
-use Rattle.x7_flow.specs.Flow.{asks, fault_by, flow_of, frame_fault}
+use Rattle.x7_flow.specs.HistoryFlow.{asks, fault_by, flow_of, frame_fault}
 use Rattle.x7_engine.specs.declared.fault.Fault.TheVariants as fault
 use Rattle.x7_engine.specs.declared.kept.Kept.{Kept}
 use Rattle.x7_engine.specs.declared.stop.StopCause.{StopCause}

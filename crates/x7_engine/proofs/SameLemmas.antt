@@ -15,7 +15,7 @@ use Rattle.x7_startup.specs.Startup.{Call, NotBegun, StartupProgress, is_armed, 
 use Rattle.x7_startup.specs.Startup as call
 use Rattle.x7_startup.proofs.CallLemmas.{first_place, further, is_armed_arm, is_armed_bytes, is_armed_desync, is_armed_drop, progress_arm, progress_bytes, progress_desync, progress_drop}
 use Rattle.x7_flow.specs.Controls.{ctl0_held, has_idcode, mask_held, masked_word, names_part}
-use Rattle.x7_flow.specs.Flow.{Flow, asked_under, asks, fault_by, flow_by, flow_of, frame_fault}
+use Rattle.x7_flow.specs.HistoryFlow.{Flow, asked_under, asks, fault_by, flow_by, flow_of, frame_fault}
 use Rattle.x7_flow.specs.FrameMemory.{memory_of, puts}
 use Rattle.x7_flow.specs.Settings.{Settings, settings_of}
 use Rattle.x7_engine.specs.Registers.{clears_check_by, clears_check, is_pending, is_pending_after, takes_shutdown}

@@ -15,7 +15,7 @@ use Rattle.x7_engine.specs.declared.fault.Fault.TheVariants as fault
 use Rattle.x7_engine.specs.declared.stop.StopCause.{StopCause}
 use Rattle.x7_engine.specs.declared.stop.StopCause.TheVariants as stop
 use Rattle.x7_engine.specs.Standing.{DeviceStandsFor, DeviceState}
-use Rattle.x7_flow.specs.Flow.{Flow, far_in, flow_of}
+use Rattle.x7_flow.specs.HistoryFlow.{Flow, far_in, flow_of}
 use Rattle.x7_flow.specs.FrameMemory.{memory_of}
 use Rattle.x7_flow.proofs.StandingLemmas.{no_less}
 use Rattle.x7_engine.specs.State.{history_by, history_taken, last_counted, why_of, reads_of, state_by, state_of, stop_in, taken_by, taken_of, memory_in, state_owing}

@@ -8,7 +8,7 @@ use Rattle.x7_packets.proofs.GrowthLemmas.{placed_of, placed_within, until_place
 use Rattle.x7_packets.proofs.OnceLemmas.{enter_once}
 use Rattle.x7_part.specs.Part.{PartData}
 use Rattle.x7_memory.specs.FrameMap.{AreSame}
-use Rattle.x7_memory.specs.Frames.{frame_at}
+use Rattle.x7_memory.specs.PartFrames.{frame_at}
 use Rattle.x7_flow.specs.FrameMemory.{memory_of}
 use Rattle.x7_flow.specs.Saved.{FramesBack, SavesFrames}
 use Rattle.x7_flow.specs.Standing.{FramesFit, FramesStandFor}

@@ -19,7 +19,7 @@ use Rattle.x7_regs.specs.Register.{number_of, reg_number_count}
 use Rattle.x7_startup.specs.Phases.{last_phase}
 use Rattle.x7_engine.specs.declared.controls.Controls.{Controls}
 use Rattle.x7_memory.specs.FrameMap.{AreSame}
-use Rattle.x7_flow.specs.Flow.{far_in, flow_of}
+use Rattle.x7_flow.specs.HistoryFlow.{far_in, flow_of}
 use Rattle.x7_flow.specs.FrameMemory.{memory_of}
 use Rattle.x7_flow.specs.Standing.{FramesStandFor, FramesState, without_due, words_due}
 use Rattle.x7_engine.specs.declared.due.Due.{Due}

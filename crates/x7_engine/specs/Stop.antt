@@ -11,7 +11,7 @@ use Rattle.x7_regs.specs.Control.{has_dec}
 use Rattle.x7_regs.specs.Register.{number_of}
 use Rattle.x7_pipeline.specs.declared.fault.RunFault.{RunFault}
 use Rattle.x7_pipeline.specs.declared.fault.RunFault.TheVariants as run
-use Rattle.x7_flow.specs.Flow.{frame_fault}
+use Rattle.x7_flow.specs.HistoryFlow.{frame_fault}
 use Rattle.x7_engine.specs.declared.fault.Fault.{Fault}
 use Rattle.x7_engine.specs.declared.fault.Fault.TheVariants as fault
 use Rattle.x7_engine.specs.declared.kept.Kept.{Kept}

@@ -4,7 +4,7 @@ use Rattle.x7_packets.specs.Cutter.{CutterState}
 use Rattle.x7_part.specs.Part.{PartData}
 use Rattle.x7_regs.specs.declared.boot_status.Attempt.{Attempt}
 use Rattle.x7_regs.specs.declared.boot_status.Kind.{Kind}
-use Rattle.x7_memory.specs.Frames.{zero_frames}
+use Rattle.x7_memory.specs.PartFrames.{zero_frames}
 use Rattle.x7_pipeline.specs.Saved.{IsSavedOf, SavedState}
 use Rattle.x7_flow.specs.Saved.{FramesBack, SavesFrames}
 use Rattle.x7_flow.specs.Standing.{FramesFit, FramesState, frames_state}

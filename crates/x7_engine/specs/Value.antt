@@ -17,7 +17,7 @@ use Rattle.x7_startup.specs.Startup.{StartupProgress, cor0_of, ticks_of}
 use Rattle.x7_startup.specs.Lines.{done_line, gts_line, gwe_line}
 use Rattle.x7_startup.specs.declared.lines.Lines.{Lines}
 use Rattle.x7_flow.specs.FrameAccess.{reads_frame_data}
-use Rattle.x7_flow.specs.Flow.{far_in, far_read, flow_of}
+use Rattle.x7_flow.specs.HistoryFlow.{far_in, far_read, flow_of}
 use Rattle.x7_flow.specs.Standing.{frames_read, without_due}
 use Rattle.x7_engine.specs.Course.{Course, course_at}
 use Rattle.x7_engine.specs.declared.fault.Fault.{Fault}

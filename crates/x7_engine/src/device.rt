@@ -3,7 +3,7 @@ ghost use Rattle.std.specs.Prelude.{◌≡◌, ◌≤◌, ◌<◌, ◌+◌, ◌-
 ghost use Rattle.x7_packets.specs.Cutter.{between, IsNeed};
 ghost use Rattle.x7_packets.specs.History.{history_of};
 ghost use Rattle.x7_memory.specs.FrameMap.{AreSame};
-ghost use Rattle.x7_memory.specs.Frames.{AreFramesOf, frame_at};
+ghost use Rattle.x7_memory.specs.PartFrames.{AreFramesOf, frame_at};
 ghost use Rattle.x7_startup.specs.Phases.{last_phase};
 ghost use Rattle.x7_engine.specs.UntilRead.{RoomBefore};
 ghost use Rattle.x7_engine.specs.Kept.{on_the_bench};

@@ -8,7 +8,7 @@ ghost use Rattle.x7_part.specs.Part.{PartData};
 ghost use Rattle.x7_regs.specs.Register.{number_of};
 ghost use Rattle.x7_flow.specs.Settings.{AreSettingsAfter};
 ghost use Rattle.x7_flow.specs.Standing.{FramesFit, FramesStandFor, word_to};
-ghost use Rattle.x7_flow.specs.Words.{TakesWords, count_taken};
+ghost use Rattle.x7_flow.specs.WordsTaken.{TakesWords, count_taken};
 ghost use Rattle.x7_crc.specs.RunningCheck.{executed_after};
 ghost use Rattle.x7_engine.specs.WordCalls.{MayTakeWords, LeavesBytes, LeavesDue, HasNoneDueAtStop};
 ghost use Rattle.x7_engine.specs.Standing.{counted_in, due_count};

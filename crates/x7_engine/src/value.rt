@@ -3,7 +3,7 @@ ghost use Rattle.std.specs.Prelude.{◌≡◌, ◌&&◌, ℕ, None, false};
 ghost use Rattle.x7_packets.specs.History.{History};
 ghost use Rattle.x7_part.specs.Part.{PartData};
 ghost use Rattle.x7_regs.specs.Status.{status_of};
-ghost use Rattle.x7_flow.specs.Flow.{far_in, flow_of};
+ghost use Rattle.x7_flow.specs.HistoryFlow.{far_in, flow_of};
 ghost use Rattle.x7_flow.specs.Standing.{without_due};
 ghost use Rattle.x7_engine.specs.Course.{course_at};
 ghost use Rattle.x7_engine.specs.Kept.{is_fallback};

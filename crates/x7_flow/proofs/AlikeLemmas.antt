@@ -8,7 +8,7 @@ use Rattle.x7_pipeline.specs.FarAsRead.{loaded_base}
 use Rattle.x7_regs.specs.Command.{command_with}
 use Rattle.x7_flow.specs.Asking.{Asked}
 use Rattle.x7_flow.specs.Settings.{Settings, command_code_after, settings_from}
-use Rattle.x7_flow.specs.Flow.{Flow, asked_under, flow_by, write_asked}
+use Rattle.x7_flow.specs.HistoryFlow.{Flow, asked_under, flow_by, write_asked}
 use Rattle.x7_flow.specs.FrameMemory.{puts}
 use Rattle.x7_flow.specs.Later.{flow_from, flow_loaded, pairs_from, pairs_loaded}
 use Rattle.x7_flow.specs.Alike.{AreSameButForMask, WritesMaskBeforeCtl0, sets_mask}

@@ -14,7 +14,7 @@ use Rattle.x7_pipeline.specs.Fault.{address_fault, completes, copy_fault, has_fi
 use Rattle.x7_pipeline.proofs.LawLemmas.{copy_no_overrun, overrun_is, refused_far, refused_landed, write_no_multi}
 use Rattle.std.proofs.lemmas.Bool.{ltb-true}
 use Rattle.x7_flow.specs.Asking.{Asked, Load, Commands, Word, Copies, Reads, Other}
-use Rattle.x7_flow.specs.Flow.{Flow, asks, base_of, far_in, far_read, fault_by, flow_by, flow_of, frame_fault, is_copy, is_word, run_of}
+use Rattle.x7_flow.specs.HistoryFlow.{Flow, asks, base_of, far_in, far_read, fault_by, flow_by, flow_of, frame_fault, is_copy, is_word, run_of}
 use Rattle.x7_flow.specs.FrameMemory.{copy_pairs, written_frames_more, memory_of, puts}
 use Rattle.x7_flow.specs.NeedsAddress.{needs_address}
 use Rattle.x7_flow.proofs.FlowLemmas.{flow_more, landed_grows, memory_more, put_none}

@@ -15,7 +15,7 @@ use Rattle.x7_pipeline.proofs.LawLemmas.{put_twice, no_source}
 use Rattle.x7_pipeline.proofs.RunLemmas.{frames_completes, frames_goes_on}
 use Rattle.x7_flow.specs.Asking.{Asked, Load, Commands, Word, Copies, Reads, Other}
 use Rattle.x7_flow.specs.Settings.{Settings, settings_of, settings_after, settings_from}
-use Rattle.x7_flow.specs.Flow.{Flow, asked_under, asks, flow_by, flow_of, source_of}
+use Rattle.x7_flow.specs.HistoryFlow.{Flow, asked_under, asks, flow_by, flow_of, source_of}
 use Rattle.x7_flow.specs.FrameMemory.{written_frames_more, memory_of, newest_put, puts}
 use Rattle.x7_flow.specs.Sound.{IsSound}
 use Rattle.x7_flow.specs.Later.{flow_from, pairs_from, flow_loaded, pairs_loaded}

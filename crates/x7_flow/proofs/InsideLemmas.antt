@@ -12,7 +12,7 @@ use Rattle.x7_part.specs.Part.{PartData, frame_words}
 use Rattle.x7_part.specs.declared.slot.Slot.{Slot}
 use Rattle.x7_part.specs.declared.slot.Slot.TheVariants.{Frame, Pad, End}
 use Rattle.x7_memory.specs.FrameMap.{FrameMap}
-use Rattle.x7_memory.specs.Frames.{zero_frames, zeros}
+use Rattle.x7_memory.specs.PartFrames.{zero_frames, zeros}
 use Rattle.x7_memory.specs.Plan.{PlanRow, planned}
 use Rattle.x7_memory.proofs.FrameLemmas.{among_none}
 use Rattle.x7_memory.proofs.MapLemmas.{zeros_at}
@@ -24,10 +24,10 @@ use Rattle.x7_pipeline.specs.Runs.{at_slot, frames_of, put_over, slots_from}
 use Rattle.x7_pipeline.proofs.LawLemmas.{cut}
 use Rattle.x7_pipeline.proofs.SlotLemmas.{has_address, slot_address}
 use Rattle.x7_flow.specs.Asking.{Asked, Copies, Load, Commands, Other, Reads, Word}
-use Rattle.x7_flow.specs.Flow.{asks, flow_of, source_of}
+use Rattle.x7_flow.specs.HistoryFlow.{asks, flow_of, source_of}
 use Rattle.x7_flow.specs.FrameMemory.{copy_pairs, written_frames_more, memory_of, newest_put, puts}
-use Rattle.x7_flow.specs.Inside.{HasFrames}
-use Rattle.x7_flow.specs.InWords.{frame_taken, words_written}
+use Rattle.x7_flow.specs.HasFrames.{HasFrames}
+use Rattle.x7_flow.specs.FlowInWords.{frame_taken, words_written}
 use Rattle.x7_flow.proofs.WordLemmas.{source_is}
 
 -- ---- lists

@@ -11,7 +11,7 @@ use Rattle.x7_pipeline.proofs.LawLemmas.{landed_empty, lands_more, lands_none}
 use Rattle.x7_regs.specs.Command.{command_with}
 use Rattle.x7_flow.specs.Asking.{Asked, Word, Other}
 use Rattle.x7_flow.specs.Settings.{Settings, settings_of, settings_after, settings_from, takes_frames}
-use Rattle.x7_flow.specs.Flow.{Flow, asked_under, base_of, flow_by, flow_of, run_of}
+use Rattle.x7_flow.specs.HistoryFlow.{Flow, asked_under, base_of, flow_by, flow_of, run_of}
 use Rattle.x7_flow.specs.FrameMemory.{written_frames_more, memory_of, puts}
 use Rattle.x7_flow.specs.Later.{flow_from, pairs_from, pairs_loaded}
 use Rattle.x7_flow.proofs.FlowLemmas.{flow_more, flow_sound, landed_grows, memory_after_load, memory_more}

@@ -16,15 +16,15 @@ use Rattle.x7_memory.specs.FrameMap.{AreSame, override}
 use Rattle.x7_memory.specs.Plan.{PlanRow, planned, planned_addresses}
 use Rattle.x7_memory.proofs.MapLemmas.{override_same, planned_joined}
 use Rattle.x7_memory.proofs.PlanLemmas.{planned_after, planned_here}
-use Rattle.x7_pipeline.specs.InWords.{pair_of}
+use Rattle.x7_pipeline.specs.RunsInWords.{pair_of}
 use Rattle.x7_pipeline.specs.Runs.{frames_of, onto, slots_from}
 use Rattle.x7_pipeline.specs.Copies.{newest_of}
 use Rattle.x7_pipeline.specs.FarAsRead.{loaded_base}
 use Rattle.x7_pipeline.proofs.SlotLemmas.{addresses_among_slots}
 use Rattle.x7_flow.specs.Settings.{settings_of, takes_copies, takes_frames}
 use Rattle.x7_flow.specs.Asking.{Copies, Other}
-use Rattle.x7_flow.specs.Flow.{Flow, flow_by, flow_of, run_of, source_of}
-use Rattle.x7_flow.specs.InWords.{frame_taken, words_written}
+use Rattle.x7_flow.specs.HistoryFlow.{Flow, flow_by, flow_of, run_of, source_of}
+use Rattle.x7_flow.specs.FlowInWords.{frame_taken, words_written}
 use Rattle.x7_flow.proofs.FlowLemmas.{flow_more}
 use Rattle.x7_flow.proofs.WordLemmas.{run_is, source_is}
 use Rattle.x7_flow.specs.FrameMemory.{memory_of}
@@ -95,7 +95,7 @@ pub write_plans : (part : PartData) (earlier : History) (w place n : ℕ) (frame
 write_plans part earlier w place n frames last some rises t all far =
     let rows : List PlanRow = filter_map pair_of (zip (slots_from part (loaded_base part w)) frames) in
     let up : Rises 0 (planned_addresses rows) =
-    rows_rise 0 (slots_from part (loaded_base part w)) frames (rises_from 0 (loaded_base part w) (slots_in part) (rw (addresses_among_slots part.far part.rows) rises)) in
+    rows_rise 0 (slots_from part (loaded_base part w)) frames (rises_from 0 (loaded_base part w) (slots_in part) (rw (addresses_among_slots part.field_widths part.rows) rises)) in
     write_puts part earlier w place n frames last some t all far
     ∙ override_same (memory_of part earlier) (memory_of part earlier) (planned (reverse rows)) (planned rows) (λ a. refl) (planned_reversed 0 rows up) far
 

@@ -8,7 +8,7 @@ use Rattle.x7_regs.specs.Command.{command_by}
 use Rattle.x7_pipeline.specs.FarAsRead.{has_frame_at}
 use Rattle.x7_flow.specs.Asking.{Asked, Load, Commands, Word, Copies, Reads, Other}
 use Rattle.x7_flow.specs.Settings.{Settings, gives_frames, settings_from, settings_of, takes_copies, takes_frames}
-use Rattle.x7_flow.specs.Flow.{Flow, asked_under, asks, flow_by, flow_of}
+use Rattle.x7_flow.specs.HistoryFlow.{Flow, asked_under, asks, flow_by, flow_of}
 use Rattle.x7_flow.specs.FrameMemory.{memory_of, puts}
 use Rattle.x7_flow.specs.Later.{flow_from, pairs_from}
 use Rattle.x7_flow.specs.Quiet.{AreQuiet}

@@ -12,10 +12,10 @@ use Rattle.x7_pipeline.specs.Fault.{address_fault, completes, has_filled, write_
 use Rattle.x7_pipeline.specs.Runs.{frames_of, written_frames, onto, put_over, slots_from}
 use Rattle.x7_pipeline.proofs.LawLemmas.{landed_empty, lands_over}
 use Rattle.x7_pipeline.proofs.RunLemmas.{length_run}
-use Rattle.x7_flow.specs.Flow.{Flow, base_of, fault_by, flow_of, frame_fault, run_of}
+use Rattle.x7_flow.specs.HistoryFlow.{Flow, base_of, fault_by, flow_of, frame_fault, run_of}
 use Rattle.x7_flow.specs.FrameMemory.{memory_of}
 use Rattle.x7_flow.specs.Settings.{settings_of, takes_frames}
-use Rattle.x7_flow.specs.Words.{NoneRefused}
+use Rattle.x7_flow.specs.WordsTaken.{NoneRefused}
 use Rattle.x7_regs.specs.declared.register.Reg.TheVariants as reg
 use Rattle.x7_flow.proofs.FlowLemmas.{put_none}
 use Rattle.x7_flow.proofs.ManyLemmas.{word_asked, word_flow, words_flow, words_land}

@@ -6,7 +6,7 @@ use Rattle.x7_flow.specs.Controls.{ctl0_held, has_idcode, mask_held}
 use Rattle.x7_regs.specs.Command.{command_by, command_with}
 use Rattle.x7_flow.specs.Asking.{Asked, Load, Commands, Word, Copies, Reads, Other}
 use Rattle.x7_flow.specs.Settings.{Settings, settings_of, settings_after, settings_from, command_code_after, takes_frames, takes_copies, gives_frames}
-use Rattle.x7_flow.specs.Flow.{asked_under}
+use Rattle.x7_flow.specs.HistoryFlow.{asked_under}
 
 held_more : (access : Access) (old : ℕ) → written 4 access old % 2 ^ 5 ≡ command_code_after access (old % 2 ^ 5)
 held_more (Write register w) old = by (register == 4)

@@ -10,7 +10,7 @@ use Rattle.x7_memory.specs.FrameMap.{FrameMap, AreSame}
 use Rattle.x7_memory.specs.Plan.{PlanRow, planned}
 use Rattle.x7_memory.proofs.MapLemmas.{override_again, override_same}
 use Rattle.x7_regs.specs.Command.{command_with}
-use Rattle.x7_pipeline.specs.InWords.{pair_of}
+use Rattle.x7_pipeline.specs.RunsInWords.{pair_of}
 use Rattle.x7_pipeline.specs.Runs.{but_newest, frames_of, written_frames, onto, put_over, rest_of, slots_from, Lands}
 use Rattle.x7_pipeline.specs.FarAsRead.{has_frame_at, loaded_base}
 use Rattle.x7_pipeline.specs.Copies.{copied, is_mfw}
@@ -18,7 +18,7 @@ use Rattle.x7_pipeline.proofs.LawLemmas.{landed_empty, landed_in_order, reverse_
 use Rattle.x7_pipeline.proofs.RunLemmas.{frames_completes, frames_goes_on, rest_completes, rest_goes_on}
 use Rattle.x7_flow.specs.Asking.{Asked, Copies, Other}
 use Rattle.x7_flow.specs.Settings.{Settings, settings_of, takes_copies, takes_frames}
-use Rattle.x7_flow.specs.Flow.{Flow, asked_under, base_of, flow_by, flow_of, run_of, source_of}
+use Rattle.x7_flow.specs.HistoryFlow.{Flow, asked_under, base_of, flow_by, flow_of, run_of, source_of}
 use Rattle.x7_flow.specs.FrameMemory.{copy_pairs, memory_of, puts}
 use Rattle.x7_flow.proofs.FlowLemmas.{flow_more, flow_sound, memory_more, put_none}
 use Rattle.x7_flow.proofs.ManyLemmas.{words_land}

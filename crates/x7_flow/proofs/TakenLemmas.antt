@@ -7,7 +7,7 @@ use Rattle.x7_regs.specs.declared.register.Reg.{Reg}
 use Rattle.x7_regs.specs.declared.register.Reg.TheVariants as reg
 use Rattle.x7_regs.specs.Register.{number_of}
 use Rattle.x7_memory.specs.FrameMap.{FrameMap, AreSame}
-use Rattle.x7_memory.specs.Frames.{frame_at}
+use Rattle.x7_memory.specs.PartFrames.{frame_at}
 use Rattle.x7_memory.specs.Plan.{PlanRow, planned}
 use Rattle.x7_memory.proofs.MapLemmas.{override_same}
 use Rattle.x7_pipeline.specs.declared.fault.RunFault.{RunFault}
@@ -15,14 +15,14 @@ use Rattle.x7_pipeline.specs.Runs.{written_frames, onto, put_over, Lands}
 use Rattle.x7_pipeline.specs.Fault.{write_fault}
 use Rattle.x7_pipeline.specs.Flow.{HoldsFlow, OfFlow, after_words, with_run, flow_written}
 use Rattle.x7_pipeline.specs.Pipeline.{PipelineData}
-use Rattle.x7_pipeline.specs.Words.{RunWritten, with_later_words, run_written}
+use Rattle.x7_pipeline.specs.RunWritten.{RunWritten, with_later_words, run_written}
 use Rattle.x7_flow.specs.Asking.{Asked, Copies, Other, Word}
 use Rattle.x7_flow.specs.Settings.{settings_of, takes_copies, takes_frames}
-use Rattle.x7_flow.specs.Flow.{Flow, asks, base_of, fault_by, flow_of, frame_fault, run_of}
+use Rattle.x7_flow.specs.HistoryFlow.{Flow, asks, base_of, fault_by, flow_of, frame_fault, run_of}
 use Rattle.x7_flow.specs.FrameMemory.{copy_pairs, memory_of}
 use Rattle.x7_flow.specs.Standing.{AreFramesAfter, HaveDone, FramesStandFor, FramesState, HasFlow, frames_state, without_due}
 use Rattle.x7_words.specs.Word.{words_of_bytes}
-use Rattle.x7_flow.specs.Words.{EndsBy, NoneRefused, WordsTaken, with_copies, with_frame_data, with_words_to, count_seen, words_to}
+use Rattle.x7_flow.specs.WordsTaken.{EndsBy, NoneRefused, WordsTaken, with_copies, with_frame_data, with_words_to, count_seen, words_to}
 use Rattle.x7_flow.proofs.StreamLemmas.{IsCopied, copied_all, copy_asked, copy_flow}
 use Rattle.x7_flow.proofs.StandingLemmas.{did_other, no_less, one_more, same_flow}
 use Rattle.x7_flow.proofs.ManyLemmas.{word_asked, word_flow, words_flow, words_land}

@@ -12,9 +12,9 @@ use Rattle.x7_pipeline.specs.Copies.{is_mfw, is_wcfg, newest_of, source_after}
 use Rattle.x7_flow.specs.FrameAccess.{reads_frame_data, writes_frame_data}
 use Rattle.x7_flow.specs.Asking.{Load, Commands, Word, Copies, Reads, Other}
 use Rattle.x7_flow.specs.Settings.{Settings, command_code_after, settings_of, takes_frames, takes_copies, gives_frames}
-use Rattle.x7_flow.specs.Flow.{Flow, asked_under, asks, is_read, is_word, far_in, far_read, flow_by, flow_of, base_of, run_of, source_of, count_given}
+use Rattle.x7_flow.specs.HistoryFlow.{Flow, asked_under, asks, is_read, is_word, far_in, far_read, flow_by, flow_of, base_of, run_of, source_of, count_given}
 use Rattle.x7_flow.specs.Stretches.{is_boundary}
-use Rattle.x7_flow.specs.InWords.{base_after, count_asked, frame_taken, run_with_word, sum_of_reads, words_written}
+use Rattle.x7_flow.specs.FlowInWords.{base_after, count_asked, frame_taken, run_with_word, sum_of_reads, words_written}
 use Rattle.x7_flow.proofs.SettingsLemmas.{settings_more}
 use Rattle.x7_flow.proofs.FlowLemmas.{flow_sound}
 

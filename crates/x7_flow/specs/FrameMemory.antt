@@ -5,14 +5,14 @@ use Rattle.x7_packets.specs.History.{History}
 use Rattle.x7_part.specs.Part.{PartData, frame_words}
 use Rattle.x7_part.specs.declared.slot.Slot.TheVariants.{End}
 use Rattle.x7_memory.specs.FrameMap.{FrameMap}
-use Rattle.x7_memory.specs.Frames.{zeros}
+use Rattle.x7_memory.specs.PartFrames.{zeros}
 use Rattle.x7_memory.specs.Plan.{PlanRow}
 use Rattle.x7_pipeline.specs.Runs.{at_slot, frames_of, put_over, slots_from}
 use Rattle.x7_pipeline.specs.FarAsRead.{has_frame_at}
 use Rattle.x7_pipeline.specs.Copies.{copied, is_mfw}
 use Rattle.x7_pipeline.specs.Fault.{completes}
 use Rattle.x7_flow.specs.Asking.{Asked, Word, Copies}
-use Rattle.x7_flow.specs.Flow.{Flow, asks, flow_of}
+use Rattle.x7_flow.specs.HistoryFlow.{Flow, asks, flow_of}
 
 -- the newest of frames at its slot
 abbrev pub newest_put : PartData → ℕ → List (List ℕ) → List PlanRow

@@ -8,12 +8,12 @@ use Rattle.x7_part.specs.Part.{PartData, frame_words}
 use Rattle.x7_memory.specs.Plan.{PlanRow}
 use Rattle.x7_pipeline.specs.Copies.{copied}
 use Rattle.x7_pipeline.specs.FarAsRead.{has_frame_at, loaded_base}
-use Rattle.x7_pipeline.specs.InWords.{placed_from}
+use Rattle.x7_pipeline.specs.RunsInWords.{placed_from}
 use Rattle.x7_pipeline.specs.Runs.{onto}
 use Rattle.x7_flow.specs.Settings.{settings_of, takes_copies, takes_frames}
-use Rattle.x7_flow.specs.Flow.{run_of, source_of}
+use Rattle.x7_flow.specs.HistoryFlow.{run_of, source_of}
 use Rattle.x7_flow.specs.Later.{after_load, has_mfw}
-use Rattle.x7_flow.specs.Words.{with_copies, with_frame_data}
+use Rattle.x7_flow.specs.WordsTaken.{with_copies, with_frame_data}
 
 -- a write of whole frames: the word of FAR and its place, the place where the words of FDRI begin, and their frames:
 -- the last one, which stays in the frame buffer, and those before it

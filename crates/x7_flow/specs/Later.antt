@@ -12,7 +12,7 @@ use Rattle.x7_pipeline.specs.Copies.{is_mfw}
 use Rattle.x7_pipeline.specs.FarAsRead.{loaded_base}
 use Rattle.x7_pipeline.specs.Runs.{put_over}
 use Rattle.x7_flow.specs.Settings.{Settings, settings_from, settings_of, takes_frames}
-use Rattle.x7_flow.specs.Flow.{Flow, asked_under, flow_by, flow_of, source_of}
+use Rattle.x7_flow.specs.HistoryFlow.{Flow, asked_under, flow_by, flow_of, source_of}
 use Rattle.x7_flow.specs.FrameMemory.{memory_of, puts}
 
 -- the flow of a history that goes on

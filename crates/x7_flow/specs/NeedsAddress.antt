@@ -4,9 +4,9 @@ use Rattle.x7_packets.specs.History.{Access, History}
 use Rattle.x7_part.specs.Part.{PartData}
 use Rattle.x7_pipeline.specs.Copies.{is_mfw}
 use Rattle.x7_pipeline.specs.FarAsRead.{has_frame_at}
-use Rattle.x7_pipeline.specs.InWords.{Overruns}
+use Rattle.x7_pipeline.specs.RunsInWords.{Overruns}
 use Rattle.x7_flow.specs.Asking.{Asked, Word, Copies, Reads}
-use Rattle.x7_flow.specs.Flow.{Flow, asks, base_of, flow_of, is_copy, run_of}
+use Rattle.x7_flow.specs.HistoryFlow.{Flow, asks, base_of, flow_of, is_copy, run_of}
 
 -- a run has no word
 abbrev pub is_empty : List ℕ → Bool

@@ -3,7 +3,7 @@ use Rattle.std.specs.Prelude.{◌≡◌, ◌∷◌}
 use Rattle.x7_packets.specs.History.{Entry, History}
 use Rattle.x7_part.specs.Part.{PartData}
 use Rattle.x7_memory.specs.FrameMap.{AreSame}
-use Rattle.x7_memory.specs.Frames.{AreFramesOf, frame_at}
+use Rattle.x7_memory.specs.PartFrames.{AreFramesOf, frame_at}
 use Rattle.x7_pipeline.specs.Runs.{put_over}
 use Rattle.x7_pipeline.specs.Saved.{SavedState, next_put, pair_at}
 use Rattle.x7_flow.specs.FrameMemory.{memory_of}

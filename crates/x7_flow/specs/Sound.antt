@@ -5,7 +5,7 @@ use Rattle.x7_regs.specs.Command.{command_with}
 use Rattle.x7_pipeline.specs.FarAsRead.{has_frame_at}
 use Rattle.x7_pipeline.specs.Copies.{is_mfw, is_wcfg}
 use Rattle.x7_flow.specs.Settings.{Settings}
-use Rattle.x7_flow.specs.Flow.{Flow}
+use Rattle.x7_flow.specs.HistoryFlow.{Flow}
 
 -- a flow is sound under settings: its command is the one that CMD holds, only WCFG has a run, only MFW a source, and
 -- only an address gives words

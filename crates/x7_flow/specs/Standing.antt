@@ -7,7 +7,7 @@ use Rattle.x7_regs.specs.Register.{number_of}
 use Rattle.x7_pipeline.specs.declared.fault.RunFault.{RunFault}
 use Rattle.x7_part.specs.Part.{PartData}
 use Rattle.x7_memory.specs.FrameMap.{FrameMap, AreSame}
-use Rattle.x7_memory.specs.Frames.{frame_at}
+use Rattle.x7_memory.specs.PartFrames.{frame_at}
 use Rattle.x7_pipeline.specs.FarAsRead.{has_frame_at}
 use Rattle.x7_pipeline.specs.Flow.{HoldsFlow}
 use Rattle.x7_pipeline.specs.Pipeline.{AreOfPart, PipelineData}
@@ -15,10 +15,10 @@ use Rattle.x7_pipeline.specs.Readback.{readback_at}
 use Rattle.x7_pipeline.specs.Runs.{put_over}
 use Rattle.x7_flow.specs.Asking.{Asked, Reads}
 use Rattle.x7_flow.specs.declared.settings.FrameSettings.{FrameSettings}
-use Rattle.x7_flow.specs.Flow.{Flow, HasAddress, asks, base_of, flow_by, flow_of, frame_fault, count_given}
+use Rattle.x7_flow.specs.HistoryFlow.{Flow, HasAddress, asks, base_of, flow_by, flow_of, frame_fault, count_given}
 use Rattle.x7_flow.specs.FrameAccess.{reads_frame_data}
 use Rattle.x7_flow.specs.FrameMemory.{memory_of, puts}
-use Rattle.x7_flow.specs.InWords.{count_asked}
+use Rattle.x7_flow.specs.FlowInWords.{count_asked}
 use Rattle.x7_flow.specs.Settings.{AreSettingsAfter}
 
 -- the pipeline stands for a flow, which has given words only where its base is an address
@@ -87,7 +87,7 @@ HaveWordsDue part f count = (more : ℕ) × HaveDue part f (more + count)
 abbrev pub frames_map : PartData → FramesState → FrameMap
 frames_map part f = frame_at part f.memory
 
--- what holds of a history that the frames stand for with no word due, and these settings too
+-- a fact holds of each history that the frames stand for with no word due, and that leaves these settings
 abbrev pub OfFrames : PartData → FrameSettings → FramesState → (History → Type 0) → Type 0
 OfFrames part settings f Fact = (h : History) → AreSettingsAfter part.idcode settings h → FramesStandFor part f h 0 → Fact h
 

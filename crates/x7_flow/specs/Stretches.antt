@@ -4,13 +4,13 @@ use Rattle.std.specs.Prelude.{◌||◌, Bool, if◌then◌else◌, List, [], ◌
 use Rattle.x7_packets.specs.History.{Access, History, writes}
 use Rattle.x7_part.specs.Part.{PartData}
 use Rattle.x7_memory.specs.FrameMap.{FrameMap}
-use Rattle.x7_memory.specs.Frames.{zeros}
+use Rattle.x7_memory.specs.PartFrames.{zeros}
 use Rattle.x7_memory.specs.Plan.{PlanRow}
 use Rattle.x7_regs.specs.declared.register.Reg.TheVariants as reg
 use Rattle.x7_regs.specs.Register.{number_of}
 use Rattle.x7_pipeline.specs.Runs.{written_frames, put_over}
 use Rattle.x7_flow.specs.FrameAccess.{copies_frame}
-use Rattle.x7_flow.specs.Flow.{base_of, flow_of, run_of}
+use Rattle.x7_flow.specs.HistoryFlow.{base_of, flow_of, run_of}
 use Rattle.x7_flow.specs.FrameMemory.{copy_pairs}
 
 -- the access begins a stretch

@@ -5,9 +5,9 @@ ghost use Rattle.x7_part.specs.Part.{PartData};
 ghost use Rattle.x7_packets.specs.History.{History, Write};
 ghost use Rattle.x7_regs.specs.Register.{number_of};
 ghost use Rattle.x7_regs.specs.declared.register.Reg.TheVariants as reg;
-ghost use Rattle.x7_flow.specs.Flow.{far_in, flow_of, frame_fault};
+ghost use Rattle.x7_flow.specs.HistoryFlow.{far_in, flow_of, frame_fault};
 ghost use Rattle.x7_flow.specs.Standing.{AfterAccess, AfterRead, FramesFit, FramesStandFor, HaveWordsDue, OfFrames, ReadsData, without_due, read_entry, words_due, written_to};
-ghost use Rattle.x7_flow.specs.Words.{TakesWords, WordsTaken, words_to};
+ghost use Rattle.x7_flow.specs.WordsTaken.{TakesWords, WordsTaken, words_to};
 
 mod saved;
 
@@ -88,8 +88,8 @@ impl Frames {
         )
     }
 
-    /// Takes words written to FDRI or MFWR on a device whose IDCODE was written, four bytes each, up to the first that
-    /// is refused. The answer is the number of words looked at, a refused one included, and the fault.
+    /// Takes words written to FDRI or MFWR, four bytes each, up to the first that is refused. The answer is the number
+    /// of words looked at, a refused one included, and the fault.
     pub fn write_bytes(
         &mut self,
         settings: FrameSettings,

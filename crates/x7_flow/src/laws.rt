@@ -11,12 +11,12 @@ ghost use Rattle.x7_pipeline.specs.Runs.{written_frames, onto};
 ghost use Rattle.x7_pipeline.specs.Saved.{SavedState};
 ghost use Rattle.x7_pipeline.specs.declared.fault.RunFault.{RunFault};
 ghost use Rattle.x7_flow.specs.Alike.{AreSameButForMask, WritesMaskBeforeCtl0};
-ghost use Rattle.x7_flow.specs.Flow.{Flow, HasAddress, asks, base_of, begins_stretch, far_read, flow_of, frame_fault, count_given, is_copy, is_read, is_word, run_of, source_of};
+ghost use Rattle.x7_flow.specs.HistoryFlow.{Flow, HasAddress, asks, base_of, begins_stretch, far_read, flow_of, frame_fault, count_given, is_copy, is_read, is_word, run_of, source_of};
 ghost use Rattle.x7_flow.specs.FrameAccess.{copies_frame, reads_frame_data, writes_frame_data};
 ghost use Rattle.x7_flow.specs.FrameMemory.{written_frames_more, memory_of};
 ghost use Rattle.x7_flow.specs.FrameWrites.{FrameCopies, FrameWrite, MfwAfter, TakesCopies, TakesWrite, pair_copied, placed, with_frame_copies, with_frames};
-ghost use Rattle.x7_flow.specs.InWords.{base_after, frame_taken, sum_of_reads, words_written};
-ghost use Rattle.x7_flow.specs.Inside.{HasFrames};
+ghost use Rattle.x7_flow.specs.FlowInWords.{base_after, frame_taken, sum_of_reads, words_written};
+ghost use Rattle.x7_flow.specs.HasFrames.{HasFrames};
 ghost use Rattle.x7_flow.specs.Later.{BeginsRun, MemoryGets, Start, after_load, flow_from, flow_on, has_mfw, pairs_after, pairs_alone, pairs_after_load, pairs_from, pairs_loaded, pairs_on, start_on};
 ghost use Rattle.x7_flow.specs.NeedsAddress.{LacksAddress, LacksSlot, LacksSource, RunsAtAddress, WritesWord};
 ghost use Rattle.x7_flow.specs.Quiet.{AreQuiet};
@@ -25,7 +25,7 @@ ghost use Rattle.x7_flow.specs.Settings.{Settings, TakesFrames, settings_after, 
 ghost use Rattle.x7_flow.specs.Sound.{IsSound};
 ghost use Rattle.x7_flow.specs.Standing.{FramesHaveDone, FramesFit, FramesStandFor, FramesState, ReadsData, ReadsFrames, ReadsMoreThanDue, flow_read, frames_map, frames_read, without_due, words_due, written_to};
 ghost use Rattle.x7_flow.specs.Stretches.{ends_of, is_boundary, overridden};
-ghost use Rattle.x7_flow.specs.Words.{HasRoomFor, NoneRefused, with_copies, with_frame_data};
+ghost use Rattle.x7_flow.specs.WordsTaken.{HasRoomFor, NoneRefused, with_copies, with_frame_data};
 
 /// A flow is sound under its settings; a word more makes its written frames grow, and an access more its settings, as
 /// the definitions of one step say.

@@ -3,10 +3,10 @@ ghost use Rattle.std.specs.Prelude.{◌≡◌, ◌/◌, ◌%◌, ◌≤◌, ℕ,
 ghost use Rattle.x7_words.specs.Word.{AreWholeWords};
 ghost use Rattle.x7_regs.specs.declared.register.Reg.TheVariants as reg;
 ghost use Rattle.x7_flow.specs.Settings.{AreSettingsAfter, takes_copies as takes_copies_by};
-ghost use Rattle.x7_flow.specs.Words.{OfTaking, WordsTaken, words_to};
+ghost use Rattle.x7_flow.specs.WordsTaken.{OfTaking, WordsTaken, words_to};
 ghost use Rattle.x7_packets.specs.History.{History};
 ghost use Rattle.x7_pipeline.specs.Pipeline.{AreOfPart};
-ghost use Rattle.x7_flow.specs.Flow.{Flow, asks, fault_by};
+ghost use Rattle.x7_flow.specs.HistoryFlow.{Flow, asks, fault_by};
 ghost use Rattle.x7_flow.specs.Standing.{HaveDone, HasFlow, frames_state, word_to};
 
 use crate::asking::{takes_copies, takes_frames};

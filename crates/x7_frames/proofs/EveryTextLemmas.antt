@@ -16,7 +16,7 @@ use Rattle.x7_part.specs.Part.{PartData, frame_words}
 use Rattle.x7_memory.specs.Plan.{IsPlanRow, PlanRow, planned_addresses}
 use Rattle.x7_memory.proofs.DraftLemmas.{sorted_plan}
 use Rattle.x7_frames.specs.FramesText.{AreGood, AreLinesOfRows, frame, frame_head, HasPlanOrFault, IsFrameLine, IsGoodText, no_frame, no_line}
-use Rattle.x7_frames.specs.Reading.{IsFaultAt, TakesLine}
+use Rattle.x7_frames.specs.LineTaken.{IsFaultAt, TakesLine}
 use Rattle.x7_frames.specs.declared.fault.FramesFault.{FramesFault}
 use Rattle.x7_frames.specs.declared.fault.FramesFault.TheVariants as fault
 use Rattle.x7_frames.proofs.GoodLemmas.{fault_of, good_next, no_rows_apart}

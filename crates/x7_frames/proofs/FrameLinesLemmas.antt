@@ -5,7 +5,7 @@ use Rattle.x7_part.specs.Part.{PartData}
 use Rattle.x7_memory.specs.Plan.{PlanData}
 use Rattle.x7_frames.specs.FrameLines.{AreGoodWith, AreRefused, ComeTo, HasRows, RowsRead}
 use Rattle.x7_frames.specs.FramesText.{IsPlanOf}
-use Rattle.x7_frames.specs.Reading.{IsFaultAt, IsGoodLine, TakesLine}
+use Rattle.x7_frames.specs.LineTaken.{IsFaultAt, IsGoodLine, TakesLine}
 use Rattle.x7_frames.specs.declared.fault.FramesFault.{FramesFault}
 use Rattle.x7_frames.specs.declared.fault.FramesFault.TheVariants as fault
 use Rattle.x7_frames.proofs.GoodLemmas.{fault_of, good_next}

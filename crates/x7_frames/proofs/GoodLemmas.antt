@@ -9,7 +9,7 @@ use Rattle.x7_part.specs.Part.{PartData, frame_words}
 use Rattle.x7_memory.specs.Plan.{PlanRow, AreApart, planned_addresses}
 use Rattle.x7_text.specs.Lines.{means_nothing}
 use Rattle.x7_frames.specs.FramesText.{AreGood, AreLinesOfRows, no_line, no_frame, frame, IsFrameLine, IsPlanOf, ReachesLine}
-use Rattle.x7_frames.specs.Reading.{HasMarks, IsFaultAt, TakesLine}
+use Rattle.x7_frames.specs.LineTaken.{HasMarks, IsFaultAt, TakesLine}
 use Rattle.x7_frames.specs.declared.fault.FramesFault.{FramesFault}
 use Rattle.x7_frames.specs.declared.fault.FramesFault.TheVariants as fault
 

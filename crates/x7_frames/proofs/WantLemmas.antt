@@ -7,7 +7,7 @@ use Rattle.x7_part.specs.Part.{PartData}
 use Rattle.x7_memory.specs.Plan.{PlanRow}
 use Rattle.x7_frames.specs.FrameLines.{AreGoodWith, HasRows, RowsRead}
 use Rattle.x7_frames.specs.FramesText.{AreGood, IsGoodText}
-use Rattle.x7_frames.specs.Reading.{IsGoodLine}
+use Rattle.x7_frames.specs.LineTaken.{IsGoodLine}
 use Rattle.x7_frames.specs.declared.fault.FramesFault.TheVariants as fault
 use Rattle.x7_frames.proofs.EveryTextLemmas.{LineOr, good_text, line_or}
 use Rattle.x7_frames.proofs.OneLemmas.{foreign_there, no_line_there, repeated_there}

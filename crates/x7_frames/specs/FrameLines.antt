@@ -4,7 +4,7 @@ use Rattle.x7_text.specs.Lines.{split}
 use Rattle.x7_part.specs.Part.{PartData, frame_words}
 use Rattle.x7_memory.specs.Plan.{AreApart, PlanData, PlanRow}
 use Rattle.x7_frames.specs.FramesText.{AreGood, IsPlanOf}
-use Rattle.x7_frames.specs.Reading.{HasMarks}
+use Rattle.x7_frames.specs.LineTaken.{HasMarks}
 use Rattle.x7_frames.specs.declared.fault.FramesFault.{FramesFault}
 use Rattle.x7_frames.specs.declared.fault.FramesFault.TheVariants as fault
 

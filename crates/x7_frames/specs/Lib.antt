@@ -1,3 +1,3 @@
 pub mod FramesText
-pub mod Reading
+pub mod LineTaken
 pub mod FrameLines

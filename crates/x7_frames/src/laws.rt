@@ -6,7 +6,7 @@ ghost use Rattle.x7_part.specs.Part.{PartData};
 ghost use Rattle.x7_memory.specs.Plan.{IsPlanFor, PlanData};
 ghost use Rattle.x7_frames.specs.FrameLines.{AreGoodWith, HasRows, RowsRead};
 ghost use Rattle.x7_frames.specs.FramesText.{HasPlanOrFault, IsGoodText, IsPlanOf, plan_text};
-ghost use Rattle.x7_frames.specs.Reading.{IsGoodLine};
+ghost use Rattle.x7_frames.specs.LineTaken.{IsGoodLine};
 ghost use Rattle.x7_frames.specs.declared.fault.FramesFault.{FramesFault};
 
 /// A text comes to one thing: it has at most one plan, one that has a plan has no fault, and another has one fault.

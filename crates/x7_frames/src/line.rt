@@ -9,12 +9,12 @@ ghost use Rattle.x7_frames.specs.FramesText.{HasNoFrameHead, frame_head, IsFrame
 use x7_text::{block_of_hex, read_pairs, word_of_hex};
 use x7_words::{is_same, word_of};
 
-/// The most bytes of a frame: four for each of its words, of which it has 255 at most.
-const MOST_FRAME_BYTES: usize = 4 * 255;
+/// The most bytes of a frame: four for each of its words.
+const MOST_FRAME_BYTES: usize = 4 * x7_part::MOST_FRAME_WORDS as usize;
 
 /// How many bytes stand before the digits of a frame's line: `frame`, a space, the eight digits of its address, a
 /// space.
-const HEAD_SIZE: usize = 15;
+pub(crate) const HEAD_SIZE: usize = 15;
 
 /// What stands on a frame's line: its address, and the digits of its words.
 #[derive(Clone, Copy)]

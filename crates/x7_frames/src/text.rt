@@ -5,6 +5,7 @@ ghost use Rattle.x7_text.specs.Appends.{Appends, HasSpareRoom};
 ghost use Rattle.x7_text.specs.Digits.{hex_word};
 ghost use Rattle.x7_frames.specs.FramesText.{frame_line, plan_text};
 
+use crate::line::HEAD_SIZE;
 use std::alloc::{AllocError, Global};
 use x7_memory::Plan;
 use x7_text::{hex_of_word, put};
@@ -24,7 +25,7 @@ fn put_words(text: &mut Vec<u8>, words: &[u32])
 fn put_line(text: &mut Vec<u8>, far: u32, words: &[u32]) -> Result<(), AllocError>
     ensures { OnOk result (text.new.items ≡ text.old.items ++ frame_line record { far = far; words = words.now }) }
 {
-    text.reserve(16)?;
+    text.reserve(HEAD_SIZE)?;
     put(text, b"frame ");
     put(text, &hex_of_word(far));
     put(text, b" ");

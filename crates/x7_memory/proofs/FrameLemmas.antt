@@ -4,7 +4,7 @@ use Rattle.std.specs.Prelude.{Contains}
 use Rattle.std.proofs.lemmas.Bool.Decides.{eqb_tells}
 use Rattle.x7_part.proofs.RowLemmas.{later_larger}
 use Rattle.x7_part.specs.AddressOrder.{Rises, rise}
-use Rattle.x7_memory.specs.Frames.{frame_among}
+use Rattle.x7_memory.specs.PartFrames.{frame_among}
 
 -- ---- one address more
 

@@ -8,7 +8,7 @@ use Rattle.std.specs.Option.{option_or}
 use Rattle.x7_part.specs.AddressOrder.{addresses_in}
 use Rattle.x7_part.specs.Part.{PartData, frame_words}
 use Rattle.x7_memory.specs.FrameMap.{FrameMap, override, only, AreDisjoint, AreSame}
-use Rattle.x7_memory.specs.Frames.{frame_among, frame_at, zeros, AreFramesOf}
+use Rattle.x7_memory.specs.PartFrames.{frame_among, frame_at, zeros, AreFramesOf}
 use Rattle.x7_memory.specs.Plan.{PlanRow, PlanData, AreInOrder, planned, planned_addresses, total}
 use Rattle.x7_memory.proofs.FrameLemmas.{among_here, among_after, among_found, among_none}
 use Rattle.x7_memory.proofs.PlanLemmas.{no_row, planned_here, planned_after, planned_none}

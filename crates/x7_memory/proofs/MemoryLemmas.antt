@@ -8,7 +8,7 @@ use Rattle.std.specs.List.{sum_by}
 use Rattle.std.specs.Prelude.{vec_capacity}
 use Rattle.x7_memory.specs.declared.memory.Memory.TheInside.{Inside}
 use Rattle.x7_memory.specs.Flat.{cut_in_frames, words_with_frame}
-use Rattle.x7_memory.specs.Memory.{frames_seen, stored_frame, own_frame_count, AreDistinct, HasRoom}
+use Rattle.x7_memory.specs.MemoryFields.{frames_seen, stored_frame, own_frame_count, AreDistinct, HasRoom}
 use Rattle.x7_memory.proofs.FlatLemmas.{cut_length, cut_at, cut_set, frame_end}
 
 -- ---- frames that are stored one after another

@@ -12,8 +12,8 @@ use Rattle.x7_words.specs.Word.{AreWords}
 use Rattle.x7_part.specs.Part.{PartData, frame_words}
 use Rattle.x7_part.specs.AddressOrder.{addresses_in, Rises}
 use Rattle.x7_memory.specs.declared.memory.Memory.TheInside.{Inside}
-use Rattle.x7_memory.specs.Frames.{zero_frames, are_zeros, AreFramesOf}
-use Rattle.x7_memory.specs.Memory.{frames_seen, stored_frame, own_frame_count, HasRoom}
+use Rattle.x7_memory.specs.PartFrames.{zero_frames, are_zeros, AreFramesOf}
+use Rattle.x7_memory.specs.MemoryFields.{frames_seen, stored_frame, own_frame_count, HasRoom}
 use Rattle.x7_memory.proofs.MemoryLemmas.{is_rank, stored_width}
 
 -- ---- words of which none has a bit

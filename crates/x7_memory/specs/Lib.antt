@@ -1,7 +1,7 @@
 pub mod FrameMap
-pub mod Frames
+pub mod PartFrames
 pub mod Plan
 pub mod Places
 pub mod Flat
-pub mod Memory
+pub mod MemoryFields
 pub mod Rows

@@ -4,9 +4,9 @@ use Rattle.x7_words.specs.Word.{AreWords}
 use Rattle.x7_part.specs.AddressOrder.{addresses_in}
 use Rattle.x7_part.specs.Part.{PartData, frame_words}
 use Rattle.x7_memory.specs.FrameMap.{FrameMap, override}
-use Rattle.x7_memory.specs.Frames.{zeros}
+use Rattle.x7_memory.specs.PartFrames.{zeros}
 
--- a frame and its address
+-- a frame and its address: a row of a plan, or a pair that is put in a memory
 pub record PlanRow : Type 0 where
   pub far : ℕ
   pub words : List ℕ
@@ -16,7 +16,7 @@ pub record PlanData : Type 0 where
   pub width : ℕ
   pub rows : List PlanRow
 
--- the addresses that the plan names
+-- the addresses of rows, which a plan of them names
 abbrev pub planned_addresses : List PlanRow → List ℕ
 planned_addresses rows = map (λ row. row.far) rows
 
@@ -49,7 +49,7 @@ pub record IsPlan (plan : PlanData) : Type 0 where
   pub width : All (λ row. length row.words ≡ plan.width) plan.rows
   pub each : All IsPlanRow plan.rows
 
--- all rows stand at addresses of the part
+-- each row's address is one of the part
 abbrev pub AreAddressed : PartData → List PlanRow → Type 0
 AreAddressed part rows = All (λ row. Contains (addresses_in part) row.far) rows
 

@@ -3,7 +3,7 @@ ghost use Rattle.std.specs.Prelude.{◌≡◌, ℕ, ◌<◌, ◌≤◌, ◌+◌,
 ghost use Rattle.x7_part.specs.AddressOrder.{addresses_in};
 ghost use Rattle.x7_part.specs.Part.{PartData, frame_words};
 ghost use Rattle.x7_memory.specs.Flat.{words_with_frame};
-ghost use Rattle.x7_memory.specs.Frames.{frame_at, zero_frames, AreFramesOf};
+ghost use Rattle.x7_memory.specs.PartFrames.{frame_at, zero_frames, AreFramesOf};
 
 use crate::zeros::are_zeros;
 use std::alloc::Global;
@@ -27,7 +27,7 @@ pub struct Memory {
 
 impl Model for Memory {
     ghost use Rattle.std.specs.Prelude.{ℕ, List};
-    ghost use Rattle.x7_memory.specs.Memory.{frames_seen, HasRoom};
+    ghost use Rattle.x7_memory.specs.MemoryFields.{frames_seen, HasRoom};
 
     ghost Value = { List (List ℕ) };
 
@@ -60,8 +60,8 @@ impl Memory {
         requires part { AreFramesOf part.now self.now }
         ensures found { IfSome result (λ words. frame_at part.now self.now far ≡ Some words.now) }
         ensures width { IfSome result (λ words. length words.now ≡ frame_words part.now) }
-        ensures none { IfNone result (¬ Contains (addresses_in part.now) far) }
-        ensures nothing { IfNone result (frame_at part.now self.now far ≡ None) }
+        ensures absent { IfNone result (¬ Contains (addresses_in part.now) far) }
+        ensures no_frame { IfNone result (frame_at part.now self.now far ≡ None) }
     {
         let rank = part.rank(far)?;
         Some(self.frame_of(rank as usize))
@@ -72,7 +72,7 @@ impl Memory {
         ensures found { IfSome result (λ words. (part : PartData) → AreFramesOf part self.now → frame_at part self.now (slice_index (addresses_in part) rank) ≡ Some words.now) }
         ensures width { IfSome result (λ words. (part : PartData) → AreFramesOf part self.now → length words.now ≡ frame_words part) }
         ensures within { IfSome result (λ words. rank < length self.now) }
-        ensures none { IfNone result (length self.now ≤ rank) }
+        ensures past_end { IfNone result (length self.now ≤ rank) }
     {
         let rank = rank as usize;
         if rank < self.numbers.len() {

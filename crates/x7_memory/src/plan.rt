@@ -85,8 +85,8 @@ impl Plan {
     pub fn get(&self, far: u32) -> Option<&[u32]>
         ensures found { IfSome result (λ words. planned self.now.rows far ≡ Some words.now) }
         ensures width { IfSome result (λ words. length words.now ≡ self.now.width) }
-        ensures none { IfNone result (¬ Contains (planned_addresses self.now.rows) far) }
-        ensures nothing { IfNone result (planned self.now.rows far ≡ None) }
+        ensures absent { IfNone result (¬ Contains (planned_addresses self.now.rows) far) }
+        ensures no_frame { IfNone result (planned self.now.rows far ≡ None) }
     {
         match self.search(far) {
             Ok(place) => Some(self.rows.words(place)),
@@ -106,7 +106,7 @@ impl Plan {
     pub fn row(&self, i: usize) -> Option<(u32, &[u32])>
         ensures found { IfSome result (λ row. (i < length self.now.rows) × ((d : PlanRow) → slice_index_or self.now.rows i d ≡ record { far = row.0; words = row.1.now })) }
         ensures width { IfSome result (λ row. length row.1.now ≡ self.now.width) }
-        ensures none { IfNone result (length self.now.rows ≤ i) }
+        ensures past_end { IfNone result (length self.now.rows ≤ i) }
     {
         self.rows.get(i)
     }

@@ -86,7 +86,7 @@ impl Rows {
         Ok(self.rows.insert(place, Row { far, start })?)
     }
 
-    /// The place of the row with the address among rows in order, or the place where such a row would go.
+    /// The place, from 0, of the row with the address among rows in order, or the place where such a row would go.
     pub(crate) fn search(&self, far: u32) -> Result<usize, usize>
         requires { AreInOrder self.now.rows }
         ensures found { IfOk result (IsRowPlace self.now.rows far) }
@@ -115,7 +115,7 @@ impl Rows {
     pub(crate) fn get(&self, i: usize) -> Option<(u32, &[u32])>
         ensures found { IfSome result (λ row. (i < length self.now.rows) × ((d : PlanRow) → slice_index_or self.now.rows i d ≡ record { far = row.0; words = row.1.now })) }
         ensures width { IfSome result (λ row. length row.1.now ≡ self.now.width) }
-        ensures none { IfNone result (length self.now.rows ≤ i) }
+        ensures past_end { IfNone result (length self.now.rows ≤ i) }
     {
         let row = self.rows.get(i)?;
         Some((

@@ -1,6 +1,6 @@
 //! Whether words are zeros.
 ghost use Rattle.std.specs.Prelude.{◌≡◌};
-ghost use Rattle.x7_memory.specs.Frames.{are_zeros};
+ghost use Rattle.x7_memory.specs.PartFrames.{are_zeros};
 
 /// Whether all words are 0. The first is looked at before the rest: most frames that aren't blank show it there.
 pub fn are_zeros(words: &[u32]) -> bool

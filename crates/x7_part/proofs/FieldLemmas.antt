@@ -36,43 +36,43 @@ row_has pitch base i (suc column) minor (n ∷ minors) h k =
     rw e (row_has pitch base (i + 1) column minor minors (omega arith) k))
 
 pub IsListed : FieldWidths → List RowData → ℕ → Type 0
-IsListed far rows address =
+IsListed widths rows address =
     (r : RowData) × (column : ℕ) × (minor : ℕ) × Contains rows r × (column < length r.minors)
-    × (minor < slice_index r.minors column) × (address ≡ frame_address far r column minor)
+    × (minor < slice_index r.minors column) × (address ≡ frame_address widths r column minor)
 
-more_rows : (far : FieldWidths) (r : RowData) (rows : List RowData) (address : ℕ) → IsListed far rows address → IsListed far (r ∷ rows) address
+more_rows : (widths : FieldWidths) (r : RowData) (rows : List RowData) (address : ℕ) → IsListed widths rows address → IsListed widths (r ∷ rows) address
 unfolding IsListed
-more_rows far r rows address (x, column, minor, (k, low, same), within, below, is) = (x, column, minor, (suc k, omega arith, same), within, below, is)
+more_rows widths r rows address (x, column, minor, (k, low, same), within, below, is) = (x, column, minor, (suc k, omega arith, same), within, below, is)
 
-pub has_fields : (far : FieldWidths) (rows : List RowData) (address : ℕ) → Contains (addresses far rows) address → IsListed far rows address
+pub has_fields : (widths : FieldWidths) (rows : List RowData) (address : ℕ) → Contains (addresses widths rows) address → IsListed widths rows address
 unfolding addresses IsListed
-has_fields far [] address (k, low, e) = absurd (omega arith)
-has_fields far (r ∷ rows) address in' =
-    elim (Contains-append_cases (addresses_of far r) (addresses far rows) address in') [
-      | inl here ↦ let (column, minor, within, below, is) = row_fields (2 ^ column_low far) (row_address far r) 0 address r.minors here in
+has_fields widths [] address (k, low, e) = absurd (omega arith)
+has_fields widths (r ∷ rows) address in' =
+    elim (Contains-append_cases (addresses_of widths r) (addresses widths rows) address in') [
+      | inl here ↦ let (column, minor, within, below, is) = row_fields (2 ^ column_low widths) (row_address widths r) 0 address r.minors here in
           (r, column, minor, (0, omega arith, refl), within, below, omega arith)
-      | inr later ↦ more_rows far r rows address (has_fields far rows address later)
+      | inr later ↦ more_rows widths r rows address (has_fields widths rows address later)
     ]
 
-pub row_in : (far : FieldWidths) (rows : List RowData) (r : RowData) (k x : ℕ) → k < length rows → get_or rows k r ≡ r → Contains (addresses_of far r) x → Contains (addresses far rows) x
+pub row_in : (widths : FieldWidths) (rows : List RowData) (r : RowData) (k x : ℕ) → k < length rows → get_or rows k r ≡ r → Contains (addresses_of widths r) x → Contains (addresses widths rows) x
 unfolding addresses
-row_in far [] r k x h e in' = absurd (omega arith)
-row_in far (s ∷ rows) r zero x h e in' = Contains-append_left (addresses_of far s) (addresses far rows) x (rw e in')
-row_in far (s ∷ rows) r (suc k) x h e in' = Contains-append_right (addresses_of far s) (addresses far rows) x (row_in far rows r k x (omega arith) e in')
+row_in widths [] r k x h e in' = absurd (omega arith)
+row_in widths (s ∷ rows) r zero x h e in' = Contains-append_left (addresses_of widths s) (addresses widths rows) x (rw e in')
+row_in widths (s ∷ rows) r (suc k) x h e in' = Contains-append_right (addresses_of widths s) (addresses widths rows) x (row_in widths rows r k x (omega arith) e in')
 
-pub has_address : (far : FieldWidths) (rows : List RowData) (address : ℕ) → IsListed far rows address → Contains (addresses far rows) address
+pub has_address : (widths : FieldWidths) (rows : List RowData) (address : ℕ) → IsListed widths rows address → Contains (addresses widths rows) address
 unfolding IsListed
-has_address far rows address (r, column, minor, (k, low, same), within, below, is) =
-    let e : address ≡ row_address far r + (0 + column) * 2 ^ column_low far + minor = omega arith in
-    row_in far rows r k address low same (rw e (row_has (2 ^ column_low far) (row_address far r) 0 column minor r.minors within below))
+has_address widths rows address (r, column, minor, (k, low, same), within, below, is) =
+    let e : address ≡ row_address widths r + (0 + column) * 2 ^ column_low widths + minor = omega arith in
+    row_in widths rows r k address low same (rw e (row_has (2 ^ column_low widths) (row_address widths r) 0 column minor r.minors within below))
 
 pub fields_of_part : (part : PartData) (address : ℕ) → Contains (addresses_in part) address → IsAddressOf part address
 unfolding IsListed
-fields_of_part part address in' = has_fields part.far part.rows address in'
+fields_of_part part address in' = has_fields part.field_widths part.rows address in'
 
 pub address_of_part : (part : PartData) (address : ℕ) → IsAddressOf part address → Contains (addresses_in part) address
 unfolding IsListed
-address_of_part part address is = has_address part.far part.rows address is
+address_of_part part address is = has_address part.field_widths part.rows address is
 
 -- what a search that finds or does not find says
 pub found_says : (o : Option ℕ) (b : Bool) (P : Type 0) → IfSome o (λ i. P) → IfNone o (¬ P) → b ≡ is_some o → (b ≡ true) ↔ P

@@ -24,18 +24,18 @@ all_at : (P : RowData → Type 0) (before after : List RowData) (s : RowData) �
 all_at P [] after s h = h.0
 all_at P (r ∷ before) after s h = all_at P before after s h.1
 
-in_range : (far : FieldWidths) (least : ℕ) (rows : List RowData) → AreRows far least rows → AllByRecursion IsRow rows
-in_range far least [] h = tt
-in_range far least (r ∷ rows) (row f l s more k is rest) = (is, in_range far (row_address far r + 2 ^ row_low far) rows rest)
+in_range : (widths : FieldWidths) (least : ℕ) (rows : List RowData) → AreRows widths least rows → AllByRecursion IsRow rows
+in_range widths least [] h = tt
+in_range widths least (r ∷ rows) (row f l s more k is rest) = (is, in_range widths (row_address widths r + 2 ^ row_low widths) rows rest)
 
-rise_at : (far : FieldWidths) (least : ℕ) (before between after : List RowData) (r s : RowData) → AreWidths far → AreRows far least (before ++ r ∷ (between ++ s ∷ after)) → IsBefore r s
-rise_at far least [] between after r s w (row f l t more k is rest) =
-    let higher = all_at (λ t. row_address far r + 2 ^ row_low far ≤ row_address far t) between after s (from_least far (row_address far r + 2 ^ row_low far) (between ++ s ∷ after) rest) in
-    before_of far r s w (all_at IsRow between after s (in_range far (row_address far r + 2 ^ row_low far) (between ++ s ∷ after) rest)) (omega (arith, higher, some_weight far))
-rise_at far least (b ∷ before) between after r s w (row f l t more k is rest) = rise_at far (row_address far b + 2 ^ row_low far) before between after r s w rest
+rise_at : (widths : FieldWidths) (least : ℕ) (before between after : List RowData) (r s : RowData) → AreWidths widths → AreRows widths least (before ++ r ∷ (between ++ s ∷ after)) → IsBefore r s
+rise_at widths least [] between after r s w (row f l t more k is rest) =
+    let higher = all_at (λ t. row_address widths r + 2 ^ row_low widths ≤ row_address widths t) between after s (from_least widths (row_address widths r + 2 ^ row_low widths) (between ++ s ∷ after) rest) in
+    before_of widths r s w (all_at IsRow between after s (in_range widths (row_address widths r + 2 ^ row_low widths) (between ++ s ∷ after) rest)) (omega (arith, higher, some_weight widths))
+rise_at widths least (b ∷ before) between after r s w (row f l t more k is rest) = rise_at widths (row_address widths b + 2 ^ row_low widths) before between after r s w rest
 
 pub part_rises : (part : PartData) → IsPart part → RowsRise part.rows
-part_rises part is before between after r s e = rise_at part.far 0 before between after r s is.far (rw (← e) is.rows)
+part_rises part is before between after r s e = rise_at part.field_widths 0 before between after r s is.field_widths (rw (← e) is.rows)
 
 -- ---- the part of a text
 
@@ -75,4 +75,4 @@ unfolding GivesPart part_from
 text_rows text table part p e =
     let (other, q, f, same) = gives text part e in
     let one : other ≡ table = same_Some other table (sym q ∙ p) in
-    subst (λ x. IsPermutation (rows_in_file x) part.rows) one (subst (λ x. IsPermutation (rows_in_file other) x) (ap (λ x. x.rows) same) (ordered_same (settings_by_values (top_values other)).far (rows_in_file other)))
+    subst (λ x. IsPermutation (rows_in_file x) part.rows) one (subst (λ x. IsPermutation (rows_in_file other) x) (ap (λ x. x.rows) same) (ordered_same (settings_by_values (top_values other)).field_widths (rows_in_file other)))

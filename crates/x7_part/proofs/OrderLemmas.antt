@@ -32,40 +32,40 @@ first_none (Some fault) rest e = absurd (none-some fault (sym e))
 
 -- ---- rows by their addresses
 
-same_from : (far : FieldWidths) (r s : RowData) → AreWidths far → IsRow r → IsRow s → row_address far s ≡ row_address far r → is_same_row r s ≡ true
-same_from far r s w a c e = by (order_of far r s w a c)
+same_from : (widths : FieldWidths) (r s : RowData) → AreWidths widths → IsRow r → IsRow s → row_address widths s ≡ row_address widths r → is_same_row r s ≡ true
+same_from widths r s w a c e = by (order_of widths r s w a c)
   where
-    some : 1 ≤ 2 ^ row_low far
-    some = some_weight far
+    some : 1 ≤ 2 ^ row_low widths
+    some = some_weight widths
 
-    by : Order far r s → is_same_row r s ≡ true
+    by : Order widths r s → is_same_row r s ≡ true
     by (rows_same block half n) = rw (eq-eqb r.block s.block block, eq-eqb r.half s.half half, eq-eqb r.row s.row n) refl
     by (row_before k) = absurd (omega (arith, k, e, some))
     by (row_after k) = absurd (omega (arith, k, e, some))
 
 -- how many rows have the address
 at : FieldWidths → ℕ → RowData → ℕ
-at far a r = cond (eqb (row_address far r) a) 1 0
+at widths a r = cond (eqb (row_address widths r) a) 1 0
 
 many : FieldWidths → ℕ → List RowData → ℕ
 unfolding at
-many far a rows = sum_by (at far a) rows
+many widths a rows = sum_by (at widths a) rows
 
-at_yes : (far : FieldWidths) (a : ℕ) (r : RowData) → row_address far r ≡ a → at far a r ≡ 1
+at_yes : (widths : FieldWidths) (a : ℕ) (r : RowData) → row_address widths r ≡ a → at widths a r ≡ 1
 unfolding at
-at_yes far a r e = rw (eq-eqb (row_address far r) a e) refl
+at_yes widths a r e = rw (eq-eqb (row_address widths r) a e) refl
 
-at_no : (far : FieldWidths) (a : ℕ) (r : RowData) → (row_address far r ≡ a → ⊥) → at far a r ≡ 0
+at_no : (widths : FieldWidths) (a : ℕ) (r : RowData) → (row_address widths r ≡ a → ⊥) → at widths a r ≡ 0
 unfolding at
-at_no far a r n = rw (ne_eqb (row_address far r) a n) refl
+at_no widths a r n = rw (ne_eqb (row_address widths r) a n) refl
 
-many_cons : (far : FieldWidths) (a : ℕ) (r : RowData) (rows : List RowData) → many far a (r ∷ rows) ≡ at far a r + many far a rows
+many_cons : (widths : FieldWidths) (a : ℕ) (r : RowData) (rows : List RowData) → many widths a (r ∷ rows) ≡ at widths a r + many widths a rows
 unfolding many
-many_cons far a r rows = sum_by-cons (at far a) r rows
+many_cons widths a r rows = sum_by-cons (at widths a) r rows
 
-many_push : (far : FieldWidths) (a : ℕ) (r : RowData) (rows : List RowData) → many far a (rows ++ r ∷ []) ≡ many far a rows + at far a r
+many_push : (widths : FieldWidths) (a : ℕ) (r : RowData) (rows : List RowData) → many widths a (rows ++ r ∷ []) ≡ many widths a rows + at widths a r
 unfolding many
-many_push far a r rows = sum_by-append (at far a) rows (r ∷ []) ∙ ap (λ n. sum_by (at far a) rows + n) (sum_by-cons (at far a) r [] ∙ (omega arith))
+many_push widths a r rows = sum_by-append (at widths a) rows (r ∷ []) ∙ ap (λ n. sum_by (at widths a) rows + n) (sum_by-cons (at widths a) r [] ∙ (omega arith))
 
 or_false : (a b : Bool) → (a || b) ≡ false → (a ≡ false) × (b ≡ false)
 or_false false b e = (refl, e)
@@ -75,93 +75,93 @@ not_true : (b : Bool) → not b ≡ true → b ≡ false
 not_true false e = refl
 not_true true e = absurd (false≢true e)
 
-not_there : (far : FieldWidths) (r : RowData) (rows : List RowData) → AreWidths far → IsRow r → All IsRow rows → has_same_row r rows ≡ false → many far (row_address far r) rows ≡ 0
+not_there : (widths : FieldWidths) (r : RowData) (rows : List RowData) → AreWidths widths → IsRow r → All IsRow rows → has_same_row r rows ≡ false → many widths (row_address widths r) rows ≡ 0
 unfolding many
-not_there far r [] w is all e = refl
-not_there far r (s ∷ rows) w is all e =
+not_there widths r [] w is all e = refl
+not_there widths r (s ∷ rows) w is all e =
     let p = or_false (is_same_row r s) (has_same_row r rows) e in
-    let no = at_no far (row_address far r) s (λ same. false≢true (sym p.0 ∙ same_from far r s w is (All-head IsRow s rows all) same)) in
-    let ih = not_there far r rows w is (All-tail IsRow s rows all) p.1 in
-    let c = many_cons far (row_address far r) s rows in
+    let no = at_no widths (row_address widths r) s (λ same. false≢true (sym p.0 ∙ same_from widths r s w is (All-head IsRow s rows all) same)) in
+    let ih = not_there widths r rows w is (All-tail IsRow s rows all) p.1 in
+    let c = many_cons widths (row_address widths r) s rows in
     omega arith
 
 -- no two rows have one address
 Apart : FieldWidths → List RowData → Type 0
 unfolding many
-Apart far rows = (a : ℕ) → many far a rows ≤ 1
+Apart widths rows = (a : ℕ) → many widths a rows ≤ 1
 
-apart_push : (far : FieldWidths) (r : RowData) (rows : List RowData) → Apart far rows → many far (row_address far r) rows ≡ 0 → Apart far (rows ++ r ∷ [])
+apart_push : (widths : FieldWidths) (r : RowData) (rows : List RowData) → Apart widths rows → many widths (row_address widths r) rows ≡ 0 → Apart widths (rows ++ r ∷ [])
 unfolding Apart
-apart_push far r rows apart none a =
-    let p = many_push far a r rows in
-    elim (eqb_tells (row_address far r) a) [
-      | inl e ↦ let yes = at_yes far a r e.1 in let n : many far a rows ≡ 0 = ap (λ x. many far x rows) (sym e.1) ∙ none in omega arith
-      | inr n ↦ let no = at_no far a r n.1 in let h = apart a in omega arith
+apart_push widths r rows apart none a =
+    let p = many_push widths a r rows in
+    elim (eqb_tells (row_address widths r) a) [
+      | inl e ↦ let yes = at_yes widths a r e.1 in let n : many widths a rows ≡ 0 = ap (λ x. many widths x rows) (sym e.1) ∙ none in omega arith
+      | inr n ↦ let no = at_no widths a r n.1 in let h = apart a in omega arith
     ]
 
-apart_rows : (far : FieldWidths) (earlier rows : List RowData) → AreWidths far → All IsRow earlier → All IsRow rows → same_row_fault earlier rows ≡ None → Apart far earlier → Apart far (earlier ++ rows)
-apart_rows far earlier [] w before all e apart = rw (append-nil earlier) apart
-apart_rows far earlier (r ∷ rows) w before all e apart =
+apart_rows : (widths : FieldWidths) (earlier rows : List RowData) → AreWidths widths → All IsRow earlier → All IsRow rows → same_row_fault earlier rows ≡ None → Apart widths earlier → Apart widths (earlier ++ rows)
+apart_rows widths earlier [] w before all e apart = rw (append-nil earlier) apart
+apart_rows widths earlier (r ∷ rows) w before all e apart =
     let p = first_none (unless (not (has_same_row r earlier)) (SameRow (length earlier + 1))) (same_row_fault (earlier ++ r ∷ []) rows ∷ []) e in
     let no = not_true (has_same_row r earlier) (unless_none (not (has_same_row r earlier)) (SameRow (length earlier + 1)) p.0) in
     let q = first_none (same_row_fault (earlier ++ r ∷ []) rows) [] p.1 in
     let is = All-head IsRow r rows all in
-    let more = apart_rows far (earlier ++ r ∷ []) rows w (All-push IsRow earlier r before is) (All-tail IsRow r rows all) q.0
-    (apart_push far r earlier apart (not_there far r earlier w is before no)) in
+    let more = apart_rows widths (earlier ++ r ∷ []) rows w (All-push IsRow earlier r before is) (All-tail IsRow r rows all) q.0
+    (apart_push widths r earlier apart (not_there widths r earlier w is before no)) in
     rw (← append_assoc earlier (r ∷ []) rows) more
 
 -- ---- rows in order
 
-has_one : (far : FieldWidths) (a k : ℕ) (rows : List RowData) (d : RowData) → k < length rows → row_address far (get_or rows k d) ≡ a → 1 ≤ many far a rows
-has_one far a k [] d h e = absurd (omega arith)
-has_one far a zero (r ∷ rows) d h e = let c = many_cons far a r rows in let yes = at_yes far a r e in omega arith
-has_one far a (suc k) (r ∷ rows) d h e = let c = many_cons far a r rows in let ih = has_one far a k rows d (omega arith) e in omega arith
+has_one : (widths : FieldWidths) (a k : ℕ) (rows : List RowData) (d : RowData) → k < length rows → row_address widths (get_or rows k d) ≡ a → 1 ≤ many widths a rows
+has_one widths a k [] d h e = absurd (omega arith)
+has_one widths a zero (r ∷ rows) d h e = let c = many_cons widths a r rows in let yes = at_yes widths a r e in omega arith
+has_one widths a (suc k) (r ∷ rows) d h e = let c = many_cons widths a r rows in let ih = has_one widths a k rows d (omega arith) e in omega arith
 
-sorted_tail : (far : FieldWidths) (r : RowData) (rows : List RowData) → IsNonDecreasingBy (row_address far) (r ∷ rows) → IsNonDecreasingBy (row_address far) rows
-sorted_tail far r rows sorted i j d k h = sorted (suc i) (suc j) d (omega arith) (omega arith)
+sorted_tail : (widths : FieldWidths) (r : RowData) (rows : List RowData) → IsNonDecreasingBy (row_address widths) (r ∷ rows) → IsNonDecreasingBy (row_address widths) rows
+sorted_tail widths r rows sorted i j d k h = sorted (suc i) (suc j) d (omega arith) (omega arith)
 
-apart_tail : (far : FieldWidths) (r : RowData) (rows : List RowData) → Apart far (r ∷ rows) → Apart far rows
+apart_tail : (widths : FieldWidths) (r : RowData) (rows : List RowData) → Apart widths (r ∷ rows) → Apart widths rows
 unfolding Apart
-apart_tail far r rows apart a = let c = many_cons far a r rows in let h = apart a in omega arith
+apart_tail widths r rows apart a = let c = many_cons widths a r rows in let h = apart a in omega arith
 
-above : (far : FieldWidths) (r : RowData) (rows : List RowData) → AreWidths far → All IsRow (r ∷ rows) → IsNonDecreasingBy (row_address far) (r ∷ rows) → Apart far (r ∷ rows) →
-    All (λ s. row_address far r + 2 ^ row_low far ≤ row_address far s) rows
+above : (widths : FieldWidths) (r : RowData) (rows : List RowData) → AreWidths widths → All IsRow (r ∷ rows) → IsNonDecreasingBy (row_address widths) (r ∷ rows) → Apart widths (r ∷ rows) →
+    All (λ s. row_address widths r + 2 ^ row_low widths ≤ row_address widths s) rows
 unfolding Apart
-above far r rows w all sorted apart k d h =
+above widths r rows w all sorted apart k d h =
     let s = get_or rows k d in
-    let low : row_address far r ≤ row_address far s = sorted 0 (suc k) d (omega arith) (omega arith) in
+    let low : row_address widths r ≤ row_address widths s = sorted 0 (suc k) d (omega arith) (omega arith) in
     let is = All-tail IsRow r rows all k d h in
-    elim (eqb_tells (row_address far s) (row_address far r)) [
-      | inl e ↦ let one = has_one far (row_address far r) k rows d h e.1 in
-          let c = many_cons far (row_address far r) r rows in let yes = at_yes far (row_address far r) r refl in
-          let two = apart (row_address far r) in absurd (omega arith)
-      | inr n ↦ gap far r s w (All-head IsRow r rows all) is (let ne = n.1 in omega arith)
+    elim (eqb_tells (row_address widths s) (row_address widths r)) [
+      | inl e ↦ let one = has_one widths (row_address widths r) k rows d h e.1 in
+          let c = many_cons widths (row_address widths r) r rows in let yes = at_yes widths (row_address widths r) r refl in
+          let two = apart (row_address widths r) in absurd (omega arith)
+      | inr n ↦ gap widths r s w (All-head IsRow r rows all) is (let ne = n.1 in omega arith)
     ]
 
-in_order : (far : FieldWidths) (least : ℕ) (rows : List RowData) → AreWidths far → All IsRow rows → IsNonDecreasingBy (row_address far) rows → Apart far rows → All (λ s. least ≤ row_address far s) rows → AreRows far least rows
-in_order far least [] w all sorted apart low = no_row far least
-in_order far least (r ∷ rows) w all sorted apart low =
-    row far least r rows (All-head (λ s. least ≤ row_address far s) r rows low) (All-head IsRow r rows all)
-    (in_order far (row_address far r + 2 ^ row_low far) rows w (All-tail IsRow r rows all) (sorted_tail far r rows sorted) (apart_tail far r rows apart) (above far r rows w all sorted apart))
+in_order : (widths : FieldWidths) (least : ℕ) (rows : List RowData) → AreWidths widths → All IsRow rows → IsNonDecreasingBy (row_address widths) rows → Apart widths rows → All (λ s. least ≤ row_address widths s) rows → AreRows widths least rows
+in_order widths least [] w all sorted apart low = no_row widths least
+in_order widths least (r ∷ rows) w all sorted apart low =
+    row widths least r rows (All-head (λ s. least ≤ row_address widths s) r rows low) (All-head IsRow r rows all)
+    (in_order widths (row_address widths r + 2 ^ row_low widths) rows w (All-tail IsRow r rows all) (sorted_tail widths r rows sorted) (apart_tail widths r rows apart) (above widths r rows w all sorted apart))
 
-apart_permutation : (far : FieldWidths) (rows sorted : List RowData) → IsPermutation rows sorted → Apart far rows → Apart far sorted
+apart_permutation : (widths : FieldWidths) (rows sorted : List RowData) → IsPermutation rows sorted → Apart widths rows → Apart widths sorted
 unfolding Apart many
-apart_permutation far rows sorted p apart a = let e = sum_by-IsPermutation (at far a) rows sorted p in let h = apart a in omega arith
+apart_permutation widths rows sorted p apart a = let e = sum_by-IsPermutation (at widths a) rows sorted p in let h = apart a in omega arith
 
-apart_none : (far : FieldWidths) → Apart far []
+apart_none : (widths : FieldWidths) → Apart widths []
 unfolding Apart many
-apart_none far a = omega arith
+apart_none widths a = omega arith
 
 -- what a sort of rows with no two the same gives
-pub ordered : (far : FieldWidths) (rows sorted : List RowData) → AreWidths far → All IsRow rows → same_row_fault [] rows ≡ None → IsPermutation rows sorted → IsNonDecreasingBy (row_address far) sorted → AreRows far 0 sorted
-ordered far rows sorted w all e p order =
-    in_order far 0 sorted w (All-permutation IsRow rows sorted p all) order
-    (apart_permutation far rows sorted p (apart_rows far [] rows w (All-nil IsRow) all e (apart_none far))) (λ k d h. omega arith)
+pub ordered : (widths : FieldWidths) (rows sorted : List RowData) → AreWidths widths → All IsRow rows → same_row_fault [] rows ≡ None → IsPermutation rows sorted → IsNonDecreasingBy (row_address widths) sorted → AreRows widths 0 sorted
+ordered widths rows sorted w all e p order =
+    in_order widths 0 sorted w (All-permutation IsRow rows sorted p all) order
+    (apart_permutation widths rows sorted p (apart_rows widths [] rows w (All-nil IsRow) all e (apart_none widths))) (λ k d h. omega arith)
 
-pub frames_sum : (far : FieldWidths) (rows : List RowData) → length (addresses far rows) ≡ sum_by (λ r. sum r.minors) rows
+pub frames_sum : (widths : FieldWidths) (rows : List RowData) → length (addresses widths rows) ≡ sum_by (λ r. sum r.minors) rows
 unfolding addresses
-frames_sum far [] = refl
-frames_sum far (r ∷ rows) = frames_cons far r rows ∙ ap (λ n. sum r.minors + n) (frames_sum far rows) ∙ sym (sum_by-cons (λ r. sum r.minors) r rows)
+frames_sum widths [] = refl
+frames_sum widths (r ∷ rows) = frames_cons widths r rows ∙ ap (λ n. sum r.minors + n) (frames_sum widths rows) ∙ sym (sum_by-cons (λ r. sum r.minors) r rows)
 
-pub frames_permutation : (far : FieldWidths) (rows sorted : List RowData) → IsPermutation rows sorted → length (addresses far sorted) ≡ length (addresses far rows)
-frames_permutation far rows sorted p = frames_sum far sorted ∙ sum_by-IsPermutation (λ r. sum r.minors) rows sorted p ∙ sym (frames_sum far rows)
+pub frames_permutation : (widths : FieldWidths) (rows sorted : List RowData) → IsPermutation rows sorted → length (addresses widths sorted) ≡ length (addresses widths rows)
+frames_permutation widths rows sorted p = frames_sum widths sorted ∙ sum_by-IsPermutation (λ r. sum r.minors) rows sorted p ∙ sym (frames_sum widths rows)

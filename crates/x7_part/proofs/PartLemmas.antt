@@ -16,15 +16,15 @@ use Rattle.x7_part.specs.Column.{AreColumns, AreColumnsOf, column_addresses, col
 use Rattle.x7_part.proofs.RowLemmas.{part_table, part_addresses, part_slots}
 use Rattle.x7_part.proofs.TableLemmas.{frames_cons}
 
-pub slots_count : (far : FieldWidths) (rows : List RowData) → length (slots far rows) ≡ length (addresses far rows) + 2 * length rows
+pub slots_count : (widths : FieldWidths) (rows : List RowData) → length (slots widths rows) ≡ length (addresses widths rows) + 2 * length rows
 unfolding slots addresses
-slots_count far [] = refl
-slots_count far (r ∷ rows) =
-    let a = length-append (map Frame (addresses_of far r) ++ Pad ∷ Pad ∷ []) (slots far rows) in
-    let b = length-append (map Frame (addresses_of far r)) (Pad ∷ Pad ∷ []) in
-    let m = length-map (addresses_of far r) Frame in
-    let l = length-append (addresses_of far r) (addresses far rows) in
-    let ih = slots_count far rows in
+slots_count widths [] = refl
+slots_count widths (r ∷ rows) =
+    let a = length-append (map Frame (addresses_of widths r) ++ Pad ∷ Pad ∷ []) (slots widths rows) in
+    let b = length-append (map Frame (addresses_of widths r)) (Pad ∷ Pad ∷ []) in
+    let m = length-map (addresses_of widths r) Frame in
+    let l = length-append (addresses_of widths r) (addresses widths rows) in
+    let ih = slots_count widths rows in
     omega arith
 
 pub first_minors : (minors : List ℕ) → 1 ≤ length minors → All (λ n. (1 ≤ n) × (n ≤ most_minors)) minors → 0 < sum minors
@@ -33,17 +33,17 @@ first_minors (n ∷ minors) h all =
     let s : sum (n ∷ minors) ≡ n + sum minors = sum_by-cons (λ x. x) n minors in
     let low = (All-head (λ n. (1 ≤ n) × (n ≤ most_minors)) n minors all).0 in omega arith
 
-pub some_address : (far : FieldWidths) (least : ℕ) (rows : List RowData) → AreRows far least rows → 1 ≤ length rows → 0 < length (addresses far rows)
-some_address far _ _ (no_row f least) h = absurd (omega arith)
-some_address far _ _ (row f least r rows le is rest) h =
-    let f = frames_cons far r rows in let s = first_minors r.minors is.some is.minors in omega arith
+pub some_address : (widths : FieldWidths) (least : ℕ) (rows : List RowData) → AreRows widths least rows → 1 ≤ length rows → 0 < length (addresses widths rows)
+some_address widths _ _ (no_row f least) h = absurd (omega arith)
+some_address widths _ _ (row f least r rows le is rest) h =
+    let f = frames_cons widths r rows in let s = first_minors r.minors is.some is.minors in omega arith
 
 -- the columns that are made of a part's rows are the part's
-pub columns_are : (cs : List Column) (seen part : PartData) → cs ≡ table_of seen.far 0 0 seen.rows → IsPart seen → seen ≡ part → AreColumnsOf part cs
+pub columns_are : (cs : List Column) (seen part : PartData) → cs ≡ table_of seen.field_widths 0 0 seen.rows → IsPart seen → seen ≡ part → AreColumnsOf part cs
 columns_are cs seen part e is same =
-    let a : column_addresses cs ≡ addresses_in seen = part_addresses seen.far cs seen.rows e in
-    let s : column_slots cs ≡ slots_in seen = part_slots seen.far cs seen.rows e is.rows in
-    let n = slots_count seen.far seen.rows in
+    let a : column_addresses cs ≡ addresses_in seen = part_addresses seen.field_widths cs seen.rows e in
+    let s : column_slots cs ≡ slots_in seen = part_slots seen.field_widths cs seen.rows e is.rows in
+    let n = slots_count seen.field_widths seen.rows in
     let few = is.frames in let rows = is.few in
-    let columns : AreColumns cs = record { table = part_table seen.far cs seen.rows e is.far is.rows; addresses = rw a (omega arith); slots = rw s (omega arith) } in
+    let columns : AreColumns cs = record { table = part_table seen.field_widths cs seen.rows e is.field_widths is.rows; addresses = rw a (omega arith); slots = rw s (omega arith) } in
     rw (← same) (record { is_part = is; are_columns = columns; addresses = a; slots = s })

@@ -41,7 +41,7 @@ made t types others ranges apart frames =
     let v = top_values t in
     let s = settings_by_values v in
     let rows = rows_in_file t in
-    let sorted = sorted_rows s.far rows in
+    let sorted = sorted_rows s.field_widths rows in
     let each = nones (top_range_fault v ∷ rows_fault row_range_fault 1 v.rows ∷ []) ranges in
     let all = nones (unless (is_name v.name) (Range (top key.Name)) ∷ number_range_fault v ∷ unless (is_length_in 1 most_rows (length v.rows)) (Range (top key.Row)) ∷ []) each.0 in
     let h = nones (
@@ -59,14 +59,14 @@ made t types others ranges apart frames =
     let idcode = odd_in v.idcode (unless_none (is_odd v.idcode) (Range (top key.Idcode)) h.0) in
     let lock = (in_range 0 most_wait_ticks v.lock (unless_none (is_in 0 most_wait_ticks v.lock) (Range (top key.Lock)) h.1.1.1.0)).1 in
     let matched = (in_range 0 most_wait_ticks v.matched (unless_none (is_in 0 most_wait_ticks v.matched) (Range (top key.Match)) h.1.1.1.1.0)).1 in
-    let far = far_is v.far (unless_none (are_widths_or_none v.far) (Range (top key.Far)) h.1.1.1.1.1.1.0) in
+    let widths = far_is v.far (unless_none (are_widths_or_none v.far) (Range (top key.Far)) h.1.1.1.1.1.1.0) in
     let many = long_in 1 most_rows (length v.rows) (unless_none (is_length_in 1 most_rows (length v.rows)) (Range (top key.Row)) all.1.1.0) in
     let count : length rows ≡ length v.rows = length-map v.rows row_by_values in
-    let same = ordered_same s.far rows in
-    let are = ordered s.far rows sorted far (rows_are 1 v.rows each.1.0) apart same (ordered_sorted s.far rows) in
+    let same = ordered_same s.field_widths rows in
+    let are = ordered s.field_widths rows sorted widths (rows_are 1 v.rows each.1.0) apart same (ordered_sorted s.field_widths rows) in
     let l : length sorted ≡ length rows = length_permutation rows sorted same in
-    let n : length (addresses s.far sorted) ≡ length (addresses s.far rows) = frames_permutation s.far rows sorted same in
-    let fits = few s.frame_words (length (addresses s.far rows)) (length rows) (unless_none (has_few_frames s.frame_words (length (addresses s.far rows)) (length rows)) (TooMany (length (addresses s.far rows))) frames) in
+    let n : length (addresses s.field_widths sorted) ≡ length (addresses s.field_widths rows) = frames_permutation s.field_widths rows sorted same in
+    let fits = few s.frame_words (length (addresses s.field_widths rows)) (length rows) (unless_none (has_few_frames s.frame_words (length (addresses s.field_widths rows)) (length rows)) (TooMany (length (addresses s.field_widths rows))) frames) in
     record {
       named = long.0;
       short = long.1;
@@ -78,7 +78,7 @@ made t types others ranges apart frames =
       lock = omega (arith, lock);
       matched = omega (arith, matched);
       words = in_range least_frame_words most_frame_words v.frame_words (unless_none (is_in least_frame_words most_frame_words v.frame_words) (Range (top key.FrameWords)) h.1.1.1.1.1.0);
-      far = far;
+      field_widths = widths;
       start_unit = unit_in v.start_unit (unless_none (is_start_unit v.start_unit) (Range (top key.StartUnit)) h.1.1.1.1.1.1.1.0);
       some = (let low = many.0 in omega arith);
       few = (let high = many.1 in omega arith);
@@ -106,7 +106,7 @@ pub rows_checked : (part : PartData) (words frames : ℕ) (rows : List RowData) 
     frames ≡ sum_by (λ r. sum r.minors) rows → None ≡ same_row_fault [] rows →
     fault_of_call r ≡ unless (has_few_frames words frames (length rows)) (TooMany frames) → fault_of_call r ≡ first_of (same_row_fault [] rows ∷ frames_fault part ∷ [])
 rows_checked part words frames rows r wide same counted apart checked =
-    let n : length (addresses part.far rows) ≡ frames = frames_sum part.far rows ∙ sym counted in
+    let n : length (addresses part.field_widths rows) ≡ frames = frames_sum part.field_widths rows ∙ sym counted in
     checked ∙ rw (← apart, same, wide, n) (first_alone (unless (has_few_frames words frames (length rows)) (TooMany frames)))
 
 -- ---- a text's table
@@ -220,8 +220,8 @@ last_reported text t v s rows fault h e = reported_is text t fault h.typed.is (r
 pub record Whole (text name : List ℕ) (s : Settings) (rows : List RowData) : Type 0 where
   pub all : All IsRow rows
   pub apart : same_row_fault [] rows ≡ None
-  pub part : IsPart (part_data name s (sorted_rows s.far rows))
-  pub is : part_in text ≡ Ok (part_data name s (sorted_rows s.far rows))
+  pub part : IsPart (part_data name s (sorted_rows s.field_widths rows))
+  pub is : part_in text ≡ Ok (part_data name s (sorted_rows s.field_widths rows))
 
 pub whole : (text : List ℕ) (t : Members) (v : TopValues) (s : Settings) (rows : List RowData) (name : List ℕ) → name ≡ v.name → Passed text t v s rows →
     None ≡ first_of (same_row_fault [] rows ∷ frames_fault (part_data v.name s rows) ∷ []) → Whole text name s rows
@@ -229,9 +229,9 @@ unfolding part_from
 whole text t v s rows name named h e =
     let last = nones (same_row_fault [] rows ∷ frames_fault (part_data v.name s rows) ∷ []) (sym e) in
     let none : first_fault t ≡ None = rest_is text t v s rows h ∙ sym e in
-    let ordered : part_with v (sorted_rows (settings_by_values v).far (map row_by_values v.rows)) ≡ part_data name s (sorted_rows s.far rows) = rw (h.settings, h.made, named) refl in
-    let same : part_from t ≡ part_data name s (sorted_rows s.far rows) =
-    ap (λ x. part_with x (sorted_rows (settings_by_values x).far (map row_by_values x.rows))) (sym h.typed.values) ∙ ordered in
+    let ordered : part_with v (sorted_rows (settings_by_values v).field_widths (map row_by_values v.rows)) ≡ part_data name s (sorted_rows s.field_widths rows) = rw (h.settings, h.made, named) refl in
+    let same : part_from t ≡ part_data name s (sorted_rows s.field_widths rows) =
+    ap (λ x. part_with x (sorted_rows (settings_by_values x).field_widths (map row_by_values x.rows))) (sym h.typed.values) ∙ ordered in
     record {
       all = rw h.made (rows_are 1 v.rows h.each);
       apart = last.0;

@@ -97,38 +97,38 @@ row_table pitch base i rank slot least top (n ∷ m ∷ minors) rest p some le s
 
 -- ---- all rows
 
-pub table_is : (far : FieldWidths) (rank slot least : ℕ) (rows : List RowData) → AreWidths far → AreRows far least rows → IsTable rank slot least (table_of far rank slot rows)
-table_is far rank slot _ _ w (no_row f least) = no_column rank slot least
-table_is far rank slot _ _ w (row f least r rows le is rest) =
-    let pitch = 2 ^ column_low far in
-    let base = row_address far r in
+pub table_is : (widths : FieldWidths) (rank slot least : ℕ) (rows : List RowData) → AreWidths widths → AreRows widths least rows → IsTable rank slot least (table_of widths rank slot rows)
+table_is widths rank slot _ _ w (no_row f least) = no_column rank slot least
+table_is widths rank slot _ _ w (row f least r rows le is rest) =
+    let pitch = 2 ^ column_low widths in
+    let base = row_address widths r in
     let n = length (row_addresses pitch base 0 r.minors) in
-    let narrow = columns_fit far (length r.minors) w is.columns in
-    row_table pitch base 0 rank slot least (base + 2 ^ row_low far) r.minors (table_of far (rank + n) (slot + n + 2) rows) (pitch_least far w) is.some (omega arith)
-    (omega arith) (row_top far r w is) is.minors
-    (table_is far (rank + n) (slot + n + 2) (base + 2 ^ row_low far) rows w rest)
+    let narrow = columns_fit widths (length r.minors) w is.columns in
+    row_table pitch base 0 rank slot least (base + 2 ^ row_low widths) r.minors (table_of widths (rank + n) (slot + n + 2) rows) (pitch_least widths w) is.some (omega arith)
+    (omega arith) (row_top widths r w is) is.minors
+    (table_is widths (rank + n) (slot + n + 2) (base + 2 ^ row_low widths) rows w rest)
 
-pub table_addresses : (far : FieldWidths) (rank slot : ℕ) (rows : List RowData) → column_addresses (table_of far rank slot rows) ≡ addresses far rows
+pub table_addresses : (widths : FieldWidths) (rank slot : ℕ) (rows : List RowData) → column_addresses (table_of widths rank slot rows) ≡ addresses widths rows
 unfolding addresses column_addresses
-table_addresses far rank slot [] = refl
-table_addresses far rank slot (r ∷ rows) =
-    let pitch = 2 ^ column_low far in
-    let base = row_address far r in
+table_addresses widths rank slot [] = refl
+table_addresses widths rank slot (r ∷ rows) =
+    let pitch = 2 ^ column_low widths in
+    let base = row_address widths r in
     let n = length (row_addresses pitch base 0 r.minors) in
-    addresses_append (row_columns pitch base 0 rank slot r.minors) (table_of far (rank + n) (slot + n + 2) rows)
-    ∙ ap (λ (l : List ℕ). l ++ column_addresses (table_of far (rank + n) (slot + n + 2) rows)) (row_addresses_are pitch base 0 rank slot r.minors)
-    ∙ ap (λ (l : List ℕ). row_addresses pitch base 0 r.minors ++ l) (table_addresses far (rank + n) (slot + n + 2) rows)
+    addresses_append (row_columns pitch base 0 rank slot r.minors) (table_of widths (rank + n) (slot + n + 2) rows)
+    ∙ ap (λ (l : List ℕ). l ++ column_addresses (table_of widths (rank + n) (slot + n + 2) rows)) (row_addresses_are pitch base 0 rank slot r.minors)
+    ∙ ap (λ (l : List ℕ). row_addresses pitch base 0 r.minors ++ l) (table_addresses widths (rank + n) (slot + n + 2) rows)
 
-pub table_slots : (far : FieldWidths) (rank slot least : ℕ) (rows : List RowData) → AreRows far least rows → column_slots (table_of far rank slot rows) ≡ slots far rows
+pub table_slots : (widths : FieldWidths) (rank slot least : ℕ) (rows : List RowData) → AreRows widths least rows → column_slots (table_of widths rank slot rows) ≡ slots widths rows
 unfolding slots column_slots
-table_slots far rank slot _ _ (no_row f least) = refl
-table_slots far rank slot _ _ (row f least r rows le is rest) =
-    let pitch = 2 ^ column_low far in
-    let base = row_address far r in
+table_slots widths rank slot _ _ (no_row f least) = refl
+table_slots widths rank slot _ _ (row f least r rows le is rest) =
+    let pitch = 2 ^ column_low widths in
+    let base = row_address widths r in
     let n = length (row_addresses pitch base 0 r.minors) in
-    slots_append (row_columns pitch base 0 rank slot r.minors) (table_of far (rank + n) (slot + n + 2) rows)
-    ∙ ap (λ (l : List Slot). l ++ column_slots (table_of far (rank + n) (slot + n + 2) rows)) (row_slots_are pitch base 0 rank slot r.minors is.some)
-    ∙ ap (λ (l : List Slot). map Frame (row_addresses pitch base 0 r.minors) ++ Pad ∷ Pad ∷ [] ++ l) (table_slots far (rank + n) (slot + n + 2) (base + 2 ^ row_low far) rows rest)
+    slots_append (row_columns pitch base 0 rank slot r.minors) (table_of widths (rank + n) (slot + n + 2) rows)
+    ∙ ap (λ (l : List Slot). l ++ column_slots (table_of widths (rank + n) (slot + n + 2) rows)) (row_slots_are pitch base 0 rank slot r.minors is.some)
+    ∙ ap (λ (l : List Slot). map Frame (row_addresses pitch base 0 r.minors) ++ Pad ∷ Pad ∷ [] ++ l) (table_slots widths (rank + n) (slot + n + 2) (base + 2 ^ row_low widths) rows rest)
 
 -- ---- number order
 
@@ -200,19 +200,19 @@ row_more pitch base i rank slot minors h =
 
 -- ---- a part
 
-pub part_table : (far : FieldWidths) (cs : List Column) (rows : List RowData) → cs ≡ table_of far 0 0 rows → AreWidths far → AreRows far 0 rows → IsTable 0 0 0 cs
-part_table far cs rows e w a = rw e (table_is far 0 0 0 rows w a)
+pub part_table : (widths : FieldWidths) (cs : List Column) (rows : List RowData) → cs ≡ table_of widths 0 0 rows → AreWidths widths → AreRows widths 0 rows → IsTable 0 0 0 cs
+part_table widths cs rows e w a = rw e (table_is widths 0 0 0 rows w a)
 
-pub part_addresses : (far : FieldWidths) (cs : List Column) (rows : List RowData) → cs ≡ table_of far 0 0 rows → column_addresses cs ≡ addresses far rows
-part_addresses far cs rows e = rw e (table_addresses far 0 0 rows)
+pub part_addresses : (widths : FieldWidths) (cs : List Column) (rows : List RowData) → cs ≡ table_of widths 0 0 rows → column_addresses cs ≡ addresses widths rows
+part_addresses widths cs rows e = rw e (table_addresses widths 0 0 rows)
 
-pub part_slots : (far : FieldWidths) (cs : List Column) (rows : List RowData) → cs ≡ table_of far 0 0 rows → AreRows far 0 rows → column_slots cs ≡ slots far rows
-part_slots far cs rows e a = rw e (table_slots far 0 0 0 rows a)
+pub part_slots : (widths : FieldWidths) (cs : List Column) (rows : List RowData) → cs ≡ table_of widths 0 0 rows → AreRows widths 0 rows → column_slots cs ≡ slots widths rows
+part_slots widths cs rows e a = rw e (table_slots widths 0 0 0 rows a)
 
-pub part_rises : (far : FieldWidths) (rows : List RowData) → AreWidths far → AreRows far 0 rows → Rises 0 (addresses far rows)
-part_rises far rows w a = let r = addresses_rise 0 0 0 (table_of far 0 0 rows) (table_is far 0 0 0 rows w a) in rw (table_addresses far 0 0 rows) at r
+pub part_rises : (widths : FieldWidths) (rows : List RowData) → AreWidths widths → AreRows widths 0 rows → Rises 0 (addresses widths rows)
+part_rises widths rows w a = let r = addresses_rise 0 0 0 (table_of widths 0 0 rows) (table_is widths 0 0 0 rows w a) in rw (table_addresses widths 0 0 rows) at r
 
-pub rank_counts : (far : FieldWidths) (rows : List RowData) (r x : ℕ) → AreWidths far → AreRows far 0 rows → r < length (addresses far rows) → get_or (addresses far rows) r 0 ≡ x →
-    Contains (addresses far rows) x × (r ≡ count_by (λ y. nat_lt y x) (addresses far rows))
-rank_counts far rows r x w a h e =
-    ((r, h, get_or_default (addresses far rows) r x 0 h ∙ e), sym (smaller_before 0 x r (addresses far rows) (part_rises far rows w a) h e))
+pub rank_counts : (widths : FieldWidths) (rows : List RowData) (r x : ℕ) → AreWidths widths → AreRows widths 0 rows → r < length (addresses widths rows) → get_or (addresses widths rows) r 0 ≡ x →
+    Contains (addresses widths rows) x × (r ≡ count_by (λ y. nat_lt y x) (addresses widths rows))
+rank_counts widths rows r x w a h e =
+    ((r, h, get_or_default (addresses widths rows) r x 0 h ∙ e), sym (smaller_before 0 x r (addresses widths rows) (part_rises widths rows w a) h e))

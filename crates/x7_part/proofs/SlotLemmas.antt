@@ -71,10 +71,10 @@ from_first far (Pad ∷ places) has = from_first far places has
 from_first far (End ∷ places) has = from_first far places has
 
 pub slots_first : (part : PartData) (far : ℕ) → Contains (addresses_in part) far → get_or (from far (slots_in part)) 0 End ≡ Frame far
-slots_first part far has = from_first far (slots_in part) (rw (among_slots part.far part.rows) has)
+slots_first part far has = from_first far (slots_in part) (rw (among_slots part.field_widths part.rows) has)
 
 pub slots_number : (part : PartData) → length (slots_in part) ≡ length (addresses_in part) + 2 * length part.rows
-slots_number part = slots_count part.far part.rows
+slots_number part = slots_count part.field_widths part.rows
 
 -- the slots from the first address on are all slots
 from_head : (places : List Slot) (a : ℕ) (rest : List Slot) → places ≡ Frame a ∷ rest → from a places ≡ places
@@ -107,7 +107,7 @@ rows_start far _ _ (row f least r rows le is rest) h =
 
 pub slots_all : (part : PartData) → IsPart part → from (slice_index (addresses_in part) 0) (slots_in part) ≡ slots_in part
 slots_all part is =
-    let h = rows_start part.far 0 part.rows is.rows is.some in
+    let h = rows_start part.field_widths 0 part.rows is.rows is.some in
     from_head (slots_in part) (get_or (addresses_in part) 0 0) h.0 h.1
 
 -- ---- the slot after an address
@@ -259,4 +259,4 @@ next_is far l (r ∷ rows) x y rises has =
 pub slots_next : (part : PartData) (far next : ℕ) → IsPart part → Contains (addresses_in part) far →
     (get_or (from far (slots_in part)) 1 End ≡ Frame next) ↔ (IsFollowedBy (addresses_in part) far next × AreInOneRow part far next)
 unfolding InOne
-slots_next part far next is has = next_is part.far 0 part.rows far next (part_rises part.far part.rows is.far is.rows) has
+slots_next part far next is has = next_is part.field_widths 0 part.rows far next (part_rises part.field_widths part.rows is.field_widths is.rows) has

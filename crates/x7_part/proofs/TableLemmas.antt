@@ -18,30 +18,30 @@ row_length pitch base i (n ∷ minors) =
     length-append (count_from (base + i * pitch) n) (row_addresses pitch base (i + 1) minors)
     ∙ rw (length_count_from (base + i * pitch) n, row_length pitch base (i + 1) minors, s) refl
 
-pub frames_cons : (far : FieldWidths) (r : RowData) (rows : List RowData) → length (addresses far (r ∷ rows)) ≡ sum r.minors + length (addresses far rows)
+pub frames_cons : (widths : FieldWidths) (r : RowData) (rows : List RowData) → length (addresses widths (r ∷ rows)) ≡ sum r.minors + length (addresses widths rows)
 unfolding addresses
-frames_cons far r rows = length-append (addresses_of far r) (addresses far rows) ∙ ap (λ n. n + length (addresses far rows)) (row_length (2 ^ column_low far) (row_address far r) 0 r.minors)
+frames_cons widths r rows = length-append (addresses_of widths r) (addresses widths rows) ∙ ap (λ n. n + length (addresses widths rows)) (row_length (2 ^ column_low widths) (row_address widths r) 0 r.minors)
 
-pub frames_more : (far : FieldWidths) (i : ℕ) (rows : List RowData) (d : RowData) → i < length rows →
-    length (addresses far (drop i rows)) ≡ sum (get_or rows i d).minors + length (addresses far (drop (i + 1) rows))
-frames_more far i rows d h = rw (drop_more rows i d h) (frames_cons far (get_or rows i d) (drop (i + 1) rows))
+pub frames_more : (widths : FieldWidths) (i : ℕ) (rows : List RowData) (d : RowData) → i < length rows →
+    length (addresses widths (drop i rows)) ≡ sum (get_or rows i d).minors + length (addresses widths (drop (i + 1) rows))
+frames_more widths i rows d h = rw (drop_more rows i d h) (frames_cons widths (get_or rows i d) (drop (i + 1) rows))
 
-table_cons : (far : FieldWidths) (rank slot n : ℕ) (r : RowData) (rows : List RowData) → n ≡ sum r.minors →
-    table_of far rank slot (r ∷ rows) ≡ row_columns (2 ^ column_low far) (row_address far r) 0 rank slot r.minors ++ table_of far (rank + n) (slot + (n + 2)) rows
-table_cons far rank slot n r rows e =
-    let s : slot + length (addresses_of far r) + 2 ≡ slot + (n + 2) = let l = row_length (2 ^ column_low far) (row_address far r) 0 r.minors in omega arith in
-    let k : rank + length (addresses_of far r) ≡ rank + n = let l = row_length (2 ^ column_low far) (row_address far r) 0 r.minors in omega arith in
+table_cons : (widths : FieldWidths) (rank slot n : ℕ) (r : RowData) (rows : List RowData) → n ≡ sum r.minors →
+    table_of widths rank slot (r ∷ rows) ≡ row_columns (2 ^ column_low widths) (row_address widths r) 0 rank slot r.minors ++ table_of widths (rank + n) (slot + (n + 2)) rows
+table_cons widths rank slot n r rows e =
+    let s : slot + length (addresses_of widths r) + 2 ≡ slot + (n + 2) = let l = row_length (2 ^ column_low widths) (row_address widths r) 0 r.minors in omega arith in
+    let k : rank + length (addresses_of widths r) ≡ rank + n = let l = row_length (2 ^ column_low widths) (row_address widths r) 0 r.minors in omega arith in
     rw (s, k) refl
 
 -- one row more
-pub table_more : (far : FieldWidths) (done new all : List Column) (rank slot i n m pitch base : ℕ) (minors : List ℕ) (rows : List RowData) (r : RowData) → i < length rows →
-    r ≡ get_or rows i r → pitch ≡ 2 ^ column_low far → base ≡ row_address far r → minors ≡ r.minors → n ≡ sum r.minors → m ≡ n →
-    new ≡ done ++ row_columns pitch base 0 rank slot minors → done ++ table_of far rank slot (drop i rows) ≡ all →
-    new ++ table_of far (rank + n) (slot + (m + 2)) (drop (i + 1) rows) ≡ all
-table_more far done new all rank slot i n m pitch base minors rows r h same wide at items e f is before =
+pub table_more : (widths : FieldWidths) (done new all : List Column) (rank slot i n m pitch base : ℕ) (minors : List ℕ) (rows : List RowData) (r : RowData) → i < length rows →
+    r ≡ get_or rows i r → pitch ≡ 2 ^ column_low widths → base ≡ row_address widths r → minors ≡ r.minors → n ≡ sum r.minors → m ≡ n →
+    new ≡ done ++ row_columns pitch base 0 rank slot minors → done ++ table_of widths rank slot (drop i rows) ≡ all →
+    new ++ table_of widths (rank + n) (slot + (m + 2)) (drop (i + 1) rows) ≡ all
+table_more widths done new all rank slot i n m pitch base minors rows r h same wide at items e f is before =
     let more : drop i rows ≡ r ∷ drop (i + 1) rows = drop_more rows i r h ∙ rw (← same) refl in
-    let step : table_of far rank slot (drop i rows) ≡ row_columns (2 ^ column_low far) (row_address far r) 0 rank slot r.minors ++ table_of far (rank + n) (slot + (n + 2)) (drop (i + 1) rows) =
-    ap (table_of far rank slot) more ∙ table_cons far rank slot n r (drop (i + 1) rows) e in
+    let step : table_of widths rank slot (drop i rows) ≡ row_columns (2 ^ column_low widths) (row_address widths r) 0 rank slot r.minors ++ table_of widths (rank + n) (slot + (n + 2)) (drop (i + 1) rows) =
+    ap (table_of widths rank slot) more ∙ table_cons widths rank slot n r (drop (i + 1) rows) e in
     rw (is, wide, at, items, f)
-    (append_assoc done (row_columns (2 ^ column_low far) (row_address far r) 0 rank slot r.minors) (table_of far (rank + n) (slot + (n + 2)) (drop (i + 1) rows))
+    (append_assoc done (row_columns (2 ^ column_low widths) (row_address widths r) 0 rank slot r.minors) (table_of widths (rank + n) (slot + (n + 2)) (drop (i + 1) rows))
     ∙ ap (λ l. done ++ l) (sym step) ∙ before)

@@ -26,7 +26,7 @@ address_width widths = widths.minor + widths.column + widths.row + widths.half +
 
 -- how many bits a part's addresses have
 abbrev pub far_width : PartData → ℕ
-far_width part = address_width part.far
+far_width part = address_width part.field_widths
 
 -- widths that the fields of an address may have, 32 bits together at most
 pub record AreWidths (widths : FieldWidths) : Type 0 where
@@ -50,7 +50,7 @@ frame_address widths r column minor = row_address widths r + column * 2 ^ column
 abbrev pub IsAddressOf : PartData → ℕ → Type 0
 IsAddressOf part address =
     (r : RowData) × (column : ℕ) × (minor : ℕ) × Contains part.rows r × (column < length r.minors)
-    × (minor < slice_index r.minors column) × (address ≡ frame_address part.far r column minor)
+    × (minor < slice_index r.minors column) × (address ≡ frame_address part.field_widths r column minor)
 
 -- a row whose numbers are in range
 pub record IsRow (r : RowData) : Type 0 where

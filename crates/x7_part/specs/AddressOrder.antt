@@ -25,12 +25,16 @@ addresses widths rows = flat_map (addresses_of widths) rows
 
 -- the addresses of a part
 abbrev pub addresses_in : PartData → List ℕ
-addresses_in part = addresses part.far part.rows
+addresses_in part = addresses part.field_widths part.rows
 
 -- each number is above those before it, and the first is at least `least`
 pub data Rises : ℕ → List ℕ → Type 0 where
   risen : (least : ℕ) → Rises least []
   rise : (least x : ℕ) (xs : List ℕ) → least ≤ x → Rises (x + 1) xs → Rises least (x ∷ xs)
+
+-- of a list of addresses that rise, the number from 0, or rank, of an address
+abbrev pub HasRank : List ℕ → ℕ → ℕ → Type 0
+HasRank addresses far rank = (rank < length addresses) × (slice_index addresses rank ≡ far)
 
 -- y stands right after x in a list
 abbrev pub IsFollowedBy : List ℕ → ℕ → ℕ → Type 0

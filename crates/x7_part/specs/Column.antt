@@ -18,9 +18,9 @@ addresses_of_column c = count_from c.first c.count
 abbrev pub slots_of : Column → List Slot
 slots_of c = map Frame (addresses_of_column c) ++ replicate c.pad_count Pad
 
--- the address is one of a column's
-abbrev pub IsIn : Column → ℕ → Type 0
-IsIn c address = (c.first ≤ address) × (address < c.first + c.count)
+-- an address is one of a column's
+abbrev pub IsInColumn : Column → ℕ → Type 0
+IsInColumn c address = (c.first ≤ address) × (address < c.first + c.count)
 
 -- the addresses of all columns
 unfoldable pub column_addresses : List Column → List ℕ

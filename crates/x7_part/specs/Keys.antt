@@ -39,12 +39,12 @@ top_keys =
 abbrev pub row_keys : List PartKey
 row_keys = key.Block ∷ key.Half ∷ key.Row ∷ key.Minors ∷ []
 
--- one of the keys has this name
+-- one of `keys` has this name
 abbrev pub is_known : List PartKey → List ℕ → Bool
 is_known [] name = false
 is_known (k ∷ keys) name = bytes_eq name (name_of k) || is_known keys name
 
--- each key of the table is one of these
+-- each key of a table is one of `keys`
 abbrev pub has_only : List PartKey → Members → Bool
 has_only keys no_members = true
 has_only keys (member name d ms) = is_known keys name && has_only keys ms

@@ -10,3 +10,4 @@ pub mod Ranges
 pub mod Row
 pub mod Slot
 pub mod Values
+pub mod ValueFields

@@ -1,6 +1,10 @@
 -- The most and the least that a part may have (this project's choice, where no other source is named).
 use Rattle.std.specs.Prelude.{◌≡◌, ◌⊎◌, ℕ}
 
+-- the greatest IDCODE of a part: the last number of 32 bits
+abbrev pub greatest_idcode : ℕ
+greatest_idcode = 4294967295
+
 -- the greatest number of the mode pins, which STAT shows in three bits (UG470, status register)
 abbrev pub greatest_mode : ℕ
 greatest_mode = 7

@@ -33,8 +33,8 @@ pub record PartData : Type 0 where
   pub matched : ℕ
   -- how many words a frame has
   pub frame_words : ℕ
-  -- the fields of a frame address
-  pub far : FieldWidths
+  -- the widths in bits of the fields of a frame address
+  pub field_widths : FieldWidths
   -- the bytes of a flash that one step of WBSTAR's start address stands for
   pub start_unit : ℕ
   pub rows : List RowData

@@ -19,7 +19,7 @@ first_fault t =
 
 -- the part of a table: its rows stand in number order
 unfoldable pub part_from : Members → PartData
-part_from t = part_with (top_values t) (sorted_rows (settings_by_values (top_values t)).far (rows_in_file t))
+part_from t = part_with (top_values t) (sorted_rows (settings_by_values (top_values t)).field_widths (rows_in_file t))
 
 -- the part of a table in which the checks found this fault or none
 abbrev pub part_unless : Members → Option PartFault → Result PartData PartFault

@@ -18,10 +18,10 @@ pub record IsPart (part : PartData) : Type 0 where
   pub lock : part.lock < 2 ^ 16
   pub matched : part.matched < 2 ^ 16
   pub words : (least_frame_words ≤ part.frame_words) × (part.frame_words ≤ most_frame_words)
-  pub far : AreWidths part.far
+  pub field_widths : AreWidths part.field_widths
   pub start_unit : IsStartUnit part.start_unit
   pub some : 1 ≤ length part.rows
   pub few : length part.rows ≤ most_rows
-  pub rows : AreRows part.far 0 part.rows
+  pub rows : AreRows part.field_widths 0 part.rows
   pub frames : length (addresses_in part) ≤ most_frames
   pub slots : frame_words part * (length (addresses_in part) + 2 * length part.rows) ≤ most_words

@@ -17,7 +17,7 @@ row_slots widths r later = map Frame (addresses_of widths r) ++ (Pad ∷ Pad ∷
 
 -- the slots of a part
 abbrev pub slots_in : PartData → List Slot
-slots_in part = slots part.far part.rows
+slots_in part = slots part.field_widths part.rows
 
 -- the slots from an address on
 abbrev pub from : ℕ → List Slot → List Slot
@@ -43,4 +43,4 @@ addresses_among (End ∷ later) = addresses_among later
 
 -- two addresses of one row
 abbrev pub AreInOneRow : PartData → ℕ → ℕ → Type 0
-AreInOneRow part a b = (r : RowData) × Contains part.rows r × Contains (addresses_of part.far r) a × Contains (addresses_of part.far r) b
+AreInOneRow part a b = (r : RowData) × Contains part.rows r × Contains (addresses_of part.field_widths r) a × Contains (addresses_of part.field_widths r) b

@@ -116,7 +116,7 @@ settings_by_values v = record {
   lock = natural v.lock;
   matched = natural v.matched;
   frame_words = natural v.frame_words;
-  far = widths_of (unwrap_or v.far []);
+  field_widths = widths_of (unwrap_or v.far []);
   start_unit = natural v.start_unit;
 }
 
@@ -130,7 +130,7 @@ part_data name s rows = record {
   lock = s.lock;
   matched = s.matched;
   frame_words = s.frame_words;
-  far = s.far;
+  field_widths = s.field_widths;
   start_unit = s.start_unit;
   rows = rows;
 }

@@ -48,7 +48,7 @@ impl Fields {
         requires row { (least_row_width ≤ row) × (row ≤ most_row_width) }
         requires half { half ≡ half_width }
         requires block { (least_block_width ≤ block) × (block ≤ most_block_width) }
-        ensures found { IfSome result (λ far. far ≡ record { minor = minor; column = column; row = row; half = half; block = block }) }
+        ensures found { IfSome result (λ fields. fields ≡ record { minor = minor; column = column; row = row; half = half; block = block }) }
         ensures exactly_where { is_some result ≡ nat_le (minor + column + row + half + block) most_address_width }
     {
         if minor + column + row + half + block > MOST_ADDRESS_WIDTH {

@@ -1,7 +1,7 @@
 //! The table of a part's columns, in which addresses and slots are found by binary search.
-ghost use Rattle.std.specs.Prelude.{◌≡◌, ◌<◌, ◌≤◌, ◌+◌, ◌-◌, ◌⊎◌, ℕ, length, slice_index, slice_index_or, Contains, IfSome, IfNone};
-ghost use Rattle.x7_part.specs.AddressOrder.{IsFollowedBy, IsLastIn};
-ghost use Rattle.x7_part.specs.Column.{IsIn, column_addresses, column_slots, AreColumns};
+ghost use Rattle.std.specs.Prelude.{◌≡◌, ◌<◌, ◌≤◌, ◌+◌, ◌-◌, ◌⊎◌, ℕ, length, slice_index_or, Contains, IfSome, IfNone};
+ghost use Rattle.x7_part.specs.AddressOrder.{HasRank, IsFollowedBy, IsLastIn};
+ghost use Rattle.x7_part.specs.Column.{IsInColumn, column_addresses, column_slots, AreColumns};
 ghost use Rattle.x7_part.specs.Slot.{HasFrameOf, from};
 ghost use Rattle.x7_part.specs.declared.column.Column.{Column};
 ghost use Rattle.x7_part.specs.declared.slot.Slot.{Slot};
@@ -53,9 +53,9 @@ fn begun_by_slot(columns: &[Column], slot_number: u64) -> usize
 /// The index in the table of the column that has the address, none where no column has it.
 pub(crate) fn column_index(columns: &[Column], far: u32) -> Option<usize>
     requires { AreColumns columns.now }
-    ensures found { IfSome result (λ i. (i < length columns.now) × ((d : Column) → IsIn (slice_index_or columns.now i d) far)) }
+    ensures found { IfSome result (λ i. (i < length columns.now) × ((d : Column) → IsInColumn (slice_index_or columns.now i d) far)) }
     ensures address { IfSome result (λ i. Contains (column_addresses columns.now) far) }
-    ensures none { IfNone result (¬ Contains (column_addresses columns.now) far) }
+    ensures absent { IfNone result (¬ Contains (column_addresses columns.now) far) }
 {
     let after = begun_by_address(columns, far);
     if after == 0 {
@@ -72,8 +72,8 @@ pub(crate) fn column_index(columns: &[Column], far: u32) -> Option<usize>
 /// The number of the part's addresses below this one, none for what is no address.
 pub(crate) fn rank_of(columns: &[Column], far: u32) -> Option<u32>
     requires { AreColumns columns.now }
-    ensures found { IfSome result (λ r. (r < length (column_addresses columns.now)) × (slice_index (column_addresses columns.now) r ≡ far)) }
-    ensures none { IfNone result (¬ Contains (column_addresses columns.now) far) }
+    ensures found { IfSome result (λ rank. HasRank (column_addresses columns.now) far rank) }
+    ensures absent { IfNone result (¬ Contains (column_addresses columns.now) far) }
 {
     let index = column_index(columns, far)?;
     let column = columns[index];
@@ -83,8 +83,8 @@ pub(crate) fn rank_of(columns: &[Column], far: u32) -> Option<u32>
 /// The address with `rank` smaller ones, none where there are no more than `rank` addresses.
 pub(crate) fn address_of(columns: &[Column], rank: u32) -> Option<u32>
     requires { AreColumns columns.now }
-    ensures found { IfSome result (λ far. (rank < length (column_addresses columns.now)) × (slice_index (column_addresses columns.now) rank ≡ far)) }
-    ensures none { IfNone result (length (column_addresses columns.now) ≤ rank) }
+    ensures found { IfSome result (λ far. HasRank (column_addresses columns.now) far rank) }
+    ensures past_end { IfNone result (length (column_addresses columns.now) ≤ rank) }
 {
     let after = begun_by_rank(columns, rank);
     if after == 0 {
@@ -103,7 +103,7 @@ pub(crate) fn address_of(columns: &[Column], rank: u32) -> Option<u32>
 pub(crate) fn next_of(columns: &[Column], far: u32) -> Option<u32>
     requires { AreColumns columns.now }
     ensures found { IfSome result (λ y. IsFollowedBy (column_addresses columns.now) far y) }
-    ensures none { IfNone result (IsLastIn (column_addresses columns.now) far ⊎ (¬ Contains (column_addresses columns.now) far)) }
+    ensures last_or_absent { IfNone result (IsLastIn (column_addresses columns.now) far ⊎ (¬ Contains (column_addresses columns.now) far)) }
 {
     let index = column_index(columns, far)?;
     let column = columns[index];
@@ -140,7 +140,7 @@ fn slot_at(columns: &[Column], slot_number: u64) -> Slot
 fn rank_in(columns: &[Column], index: usize, slot_number: u64) -> Option<u32>
     requires { AreColumns columns.now }
     ensures found { IfSome result (λ r. HasFrameOf (column_addresses columns.now) (column_slots columns.now) slot_number r) }
-    ensures none { IfNone result ((d : Column) → index < length columns.now → (slice_index_or columns.now index d).place ≤ slot_number →
+    ensures no_frame { IfNone result ((d : Column) → index < length columns.now → (slice_index_or columns.now index d).place ≤ slot_number →
         (slice_index_or columns.now index d).count ≤ slot_number - (slice_index_or columns.now index d).place) }
 {
     if columns.len() <= index {
@@ -164,7 +164,7 @@ fn rank_in(columns: &[Column], index: usize, slot_number: u64) -> Option<u32>
 pub(crate) fn rank_at(columns: &[Column], slot_number: u64, hint: &mut usize) -> Option<u32>
     requires { AreColumns columns.now }
     ensures found { IfSome result (λ r. HasFrameOf (column_addresses columns.now) (column_slots columns.now) slot_number r) }
-    ensures none { IfNone result ((far : ℕ) → slice_index_or (column_slots columns.now) slot_number Slot.End ≡ Slot.Frame far → ⊥) }
+    ensures no_frame { IfNone result ((far : ℕ) → slice_index_or (column_slots columns.now) slot_number Slot.End ≡ Slot.Frame far → ⊥) }
 {
     if let Some(rank) = rank_in(columns, *hint, slot_number) {
         return Some(rank);

@@ -40,7 +40,7 @@ fn is_known(keys: &[PartKey], name: &str) -> bool
     false
 }
 
-/// Whether each key of the table is one of these.
+/// Whether each key of the table is one of `keys`.
 pub(crate) fn has_only(keys: &[PartKey], table: &Table) -> bool
     ensures { result ≡ has_only keys.now (table_view table.now) }
 {

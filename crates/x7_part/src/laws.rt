@@ -24,7 +24,7 @@ pub fn slots_follow_the_addresses()
     ensures length { (part : PartData) → length (slots_in part) ≡ length (addresses_in part) + 2 * length part.rows }
     ensures all_from_first { (part : PartData) → IsPart part → from (slice_index (addresses_in part) 0) (slots_in part) ≡ slots_in part }
     ensures rows { (part : PartData) (before after : List RowData) (r : RowData) → part.rows ≡ before ++ r ∷ after →
-        slots_in part ≡ slots part.far before ++ row_slots part.far r (slots part.far after) }
+        slots_in part ≡ slots part.field_widths before ++ row_slots part.field_widths r (slots part.field_widths after) }
     ensures frames { (part : PartData) → addresses_among (slots_in part) ≡ addresses_in part }
     ensures next { (part : PartData) (far next : ℕ) → IsPart part → Contains (addresses_in part) far →
         (slot_after part far 1 ≡ Frame next) ↔ (IsFollowedBy (addresses_in part) far next × AreInOneRow part far next) }
@@ -36,6 +36,6 @@ pub fn rows_are_in_order()
     ensures same_rows_as_file { (text : List ℕ) (table : Members) (part : PartData) → parse_document text ≡ Some table → part_in text ≡ Ok part → IsPermutation (rows_in_file table) part.rows }
     ensures part { (text : List ℕ) (part : PartData) → part_in text ≡ Ok part → IsPart part }
     ensures rise { (part : PartData) → IsPart part → RowsRise part.rows }
-    ensures same_rows { (far : FieldWidths) (rows : List RowData) → IsPermutation rows (sorted_rows far rows) }
-    ensures sorted { (far : FieldWidths) (rows : List RowData) → IsNonDecreasingBy (row_address far) (sorted_rows far rows) }
+    ensures same_rows { (widths : FieldWidths) (rows : List RowData) → IsPermutation rows (sorted_rows widths rows) }
+    ensures sorted { (widths : FieldWidths) (rows : List RowData) → IsNonDecreasingBy (row_address widths) (sorted_rows widths rows) }
 {}

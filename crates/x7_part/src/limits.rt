@@ -1,5 +1,8 @@
 //! The most and the least that a part may have.
 
+/// The greatest IDCODE of a part: the last number of 32 bits.
+pub(crate) const GREATEST_IDCODE: u32 = 4_294_967_295;
+
 /// The greatest number of the mode pins.
 pub(crate) const GREATEST_MODE: u32 = 7;
 
@@ -73,7 +76,7 @@ pub(crate) const MOST_FRAMES: u32 = 131_072;
 pub(crate) const LEAST_FRAME_WORDS: u32 = 2;
 
 /// The most words of a frame.
-pub(crate) const MOST_FRAME_WORDS: u32 = 255;
+pub const MOST_FRAME_WORDS: u32 = 255;
 
 /// The words of a frame where a part file doesn't say (UG470, frame data).
 pub(crate) const USUAL_FRAME_WORDS: u32 = 101;

@@ -1,6 +1,6 @@
 //! A part, and the questions that are asked of its addresses and slots.
-ghost use Rattle.std.specs.Prelude.{◌≡◌, ◌+◌, ◌*◌, ◌<◌, ◌≤◌, ◌⊎◌, ◌↔◌, ◌%◌, ◌^◌, ℕ, true, None, [], All, length, slice_index, slice_index_or, count_by, nat_lt, string_bytes, Contains, IfSome, IfNone, IfOk};
-ghost use Rattle.x7_part.specs.AddressOrder.{addresses_in, IsFollowedBy, IsLastIn, Rises};
+ghost use Rattle.std.specs.Prelude.{◌≡◌, ◌+◌, ◌*◌, ◌<◌, ◌≤◌, ◌⊎◌, ◌↔◌, ◌%◌, ◌^◌, ℕ, true, None, [], All, length, slice_index_or, count_by, nat_lt, string_bytes, Contains, IfSome, IfNone, IfOk};
+ghost use Rattle.x7_part.specs.AddressOrder.{addresses_in, HasRank, IsFollowedBy, IsLastIn, Rises};
 ghost use Rattle.x7_part.specs.Column.{AreColumnsOf, table_of as columns_of};
 ghost use Rattle.x7_part.specs.Address.{IsAddressOf, IsRow, far_width};
 ghost use Rattle.x7_part.specs.Limits.{IsStartUnit, greatest_bus_width, greatest_mode, least_address_width, least_frame_words, most_address_width, most_frame_words, most_frames, most_words};
@@ -34,7 +34,7 @@ impl Model for Part {
 
     ghost view = { λ p. part_data (string_bytes p.name) p.settings p.rows.items };
 
-    ghost invariant = { λ p. (p.columns.items ≡ columns_of p.settings.far 0 0 p.rows.items) × IsPart (part_data (string_bytes p.name) p.settings p.rows.items) };
+    ghost invariant = { λ p. (p.columns.items ≡ columns_of p.settings.field_widths 0 0 p.rows.items) × IsPart (part_data (string_bytes p.name) p.settings p.rows.items) };
 }
 
 impl Part {
@@ -47,12 +47,12 @@ impl Part {
     ) -> Result<Part, AllocError>
         requires rows { All IsRow rows.items }
         requires apart { same_row_fault [] rows.items ≡ None }
-        requires part { IsPart (part_data (string_bytes name) settings (sorted_rows settings.far rows.items)) }
-        ensures { IfOk result (λ part. part ≡ part_data (string_bytes name) settings (sorted_rows settings.far rows.items)) }
+        requires part { IsPart (part_data (string_bytes name) settings (sorted_rows settings.field_widths rows.items)) }
+        ensures { IfOk result (λ part. part ≡ part_data (string_bytes name) settings (sorted_rows settings.field_widths rows.items)) }
     {
         let mut rows = rows;
-        row::sort_rows(&mut rows, settings.far);
-        let columns = table_of(alloc, settings.far, &rows)?;
+        row::sort_rows(&mut rows, settings.field_widths);
+        let columns = table_of(alloc, settings.field_widths, &rows)?;
         Ok(Part {
             name,
             settings,
@@ -133,7 +133,7 @@ impl Part {
         ensures least { least_address_width ≤ result }
         ensures most { result ≤ most_address_width }
     {
-        self.settings.far.width()
+        self.settings.field_widths.width()
     }
 
     /// The bytes of the flash that one step of the start address in WBSTAR stands for.
@@ -174,25 +174,25 @@ impl Part {
     /// The next address in number order, none for the last one and for what is no address.
     pub fn next(&self, far: u32) -> Option<u32>
         ensures found { IfSome result (λ y. IsFollowedBy (addresses_in self.now) far y) }
-        ensures none { IfNone result (IsLastIn (addresses_in self.now) far ⊎ (¬ Contains (addresses_in self.now) far)) }
+        ensures last_or_absent { IfNone result (IsLastIn (addresses_in self.now) far ⊎ (¬ Contains (addresses_in self.now) far)) }
     {
         column::next_of(self.table(), far)
     }
 
     /// The number of smaller addresses of the part, none for what is no address.
     pub fn rank(&self, far: u32) -> Option<u32>
-        ensures found { IfSome result (λ r. (r < length (addresses_in self.now)) × (slice_index (addresses_in self.now) r ≡ far)) }
+        ensures found { IfSome result (λ rank. HasRank (addresses_in self.now) far rank) }
         ensures smaller { IfSome result (λ r. r ≡ count_by (λ y. nat_lt y far) (addresses_in self.now)) }
-        ensures none { IfNone result (¬ Contains (addresses_in self.now) far) }
+        ensures absent { IfNone result (¬ Contains (addresses_in self.now) far) }
     {
         column::rank_of(self.table(), far)
     }
 
     /// The address with `rank` smaller ones, none from `frames()` on. This is the inverse of `rank()`.
     pub fn address(&self, rank: u32) -> Option<u32>
-        ensures found { IfSome result (λ far. (rank < length (addresses_in self.now)) × (slice_index (addresses_in self.now) rank ≡ far)) }
+        ensures found { IfSome result (λ far. HasRank (addresses_in self.now) far rank) }
         ensures smaller { IfSome result (λ far. rank ≡ count_by (λ y. nat_lt y far) (addresses_in self.now)) }
-        ensures none { IfNone result (length (addresses_in self.now) ≤ rank) }
+        ensures past_end { IfNone result (length (addresses_in self.now) ≤ rank) }
     {
         column::address_of(self.table(), rank)
     }
@@ -210,7 +210,7 @@ impl Part {
         requires address { Contains (addresses_in self.now) far }
         ensures within { result < length (slots_in self.now) }
         ensures slots { (n : ℕ) → slice_index_or (slots_in self.now) (result + n) Slot.End ≡ slice_index_or (from far (slots_in self.now)) n Slot.End }
-        ensures most { length (slots_in self.now) < 2 ^ 63 }
+        ensures few_slots { length (slots_in self.now) < 2 ^ 63 }
     {
         column::place_of(self.table(), far)
     }
@@ -219,7 +219,7 @@ impl Part {
     /// where to look first, 0 at the start; whatever it is, the answer is the same.
     pub fn rank_at(&self, slot_number: u64, hint: &mut usize) -> Option<u32>
         ensures found { IfSome result (λ r. HasFrameOf (addresses_in self.now) (slots_in self.now) slot_number r) }
-        ensures none { IfNone result ((far : ℕ) → slice_index_or (slots_in self.now) slot_number Slot.End ≡ Slot.Frame far → ⊥) }
+        ensures no_frame { IfNone result ((far : ℕ) → slice_index_or (slots_in self.now) slot_number Slot.End ≡ Slot.Frame far → ⊥) }
     {
         column::rank_at(self.table(), slot_number, hint)
     }

@@ -7,9 +7,9 @@ ghost use Rattle.x7_part.specs.declared.fault.PartFault.TheVariants.{Range};
 use crate::address::Fields;
 use crate::fault::{PartFault, Which};
 use crate::limits::{
-    FIRST_PRINTED, HALF_WIDTH, LAST_PRINTED, LEAST_BLOCK_WIDTH, LEAST_COLUMN_WIDTH,
-    LEAST_MINOR_WIDTH, LEAST_ROW_WIDTH, MOST_BLOCK_WIDTH, MOST_COLUMN_WIDTH, MOST_COLUMNS,
-    MOST_MINOR_WIDTH, MOST_MINORS, MOST_NAME_BYTES, MOST_ROW_WIDTH,
+    FIRST_PRINTED, GREATEST_IDCODE, HALF_WIDTH, LAST_PRINTED, LEAST_BLOCK_WIDTH,
+    LEAST_COLUMN_WIDTH, LEAST_MINOR_WIDTH, LEAST_ROW_WIDTH, MOST_BLOCK_WIDTH, MOST_COLUMN_WIDTH,
+    MOST_COLUMNS, MOST_MINOR_WIDTH, MOST_MINORS, MOST_NAME_BYTES, MOST_ROW_WIDTH,
 };
 use std::alloc::Global;
 
@@ -67,7 +67,7 @@ pub(crate) fn odd_number(number: i64, at: Which) -> Result<u32, PartFault>
     ensures fault { fault_of_call result ≡ unless (is_odd number) (Range at) }
     ensures value { IfOk result (λ n. n ≡ natural number) }
 {
-    let odd = within(number, 1, 4_294_967_295, at)?;
+    let odd = within(number, 1, GREATEST_IDCODE, at)?;
     require(odd % 2 == 1, PartFault::Range(at))?;
     Ok(odd)
 }
@@ -103,7 +103,7 @@ fn width_in(number: i64, low: u8, high: u8) -> Option<u8>
 /// together.
 fn fields_of(minor: i64, column: i64, row: i64, half: i64, block: i64) -> Option<Fields>
     ensures exactly_where { is_some result ≡ are_widths (minor ∷ column ∷ row ∷ half ∷ block ∷ []) }
-    ensures value { IfSome result (λ far. far ≡ widths_of (minor ∷ column ∷ row ∷ half ∷ block ∷ [])) }
+    ensures value { IfSome result (λ fields. fields ≡ widths_of (minor ∷ column ∷ row ∷ half ∷ block ∷ [])) }
 {
     let minor = width_in(minor, LEAST_MINOR_WIDTH, MOST_MINOR_WIDTH)?;
     let column = width_in(column, LEAST_COLUMN_WIDTH, MOST_COLUMN_WIDTH)?;
@@ -117,7 +117,7 @@ fn fields_of(minor: i64, column: i64, row: i64, half: i64, block: i64) -> Option
 /// out of its range, or where they have more than 32 bits together.
 pub(crate) fn fields_by_widths(numbers: &[i64], at: Which) -> Result<Fields, PartFault>
     ensures fault { fault_of_call result ≡ unless (are_widths numbers.now) (Range at) }
-    ensures value { IfOk result (λ far. far ≡ widths_of numbers.now) }
+    ensures value { IfOk result (λ fields. fields ≡ widths_of numbers.now) }
 {
     let [minor, column, row, half, block] = numbers else {
         return Err(PartFault::Range(at));

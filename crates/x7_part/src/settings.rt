@@ -27,7 +27,7 @@ pub(crate) struct Settings {
     pub(crate) matched: u16,
     /// The number of words of a frame.
     pub(crate) frame_words: u8,
-    pub(crate) far: Fields,
+    pub(crate) field_widths: Fields,
     /// The bytes of the flash that one step of the start address in WBSTAR stands for.
     pub(crate) start_unit: u16,
 }
@@ -36,7 +36,7 @@ pub(crate) struct Settings {
 #[tactic(auto, unfolding(crate::specs::PartChecks::are_widths_or_none))]
 fn fields_in(widths_given: &Option<Vec<i64>>, at: Which) -> Result<Fields, PartFault>
     ensures fault { fault_of_call result ≡ unless (are_widths_or_none (option_map (λ zs. zs.items) widths_given.now)) (Range at) }
-    ensures value { IfOk result (λ far. far ≡ widths_of (unwrap_or (option_map (λ zs. zs.items) widths_given.now) [])) }
+    ensures value { IfOk result (λ fields. fields ≡ widths_of (unwrap_or (option_map (λ zs. zs.items) widths_given.now) [])) }
 {
     match widths_given {
         Some(numbers) => fields_by_widths(numbers, at),
@@ -62,7 +62,7 @@ fn numbers_in(values: &Values) -> Result<Settings, PartFault>
             MOST_FRAME_WORDS,
             top!(FrameWords),
         )? as u8,
-        far: fields_in(&values.far, top!(Far))?,
+        field_widths: fields_in(&values.far, top!(Far))?,
         start_unit: start_unit_in(values.start_unit, top!(StartUnit))?,
     })
 }

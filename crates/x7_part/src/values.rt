@@ -1,7 +1,7 @@
 //! The values of a part file, each of its type, and no range of them looked at.
-ghost use Rattle.std.specs.Prelude.{◌≡◌, None, map, option_map, string_bytes, IfOk, IsErrOf};
+ghost use Rattle.std.specs.Prelude.{◌≡◌, None, map, IfOk, IsErrOf};
 ghost use Rattle.toml.specs.View.{table_view};
-ghost use Rattle.x7_part.specs.Values.{RowValues as ValuesOfRow, TopValues, row_values, top_values, under};
+ghost use Rattle.x7_part.specs.Values.{RowValues as ValuesOfRow, row_values, top_values, under};
 ghost use Rattle.x7_part.specs.PartChecks.{fault_of_call, AnswersDue, rows_fault, row_type_fault, row_other_fault, type_fault, other_fault};
 ghost use Rattle.x7_part.specs.Keys.{top};
 ghost use Rattle.x7_part.specs.declared.fault.PartFault.TheVariants.{Key};
@@ -50,9 +50,12 @@ pub(crate) struct Values {
 }
 
 impl Model for Values {
+    ghost use Rattle.x7_part.specs.ValueFields.{values_seen};
+    ghost use Rattle.x7_part.specs.Values.{TopValues};
+
     ghost Value = { TopValues };
 
-    ghost view = { λ v. record { name = string_bytes v.name; idcode = v.idcode; mode = v.mode; bus_width = v.bus_width; lock = v.lock; matched = v.matched; frame_words = v.frame_words; far = option_map (λ zs. zs.items) v.far; start_unit = v.start_unit; rows = v.rows.items; has_only_known_keys = v.has_only_known_keys } };
+    ghost view = { values_seen };
 }
 
 /// A row's values, or the first of its keys that is missing or of another type.

@@ -8,7 +8,7 @@ use Rattle.x7_part.specs.declared.slot.Slot.{Slot}
 use Rattle.x7_part.specs.declared.slot.Slot.TheVariants.{Frame, Pad, End}
 use Rattle.x7_pipeline.specs.Runs.{slots_from}
 use Rattle.x7_pipeline.specs.FarAsRead.{has_frame_at, first_address, last_address, far_at}
-use Rattle.x7_pipeline.specs.InWords.{FarStandsAt, HasNoAddress, HasNoFrame, IsFirstAddress}
+use Rattle.x7_pipeline.specs.RunsInWords.{FarStandsAt, HasNoAddress, HasNoFrame, IsFirstAddress}
 
 -- a base that is no address is FAR itself
 pub far_at_none : (part : PartData) (base slot : ℕ) → has_frame_at part base ≡ false → base ≡ far_at part base slot

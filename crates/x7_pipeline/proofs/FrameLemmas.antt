@@ -12,7 +12,7 @@ use Rattle.x7_pipeline.specs.declared.fault.RunFault.{RunFault}
 use Rattle.x7_pipeline.specs.FarAsRead.{has_frame_at}
 use Rattle.x7_pipeline.specs.Runs.{at_slot, onto, put_over, slots_from, Lands}
 use Rattle.x7_pipeline.specs.Fault.{write_fault}
-use Rattle.x7_pipeline.specs.Words.{RunWritten, with_later_words, run_written}
+use Rattle.x7_pipeline.specs.RunWritten.{RunWritten, with_later_words, run_written}
 use Rattle.x7_pipeline.specs.Flow.{Flow, HoldsFlow, with_run}
 use Rattle.x7_pipeline.specs.Pipeline.{PipelineData}
 use Rattle.x7_pipeline.proofs.FlowLemmas.{StandsFor, flow}

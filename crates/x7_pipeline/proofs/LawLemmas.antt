@@ -21,7 +21,7 @@ use Rattle.x7_regs.specs.declared.command.Command.{Command}
 use Rattle.x7_pipeline.specs.declared.fault.RunFault.{RunFault}
 use Rattle.x7_pipeline.specs.declared.fault.RunFault.TheVariants.{Address, Overrun, Multi}
 use Rattle.x7_pipeline.specs.Runs.{rest_of, frames_of, slots_from, at_slot, in_slots, but_newest, written_frames, put_over, Lands}
-use Rattle.x7_pipeline.specs.InWords.{AreCutFrom, FarStandsAt, pair_of, place_in}
+use Rattle.x7_pipeline.specs.RunsInWords.{AreCutFrom, FarStandsAt, pair_of, place_in}
 use Rattle.x7_pipeline.specs.FarAsRead.{has_frame_at, first_address, last_address, far_at, far_of}
 use Rattle.x7_regs.specs.declared.command.Command.TheVariants.{Wcfg, Mfw}
 use Rattle.x7_pipeline.specs.Copies.{is_wcfg, is_mfw, newest_of, source_after}
@@ -279,7 +279,7 @@ from_end base (End ∷ places) ends = from_end base places (λ i far h e. ends (
 
 last_slot : (part : PartData) (base i far : ℕ) → length (slots_from part base) ≤ i + 1 → get_or (slots_from part base) i End ≡ Frame far → ⊥
 unfolding EndsInPad
-last_slot part base = from_end base (slots_in part) (slots_end part.far part.rows)
+last_slot part base = from_end base (slots_in part) (slots_end part.field_widths part.rows)
 
 -- ---- faults
 

@@ -91,7 +91,7 @@ pub at_end : (part : PartData) (base place : ℕ) → 0 < frame_words part → r
 unfolding read_slot read_limit NoEnds
 at_end part base place some e =
     elim (cases_lt (place / frame_words part) (1 + length (slots_from part base))) [
-      | inl low ↦ absurd (no_end (Pad ∷ slots_from part base) (place / frame_words part) (ends_from base (slots_in part) (ends_slots part.far part.rows)) (omega arith) e)
+      | inl low ↦ absurd (no_end (Pad ∷ slots_from part base) (place / frame_words part) (ends_from base (slots_in part) (ends_slots part.field_widths part.rows)) (omega arith) e)
       | inr past ↦ commute (1 + length (slots_from part base)) (frame_words part) place
           ((le-div_iff_mul-le {k = frame_words part} {x = 1 + length (slots_from part base)} {y = place} some).0 past)
     ]

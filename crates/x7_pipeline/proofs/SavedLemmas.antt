@@ -9,7 +9,7 @@ use Rattle.x7_part.specs.AddressOrder.{addresses_in}
 use Rattle.x7_part.specs.declared.slot.Slot.{Slot}
 use Rattle.x7_part.specs.declared.slot.Slot.TheVariants.{Frame, Pad, End}
 use Rattle.x7_memory.specs.FrameMap.{FrameMap, AreSame}
-use Rattle.x7_memory.specs.Frames.{AreFramesOf, frame_among, frame_at}
+use Rattle.x7_memory.specs.PartFrames.{AreFramesOf, frame_among, frame_at}
 use Rattle.x7_memory.specs.Plan.{PlanRow, planned}
 use Rattle.x7_memory.proofs.MapLemmas.{override_one}
 use Rattle.x7_pipeline.specs.Runs.{at_slot, but_newest, frames_of, in_slots, written_frames, put_over, rest_of, slots_from, Lands}

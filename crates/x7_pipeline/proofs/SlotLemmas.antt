@@ -110,11 +110,11 @@ length_from far (End ∷ places) = let ih = length_from far places in omega arit
 -- an address has slots from it on
 pub address_has : (part : PartData) (far : ℕ) → Contains (addresses_in part) far → has_frame_at part far ≡ true
 address_has part far has =
-    lt-ltb 0 (length (slots_from part far)) (from_some far (slots_in part) (rw (addresses_among_slots part.far part.rows) has))
+    lt-ltb 0 (length (slots_from part far)) (from_some far (slots_in part) (rw (addresses_among_slots part.field_widths part.rows) has))
 
 pub has_address : (part : PartData) (far : ℕ) → has_frame_at part far ≡ true → Contains (addresses_in part) far
 has_address part far t =
-    rw (addresses_among_slots part.far part.rows) at (some_from far (slots_in part) (ltb-true 0 (length (slots_from part far)) t))
+    rw (addresses_among_slots part.field_widths part.rows) at (some_from far (slots_in part) (ltb-true 0 (length (slots_from part far)) t))
 
 -- the test for an address
 pub is_base_so : (part : PartData) (far : ℕ) (b : Bool) → (b ≡ true) ↔ Contains (addresses_in part) far → b ≡ has_frame_at part far
@@ -138,9 +138,9 @@ no_slot part far n f = sym (get_or_past (slots_from part far) n End (let none = 
 
 -- a slot of a frame has an address of the part
 pub slot_address : (part : PartData) (base n far : ℕ) → Frame far ≡ get_or (slots_from part base) n End → Contains (addresses_in part) far
-slot_address part base n far e = rw (addresses_among_slots part.far part.rows) at (slot_among base n far (slots_in part) (sym e))
+slot_address part base n far e = rw (addresses_among_slots part.field_widths part.rows) at (slot_among base n far (slots_in part) (sym e))
 
 -- a part has fewer than 2^31 slots
 pub few_slots : (part : PartData) (far : ℕ) → IsPart part → length (slots_from part far) < 2 ^ 31
 few_slots part far is =
-    let few = is.frames in let rows = is.few in let count = slots_count part.far part.rows in let from_there = length_from far (slots_in part) in omega arith
+    let few = is.frames in let rows = is.few in let count = slots_count part.field_widths part.rows in let from_there = length_from far (slots_in part) in omega arith

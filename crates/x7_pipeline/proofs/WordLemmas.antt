@@ -7,7 +7,7 @@ use Rattle.x7_regs.specs.declared.command.Command.{Command}
 use Rattle.x7_pipeline.specs.declared.fault.RunFault.{RunFault}
 use Rattle.x7_pipeline.specs.Runs.{onto, Lands}
 use Rattle.x7_pipeline.specs.Fault.{write_fault}
-use Rattle.x7_pipeline.specs.Words.{RunWritten, with_later_words, run_written, Refused}
+use Rattle.x7_pipeline.specs.RunWritten.{RunWritten, with_later_words, run_written, Refused}
 use Rattle.x7_pipeline.specs.Pipeline.{PipelineData}
 use Rattle.x7_pipeline.proofs.FlowLemmas.{StandsFor}
 use Rattle.x7_pipeline.proofs.LawLemmas.{lands_none}

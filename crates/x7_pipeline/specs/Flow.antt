@@ -14,7 +14,7 @@ use Rattle.x7_pipeline.specs.Fault.{copy_fault}
 use Rattle.x7_pipeline.specs.Readback.{given_stored, read_slot}
 use Rattle.x7_pipeline.specs.Pipeline.{PipelineData}
 use Rattle.x7_pipeline.specs.Runs.{Lands, at_slot, frames_of, onto, put_over, rest_of, slots_from}
-use Rattle.x7_pipeline.specs.Words.{RunWritten, run_written}
+use Rattle.x7_pipeline.specs.RunWritten.{RunWritten, run_written}
 
 -- the command, the address that the run or readback began at, the words of the run (the newest first), the frame that
 -- copies take, and the count of words given
@@ -44,11 +44,11 @@ pub record HoldsFlow (part : PartData) (pipeline : PipelineData) (f : Flow) : Ty
   pub given_is : pipeline.given ≡ given_stored part f.base f.given
   pub slot_is : pipeline.slot ≡ read_slot part f.base (given_stored part f.base f.given)
 
--- what holds of each flow that the pipeline stands for
+-- a fact holds of each flow that the pipeline stands for
 abbrev pub OfFlow : PartData → PipelineData → (Flow → Type 0) → Type 0
 OfFlow part p Fact = (f : Flow) → HoldsFlow part p f → Fact f
 
--- the pipeline goes on to this flow
+-- of each flow that the old pipeline stands for, the new one stands for the next
 abbrev pub FlowGoesOn : PartData → PipelineData → PipelineData → (Flow → Flow) → Type 0
 FlowGoesOn part old new next = OfFlow part old (λ f. HoldsFlow part new (next f))
 

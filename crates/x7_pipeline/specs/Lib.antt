@@ -4,9 +4,9 @@ pub mod Flow
 pub mod Copies
 pub mod Readback
 pub mod Fault
-pub mod Words
+pub mod RunWritten
 pub mod Pipeline
 pub mod PipelineFields
-pub mod InWords
+pub mod RunsInWords
 pub mod Saved
 pub mod Place

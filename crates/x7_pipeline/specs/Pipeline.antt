@@ -4,7 +4,7 @@ use Rattle.x7_part.specs.Part.{PartData, frame_words}
 use Rattle.x7_part.specs.Address.{far_width}
 use Rattle.x7_part.specs.declared.slot.Slot.{Slot}
 use Rattle.x7_part.specs.declared.slot.Slot.TheVariants.{End, Pad}
-use Rattle.x7_memory.specs.Frames.{AreFramesOf}
+use Rattle.x7_memory.specs.PartFrames.{AreFramesOf}
 use Rattle.x7_regs.specs.declared.command.Command.{Command}
 use Rattle.x7_pipeline.specs.Runs.{slots_from}
 

@@ -32,13 +32,13 @@ onto (w ∷ words) run = onto words (w ∷ run)
 abbrev pub slots_from : PartData → ℕ → List Slot
 slots_from part far = from far (slots_in part)
 
--- a frame lands where its slot is an address, and nowhere at a pad or past the last slot
+-- pairs, with that of a frame before them where its slot is an address: at a pad and past the last slot it lands nowhere
 abbrev pub at_slot : Slot → List ℕ → List PlanRow → List PlanRow
 at_slot (Frame far) words pairs = record { far = far; words = words } ∷ pairs
 at_slot Pad words pairs = pairs
 at_slot End words pairs = pairs
 
--- frames, the newest first, with slots: the oldest frame goes with the first slot
+-- the pairs of frames, the newest first, at slots: the oldest frame goes with the first slot
 unfoldable pub in_slots : List Slot → List (List ℕ) → List PlanRow
 in_slots slots [] = []
 in_slots slots (frame ∷ older) = at_slot (slice_index_or slots (length older) End) frame (in_slots slots older)

@@ -4,7 +4,7 @@ ghost use Rattle.std.specs.Result.{result_err};
 ghost use Rattle.x7_words.specs.Word.{AreWholeWords, words_of_bytes};
 ghost use Rattle.x7_part.specs.Part.{PartData};
 ghost use Rattle.x7_memory.specs.FrameMap.{AreSame};
-ghost use Rattle.x7_memory.specs.Frames.{frame_at, AreFramesOf};
+ghost use Rattle.x7_memory.specs.PartFrames.{frame_at, AreFramesOf};
 ghost use Rattle.x7_part.specs.declared.slot.Slot.{Slot};
 ghost use Rattle.x7_regs.specs.declared.command.Command.{Command};
 ghost use Rattle.x7_pipeline.specs.Runs.{Lands, put_over, slots_from};
@@ -215,7 +215,7 @@ impl Pipeline {
         part: &Part,
         memory: &mut Memory,
     ) -> Result<usize, RunFault>
-        requires some { 4 ≤ length bytes.now }
+        requires word { 4 ≤ length bytes.now }
         requires part { AreOfPart part.now self.old memory.old }
         ensures words { IfOk result (λ taken. (1 ≤ taken / 4) × (taken % 4 ≡ 0) × (taken ≤ length bytes.now)) }
         ensures stands { IfOk result (λ taken. FlowGoesOn part.now self.old self.new (after_words (words_of_bytes (take taken bytes.now)))) }

@@ -27,7 +27,7 @@ pub(crate) fn slot_count(part: &Part, far: u32) -> u64
     }
 }
 
-/// Slot n of the slots from an address on, `End` where there is none, and for what is no address.
+/// Slot n, from 0, of the slots from an address on, `End` where there is none, and for what is no address.
 pub(crate) fn slot_at(part: &Part, far: u32, n: u64) -> Slot
     ensures { result ≡ slice_index_or (slots_from part.now far) n Slot.End }
 {
@@ -48,8 +48,8 @@ pub(crate) fn readback_slot(part: &Part, far: u32, frame: u64) -> Slot
     slot_at(part, far, frame - 1)
 }
 
-/// The first address at or after slot n of those from the base on, and the last address where there is none; the base
-/// itself where it is no address.
+/// The first address at or after slot n, from 0, of those from the base on, and the last address where there is none;
+/// the base itself where it is no address.
 pub(crate) fn far_at(part: &Part, base: u32, n: u64) -> u32
     ensures { result ≡ address_at part.now base n }
 {

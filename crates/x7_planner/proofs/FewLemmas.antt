@@ -69,6 +69,6 @@ by_rows P (r ∷ rows) a = (All-head P r rows a, by_rows P rows (All-tail P r ro
 
 pub rows_few : (part : PartData) (rows : List PlanRow) → IsPart part → AreInOrder rows → All (λ row. Contains (addresses_in part) row.far) rows → length rows ≤ length (addresses_in part)
 rows_few part rows is o h =
-    let named : length (planned_addresses rows) ≤ length (addresses_in part) = fewer 0 0 (planned_addresses rows) (addresses_in part) (order_rises 0 rows o (omega arith)) (part_rises part.far part.rows is.far is.rows)
+    let named : length (planned_addresses rows) ≤ length (addresses_in part) = fewer 0 0 (planned_addresses rows) (addresses_in part) (order_rises 0 rows o (omega arith)) (part_rises part.field_widths part.rows is.field_widths is.rows)
     (each_named part rows (by_rows (λ row. Contains (addresses_in part) row.far) rows h)) in
     omega (arith, named, length-map rows (λ (row : PlanRow). row.far))

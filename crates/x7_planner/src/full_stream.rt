@@ -33,7 +33,7 @@ const WORDS_BESIDE_FRAMES: usize = 55;
 const PIECE_SLOTS: u64 = 160;
 
 /// The most words that a frame may have.
-const MOST_FRAME_WORDS: usize = 255;
+const MOST_FRAME_WORDS: usize = x7_part::MOST_FRAME_WORDS as usize;
 
 /// A frame of zeros, of the most words that a frame may have.
 static ZEROS: [u32; MOST_FRAME_WORDS] = [0; MOST_FRAME_WORDS];

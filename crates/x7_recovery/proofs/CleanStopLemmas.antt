@@ -13,7 +13,7 @@ use Rattle.x7_pipeline.specs.Runs.{put_over}
 use Rattle.x7_pipeline.specs.Flow.{first_flow}
 use Rattle.x7_pipeline.proofs.LawLemmas.{no_source}
 use Rattle.x7_startup.proofs.CallLemmas.{progress_bytes}
-use Rattle.x7_flow.specs.Flow.{Flow, flow_by, flow_of}
+use Rattle.x7_flow.specs.HistoryFlow.{Flow, flow_by, flow_of}
 use Rattle.x7_flow.specs.FrameMemory.{memory_of}
 use Rattle.x7_flow.specs.Asking.{Commands}
 use Rattle.x7_startup.specs.Startup.{NotBegun}

@@ -96,11 +96,11 @@ tiny_is = record {
   lock = omega arith;
   matched = omega arith;
   words = (omega arith, omega arith);
-  far = record { minor = (omega arith, omega arith); column = (omega arith, omega arith); row = (omega arith, omega arith); half = refl; block = (omega arith, omega arith); sum = omega arith };
+  field_widths = record { minor = (omega arith, omega arith); column = (omega arith, omega arith); row = (omega arith, omega arith); half = refl; block = (omega arith, omega arith); sum = omega arith };
   start_unit = inl refl;
   some = omega arith;
   few = omega arith;
-  rows = row tiny.far 0 _ _ (omega arith) (is_row 0 (omega arith)) (row tiny.far _ _ _ (omega arith) (is_row 1 (omega arith)) (no_row tiny.far _));
+  rows = row tiny.field_widths 0 _ _ (omega arith) (is_row 0 (omega arith)) (row tiny.field_widths _ _ _ (omega arith) (is_row 1 (omega arith)) (no_row tiny.field_widths _));
   frames = omega (arith, frames_are);
   slots = omega (arith, frames_are);
 }

@@ -13,7 +13,7 @@ tiny = record {
   lock = 0;
   matched = 0;
   frame_words = 101;
-  far = record { minor = 7; column = 10; row = 5; half = 1; block = 3 };
+  field_widths = record { minor = 7; column = 10; row = 5; half = 1; block = 3 };
   start_unit = 1;
   rows = record { block = 0; half = 0; row = 0; minors = 2 ∷ [] } ∷ record { block = 0; half = 1; row = 0; minors = 2 ∷ [] } ∷ [];
 }

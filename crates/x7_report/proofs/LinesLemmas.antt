@@ -7,7 +7,7 @@ use Rattle.x7_words.proofs.SinkLemmas.{appended_nil, appended_appended, prefix_m
 use Rattle.x7_part.specs.AddressOrder.{addresses_in}
 use Rattle.x7_part.specs.Part.{PartData}
 use Rattle.x7_memory.specs.FrameMap.{AreSame, FrameMap}
-use Rattle.x7_memory.specs.Frames.{frame_at}
+use Rattle.x7_memory.specs.PartFrames.{frame_at}
 use Rattle.x7_engine.specs.declared.regs.Regs.{Regs}
 use Rattle.x7_report.specs.Frames.{frames_text, frame_text_if, frame_lines_text, addresses_shown}
 use Rattle.x7_report.specs.Reads.{reads_text}

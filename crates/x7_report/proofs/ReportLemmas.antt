@@ -6,7 +6,7 @@ use Rattle.std.proofs.lemmas.List.{take_more}
 use Rattle.x7_part.specs.AddressOrder.{addresses_in}
 use Rattle.x7_part.specs.Part.{PartData}
 use Rattle.x7_memory.specs.FrameMap.{AreSame, FrameMap}
-use Rattle.x7_memory.specs.Frames.{frame_at}
+use Rattle.x7_memory.specs.PartFrames.{frame_at}
 use Rattle.x7_engine.specs.declared.regs.Regs.{Regs}
 use Rattle.x7_report.specs.Frames.{frames_text, is_shown, frame_text_if, addresses_shown}
 use Rattle.x7_report.specs.Reads.{reads_text}

@@ -3,7 +3,7 @@ use Rattle.std.specs.Prelude.{ℕ, ◌+◌, ◌*◌, not, Bool, false, if◌then
 use Rattle.std.specs.List.{flat_map}
 use Rattle.x7_part.specs.Limits.{most_frame_words}
 use Rattle.x7_memory.specs.FrameMap.{FrameMap}
-use Rattle.x7_memory.specs.Frames.{are_zeros}
+use Rattle.x7_memory.specs.PartFrames.{are_zeros}
 use Rattle.x7_text.specs.Digits.{hex_word}
 
 -- how many bytes the line of a frame with this many words takes: the digits of the words, and 16 bytes for its name,

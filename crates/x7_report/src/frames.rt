@@ -5,7 +5,7 @@ ghost use Rattle.x7_text.specs.Appends.{Appends, HasSpareRoom};
 ghost use Rattle.x7_text.specs.Digits.{hex_word};
 ghost use Rattle.x7_words.specs.Word.{bytes_of_word};
 ghost use Rattle.x7_part.specs.AddressOrder.{addresses_in};
-ghost use Rattle.x7_memory.specs.Frames.{AreFramesOf, frame_at};
+ghost use Rattle.x7_memory.specs.PartFrames.{AreFramesOf, frame_at};
 ghost use Rattle.x7_report.specs.Frames.{frame_line_size, frame_text, frames_text, is_shown, frame_lines_text, frame_text_if, addresses_shown};
 
 use std::alloc::Global;

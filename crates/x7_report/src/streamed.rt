@@ -2,7 +2,7 @@
 ghost use Rattle.std.specs.Prelude.{◌≡◌, ◌++◌, ◌*◌, ◌≤◌, length, vec_capacity, IfOk, OnErr, OnOk};
 ghost use Rattle.x7_words.specs.Sink.{SinkFaultsRise, PutsAll, PutsSome, SinkFails};
 ghost use Rattle.x7_text.specs.Appends.{Appends, HasSpareRoom};
-ghost use Rattle.x7_memory.specs.Frames.{AreFramesOf, frame_at};
+ghost use Rattle.x7_memory.specs.PartFrames.{AreFramesOf, frame_at};
 ghost use Rattle.x7_engine.specs.Past.{OfPast, memory_at, state_at};
 ghost use Rattle.x7_engine.specs.Standing.{NoWordDue};
 ghost use Rattle.x7_report.specs.Frames.{frame_line_room, frame_text_if, room_at_once, frame_lines_text};
@@ -92,7 +92,7 @@ pub struct PlayText {
 
 impl Model for PlayText {
     ghost use Rattle.std.specs.Prelude.{◌++◌, ◌≤◌, vec_capacity};
-    ghost use Rattle.x7_memory.specs.Frames.{frame_at};
+    ghost use Rattle.x7_memory.specs.PartFrames.{frame_at};
     ghost use Rattle.x7_report.specs.Frames.{room_at_once, frame_lines_text};
     ghost use Rattle.x7_report.specs.Reports.{PlayTextState};
 

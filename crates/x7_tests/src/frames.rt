@@ -1,5 +1,5 @@
 //! Frames of a device and of a plan.
-ghost use Rattle.x7_memory.specs.Frames.{AreFramesOf};
+ghost use Rattle.x7_memory.specs.PartFrames.{AreFramesOf};
 
 use std::alloc::Global;
 use std::test::Fail;

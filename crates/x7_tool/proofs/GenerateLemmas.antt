@@ -16,7 +16,7 @@ use Rattle.x7_effects.proofs.FrameLemmas.{address_small}
 use Rattle.x7_frames.proofs.OneLemmas.{same_order}
 use Rattle.std.proofs.lemmas.List.Elements.{All-cons, All-contains_itself, All-head, All-nil, All-tail}
 use Rattle.std.proofs.lemmas.List.Sorted.{All-permutation, IsPermutation-sym}
-use Rattle.x7_memory.specs.Frames.{frame_at}
+use Rattle.x7_memory.specs.PartFrames.{frame_at}
 use Rattle.x7_part.specs.Ranges.{IsPart}
 use Rattle.x7_part.specs.Slot.{slots_in}
 use Rattle.x7_part.proofs.SlotLemmas.{slots_number}
@@ -190,7 +190,7 @@ rows_each P width x (far ∷ fars) all =
 
 generated_plan : (part : PartData) (seed : ℕ) → IsPart part → IsPlan (generated part seed)
 generated_plan part seed is = record {
-  order = rows_order (frame_words part) seed 0 (addresses_in part) (part_rises part.far part.rows is.far is.rows);
+  order = rows_order (frame_words part) seed 0 (addresses_in part) (part_rises part.field_widths part.rows is.field_widths is.rows);
   width = rows_each (λ row. length row.words ≡ frame_words part) (frame_words part) seed (addresses_in part) (λ i d h n. counted_long (frame_words part) n);
   each = rows_each IsPlanRow (frame_words part) seed (addresses_in part)
       (λ i d h n. record { far = address_small part (get_or (addresses_in part) i d) is (All-contains_itself (addresses_in part) i d h); words = counted_fits (frame_words part) n });

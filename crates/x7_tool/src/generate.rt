@@ -4,7 +4,7 @@ ghost use Rattle.std.specs.List.{sum};
 ghost use Rattle.x7_part.specs.AddressOrder.{addresses_in};
 ghost use Rattle.x7_part.specs.Part.{PartData, frame_words};
 ghost use Rattle.x7_part.specs.Ranges.{IsPart};
-ghost use Rattle.x7_memory.specs.Frames.{AreFramesOf, frame_at};
+ghost use Rattle.x7_memory.specs.PartFrames.{AreFramesOf, frame_at};
 ghost use Rattle.x7_memory.specs.Plan.{AreAddressed, IsPlan};
 ghost use Rattle.x7_planner.specs.FullStream.{full_stream};
 ghost use Rattle.x7_planner.specs.FullStreamPieces.{HasGiven};

@@ -3,7 +3,7 @@ ghost use Rattle.std.specs.Prelude.{◌≡◌, ◌≤◌, [], true, length, vec_
 ghost use Rattle.std.specs.List.{AllByRecursion};
 ghost use Rattle.x7_part.specs.AddressOrder.{addresses_in};
 ghost use Rattle.x7_memory.specs.FrameMap.{AreSame};
-ghost use Rattle.x7_memory.specs.Frames.{AreFramesOf, frame_at};
+ghost use Rattle.x7_memory.specs.PartFrames.{AreFramesOf, frame_at};
 ghost use Rattle.x7_pipeline.specs.Flow.{HoldsFlow, first_flow};
 ghost use Rattle.x7_pipeline.specs.Pipeline.{AreOfPart, IsPipelineOf};
 ghost use Rattle.x7_pipeline.specs.Runs.{put_over};

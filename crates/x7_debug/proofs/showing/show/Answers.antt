@@ -1,7 +1,7 @@
 use Rattle.std.proofs.Common.{◌≡◌, ℕ, List, ◌++◌, Option, false, take, ap, sym, subst, ◌∙◌}
 use Rattle.std.specs.Prelude.{OnOk}
 use Rattle.x7_part.specs.Part.{PartData}
-use Rattle.x7_memory.specs.Frames.{frame_at}
+use Rattle.x7_memory.specs.PartFrames.{frame_at}
 use Rattle.x7_engine.specs.Kept.{on_the_bench}
 use Rattle.x7_debug.specs.Position.{memory_at_position}
 use Rattle.x7_debug.specs.declared.order.Order.{Order}

@@ -1,7 +1,7 @@
 use Rattle.std.proofs.Common.{◌≡◌, ◌/◌, length, sym, arith}
 use Rattle.x7_words.specs.Word.{words_of_bytes}
 use Rattle.x7_words.proofs.WordLemmas.{length_words}
-use Rattle.x7_flow.specs.Flow.{flow_of}
+use Rattle.x7_flow.specs.HistoryFlow.{flow_of}
 use Rattle.x7_flow.specs.Standing.{HasFlow, frames_state, without_due}
 use Rattle.x7_flow.proofs.StandingLemmas.{did_copy, no_less, same_flow}
 use Rattle.x7_flow.proofs.TakenLemmas.{copies_refused, copies_taken, none_given}

@@ -1,6 +1,6 @@
 use Rattle.std.proofs.Common.{◌∙◌, ap, arith}
 use Rattle.std.proofs.lemmas.List.{take_all}
-use Rattle.x7_memory.specs.Frames.{are_zeros}
+use Rattle.x7_memory.specs.PartFrames.{are_zeros}
 use Rattle.x7_memory.proofs.ZeroLemmas.{zeros_more}
 use Rattle.x7_memory.proofs.zeros.has_no_bit.Goals as goal
 

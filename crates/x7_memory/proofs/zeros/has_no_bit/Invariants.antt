@@ -1,5 +1,5 @@
 use Rattle.std.proofs.Common.{◌≡◌, ◌==◌, take}
-use Rattle.x7_memory.specs.Frames.{are_zeros}
+use Rattle.x7_memory.specs.PartFrames.{are_zeros}
 use Rattle.x7_memory.proofs.zeros.has_no_bit.Given as goal
 
 abbrev pub invariant-loop-word : goal.invariant-loop-word

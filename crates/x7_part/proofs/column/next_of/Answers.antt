@@ -15,8 +15,8 @@ returns-then-far-column-clause-found c =
     let low = (at.1 nothing).0 in let high = (at.1 nothing).1 in let inside = c.if-far-column.true in
     next_inside c.args.columns.now c.requires.table c.in_ok-index.index c.args.far nothing at.0 low (omega arith)
 
-pub returns-then-index-columns-clause-none : goal.returns-then-index-columns-clause-none
-returns-then-index-columns-clause-none c =
+pub returns-then-index-columns-clause-last_or_absent : goal.returns-then-index-columns-clause-last_or_absent
+returns-then-index-columns-clause-last_or_absent c =
     let at = c.in_ok-index.ensures.found in
     let low = (at.1 nothing).0 in let high = (at.1 nothing).1 in let outside = c.if-far-column.false in
     inl (next_none c.args.columns.now c.requires.table c.in_ok-index.index c.args.far nothing c.if-index-columns.true low (omega arith))

@@ -7,13 +7,13 @@ none_by : (rank : Option ℕ) (P Q : Type 0) → (P → Q) → IfNone rank P →
 none_by None P Q f p = f p
 none_by (Some r) P Q f p = tt
 
-pub returns-then-after-eq0-clause-none : goal.returns-then-after-eq0-clause-none
-returns-then-after-eq0-clause-none c far = no_frame_first c.args.columns.now c.args.slot_number far c.requires.table (λ k d h. c.begun_by_slot-after.ensures.after k d (omega arith) h)
+pub returns-then-after-eq0-clause-no_frame : goal.returns-then-after-eq0-clause-no_frame
+returns-then-after-eq0-clause-no_frame c far = no_frame_first c.args.columns.now c.args.slot_number far c.requires.table (λ k d h. c.begun_by_slot-after.ensures.after k d (omega arith) h)
 
-pub returns-clause-none : goal.returns-clause-none
-returns-clause-none c =
+pub returns-clause-no_frame : goal.returns-clause-no_frame
+returns-clause-no_frame c =
     let before = c.begun_by_slot-after.ensures.before (c.begun_by_slot-after.result - 1) nothing (omega arith) in
     let within = c.begun_by_slot-after.ensures.within in
     none_by c.rank_in-2.result _ _
     (λ past far. no_frame c.args.columns.now c.args.slot_number c.begun_by_slot-after.result far c.requires.table within
-    c.if-after-eq0.false c.begun_by_slot-after.ensures.before c.begun_by_slot-after.ensures.after (past nothing (omega arith) before)) c.rank_in-2.ensures.none
+    c.if-after-eq0.false c.begun_by_slot-after.ensures.before c.begun_by_slot-after.ensures.after (past nothing (omega arith) before)) c.rank_in-2.ensures.no_frame

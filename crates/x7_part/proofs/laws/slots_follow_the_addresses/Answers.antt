@@ -14,10 +14,10 @@ pub returns-clause-all_from_first : goal.returns-clause-all_from_first
 returns-clause-all_from_first c = slots_all
 
 pub returns-clause-rows : goal.returns-clause-rows
-returns-clause-rows c = λ part before after r e. slots_rows part.far part.rows before after r e
+returns-clause-rows c = λ part before after r e. slots_rows part.field_widths part.rows before after r e
 
 pub returns-clause-frames : goal.returns-clause-frames
-returns-clause-frames c = λ part. among_slots part.far part.rows
+returns-clause-frames c = λ part. among_slots part.field_widths part.rows
 
 pub returns-clause-next : goal.returns-clause-next
 returns-clause-next c = slots_next

@@ -7,9 +7,9 @@ use Rattle.x7_part.proofs.row.sort_rows.Goals as goal
 
 pub returns : goal.returns
 returns c =
-    let far = c.args.fields in
+    let widths = c.args.fields in
     let rows = c.args.rows.now.items in
     let sorted = c.sort_unstable_by_key.new.self.items in
     let same = c.sort_unstable_by_key.ensures.permutation in
-    let rising = IsNonDecreasingBy-from_sort_by_key (row_address far) sorted c.sort_unstable_by_key.ensures.sorted (λ a r q k. search rules) in
-    sym (sorted_is far rows sorted 0 same (ordered far rows sorted c.requires.widths c.requires.rows c.requires.apart same rising))
+    let rising = IsNonDecreasingBy-from_sort_by_key (row_address widths) sorted c.sort_unstable_by_key.ensures.sorted (λ a r q k. search rules) in
+    sym (sorted_is widths rows sorted 0 same (ordered widths rows sorted c.requires.widths c.requires.rows c.requires.apart same rising))

@@ -1,6 +1,6 @@
 use Rattle.std.proofs.Common.{◌≡◌, ◌++◌, take}
 use Rattle.std.specs.List.{flat_map}
-use Rattle.x7_memory.specs.Frames.{frame_at}
+use Rattle.x7_memory.specs.PartFrames.{frame_at}
 use Rattle.x7_report.specs.Frames.{frame_text_if}
 use Rattle.x7_report.proofs.frames.put_frame_lines.Given as goal
 

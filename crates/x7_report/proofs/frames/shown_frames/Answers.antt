@@ -1,6 +1,6 @@
 use Rattle.std.proofs.Common.{◌≡◌, ◌∷◌, [], ◌++◌, ◌<◌, ℕ, Bool, List, length, take, true, false, append-nil, get_or, sym, ap, ◌∙◌, arith}
 use Rattle.x7_part.specs.AddressOrder.{addresses_in}
-use Rattle.x7_memory.specs.Frames.{frame_at}
+use Rattle.x7_memory.specs.PartFrames.{frame_at}
 use Rattle.x7_report.specs.Frames.{is_shown, addresses_shown}
 use Rattle.x7_report.proofs.ReportLemmas.{shown_more}
 use Rattle.x7_report.proofs.frames.shown_frames.Goals.{then-is_shown_at+in_ok-push_address, else-is_shown_at}

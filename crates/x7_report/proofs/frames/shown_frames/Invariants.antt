@@ -1,6 +1,6 @@
 use Rattle.std.proofs.Common.{◌≡◌, ◌≤◌, length, take}
 use Rattle.x7_part.specs.AddressOrder.{addresses_in}
-use Rattle.x7_memory.specs.Frames.{frame_at}
+use Rattle.x7_memory.specs.PartFrames.{frame_at}
 use Rattle.x7_report.specs.Frames.{addresses_shown}
 use Rattle.x7_report.proofs.frames.shown_frames.Given as goal
 

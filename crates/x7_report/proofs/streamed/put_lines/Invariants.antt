@@ -1,6 +1,6 @@
 use Rattle.std.proofs.Common.{◌*◌, take}
 use Rattle.x7_text.specs.Appends.{Appends}
-use Rattle.x7_memory.specs.Frames.{frame_at}
+use Rattle.x7_memory.specs.PartFrames.{frame_at}
 use Rattle.x7_report.specs.Frames.{frame_line_room, frame_lines_text}
 use Rattle.x7_report.proofs.streamed.put_lines.Given as goal
 

@@ -1,6 +1,6 @@
 use Rattle.std.proofs.Common.{◌≡◌, ◌++◌, List, ℕ, ap, arith, ◌∙◌}
 use Rattle.x7_words.proofs.SinkLemmas.{counts_at, counts_on}
-use Rattle.x7_memory.specs.Frames.{frame_at}
+use Rattle.x7_memory.specs.PartFrames.{frame_at}
 use Rattle.x7_report.specs.Frames.{frame_lines_text}
 use Rattle.x7_report.proofs.LinesLemmas.{none_sent, more_sent, next_failed}
 use Rattle.x7_report.proofs.streamed.write_lines.Goals as goal

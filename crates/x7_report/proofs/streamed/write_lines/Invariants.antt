@@ -1,6 +1,6 @@
 use Rattle.std.proofs.Common.{◌≤◌, length, vec_capacity}
 use Rattle.x7_words.specs.Sink.{SinkFaultsRise}
-use Rattle.x7_memory.specs.Frames.{frame_at}
+use Rattle.x7_memory.specs.PartFrames.{frame_at}
 use Rattle.x7_report.specs.Frames.{room_at_once}
 use Rattle.x7_report.proofs.LinesLemmas.{Sent}
 use Rattle.x7_report.proofs.streamed.write_lines.Given as goal

@@ -1,6 +1,6 @@
 use Rattle.std.proofs.Common.{◌≤◌, ◌%◌, ◌^◌, length, arith}
 use Rattle.x7_part.specs.AddressOrder.{addresses_in}
-use Rattle.x7_memory.specs.Frames.{frame_at}
+use Rattle.x7_memory.specs.PartFrames.{frame_at}
 use Rattle.x7_tool.specs.Generate.{words_sum}
 use Rattle.x7_tool.proofs.GenerateLemmas.{sum_all, sum_more}
 use Rattle.x7_tool.proofs.generate.memory_sum.Goals as goal

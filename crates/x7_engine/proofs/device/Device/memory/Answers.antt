@@ -1,6 +1,6 @@
 use Rattle.std.proofs.Common.{◌≡◌, sym, ap, subst, ◌∙◌, List, ℕ}
 use Rattle.x7_part.specs.Part.{PartData}
-use Rattle.x7_memory.specs.Frames.{AreFramesOf, frame_at}
+use Rattle.x7_memory.specs.PartFrames.{AreFramesOf, frame_at}
 use Rattle.x7_engine.specs.Standing.{DeviceState}
 use Rattle.x7_engine.proofs.device.Device.memory.Goals as goal
 

@@ -5,7 +5,7 @@ use Rattle.x7_regs.specs.declared.register.Reg.{Reg}
 use Rattle.x7_regs.specs.declared.register.Reg.TheVariants as reg
 use Rattle.x7_engine.specs.Course.{Course, course_at}
 use Rattle.x7_engine.specs.declared.stop.StopCause.{StopCause}
-use Rattle.x7_flow.specs.Flow.{far_in, flow_of}
+use Rattle.x7_flow.specs.HistoryFlow.{far_in, flow_of}
 use Rattle.x7_flow.specs.Standing.{without_due}
 use Rattle.x7_engine.specs.Standing.{DeviceStandsFor, DeviceState, RegistersStandFor, frames_due, registers_in}
 use Rattle.x7_engine.specs.Startup.{phase_by, startup_progress}

@@ -7,7 +7,7 @@ use Rattle.x7_packets.proofs.GrowthLemmas.{placed_within}
 use Rattle.x7_part.specs.Part.{PartData}
 use Rattle.x7_flow.specs.Controls.{has_idcode}
 use Rattle.x7_flow.specs.Standing.{FramesStandFor}
-use Rattle.x7_flow.specs.Words.{NoneRefused, with_words_to, words_to}
+use Rattle.x7_flow.specs.WordsTaken.{NoneRefused, with_words_to, words_to}
 use Rattle.x7_regs.specs.declared.register.Reg.{Reg}
 use Rattle.x7_regs.specs.Register.{number_of}
 use Rattle.x7_engine.specs.Course.{course_at}

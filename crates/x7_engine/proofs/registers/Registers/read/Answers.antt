@@ -4,7 +4,7 @@ use Rattle.x7_packets.specs.History.{History, Read, entry}
 use Rattle.x7_part.specs.Part.{PartData}
 use Rattle.x7_pipeline.specs.declared.fault.RunFault.{RunFault}
 use Rattle.x7_flow.specs.FrameAccess.{reads_frame_data}
-use Rattle.x7_flow.specs.Flow.{frame_fault}
+use Rattle.x7_flow.specs.HistoryFlow.{frame_fault}
 use Rattle.x7_flow.specs.Standing.{FramesStandFor, frames_read}
 use Rattle.x7_flow.proofs.StandingLemmas.{other_read}
 use Rattle.x7_engine.specs.Course.{course_at}

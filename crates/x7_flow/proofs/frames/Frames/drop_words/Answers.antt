@@ -1,7 +1,7 @@
 use Rattle.std.proofs.Common.{◌+◌, sym, subst, ◌∙◌}
 use Rattle.std.proofs.lemmas.Option.{none-some}
 use Rattle.x7_packets.specs.History.{History}
-use Rattle.x7_flow.specs.Flow.{Flow, flow_of}
+use Rattle.x7_flow.specs.HistoryFlow.{Flow, flow_of}
 use Rattle.x7_flow.specs.Standing.{FramesState, FramesStandFor, HaveWordsDue, without_due}
 use Rattle.x7_flow.proofs.StandingLemmas.{all_due, read_past}
 use Rattle.x7_flow.proofs.frames.Frames.drop_words.Goals as goal

@@ -1,5 +1,5 @@
 use Rattle.std.proofs.Common.{sym, subst}
-use Rattle.x7_flow.specs.Flow.{flow_of}
+use Rattle.x7_flow.specs.HistoryFlow.{flow_of}
 use Rattle.x7_flow.specs.Standing.{FramesState, FramesStandFor, without_due}
 use Rattle.x7_flow.proofs.frames.Frames.far.Goals as goal
 

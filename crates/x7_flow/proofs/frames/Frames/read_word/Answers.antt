@@ -1,6 +1,6 @@
 use Rattle.std.proofs.Common.{◌+◌, sym, subst, ◌∙◌}
 use Rattle.std.proofs.lemmas.Option.{none-some}
-use Rattle.x7_flow.specs.Flow.{Flow, flow_of}
+use Rattle.x7_flow.specs.HistoryFlow.{Flow, flow_of}
 use Rattle.x7_flow.specs.Standing.{FramesState, FramesStandFor, HaveWordsDue, without_due}
 use Rattle.x7_flow.proofs.StandingLemmas.{due_somewhere, read_next}
 use Rattle.x7_flow.proofs.frames.Frames.read_word.Goals as goal

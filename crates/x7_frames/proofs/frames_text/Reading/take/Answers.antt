@@ -5,7 +5,7 @@ use Rattle.std.proofs.lemmas.List.{get_or_default}
 use Rattle.x7_part.specs.AddressOrder.{addresses_in}
 use Rattle.x7_memory.specs.Plan.{PlanRow, planned_addresses}
 use Rattle.x7_frames.specs.FramesText.{IsFrameLine}
-use Rattle.x7_frames.specs.Reading.{IsGoodLine}
+use Rattle.x7_frames.specs.LineTaken.{IsGoodLine}
 use Rattle.x7_frames.specs.declared.fault.FramesFault.{FramesFault}
 use Rattle.x7_frames.specs.declared.fault.FramesFault.TheVariants as fault
 use Rattle.x7_frames.proofs.LineLemmas.{frame_long}

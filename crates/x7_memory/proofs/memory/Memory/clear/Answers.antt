@@ -1,5 +1,5 @@
 use Rattle.std.proofs.Common.{sym, subst}
-use Rattle.x7_memory.specs.Frames.{AreFramesOf}
+use Rattle.x7_memory.specs.PartFrames.{AreFramesOf}
 use Rattle.x7_memory.proofs.ZeroLemmas.{cleared, zeros_are}
 use Rattle.x7_memory.proofs.memory.Memory.clear.Goals as goal
 

@@ -4,8 +4,8 @@ use Rattle.x7_part.specs.AddressOrder.{addresses_in}
 use Rattle.x7_memory.proofs.FrameLemmas.{among_found, among_none}
 use Rattle.x7_memory.proofs.memory.Memory.frame.Goals as goal
 
-pub returns-in_err-rank-clause-nothing : goal.returns-in_err-rank-clause-nothing
-returns-in_err-rank-clause-nothing c = rw c.from_residual.ensures (among_none c.args.far (addresses_in c.args.part.now) c.args.self.now c.in_err-rank.ensures.none)
+pub returns-in_err-rank-clause-no_frame : goal.returns-in_err-rank-clause-no_frame
+returns-in_err-rank-clause-no_frame c = rw c.from_residual.ensures (among_none c.args.far (addresses_in c.args.part.now) c.args.self.now c.in_err-rank.ensures.absent)
 
 pub returns-clause-found : goal.returns-clause-found
 returns-clause-found c =

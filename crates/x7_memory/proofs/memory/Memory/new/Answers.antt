@@ -1,5 +1,5 @@
 use Rattle.std.proofs.Common.{◌∙◌, refl, sym, subst, arith}
-use Rattle.x7_memory.specs.Frames.{AreFramesOf}
+use Rattle.x7_memory.specs.PartFrames.{AreFramesOf}
 use Rattle.x7_memory.proofs.ZeroLemmas.{new_zeros, none_seen, none_room, zeros_are}
 use Rattle.x7_memory.proofs.memory.Memory.new.Goals as goal
 

@@ -1,7 +1,7 @@
 use Rattle.x7_memory.proofs.FrameLemmas.{among_set}
 use Rattle.std.proofs.Common.{◌∙◌, ap}
 use Rattle.x7_part.specs.AddressOrder.{addresses_in}
-use Rattle.x7_memory.specs.Frames.{frame_among}
+use Rattle.x7_memory.specs.PartFrames.{frame_among}
 use Rattle.x7_memory.proofs.memory.Memory.put.Goals as goal
 
 pub returns-in-Some-clause-put : goal.returns-in-Some-clause-put

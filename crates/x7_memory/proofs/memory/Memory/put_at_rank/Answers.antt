@@ -2,7 +2,7 @@ use Rattle.x7_memory.proofs.FrameLemmas.{among_set}
 use Rattle.std.proofs.Common.{◌∙◌, ap, refl}
 use Rattle.std.specs.Prelude.{slice_index}
 use Rattle.x7_part.specs.AddressOrder.{addresses_in}
-use Rattle.x7_memory.specs.Frames.{frame_among}
+use Rattle.x7_memory.specs.PartFrames.{frame_among}
 use Rattle.x7_memory.proofs.memory.Memory.put_at_rank.Goals as goal
 
 pub returns-clause-put : goal.returns-clause-put

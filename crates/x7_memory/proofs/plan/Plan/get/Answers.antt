@@ -11,8 +11,8 @@ returns-in-Ok-clause-found c =
     ∙ ap (λ plan. Some (get_or plan.rows c.in-Ok.place no_row).words) (sym c.self.view_is)
     ∙ ap Some (sym (c.words.ensures.value no_row))
 
-pub returns-in-Err-clause-none : goal.returns-in-Err-clause-none
-returns-in-Err-clause-none c = gap_unlisted c.args.self.now.rows c.args.far c.in-Err.field-0 c.in-Err.ensures.insert_place
+pub returns-in-Err-clause-absent : goal.returns-in-Err-clause-absent
+returns-in-Err-clause-absent c = gap_unlisted c.args.self.now.rows c.args.far c.in-Err.field-0 c.in-Err.ensures.insert_place
 
-pub returns-in-Err-clause-nothing : goal.returns-in-Err-clause-nothing
-returns-in-Err-clause-nothing c = gap_none c.args.self.now.rows c.args.far c.in-Err.field-0 c.in-Err.ensures.insert_place
+pub returns-in-Err-clause-no_frame : goal.returns-in-Err-clause-no_frame
+returns-in-Err-clause-no_frame c = gap_none c.args.self.now.rows c.args.far c.in-Err.field-0 c.in-Err.ensures.insert_place

@@ -8,13 +8,13 @@ returns-clause-value c = rw (← c.table.ensures.addresses) c.frame_count.ensure
 pub returns-clause-positive : goal.returns-clause-positive
 returns-clause-positive c =
     let of = c.table.ensures in
-    rw (c.frame_count.ensures, of.addresses) (some_address c.args.self.now.far 0 c.args.self.now.rows of.is_part.rows of.is_part.some)
+    rw (c.frame_count.ensures, of.addresses) (some_address c.args.self.now.field_widths 0 c.args.self.now.rows of.is_part.rows of.is_part.some)
 
 pub returns-clause-most : goal.returns-clause-most
 returns-clause-most c = let of = c.table.ensures in rw (c.frame_count.ensures, of.addresses) of.is_part.frames
 
 pub returns-clause-order : goal.returns-clause-order
-returns-clause-order c = let of = c.table.ensures in part_rises _ _ of.is_part.far of.is_part.rows
+returns-clause-order c = let of = c.table.ensures in part_rises _ _ of.is_part.field_widths of.is_part.rows
 
 pub returns-clause-words : goal.returns-clause-words
 returns-clause-words c = let of = c.table.ensures in rw (c.frame_count.ensures, of.addresses) of.is_part.slots

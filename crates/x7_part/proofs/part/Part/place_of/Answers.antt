@@ -9,5 +9,5 @@ returns-clause-within c = rw (← c.table.ensures.slots) c.place_of.ensures.with
 pub returns-clause-slots : goal.returns-clause-slots
 returns-clause-slots c = rw (← c.table.ensures.slots) c.place_of.ensures.slots
 
-pub returns-clause-most : goal.returns-clause-most
-returns-clause-most c = rw (← c.table.ensures.slots) c.table.ensures.are_columns.slots
+pub returns-clause-few_slots : goal.returns-clause-few_slots
+returns-clause-few_slots c = rw (← c.table.ensures.slots) c.table.ensures.are_columns.slots

@@ -1,5 +1,5 @@
 use Rattle.std.proofs.Common.{◌≡◌, ◌-◌, ◌∙◌, ap, refl, sym, get_or}
-use Rattle.x7_memory.specs.Frames.{frame_at}
+use Rattle.x7_memory.specs.PartFrames.{frame_at}
 use Rattle.x7_part.specs.declared.slot.Slot.TheVariants.{End}
 use Rattle.x7_pipeline.specs.Runs.{slots_from}
 use Rattle.x7_pipeline.specs.Pipeline.{PipelineData}
@@ -25,6 +25,6 @@ returns-in_default c =
     let slot = c.requires.place.same (c.self.inside.frame_count - 1) ∙ ap (λ n. get_or (slots_from c.args.part.now c.args.self.now.base) (n - 1) End) count in
     record {
       puts_nothing = λ e. refl;
-      put = λ frame e. put_no_frame _ frame (frame_at c.args.part.now c.args.memory.now) (frame_at c.args.part.now c.args.memory.now) (λ far is. c.in_default.ensures.none far (slot ∙ is)) (λ a. refl);
+      put = λ frame e. put_no_frame _ frame (frame_at c.args.part.now c.args.memory.now) (frame_at c.args.part.now c.args.memory.now) (λ far is. c.in_default.ensures.no_frame far (slot ∙ is)) (λ a. refl);
       memory = c.requires.part.frames_fit;
     }

@@ -1,6 +1,6 @@
 use Rattle.std.proofs.Common.{◌∙◌, ap, refl, sym, true, eq-eqb}
 use Rattle.std.proofs.lemmas.Bool.{eqb-true}
-use Rattle.x7_memory.specs.Frames.{frame_at}
+use Rattle.x7_memory.specs.PartFrames.{frame_at}
 use Rattle.x7_pipeline.specs.FarAsRead.{has_frame_at}
 use Rattle.x7_pipeline.specs.Pipeline.{PipelineData}
 use Rattle.x7_pipeline.proofs.StateLemmas.{nowhere, somewhere, read_refused, read_allowed, read_so}

@@ -1,9 +1,9 @@
 use Rattle.std.proofs.Common.{◌≡◌, ◌-◌, ◌/◌, drop, length, ap, sym, refl, arith}
 use Rattle.std.proofs.lemmas.List.{length-drop}
 use Rattle.x7_words.specs.Word.{words_of_bytes}
-use Rattle.x7_memory.specs.Frames.{frame_at}
+use Rattle.x7_memory.specs.PartFrames.{frame_at}
 use Rattle.x7_pipeline.specs.Flow.{with_run}
-use Rattle.x7_pipeline.specs.Words.{RunWritten}
+use Rattle.x7_pipeline.specs.RunWritten.{RunWritten}
 use Rattle.x7_pipeline.proofs.FrameLemmas.{goes_left, goes_through, refused_here}
 use Rattle.x7_pipeline.proofs.WordLemmas.{goes_first, ends_whole}
 use Rattle.x7_pipeline.proofs.pipeline.Pipeline.write_bytes.Goals as goal

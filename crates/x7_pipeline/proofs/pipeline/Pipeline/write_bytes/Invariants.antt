@@ -1,6 +1,6 @@
 use Rattle.std.proofs.Common.{◌≡◌, ◌≤◌, ◌-◌, ◌%◌, ◌/◌, drop, length}
 use Rattle.x7_words.specs.Word.{words_of_bytes}
-use Rattle.x7_memory.specs.Frames.{frame_at}
+use Rattle.x7_memory.specs.PartFrames.{frame_at}
 use Rattle.x7_pipeline.specs.Pipeline.{AreOfPart}
 use Rattle.x7_pipeline.proofs.WordLemmas.{ReachesRun}
 use Rattle.x7_pipeline.proofs.pipeline.Pipeline.write_bytes.Given as goal

@@ -1,6 +1,6 @@
 use Rattle.std.proofs.Common.{◌≡◌, ◌≤◌, ◌-◌, ◌%◌, [], take, length}
 use Rattle.x7_words.specs.Word.{words_of_bytes}
-use Rattle.x7_memory.specs.Frames.{frame_at}
+use Rattle.x7_memory.specs.PartFrames.{frame_at}
 use Rattle.x7_pipeline.specs.Pipeline.{AreOfPart}
 use Rattle.x7_pipeline.proofs.FrameLemmas.{WritesFrames}
 use Rattle.x7_pipeline.proofs.pipeline.Pipeline.write_frames.Given as goal

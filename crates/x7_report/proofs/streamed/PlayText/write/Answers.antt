@@ -1,5 +1,5 @@
 use Rattle.std.proofs.Common.{ap}
-use Rattle.x7_memory.specs.Frames.{frame_at}
+use Rattle.x7_memory.specs.PartFrames.{frame_at}
 use Rattle.x7_report.specs.Frames.{frame_lines_text}
 use Rattle.x7_report.specs.Reports.{PlayTextState}
 use Rattle.x7_report.proofs.LinesLemmas.{report_began, report_failed, report_whole, whole_put}

@@ -1,6 +1,6 @@
 use Rattle.std.proofs.Common.{[], refl, sym, ap}
 use Rattle.x7_packets.specs.Reading.{Searching}
-use Rattle.x7_memory.specs.Frames.{zero_frames}
+use Rattle.x7_memory.specs.PartFrames.{zero_frames}
 use Rattle.x7_flow.specs.Standing.{frames_state}
 use Rattle.x7_flow.proofs.StandingLemmas.{begins_so}
 use Rattle.x7_engine.specs.declared.due.Due.{Due}

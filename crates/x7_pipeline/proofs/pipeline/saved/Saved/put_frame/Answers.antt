@@ -1,5 +1,5 @@
 use Rattle.std.proofs.Common.{ap}
-use Rattle.x7_memory.specs.Frames.{frame_at}
+use Rattle.x7_memory.specs.PartFrames.{frame_at}
 use Rattle.x7_pipeline.specs.Saved.{SavedState}
 use Rattle.x7_pipeline.proofs.SavedLemmas.{pair_none, pair_put}
 use Rattle.x7_pipeline.proofs.pipeline.saved.Saved.put_frame.Goals as goal

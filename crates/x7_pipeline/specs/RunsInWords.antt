@@ -8,7 +8,7 @@ use Rattle.x7_memory.specs.FrameMap.{FrameMap, AreSame}
 use Rattle.x7_memory.specs.Plan.{PlanRow}
 use Rattle.x7_pipeline.specs.FarAsRead.{last_address}
 use Rattle.x7_pipeline.specs.Runs.{frames_of, written_frames, onto, put_over, rest_of, slots_from}
-use Rattle.x7_pipeline.specs.Words.{RunWritten}
+use Rattle.x7_pipeline.specs.RunWritten.{RunWritten}
 
 -- whole frames of `width` words, the newest first, and then a shorter rest, the oldest first
 pub record AreCutFrom (width : ℕ) (run : List ℕ) (frames : List (List ℕ)) (rest : List ℕ) : Type 0 where

@@ -11,7 +11,7 @@ use Rattle.x7_pipeline.specs.FarAsRead.{has_frame_at, loaded_base}
 use Rattle.x7_pipeline.specs.Copies.{newest_of}
 use Rattle.x7_flow.specs.FrameAccess.{reads_frame_data, writes_frame_data}
 use Rattle.x7_flow.specs.Stretches.{is_boundary}
-use Rattle.x7_flow.specs.Flow.{base_of}
+use Rattle.x7_flow.specs.HistoryFlow.{base_of}
 
 -- a run with the word of a write, and as it was after another access
 abbrev pub run_with_word : Access → List ℕ → List ℕ

@@ -10,7 +10,7 @@ use Rattle.x7_regs.specs.Register.{number_of}
 use Rattle.x7_pipeline.specs.Runs.{slots_from}
 use Rattle.x7_pipeline.specs.declared.fault.RunFault.{RunFault}
 use Rattle.x7_pipeline.specs.Pipeline.{PipelineData}
-use Rattle.x7_flow.specs.Flow.{base_of, frame_fault, run_of}
+use Rattle.x7_flow.specs.HistoryFlow.{base_of, frame_fault, run_of}
 use Rattle.x7_flow.specs.Settings.{Settings, settings_of}
 use Rattle.x7_flow.specs.Standing.{AreFramesAfter, FramesStandFor, FramesState}
 
@@ -70,8 +70,8 @@ pub record WordsTaken (part : PartData) (f : FramesState) (h : History) (x : Wor
   pub counted : seen.0 ≡ count_seen (length taken) seen.1
   pub stands : FramesStandFor part f (with_words_to x.register x.place taken h) 0
 
--- what holds of each history whose settings take the words, and that the pipeline and the frames stand for with no word
--- due
+-- a fact holds of each history whose settings take the words, and that the pipeline and the memory's frames stand for
+-- with no word due
 abbrev pub OfTaking : PartData → (Settings → Bool) → PipelineData → List (List ℕ) → (History → Type 0) → Type 0
 OfTaking part takes p frames Fact = (h : History) → takes (settings_of part.idcode h) ≡ true → AreFramesAfter part p frames h 0 → Fact h
 
