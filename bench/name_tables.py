@@ -7,9 +7,18 @@ that no two names have one place.
 
     python3 bench/name_tables.py           compares the tables with those of the two files
     python3 bench/name_tables.py --print   writes them
+
+Status 0 where they are those, 2 where they aren't, or for words that it doesn't take.
 """
+import os
 import re
 import sys
+
+TOP = os.path.dirname(os.path.dirname(os.path.realpath(__file__)))
+sys.path.insert(0, os.path.join(TOP, "tools"))
+sys.dont_write_bytecode = True
+
+from x7run import Refused, read_file, run, write_out  # noqa: E402
 
 REGISTERS = {0: "CRC", 1: "FAR", 2: "FDRI", 3: "FDRO", 4: "CMD", 5: "CTL0", 6: "MASK", 7: "STAT", 8: "LOUT", 9: "COR0",
              10: "MFWR", 11: "CBC", 12: "IDCODE", 13: "AXSS", 14: "COR1", 16: "WBSTAR", 17: "TIMER", 22: "BOOTSTS",
@@ -37,13 +46,13 @@ def by_four_bytes(name, after):
 
 
 def table(what, names, place, after):
-    """The table: each number at the place of its name. It ends the script where two names have one place."""
+    """The table: each number at the place of its name. It refuses two names that have one place."""
     result = [0] * 64
     taken = {}
     for number, name in names.items():
         at = place(name, after)
         if at in taken:
-            sys.exit(f"{what}: {name} and {taken[at]} have one place; other factors are wanted")
+            raise Refused(f"{what}: {name} and {taken[at]} have one place; other factors are wanted")
         taken[at] = name
         result[at] = number
     return result
@@ -51,12 +60,16 @@ def table(what, names, place, after):
 
 def table_in(path, name):
     """The table of this name in a file."""
-    text = open(path).read()
-    body = re.search(name + r": \[u8; 64\] = \[(.*?)\];", text, re.S).group(1)
-    return [int(n) for n in re.findall(r"\d+", body)]
+    text = read_file(os.path.join(TOP, path)).decode()
+    found = re.search(name + r": \[u8; 64\] = \[(.*?)\];", text, re.S)
+    if not found:
+        raise Refused(f"{path} has no table {name}")
+    return [int(n) for n in re.findall(r"\d+", found.group(1))]
 
 
-def main():
+def main(words):
+    if words not in ([], ["--print"]):
+        raise Refused("usage: name_tables.py [--print] (name_tables.py --help)")
     registers = {number: register_name(number) for number in range(32)}
     wanted = [
         ("crates/x7_regs/src/named.rt", "REGISTERS", registers, by_letters, ""),
@@ -66,13 +79,12 @@ def main():
     ]
     for path, name, names, place, after in wanted:
         numbers = table(f"{path} {name}", names, place, after)
-        if "--print" in sys.argv:
-            print(f"{path} {name}")
-            for row in range(0, 64, 16):
-                print("    " + ", ".join(f"{n:2}" for n in numbers[row:row + 16]) + ",")
+        if words:
+            rows = ["    " + ", ".join(f"{n:2}" for n in numbers[row:row + 16]) + "," for row in range(0, 64, 16)]
+            write_out("\n".join([f"{path} {name}", *rows, ""]))
         elif table_in(path, name) != numbers:
-            sys.exit(f"{path} has another table {name}")
-    print("the tables are these")
+            raise Refused(f"{path} has another table {name}")
+    write_out("the tables are these\n")
 
 
-main()
+run(main, __doc__)

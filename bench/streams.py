@@ -72,6 +72,8 @@ def streams():
 
 
 def main():
+    if len(sys.argv) != 2 or not pathlib.Path(sys.argv[1]).is_dir():
+        sys.exit("usage: streams.py FOLDER, which bench/run calls")
     folder = pathlib.Path(sys.argv[1])
     for name, stream in streams():
         (folder / f"{name}.bin").write_bytes(stream)

@@ -55,6 +55,8 @@ def play_times(folder, tiny):
 
 
 def main():
+    if len(sys.argv) != 3 or not (pathlib.Path(sys.argv[1]) / "x7").is_file():
+        sys.exit("usage: times.py FOLDER PART, which bench/run calls: the folder has its streams, and x7")
     folder = pathlib.Path(sys.argv[1])
     list_times(folder)
     play_times(folder, sys.argv[2])

@@ -1,6 +1,8 @@
 #!/usr/bin/env python3
-"""Tests that each script of bench/ says what it does, and says in a line where it has no x7."""
+"""Tests that each script of bench/ says what it does, and says in a line what it can't take: no x7, other words, a file
+for a folder, a reader that left."""
 import os
+import sys
 import tempfile
 
 from casefiles import TOOLS, Tally
@@ -14,7 +16,20 @@ with tempfile.TemporaryDirectory() as folder:
     for name in ("asks", "closed", "full", "groups", "no_memory", "run", "svf", "update", "version"):
         came = run(folder, [os.path.join(BENCH, name), "--help"])
         tally.check(f"{name} --help", came.status == 0 and len(came.out) > 60 and not came.out.startswith(b"#") and not came.err, came)
-    for name in ("no_memory", "update"):
+    for name in ("closed", "no_memory", "update"):
         came = run(folder, [os.path.join(BENCH, name)])
-        tally.same(f"{name} without x7", (came.status, came.out, came.err.count(b"\n"), b"nowhere" in came.err), (1, b"", 1, True))
+        tally.same(f"{name} without x7", (came.status, came.out, came.err.count(b"\n"), b"nowhere" in came.err), (2, b"", 1, True))
+    for name in ("asks", "closed", "name_tables.py", "no_memory", "update", "version"):
+        came = run(folder, [os.path.join(BENCH, name), "--other"])
+        tally.same(f"{name} with other words", (came.status, came.out, came.err.count(b"\n")), (2, b"", 1))
+    for name in ("streams.py", "times.py"):
+        came = run(folder, [sys.executable, os.path.join(BENCH, name)])
+        tally.same(f"{name} without words", (came.status, came.out, came.err.count(b"\n")), (1, b"", 1))
+    os.environ["X7"] = sys.executable
+    for name in ("closed", "no_memory", "update"):
+        came = run(folder, [os.path.join(BENCH, name), os.path.realpath(__file__)])
+        tally.same(f"{name} with a file for a folder", (came.status, came.out, came.err.count(b"\n")), (2, b"", 1))
+    for script in ("bench/name_tables.py --print", "bench/no_memory --help", "build --help"):
+        came = run(folder, ["sh", "-c", f"{os.path.dirname(BENCH)}/{script} | true"])
+        tally.check(f"{script} whose reader left", b"Traceback" not in came.err and came.err.count(b"\n") <= 1, came)
 tally.end()

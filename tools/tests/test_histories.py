@@ -273,6 +273,8 @@ def is_seen(kind, device):
 
 def main(words):
     """COUNT plays and half as many boots, and the wrong rules."""
+    if len(words) > 2 or not all(it.isdecimal() for it in words):
+        sys.exit("usage: test_histories.py [COUNT [SEED]]")
     count, first = [int(it) for it in words + [str(COUNT), "1"][len(words) :]]
     for kind, number in ((Play(), count), (Boot(), count // 2)):
         for seed in range(first, first + number):

@@ -7,7 +7,7 @@ use Rattle.x7_forms.specs.Event.{Event, bad_input, bad_part, missing, no_memory,
 use Rattle.x7_forms.specs.Known.{Absent, Broken, Found, Held, Mishap, StreamRead, and_so, bytes_found, data_in, input_found, stream_known, taken_whole, with_inputs, if_within}
 use Rattle.x7_forms.specs.Step.{IsCaused, IsNoPart, IsUnplayed, IsUnread}
 use Rattle.x7_forms.specs.ReadingStops.{IsAbout, Limited, StopsAmong, limited, limited_together, size_in, size_of}
-use Rattle.x7_forms.specs.Turn.{GivesFew, Reads, StandsAt, UnreadBeginning, Unopened}
+use Rattle.x7_forms.specs.Turn.{GivesFew, Reads, IsLastAsked, UnreadBeginning, Unopened}
 use Rattle.x7_forms.proofs.ReadLemmas.{IsAt, asked_on, left_at}
 
 -- a turn after what was read
@@ -15,20 +15,20 @@ pub gives_on : (old mid new : InputsState) (taken : List ℕ) (limit left : ℕ)
 gives_on old mid new taken limit left r n e g = record { asked = g.asked ∙ r.asked; selects = g.selects ∙ r.takes.selects; ends = omega (arith, e, g.ends); given = omega (arith, n, r.takes.given, g.given) }
 
 -- an input of which nothing was read
-pub stands_opened : (name : List ℕ) (limit : ℕ) (now : InputsState) → Asks name now → StandsAt name limit now
-stands_opened name limit now a = record { asked = a.asked; given = omega (arith, a.given) }
+pub last_asked_opened : (name : List ℕ) (limit : ℕ) (now : InputsState) → Asks name now → IsLastAsked name limit now
+last_asked_opened name limit now a = record { asked = a.asked; given = omega (arith, a.given) }
 
 -- an input that was read
-pub stands_read : (name : List ℕ) (limit : ℕ) (opened now : InputsState) → Asks name opened → GivesFew opened limit now → StandsAt name limit now
-stands_read name limit opened now a g = record { asked = asked_on name opened now a g.asked; given = omega (arith, a.given, g.given) }
+pub last_asked_read : (name : List ℕ) (limit : ℕ) (opened now : InputsState) → Asks name opened → GivesFew opened limit now → IsLastAsked name limit now
+last_asked_read name limit opened now a g = record { asked = asked_on name opened now a g.asked; given = omega (arith, a.given, g.given) }
 
 -- a turn after what was read of it
-pub stands_turn : (name taken : List ℕ) (limit left : ℕ) (mid new : InputsState) → IsAt name taken mid → length taken + left ≡ limit → GivesFew mid left new → StandsAt name limit new
-stands_turn name taken limit left mid new a n g = record { asked = subst (λ k. IfSome k (λ kept. kept ≡ name)) (sym g.asked) a.asked; given = omega (arith, n, a.given, g.given) }
+pub last_asked_turn : (name taken : List ℕ) (limit left : ℕ) (mid new : InputsState) → IsAt name taken mid → length taken + left ≡ limit → GivesFew mid left new → IsLastAsked name limit new
+last_asked_turn name taken limit left mid new a n g = record { asked = subst (λ k. IfSome k (λ kept. kept ≡ name)) (sym g.asked) a.asked; given = omega (arith, n, a.given, g.given) }
 
 -- a first turn and what was read after it
-pub stands_rest : (name taken : List ℕ) (limit left : ℕ) (opened mid new : InputsState) → Asks name opened → Reads opened taken mid → length taken + left ≡ limit → GivesFew mid left new → StandsAt name limit new
-stands_rest name taken limit left opened mid new a r n g = record { asked = asked_on name opened new a (g.asked ∙ r.asked); given = omega (arith, n, a.given, r.takes.given, g.given) }
+pub last_asked_rest : (name taken : List ℕ) (limit left : ℕ) (opened mid new : InputsState) → Asks name opened → Reads opened taken mid → length taken + left ≡ limit → GivesFew mid left new → IsLastAsked name limit new
+last_asked_rest name taken limit left opened mid new a r n g = record { asked = asked_on name opened new a (g.asked ∙ r.asked); given = omega (arith, n, a.given, r.takes.given, g.given) }
 
 -- an input that was asked for once, and its end read once at most
 pub few_read : (old opened new : InputsState) (limit : ℕ) → AsksOnce old opened → GivesFew opened limit new → AsksAtMost old 1 new
@@ -39,8 +39,8 @@ pub few_after : (last : Bool) (old opened mid new : InputsState) (limit left : �
 few_after true old opened mid new limit left o f go g none = record { selects = omega (arith, o.selects, f.selects, g.selects); ends = omega (arith, o.ends, f.ends, none refl) }
 few_after false old opened mid new limit left o f go g none = record { selects = omega (arith, o.selects, f.selects, g.selects); ends = omega (arith, o.ends, go refl, g.ends) }
 
-pub stands_less : (name : List ℕ) (left limit : ℕ) (now : InputsState) → left ≤ limit → StandsAt name left now → StandsAt name limit now
-stands_less name left limit now h s = record { asked = s.asked; given = omega (arith, h, s.given) }
+pub last_asked_less : (name : List ℕ) (left limit : ℕ) (now : InputsState) → left ≤ limit → IsLastAsked name left now → IsLastAsked name limit now
+last_asked_less name left limit now h s = record { asked = s.asked; given = omega (arith, h, s.given) }
 
 -- ---- which input an event names
 
@@ -77,9 +77,9 @@ without_prefix_about old new name event (inr (inr h)) = about_same name event (b
 
 -- an event of one of the inputs
 pub about_among : (inputs before : List Limited) (input : Limited) (after : List Limited) (old now : InputsState) (event : Event)
-    → inputs ≡ before ++ input ∷ after → StandsAt input.name input.limit now → AsksAtMost old (length before + 1) now → IsAbout input.name event → StopsAmong inputs old now event
+    → inputs ≡ before ++ input ∷ after → IsLastAsked input.name input.limit now → AsksAtMost old (length before + 1) now → IsAbout input.name event → StopsAmong inputs old now event
 about_among inputs before input after old now event a s n (inl e) = inl e
-about_among inputs before input after old now event a s n (inr t) = inr (record { before = before; input = input; after = after; among = a; concerns = t; stands = s; asks = n })
+about_among inputs before input after old now event a s n (inr t) = inr (record { before = before; input = input; after = after; among = a; concerns = t; last_asked = s; asks = n })
 
 -- one of the inputs after a first one
 pub stops_after : (first : Limited) (inputs : List Limited) (old mid now : InputsState) (event : Event) → AsksAtMost old 1 mid → StopsAmong inputs mid now event → StopsAmong (first ∷ inputs) old now event
@@ -91,7 +91,7 @@ stops_after first inputs old mid now event n (inr h) =
       after = h.after;
       among = ap (λ (x : List Limited). first ∷ x) h.among;
       concerns = h.concerns;
-      stands = h.stands;
+      last_asked = h.last_asked;
       asks = record { selects = omega (arith, n.selects, h.asks.selects); ends = omega (arith, n.ends, h.asks.ends) };
     })
 
@@ -158,9 +158,9 @@ limits_next f all contents ss k left less s name h e nm l fewer =
 -- a stream of several that isn't played
 pub limits_stop : {X : Type 0} (f : X → List ℕ) (all : List Limited) (contents : Option (List ℕ → Option (List ℕ))) (ss : List X) (k left : ℕ) (s : X) (name : List ℕ) (old mid now : InputsState) (event : Event)
     → k < length ss → s ≡ get_or ss k s → name ≡ f s → LimitsFrom all contents k left (map f (drop k ss)) → AsksAtMost old k mid → AsksAtMost mid 1 now
-    → StandsAt name left now → IsUnplayed name event → StopsAmong all old now event
+    → IsLastAsked name left now → IsUnplayed name event → StopsAmong all old now event
 limits_stop f all contents ss k left s name old mid now event h e nm l few once stands u =
     let eq : map f (drop k ss) ≡ name ∷ map f (drop (suc k) ss) = rw nm (left_at f ss k s h e) in
     let split = l.split ∙ ap (λ (x : List (List ℕ)). l.passed ++ limited_together contents l.room x) eq in
-    about_among all l.passed (limited l.room name) (limited_together contents (l.room - size_in contents name) (map f (drop (suc k) ss))) old now event split (stands_less name left l.room now l.enough stands)
+    about_among all l.passed (limited l.room name) (limited_together contents (l.room - size_in contents name) (map f (drop (suc k) ss))) old now event split (last_asked_less name left l.room now l.enough stands)
     (record { selects = omega (arith, few.selects, once.selects, l.as_many); ends = omega (arith, few.ends, once.ends, l.as_many) }) (unplayed_about name event u)

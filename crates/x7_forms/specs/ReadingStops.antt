@@ -2,7 +2,7 @@
 use Rattle.std.specs.Prelude.{◌≡◌, ◌+◌, ◌-◌, ◌⊎◌, ℕ, List, [], ◌∷◌, ◌++◌, Option, None, Some, length}
 use Rattle.x7_words.specs.Input.{AsksAtMost, InputsState}
 use Rattle.x7_forms.specs.Event.{Event, no_memory}
-use Rattle.x7_forms.specs.Turn.{StandsAt}
+use Rattle.x7_forms.specs.Turn.{IsLastAsked}
 
 -- an input by its name, and the most bytes that it may have
 pub record Limited : Type 0 where
@@ -41,7 +41,7 @@ pub record StopsAt (inputs : List Limited) (old now : InputsState) (event : Even
   pub after : List Limited
   pub among : inputs ≡ before ++ input ∷ after
   pub concerns : event.concerned ≡ input.name
-  pub stands : StandsAt input.name input.limit now
+  pub last_asked : IsLastAsked input.name input.limit now
   pub asks : AsksAtMost old (length before + 1) now
 
 -- want of memory, or reading stopped at one of these inputs, which the event names

@@ -47,7 +47,7 @@ pub record GivesFew (old : InputsState) (left : ℕ) (new : InputsState) : Type 
   pub given : new.given ≤ old.given + (left + 1)
 
 -- The input of this name is the last that was asked for, and no more than a byte over this limit was given of it.
-pub record StandsAt (name : List ℕ) (limit : ℕ) (now : InputsState) : Type 0 where
+pub record IsLastAsked (name : List ℕ) (limit : ℕ) (now : InputsState) : Type 0 where
   pub asked : IfSome now.asked (λ kept. kept ≡ name)
   pub given : now.given ≤ limit + 1
 

@@ -81,7 +81,7 @@ pub fn read_beginning<'w, I: Inputs>(
     requires selected { (I.state inputs.old).selected ≡ true }
     ensures selected { OnOk result ((I.state inputs.new).selected ≡ true) }
     ensures begins { IfOk result (λ first. ReadsBeginning first.bytes.items first.line.items first.start first.last (I.state inputs.old) (I.state inputs.new)) }
-    ensures err { IfErr result (λ r. UnreadBeginning (I.state inputs.old) stream.now (I.state inputs.new) (event_of r)) }
+    ensures refused { IfErr result (λ r. UnreadBeginning (I.state inputs.old) stream.now (I.state inputs.new) (event_of r)) }
     ensures gives_few { GivesFew (I.state inputs.old) stream_limit (I.state inputs.new) }
     ensures short { (I.state inputs.new).given ≤ (I.state inputs.old).given + longest_beginning }
     ensures inputs { InputsStay (I.state inputs.old) (I.state inputs.new) }

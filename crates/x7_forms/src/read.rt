@@ -4,7 +4,7 @@ ghost use Rattle.x7_words.specs.Input.{Asks, AsksAtMost, AsksOnce, AtEnd, Opens,
 ghost use Rattle.x7_words.specs.Word.{AreBytes};
 ghost use Rattle.x7_forms.specs.Event.{bad_input, event_of, no_memory, reading_failed, too_large};
 ghost use Rattle.x7_forms.specs.Known.{data_in};
-ghost use Rattle.x7_forms.specs.Turn.{Breaks, GivesFew, ReadsRest, StandsAt, Unopened, Unread, UnreadRest};
+ghost use Rattle.x7_forms.specs.Turn.{Breaks, GivesFew, ReadsRest, IsLastAsked, Unopened, Unread, UnreadRest};
 ghost use Rattle.x7_forms.specs.Step.{IsUnread, ReadsWhole, seen};
 ghost use Rattle.x7_forms.specs.declared.bad_input.InputFault.TheVariants as input;
 
@@ -44,7 +44,7 @@ fn fill<'w, I: Inputs>(
     buffer: &mut [u8],
 ) -> Result<usize, Refusal<'w>>
     requires { (I.state inputs.old).selected ≡ true }
-    ensures ok { IfOk result (λ n. TakesInput (I.state inputs.old) (take n buffer.new) (I.state inputs.new)) }
+    ensures takes { IfOk result (λ n. TakesInput (I.state inputs.old) (take n buffer.new) (I.state inputs.new)) }
     ensures within { IfOk result (λ n. n ≤ length buffer.old) }
     ensures end { IfOk result (λ n. n < length buffer.old → AtEnd (I.state inputs.new).rest) }
     ensures no_end_read { IfOk result (λ n. n ≡ length buffer.old → (I.state inputs.new).ends ≤ (I.state inputs.old).ends) }
@@ -75,8 +75,8 @@ fn fill<'w, I: Inputs>(
 
 /// Opens an input, of which nothing is read yet.
 pub fn open<'w, I: Inputs>(inputs: &mut I, name: &'w str) -> Result<(), Refusal<'w>>
-    ensures ok { OnOk result (Opens (I.state inputs.old) name.now (I.state inputs.new)) }
-    ensures err { IfErr result (λ r. Unopened (I.state inputs.old) name.now (I.state inputs.new) (event_of r)) }
+    ensures opened { OnOk result (Opens (I.state inputs.old) name.now (I.state inputs.new)) }
+    ensures refused { IfErr result (λ r. Unopened (I.state inputs.old) name.now (I.state inputs.new) (event_of r)) }
     ensures asks { Asks name.now (I.state inputs.new) }
     ensures once { AsksOnce (I.state inputs.old) (I.state inputs.new) }
     ensures inputs { InputsStay (I.state inputs.old) (I.state inputs.new) }
@@ -112,13 +112,13 @@ pub fn next_turn<'w, I: Inputs>(
 ) -> Result<Turn, Refusal<'w>>
     requires selected { (I.state inputs.old).selected ≡ true }
     requires not_empty { 0 < length buffer.old }
-    ensures ok { IfOk result (λ turn. TakesInput (I.state inputs.old) (take turn.count buffer.new) (I.state inputs.new)) }
+    ensures takes { IfOk result (λ turn. TakesInput (I.state inputs.old) (take turn.count buffer.new) (I.state inputs.new)) }
     ensures within { IfOk result (λ turn. (turn.count ≤ left) × (turn.count ≤ length buffer.old)) }
     ensures fills { IfOk result (λ turn. turn.last ≡ false → turn.count ≡ length buffer.old) }
     ensures end { IfOk result (λ turn. turn.last ≡ true → AtEnd (I.state inputs.new).rest) }
     ensures no_end_read { IfOk result (λ turn. turn.last ≡ false → (I.state inputs.new).ends ≤ (I.state inputs.old).ends) }
     ensures length { length buffer.new ≡ length buffer.old }
-    ensures err { IfErr result (λ r. Unread (I.state inputs.old) name.now (I.state inputs.new) left (event_of r)) }
+    ensures refused { IfErr result (λ r. Unread (I.state inputs.old) name.now (I.state inputs.new) left (event_of r)) }
     ensures fails_early { IfErr result (λ r. event_of r ≡ reading_failed name.now → (I.state inputs.new).given < (I.state inputs.old).given + length buffer.old) }
     ensures over { IfErr result (λ r. event_of r ≡ too_large name.now → left < length buffer.old) }
     ensures asked { (I.state inputs.new).asked ≡ (I.state inputs.old).asked }
@@ -149,8 +149,8 @@ fn read_rest<'w, I: Inputs>(
     onto: &mut Vec<u8>,
 ) -> Result<(), Refusal<'w>>
     requires selected { (I.state inputs.old).selected ≡ true }
-    ensures ok { OnOk result ((more : List ℕ) × (onto.new.items ≡ onto.old.items ++ more) × (length more ≤ limit) × ReadsRest (I.state inputs.old) (I.state inputs.new) more) }
-    ensures err { IfErr result (λ r. (event_of r ≡ no_memory) ⊎ UnreadRest (I.state inputs.old) name.now (I.state inputs.new) limit (event_of r)) }
+    ensures read { OnOk result ((more : List ℕ) × (onto.new.items ≡ onto.old.items ++ more) × (length more ≤ limit) × ReadsRest (I.state inputs.old) (I.state inputs.new) more) }
+    ensures refused { IfErr result (λ r. (event_of r ≡ no_memory) ⊎ UnreadRest (I.state inputs.old) name.now (I.state inputs.new) limit (event_of r)) }
     ensures gives_few { GivesFew (I.state inputs.old) limit (I.state inputs.new) }
     ensures inputs { InputsStay (I.state inputs.old) (I.state inputs.new) }
 {
@@ -176,7 +176,7 @@ pub fn read_whole<'w, I: Inputs>(
     ensures caused { ReadsWhole (I.state inputs.old) (I.state inputs.new) limit name.now (seen (λ whole. whole.items) result) }
     ensures named { IfErr result (λ r. IsUnread name.now (event_of r)) }
     ensures within { IfOk result (λ whole. vec_len whole ≤ limit) }
-    ensures stands { StandsAt name.now limit (I.state inputs.new) }
+    ensures last_asked { IsLastAsked name.now limit (I.state inputs.new) }
     ensures asks { AsksAtMost (I.state inputs.old) 1 (I.state inputs.new) }
     ensures inputs { InputsStay (I.state inputs.old) (I.state inputs.new) }
 {
@@ -198,8 +198,8 @@ pub fn skip_rest<'w, I: Inputs>(
     requires selected { (I.state inputs.old).selected ≡ true }
     requires not_empty { 0 < length buffer.old }
     requires end { last ≡ true → AtEnd (I.state inputs.old).rest }
-    ensures ok { OnOk result ((more : List ℕ) × (length more ≤ limit) × ReadsRest (I.state inputs.old) (I.state inputs.new) more) }
-    ensures err { IfErr result (λ r. UnreadRest (I.state inputs.old) name.now (I.state inputs.new) limit (event_of r)) }
+    ensures read { OnOk result ((more : List ℕ) × (length more ≤ limit) × ReadsRest (I.state inputs.old) (I.state inputs.new) more) }
+    ensures refused { IfErr result (λ r. UnreadRest (I.state inputs.old) name.now (I.state inputs.new) limit (event_of r)) }
     ensures length { length buffer.new ≡ length buffer.old }
     ensures gives_few { GivesFew (I.state inputs.old) limit (I.state inputs.new) }
     ensures no_end_read { last ≡ true → (I.state inputs.new).ends ≤ (I.state inputs.old).ends }

@@ -44,7 +44,7 @@ fn feed(
     piece: &[u8],
 ) -> Result<bool, NoMemory>
     requires { MayPlayBy false (play_state device.old buffer.old reads.old.items) (length piece.now) }
-    ensures ok { IfOk result (λ over. FeedsOn over (play_state device.old buffer.old reads.old.items) (play_state device.new buffer.new reads.new.items) piece.now) }
+    ensures played { IfOk result (λ over. FeedsOn over (play_state device.old buffer.old reads.old.items) (play_state device.new buffer.new reads.new.items) piece.now) }
     ensures prefix { OnErr result (OfPrefix piece.now (FeedsPrefix (play_state device.old buffer.old reads.old.items) (play_state device.new buffer.new reads.new.items))) }
     ensures empties_buffer { OnErr result (buffer.new ≡ empty_buffer) }
 {
@@ -95,7 +95,7 @@ impl Player {
     /// prefix read out, but for those that are still due.
     pub fn play(&mut self, piece: &[u8]) -> Result<(), NoMemory>
         requires { MayPlay self.old (length piece.now) }
-        ensures ok { OnOk result (PlaysOn self.old self.new piece.now) }
+        ensures played { OnOk result (PlaysOn self.old self.new piece.now) }
         ensures over { self.old.is_over ≡ true → IsOk result × (self.new ≡ self.old) }
         ensures prefix { OnErr result (OfPrefix piece.now (PlaysPrefix self.old self.new)) }
         ensures not_over { OnErr result (self.new.is_over ≡ false) }

@@ -4,7 +4,7 @@ ghost use Rattle.x7_words.specs.Input.{AsksAtMost, AtEnd, InputsStay};
 ghost use Rattle.x7_forms.specs.Event.{event_of, no_memory};
 ghost use Rattle.x7_forms.specs.Known.{stream_limit};
 ghost use Rattle.x7_playing.specs.Playing.{HasPlayed, MayPlay, PlaysOn, PlaysStream};
-ghost use Rattle.x7_forms.specs.Turn.{GivesFew, ReadsRest, StandsAt, UnreadRest, play_turn_bytes};
+ghost use Rattle.x7_forms.specs.Turn.{GivesFew, ReadsRest, IsLastAsked, UnreadRest, play_turn_bytes};
 ghost use Rattle.x7_forms.specs.ReadingStops.{StopsAmong, limited_together};
 ghost use Rattle.x7_forms.specs.Step.{IsOneUnplayed, IsUnplayed, ReadsStream, ReadsStreams};
 
@@ -32,8 +32,8 @@ fn play_rest<'w, I: Inputs>(
     requires buffer { length piece.old ≡ play_turn_bytes }
     requires end { last ≡ true → AtEnd (I.state inputs.old).rest }
     requires may_play { MayPlay player.old limit }
-    ensures ok { IfOk result (λ left. (more : List ℕ) × (length more + left ≡ limit) × PlaysOn player.old player.new more × ReadsRest (I.state inputs.old) (I.state inputs.new) more) }
-    ensures err { IfErr result (λ r. (event_of r ≡ no_memory) ⊎ UnreadRest (I.state inputs.old) name.now (I.state inputs.new) limit (event_of r)) }
+    ensures played { IfOk result (λ left. (more : List ℕ) × (length more + left ≡ limit) × PlaysOn player.old player.new more × ReadsRest (I.state inputs.old) (I.state inputs.new) more) }
+    ensures refused { IfErr result (λ r. (event_of r ≡ no_memory) ⊎ UnreadRest (I.state inputs.old) name.now (I.state inputs.new) limit (event_of r)) }
     ensures length { length piece.new ≡ length piece.old }
     ensures gives_few { GivesFew (I.state inputs.old) limit (I.state inputs.new) }
     ensures no_end_read { last ≡ true → (I.state inputs.new).ends ≤ (I.state inputs.old).ends }
@@ -66,10 +66,10 @@ fn play_stream<'w, I: Inputs>(
 ) -> Result<usize, Refusal<'w>>
     requires buffer { length piece.old ≡ play_turn_bytes }
     requires may_play { MayPlay player.old limit }
-    ensures ok { IfOk result (λ left. PlaysStream limit left (PlaysOn player.old player.new) (ReadsStream (I.state inputs.old) (I.state inputs.new) limit name.now)) }
-    ensures err { IfErr result (λ r. ReadsStream (I.state inputs.old) (I.state inputs.new) limit name.now (Err (event_of r))) }
+    ensures played { IfOk result (λ left. PlaysStream limit left (PlaysOn player.old player.new) (ReadsStream (I.state inputs.old) (I.state inputs.new) limit name.now)) }
+    ensures refused { IfErr result (λ r. ReadsStream (I.state inputs.old) (I.state inputs.new) limit name.now (Err (event_of r))) }
     ensures named { IfErr result (λ r. IsUnplayed name.now (event_of r)) }
-    ensures stands { StandsAt name.now limit (I.state inputs.new) }
+    ensures last_asked { IsLastAsked name.now limit (I.state inputs.new) }
     ensures asks { AsksAtMost (I.state inputs.old) 1 (I.state inputs.new) }
     ensures length { length piece.new ≡ length piece.old }
     ensures inputs { InputsStay (I.state inputs.old) (I.state inputs.new) }
@@ -99,8 +99,8 @@ pub fn play_streams<'w, I: Inputs>(
     inputs: &mut I,
     streams: &'w [String],
 ) -> Result<Player, Refusal<'w>>
-    ensures ok { IfOk result (λ player. (bytes : List ℕ) × HasPlayed part.now bytes player × ReadsStreams (I.state inputs.old) (I.state inputs.new) (map string_bytes streams.now) (Ok bytes)) }
-    ensures err { IfErr result (λ r. ReadsStreams (I.state inputs.old) (I.state inputs.new) (map string_bytes streams.now) (Err (event_of r))) }
+    ensures played { IfOk result (λ player. (bytes : List ℕ) × HasPlayed part.now bytes player × ReadsStreams (I.state inputs.old) (I.state inputs.new) (map string_bytes streams.now) (Ok bytes)) }
+    ensures refused { IfErr result (λ r. ReadsStreams (I.state inputs.old) (I.state inputs.new) (map string_bytes streams.now) (Err (event_of r))) }
     ensures named { IfErr result (λ r. IsOneUnplayed (map string_bytes streams.now) (event_of r)) }
     ensures stops { IfErr result (λ r. StopsAmong (limited_together (I.state inputs.old).contents stream_limit (map string_bytes streams.now))
         (I.state inputs.old) (I.state inputs.new) (event_of r)) }

@@ -15,7 +15,7 @@ use Rattle.x7_forms.specs.Form.{AskedForm, Booting, Playing, Unused, UpdatingFla
 use Rattle.x7_forms.specs.Known.{Answer, part_limit, stream_limit}
 use Rattle.x7_forms.specs.Step.{Among, seen}
 use Rattle.x7_forms.specs.ReadingStops.{IsAbout, Limited, StopsAmong, limited, limited_together}
-use Rattle.x7_forms.specs.Turn.{StandsAt}
+use Rattle.x7_forms.specs.Turn.{IsLastAsked}
 use Rattle.x7_forms.proofs.StandLemmas.{about_among, about_by, stops_after}
 use Rattle.x7_frames.specs.declared.fault.FramesFault.{FramesFault}
 use Rattle.x7_frames.specs.declared.fault.FramesFault.TheVariants as frames
@@ -105,17 +105,17 @@ among_stops form old now event (inr h) = stops_by (cause_of_event event) form ol
 
 -- the first of the form's inputs
 pub first_stops : (form : AskedForm) (first : Limited) (others : List Limited) (old now : InputsState) (event : Event)
-    → inputs_of old.contents form ≡ first ∷ others → StandsAt first.name first.limit now → AsksAtMost old 1 now → IsAbout first.name event → StopsBy (cause_of_event event) form old now event
+    → inputs_of old.contents form ≡ first ∷ others → IsLastAsked first.name first.limit now → AsksAtMost old 1 now → IsAbout first.name event → StopsBy (cause_of_event event) form old now event
 first_stops form first others old now event i s n a = among_stops form old now event (about_among (inputs_of old.contents form) [] first others old now event i s n a)
 
 -- the second
 pub second_stops : (form : AskedForm) (first second : Limited) (others : List Limited) (old now : InputsState) (event : Event)
-    → inputs_of old.contents form ≡ first ∷ second ∷ others → StandsAt second.name second.limit now → AsksAtMost old 2 now → IsAbout second.name event → StopsBy (cause_of_event event) form old now event
+    → inputs_of old.contents form ≡ first ∷ second ∷ others → IsLastAsked second.name second.limit now → AsksAtMost old 2 now → IsAbout second.name event → StopsBy (cause_of_event event) form old now event
 second_stops form first second others old now event i s n a = among_stops form old now event (about_among (inputs_of old.contents form) (first ∷ []) second others old now event i s n a)
 
 -- the third
 pub third_stops : (form : AskedForm) (first second third : Limited) (others : List Limited) (old now : InputsState) (event : Event)
-    → inputs_of old.contents form ≡ first ∷ second ∷ third ∷ others → StandsAt third.name third.limit now → AsksAtMost old 3 now → IsAbout third.name event → StopsBy (cause_of_event event) form old now event
+    → inputs_of old.contents form ≡ first ∷ second ∷ third ∷ others → IsLastAsked third.name third.limit now → AsksAtMost old 3 now → IsAbout third.name event → StopsBy (cause_of_event event) form old now event
 third_stops form first second third others old now event i s n a = among_stops form old now event (about_among (inputs_of old.contents form) (first ∷ second ∷ []) third others old now event i s n a)
 
 -- a call's result, where each refusal stops so
@@ -160,16 +160,16 @@ unopened_stops name stream old now first last event (inl (inr h, d)) = flash_sto
 unopened_stops name stream old now first last event (inr h) = flash_stops (UpdatingFlash name stream) old now event name (ap (λ (x : Event). x.concerned) h.0) (inl refl)
 
 -- a fault of an update
-fault_stops : (flash stream : List ℕ) (old now : InputsState) (fault : UpdateFault) → StandsAt stream stream_limit now → AsksAtMost old 1 now
+fault_stops : (flash stream : List ℕ) (old now : InputsState) (fault : UpdateFault) → IsLastAsked stream stream_limit now → AsksAtMost old 1 now
     → StopsBy (cause_of_event (update_event (record { flash = flash; stream = stream }) fault)) (UpdatingFlash flash stream) old now (update_event (record { flash = flash; stream = stream }) fault)
 fault_stops flash stream old now (update.Failed true) s n = tt
 fault_stops flash stream old now (update.Failed false) s n = inl (inl refl)
-fault_stops flash stream old now update.TooLong s n = inr (inr (record { before = []; input = limited stream_limit stream; after = []; among = refl; concerns = refl; stands = s; asks = n }))
+fault_stops flash stream old now update.TooLong s n = inr (inr (record { before = []; input = limited stream_limit stream; after = []; among = refl; concerns = refl; last_asked = s; asks = n }))
 fault_stops flash stream old now (update.NoLayout place) s n = inl (inl refl)
 fault_stops flash stream old now (update.Differs place wrote read) s n = tt
 fault_stops flash stream old now update.NoMemory s n = tt
 
-pub updated_stops : (flash stream : List ℕ) (old now : InputsState) (fault : UpdateFault) (event : Event) → event ≡ update_event (record { flash = flash; stream = stream }) fault → StandsAt stream stream_limit now → AsksAtMost old 1 now
+pub updated_stops : (flash stream : List ℕ) (old now : InputsState) (fault : UpdateFault) (event : Event) → event ≡ update_event (record { flash = flash; stream = stream }) fault → IsLastAsked stream stream_limit now → AsksAtMost old 1 now
     → StopsBy (cause_of_event event) (UpdatingFlash flash stream) old now event
 updated_stops flash stream old now fault event e s n = subst (λ (x : Event). StopsBy (cause_of_event x) (UpdatingFlash flash stream) old now x) (sym e) (fault_stops flash stream old now fault s n)
 

@@ -32,7 +32,8 @@ inputs_of contents (FromMcs text) = limited text_limit text ∷ []
 abbrev pub NamesItsStop : AskedForm → InputsState → InputsState → Event → Type 0
 NamesItsStop form old now event = Among (flash_names (Some form)) event.concerned ⊎ ((event ≡ too_many_reads) ⊎ StopsAt (inputs_of old.contents form) old now event)
 
--- by the cause of an event: one that lies in an input or a flash, in its failing or in its absence
+-- by the cause of an event: one that lies in what an input or a flash holds, in its fault or in its absence names where
+-- the command stopped; of any other nothing is said
 abbrev pub StopsBy : Cause → AskedForm → InputsState → InputsState → Event → Type 0
 StopsBy Fault form old now event = NamesItsStop form old now event
 StopsBy Absence form old now event = NamesItsStop form old now event

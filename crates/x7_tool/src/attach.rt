@@ -12,7 +12,7 @@ use x7_words::{FLASH_LIMIT, Flash, SelectFault};
 /// Attaches the flash of this name.
 pub(crate) fn attach<'w, F: Flash>(flash: &mut F, name: &'w str) -> Result<(), Refusal<'w>>
     ensures attached { OnOk result ((F.state flash.new).attached ≡ true) }
-    ensures err { IfErr result (λ r. IsUnattached name.now (F.state flash.old) (F.state flash.new) (event_of r)) }
+    ensures refused { IfErr result (λ r. IsUnattached name.now (F.state flash.old) (F.state flash.new) (event_of r)) }
     ensures unattached { IfErr result (λ r. (F.state flash.new).attached ≡ false) }
     ensures reads { ReadsFlash name.now (F.state flash.old) (F.state flash.new) }
     ensures stays { FlashStays (F.state flash.old) (F.state flash.new) (F.found_since flash.old) (F.found_since flash.new) }
@@ -37,7 +37,7 @@ pub(crate) fn open_flash<'w, F: Flash>(flash: &mut F, name: &'w str) -> Result<(
     ensures attached { OnOk result ((F.state flash.new).attached ≡ true) }
     ensures within { OnOk result (IfKnown (F.state flash.new).bytes (λ all. length all ≤ flash_limit)) }
     ensures size { OnOk result ((F.state flash.new).extent ≤ flash_limit) }
-    ensures err { IfErr result (λ r. IsUnopened name.now (F.state flash.old) (F.state flash.new) (event_of r)) }
+    ensures refused { IfErr result (λ r. IsUnopened name.now (F.state flash.old) (F.state flash.new) (event_of r)) }
     ensures stays { FlashStays (F.state flash.old) (F.state flash.new) (F.found_since flash.old) (F.found_since flash.new) }
     ensures asks { AsksFor (F.state flash.old) name.now (F.state flash.new) }
 {

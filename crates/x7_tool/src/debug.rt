@@ -6,7 +6,7 @@ ghost use Rattle.x7_tool.specs.Debug.{debug_given};
 ghost use Rattle.x7_forms.specs.Event.{event_of, no_memory};
 ghost use Rattle.x7_tool.specs.Outcome.{DebuggedAs, debug_inputs, script_event, script_limit, shown_of};
 ghost use Rattle.x7_forms.specs.Known.{part_limit, stream_limit};
-ghost use Rattle.x7_forms.specs.Turn.{StandsAt};
+ghost use Rattle.x7_forms.specs.Turn.{IsLastAsked};
 ghost use Rattle.x7_tool.specs.Ready.{text_answer};
 ghost use Rattle.x7_forms.specs.Form.{Debugging};
 ghost use Rattle.x7_forms.specs.Step.{AnswersAs, seen, step_over};
@@ -54,7 +54,7 @@ fn read_given<'w, I: Inputs>(
 ) -> Result<Given, Refusal<'w>>
     ensures caused { AnswersAs (step_over (part.now ∷ stream.now ∷ script.now ∷ []) (I.state inputs.old) (I.state inputs.new))
         (λ known. debug_inputs known part.now stream.now script.now) (seen debug_given result) }
-    ensures stands { IfOk result (λ given. StandsAt script.now script_limit (I.state inputs.new)) }
+    ensures last_asked { IfOk result (λ given. IsLastAsked script.now script_limit (I.state inputs.new)) }
     ensures stops { IfErr result (λ r. StopsAmong (limited part_limit part.now ∷ limited stream_limit stream.now ∷ limited script_limit script.now ∷ [])
         (I.state inputs.old) (I.state inputs.new) (event_of r)) }
     ensures asks { AsksAtMost (I.state inputs.old) 3 (I.state inputs.new) }
@@ -73,8 +73,8 @@ fn read_given<'w, I: Inputs>(
 /// What a script shows of a session at its first position, and whether the device has a fault where the script ends.
 fn shown<'w>(alloc: Global, session: &mut Session, script: &Script) -> Result<Text, Refusal<'w>>
     requires { session.old.at ≡ 0 }
-    ensures ok { IfOk result (λ text. shown_of session.old.part session.old.stream script.now ≡ text_answer text) }
-    ensures err { IfErr result (λ r. event_of r ≡ no_memory) }
+    ensures text { IfOk result (λ text. shown_of session.old.part session.old.stream script.now ≡ text_answer text) }
+    ensures refused { IfErr result (λ r. event_of r ≡ no_memory) }
 {
     let text = transcript(alloc, session, script)?;
     Ok(Text {
@@ -85,8 +85,8 @@ fn shown<'w>(alloc: Global, session: &mut Session, script: &Script) -> Result<Te
 
 /// What a script shows of a stream, and whether the device has a fault where it ends.
 fn text_of<'w>(alloc: Global, given: Given, name: &'w str) -> Result<Text, Refusal<'w>>
-    ensures ok { IfOk result (λ text. DebuggedAs name.now (Ok (debug_given given)) (Ok (text_answer text))) }
-    ensures err { IfErr result (λ r. (event_of r ≡ no_memory) ⊎ DebuggedAs name.now (Ok (debug_given given)) (Err (event_of r))) }
+    ensures text { IfOk result (λ text. DebuggedAs name.now (Ok (debug_given given)) (Ok (text_answer text))) }
+    ensures refused { IfErr result (λ r. (event_of r ≡ no_memory) ⊎ DebuggedAs name.now (Ok (debug_given given)) (Err (event_of r))) }
 {
     let Given {
         part,

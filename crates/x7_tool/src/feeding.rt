@@ -3,7 +3,7 @@ ghost use Rattle.std.specs.Prelude.{ℕ, ◌^◌, ◌<◌, List, [], ◌++◌, l
 ghost use Rattle.x7_words.specs.Input.{AsksAtMost, InputsStay};
 ghost use Rattle.x7_forms.specs.Event.{event_of};
 ghost use Rattle.x7_forms.specs.Step.{IsUnread, ReadsWhole};
-ghost use Rattle.x7_forms.specs.Turn.{StandsAt};
+ghost use Rattle.x7_forms.specs.Turn.{IsLastAsked};
 ghost use Rattle.x7_tool.specs.Outcome.{text_limit};
 ghost use Rattle.x7_tool.specs.Between.{IsFed, LinesGive};
 
@@ -44,11 +44,11 @@ pub(crate) fn feed_whole<'w, I: Inputs, T: TakesLines>(
     name: &'w str,
     taker: T,
 ) -> Result<Result<T::Out, T::Fault>, Refusal<'w>>
-    requires new { T.took taker taker [] }
-    ensures ok { IfOk result (λ read. (text : List ℕ) × LinesGive (T.gives taker) (T.fails taker) read text × ReadsWhole (I.state inputs.old) (I.state inputs.new) text_limit name.now (Ok text)) }
-    ensures err { IfErr result (λ r. ReadsWhole (I.state inputs.old) (I.state inputs.new) text_limit name.now (Err (event_of r))) }
+    requires nothing_taken { T.took taker taker [] }
+    ensures read { IfOk result (λ read. (text : List ℕ) × LinesGive (T.gives taker) (T.fails taker) read text × ReadsWhole (I.state inputs.old) (I.state inputs.new) text_limit name.now (Ok text)) }
+    ensures refused { IfErr result (λ r. ReadsWhole (I.state inputs.old) (I.state inputs.new) text_limit name.now (Err (event_of r))) }
     ensures named { IfErr result (λ r. IsUnread name.now (event_of r)) }
-    ensures stands { StandsAt name.now text_limit (I.state inputs.new) }
+    ensures last_asked { IsLastAsked name.now text_limit (I.state inputs.new) }
     ensures asks { AsksAtMost (I.state inputs.old) 1 (I.state inputs.new) }
     ensures inputs { InputsStay (I.state inputs.old) (I.state inputs.new) }
 {

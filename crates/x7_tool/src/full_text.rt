@@ -47,7 +47,7 @@ impl FullText {
         requires addresses { AreAddressed part plan.rows }
         ensures part { IfOk result (λ text. text.part ≡ part) }
         ensures plan { IfOk result (λ text. text.plan ≡ plan) }
-        ensures err { IfErr result (λ r. event_of r ≡ no_memory) }
+        ensures refused { IfErr result (λ r. event_of r ≡ no_memory) }
     {
         match Vec::with_capacity(alloc, PIECE_LIMIT) {
             Ok(piece) => Ok(FullText { part, plan, piece }),

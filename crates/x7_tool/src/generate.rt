@@ -264,8 +264,8 @@ pub fn gen_text(alloc: Global, part: &Part, seed: u32) -> Result<Vec<u8>, NoMemo
 
 /// The text of `gen` for a part and a seed, or that memory was wanting.
 fn summary_of<'w>(alloc: Global, part: &Part, seed: u32) -> Result<Vec<u8>, Refusal<'w>>
-    ensures ok { IfOk result (λ text. bytes_answer text ≡ gen_answer part.now seed) }
-    ensures err { IfErr result (λ r. event_of r ≡ no_memory) }
+    ensures text { IfOk result (λ text. bytes_answer text ≡ gen_answer part.now seed) }
+    ensures refused { IfErr result (λ r. event_of r ≡ no_memory) }
 {
     Ok(gen_text(alloc, part, seed)?)
 }

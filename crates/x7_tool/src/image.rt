@@ -3,7 +3,7 @@ ghost use Rattle.x7_forms.specs.ReadingStops.{IsAbout, StopsAmong, limited};
 ghost use Rattle.std.specs.Prelude.{◌≡◌, ◌⊎◌, ◌≤◌, [], ◌∷◌, Ok, Err, IfOk, IfErr, length};
 ghost use Rattle.x7_words.specs.Input.{AsksAtMost, InputsStay};
 ghost use Rattle.x7_forms.specs.Known.{stream_limit};
-ghost use Rattle.x7_forms.specs.Turn.{StandsAt};
+ghost use Rattle.x7_forms.specs.Turn.{IsLastAsked};
 ghost use Rattle.x7_forms.specs.Event.{bad_input, event_of, no_memory};
 ghost use Rattle.x7_forms.specs.declared.bad_input.InputFault.TheVariants as input;
 ghost use Rattle.x7_tool.specs.Outcome.{image_by, image_streams};
@@ -36,7 +36,7 @@ fn read_streams<'w, I: Inputs>(
 ) -> Result<Streams, Refusal<'w>>
     ensures caused { AnswersAs (step_over (golden.now ∷ update.now ∷ []) (I.state inputs.old) (I.state inputs.new))
         (λ known. image_streams known golden.now update.now) (seen streams_of result) }
-    ensures stands { IfOk result (λ streams. StandsAt update.now stream_limit (I.state inputs.new)) }
+    ensures last_asked { IfOk result (λ streams. IsLastAsked update.now stream_limit (I.state inputs.new)) }
     ensures stops { IfErr result (λ r. StopsAmong (limited stream_limit golden.now ∷ limited stream_limit update.now ∷ []) (I.state inputs.old) (I.state inputs.new) (event_of r)) }
     ensures golden { IfOk result (λ streams. streams.golden.start ≤ length streams.golden.bytes.items) }
     ensures update { IfOk result (λ streams. streams.update.start ≤ length streams.update.bytes.items) }
@@ -66,8 +66,8 @@ fn image_by_bytes<'w>(
 ) -> Result<Vec<u8>, Refusal<'w>>
     requires golden { streams.now.golden.start ≤ length streams.now.golden.bytes.items }
     requires update { streams.now.update.start ≤ length streams.now.update.bytes.items }
-    ensures ok { IfOk result (λ text. image_by name.now 1 (streams_of streams.now) ≡ Ok (bytes_answer text)) }
-    ensures err { IfErr result (λ r. (event_of r ≡ no_memory) ⊎ (image_by name.now 1 (streams_of streams.now) ≡ Err (event_of r))) }
+    ensures text { IfOk result (λ text. image_by name.now 1 (streams_of streams.now) ≡ Ok (bytes_answer text)) }
+    ensures refused { IfErr result (λ r. (event_of r ≡ no_memory) ⊎ (image_by name.now 1 (streams_of streams.now) ≡ Err (event_of r))) }
     ensures named { IfErr result (λ r. IsAbout name.now (event_of r)) }
 {
     let golden = &streams.golden.bytes[streams.golden.start..];
@@ -88,8 +88,8 @@ fn image_by_part<'w>(
 ) -> Result<Vec<u8>, Refusal<'w>>
     requires golden { streams.now.golden.start ≤ length streams.now.golden.bytes.items }
     requires update { streams.now.update.start ≤ length streams.now.update.bytes.items }
-    ensures ok { IfOk result (λ text. image_by name.now part.now.start_unit (streams_of streams.now) ≡ Ok (bytes_answer text)) }
-    ensures err { IfErr result (λ r. (event_of r ≡ no_memory) ⊎ (image_by name.now part.now.start_unit (streams_of streams.now) ≡ Err (event_of r))) }
+    ensures text { IfOk result (λ text. image_by name.now part.now.start_unit (streams_of streams.now) ≡ Ok (bytes_answer text)) }
+    ensures refused { IfErr result (λ r. (event_of r ≡ no_memory) ⊎ (image_by name.now part.now.start_unit (streams_of streams.now) ≡ Err (event_of r))) }
     ensures named { IfErr result (λ r. IsAbout name.now (event_of r)) }
 {
     let golden = &streams.golden.bytes[streams.golden.start..];

@@ -18,10 +18,10 @@ use x7_words::{Inputs, Sink, write_all, write_pieces};
 
 /// Lists a piece, and writes what that adds to the listing.
 fn put_turn<'w, O: Sink>(lister: &mut Lister, out: &mut O, piece: &[u8]) -> Result<(), Refusal<'w>>
-    ensures ok { OnOk result ((first : Option (List ℕ)) (bytes : List ℕ) → Lists lister.old first (O.state out.old).written bytes
+    ensures listed { OnOk result ((first : Option (List ℕ)) (bytes : List ℕ) → Lists lister.old first (O.state out.old).written bytes
         → Lists lister.new first (O.state out.new).written (bytes ++ piece.now)) }
-    ensures err { OnErr result (StopsIn lister.old (O.state out.old).written piece.now (O.state out.new).written) }
-    ensures why { IfErr result (λ r. IsUnlisted (O.state out.old) (O.state out.new) (event_of r)) }
+    ensures prefix { OnErr result (StopsIn lister.old (O.state out.old).written piece.now (O.state out.new).written) }
+    ensures refused { IfErr result (λ r. IsUnlisted (O.state out.old) (O.state out.new) (event_of r)) }
     ensures fits { AreBytes piece.now }
     ensures extends { Extends (O.state out.old) (O.state out.new) }
     ensures counts { SinkFaultsRise (O.state out.old) (O.state out.new) }
@@ -43,10 +43,10 @@ fn put_short<'w, O: Sink>(
     line: &[u8],
     content: &[u8],
 ) -> Result<(), Refusal<'w>>
-    requires new { ListerStandsFor lister.old [] [] [] }
-    ensures ok { OnOk result ((O.state out.new).written ≡ appended (O.state out.old).written (line.now ++ listing_of content.now)) }
-    ensures err { IfErr result (λ r. PutsPrefix (O.state out.old).written (line.now ++ listing_of content.now) (O.state out.new).written) }
-    ensures why { IfErr result (λ r. IsUnlisted (O.state out.old) (O.state out.new) (event_of r)) }
+    requires nothing_listed { ListerStandsFor lister.old [] [] [] }
+    ensures listed { OnOk result ((O.state out.new).written ≡ appended (O.state out.old).written (line.now ++ listing_of content.now)) }
+    ensures prefix { IfErr result (λ r. PutsPrefix (O.state out.old).written (line.now ++ listing_of content.now) (O.state out.new).written) }
+    ensures refused { IfErr result (λ r. IsUnlisted (O.state out.old) (O.state out.new) (event_of r)) }
 {
     if lister.feed(content).is_err() {
         return Err(Refusal::unnamed(Why::NoMemory));
@@ -67,12 +67,12 @@ fn put_beginning<'w, O: Sink>(
     line: &[u8],
     content: &[u8],
 ) -> Result<(), Refusal<'w>>
-    requires new { ListerStandsFor lister.old [] [] [] }
+    requires nothing_listed { ListerStandsFor lister.old [] [] [] }
     requires clear { lister.old.text ≡ [] }
-    ensures ok { OnOk result (Lists lister.new (appended (O.state out.old).written line.now) (O.state out.new).written content.now) }
-    ensures err { IfErr result (λ r. (rest : List ℕ) → AreBytes (content.now ++ rest)
+    ensures listed { OnOk result (Lists lister.new (appended (O.state out.old).written line.now) (O.state out.new).written content.now) }
+    ensures prefix { IfErr result (λ r. (rest : List ℕ) → AreBytes (content.now ++ rest)
         → PutsPrefix (O.state out.old).written (line.now ++ listing_of (content.now ++ rest)) (O.state out.new).written) }
-    ensures why { IfErr result (λ r. (event_of r ≡ no_memory) ⊎ ((event_of r ≡ writing_failed) × SinkFails (O.state out.old) (O.state out.new))) }
+    ensures refused { IfErr result (λ r. (event_of r ≡ no_memory) ⊎ ((event_of r ≡ writing_failed) × SinkFails (O.state out.old) (O.state out.new))) }
     ensures fits { AreBytes content.now }
     ensures counts { SinkFaultsRise (O.state out.old) (O.state out.new) }
 {
@@ -84,11 +84,11 @@ fn put_beginning<'w, O: Sink>(
 
 /// Ends the listing, and writes what that adds.
 fn put_end<'w, O: Sink>(lister: &mut Lister, out: &mut O) -> Result<(), Refusal<'w>>
-    ensures ok { OnOk result ((first : Option (List ℕ)) (bytes : List ℕ) → Lists lister.old first (O.state out.old).written bytes
+    ensures listed { OnOk result ((first : Option (List ℕ)) (bytes : List ℕ) → Lists lister.old first (O.state out.old).written bytes
         → (O.state out.new).written ≡ appended first (listing_of bytes)) }
-    ensures err { IfErr result (λ r. (first : Option (List ℕ)) (bytes : List ℕ) → Lists lister.old first (O.state out.old).written bytes
+    ensures prefix { IfErr result (λ r. (first : Option (List ℕ)) (bytes : List ℕ) → Lists lister.old first (O.state out.old).written bytes
         → PutsPrefix first (listing_of bytes) (O.state out.new).written) }
-    ensures why { IfErr result (λ r. IsUnlisted (O.state out.old) (O.state out.new) (event_of r)) }
+    ensures refused { IfErr result (λ r. IsUnlisted (O.state out.old) (O.state out.new) (event_of r)) }
     ensures extends { Extends (O.state out.old) (O.state out.new) }
 {
     if lister.finish().is_err() {

@@ -6,7 +6,7 @@ ghost use Rattle.x7_part.specs.Part.{frame_words};
 ghost use Rattle.x7_frames.specs.FramesText.{IsPlanOf};
 ghost use Rattle.x7_forms.specs.Event.{event_of, no_memory};
 ghost use Rattle.x7_tool.specs.Outcome.{PlannedPartial, PlannedRead, frames_event, planner_event, text_limit};
-ghost use Rattle.x7_forms.specs.Turn.{StandsAt};
+ghost use Rattle.x7_forms.specs.Turn.{IsLastAsked};
 ghost use Rattle.x7_forms.specs.Form.{PlanningFull, PlanningPartial, PlanningRead};
 ghost use Rattle.x7_tool.specs.Plan.{ReadsPlan};
 ghost use Rattle.x7_tool.specs.FullText.{full_answer};
@@ -64,7 +64,7 @@ fn read_plan<'w, I: Inputs>(
     name: &'w str,
 ) -> Result<Plan, Refusal<'w>>
     ensures caused { ReadsPlan (I.state inputs.old) (I.state inputs.new) part.now name.now (seen (λ plan. plan) result) }
-    ensures stands { IfOk result (λ plan. StandsAt name.now text_limit (I.state inputs.new)) }
+    ensures last_asked { IfOk result (λ plan. IsLastAsked name.now text_limit (I.state inputs.new)) }
     ensures stops { IfErr result (λ r. StopsAmong (limited text_limit name.now ∷ []) (I.state inputs.old) (I.state inputs.new) (event_of r)) }
     ensures asks { AsksAtMost (I.state inputs.old) 1 (I.state inputs.new) }
     ensures inputs { InputsStay (I.state inputs.old) (I.state inputs.new) }
@@ -101,8 +101,8 @@ fn partial_text<'w>(
     frames: &'w str,
 ) -> Result<Vec<u8>, Refusal<'w>>
     requires { plan.now.width ≡ frame_words part.now }
-    ensures ok { IfOk result (λ end. (text : List ℕ) → IsPlanOf part.now text (Ok plan.now) → PlannedPartial frames.now (Ok (record { part = part.now; text = text })) (Ok (bytes_answer end))) }
-    ensures err { IfErr result (λ r. (event_of r ≡ no_memory)
+    ensures text { IfOk result (λ end. (text : List ℕ) → IsPlanOf part.now text (Ok plan.now) → PlannedPartial frames.now (Ok (record { part = part.now; text = text })) (Ok (bytes_answer end))) }
+    ensures refused { IfErr result (λ r. (event_of r ≡ no_memory)
         ⊎ ((text : List ℕ) → IsPlanOf part.now text (Ok plan.now) → PlannedPartial frames.now (Ok (record { part = part.now; text = text })) (Err (event_of r)))) }
     ensures named { IfErr result (λ r. IsAbout frames.now (event_of r)) }
 {
@@ -134,8 +134,8 @@ fn readback_text<'w>(
     far: u32,
     slot_count: u32,
 ) -> Result<Vec<u8>, Refusal<'w>>
-    ensures ok { IfOk result (λ text. PlannedRead name.now far slot_count (Ok part.now) (Ok (bytes_answer text))) }
-    ensures err { IfErr result (λ r. (event_of r ≡ no_memory) ⊎ PlannedRead name.now far slot_count (Ok part.now) (Err (event_of r))) }
+    ensures text { IfOk result (λ text. PlannedRead name.now far slot_count (Ok part.now) (Ok (bytes_answer text))) }
+    ensures refused { IfErr result (λ r. (event_of r ≡ no_memory) ⊎ PlannedRead name.now far slot_count (Ok part.now) (Err (event_of r))) }
     ensures named { IfErr result (λ r. IsAbout name.now (event_of r)) }
 {
     match readback(alloc, part, far, slot_count) {

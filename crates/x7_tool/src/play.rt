@@ -16,8 +16,8 @@ use x7_words::Inputs;
 
 /// The text of a play, ready to be written, or that too many words were read out.
 fn text_of<'w>(alloc: Global, player: Player) -> Result<PlayText, Refusal<'w>>
-    ensures ok { IfOk result (λ text. (part : PartData) (bytes : List ℕ) → HasPlayed part bytes player → reported part bytes ≡ Ok (play_answer text)) }
-    ensures err { IfErr result (λ r. (event_of r ≡ no_memory)
+    ensures text { IfOk result (λ text. (part : PartData) (bytes : List ℕ) → HasPlayed part bytes player → reported part bytes ≡ Ok (play_answer text)) }
+    ensures refused { IfErr result (λ r. (event_of r ≡ no_memory)
         ⊎ ((event_of r ≡ too_many_reads) × ((part : PartData) (bytes : List ℕ) → HasPlayed part bytes player → reported part bytes ≡ Err too_many_reads))) }
 {
     if player.is_over {

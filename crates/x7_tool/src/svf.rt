@@ -1,6 +1,6 @@
 //! The command `svf`.
 ghost use Rattle.x7_forms.specs.ReadingStops.{StopsAmong, limited};
-ghost use Rattle.std.specs.Prelude.{◌≡◌, ◌⊎◌, ◌≤◌, ◌||◌, [], ◌∷◌, Ok, Err, IfErr, IfOk, vec_len};
+ghost use Rattle.std.specs.Prelude.{◌≡◌, ◌⊎◌, ◌≤◌, ◌||◌, [], ◌∷◌, Ok, Err, IfErr, IfOk, is_some, vec_len};
 ghost use Rattle.x7_words.specs.Input.{AsksAtMost, InputsStay};
 ghost use Rattle.x7_forms.specs.Event.{event_of, no_memory};
 ghost use Rattle.x7_forms.specs.Step.{AnswersAs, seen, step_over};
@@ -10,14 +10,14 @@ ghost use Rattle.x7_svf.specs.Svf.{IsSvfOf};
 ghost use Rattle.x7_svf.specs.declared.fault.SvfFault.{SvfFault as FaultData};
 ghost use Rattle.x7_tool.specs.Outcome.{PlayedSvf, part_and_text, svf_answer, svf_event, text_limit};
 ghost use Rattle.x7_forms.specs.Known.{part_limit};
-ghost use Rattle.x7_forms.specs.Turn.{StandsAt};
+ghost use Rattle.x7_forms.specs.Turn.{IsLastAsked};
 ghost use Rattle.x7_tool.specs.Play.{play_answer};
 ghost use Rattle.x7_tool.specs.Svf.{svf_given};
 
 use std::alloc::Global;
-use x7_engine::Device;
+use x7_engine::{Device, Fault};
 use x7_forms::{InputFault, Refusal, TEXT_LIMIT, Why, read_part, read_whole};
-use x7_jtag::{Tap, play_line, play_svf};
+use x7_jtag::{Differ, Tap, play_line, play_svf};
 use x7_part::Part;
 use x7_report::PlayText;
 use x7_svf::{Svf, SvfFault, svf_from};
@@ -52,7 +52,7 @@ fn read_given<'w, I: Inputs>(
 ) -> Result<Given, Refusal<'w>>
     ensures caused { AnswersAs (step_over (part.now ∷ text.now ∷ []) (I.state inputs.old) (I.state inputs.new))
         (λ known. part_and_text known part.now text.now) (seen svf_given result) }
-    ensures stands { IfOk result (λ given. StandsAt text.now text_limit (I.state inputs.new)) }
+    ensures last_asked { IfOk result (λ given. IsLastAsked text.now text_limit (I.state inputs.new)) }
     ensures stops { IfErr result (λ r. StopsAmong (limited part_limit part.now ∷ limited text_limit text.now ∷ []) (I.state inputs.old) (I.state inputs.new) (event_of r)) }
     ensures within { IfOk result (λ given. vec_len given.text ≤ text_limit) }
     ensures asks { AsksAtMost (I.state inputs.old) 2 (I.state inputs.new) }
@@ -66,8 +66,8 @@ fn read_given<'w, I: Inputs>(
 /// The statements of a text, which is given up for them.
 fn statements_of<'w>(alloc: Global, text: Vec<u8>, name: &'w str) -> Result<Svf, Refusal<'w>>
     requires { vec_len text ≤ text_limit }
-    ensures ok { IfOk result (λ svf. IsSvfOf text.items (Ok svf)) }
-    ensures err { IfErr result (λ r. (event_of r ≡ no_memory) ⊎ ((fault : FaultData) × (IsSvfOf text.items (Err fault) × (svf_event name.now fault ≡ event_of r)))) }
+    ensures statements { IfOk result (λ svf. IsSvfOf text.items (Ok svf)) }
+    ensures refused { IfErr result (λ r. (event_of r ≡ no_memory) ⊎ ((fault : FaultData) × (IsSvfOf text.items (Err fault) × (svf_event name.now fault ≡ event_of r)))) }
 {
     match svf_from(alloc, text) {
         Ok(svf) => Ok(svf),
@@ -75,11 +75,11 @@ fn statements_of<'w>(alloc: Global, text: Vec<u8>, name: &'w str) -> Result<Svf,
     }
 }
 
-/// Whether one of two things holds, or both.
-fn either(one: bool, other: bool) -> bool
-    ensures { result ≡ (one || other) }
+/// Whether what is reported stopped: a scan differed, or the device has a fault.
+fn has_stopped(differ: Option<Differ>, fault: Option<Fault>) -> bool
+    ensures { result ≡ (is_some differ || is_some fault) }
 {
-    one || other
+    differ.is_some() || fault.is_some()
 }
 
 /// The text of statements that are played on a new device of the part, ready to be written: the line of the first scan
@@ -90,7 +90,7 @@ fn played_text(alloc: Global, part: &Part, svf: &Svf) -> Result<PlayText, NoMemo
     let mut device = Device::new(alloc, part)?;
     let mut tap = Tap::new();
     let differ = play_svf(svf, &mut tap, &mut device);
-    let stopped = either(differ.is_some(), device.fault().is_some());
+    let stopped = has_stopped(differ, device.fault());
     let mut line = Vec::new(alloc);
     play_line(&mut line, differ)?;
     let report = PlayText::new(alloc, device, &[], stopped)?;
@@ -101,8 +101,8 @@ fn played_text(alloc: Global, part: &Part, svf: &Svf) -> Result<PlayText, NoMemo
 /// The text of `svf` for a part and an SVF text.
 fn text_of<'w>(alloc: Global, given: Given, name: &'w str) -> Result<PlayText, Refusal<'w>>
     requires { vec_len given.text ≤ text_limit }
-    ensures ok { IfOk result (λ text. PlayedSvf name.now (Ok (svf_given given)) (Ok (play_answer text))) }
-    ensures err { IfErr result (λ r. (event_of r ≡ no_memory) ⊎ PlayedSvf name.now (Ok (svf_given given)) (Err (event_of r))) }
+    ensures text { IfOk result (λ text. PlayedSvf name.now (Ok (svf_given given)) (Ok (play_answer text))) }
+    ensures refused { IfErr result (λ r. (event_of r ≡ no_memory) ⊎ PlayedSvf name.now (Ok (svf_given given)) (Err (event_of r))) }
 {
     let Given { part, text } = given;
     let svf = statements_of(alloc, text, name)?;

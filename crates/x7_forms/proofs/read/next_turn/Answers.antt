@@ -4,8 +4,8 @@ use Rattle.x7_words.specs.Input.{TakesInput}
 use Rattle.x7_forms.proofs.ResultLemmas.{handed_on}
 use Rattle.x7_forms.proofs.read.next_turn.Goals as goal
 
-pub returns-in_err-count-clause-err : goal.returns-in_err-count-clause-err
-returns-in_err-count-clause-err g c = rw (handed_on c.from_residual.result c.in_err-count.field-0.0 c.from_residual.ensures)
+pub returns-in_err-count-clause-refused : goal.returns-in_err-count-clause-refused
+returns-in_err-count-clause-refused g c = rw (handed_on c.from_residual.result c.in_err-count.field-0.0 c.from_residual.ensures)
     (let most = c.asked_count-most in
     let failed = c.in_err-count.ensures.failed in
     let size = length-take-le most.result c.args.buffer.now (omega (arith, most.ensures.within)) in
@@ -34,14 +34,14 @@ returns-clause-gives_few g c =
     let size = length-take-le c.asked_count-most.result c.args.buffer.now (omega (arith, c.asked_count-most.ensures.within)) in
     record { asked = c.fill.ensures.asked; selects = c.fill.ensures.selects; ends = c.fill.ensures.end_once; given = omega (arith, c.fill.ensures.gives_a_turn, size, c.asked_count-most.ensures.within_left) }
 
-pub returns-clause-ok : goal.returns-clause-ok
-returns-clause-ok g c =
+pub returns-clause-takes : goal.returns-clause-takes
+returns-clause-takes g c =
     let i = g.I.Inputs in
-    subst (λ (bytes : List ℕ). TakesInput (i.state c.args.inputs.now) bytes (i.state c.fill.new.inputs)) (sym (take-append-le c.in_ok-count.count c.fill.new.buffer _ (omega (arith, c.in_ok-count.ensures.within, c.fill.ensures.length)))) c.in_ok-count.ensures.ok
+    subst (λ (bytes : List ℕ). TakesInput (i.state c.args.inputs.now) bytes (i.state c.fill.new.inputs)) (sym (take-append-le c.in_ok-count.count c.fill.new.buffer _ (omega (arith, c.in_ok-count.ensures.within, c.fill.ensures.length)))) c.in_ok-count.ensures.takes
 
-pub returns-then-count-left-clause-err : goal.returns-then-count-left-clause-err
-returns-then-count-left-clause-err g c =
+pub returns-then-count-left-clause-refused : goal.returns-then-count-left-clause-refused
+returns-then-count-left-clause-refused g c =
     let count = c.in_ok-count.count in
     let size = length-take-le c.asked_count-most.result c.args.buffer.now (omega (arith, c.asked_count-most.ensures.within)) in
     let taken = length-take-le count c.fill.new.buffer (omega (arith, c.in_ok-count.ensures.within, c.fill.ensures.length)) in
-    inr (refl, (take count c.fill.new.buffer, (c.in_ok-count.ensures.ok.taken, omega (arith, taken, size, c.in_ok-count.ensures.within, c.asked_count-most.ensures.within_left, c.if-count-left.true))))
+    inr (refl, (take count c.fill.new.buffer, (c.in_ok-count.ensures.takes.taken, omega (arith, taken, size, c.in_ok-count.ensures.within, c.asked_count-most.ensures.within_left, c.if-count-left.true))))

@@ -21,8 +21,8 @@ feed-fed-requires c =
     let left = length-drop at piece in
     rw (take_rest piece at, left) (may_feed m.0 (m.1.0 ++ take at piece) c.feeds.device c.feeds.reads.items (length piece - at) s (omega (arith, few, before, size, c.feeds.invariant.at)))
 
-pub returns-then-gather-clause-ok : goal.returns-then-gather-clause-ok
-returns-then-gather-clause-ok c = λ part bytes h.
+pub returns-then-gather-clause-played : goal.returns-then-gather-clause-played
+returns-then-gather-clause-played c = λ part bytes h.
     let v = c.feeds.invariant in
     let piece = c.args.piece.now in
     let at = c.feeds.at in
@@ -96,8 +96,8 @@ feeds-preserved c =
           turn_full part bytes piece at count c.feeds.device c.feed-fed.new.self c.feeds.reads.items c.gather.new.reads.items reads.0 fits s stands answer.0 reads.2 now (omega (arith, few, c.gather.new.reads.ok.0));
     }
 
-pub returns-in_default-fed-clause-ok : goal.returns-in_default-fed-clause-ok
-returns-in_default-fed-clause-ok c = λ part bytes h.
+pub returns-in_default-fed-clause-played : goal.returns-in_default-fed-clause-played
+returns-in_default-fed-clause-played c = λ part bytes h.
     let v = c.feeds.invariant in
     let piece = c.args.piece.now in
     let at = c.feeds.at in

@@ -27,12 +27,12 @@ play_stream-requires-clause-may_play g c =
     let v = c.loop-name.invariant in
     (c.args.part.now, (v.played.0, (v.played.1.0, omega (arith, v.played.1.1))))
 
-pub returns-in_err-left-clause-err : goal.returns-in_err-left-clause-err
-returns-in_err-left-clause-err g c = rw (handed_on c.from_residual.result c.in_err-left.field-0.0 c.from_residual.ensures) (λ flash.
+pub returns-in_err-left-clause-refused : goal.returns-in_err-left-clause-refused
+returns-in_err-left-clause-refused g c = rw (handed_on c.from_residual.result c.in_err-left.field-0.0 c.from_residual.ensures) (λ flash.
     let i = g.I.Inputs in
     let v = c.loop-name.invariant in
     stream_err string_bytes (i.state c.args.inputs.now) (i.state c.loop-name.inputs) (i.state c.play_stream.new.inputs) flash c.args.streams.now c.loop-name.name-index stream_limit c.loop-name.left c.name-item.result c.as_str.result.now v.played.0
-    (event_of c.in_err-left.field-0.0) v.inputs c.loop-name-test.true c.name-item.is c.as_str.ensures.value v.played.1.2 (c.in_err-left.ensures.err flash))
+    (event_of c.in_err-left.field-0.0) v.inputs c.loop-name-test.true c.name-item.is c.as_str.ensures.value v.played.1.2 (c.in_err-left.ensures.refused flash))
 
 pub loop-name-preserved : goal.loop-name-preserved
 loop-name-preserved g c =
@@ -40,7 +40,7 @@ loop-name-preserved g c =
     let v = c.loop-name.invariant in
     let name = c.as_str.result.now in
     let C = CameIn (step_over (name ∷ []) (i.state c.loop-name.inputs) (i.state c.play_stream.new.inputs)) in
-    let p = c.in_ok-left.ensures.ok in
+    let p = c.in_ok-left.ensures.played in
     let read : StreamRead = record { bytes = p.bytes; room = c.in_ok-left.left } in
     let next = stream_next string_bytes (i.state c.args.inputs.now).contents (i.state c.loop-name.inputs).contents C c.args.streams.now c.loop-name.name-index stream_limit c.loop-name.left c.name-item.result name v.played.0 read
     v.inputs.map c.loop-name-test.true c.name-item.is c.as_str.ensures.value v.played.1.2 p.reads in
@@ -57,8 +57,8 @@ loop-name-preserved g c =
       played = (v.played.0 ++ p.bytes, (p.plays c.args.part.now v.played.0 v.played.1.0, omega (arith, v.played.1.1, p.within, length-append v.played.0 p.bytes), next));
     }
 
-pub returns-clause-ok : goal.returns-clause-ok
-returns-clause-ok g c =
+pub returns-clause-played : goal.returns-clause-played
+returns-clause-played g c =
     let i = g.I.Inputs in
     let v = c.loop-name.invariant in (
       v.played.0,
@@ -75,7 +75,7 @@ returns-in_err-left-clause-stops g c = rw (handed_on c.from_residual.result c.in
     let v = c.loop-name.invariant in
     let old = i.state c.args.inputs.now in
     limits_stop string_bytes (limited_together old.contents stream_limit (map string_bytes c.args.streams.now)) old.contents c.args.streams.now c.loop-name.name-index c.loop-name.left c.name-item.result c.as_str.result.now
-    old (i.state c.loop-name.inputs) (i.state c.play_stream.new.inputs) (event_of c.in_err-left.field-0.0) c.loop-name-test.true c.name-item.is c.as_str.ensures.value v.limits v.asks c.play_stream.ensures.asks c.play_stream.ensures.stands c.in_err-left.ensures.named)
+    old (i.state c.loop-name.inputs) (i.state c.play_stream.new.inputs) (event_of c.in_err-left.field-0.0) c.loop-name-test.true c.name-item.is c.as_str.ensures.value v.limits v.asks c.play_stream.ensures.asks c.play_stream.ensures.last_asked c.in_err-left.ensures.named)
 
 pub returns-in_err-left-clause-asks : goal.returns-in_err-left-clause-asks
 returns-in_err-left-clause-asks g c =

@@ -40,7 +40,7 @@ returns-in_err-part-clause-ready g c = rw (handed_on c.from_residual.result c.in
     let event = event_of c.in_err-part.field-0.0 in
     record {
       caused = λ before after. part_refused (record before { inputs = old; flash = flash }) (record after { inputs = new; flash = flash }) name part_name event (c.in_err-part.ensures.caused flash.bytes);
-      stops = first_stops (Booting part_name name) (limited part_limit part_name) [] old new event refl c.read_part.ensures.stands c.read_part.ensures.asks (no_part_about part_name event c.in_err-part.ensures.named);
+      stops = first_stops (Booting part_name name) (limited part_limit part_name) [] old new event refl c.read_part.ensures.last_asked c.read_part.ensures.asks (no_part_about part_name event c.in_err-part.ensures.named);
       measured = no_part_measured (Some (Booting part_name name)) flash part_name event (inl refl) c.in_err-part.ensures.named;
       fails_last = no_part_last (Booting part_name name) old flash part_name event (inl refl) c.in_err-part.ensures.named;
       asks = c.read_part.ensures.asks;

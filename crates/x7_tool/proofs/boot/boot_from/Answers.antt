@@ -9,7 +9,7 @@ use Rattle.x7_forms.proofs.ResultLemmas.{handed_on}
 use Rattle.x7_tool.proofs.boot.boot_from.Goals as goal
 
 pub returns-in_err-attach-clause-caused : goal.returns-in_err-attach-clause-caused
-returns-in_err-attach-clause-caused g c = rw (handed_on c.from_residual.result c.in_err-attach.field-0.0 c.from_residual.ensures) (inr (inl c.in_err-attach.ensures.err))
+returns-in_err-attach-clause-caused g c = rw (handed_on c.from_residual.result c.in_err-attach.field-0.0 c.from_residual.ensures) (inr (inl c.in_err-attach.ensures.refused))
 
 pub returns-in-Ok-clause-reads : goal.returns-in-Ok-clause-reads
 returns-in-Ok-clause-reads g c = let f = g.F.Flash in
@@ -39,4 +39,4 @@ returns-in-Ok-clause-caused g c = let f = g.F.Flash in
     let b = c.in-Ok.ensures in
     let small : flash_limit < mid.extent → ⊥ = λ large. grind (arith, b.too_large.1 large) in
     text_boots c.args.flash_name.now c.args.part.now (f.state c.args.flash.now) mid (f.state c.boot.new.flash) c.in-Ok.booted c.text_of.result
-    c.in_ok-attach.ensures.reads (short_flash mid c.in_ok-attach.ensures.sized small) b.booted b.no_word_due c.text_of.ensures.ok c.text_of.ensures.err (grind (arith, b.only_reads.extent, small))
+    c.in_ok-attach.ensures.reads (short_flash mid c.in_ok-attach.ensures.sized small) b.booted b.no_word_due c.text_of.ensures.text c.text_of.ensures.refused (grind (arith, b.only_reads.extent, small))

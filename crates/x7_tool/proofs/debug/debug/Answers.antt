@@ -23,10 +23,10 @@ returns g c =
     let given = debug_given c.in_ok-given.given in
     let made = c.text_of.result in
     record {
-      caused = answers_by DebugInputs Answer (part ∷ stream ∷ script ∷ []) old new (λ t. debug_inputs t part stream script) given (DebuggedAs script) (seen text_answer made) c.in_ok-given.ensures.caused (debug_due script given made c.text_of.ensures.ok c.text_of.ensures.err);
+      caused = answers_by DebugInputs Answer (part ∷ stream ∷ script ∷ []) old new (λ t. debug_inputs t part stream script) given (DebuggedAs script) (seen text_answer made) c.in_ok-given.ensures.caused (debug_due script given made c.text_of.ensures.text c.text_of.ensures.refused);
       stops = result_stops text_answer (Debugging part stream script) old new made (err_weaker made
-          (λ r h. third_stops (Debugging part stream script) (limited part_limit part) (limited stream_limit stream) (limited script_limit script) [] old new (event_of r) refl c.in_ok-given.ensures.stands c.read_given.ensures.asks (debug_about script given (event_of r) h))
-          c.text_of.ensures.err);
+          (λ r h. third_stops (Debugging part stream script) (limited part_limit part) (limited stream_limit stream) (limited script_limit script) [] old new (event_of r) refl c.in_ok-given.ensures.last_asked c.read_given.ensures.asks (debug_about script given (event_of r) h))
+          c.text_of.ensures.refused);
       asks = c.read_given.ensures.asks;
       stays = c.read_given.ensures.inputs;
     }

@@ -5,12 +5,12 @@ use Rattle.x7_tool.specs.Outcome.{text_limit}
 use Rattle.x7_forms.specs.Step.{CameIn, step_over}
 use Rattle.x7_forms.proofs.ReadLemmas.{at_on, open_refused, turn_refused, whole_read, turn_unread, unopened_unread}
 use Rattle.x7_tool.proofs.TurnLemmas.{taken_more}
-use Rattle.x7_forms.proofs.StandLemmas.{few_read, stands_opened, stands_turn}
+use Rattle.x7_forms.proofs.StandLemmas.{few_read, last_asked_opened, last_asked_turn}
 use Rattle.x7_forms.proofs.ResultLemmas.{handed_on}
 use Rattle.x7_tool.proofs.feeding.feed_whole.Goals as goal
 
-pub returns-then-turn-clause-ok : goal.returns-then-turn-clause-ok
-returns-then-turn-clause-ok g c =
+pub returns-then-turn-clause-read : goal.returns-then-turn-clause-read
+returns-then-turn-clause-read g c =
     let i = g.I.Inputs in
     let contents = (i.state c.args.inputs.now).contents in
     let name = c.args.name.now in
@@ -18,7 +18,7 @@ returns-then-turn-clause-ok g c =
     let taken = v.known.0 in
     let n = c.in_ok-turn.turn.count in
     let piece = take n c.next_turn.new.buffer in
-    let sel = taken_more contents name taken piece (i.state c.loop-read.inputs).rest (i.state c.next_turn.new.inputs).rest v.known.1.0 c.in_ok-turn.ensures.ok.taken in
+    let sel = taken_more contents name taken piece (i.state c.loop-read.inputs).rest (i.state c.next_turn.new.inputs).rest v.known.1.0 c.in_ok-turn.ensures.takes.taken in
     let size : length (taken ++ piece) ≡ length taken + n = length-append taken piece ∙ ap (λ k. length taken + k) (length-take-le n c.next_turn.new.buffer (omega (arith, c.in_ok-turn.ensures.within.1, c.next_turn.ensures.length, v.piece))) in
     let short : length (taken ++ piece) ≤ text_limit = omega (arith, size, c.in_ok-turn.ensures.within.0, v.known.1.2) in
     let fits : length (taken ++ piece) < 2 ^ 63 = omega (arith, short) in (
@@ -37,44 +37,44 @@ loop-read-preserved g c =
     let taken = v.known.0 in
     let n = c.in_ok-turn.turn.count in
     let piece = take n c.next_turn.new.buffer in
-    let sel = taken_more contents name taken piece (i.state c.loop-read.inputs).rest (i.state c.next_turn.new.inputs).rest v.known.1.0 c.in_ok-turn.ensures.ok.taken in
+    let sel = taken_more contents name taken piece (i.state c.loop-read.inputs).rest (i.state c.next_turn.new.inputs).rest v.known.1.0 c.in_ok-turn.ensures.takes.taken in
     let size : length (taken ++ piece) ≡ length taken + n = length-append taken piece ∙ ap (λ k. length taken + k) (length-take-le n c.next_turn.new.buffer (omega (arith, c.in_ok-turn.ensures.within.1, c.next_turn.ensures.length, v.piece))) in
     let fits : length (taken ++ piece) < 2 ^ 63 = omega (arith, size, c.in_ok-turn.ensures.within.0, v.known.1.2) in
     record {
-      selected = c.in_ok-turn.ensures.ok.selected;
+      selected = c.in_ok-turn.ensures.takes.selected;
       inputs = stays_on _ _ _ v.inputs c.next_turn.ensures.inputs;
-      once = once_on _ _ _ v.once c.in_ok-turn.ensures.ok.selects (c.in_ok-turn.ensures.no_end_read c.if-turn.false);
+      once = once_on _ _ _ v.once c.in_ok-turn.ensures.takes.selects (c.in_ok-turn.ensures.no_end_read c.if-turn.false);
       left = omega (arith, v.left);
       piece = c.next_turn.ensures.length ∙ v.piece;
-      known = (taken ++ piece, (sel, c.take_turn-read.ensures c.args.taker taken fits v.known.1.1, omega (arith, size, v.known.1.2, c.in_ok-turn.ensures.within.0), at_on name taken piece (i.state c.loop-read.inputs) (i.state c.next_turn.new.inputs) v.known.1.3 c.in_ok-turn.ensures.ok c.next_turn.ensures.asked));
+      known = (taken ++ piece, (sel, c.take_turn-read.ensures c.args.taker taken fits v.known.1.1, omega (arith, size, v.known.1.2, c.in_ok-turn.ensures.within.0), at_on name taken piece (i.state c.loop-read.inputs) (i.state c.next_turn.new.inputs) v.known.1.3 c.in_ok-turn.ensures.takes c.next_turn.ensures.asked));
     }
 
-pub returns-in_err-open-clause-err : goal.returns-in_err-open-clause-err
-returns-in_err-open-clause-err g c = rw (handed_on c.from_residual.result c.in_err-open.field-0.0 c.from_residual.ensures) (λ flash.
+pub returns-in_err-open-clause-refused : goal.returns-in_err-open-clause-refused
+returns-in_err-open-clause-refused g c = rw (handed_on c.from_residual.result c.in_err-open.field-0.0 c.from_residual.ensures) (λ flash.
     let i = g.I.Inputs in
-    open_refused (i.state c.args.inputs.now) (i.state c.open.new.inputs) flash c.args.name.now text_limit (event_of c.in_err-open.field-0.0) c.in_err-open.ensures.err c.open.ensures.asks)
+    open_refused (i.state c.args.inputs.now) (i.state c.open.new.inputs) flash c.args.name.now text_limit (event_of c.in_err-open.field-0.0) c.in_err-open.ensures.refused c.open.ensures.asks)
 
-pub returns-in_err-turn-clause-err : goal.returns-in_err-turn-clause-err
-returns-in_err-turn-clause-err g c = rw (handed_on c.from_residual-in_err-turn.result c.in_err-turn.field-0.0 c.from_residual-in_err-turn.ensures) (λ flash.
+pub returns-in_err-turn-clause-refused : goal.returns-in_err-turn-clause-refused
+returns-in_err-turn-clause-refused g c = rw (handed_on c.from_residual-in_err-turn.result c.in_err-turn.field-0.0 c.from_residual-in_err-turn.ensures) (λ flash.
     let i = g.I.Inputs in
     let v = c.loop-read.invariant in
     turn_refused (i.state c.args.inputs.now) (i.state c.loop-read.inputs) (i.state c.next_turn.new.inputs) flash c.args.name.now v.known.0 text_limit c.loop-read.left (event_of c.in_err-turn.field-0.0)
-    v.inputs v.known.1.0 v.known.1.3 v.known.1.2 c.in_err-turn.ensures.err c.next_turn.ensures.asked)
+    v.inputs v.known.1.0 v.known.1.3 v.known.1.2 c.in_err-turn.ensures.refused c.next_turn.ensures.asked)
 
 pub returns-in_err-open-clause-named : goal.returns-in_err-open-clause-named
-returns-in_err-open-clause-named g c = rw (handed_on c.from_residual.result c.in_err-open.field-0.0 c.from_residual.ensures) (unopened_unread (g.I.Inputs.state c.args.inputs.now) (g.I.Inputs.state c.open.new.inputs) c.args.name.now (event_of c.in_err-open.field-0.0) c.in_err-open.ensures.err)
+returns-in_err-open-clause-named g c = rw (handed_on c.from_residual.result c.in_err-open.field-0.0 c.from_residual.ensures) (unopened_unread (g.I.Inputs.state c.args.inputs.now) (g.I.Inputs.state c.open.new.inputs) c.args.name.now (event_of c.in_err-open.field-0.0) c.in_err-open.ensures.refused)
 
 pub returns-in_err-turn-clause-named : goal.returns-in_err-turn-clause-named
-returns-in_err-turn-clause-named g c = rw (handed_on c.from_residual-in_err-turn.result c.in_err-turn.field-0.0 c.from_residual-in_err-turn.ensures) (turn_unread (g.I.Inputs.state c.loop-read.inputs) (g.I.Inputs.state c.next_turn.new.inputs) c.args.name.now c.loop-read.left (event_of c.in_err-turn.field-0.0) c.in_err-turn.ensures.err)
+returns-in_err-turn-clause-named g c = rw (handed_on c.from_residual-in_err-turn.result c.in_err-turn.field-0.0 c.from_residual-in_err-turn.ensures) (turn_unread (g.I.Inputs.state c.loop-read.inputs) (g.I.Inputs.state c.next_turn.new.inputs) c.args.name.now c.loop-read.left (event_of c.in_err-turn.field-0.0) c.in_err-turn.ensures.refused)
 
-pub returns-in_err-open-clause-stands : goal.returns-in_err-open-clause-stands
-returns-in_err-open-clause-stands g c = stands_opened c.args.name.now text_limit (g.I.Inputs.state c.open.new.inputs) c.open.ensures.asks
+pub returns-in_err-open-clause-last_asked : goal.returns-in_err-open-clause-last_asked
+returns-in_err-open-clause-last_asked g c = last_asked_opened c.args.name.now text_limit (g.I.Inputs.state c.open.new.inputs) c.open.ensures.asks
 
-pub returns-in_err-turn-clause-stands : goal.returns-in_err-turn-clause-stands
-returns-in_err-turn-clause-stands g c = let v = c.loop-read.invariant in stands_turn c.args.name.now v.known.0 text_limit c.loop-read.left (g.I.Inputs.state c.loop-read.inputs) (g.I.Inputs.state c.next_turn.new.inputs) v.known.1.3 v.known.1.2 c.next_turn.ensures.gives_few
+pub returns-in_err-turn-clause-last_asked : goal.returns-in_err-turn-clause-last_asked
+returns-in_err-turn-clause-last_asked g c = let v = c.loop-read.invariant in last_asked_turn c.args.name.now v.known.0 text_limit c.loop-read.left (g.I.Inputs.state c.loop-read.inputs) (g.I.Inputs.state c.next_turn.new.inputs) v.known.1.3 v.known.1.2 c.next_turn.ensures.gives_few
 
-pub returns-then-turn-clause-stands : goal.returns-then-turn-clause-stands
-returns-then-turn-clause-stands g c = let v = c.loop-read.invariant in stands_turn c.args.name.now v.known.0 text_limit c.loop-read.left (g.I.Inputs.state c.loop-read.inputs) (g.I.Inputs.state c.next_turn.new.inputs) v.known.1.3 v.known.1.2 c.next_turn.ensures.gives_few
+pub returns-then-turn-clause-last_asked : goal.returns-then-turn-clause-last_asked
+returns-then-turn-clause-last_asked g c = let v = c.loop-read.invariant in last_asked_turn c.args.name.now v.known.0 text_limit c.loop-read.left (g.I.Inputs.state c.loop-read.inputs) (g.I.Inputs.state c.next_turn.new.inputs) v.known.1.3 v.known.1.2 c.next_turn.ensures.gives_few
 
 pub returns-in_err-open-clause-asks : goal.returns-in_err-open-clause-asks
 returns-in_err-open-clause-asks g c = few_once _ _ c.open.ensures.once

@@ -35,7 +35,7 @@ loop-player-preserved c =
     let new : List ℕ = c.put_next.new.out.items in
     let m : AppendsNext c.put_next.new.self v.known c.loop-player.piece.items new = c.in_ok-put_next.ensures.more v.known v.stands c.if-branch.true in
     along s.part s.plan c.loop-player.stream c.put_next.new.self c.loop-player.player c.loop-player.size c.loop-player.piece.items new v m
-    c.play.new.self (c.loop-player.size + c.len.result) c.deref.result.now c.clear-in-loop-player.new.self.items c.in_ok-put_next.ensures.part c.in_ok-put_next.ensures.plan c.deref.ensures.value c.in_ok-play.ensures.ok
+    c.play.new.self (c.loop-player.size + c.len.result) c.deref.result.now c.clear-in-loop-player.new.self.items c.in_ok-put_next.ensures.part c.in_ok-put_next.ensures.plan c.deref.ensures.value c.in_ok-play.ensures.played
     (omega (arith, c.len.ensures, c.put_next.new.out.ok.0)) c.clear-in-loop-player.ensures.items
 
 pub returns-clause-played : goal.returns-clause-played

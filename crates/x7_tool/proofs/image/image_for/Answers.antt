@@ -25,7 +25,7 @@ returns-in_err-part g c = rw (handed_on c.from_residual.result c.in_err-part.fie
     let event = event_of c.in_err-part.field-0.0 in
     record {
       caused = answers_stop PartData Answer (part ∷ []) (part ∷ golden ∷ update ∷ []) old new (λ t. part_known t part) (λ t p. and_so (image_streams t golden update) (image_by update p.start_unit)) event (first_of part (golden ∷ update ∷ [])) c.in_err-part.ensures.caused;
-      stops = first_stops (ImagingFor part golden update) (limited part_limit part) (limited stream_limit golden ∷ limited stream_limit update ∷ []) old new event refl c.read_part.ensures.stands c.read_part.ensures.asks (no_part_about part event c.in_err-part.ensures.named);
+      stops = first_stops (ImagingFor part golden update) (limited part_limit part) (limited stream_limit golden ∷ limited stream_limit update ∷ []) old new event refl c.read_part.ensures.last_asked c.read_part.ensures.asks (no_part_about part event c.in_err-part.ensures.named);
       asks = first_asked part (golden ∷ update ∷ []) old new c.read_part.ensures.asks;
       stays = c.read_part.ensures.inputs;
     })
@@ -46,9 +46,9 @@ returns g c =
       caused = answers_go PartData Answer (part ∷ []) (golden ∷ update ∷ []) (part ∷ golden ∷ update ∷ []) old mid new (λ t. part_known t part) (λ t p. and_so (image_streams t golden update) (image_by update p.start_unit)) known (seen bytes_answer made)
           (part_steady part) c.read_part.ensures.inputs (λ n h. inr h) c.in_ok-part.ensures.caused
           (answers_end ImageStreams Answer (golden ∷ update ∷ []) mid new (λ t. image_streams t golden update) (image_by update known.start_unit) streams (seen bytes_answer made) (streams_steady golden update) c.in_ok-streams.ensures.caused
-          (image_due update known.start_unit streams made c.image_by_part.ensures.ok c.image_by_part.ensures.err));
+          (image_due update known.start_unit streams made c.image_by_part.ensures.text c.image_by_part.ensures.refused));
       stops = result_stops bytes_answer (ImagingFor part golden update) old new made (err_weaker made
-          (λ r a. third_stops (ImagingFor part golden update) (limited part_limit part) (limited stream_limit golden) (limited stream_limit update) [] old new (event_of r) refl c.in_ok-streams.ensures.stands asks a) c.image_by_part.ensures.named);
+          (λ r a. third_stops (ImagingFor part golden update) (limited part_limit part) (limited stream_limit golden) (limited stream_limit update) [] old new (event_of r) refl c.in_ok-streams.ensures.last_asked asks a) c.image_by_part.ensures.named);
       asks = asks;
       stays = stays_on _ _ _ c.read_part.ensures.inputs c.read_streams.ensures.inputs;
     }

@@ -21,7 +21,7 @@ use Rattle.x7_tool.proofs.Causes.{Ended, PutsListed, both_err, ends_same, list_e
 use Rattle.x7_forms.proofs.ReadLemmas.{asked_on, at_on, turn_unread}
 use Rattle.x7_forms.proofs.ResultLemmas.{handed_on, err_weaker}
 use Rattle.x7_tool.proofs.TurnLemmas.{end_failed, prefix_failed, prefix_so_far, goes_on, line_prefix, line_then, stream_so_far, stream_whole, taken_more, unread_end, write_failed}
-use Rattle.x7_forms.proofs.StandLemmas.{few_read, stands_opened, stands_read, stands_turn, without_prefix_about, unopened_about, unread_about}
+use Rattle.x7_forms.proofs.StandLemmas.{few_read, last_asked_opened, last_asked_read, last_asked_turn, without_prefix_about, unopened_about, unread_about}
 use Rattle.x7_tool.proofs.StopLemmas.{prefix_stops, put_stops, written_stops, first_stops}
 use Rattle.x7_forms.specs.ReadingStops.{limited}
 use Rattle.x7_tool.proofs.list.list.Goals as goal
@@ -36,9 +36,9 @@ returns-in_err-open g c = rw (handed_on c.from_residual.result c.in_err-open.fie
     let event = event_of c.in_err-open.field-0.0 in
     let asks = few_once (i.state c.args.inputs.now) (i.state c.open.new.inputs) c.open.ensures.once in
     record {
-      ends = list_ends stream old new (Err event) (unopened old.inputs new.inputs old.flash.bytes stream (SinkFails old.out new.out) old.out.written event c.in_err-open.ensures.err c.open.ensures.asks)
-          (stays_near event stream old new (unopened_near old.inputs.contents stream new.inputs.rest old.out.written new.out.written old.inputs new.inputs stream event c.open.ensures.asks (same_now old.out) c.in_err-open.ensures.err));
-      stops = first_stops (Listing c.args.stream.now) (limited stream_limit c.args.stream.now) [] (g.I.Inputs.state c.args.inputs.now) (g.I.Inputs.state c.open.new.inputs) (event_of c.in_err-open.field-0.0) refl (stands_opened c.args.stream.now stream_limit (g.I.Inputs.state c.open.new.inputs) c.open.ensures.asks) asks (unopened_about (g.I.Inputs.state c.args.inputs.now) (g.I.Inputs.state c.open.new.inputs) c.args.stream.now (event_of c.in_err-open.field-0.0) c.in_err-open.ensures.err);
+      ends = list_ends stream old new (Err event) (unopened old.inputs new.inputs old.flash.bytes stream (SinkFails old.out new.out) old.out.written event c.in_err-open.ensures.refused c.open.ensures.asks)
+          (stays_near event stream old new (unopened_near old.inputs.contents stream new.inputs.rest old.out.written new.out.written old.inputs new.inputs stream event c.open.ensures.asks (same_now old.out) c.in_err-open.ensures.refused));
+      stops = first_stops (Listing c.args.stream.now) (limited stream_limit c.args.stream.now) [] (g.I.Inputs.state c.args.inputs.now) (g.I.Inputs.state c.open.new.inputs) (event_of c.in_err-open.field-0.0) refl (last_asked_opened c.args.stream.now stream_limit (g.I.Inputs.state c.open.new.inputs) c.open.ensures.asks) asks (unopened_about (g.I.Inputs.state c.args.inputs.now) (g.I.Inputs.state c.open.new.inputs) c.args.stream.now (event_of c.in_err-open.field-0.0) c.in_err-open.ensures.refused);
       judges = tt;
       asks = asks;
       stays = c.open.ensures.inputs;
@@ -55,9 +55,9 @@ returns-in_err-beginning g c = rw (handed_on c.from_residual-in_err-beginning.re
     let asks = few_read (i.state c.args.inputs.now) (i.state c.open.new.inputs) (i.state c.read_beginning.new.inputs) stream_limit c.open.ensures.once c.read_beginning.ensures.gives_few in
     record {
       ends = list_ends stream old new (Err event)
-          (without_prefix old.inputs (i.state c.open.new.inputs) new.inputs old.flash.bytes stream (SinkFails old.out new.out) old.out.written event c.open.ensures.inputs c.in_ok-open.ensures.ok.found c.open.ensures.asks c.in_err-beginning.ensures.err)
-          (stays_near event stream old new (without_prefix_near old.inputs.contents stream new.inputs.rest old.out.written new.out.written (i.state c.open.new.inputs) new.inputs stream event refl c.in_ok-open.ensures.ok.found c.open.ensures.asks c.read_beginning.ensures.short (same_now old.out) c.in_err-beginning.ensures.err));
-      stops = first_stops (Listing c.args.stream.now) (limited stream_limit c.args.stream.now) [] (g.I.Inputs.state c.args.inputs.now) (g.I.Inputs.state c.read_beginning.new.inputs) (event_of c.in_err-beginning.field-0.0) refl (stands_read c.args.stream.now stream_limit (g.I.Inputs.state c.open.new.inputs) (g.I.Inputs.state c.read_beginning.new.inputs) c.open.ensures.asks c.read_beginning.ensures.gives_few) asks (without_prefix_about (g.I.Inputs.state c.open.new.inputs) (g.I.Inputs.state c.read_beginning.new.inputs) c.args.stream.now (event_of c.in_err-beginning.field-0.0) c.in_err-beginning.ensures.err);
+          (without_prefix old.inputs (i.state c.open.new.inputs) new.inputs old.flash.bytes stream (SinkFails old.out new.out) old.out.written event c.open.ensures.inputs c.in_ok-open.ensures.opened.found c.open.ensures.asks c.in_err-beginning.ensures.refused)
+          (stays_near event stream old new (without_prefix_near old.inputs.contents stream new.inputs.rest old.out.written new.out.written (i.state c.open.new.inputs) new.inputs stream event refl c.in_ok-open.ensures.opened.found c.open.ensures.asks c.read_beginning.ensures.short (same_now old.out) c.in_err-beginning.ensures.refused));
+      stops = first_stops (Listing c.args.stream.now) (limited stream_limit c.args.stream.now) [] (g.I.Inputs.state c.args.inputs.now) (g.I.Inputs.state c.read_beginning.new.inputs) (event_of c.in_err-beginning.field-0.0) refl (last_asked_read c.args.stream.now stream_limit (g.I.Inputs.state c.open.new.inputs) (g.I.Inputs.state c.read_beginning.new.inputs) c.open.ensures.asks c.read_beginning.ensures.gives_few) asks (without_prefix_about (g.I.Inputs.state c.open.new.inputs) (g.I.Inputs.state c.read_beginning.new.inputs) c.args.stream.now (event_of c.in_err-beginning.field-0.0) c.in_err-beginning.ensures.refused);
       judges = tt;
       asks = asks;
       stays = stays_on _ _ _ c.open.ensures.inputs c.read_beginning.ensures.inputs;
@@ -81,7 +81,7 @@ returns-in_err-put_beginning g c = rw (handed_on c.from_residual-in_err-put_begi
     let content = take (length bytes - start) (drop start bytes) in
     let cut : content ≡ drop start taken = take_all (length bytes - start) (drop start bytes) (omega (arith, length-drop start bytes)) ∙ ap (drop start) c.deref.ensures.value in
     let rest = (i.state c.read_beginning.new.inputs).rest in
-    let sel : RestIsWhole contents stream (preceded taken rest) = subst (λ r. RestIsWhole contents stream r) f.reads.takes.taken c.in_ok-open.ensures.ok.found in
+    let sel : RestIsWhole contents stream (preceded taken rest) = subst (λ r. RestIsWhole contents stream r) f.reads.takes.taken c.in_ok-open.ensures.opened.found in
     let listing : (left : List ℕ) → FollowsUnlessLast last left → stream_listing (taken ++ left) ≡ Ok (line ++ listing_of (content ++ left)) = λ left m. f.begins left m ∙ ap (λ (l : List ℕ). Ok (l ++ listing_of (drop start taken ++ left))) (sym c.deref-line.ensures.value) ∙ ap (λ (s : List ℕ). Ok (line ++ listing_of (s ++ left))) (sym cut) in
     let now = (o.state c.put_beginning.new.out).written in
     let Full : Type 0 = SinkFails (o.state c.args.out.now) (o.state c.put_beginning.new.out) in
@@ -90,17 +90,17 @@ returns-in_err-put_beginning g c = rw (handed_on c.from_residual-in_err-put_begi
     let on : (left : List ℕ) → stream_listing (taken ++ left) ≡ Ok (line ++ listing_of (content ++ left)) = λ left. listing left (λ l. let never : false ≡ true = sym c.if-beginning.false ∙ l in absurd cc) in
     let end : (r ≡ no_memory) ⊎ ((r ≡ writing_failed) × SinkFails (o.state c.args.out.now) (o.state c.put_beginning.new.out)) → Ended (with_inputs contents flash) C stream Full old now (Err r)
     = elim [
-      | inl h ↦ ends_same (with_inputs contents flash) C stream Full old now r no_memory h (out_of_memory contents flash C stream taken rest Full old now sel (prefix_so_far taken line content old now c.put_beginning.ensures.fits on c.in_err-put_beginning.ensures.err))
-      | inr h ↦ ends_same (with_inputs contents flash) C stream Full old now r writing_failed h.0 (prefix_failed contents flash C stream taken line content rest last Full old now sel f.end h.1 c.put_beginning.ensures.fits listing c.in_err-put_beginning.ensures.err)
+      | inl h ↦ ends_same (with_inputs contents flash) C stream Full old now r no_memory h (out_of_memory contents flash C stream taken rest Full old now sel (prefix_so_far taken line content old now c.put_beginning.ensures.fits on c.in_err-put_beginning.ensures.prefix))
+      | inr h ↦ ends_same (with_inputs contents flash) C stream Full old now r writing_failed h.0 (prefix_failed contents flash C stream taken line content rest last Full old now sel f.end h.1 c.put_beginning.ensures.fits listing c.in_err-put_beginning.ensures.prefix)
     ] in
-    let put = c.in_err-put_beginning.ensures.err [] (subst AreBytes (sym (append-nil _)) c.put_beginning.ensures.fits) in
+    let put = c.in_err-put_beginning.ensures.prefix [] (subst AreBytes (sym (append-nil _)) c.put_beginning.ensures.fits) in
     let longer = longer_prefix old now _ put in
     let few : given ≤ longest_beginning = omega (arith, c.open.ensures.asks.given, c.read_beginning.ensures.short) in
-    let near = unwritten_near contents stream rest old now _ given r (prefix_given contents stream given old now few longer) (prefix_near contents stream taken rest old now sel f.short longer) c.in_err-put_beginning.ensures.why in
+    let near = unwritten_near contents stream rest old now _ given r (prefix_given contents stream given old now few longer) (prefix_near contents stream taken rest old now sel f.short longer) c.in_err-put_beginning.ensures.refused in
     let asks = few_read (i.state c.args.inputs.now) (i.state c.open.new.inputs) (i.state c.read_beginning.new.inputs) stream_limit c.open.ensures.once c.read_beginning.ensures.gives_few in
     record {
-      ends = list_ends stream (record before { inputs = i.state c.args.inputs.now; out = o.state c.args.out.now }) (record after { inputs = i.state c.read_beginning.new.inputs; out = o.state c.put_beginning.new.out }) (Err r) (end c.in_err-put_beginning.ensures.why) (stays_near r stream (record before { inputs = i.state c.args.inputs.now; out = o.state c.args.out.now }) (record after { inputs = i.state c.read_beginning.new.inputs; out = o.state c.put_beginning.new.out }) near);
-      stops = prefix_stops (Listing c.args.stream.now) (g.I.Inputs.state c.args.inputs.now) (g.I.Inputs.state c.read_beginning.new.inputs) (event_of c.in_err-put_beginning.field-0.0) c.in_err-put_beginning.ensures.why;
+      ends = list_ends stream (record before { inputs = i.state c.args.inputs.now; out = o.state c.args.out.now }) (record after { inputs = i.state c.read_beginning.new.inputs; out = o.state c.put_beginning.new.out }) (Err r) (end c.in_err-put_beginning.ensures.refused) (stays_near r stream (record before { inputs = i.state c.args.inputs.now; out = o.state c.args.out.now }) (record after { inputs = i.state c.read_beginning.new.inputs; out = o.state c.put_beginning.new.out }) near);
+      stops = prefix_stops (Listing c.args.stream.now) (g.I.Inputs.state c.args.inputs.now) (g.I.Inputs.state c.read_beginning.new.inputs) (event_of c.in_err-put_beginning.field-0.0) c.in_err-put_beginning.ensures.refused;
       judges = tt;
       asks = asks;
       stays = stays_on _ _ _ c.open.ensures.inputs c.read_beginning.ensures.inputs;
@@ -124,7 +124,7 @@ returns-then-beginning g c = λ before after.
     let content = take (length bytes - start) (drop start bytes) in
     let cut : content ≡ drop start taken = take_all (length bytes - start) (drop start bytes) (omega (arith, length-drop start bytes)) ∙ ap (drop start) c.deref.ensures.value in
     let rest = (i.state c.read_beginning.new.inputs).rest in
-    let sel : RestIsWhole contents stream (preceded taken rest) = subst (λ r. RestIsWhole contents stream r) f.reads.takes.taken c.in_ok-open.ensures.ok.found in
+    let sel : RestIsWhole contents stream (preceded taken rest) = subst (λ r. RestIsWhole contents stream r) f.reads.takes.taken c.in_ok-open.ensures.opened.found in
     let listing : (left : List ℕ) → FollowsUnlessLast last left → stream_listing (taken ++ left) ≡ Ok (line ++ listing_of (content ++ left)) = λ left m. f.begins left m ∙ ap (λ (l : List ℕ). Ok (l ++ listing_of (drop start taken ++ left))) (sym c.deref-line.ensures.value) ∙ ap (λ (s : List ℕ). Ok (line ++ listing_of (s ++ left))) (sym cut) in
     let now = (o.state c.put_short.new.out).written in
     let Full : Type 0 = SinkFails (o.state c.args.out.now) (o.state c.put_short.new.out) in
@@ -134,7 +134,7 @@ returns-then-beginning g c = λ before after.
     let flash = before.flash.bytes in
     let first = record before { inputs = i.state c.args.inputs.now; out = o.state c.args.out.now } in
     let later = record after { inputs = i.state c.read_beginning.new.inputs; out = o.state c.put_short.new.out } in
-    let ok = on_ok_weaker c.put_short.result (λ h. (text, listed_whole contents flash C stream taken text rest Full old now sel end same (omega (arith, f.short)) h)) c.put_short.ensures.ok in
+    let ok = on_ok_weaker c.put_short.result (λ h. (text, listed_whole contents flash C stream taken text rest Full old now sel end same (omega (arith, f.short)) h)) c.put_short.ensures.listed in
     let Why : Refusal → Type 0 = λ r. ((event_of r ≡ no_memory) × (now ≡ old)) ⊎ ((event_of r ≡ writing_failed) × Full) in
     let err = both_err c.put_short.result (λ r. PutsPrefix old text now) Why (λ r. Ended (with_inputs contents flash) C stream Full old now (Err (event_of r)))
     (λ r p w.
@@ -142,22 +142,22 @@ returns-then-beginning g c = λ before after.
     = elim [
       | inl h ↦
           let none : ListsSoFar [] old now = subst (λ (x : Option (List ℕ)). ListsSoFar [] old x) (sym h.1) (nothing_put old) in
-          let opened = nothing_taken contents stream (i.state c.open.new.inputs).rest c.in_ok-open.ensures.ok.found in
+          let opened = nothing_taken contents stream (i.state c.open.new.inputs).rest c.in_ok-open.ensures.opened.found in
           ends_same (with_inputs contents flash) C stream Full old now (event_of r) no_memory h.0 (out_of_memory contents flash C stream [] (i.state c.open.new.inputs).rest Full old now opened none)
       | inr h ↦ ends_same (with_inputs contents flash) C stream Full old now (event_of r) writing_failed h.0 (end_failed contents flash C stream taken rest Full old now sel end h.1 (text, (same, p)))
     ] in
     by w)
-    c.put_short.ensures.err c.put_short.ensures.why in
+    c.put_short.ensures.prefix c.put_short.ensures.refused in
     let near = both_err c.put_short.result (λ r. PutsPrefix old text now) Why (λ r. StaysNear (status_of_event (event_of r)) (Some (Listing stream)) first later)
     (λ r p w.
     let longer = longer_prefix old now text p in
     let few : given ≤ longest_beginning = omega (arith, c.open.ensures.asks.given, c.read_beginning.ensures.short) in
     stays_near (event_of r) stream first later (unwritten_near contents stream rest old now _ given (event_of r) (prefix_given contents stream given old now few longer) (prefix_near contents stream taken rest old now sel f.short longer) (why_weaker w)))
-    c.put_short.ensures.err c.put_short.ensures.why in
+    c.put_short.ensures.prefix c.put_short.ensures.refused in
     let asks = few_read (i.state c.args.inputs.now) (i.state c.open.new.inputs) (i.state c.read_beginning.new.inputs) stream_limit c.open.ensures.once c.read_beginning.ensures.gives_few in
     record {
       ends = list_seen stream first later c.put_short.result ok err near;
-      stops = written_stops _ _ (Listing c.args.stream.now) (g.I.Inputs.state c.args.inputs.now) (g.I.Inputs.state c.read_beginning.new.inputs) c.put_short.result c.put_short.ensures.why;
+      stops = written_stops _ _ (Listing c.args.stream.now) (g.I.Inputs.state c.args.inputs.now) (g.I.Inputs.state c.read_beginning.new.inputs) c.put_short.result c.put_short.ensures.refused;
       judges = tt;
       asks = asks;
       stays = stays_on _ _ _ c.open.ensures.inputs c.read_beginning.ensures.inputs;
@@ -177,10 +177,10 @@ returns-in_err-turn g c = rw (handed_on c.from_residual-in_err-turn.result c.in_
     record {
       ends = list_ends stream old new (Err event)
           (unread_end old.inputs (i.state c.loop-lister.inputs) new.inputs old.flash.bytes stream v.known.0 c.loop-lister.lister c.loop-lister.left (SinkFails old.out new.out) old.out.written new.out.written event
-          v.inputs v.known.1.0 v.known.1.3 v.known.1.1 v.known.1.2 c.in_err-turn.ensures.err c.next_turn.ensures.asked)
+          v.inputs v.known.1.0 v.known.1.3 v.known.1.1 v.known.1.2 c.in_err-turn.ensures.refused c.next_turn.ensures.asked)
           (stays_near event stream old new (unread_near old.inputs.contents stream new.inputs.rest old.out.written new.out.written (i.state c.loop-lister.inputs) new.inputs stream v.known.0 c.loop-lister.lister c.loop-lister.left event refl v.known.1.0 t
-          (omega (arith, v.known.1.3.given, c.next_turn.ensures.gives_a_turn, v.piece)) (λ e. omega (arith, c.in_err-turn.ensures.over e, v.piece)) (same_now (o.state c.loop-lister.out)) c.in_err-turn.ensures.err));
-      stops = let v = c.loop-lister.invariant in first_stops (Listing c.args.stream.now) (limited stream_limit c.args.stream.now) [] (g.I.Inputs.state c.args.inputs.now) (g.I.Inputs.state c.next_turn.new.inputs) (event_of c.in_err-turn.field-0.0) refl (stands_turn c.args.stream.now v.known.0 stream_limit c.loop-lister.left (g.I.Inputs.state c.loop-lister.inputs) (g.I.Inputs.state c.next_turn.new.inputs) v.known.1.3 v.known.1.2 c.next_turn.ensures.gives_few) asks (unread_about c.args.stream.now (event_of c.in_err-turn.field-0.0) (turn_unread (g.I.Inputs.state c.loop-lister.inputs) (g.I.Inputs.state c.next_turn.new.inputs) c.args.stream.now c.loop-lister.left (event_of c.in_err-turn.field-0.0) c.in_err-turn.ensures.err));
+          (omega (arith, v.known.1.3.given, c.next_turn.ensures.gives_a_turn, v.piece)) (λ e. omega (arith, c.in_err-turn.ensures.over e, v.piece)) (same_now (o.state c.loop-lister.out)) c.in_err-turn.ensures.refused));
+      stops = let v = c.loop-lister.invariant in first_stops (Listing c.args.stream.now) (limited stream_limit c.args.stream.now) [] (g.I.Inputs.state c.args.inputs.now) (g.I.Inputs.state c.next_turn.new.inputs) (event_of c.in_err-turn.field-0.0) refl (last_asked_turn c.args.stream.now v.known.0 stream_limit c.loop-lister.left (g.I.Inputs.state c.loop-lister.inputs) (g.I.Inputs.state c.next_turn.new.inputs) v.known.1.3 v.known.1.2 c.next_turn.ensures.gives_few) asks (unread_about c.args.stream.now (event_of c.in_err-turn.field-0.0) (turn_unread (g.I.Inputs.state c.loop-lister.inputs) (g.I.Inputs.state c.next_turn.new.inputs) c.args.stream.now c.loop-lister.left (event_of c.in_err-turn.field-0.0) c.in_err-turn.ensures.refused));
       judges = tt;
       asks = asks;
       stays = stays_on _ _ _ c.loop-lister.invariant.inputs c.next_turn.ensures.inputs;
@@ -199,7 +199,7 @@ returns-in_err-put_turn g c = rw (handed_on c.from_residual-in_err-put_turn.resu
     let taken = v.known.0 in
     let t = v.known.1.1 in
     let piece = take c.in_ok-turn.turn.count c.next_turn.new.buffer in
-    let sel = taken_more contents stream taken piece (i.state c.loop-lister.inputs).rest (i.state c.next_turn.new.inputs).rest v.known.1.0 c.in_ok-turn.ensures.ok.taken in
+    let sel = taken_more contents stream taken piece (i.state c.loop-lister.inputs).rest (i.state c.next_turn.new.inputs).rest v.known.1.0 c.in_ok-turn.ensures.takes.taken in
     let now = (o.state c.put_turn.new.out).written in
     let Full : Type 0 = SinkFails (o.state c.args.out.now) (o.state c.put_turn.new.out) in
     let r = event_of c.in_err-put_turn.field-0.0 in
@@ -212,7 +212,7 @@ returns-in_err-put_turn g c = rw (handed_on c.from_residual-in_err-put_turn.resu
       | inr h ↦
           let risen = risen_from (o.state c.args.out.now).faults (o.state c.loop-lister.out).faults (o.state c.put_turn.new.out).faults v.written h.1 in
           let err : (left : List ℕ) → AreBytes (t.content ++ (piece ++ left)) → PutsPrefix (appended old t.line) (listing_of (t.content ++ (piece ++ left))) now
-          = λ left fits. c.in_err-put_turn.ensures.err (appended old t.line) t.content left t.lists fits in
+          = λ left fits. c.in_err-put_turn.ensures.prefix (appended old t.line) t.content left t.lists fits in
           ends_same (with_inputs contents flash) C stream Full old now r writing_failed h.0
           (write_failed contents flash C stream taken piece piece c.loop-lister.lister (i.state c.next_turn.new.inputs).rest Full old (o.state c.loop-lister.out).written now refl sel risen t c.put_turn.ensures.fits err)
     ] in
@@ -224,8 +224,8 @@ returns-in_err-put_turn g c = rw (handed_on c.from_residual-in_err-put_turn.resu
     let gives = turn_given contents stream taken t.line t.content given c.loop-lister.lister (i.state c.loop-lister.inputs).rest old (o.state c.loop-lister.out).written now v.known.1.0 (omega (arith, v.known.1.3.given, c.next_turn.ensures.gives_a_turn, v.piece)) known t.lists c.put_turn.ensures.extends in
     let asks = few_read (i.state c.args.inputs.now) (i.state c.loop-lister.inputs) (i.state c.next_turn.new.inputs) c.loop-lister.left c.loop-lister.invariant.once c.next_turn.ensures.gives_few in
     record {
-      ends = list_ends stream (record before { inputs = i.state c.args.inputs.now; out = o.state c.args.out.now }) (record after { inputs = i.state c.next_turn.new.inputs; out = o.state c.put_turn.new.out }) (Err r) (end c.in_err-put_turn.ensures.why) (stays_near r stream (record before { inputs = i.state c.args.inputs.now; out = o.state c.args.out.now }) (record after { inputs = i.state c.next_turn.new.inputs; out = o.state c.put_turn.new.out }) (unwritten_near contents stream rest old now _ given r gives near (why_weaker c.in_err-put_turn.ensures.why)));
-      stops = put_stops (Listing c.args.stream.now) (g.I.Inputs.state c.args.inputs.now) (g.I.Inputs.state c.next_turn.new.inputs) (event_of c.in_err-put_turn.field-0.0) c.in_err-put_turn.ensures.why;
+      ends = list_ends stream (record before { inputs = i.state c.args.inputs.now; out = o.state c.args.out.now }) (record after { inputs = i.state c.next_turn.new.inputs; out = o.state c.put_turn.new.out }) (Err r) (end c.in_err-put_turn.ensures.refused) (stays_near r stream (record before { inputs = i.state c.args.inputs.now; out = o.state c.args.out.now }) (record after { inputs = i.state c.next_turn.new.inputs; out = o.state c.put_turn.new.out }) (unwritten_near contents stream rest old now _ given r gives near (why_weaker c.in_err-put_turn.ensures.refused)));
+      stops = put_stops (Listing c.args.stream.now) (g.I.Inputs.state c.args.inputs.now) (g.I.Inputs.state c.next_turn.new.inputs) (event_of c.in_err-put_turn.field-0.0) c.in_err-put_turn.ensures.refused;
       judges = tt;
       asks = asks;
       stays = stays_on _ _ _ c.loop-lister.invariant.inputs c.next_turn.ensures.inputs;
@@ -245,8 +245,8 @@ returns-then-turn g c = λ before after.
     let t = v.known.1.1 in
     let n = c.in_ok-turn.turn.count in
     let piece = take n c.next_turn.new.buffer in
-    let sel = taken_more contents stream taken piece (i.state c.loop-lister.inputs).rest (i.state c.next_turn.new.inputs).rest v.known.1.0 c.in_ok-turn.ensures.ok.taken in
-    let lists : Lists c.put_turn.new.lister (appended old t.line) (o.state c.put_turn.new.out).written (t.content ++ piece) = c.in_ok-put_turn.ensures.ok (appended old t.line) t.content t.lists in
+    let sel = taken_more contents stream taken piece (i.state c.loop-lister.inputs).rest (i.state c.next_turn.new.inputs).rest v.known.1.0 c.in_ok-turn.ensures.takes.taken in
+    let lists : Lists c.put_turn.new.lister (appended old t.line) (o.state c.put_turn.new.out).written (t.content ++ piece) = c.in_ok-put_turn.ensures.listed (appended old t.line) t.content t.lists in
     let listing = goes_on taken piece t.line t.content t.listing in
     let now = (o.state c.put_end.new.out).written in
     let Full : Type 0 = SinkFails (o.state c.args.out.now) (o.state c.put_end.new.out) in
@@ -256,7 +256,7 @@ returns-then-turn g c = λ before after.
     let text = t.line ++ listing_of (t.content ++ piece) in
     let same = stream_whole (taken ++ piece) t.line (t.content ++ piece) (listing []) in
     let flash = before.flash.bytes in
-    let ok = on_ok_weaker c.put_end.result (λ h. (text, listed_whole contents flash C stream (taken ++ piece) text (i.state c.next_turn.new.inputs).rest Full old now sel end same short (line_then old now t.line (listing_of (t.content ++ piece)) (h (appended old t.line) (t.content ++ piece) lists)))) c.put_end.ensures.ok in
+    let ok = on_ok_weaker c.put_end.result (λ h. (text, listed_whole contents flash C stream (taken ++ piece) text (i.state c.next_turn.new.inputs).rest Full old now sel end same short (line_then old now t.line (listing_of (t.content ++ piece)) (h (appended old t.line) (t.content ++ piece) lists)))) c.put_end.ensures.listed in
     let mid = (o.state c.put_turn.new.out).written in
     let known : ListsStream c.put_turn.new.lister old mid (taken ++ piece) = record { line = t.line; content = t.content ++ piece; lists = lists; listing = listing; short_header = omega (arith, t.short_header, length-append taken piece, length-append t.content piece) } in
     let err = both_err c.put_end.result (λ r. (first : Option (List ℕ)) (bytes : List ℕ) → Lists c.put_turn.new.lister first mid bytes → PutsPrefix first (listing_of bytes) now)
@@ -274,17 +274,17 @@ returns-then-turn g c = λ before after.
           ends_same (with_inputs contents flash) C stream Full old now (event_of r) writing_failed h.0 (end_failed contents flash C stream (taken ++ piece) (i.state c.next_turn.new.inputs).rest Full old now sel (c.in_ok-turn.ensures.end c.if-turn.true) risen prefix)
     ] in
     end w)
-    c.put_end.ensures.err c.put_end.ensures.why in
+    c.put_end.ensures.prefix c.put_end.ensures.refused in
     let few : length piece ≤ turn_bytes = omega (arith, length-take-le n c.next_turn.new.buffer (omega (arith, c.in_ok-turn.ensures.within.1, c.next_turn.ensures.length, v.piece)), c.in_ok-turn.ensures.within.1, v.piece) in
     let longer = longer_twice (o.state c.loop-lister.out).written (o.state c.put_turn.new.out).written now c.put_turn.ensures.extends c.put_end.ensures.extends in
     let whole = stream_whole taken t.line t.content (t.listing []) in
     let near = turn_near contents stream taken piece t.line t.content c.loop-lister.lister (i.state c.next_turn.new.inputs).rest old (o.state c.loop-lister.out).written now sel t.short_header few whole t.lists longer in
     let gives = turn_given contents stream taken t.line t.content given c.loop-lister.lister (i.state c.loop-lister.inputs).rest old (o.state c.loop-lister.out).written now v.known.1.0 (omega (arith, v.known.1.3.given, c.next_turn.ensures.gives_a_turn, v.piece)) whole t.lists longer in
-    let close = err_weaker c.put_end.result (λ r w. stays_near (event_of r) stream (record before { inputs = i.state c.args.inputs.now; out = o.state c.args.out.now }) (record after { inputs = i.state c.next_turn.new.inputs; out = o.state c.put_end.new.out }) (unwritten_near contents stream (i.state c.next_turn.new.inputs).rest old now _ given (event_of r) gives near (why_weaker w))) c.put_end.ensures.why in
+    let close = err_weaker c.put_end.result (λ r w. stays_near (event_of r) stream (record before { inputs = i.state c.args.inputs.now; out = o.state c.args.out.now }) (record after { inputs = i.state c.next_turn.new.inputs; out = o.state c.put_end.new.out }) (unwritten_near contents stream (i.state c.next_turn.new.inputs).rest old now _ given (event_of r) gives near (why_weaker w))) c.put_end.ensures.refused in
     let asks = few_read (i.state c.args.inputs.now) (i.state c.loop-lister.inputs) (i.state c.next_turn.new.inputs) c.loop-lister.left c.loop-lister.invariant.once c.next_turn.ensures.gives_few in
     record {
       ends = list_seen stream (record before { inputs = i.state c.args.inputs.now; out = o.state c.args.out.now }) (record after { inputs = i.state c.next_turn.new.inputs; out = o.state c.put_end.new.out }) c.put_end.result ok err close;
-      stops = written_stops _ _ (Listing c.args.stream.now) (g.I.Inputs.state c.args.inputs.now) (g.I.Inputs.state c.next_turn.new.inputs) c.put_end.result c.put_end.ensures.why;
+      stops = written_stops _ _ (Listing c.args.stream.now) (g.I.Inputs.state c.args.inputs.now) (g.I.Inputs.state c.next_turn.new.inputs) c.put_end.result c.put_end.ensures.refused;
       judges = tt;
       asks = asks;
       stays = stays_on _ _ _ c.loop-lister.invariant.inputs c.next_turn.ensures.inputs;
@@ -302,19 +302,19 @@ loop-lister-preserved g c =
     let t = v.known.1.1 in
     let n = c.in_ok-turn.turn.count in
     let piece = take n c.next_turn.new.buffer in
-    let sel = taken_more contents stream taken piece (i.state c.loop-lister.inputs).rest (i.state c.next_turn.new.inputs).rest v.known.1.0 c.in_ok-turn.ensures.ok.taken in
-    let lists : Lists c.put_turn.new.lister (appended old t.line) (o.state c.put_turn.new.out).written (t.content ++ piece) = c.in_ok-put_turn.ensures.ok (appended old t.line) t.content t.lists in
+    let sel = taken_more contents stream taken piece (i.state c.loop-lister.inputs).rest (i.state c.next_turn.new.inputs).rest v.known.1.0 c.in_ok-turn.ensures.takes.taken in
+    let lists : Lists c.put_turn.new.lister (appended old t.line) (o.state c.put_turn.new.out).written (t.content ++ piece) = c.in_ok-put_turn.ensures.listed (appended old t.line) t.content t.lists in
     let listing = goes_on taken piece t.line t.content t.listing in
     let size : length (taken ++ piece) ≡ length taken + n = length-append taken piece ∙ ap (λ k. length taken + k) (length-take-le n c.next_turn.new.buffer (omega (arith, c.in_ok-turn.ensures.within.1, c.next_turn.ensures.length, v.piece))) in
     let full : n ≡ turn_bytes = c.in_ok-turn.ensures.fills c.if-turn.false ∙ v.piece in
     record {
-      selected = c.in_ok-turn.ensures.ok.selected;
+      selected = c.in_ok-turn.ensures.takes.selected;
       inputs = stays_on _ _ _ v.inputs c.next_turn.ensures.inputs;
-      once = once_on _ _ _ v.once c.in_ok-turn.ensures.ok.selects (c.in_ok-turn.ensures.no_end_read c.if-turn.false);
+      once = once_on _ _ _ v.once c.in_ok-turn.ensures.takes.selects (c.in_ok-turn.ensures.no_end_read c.if-turn.false);
       written = omega (arith, v.written, c.put_turn.ensures.counts.faults);
       left = omega (arith, v.left);
       piece = omega (arith, c.next_turn.ensures.length, v.piece);
-      known = (taken ++ piece, (sel, record { line = t.line; content = t.content ++ piece; lists = lists; listing = listing; short_header = omega (arith, t.short_header, length-append taken piece, length-append t.content piece) }, omega (arith, size, v.known.1.2, c.in_ok-turn.ensures.within.0), at_on stream taken piece (i.state c.loop-lister.inputs) (i.state c.next_turn.new.inputs) v.known.1.3 c.in_ok-turn.ensures.ok c.next_turn.ensures.asked));
+      known = (taken ++ piece, (sel, record { line = t.line; content = t.content ++ piece; lists = lists; listing = listing; short_header = omega (arith, t.short_header, length-append taken piece, length-append t.content piece) }, omega (arith, size, v.known.1.2, c.in_ok-turn.ensures.within.0), at_on stream taken piece (i.state c.loop-lister.inputs) (i.state c.next_turn.new.inputs) v.known.1.3 c.in_ok-turn.ensures.takes c.next_turn.ensures.asked));
     }
 
 pub loop-lister-init : goal.loop-lister-init
@@ -333,7 +333,7 @@ loop-lister-init g c =
     let bytes = c.deref.result.now in
     let content = take (length bytes - start) (drop start bytes) in
     let cut : content ≡ drop start taken = take_all (length bytes - start) (drop start bytes) (omega (arith, length-drop start bytes)) ∙ ap (drop start) c.deref.ensures.value in
-    let sel : RestIsWhole contents stream (preceded taken now.rest) = subst (λ r. RestIsWhole contents stream r) f.reads.takes.taken c.in_ok-open.ensures.ok.found in
+    let sel : RestIsWhole contents stream (preceded taken now.rest) = subst (λ r. RestIsWhole contents stream r) f.reads.takes.taken c.in_ok-open.ensures.opened.found in
     let listing : (left : List ℕ) → stream_listing (taken ++ left) ≡ Ok (line ++ listing_of (content ++ left)) = λ left. f.begins left (λ l. let never : false ≡ true = sym c.if-beginning.false ∙ l in absurd cc) ∙ ap (λ (l : List ℕ). Ok (l ++ listing_of (drop start taken ++ left))) (sym c.deref-line.ensures.value) ∙ ap (λ (s : List ℕ). Ok (line ++ listing_of (s ++ left))) (sym cut) in
     record {
       selected = c.in_ok-beginning.ensures.selected;
@@ -342,5 +342,5 @@ loop-lister-init g c =
       once = once_on _ _ _ c.open.ensures.once c.read_beginning.ensures.gives_few.selects (f.no_end_read c.if-beginning.false);
       left = omega arith;
       piece = refl;
-      known = (taken, (sel, record { line = line; content = content; lists = c.in_ok-put_beginning.ensures.ok; listing = listing; short_header = omega (arith, f.short) }, omega (arith, f.short, c.len-left.ensures), record { asked = asked_on stream (i.state c.open.new.inputs) now c.open.ensures.asks f.reads.asked; given = omega (arith, c.open.ensures.asks.given, f.reads.takes.given) }));
+      known = (taken, (sel, record { line = line; content = content; lists = c.in_ok-put_beginning.ensures.listed; listing = listing; short_header = omega (arith, f.short) }, omega (arith, f.short, c.len-left.ensures), record { asked = asked_on stream (i.state c.open.new.inputs) now c.open.ensures.asks f.reads.asked; given = omega (arith, c.open.ensures.asks.given, f.reads.takes.given) }));
     }

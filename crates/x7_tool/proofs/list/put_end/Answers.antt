@@ -4,17 +4,17 @@ use Rattle.x7_tool.proofs.TurnLemmas.{end_part, end_put, lists_here}
 use Rattle.x7_forms.proofs.ResultLemmas.{from_ok}
 use Rattle.x7_tool.proofs.list.put_end.Goals as goal
 
-pub returns-then-is_err-clause-err : goal.returns-then-is_err-clause-err
-returns-then-is_err-clause-err g c = λ first bytes lists.
+pub returns-then-is_err-clause-prefix : goal.returns-then-is_err-clause-prefix
+returns-then-is_err-clause-prefix g c = λ first bytes lists.
     lists_here c.args.lister.now first (g.O.Sink.state c.args.out.now).written bytes lists
 
-pub returns-in-Ok-clause-ok : goal.returns-in-Ok-clause-ok
-returns-in-Ok-clause-ok g c = λ first bytes lists.
+pub returns-in-Ok-clause-listed : goal.returns-in-Ok-clause-listed
+returns-in-Ok-clause-listed g c = λ first bytes lists.
     let ends = from_ok c.finish.result (sym c.is_err.ensures.value ∙ c.if-is_err.false) c.finish.ensures.finished in
     end_put c.args.lister.now c.finish.new.self first (g.O.Sink.state c.args.out.now).written (g.O.Sink.state c.write_all.new.sink).written bytes c.text.result.now lists ends c.text.ensures c.in-Ok.ensures.appends
 
-pub returns-in-Err-clause-err : goal.returns-in-Err-clause-err
-returns-in-Err-clause-err g c = λ first bytes lists.
+pub returns-in-Err-clause-prefix : goal.returns-in-Err-clause-prefix
+returns-in-Err-clause-prefix g c = λ first bytes lists.
     let ends = from_ok c.finish.result (sym c.is_err.ensures.value ∙ c.if-is_err.false) c.finish.ensures.finished in
     end_part c.args.lister.now c.finish.new.self first (g.O.Sink.state c.args.out.now).written (g.O.Sink.state c.write_all.new.sink).written bytes c.text.result.now lists ends c.text.ensures c.write_all.ensures.prefix
 

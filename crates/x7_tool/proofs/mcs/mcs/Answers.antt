@@ -20,7 +20,7 @@ returns-in_err-bytes g c = rw (handed_on c.from_residual.result c.in_err-bytes.f
     let event = event_of c.in_err-bytes.field-0.0 in
     record {
       caused = answers_stop (List ℕ) Answer (name ∷ []) (name ∷ []) old new (λ t. whole_known t flash_limit name) (λ t xs. Ok (record { stopped = false; text = mcs_text xs })) event (λ n h. h) c.in_err-bytes.ensures.caused;
-      stops = first_stops (ToMcs name) (limited flash_limit name) [] old new event refl c.read_whole.ensures.stands c.read_whole.ensures.asks (unread_about name event c.in_err-bytes.ensures.named);
+      stops = first_stops (ToMcs name) (limited flash_limit name) [] old new event refl c.read_whole.ensures.last_asked c.read_whole.ensures.asks (unread_about name event c.in_err-bytes.ensures.named);
       asks = c.read_whole.ensures.asks;
       stays = c.read_whole.ensures.inputs;
     })

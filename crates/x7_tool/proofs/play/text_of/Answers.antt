@@ -7,13 +7,13 @@ use Rattle.x7_playing.proofs.PlayerLemmas.{is_over, not_over, played_all}
 use Rattle.x7_playing.specs.Playing.{play_state}
 use Rattle.x7_tool.proofs.play.text_of.Goals as goal
 
-pub returns-then-player-clause-err : goal.returns-then-player-clause-err
-returns-then-player-clause-err c =
+pub returns-then-player-clause-refused : goal.returns-then-player-clause-refused
+returns-then-player-clause-refused c =
     let p = c.args.player in
     inr (refl, λ part bytes h. reported_over part bytes (is_over p.is_over part bytes (play_state p.device p.buffer p.reads.items) c.if-player.true h).many)
 
-pub returns-clause-ok : goal.returns-clause-ok
-returns-clause-ok c = λ part bytes h.
+pub returns-clause-text : goal.returns-clause-text
+returns-clause-text c = λ part bytes h.
     let p = c.args.player in
     let on = not_over p.is_over part bytes (play_state p.device p.buffer p.reads.items) c.if-player.false h in
     let all = played_all part bytes p.device p.reads.items on.0 on.1 in

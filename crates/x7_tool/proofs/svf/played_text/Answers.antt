@@ -1,5 +1,4 @@
-use Rattle.std.proofs.Common.{◌||◌, ◌++◌, Bool, List, ℕ, [], false, ap, ◌∙◌}
-use Rattle.std.specs.Prelude.{is_some}
+use Rattle.std.proofs.Common.{◌++◌, List, ℕ, [], false, ap, ◌∙◌}
 use Rattle.x7_part.specs.Part.{PartData}
 use Rattle.x7_engine.specs.Kept.{on_the_bench}
 use Rattle.x7_engine.specs.Standing.{DeviceStandsFor}
@@ -20,7 +19,7 @@ returns c =
     let stands : TapStandsFor part c.play_svf-differ.new.tap c.play_svf-differ.new.device (clocks_played statements differ) = c.play_svf-differ.ensures.clocks part new in
     let taken : List ℕ = bytes_taken part (played_to part statements differ) in
     let device : DeviceStandsFor part on_the_bench false c.play_svf-differ.new.device taken = device_is part c.play_svf-differ.new.tap c.play_svf-differ.new.device (clocks_played statements differ) stands in
-    svf_is part statements c.play_svf-differ.new.tap c.play_svf-differ.new.device differ c.fault.result c.either-stopped.result c.play_line.new.out.items c.in_ok-report.report c.in_ok-text.text
+    svf_is part statements c.play_svf-differ.new.tap c.play_svf-differ.new.device differ c.fault.result c.has_stopped-stopped.result c.play_line.new.out.items c.in_ok-report.report c.in_ok-text.text
     stands (c.play_svf-differ.ensures.differs part new) (c.fault.ensures part on_the_bench false taken device)
-    (c.either-stopped.ensures ∙ ap (λ (b : Bool). b || c.is_some-2.result) c.is_some.ensures ∙ ap (λ (b : Bool). is_some differ || b) c.is_some-2.ensures)
+    c.has_stopped-stopped.ensures
     (c.in_ok-play_line.ensures.appends ∙ ap (λ (l : List ℕ). l ++ play_text differ) c.new-line.ensures.items) (c.in_ok-report.ensures.owing part on_the_bench false taken device) c.in_ok-text.ensures

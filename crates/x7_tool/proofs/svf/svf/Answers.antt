@@ -22,10 +22,10 @@ returns g c =
     let given = svf_given c.in_ok-given.given in
     let made = c.text_of.result in
     record {
-      caused = answers_by PartAndText Answer (part ∷ text ∷ []) old new (λ t. part_and_text t part text) given (PlayedSvf text) (seen play_answer made) c.in_ok-given.ensures.caused (svf_due text given made c.text_of.ensures.ok c.text_of.ensures.err);
+      caused = answers_by PartAndText Answer (part ∷ text ∷ []) old new (λ t. part_and_text t part text) given (PlayedSvf text) (seen play_answer made) c.in_ok-given.ensures.caused (svf_due text given made c.text_of.ensures.text c.text_of.ensures.refused);
       stops = result_stops play_answer (PlayingSvf part text) old new made (err_weaker made
-          (λ r h. second_stops (PlayingSvf part text) (limited part_limit part) (limited text_limit text) [] old new (event_of r) refl c.in_ok-given.ensures.stands c.read_given.ensures.asks (svf_played_about text given (event_of r) h))
-          c.text_of.ensures.err);
+          (λ r h. second_stops (PlayingSvf part text) (limited part_limit part) (limited text_limit text) [] old new (event_of r) refl c.in_ok-given.ensures.last_asked c.read_given.ensures.asks (svf_played_about text given (event_of r) h))
+          c.text_of.ensures.refused);
       asks = c.read_given.ensures.asks;
       stays = c.read_given.ensures.inputs;
     }

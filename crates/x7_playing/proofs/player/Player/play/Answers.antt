@@ -6,8 +6,8 @@ use Rattle.x7_playing.proofs.PlayerLemmas.{not_over, over_stays}
 use Rattle.x7_forms.proofs.ResultLemmas.{at_err}
 use Rattle.x7_playing.proofs.player.Player.play.Goals as goal
 
-pub returns-then-self-clause-ok : goal.returns-then-self-clause-ok
-returns-then-self-clause-ok c = λ part bytes h.
+pub returns-then-self-clause-played : goal.returns-then-self-clause-played
+returns-then-self-clause-played c = λ part bytes h.
     let p = c.args.self.now in
     let piece = c.args.piece.now in
     let fits : AreBytes piece = all_from_places (λ b. b < 256) piece (λ k l. omega (arith, c.type_inv.piece k)) in
