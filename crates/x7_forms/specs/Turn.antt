@@ -10,17 +10,17 @@ use Rattle.x7_listing.specs.Listing.{listing_of}
 use Rattle.x7_listing.specs.StreamListing.{stream_listing}
 
 -- the most bytes that one turn of a whole input or of a listing reads
-abbrev pub turn_bytes : ℕ
-turn_bytes = 65536
+abbrev pub turn_size : ℕ
+turn_size = 65536
 
 -- the most bytes that are read of a stream until its header is judged: a turn more than a header may have
 abbrev pub longest_beginning : ℕ
-longest_beginning = longest_header + turn_bytes
+longest_beginning = longest_header + turn_size
 
 -- the most bytes that one turn of a stream that is played reads: no fewer than a header
 -- may have, so that the first turn judges it
-abbrev pub play_turn_bytes : ℕ
-play_turn_bytes = 266240
+abbrev pub play_turn_size : ℕ
+play_turn_size = 266240
 
 -- an input was not opened: its name isn't there, or the inputs failed
 abbrev pub Unopened : InputsState → List ℕ → InputsState → Event → Type 0

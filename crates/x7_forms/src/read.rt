@@ -22,7 +22,7 @@ pub const STREAM_LIMIT: usize = 67_108_864;
 pub const TEXT_LIMIT: usize = 536_870_912;
 
 /// The most bytes that one turn of a whole input or of a listing reads.
-pub const TURN_BYTES: usize = 65_536;
+pub const TURN_SIZE: usize = 65_536;
 
 /// How many bytes a turn asks for, where `left` bytes are still within the limit and the buffer holds `room`: at most
 /// one byte over the limit.
@@ -154,7 +154,7 @@ fn read_rest<'w, I: Inputs>(
     ensures gives_few { GivesFew (I.state inputs.old) limit (I.state inputs.new) }
     ensures inputs { InputsStay (I.state inputs.old) (I.state inputs.new) }
 {
-    let mut piece = [0u8; TURN_BYTES];
+    let mut piece = [0u8; TURN_SIZE];
     let mut left = limit;
     loop {
         let turn = next_turn(inputs, name, left, &mut piece)?;

@@ -10,7 +10,7 @@ use x7_text::{block_of_hex, read_pairs, word_of_hex};
 use x7_words::{is_same, word_of};
 
 /// The most bytes of a frame: four for each of its words.
-const MOST_FRAME_BYTES: usize = 4 * x7_part::MOST_FRAME_WORDS as usize;
+const MOST_FRAME_SIZE: usize = 4 * x7_part::MOST_FRAME_WORDS as usize;
 
 /// How many bytes stand before the digits of a frame's line: `frame`, a space, the eight digits of its address, a
 /// space.
@@ -110,7 +110,7 @@ pub(crate) fn read_frame(frame: &mut Vec<u32>, width: u32, line: &[u8]) -> Optio
     let Some(found) = far_and_digits_of(line, 2 * byte_count) else {
         return None;
     };
-    let mut room = [0; MOST_FRAME_BYTES];
+    let mut room = [0; MOST_FRAME_SIZE];
     let bytes = &mut room[..byte_count];
     if !read_digits(bytes, found.digits) {
         return None;

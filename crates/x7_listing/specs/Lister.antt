@@ -11,7 +11,7 @@ use Rattle.x7_packets.specs.declared.cutter.Cut.{Cut}
 use Rattle.x7_packets.specs.Mode.{Mode}
 use Rattle.x7_regs.specs.Register.{number_of}
 use Rattle.x7_regs.specs.declared.register.Reg.TheVariants.{Cmd}
-use Rattle.x7_text.specs.Row.{bytes_text, close, element_text, in_line_after, next_in_line, spaced, open_bytes, row_bytes, row_words}
+use Rattle.x7_text.specs.Row.{bytes_text, close, element_text, in_line_after, next_in_line, spaced, open_bytes, bytes_row_size, row_words}
 use Rattle.x7_listing.specs.HeadLine.{command_line, text_of_head}
 use Rattle.x7_listing.specs.Listing.{IsListing, session_text}
 
@@ -48,7 +48,7 @@ pub record GapListed (all start : List ℕ) (in_line : ℕ) (held gap : List ℕ
   pub prefix : List ℕ
   pub split : gap ≡ prefix ++ held
   pub listed : all ≡ start ++ open_bytes 0 prefix
-  pub count : in_line ≡ in_line_after row_bytes 0 prefix
+  pub count : in_line ≡ in_line_after bytes_row_size 0 prefix
   pub full : (length held ≡ 4) ⊎ (prefix ≡ [])
   pub few : length held ≤ 4
 

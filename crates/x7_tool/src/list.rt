@@ -12,7 +12,7 @@ ghost use Rattle.x7_forms.specs.Step.{seen};
 ghost use Rattle.x7_tool.specs.Between.{IsUnlisted, Lists, StopsIn};
 
 use std::alloc::Global;
-use x7_forms::{Refusal, STREAM_LIMIT, TURN_BYTES, Why, next_turn, open, read_beginning};
+use x7_forms::{Refusal, STREAM_LIMIT, TURN_SIZE, Why, next_turn, open, read_beginning};
 use x7_listing::Lister;
 use x7_words::{Inputs, Sink, write_all, write_pieces};
 
@@ -119,7 +119,7 @@ pub(crate) fn list<'w, I: Inputs, O: Sink>(
         return put_short(&mut lister, out, line, content);
     }
     put_beginning(&mut lister, out, line, content)?;
-    let mut piece = [0u8; TURN_BYTES];
+    let mut piece = [0u8; TURN_SIZE];
     let mut left = STREAM_LIMIT - beginning.bytes.len();
     loop {
         let turn = next_turn(inputs, stream, left, &mut piece)?;
