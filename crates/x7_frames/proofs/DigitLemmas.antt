@@ -9,7 +9,8 @@ use Rattle.std.specs.List.{flat_map}
 use Rattle.std.specs.Simd.{first_chunks}
 use Rattle.x7_words.specs.Word.{AreBytes}
 use Rattle.x7_text.specs.Digits.{hex_byte}
-use Rattle.x7_text.specs.EitherCase.{byte_of, number_of_digit, byte_before, bytes_of_pairs}
+use Rattle.x7_words.specs.Characters.{number_of_digit}
+use Rattle.x7_text.specs.EitherCase.{byte_of, byte_before, bytes_of_pairs}
 use Rattle.x7_text.proofs.CaseLemmas.{pairs_back}
 
 -- two digits a byte

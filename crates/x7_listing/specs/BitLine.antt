@@ -4,7 +4,7 @@ use Rattle.std.specs.List.{flat_map}
 use Rattle.x7_words.specs.Word.{AreBytes}
 use Rattle.x7_header.specs.Header.{Contents, HaveHeader, header_bytes}
 use Rattle.x7_text.specs.Digits.{hex_byte}
-use Rattle.x7_listing.specs.Line.{space_byte}
+use Rattle.x7_words.specs.Characters.{space_byte}
 
 -- the text of a header's field: two digits for each byte, or `-` where it holds nothing
 abbrev pub field_text : List ℕ → List ℕ

@@ -3,7 +3,7 @@ use Rattle.std.specs.Prelude.{ℕ, ◌+◌, ◌*◌, ◌/◌, ◌%◌, ◌==◌,
 use Rattle.std.specs.List.{flat_map}
 use Rattle.x7_text.specs.Digits.{hex_byte}
 use Rattle.x7_text.specs.Row.{rows}
-use Rattle.x7_text.specs.Lines.{line_end_byte}
+use Rattle.x7_words.specs.Characters.{line_end_byte}
 use Rattle.x7_mcs.specs.Record.{block_size, byte_values, data_type, linear_base_type, sum_byte}
 
 -- how many bytes of a flash a row has, each but the last

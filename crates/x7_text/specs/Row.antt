@@ -5,7 +5,7 @@ use Rattle.std.specs.declared.alloc.Global.{Global}
 use Rattle.x7_words.specs.Word.{AreBytes, AreWords}
 use Rattle.x7_text.specs.Appends.{Appends}
 use Rattle.x7_text.specs.Digits.{hex_byte, hex_word}
-use Rattle.x7_text.specs.Lines.{line_end_byte, space_byte}
+use Rattle.x7_words.specs.Characters.{line_end_byte, space_byte}
 
 -- a row that has elements, and nothing for an empty one
 abbrev pub row_if_any : List ℕ → List (List ℕ)

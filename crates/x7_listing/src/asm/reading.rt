@@ -8,7 +8,8 @@ ghost use Rattle.x7_packets.specs.PacketWords.{type1_read_header, type1_write_he
 ghost use Rattle.x7_text.specs.Appends.{Appends};
 ghost use Rattle.x7_text.specs.Digits.{hex_word};
 ghost use Rattle.x7_listing.specs.Assembling.{HasRoomForLine};
-ghost use Rattle.x7_listing.specs.Line.{type1_text, line_bytes, FitsLine, IsType1, IsPlain, text_of, space_byte};
+ghost use Rattle.x7_listing.specs.Line.{type1_text, line_bytes, FitsLine, IsType1, IsPlain, text_of};
+ghost use Rattle.x7_words.specs.Characters.{space_byte};
 ghost use Rattle.x7_listing.specs.BitLine.{IsFirstSpace};
 ghost use Rattle.x7_listing.specs.OneWord.{IsWordOf, PutsWord};
 ghost use Rattle.x7_text.specs.Reads.{Reads, StaysWithin};

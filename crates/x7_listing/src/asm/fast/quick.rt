@@ -5,7 +5,7 @@ ghost use Rattle.std.specs.Simd.Lanes.{chunk};
 ghost use Rattle.x7_text.specs.Row.{row_words};
 ghost use Rattle.x7_listing.specs.Fast.AtOnce.{words_in_row};
 ghost use Rattle.x7_listing.specs.Assembling.{HasRoomForLine};
-ghost use Rattle.x7_listing.specs.Line.{space_byte};
+ghost use Rattle.x7_words.specs.Characters.{space_byte};
 ghost use Rattle.x7_listing.specs.Fast.Looking.{AppendsFoundLines, ReadsAtOnce};
 
 use super::write_pairs::{differences, put_pair};

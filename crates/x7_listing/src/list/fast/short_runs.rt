@@ -12,7 +12,7 @@ ghost use Rattle.x7_regs.specs.Register.{reg_number_count};
 ghost use Rattle.x7_listing.specs.Fast.AtOnce.{command_lines, write_head_text};
 ghost use Rattle.x7_listing.specs.Fast.OnSheet.{ShowsWords, ListsMoreAfter, on_sheet, one_write_lines_size, head_line_size, one_write_text, short_write_lines_size, nop_lines_size, gap_lines_size};
 ghost use Rattle.x7_listing.specs.Fast.TakingAtOnce.{TakesAtOnce, TakesOnSheet};
-ghost use Rattle.x7_listing.specs.Line.{line_end_byte};
+ghost use Rattle.x7_words.specs.Characters.{line_end_byte};
 ghost use Rattle.x7_listing.specs.Pens.{TakesHead, ListsMore, lister_with};
 ghost use Rattle.x7_listing.specs.declared.list.pen.state.Pen.{Pen};
 ghost use Rattle.x7_listing.specs.Lister.{in_line_after_words};
