@@ -9,7 +9,7 @@ use Rattle.x7_words.specs.Word.{AreBytes}
 use Rattle.x7_words.proofs.CountLemmas.{risen_from}
 use Rattle.x7_words.proofs.InputLemmas.{preceded_preceded}
 use Rattle.x7_words.proofs.ListLemmas.{shorter_prefix}
-use Rattle.x7_header.specs.Header.{Contents, EndsInHeader, contents_in_order, fixed_bytes, HasOtherLetter, HasOtherLetterAt, HaveHeader, fields_bytes, header_bytes, header_fields, longest_header}
+use Rattle.x7_header.specs.Header.{Contents, EndsInHeader, contents_in_order, fixed_bytes, HasOtherLetter, HasOtherLetterAt, FitHeader, fields_bytes, header_bytes, header_fields, longest_header}
 use Rattle.x7_header.specs.Reading.{HeaderWaits, header_at}
 use Rattle.x7_header.specs.declared.fault.HeaderFault.{HeaderFault}
 use Rattle.x7_header.specs.declared.fault.HeaderFault.TheVariants as header
@@ -30,7 +30,7 @@ pub raw_listed : (bytes : List ℕ) → header_at bytes ≡ Err header.Raw → s
 raw_listed bytes e = ap (listing_by bytes) e
 
 -- a header that was read, whatever follows
-pub headed : (bytes line : List ℕ) (x : Contents) (n : ℕ) (last : Bool) → HaveHeader x → bytes ≡ header_bytes x ++ drop n bytes → n ≡ length (header_bytes x) → line ≡ bit_text x ++ 10 ∷ [] → IsBeginning bytes last line n
+pub headed : (bytes line : List ℕ) (x : Contents) (n : ℕ) (last : Bool) → FitHeader x → bytes ≡ header_bytes x ++ drop n bytes → n ≡ length (header_bytes x) → line ≡ bit_text x ++ 10 ∷ [] → IsBeginning bytes last line n
 headed bytes line x n last h e size is = λ rest more.
     let whole : bytes ++ rest ≡ header_bytes x ++ (drop n bytes ++ rest) = ap (λ b. b ++ rest) e ∙ append_assoc (header_bytes x) (drop n bytes) rest in
     let read : header_at (header_bytes x ++ (drop n bytes ++ rest)) ≡ Ok (x, length (header_bytes x)) = header_again x (drop n bytes ++ rest) h in
@@ -83,7 +83,7 @@ cut_refused bytes last place e h = λ rest more. ap (λ r. stream_listing (bytes
 
 -- bytes that end inside a header are few
 pub few_in_header : (bytes : List ℕ) → EndsInHeader bytes → length bytes ≤ longest_header
-few_in_header bytes h = omega (arith, header_limit h.header h.have_header, ap length h.goes_on, length-append bytes (h.next ∷ h.missing))
+few_in_header bytes h = omega (arith, header_limit h.header h.fit_header, ap length h.goes_on, length-append bytes (h.next ∷ h.missing))
 
 -- a turn more of a stream's beginning
 pub joined_taken : (old mid new : Option (List ℕ)) (a b c d : List ℕ) → old ≡ preceded a mid → mid ≡ preceded b new → c ≡ a ++ b → d ≡ c → old ≡ preceded d new
@@ -106,7 +106,7 @@ judged_before old piece prefix more n false l w p k e m j =
     let long : length s.0 < n = omega (arith, k, m, ap length e, ap length s.1, length-append old piece, length-append prefix more, length-append old s.0) in
     j [] (length (old ++ s.0)) (ap header_at (append-nil prefix ∙ s.1) ∙ w s.0 long)
 
-header_judges : (x : Contents) → HaveHeader x → Judge (header_bytes x)
+header_judges : (x : Contents) → FitHeader x → Judge (header_bytes x)
 header_judges x h rest place e = ok_not_err (x, length (header_bytes x)) (header.Cut place) (sym (header_again x rest h) ∙ e)
 
 letter_judges : (bytes : List ℕ) (place : ℕ) → HasOtherLetterAt bytes place → Judge bytes
