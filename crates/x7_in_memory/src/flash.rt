@@ -9,7 +9,9 @@ use crate::calls::Calls;
 use crate::record::Record;
 use std::alloc::Global;
 use std::marker::Model;
-use x7_words::{ERASED_BYTE, Failed, Flash, NoMemory, SECTOR_SIZE, SelectFault, raised};
+use x7_words::{
+    ERASED_BYTE, Failed, Flash, NoMemory, SECTOR_SIZE, SelectFault, are_bytes, raised,
+};
 
 /// A write that is torn: the number of its call, and the pattern of the bits that stay old.
 #[derive(Clone, Copy, Drop)]
@@ -66,11 +68,6 @@ impl Model for MemoryFlash {
     ghost invariant = { λ f. (f.absences < 2 ^ 64) × (f.read_faults < 2 ^ 64) × (f.write_faults < 2 ^ 64)
         × (f.writes.bytes_left ≤ vec_capacity f.target) };
 }
-
-/// Each element of a slice of bytes is a byte.
-fn are_bytes(bytes: &[u8])
-    ensures { AreBytes bytes.now }
-{}
 
 /// Puts into the target what programming makes of the bytes: each bit is 1 where it was and the given one is.
 fn put_cleared(target: &mut Vec<u8>, bytes: &[u8], given: &[u8])
