@@ -1,5 +1,5 @@
-//! Names of registers and commands read back. A name has one place in a table, so it is compared with one text of up to
-//! 32.
+//! Names of registers and commands read back. A name has one place in a table, so it is compared with one text, and not
+//! with all of a table.
 ghost use Rattle.std.specs.Prelude.{◌≡◌, ◌≢◌, ◌≤◌, ◌<◌, ℕ, length, slice_index, IfSome, IfNone};
 ghost use Rattle.x7_regs.specs.Command.{command_name_of};
 ghost use Rattle.x7_regs.specs.Named.{IsCommandName, IsRegName, longest_name, place_of_name, shortest_name};
