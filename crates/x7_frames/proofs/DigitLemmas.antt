@@ -88,10 +88,6 @@ chunk_at n (suc m) zero xs d h = ap (λ (j : ℕ). take n (drop j xs)) (let e : 
 chunk_at n (suc m) (suc k) xs d h =
     chunk_at n m k (drop n xs) d (omega (arith, h)) ∙ ap (take n) (drop-drop (n * k) n xs ∙ ap (λ (j : ℕ). drop j xs) (let m : n * suc k ≡ n * k + n = mul-suc n k in let e : n + n * k ≡ n * suc k = omega (arith, m) in e))
 
-pub bytes_by_place : (bs : List ℕ) → ((i : ℕ) → i < length bs → get_or bs i 0 < 256) → AreBytes bs
-bytes_by_place [] f = tt
-bytes_by_place (b ∷ bs) f = (f 0 (omega arith), bytes_by_place bs (λ i h. f (suc i) (omega (arith, h))))
-
 -- a block more
 pub block_read : (ds old new read : List ℕ) (blocks : List (List ℕ)) (k : ℕ) (d : List ℕ) → blocks ≡ first_chunks 64 (length ds / 64) ds → k < length blocks → length blocks ≡ length ds / 64
     → get_or blocks k d ≡ flat_map hex_byte read → AreBytes read → bytes_of_pairs (take (64 * k) ds) ≡ Some (take (32 * k) old) → take (32 * k + 32) new ≡ take (32 * k) old ++ read
