@@ -1,7 +1,6 @@
 //! Reading an input in turns: each fills a buffer, which is used before the next turn.
 ghost use Rattle.std.specs.Prelude.{◌≡◌, ◌+◌, ◌-◌, ◌<◌, ◌≤◌, ◌++◌, ◌⊎◌, ℕ, List, drop, length, take, true, false, vec_len, IfErr, IfOk, OnOk};
 ghost use Rattle.x7_words.specs.Input.{Asks, AsksAtMost, AsksOnce, AtEnd, Opens, InputsStay, TakesInput};
-ghost use Rattle.x7_words.specs.Word.{AreBytes};
 ghost use Rattle.x7_forms.specs.Event.{bad_input, event_of, no_memory, reading_failed, too_large};
 ghost use Rattle.x7_forms.specs.Known.{data_in};
 ghost use Rattle.x7_forms.specs.Turn.{Breaks, GivesFew, ReadsRest, IsLastAsked, Unopened, Unread, UnreadRest};
@@ -232,7 +231,6 @@ pub(crate) fn refused_at<'w>(name: &'w str, place: usize) -> Refusal<'w>
 pub fn data_start<'w>(name: &'w str, bytes: &[u8]) -> Result<usize, Refusal<'w>>
     ensures data { seen (λ start. drop start bytes.now) result ≡ data_in name.now bytes.now }
     ensures within { IfOk result (λ start. start ≤ length bytes.now) }
-    ensures fits { AreBytes bytes.now }
 {
     let place = match header_of(bytes) {
         Ok(head) => return Ok(head.size),

@@ -12,7 +12,7 @@ use crate::player::Player;
 use std::alloc::Global;
 use x7_forms::{Refusal, STREAM_LIMIT, Why, data_start, next_turn, open, skip_rest};
 use x7_part::Part;
-use x7_words::Inputs;
+use x7_words::{Inputs, are_bytes};
 
 /// The most bytes that one turn of a stream that is played reads: no fewer than the longest header has, so that the
 /// first turn judges it.
@@ -77,6 +77,7 @@ fn play_stream<'w, I: Inputs>(
     open(inputs, name)?;
     let first = next_turn(inputs, name, limit, piece)?;
     let left = limit - first.count;
+    are_bytes(&piece[..first.count]);
     match data_start(name, &piece[..first.count]) {
         Ok(start) => {
             if player.play(&piece[start..first.count]).is_err() {

@@ -90,10 +90,10 @@ returns-in_err-put_beginning g c = rw (handed_on c.from_residual-in_err-put_begi
     let on : (left : List ℕ) → stream_listing (taken ++ left) ≡ Ok (line ++ listing_of (content ++ left)) = λ left. listing left (λ l. let never : false ≡ true = sym c.if-beginning.false ∙ l in absurd cc) in
     let end : (r ≡ no_memory) ⊎ ((r ≡ writing_failed) × SinkFails (o.state c.args.out.now) (o.state c.put_beginning.new.out)) → Ended (with_inputs contents flash) C stream Full old now (Err r)
     = elim [
-      | inl h ↦ ends_same (with_inputs contents flash) C stream Full old now r no_memory h (out_of_memory contents flash C stream taken rest Full old now sel (prefix_so_far taken line content old now c.put_beginning.ensures.fits on c.in_err-put_beginning.ensures.prefix))
-      | inr h ↦ ends_same (with_inputs contents flash) C stream Full old now r writing_failed h.0 (prefix_failed contents flash C stream taken line content rest last Full old now sel f.end h.1 c.put_beginning.ensures.fits listing c.in_err-put_beginning.ensures.prefix)
+      | inl h ↦ ends_same (with_inputs contents flash) C stream Full old now r no_memory h (out_of_memory contents flash C stream taken rest Full old now sel (prefix_so_far taken line content old now c.are_bytes.ensures on c.in_err-put_beginning.ensures.prefix))
+      | inr h ↦ ends_same (with_inputs contents flash) C stream Full old now r writing_failed h.0 (prefix_failed contents flash C stream taken line content rest last Full old now sel f.end h.1 c.are_bytes.ensures listing c.in_err-put_beginning.ensures.prefix)
     ] in
-    let put = c.in_err-put_beginning.ensures.prefix [] (subst AreBytes (sym (append-nil _)) c.put_beginning.ensures.fits) in
+    let put = c.in_err-put_beginning.ensures.prefix [] (subst AreBytes (sym (append-nil _)) c.are_bytes.ensures) in
     let longer = longer_prefix old now _ put in
     let few : given ≤ longest_beginning = omega (arith, c.open.ensures.asks.given, c.read_beginning.ensures.short) in
     let near = unwritten_near contents stream rest old now _ given r (prefix_given contents stream given old now few longer) (prefix_near contents stream taken rest old now sel f.short longer) c.in_err-put_beginning.ensures.refused in
@@ -214,7 +214,7 @@ returns-in_err-put_turn g c = rw (handed_on c.from_residual-in_err-put_turn.resu
           let err : (left : List ℕ) → AreBytes (t.content ++ (piece ++ left)) → PutsPrefix (appended old t.line) (listing_of (t.content ++ (piece ++ left))) now
           = λ left fits. c.in_err-put_turn.ensures.prefix (appended old t.line) t.content left t.lists fits in
           ends_same (with_inputs contents flash) C stream Full old now r writing_failed h.0
-          (write_failed contents flash C stream taken piece piece c.loop-lister.lister (i.state c.next_turn.new.inputs).rest Full old (o.state c.loop-lister.out).written now refl sel risen t c.put_turn.ensures.fits err)
+          (write_failed contents flash C stream taken piece piece c.loop-lister.lister (i.state c.next_turn.new.inputs).rest Full old (o.state c.loop-lister.out).written now refl sel risen t c.are_bytes-2.ensures err)
     ] in
     let n = c.in_ok-turn.turn.count in
     let rest = (i.state c.next_turn.new.inputs).rest in
