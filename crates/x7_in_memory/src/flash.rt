@@ -9,9 +9,7 @@ use crate::calls::Calls;
 use crate::record::Record;
 use std::alloc::Global;
 use std::marker::Model;
-use x7_words::{
-    ERASED_BYTE, Failed, Flash, NoMemory, SECTOR_SIZE, SelectFault, are_bytes, raised,
-};
+use x7_words::{ERASED_BYTE, Failed, Flash, NoMemory, SECTOR_SIZE, SelectFault, are_bytes, raised};
 
 /// A write that is torn: the number of its call, and the pattern of the bits that stay old.
 #[derive(Clone, Copy, Drop)]

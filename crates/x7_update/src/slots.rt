@@ -10,7 +10,7 @@ use crate::fault::UpdateFault;
 use crate::layout::{
     FREE_SWITCH, OPEN_SWITCH, START_PLACE, SWITCH_SIZE, can_stand, first_slot, four_at, has_size,
 };
-use x7_packets::{FLASH_SLOT_SIZE, FLASH_SLOT_COUNT};
+use x7_packets::{FLASH_SLOT_COUNT, FLASH_SLOT_SIZE};
 use x7_words::{Flash, is_same, word_of};
 
 /// The slots that an update switches, by their numbers.
