@@ -10,18 +10,18 @@
 use Rattle.std.specs.Prelude.{ℕ, ◌+◌, ◌-◌, ◌*◌, ◌/◌, max, List, ◌++◌, length, replicate}
 use Rattle.std.specs.List.{repeat}
 use Rattle.x7_words.specs.Word.{bytes_of_word}
-use Rattle.x7_packets.specs.FlashSlot.{flash_slot, sector_bytes, flash_slot_count}
+use Rattle.x7_packets.specs.FlashSlot.{flash_slot, sector_size, flash_slot_count}
 use Rattle.x7_packets.specs.PacketWords.{dummy_word, sync_word}
 use Rattle.x7_words.specs.Flash.{erased_byte}
 pub use Rattle.x7_words.specs.Flash.{flash_limit}
 
 -- the first place at or after this one at which a sector begins
 abbrev pub sector_from : ℕ → ℕ
-sector_from place = (place + (sector_bytes - 1)) / sector_bytes * sector_bytes
+sector_from place = (place + (sector_size - 1)) / sector_size * sector_size
 
 -- where the update stands in an image, in bytes, after a golden stream of `golden` bytes
 abbrev pub place_after_golden : ℕ → ℕ
-place_after_golden golden = max (2 * sector_bytes) (sector_from (sector_bytes + golden))
+place_after_golden golden = max (2 * sector_size) (sector_from (sector_size + golden))
 
 -- a slot with this switch word and this start address
 unfoldable pub slot : ℕ → ℕ → List ℕ

@@ -1,13 +1,13 @@
 //! A flash image with a golden and an update stream.
 ghost use Rattle.std.specs.Prelude.{◌≡◌, ◌+◌, ◌-◌, ◌*◌, ◌/◌, ◌<◌, ◌≤◌, ◌++◌, ◌↔◌, length, Err, IfOk, IfSome, OnOk, IfNone};
-ghost use Rattle.x7_packets.specs.FlashSlot.{sector_bytes, flash_slot_bytes};
+ghost use Rattle.x7_packets.specs.FlashSlot.{sector_size, flash_slot_size};
 ghost use Rattle.x7_boot.specs.Image.{free_slots, filled_to, first_sector, flash_limit, image_of, image_size, sector_from, slot, place_after_golden};
 
 use crate::fault::ImageFault;
 use std::alloc::Global;
 use x7_packets::{DUMMY_WORD, FLASH_SLOT_COUNT, SYNC_WORD, flash_slot};
 use x7_part::Part;
-use x7_words::{ERASED_BYTE, FLASH_LIMIT, NoMemory, SECTOR_BYTES, bytes_of};
+use x7_words::{ERASED_BYTE, FLASH_LIMIT, NoMemory, SECTOR_SIZE, bytes_of};
 
 /// The first place at or after this one at which a sector begins.
 fn sector_from(place: u64) -> u64
@@ -15,7 +15,7 @@ fn sector_from(place: u64) -> u64
     ensures value { result ≡ sector_from place }
     ensures within { result ≤ flash_limit }
 {
-    (place + (SECTOR_BYTES - 1)) / SECTOR_BYTES * SECTOR_BYTES
+    (place + (SECTOR_SIZE - 1)) / SECTOR_SIZE * SECTOR_SIZE
 }
 
 /// What the lengths of a golden and an update stream fix of their image.
@@ -33,10 +33,10 @@ fn shape_of(golden: u64, update: u64) -> Option<ImageShape>
     ensures found { IfSome result (λ it. (it.update_place ≡ place_after_golden golden) × (it.size ≡ image_size golden update) × (it.size ≤ flash_limit)) }
     ensures too_long { IfNone result (flash_limit < image_size golden update) }
 {
-    if golden > FLASH_LIMIT - SECTOR_BYTES {
+    if golden > FLASH_LIMIT - SECTOR_SIZE {
         return None;
     }
-    let update_place = sector_from(SECTOR_BYTES + golden).max(2 * SECTOR_BYTES);
+    let update_place = sector_from(SECTOR_SIZE + golden).max(2 * SECTOR_SIZE);
     if update > FLASH_LIMIT - update_place {
         return None;
     }
@@ -58,7 +58,7 @@ fn slot(switch: u32, start: u32) -> [u8; 32]
 #[tactic(auto, unfolding(crate::specs::Image::free_slots, crate::specs::Image::slot))]
 fn free_slots(alloc: Global, start: u32) -> Result<Vec<u8>, NoMemory>
     ensures items { IfOk result (λ all. all.items ≡ free_slots start) }
-    ensures length { IfOk result (λ all. length all.items ≡ sector_bytes - flash_slot_bytes) }
+    ensures length { IfOk result (λ all. length all.items ≡ sector_size - flash_slot_size) }
 {
     Ok(slot(DUMMY_WORD, start).repeat(alloc, FLASH_SLOT_COUNT as usize - 1)?)
 }
@@ -66,7 +66,7 @@ fn free_slots(alloc: Global, start: u32) -> Result<Vec<u8>, NoMemory>
 /// Appends the first sector of an image, which leads to the start address.
 fn put_first_sector(alloc: Global, out: &mut Vec<u8>, start: u32) -> Result<(), NoMemory>
     ensures items { OnOk result (out.new.items ≡ out.old.items ++ first_sector start) }
-    ensures length { OnOk result (length out.new.items ≡ length out.old.items + sector_bytes) }
+    ensures length { OnOk result (length out.new.items ≡ length out.old.items + sector_size) }
 {
     let free = free_slots(alloc, start)?;
     out.extend_from_slice(&slot(SYNC_WORD, start))?;
@@ -94,7 +94,7 @@ fn image_of_size(
     update: &[u8],
     size: u64,
 ) -> Result<Vec<u8>, NoMemory>
-    requires golden { length golden.now + sector_bytes ≤ update_place }
+    requires golden { length golden.now + sector_size ≤ update_place }
     requires update { update_place + length update.now ≤ size }
     ensures { IfOk result (λ all. all.items ≡ filled_to size (filled_to update_place (first_sector start ++ golden.now) ++ update.now)) }
 {

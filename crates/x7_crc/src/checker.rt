@@ -11,7 +11,7 @@ use crate::check::{fold, fold_slice};
 use crate::written::{check_after_write, executed};
 use std::marker::Model;
 use x7_packets::{Cut, Cutter};
-use x7_regs::{COMMAND_BITS, Reg, reg_of};
+use x7_regs::{Reg, command_code_of, reg_of};
 use x7_words::word_of;
 
 /// What the check of further writes goes on from: the check so far, and the command that CMD holds, five bits.
@@ -26,7 +26,7 @@ fn held_after(held: u8, reg: Reg, word: u32) -> u8
     ensures { (h : History) (place : ℕ) → held ≡ command_held h → result ≡ command_held (entry (Write (number_of reg) word) place ∷ h) }
 {
     match reg {
-        Reg::Cmd => (word & COMMAND_BITS) as u8,
+        Reg::Cmd => command_code_of(word) as u8,
         _ => held,
     }
 }

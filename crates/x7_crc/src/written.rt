@@ -6,7 +6,7 @@ ghost use Rattle.x7_packets.specs.History.{entry, executed_by, History, is_comma
 ghost use Rattle.x7_crc.specs.RunningCheck.{executed_after, running_check};
 
 use crate::check::fold;
-use x7_regs::{COMMAND_BITS, Command, Reg};
+use x7_regs::{Command, Reg, command_code_of};
 
 /// The command that a written word executes, where CMD holds this one: a write to FAR executes it again, save DESYNC
 /// and IPROG (this project's choice).
@@ -14,7 +14,7 @@ pub fn executed(held: u8, reg: Reg, word: u32) -> Option<u8>
     ensures { result ≡ executed_by held (Write (number_of reg) word) }
 {
     match reg {
-        Reg::Cmd => Some((word & COMMAND_BITS) as u8),
+        Reg::Cmd => Some(command_code_of(word) as u8),
         Reg::Far if is_executed_again(held) => Some(held),
         _ => None,
     }

@@ -12,13 +12,13 @@ abbrev pub record_room : ℕ
 record_room = 64
 
 -- how many bytes a record leads back at most
-abbrev pub record_bytes : ℕ
-record_bytes = 4
+abbrev pub record_reach : ℕ
+record_reach = 4
 
 -- how many bytes before a position records lead back at least, where all of them are in use: four bytes for each but
 -- the newest, which may be one byte before the position
 abbrev pub reach : ℕ
-reach = (record_room - 1) * record_bytes + 1
+reach = (record_room - 1) * record_reach + 1
 
 -- the room for records, of which the first are in use
 pub record JournalState : Type 0 where
@@ -42,7 +42,7 @@ pub record IsRecord (part : PartData) (stream : List ℕ) (u : UndoState) : Type
 -- each record is at most four bytes before the next newer one, and the newest one at most four before position `at`
 abbrev pub LeadBack : PartData → List ℕ → ℕ → List UndoState → Type 0
 LeadBack part stream at [] = Unit {0}
-LeadBack part stream at (u ∷ older) = IsRecord part stream u × (u.taken ≤ at) × (at ≤ u.taken + record_bytes) × LeadBack part stream u.taken older
+LeadBack part stream at (u ∷ older) = IsRecord part stream u × (u.taken ≤ at) × (at ≤ u.taken + record_reach) × LeadBack part stream u.taken older
 
 -- the position of the oldest record, and `at` where there is none
 abbrev pub oldest_by : ℕ → List UndoState → ℕ
@@ -88,7 +88,7 @@ pub record MoveCosts (old new : SessionState) : Type 0 where
   pub never_less : old.fed ≤ new.fed
   pub stays_fed : new.at ≡ old.at → new.fed ≡ old.fed
   pub forward_fed : old.at ≤ new.at → new.fed ≤ old.fed + (new.at - old.at)
-  pub near_fed : old.oldest ≤ new.at → new.at < old.at → new.fed ≤ old.fed + (record_bytes - 1)
+  pub near_fed : old.oldest ≤ new.at → new.at < old.at → new.fed ≤ old.fed + (record_reach - 1)
   pub far_fed : new.at < old.oldest → new.fed ≤ old.fed + new.at
 
 -- a session moved to position n; how many bytes were fed and how far records lead back is as `MoveCosts` says

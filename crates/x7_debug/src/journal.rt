@@ -2,7 +2,7 @@
 ghost use Rattle.std.specs.Prelude.{◌≡◌, ◌≤◌, ◌<◌, ◌+◌, ◌-◌, ◌^◌, ◌∷◌, ℕ, List, length, take, IfOk};
 ghost use Rattle.x7_engine.specs.Standing.{NoWordDue, fed_of};
 ghost use Rattle.x7_engine.specs.Undo.{SavesDevice, UndoState};
-ghost use Rattle.x7_debug.specs.Journal.{AreRecordsOf, IsFedAsTaken, IsOnStream, KeepsOldest, oldest_by, record_bytes, record_room, records_of};
+ghost use Rattle.x7_debug.specs.Journal.{AreRecordsOf, IsFedAsTaken, IsOnStream, KeepsOldest, oldest_by, record_reach, record_room, records_of};
 ghost use Rattle.x7_debug.specs.Session.{TakesPiece};
 
 use circular_buffer::HeapCircularBuffer;
@@ -72,7 +72,7 @@ impl Journal {
     /// Feeds a piece of up to four bytes to a device, up to what stops it, with a record. Where all records are in use,
     /// the oldest one is used again.
     pub(crate) fn feed(&mut self, device: &mut Device, piece: &[u8])
-        requires one_record { length piece.now ≤ record_bytes }
+        requires one_record { length piece.now ≤ record_reach }
         requires fits { device.old.taken + length piece.now ≤ 2 ^ 63 }
         requires no_word_due { NoWordDue device.old }
         requires records { AreRecordsOf device.old.part self.old }
@@ -95,7 +95,7 @@ impl Journal {
         requires records { AreRecordsOf device.old.part self.old }
         requires on_stream { (stream : List ℕ) × IsOnStream device.old.part stream device.old self.old }
         ensures back { (stream : List ℕ) → IsOnStream device.old.part stream device.old self.old → IsOnStream device.new.part stream device.new self.new }
-        ensures one_record { (stream : List ℕ) → IsOnStream device.old.part stream device.old self.old → device.new.taken ≤ device.old.taken × device.old.taken ≤ device.new.taken + record_bytes }
+        ensures one_record { (stream : List ℕ) → IsOnStream device.old.part stream device.old self.old → device.new.taken ≤ device.old.taken × device.old.taken ≤ device.new.taken + record_reach }
         ensures fed { fed_of device.new ≡ fed_of device.old }
         ensures oldest { (stream : List ℕ) → IsOnStream device.old.part stream device.old self.old → KeepsOldest device.old self.old device.new self.new }
         ensures room_for_one { (stream : List ℕ) → IsOnStream device.old.part stream device.old self.old → length (records_of self.new) < record_room }

@@ -1,7 +1,7 @@
 //! A device is brought from one position of a stream to another one, forwards by pieces and backwards by records.
 ghost use Rattle.std.specs.Prelude.{◌≡◌, ◌≤◌, ◌<◌, ◌+◌, ◌-◌, ◌^◌, length};
 ghost use Rattle.x7_engine.specs.Standing.{fed_of};
-ghost use Rattle.x7_debug.specs.Journal.{ComesToPosition, MoveCosts, HasRecorded, IsFedAsTaken, IsFedAtMost, IsOnStream, KeepsOldest, oldest_by, reach, record_bytes, record_room, records_of};
+ghost use Rattle.x7_debug.specs.Journal.{ComesToPosition, MoveCosts, HasRecorded, IsFedAsTaken, IsFedAtMost, IsOnStream, KeepsOldest, oldest_by, reach, record_reach, record_room, records_of};
 ghost use Rattle.x7_debug.specs.SessionFields.{session_of};
 ghost use Rattle.x7_debug.specs.Moving.{ComesForward, ComesForwardRecorded, MayMove, MayMoveBack, MayMoveForward};
 ghost use Rattle.x7_debug.specs.Position.{last_of};
@@ -11,15 +11,15 @@ use crate::journal::{Journal, RECORD_ROOM};
 use x7_engine::{Device, ON_THE_BENCH, ReadBuf};
 
 /// How many bytes a record leads back at most.
-pub(crate) const RECORD_BYTES: u64 = 4;
+pub(crate) const RECORD_REACH: u64 = 4;
 
 /// How many bytes before a position records lead back at least, where all of them are in use: four bytes for each but
 /// the newest, which may be one byte before the position.
-pub(crate) const REACH: u64 = (RECORD_ROOM as u64 - 1) * RECORD_BYTES + 1;
+pub(crate) const REACH: u64 = (RECORD_ROOM as u64 - 1) * RECORD_REACH + 1;
 
 /// How many bytes before its end a move forward makes records, one each four bytes: as many as there is room for, so
 /// that a move back by a multiple of four bytes feeds none.
-const RECORDED_BYTES: u64 = RECORD_ROOM as u64 * RECORD_BYTES;
+const RECORDED_SIZE: u64 = RECORD_ROOM as u64 * RECORD_REACH;
 
 /// Feeds a piece to a device, up to what stops it. Words read out are dropped.
 pub(crate) fn feed_piece(device: &mut Device, piece: &[u8])
@@ -46,7 +46,7 @@ pub(crate) fn feed_to(device: &mut Device, stream: &[u8], to: u64)
 /// Feeds a device up to four bytes of the stream, with a record of it before them.
 pub(crate) fn feed_recorded(device: &mut Device, journal: &mut Journal, stream: &[u8], to: u64)
     requires may_move { MayMoveForward stream.now device.old journal.old to }
-    requires one_record { to ≤ device.old.taken + record_bytes }
+    requires one_record { to ≤ device.old.taken + record_reach }
     ensures at_position { ComesForward stream.now device.old device.new journal.new to }
     ensures recorded { HasRecorded device.old.taken journal.old journal.new }
 {
@@ -59,8 +59,8 @@ fn go_by_words(device: &mut Device, journal: &mut Journal, stream: &[u8], to: u6
     requires { MayMoveForward stream.now device.old journal.old to }
     ensures at_position { ComesForwardRecorded stream.now device.old device.new journal.new to }
 {
-    while to - device.taken() >= RECORD_BYTES {
-        let next = device.taken() + RECORD_BYTES;
+    while to - device.taken() >= RECORD_REACH {
+        let next = device.taken() + RECORD_REACH;
         feed_recorded(device, journal, stream, next);
     }
     if device.taken() < to {
@@ -82,8 +82,8 @@ fn go_forward(device: &mut Device, journal: &mut Journal, stream: &[u8], to: u64
     requires { MayMoveForward stream.now device.old journal.old to }
     ensures at_position { ComesForwardRecorded stream.now device.old device.new journal.new to }
 {
-    if to - device.taken() > RECORDED_BYTES {
-        leap(device, journal, stream, to - RECORDED_BYTES);
+    if to - device.taken() > RECORDED_SIZE {
+        leap(device, journal, stream, to - RECORDED_SIZE);
         return go_by_words(device, journal, stream, to);
     }
     go_by_words(device, journal, stream, to);
@@ -115,7 +115,7 @@ fn take_back(device: &mut Device, journal: &mut Journal, stream: &[u8], to: u64)
     requires { MayMoveBack stream.now device.old journal.old to }
     ensures at_position { ComesToPosition stream.now device.old device.new journal.new device.new.taken }
     ensures within { device.new.taken ≤ to }
-    ensures one_record { to < device.new.taken + record_bytes }
+    ensures one_record { to < device.new.taken + record_reach }
     ensures fed { fed_of device.new ≡ fed_of device.old }
     ensures room_for_one { length (records_of journal.new) < record_room }
     ensures oldest { KeepsOldest device.old journal.old device.new journal.new }
@@ -129,7 +129,7 @@ fn take_back(device: &mut Device, journal: &mut Journal, stream: &[u8], to: u64)
 fn go_back(device: &mut Device, journal: &mut Journal, stream: &[u8], to: u64)
     requires { MayMoveBack stream.now device.old journal.old to }
     ensures at_position { ComesToPosition stream.now device.old device.new journal.new to }
-    ensures fed { IsFedAtMost device.old device.new (record_bytes - 1) }
+    ensures fed { IsFedAtMost device.old device.new (record_reach - 1) }
     ensures oldest { KeepsOldest device.old journal.old device.new journal.new }
 {
     take_back(device, journal, stream, to);

@@ -1,14 +1,14 @@
 //! A device is brought forward to the first position where a stop holds.
 ghost use Rattle.std.specs.Prelude.{◌≡◌, ◌≤◌, ◌<◌, ◌+◌, ◌-◌, ◌∷◌, ℕ, List, true, false, max};
 ghost use Rattle.x7_engine.specs.Undo.{UndoState};
-ghost use Rattle.x7_debug.specs.Journal.{ComesToPosition, MoveCosts, HasRecorded, reach, record_bytes, records_of};
+ghost use Rattle.x7_debug.specs.Journal.{ComesToPosition, MoveCosts, HasRecorded, reach, record_reach, records_of};
 ghost use Rattle.x7_debug.specs.SessionFields.{SessionFits, session_of};
 ghost use Rattle.x7_debug.specs.Moving.{ComesForward, ComesForwardRecorded, IsBeforeLast, MayMove, MayMoveForward};
 ghost use Rattle.x7_debug.specs.Position.{holds_at, holds_in, until_of};
 ghost use Rattle.x7_debug.specs.declared.order.Stop.TheVariants as to;
 
 use crate::journal::Journal;
-use crate::moving::{REACH, RECORD_BYTES, feed_recorded, feed_to, leap, move_to};
+use crate::moving::{REACH, RECORD_REACH, feed_recorded, feed_to, leap, move_to};
 use crate::order::Stop;
 use crate::outline::Outline;
 use x7_engine::{Device, End};
@@ -31,7 +31,7 @@ fn holds_in(stop: Stop, end: End, phase: u8) -> bool
 /// four bytes after the newest record. Says whether the stop holds there.
 fn seek(device: &mut Device, journal: &Journal, stream: &[u8], bound: u64, stop: Stop) -> bool
     requires may_move { MayMoveForward stream.now device.old journal.now bound }
-    requires newest_record { (u : UndoState) × (older : List UndoState) × (records_of journal.now ≡ u ∷ older) × (bound ≤ u.taken + record_bytes) }
+    requires newest_record { (u : UndoState) × (older : List UndoState) × (records_of journal.now ≡ u ∷ older) × (bound ≤ u.taken + record_reach) }
     ensures at_position { ComesForward stream.now device.old device.new journal.now device.new.taken }
     ensures forward { device.old.taken ≤ device.new.taken × device.new.taken ≤ bound }
     ensures found { result ≡ true → holds_at device.old.part stream.now stop device.new.taken ≡ true }
@@ -63,15 +63,15 @@ fn seek_word(
     requires { IsBeforeLast stream.now device.old journal.old last }
     ensures at_position { ComesForward stream.now device.old device.new journal.new device.new.taken }
     ensures recorded { HasRecorded device.old.taken journal.old journal.new }
-    ensures forward { device.old.taken < device.new.taken × device.new.taken ≤ last × device.new.taken ≤ device.old.taken + record_bytes }
-    ensures whole_record { result ≡ false → device.new.taken < last → device.new.taken ≡ device.old.taken + record_bytes }
+    ensures forward { device.old.taken < device.new.taken × device.new.taken ≤ last × device.new.taken ≤ device.old.taken + record_reach }
+    ensures whole_record { result ≡ false → device.new.taken < last → device.new.taken ≡ device.old.taken + record_reach }
     ensures found { result ≡ true → holds_at device.old.part stream.now stop device.new.taken ≡ true }
     ensures none_before { (k : ℕ) → device.old.taken < k → k < device.new.taken → holds_at device.old.part stream.now stop k ≡ false }
     ensures none_at_end { result ≡ false → holds_at device.old.part stream.now stop device.new.taken ≡ false }
 {
     let from = device.taken();
     feed_recorded(device, journal, stream, from + 1);
-    seek(device, journal, stream, last.min(from + RECORD_BYTES), stop)
+    seek(device, journal, stream, last.min(from + RECORD_REACH), stop)
 }
 
 /// Brings a device forward, byte by byte, to the first later position where the stop holds, or else to the last one.

@@ -9,7 +9,7 @@ use Rattle.x7_packets.specs.declared.cutter.Cut.TheVariants.{Body, Head, Need, S
 use Rattle.x7_packets.specs.Mode.{Mode}
 use Rattle.x7_packets.specs.declared.header.Step.{Step}
 use Rattle.x7_packets.specs.declared.header.Step.TheVariants as step
-use Rattle.x7_packets.specs.Cutter.{AtPlace, between, CutterState, CutterStandsFor, IsLent, IsRun, LongerSession, AfterRun, run_bytes, run_steps, syncs_due}
+use Rattle.x7_packets.specs.Cutter.{AtPlace, between, CutterState, CutterStandsFor, IsLent, IsRun, LongerSession, AfterRun, run_bytes, run_steps, syncs_to_give}
 use Rattle.x7_packets.specs.History.{History, Placed, entered_all, history_of, next_word, until}
 use Rattle.x7_packets.specs.Packet.{Packet, payload_steps}
 use Rattle.x7_packets.specs.Reading.{IsReading, Place, Searching, Session, Synced, tail_of}
@@ -27,9 +27,9 @@ use Rattle.x7_engine.proofs.FrameLemmas.{length_left}
 use Rattle.x7_engine.proofs.TurnLemmas.{history_until, no_rest, stop_until}
 
 -- at most one sync word is still to be given
-pub one_sync : (mode : Mode) → syncs_due mode ≤ 1
+pub one_sync : (mode : Mode) → syncs_to_give mode ≤ 1
 one_sync Mode.Searching = omega arith
-one_sync Mode.Due = omega arith
+one_sync Mode.SyncFound = omega arith
 one_sync Mode.Synced = omega arith
 
 -- the words given, where all that is read out are these and some more that are due
@@ -64,7 +64,7 @@ holds_run c n (Body r bs) left count cut k e l = omega (arith, ap length e, leng
 -- nothing of a lent run is kept before it
 no_tail : (c : CutterState) (m : Mode) (gap tail : List ℕ) (packets : List Packet) → AtPlace c m (Synced gap packets tail) → c.kept ≡ [] → tail ≡ []
 no_tail c Mode.Searching gap tail packets a e = absurd a
-no_tail c Mode.Due gap tail packets a e = a.1
+no_tail c Mode.SyncFound gap tail packets a e = a.1
 no_tail c Mode.Synced gap tail packets a e = a.1 ∙ e
 
 -- a session's words end where the bytes do

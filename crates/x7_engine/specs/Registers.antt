@@ -8,7 +8,7 @@ use Rattle.x7_crc.specs.RunningCheck.{running_check}
 use Rattle.x7_regs.specs.declared.command.Command.TheVariants.{Aghigh, Iprog, Lfrm, Rcrc, Shutdown}
 use Rattle.x7_regs.specs.declared.register.Reg.{Reg}
 use Rattle.x7_regs.specs.declared.register.Reg.TheVariants.{Cbc, Cmd, Cor0, Crc, Ctl0, Ctl1, Far, Fdri, Idcode, Lout, Mfwr, Timer}
-use Rattle.x7_regs.specs.Command.{code_of}
+use Rattle.x7_regs.specs.Command.{code_of, command_code_of}
 use Rattle.x7_regs.specs.Register.{number_of}
 use Rattle.x7_flow.specs.Controls.{mask_held}
 use Rattle.x7_engine.specs.declared.kept.Kept.{Kept}
@@ -77,7 +77,7 @@ has_ghigh (e ∷ h) = has_ghigh_after (executed_by (command_held h) e.access) (t
 
 -- the access writes this command to CMD
 abbrev pub writes_command : ℕ → Access → Bool
-writes_command command (Write register w) = register == number_of Cmd && w % 2 ^ 5 == command
+writes_command command (Write register w) = register == number_of Cmd && command_code_of w == command
 writes_command command _ = false
 
 -- an IPROG command was written

@@ -6,7 +6,7 @@ use Rattle.x7_crc.specs.RunningCheck.{running_check}
 use Rattle.x7_part.specs.Part.{PartData}
 use Rattle.x7_regs.specs.declared.command.Command.TheVariants as command
 use Rattle.x7_regs.specs.declared.register.Reg.TheVariants as reg
-use Rattle.x7_regs.specs.Command.{code_of}
+use Rattle.x7_regs.specs.Command.{code_of, command_code_of}
 use Rattle.x7_regs.specs.Control.{has_dec}
 use Rattle.x7_regs.specs.Register.{number_of}
 use Rattle.x7_pipeline.specs.declared.fault.RunFault.{RunFault}
@@ -37,7 +37,7 @@ why_by_write part kept h register w =
     if asks_decryption h register w then Some (stop.Fault fault.Encrypted) else
     if register == number_of reg.Idcode && not (same_idcode part.idcode w) then Some (stop.Fault (fault.Id part.idcode w)) else
     if needs_match h register w && not (has_idcode part.idcode h) then Some (stop.Fault (fault.Id part.idcode 0)) else
-    if register == number_of reg.Cmd && (w % 2 ^ 5 == code_of command.Iprog && not (is_fallback kept.kind)) then Some stop.Iprog else None
+    if register == number_of reg.Cmd && (command_code_of w == code_of command.Iprog && not (is_fallback kept.kind)) then Some stop.Iprog else None
 
 -- why an access after this history stops a device, where it does, the faults of frames left out
 abbrev pub why_by_access : PartData → Kept → History → Access → Option StopCause

@@ -12,7 +12,7 @@ ghost use Rattle.x7_engine.specs.Registers.{clears_check_by, has_ghigh_after, is
 
 use crate::target::PlainNumber;
 use x7_crc::{check_after_write, fold, fold_slice, is_command};
-use x7_regs::{COMMAND_BITS, Command, Reg};
+use x7_regs::{Command, Reg, command_code_of};
 
 /// The bits of an idcode but its version, bits 31 to 28, which isn't compared (this project's choice).
 const VERSIONLESS: u32 = 0x0FFF_FFFF;
@@ -78,7 +78,7 @@ fn wrote_iprog_after(wrote: bool, reg: Reg, word: u32) -> bool
     ensures { result ≡ (writes_command (code_of Command.Iprog) (word_to reg word) || wrote) }
 {
     match reg {
-        Reg::Cmd => word & COMMAND_BITS == Command::Iprog.code() || wrote,
+        Reg::Cmd => command_code_of(word) == Command::Iprog.code() || wrote,
         _ => wrote,
     }
 }

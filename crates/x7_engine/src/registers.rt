@@ -33,7 +33,7 @@ use x7_flow::{FrameSettings, Frames};
 use x7_packets::{Cut, Step};
 use x7_part::Part;
 use x7_pipeline::RunFault;
-use x7_regs::{Attempt, COMMAND_BITS, Command, Kind, Reg, has_dec};
+use x7_regs::{Attempt, Command, Kind, Reg, command_code_of, has_dec};
 use x7_words::word_of;
 
 /// The last byte whose access counts, where `taken` bytes are taken: all do but one at which the watchdog fires, whose
@@ -152,7 +152,7 @@ impl Registers {
     pub(crate) fn command(&self) -> u8
         ensures { (part : PartData) (kept : KeptData) (h : History) (n : ℕ) → RegistersStandFor part kept (registers_in self.now) h n → result ≡ command_held h }
     {
-        (self.words.held(Reg::Cmd) & COMMAND_BITS) as u8
+        command_code_of(self.words.held(Reg::Cmd)) as u8
     }
 
     /// What decides whether an access concerns frames.

@@ -18,7 +18,9 @@ use crate::fault::Fault;
 use crate::registers::Registers;
 use crate::stop::StopCause;
 use x7_part::Part;
-use x7_regs::{Attempt, COMMAND_BITS, Cause, Kind, Reg, StatParts, boot_word, reg_of, stat_word};
+use x7_regs::{
+    Attempt, Cause, Kind, Reg, StatParts, boot_word, command_code_of, reg_of, stat_word,
+};
 
 /// Whether the stop is the fault `Crc`.
 fn is_crc_fault(stop: Option<StopCause>) -> bool
@@ -127,7 +129,7 @@ impl Registers {
             Reg::Far     => self.far(part),
             Reg::Fdri    => 0,
             Reg::Fdro    => 0,
-            Reg::Cmd     => self.words.held(Reg::Cmd) & COMMAND_BITS,
+            Reg::Cmd     => command_code_of(self.words.held(Reg::Cmd)),
             Reg::Ctl0    => self.controls.ctl0,
             Reg::Mask    => self.words.held(Reg::Mask),
             Reg::Stat    => self.stat(part),

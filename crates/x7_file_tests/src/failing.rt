@@ -7,7 +7,7 @@ use std::rt::Files;
 use std::test::Fail;
 use std::{fs, io};
 use x7_files::FileFlash;
-use x7_words::{Flash, SECTOR_BYTES};
+use x7_words::{Flash, SECTOR_SIZE};
 
 /// What fails.
 #[derive(Clone, Copy, PartialEq, Eq)]
@@ -156,7 +156,7 @@ fn written<F: Flash>(flash: &mut F, name: &str) -> Option<(bool, bool, Option<[u
     let Ok(()) = flash.attach(name) else {
         return None;
     };
-    if flash.size() != SECTOR_BYTES {
+    if flash.size() != SECTOR_SIZE {
         return None;
     }
     let is_erased = flash.erase(0).is_ok();
@@ -179,7 +179,7 @@ fn a_write_of_a_file_fails_where_a_call_fails(rt: HostRuntime) -> Result<(), Fai
     ];
     let alloc = rt.alloc();
     let mut bytes = Vec::new(alloc);
-    bytes.resize(SECTOR_BYTES as usize, 0x3C)?;
+    bytes.resize(SECTOR_SIZE as usize, 0x3C)?;
     let path = path_of(&rt, "failing")?;
     for (failing, erased, programmed, read) in cases {
         fs::write(&rt, path.as_path(), bytes.as_slice())?;

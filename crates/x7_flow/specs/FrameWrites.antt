@@ -3,7 +3,7 @@ use Rattle.std.specs.Prelude.{◌≡◌, ℕ, ◌<◌, ◌%◌, ◌^◌, true, L
 use Rattle.std.specs.List.{AllByRecursion, flat_map}
 use Rattle.x7_packets.specs.History.{History, command_held}
 use Rattle.x7_regs.specs.declared.command.Command.TheVariants as command
-use Rattle.x7_regs.specs.Command.{code_of}
+use Rattle.x7_regs.specs.Command.{code_of, command_code_of}
 use Rattle.x7_part.specs.Part.{PartData, frame_words}
 use Rattle.x7_memory.specs.Plan.{PlanRow}
 use Rattle.x7_pipeline.specs.Copies.{copied}
@@ -60,7 +60,7 @@ pub record RunHolds (part : PartData) (h : History) (frames : List (List ℕ)) :
 pub record MfwAfter (part : PartData) (h : History) (word : ℕ) (frames : List (List ℕ)) (last : List ℕ) : Type 0 where
   pub run : RunHolds part h (frames ++ last ∷ [])
   pub wcfg : command_held h ≡ code_of command.Wcfg
-  pub mfw : word % 2 ^ 5 ≡ code_of command.Mfw
+  pub mfw : command_code_of word ≡ code_of command.Mfw
 
 -- words of MFWR after a FAR load: the word of FAR and its place, the place where the words of MFWR begin, the first of
 -- them and the others, and the frame that they put

@@ -5,7 +5,7 @@ use Rattle.x7_part.specs.Part.{PartData}
 use Rattle.x7_packets.specs.History.{Access, Write, History, command_held, written}
 use Rattle.x7_regs.specs.declared.command.Command.TheVariants as command
 use Rattle.x7_regs.specs.declared.register.Reg.TheVariants as reg
-use Rattle.x7_regs.specs.Command.{code_of}
+use Rattle.x7_regs.specs.Command.{code_of, command_code_of}
 use Rattle.x7_regs.specs.Register.{number_of}
 use Rattle.x7_flow.specs.declared.settings.FrameSettings.{FrameSettings}
 use Rattle.x7_regs.specs.Control.{forbids_reading, forbids_writing}
@@ -30,7 +30,7 @@ pub record AreSettingsAfter (idcode : ℕ) (s : FrameSettings) (h : History) : T
 
 -- the code of the command that CMD holds after an access
 abbrev pub command_code_after : Access → ℕ → ℕ
-command_code_after (Write register w) old = if register == number_of reg.Cmd then w % 2 ^ 5 else old
+command_code_after (Write register w) old = if register == number_of reg.Cmd then command_code_of w else old
 command_code_after _ old = old
 
 -- the settings after one access more

@@ -9,7 +9,7 @@ use Rattle.x7_words.specs.Word.{AreBytes}
 use Rattle.x7_words.proofs.CountLemmas.{risen_from}
 use Rattle.x7_words.proofs.InputLemmas.{preceded_preceded}
 use Rattle.x7_words.proofs.ListLemmas.{shorter_prefix}
-use Rattle.x7_header.specs.Header.{Contents, EndsInHeader, contents_in_order, fixed_bytes, HasOtherLetter, HasOtherLetterAt, HaveHeader, fields_bytes, header_bytes, header_fields, longest_header}
+use Rattle.x7_header.specs.Header.{Contents, EndsInHeader, contents_in_order, fixed_bytes, HasOtherLetter, HasOtherLetterAt, FitHeader, fields_bytes, header_bytes, header_fields, longest_header}
 use Rattle.x7_header.specs.Reading.{HeaderWaits, header_at}
 use Rattle.x7_header.specs.declared.fault.HeaderFault.{HeaderFault}
 use Rattle.x7_header.specs.declared.fault.HeaderFault.TheVariants as header
@@ -21,7 +21,7 @@ use Rattle.x7_listing.specs.StreamListing.{listing_by, stream_listing}
 use Rattle.x7_listing.proofs.BitLemmas.{header_limit}
 use Rattle.x7_forms.specs.Event.{Event, reading_failed, too_large}
 use Rattle.x7_forms.specs.Known.{stream_limit}
-use Rattle.x7_forms.specs.Turn.{DataBeginAt, ReadsBeginning, HoldsFew, IsBeginning, IsRefused, NoLetterGiven, Reads, RefusedAt, UnreadBeginning, Unread, turn_bytes}
+use Rattle.x7_forms.specs.Turn.{DataBeginAt, ReadsBeginning, HoldsFew, IsBeginning, IsRefused, NoLetterGiven, Reads, RefusedAt, UnreadBeginning, Unread, turn_size}
 use Rattle.x7_forms.proofs.HeadLemmas.{gives_self}
 use Rattle.x7_forms.proofs.ReadLemmas.{reads_as, reads_on}
 
@@ -30,7 +30,7 @@ pub raw_listed : (bytes : List ℕ) → header_at bytes ≡ Err header.Raw → s
 raw_listed bytes e = ap (listing_by bytes) e
 
 -- a header that was read, whatever follows
-pub headed : (bytes line : List ℕ) (x : Contents) (n : ℕ) (last : Bool) → HaveHeader x → bytes ≡ header_bytes x ++ drop n bytes → n ≡ length (header_bytes x) → line ≡ bit_text x ++ 10 ∷ [] → IsBeginning bytes last line n
+pub headed : (bytes line : List ℕ) (x : Contents) (n : ℕ) (last : Bool) → FitHeader x → bytes ≡ header_bytes x ++ drop n bytes → n ≡ length (header_bytes x) → line ≡ bit_text x ++ 10 ∷ [] → IsBeginning bytes last line n
 headed bytes line x n last h e size is = λ rest more.
     let whole : bytes ++ rest ≡ header_bytes x ++ (drop n bytes ++ rest) = ap (λ b. b ++ rest) e ∙ append_assoc (header_bytes x) (drop n bytes) rest in
     let read : header_at (header_bytes x ++ (drop n bytes ++ rest)) ≡ Ok (x, length (header_bytes x)) = header_again x (drop n bytes ++ rest) h in
@@ -83,7 +83,7 @@ cut_refused bytes last place e h = λ rest more. ap (λ r. stream_listing (bytes
 
 -- bytes that end inside a header are few
 pub few_in_header : (bytes : List ℕ) → EndsInHeader bytes → length bytes ≤ longest_header
-few_in_header bytes h = omega (arith, header_limit h.header h.have_header, ap length h.goes_on, length-append bytes (h.next ∷ h.missing))
+few_in_header bytes h = omega (arith, header_limit h.header h.fit_header, ap length h.goes_on, length-append bytes (h.next ∷ h.missing))
 
 -- a turn more of a stream's beginning
 pub joined_taken : (old mid new : Option (List ℕ)) (a b c d : List ℕ) → old ≡ preceded a mid → mid ≡ preceded b new → c ≡ a ++ b → d ≡ c → old ≡ preceded d new
@@ -106,7 +106,7 @@ judged_before old piece prefix more n false l w p k e m j =
     let long : length s.0 < n = omega (arith, k, m, ap length e, ap length s.1, length-append old piece, length-append prefix more, length-append old s.0) in
     j [] (length (old ++ s.0)) (ap header_at (append-nil prefix ∙ s.1) ∙ w s.0 long)
 
-header_judges : (x : Contents) → HaveHeader x → Judge (header_bytes x)
+header_judges : (x : Contents) → FitHeader x → Judge (header_bytes x)
 header_judges x h rest place e = ok_not_err (x, length (header_bytes x)) (header.Cut place) (sym (header_again x rest h) ∙ e)
 
 letter_judges : (bytes : List ℕ) (place : ℕ) → HasOtherLetterAt bytes place → Judge bytes
@@ -281,7 +281,7 @@ piece_of (x ∷ old) mid piece all bytes n a b c e s f h g = record {
 
 -- the beginning that was read
 pub beginning_read : (old mid piece bytes line : List ℕ) (n start : ℕ) (last : Bool) (s0 s1 s2 : InputsState) → IsPiece old piece bytes n → mid ≡ old ++ piece → bytes ≡ mid → Reads s0 old s1 → TakesInput s1 piece s2 → s2.asked ≡ s1.asked → InputsStay s1 s2 → (last ≡ true → AtEnd s2.rest) → (last ≡ false → s2.ends ≤ s0.ends)
-    → length old ≤ longest_header → length piece ≤ turn_bytes → (start ≤ length bytes) × IsBeginning bytes last line start → DataBeginAt bytes start → ReadsBeginning mid line start last s0 s2
+    → length old ≤ longest_header → length piece ≤ turn_size → (start ≤ length bytes) × IsBeginning bytes last line start → DataBeginAt bytes start → ReadsBeginning mid line start last s0 s2
 beginning_read old mid piece bytes line n start last s0 s1 s2 p a b r t q k e more few short j begin =
     subst (λ (m : List ℕ). ReadsBeginning m line start last s0 s2) b (record {
       reads = reads_as s0 s2 bytes (old ++ piece) (b ∙ a) (reads_on s0 s1 s2 old piece r t q k);

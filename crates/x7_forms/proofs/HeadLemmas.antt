@@ -23,7 +23,7 @@ read_more bytes more x fits e =
     let p = header_takes bytes x fits e in
     let after = drop x.1 bytes in
     let whole : bytes ++ more ≡ header_bytes x.0 ++ (after ++ more) = ap (λ b. b ++ more) p.prefix ∙ append_assoc (header_bytes x.0) after more in
-    let again : header_at (bytes ++ more) ≡ Ok (x.0, length (header_bytes x.0)) = ap header_at whole ∙ header_again x.0 (after ++ more) p.have_header in
+    let again : header_at (bytes ++ more) ≡ Ok (x.0, length (header_bytes x.0)) = ap header_at whole ∙ header_again x.0 (after ++ more) p.fit_header in
     let size : x.1 ≤ length bytes = omega (arith, p.size, ap length p.prefix, length-append (header_bytes x.0) after) in
     (again ∙ ap (λ n. Ok (x.0, n)) (sym p.size), drop-append-le x.1 bytes more size)
 
@@ -79,7 +79,7 @@ cut_short bytes place fits e =
     let ends : EndsInHeader bytes = ((is_cut (λ (x : Contents × ℕ). x) (header_at bytes) bytes fits (gives_self (header_at bytes)) place).0 e).1 in
     let whole : header_bytes ends.header ++ [] ≡ bytes ++ ends.next ∷ ends.missing = append-nil (header_bytes ends.header) ∙ ends.goes_on in
     let all : AreBytes (header_bytes ends.header ++ []) = subst (λ b. AreBytes b) (sym whole) (all_append (λ b. b < 256) bytes (ends.next ∷ ends.missing) fits ends.missing_are) in
-    let again : ReturnsAs (λ (x : Contents × ℕ). x) (Ok (ends.header, length (header_bytes ends.header))) (header_at (header_bytes ends.header ++ [])) = header_again ends.header [] ends.have_header in
+    let again : ReturnsAs (λ (x : Contents × ℕ). x) (Ok (ends.header, length (header_bytes ends.header))) (header_at (header_bytes ends.header ++ [])) = header_again ends.header [] ends.fit_header in
     let few = is_short (λ (x : Contents × ℕ). x) (Ok (ends.header, length (header_bytes ends.header))) (header_bytes ends.header ++ []) all again in
     omega (arith, few, ap length ends.goes_on, length-append bytes (ends.next ∷ ends.missing))
 

@@ -2,7 +2,7 @@
 -- read is used before the next turn.
 use Rattle.std.specs.Prelude.{◌≡◌, ◌≢◌, ◌<◌, ◌≤◌, ◌⊎◌, ◌++◌, ℕ, Bool, true, false, List, [], Some, Ok, Err, IfSome, drop, length, ◌+◌}
 use Rattle.x7_words.specs.Input.{InputsState, AtEnd, InputsFail, Misses, InputsStay, TakesInput, preceded}
-use Rattle.x7_header.specs.Header.{Contents, EndsInHeader, HasOtherLetterAt, HaveHeader, fixed_bytes, fixed_size, header_bytes, longest_header}
+use Rattle.x7_header.specs.Header.{Contents, EndsInHeader, HasOtherLetterAt, FitHeader, fixed_bytes, fixed_size, header_bytes, longest_header}
 use Rattle.x7_forms.specs.Event.{Event, bad_input, missing, no_memory, reading_failed, too_large}
 use Rattle.x7_forms.specs.declared.bad_input.InputFault.TheVariants as input
 use Rattle.x7_forms.specs.Known.{stream_limit}
@@ -10,17 +10,17 @@ use Rattle.x7_listing.specs.Listing.{listing_of}
 use Rattle.x7_listing.specs.StreamListing.{stream_listing}
 
 -- the most bytes that one turn of a whole input or of a listing reads
-abbrev pub turn_bytes : ℕ
-turn_bytes = 65536
+abbrev pub turn_size : ℕ
+turn_size = 65536
 
 -- the most bytes that are read of a stream until its header is judged: a turn more than a header may have
 abbrev pub longest_beginning : ℕ
-longest_beginning = longest_header + turn_bytes
+longest_beginning = longest_header + turn_size
 
 -- the most bytes that one turn of a stream that is played reads: no fewer than a header
 -- may have, so that the first turn judges it
-abbrev pub play_turn_bytes : ℕ
-play_turn_bytes = 266240
+abbrev pub play_turn_size : ℕ
+play_turn_size = 266240
 
 -- an input was not opened: its name isn't there, or the inputs failed
 abbrev pub Unopened : InputsState → List ℕ → InputsState → Event → Type 0
@@ -73,7 +73,7 @@ FollowsUnlessLast last rest = last ≡ true → rest ≡ []
 -- the data begin at this byte: after a header, or at the first byte where there is none
 abbrev pub DataBeginAt : List ℕ → ℕ → Type 0
 DataBeginAt bytes start =
-    ((x : Contents) × HaveHeader x × (bytes ≡ header_bytes x ++ drop start bytes) × (start ≡ length (header_bytes x)))
+    ((x : Contents) × FitHeader x × (bytes ≡ header_bytes x ++ drop start bytes) × (start ≡ length (header_bytes x)))
     ⊎ ((start ≡ 0) × ((rest : List ℕ) → bytes ≢ fixed_bytes ++ rest))
 
 -- no byte after a header is held, and where there is none, no more than the fixed bytes, which show it

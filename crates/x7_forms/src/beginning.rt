@@ -7,7 +7,7 @@ ghost use Rattle.x7_forms.specs.Known.{stream_limit};
 ghost use Rattle.x7_forms.specs.Turn.{DataBeginAt, GivesFew, HeaderGoesOn, IsBeginning, IsRefused, ReadsBeginning, RefusedAt, UnreadBeginning, longest_beginning};
 ghost use Rattle.x7_forms.specs.declared.bad_input.InputFault.TheVariants as input;
 
-use crate::read::{STREAM_LIMIT, TURN_BYTES, next_turn, refused_at};
+use crate::read::{STREAM_LIMIT, TURN_SIZE, next_turn, refused_at};
 use crate::refusal::Refusal;
 use std::alloc::Global;
 use x7_header::{HeaderFault, header_of, wanted};
@@ -87,9 +87,9 @@ pub fn read_beginning<'w, I: Inputs>(
     ensures inputs { InputsStay (I.state inputs.old) (I.state inputs.new) }
 {
     let mut bytes = Vec::new(alloc);
-    let mut piece = [0u8; TURN_BYTES];
+    let mut piece = [0u8; TURN_SIZE];
     loop {
-        let count = wanted(&bytes).min(TURN_BYTES);
+        let count = wanted(&bytes).min(TURN_SIZE);
         let left = STREAM_LIMIT - bytes.len();
         let turn = next_turn(inputs, stream, left, &mut piece[..count])?;
         put_text(&mut bytes, &piece[..turn.count])?;

@@ -1,7 +1,6 @@
 //! Reading an input in turns: each fills a buffer, which is used before the next turn.
 ghost use Rattle.std.specs.Prelude.{◌≡◌, ◌+◌, ◌-◌, ◌<◌, ◌≤◌, ◌++◌, ◌⊎◌, ℕ, List, drop, length, take, true, false, vec_len, IfErr, IfOk, OnOk};
 ghost use Rattle.x7_words.specs.Input.{Asks, AsksAtMost, AsksOnce, AtEnd, Opens, InputsStay, TakesInput};
-ghost use Rattle.x7_words.specs.Word.{AreBytes};
 ghost use Rattle.x7_forms.specs.Event.{bad_input, event_of, no_memory, reading_failed, too_large};
 ghost use Rattle.x7_forms.specs.Known.{data_in};
 ghost use Rattle.x7_forms.specs.Turn.{Breaks, GivesFew, ReadsRest, IsLastAsked, Unopened, Unread, UnreadRest};
@@ -22,7 +21,7 @@ pub const STREAM_LIMIT: usize = 67_108_864;
 pub const TEXT_LIMIT: usize = 536_870_912;
 
 /// The most bytes that one turn of a whole input or of a listing reads.
-pub const TURN_BYTES: usize = 65_536;
+pub const TURN_SIZE: usize = 65_536;
 
 /// How many bytes a turn asks for, where `left` bytes are still within the limit and the buffer holds `room`: at most
 /// one byte over the limit.
@@ -154,7 +153,7 @@ fn read_rest<'w, I: Inputs>(
     ensures gives_few { GivesFew (I.state inputs.old) limit (I.state inputs.new) }
     ensures inputs { InputsStay (I.state inputs.old) (I.state inputs.new) }
 {
-    let mut piece = [0u8; TURN_BYTES];
+    let mut piece = [0u8; TURN_SIZE];
     let mut left = limit;
     loop {
         let turn = next_turn(inputs, name, left, &mut piece)?;
@@ -232,7 +231,6 @@ pub(crate) fn refused_at<'w>(name: &'w str, place: usize) -> Refusal<'w>
 pub fn data_start<'w>(name: &'w str, bytes: &[u8]) -> Result<usize, Refusal<'w>>
     ensures data { seen (λ start. drop start bytes.now) result ≡ data_in name.now bytes.now }
     ensures within { IfOk result (λ start. start ≤ length bytes.now) }
-    ensures fits { AreBytes bytes.now }
 {
     let place = match header_of(bytes) {
         Ok(head) => return Ok(head.size),

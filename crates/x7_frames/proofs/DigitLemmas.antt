@@ -9,7 +9,8 @@ use Rattle.std.specs.List.{flat_map}
 use Rattle.std.specs.Simd.{first_chunks}
 use Rattle.x7_words.specs.Word.{AreBytes}
 use Rattle.x7_text.specs.Digits.{hex_byte}
-use Rattle.x7_text.specs.EitherCase.{byte_of, number_of_digit, byte_before, bytes_of_pairs}
+use Rattle.x7_words.specs.Characters.{number_of_digit}
+use Rattle.x7_text.specs.EitherCase.{byte_of, byte_before, bytes_of_pairs}
 use Rattle.x7_text.proofs.CaseLemmas.{pairs_back}
 
 -- two digits a byte
@@ -86,10 +87,6 @@ chunk_at n zero k xs d h = absurd (omega (arith, h))
 chunk_at n (suc m) zero xs d h = ap (λ (j : ℕ). take n (drop j xs)) (let e : 0 ≡ n * 0 = omega arith in e)
 chunk_at n (suc m) (suc k) xs d h =
     chunk_at n m k (drop n xs) d (omega (arith, h)) ∙ ap (take n) (drop-drop (n * k) n xs ∙ ap (λ (j : ℕ). drop j xs) (let m : n * suc k ≡ n * k + n = mul-suc n k in let e : n + n * k ≡ n * suc k = omega (arith, m) in e))
-
-pub bytes_by_place : (bs : List ℕ) → ((i : ℕ) → i < length bs → get_or bs i 0 < 256) → AreBytes bs
-bytes_by_place [] f = tt
-bytes_by_place (b ∷ bs) f = (f 0 (omega arith), bytes_by_place bs (λ i h. f (suc i) (omega (arith, h))))
 
 -- a block more
 pub block_read : (ds old new read : List ℕ) (blocks : List (List ℕ)) (k : ℕ) (d : List ℕ) → blocks ≡ first_chunks 64 (length ds / 64) ds → k < length blocks → length blocks ≡ length ds / 64

@@ -8,7 +8,8 @@ use Rattle.std.proofs.lemmas.Option.{none-some, same_Some}
 use Rattle.x7_words.specs.Word.{AreBytes, AreWords, words_of_bytes}
 use Rattle.x7_words.proofs.WordLemmas.{words_fit}
 use Rattle.x7_text.specs.DigitValue.{word_value}
-use Rattle.x7_text.specs.EitherCase.{byte_of, number_of_digit, byte_before, bytes_of_pairs}
+use Rattle.x7_words.specs.Characters.{number_of_digit}
+use Rattle.x7_text.specs.EitherCase.{byte_of, byte_before, bytes_of_pairs}
 use Rattle.x7_text.specs.Lines.{means_nothing, split}
 use Rattle.x7_text.proofs.ValueLemmas.{word_back}
 use Rattle.x7_part.specs.AddressOrder.{addresses_in}

@@ -1,6 +1,7 @@
 -- Frame texts: a line for each planned frame (this project's choice).
 use Rattle.std.specs.Prelude.{◌≡◌, ℕ, ◌+◌, ◌*◌, ◌^◌, ◌<◌, true, false, List, [], ◌∷◌, ◌++◌, length, codes, Contains, IsPermutation, Some, Result, Ok, Err}
 use Rattle.std.specs.List.{flat_map}
+use Rattle.x7_words.specs.Characters.{line_end_byte, space_byte}
 use Rattle.x7_words.specs.Word.{words_of_bytes}
 use Rattle.x7_text.specs.Digits.{hex_word}
 use Rattle.x7_text.specs.EitherCase.{bytes_of_pairs}
@@ -13,7 +14,7 @@ use Rattle.x7_frames.specs.declared.fault.FramesFault.TheVariants as fault
 
 -- what a frame's line begins with: `frame`, and the address in eight upper-case digits
 abbrev pub frame_head : ℕ → List ℕ
-frame_head far = codes "frame " ++ (hex_word far ++ 32 ∷ [])
+frame_head far = codes "frame " ++ (hex_word far ++ space_byte ∷ [])
 
 -- a line isn't that of a frame with this many digits, whatever its address
 abbrev pub HasNoFrameHead : ℕ → List ℕ → Type 0
@@ -95,7 +96,7 @@ HasPlanOrFault part text = (r : Result PlanData FramesFault) × IsPlanOf part te
 
 -- the line of a row, its end too, in upper case
 abbrev pub frame_line : PlanRow → List ℕ
-frame_line row = frame_head row.far ++ (flat_map hex_word row.words ++ 10 ∷ [])
+frame_line row = frame_head row.far ++ (flat_map hex_word row.words ++ line_end_byte ∷ [])
 
 -- the text of a plan, in number order of the addresses
 abbrev pub plan_text : PlanData → List ℕ

@@ -1,16 +1,16 @@
 //! One line of a frames text.
 ghost use Rattle.std.specs.Prelude.{◌≡◌, ◌+◌, ◌*◌, ◌%◌, ◌<◌, ◌≤◌, ◌++◌, length, take, Some, None, MatchBool, MatchOption, vec_capacity};
 ghost use Rattle.x7_text.specs.EitherCase.{bytes_of_pairs};
-ghost use Rattle.x7_words.specs.Word.{AreBytes, AreWholeWords, words_of_bytes};
+ghost use Rattle.x7_words.specs.Word.{AreWholeWords, words_of_bytes};
 ghost use Rattle.x7_memory.specs.Plan.{PlanRow};
 ghost use Rattle.x7_part.specs.Limits.{most_frame_words};
 ghost use Rattle.x7_frames.specs.FramesText.{HasNoFrameHead, frame_head, IsFrameLine};
 
 use x7_text::{block_of_hex, read_pairs, word_of_hex};
-use x7_words::{is_same, word_of};
+use x7_words::{are_bytes, is_same, word_of};
 
 /// The most bytes of a frame: four for each of its words.
-const MOST_FRAME_BYTES: usize = 4 * x7_part::MOST_FRAME_WORDS as usize;
+const MOST_FRAME_SIZE: usize = 4 * x7_part::MOST_FRAME_WORDS as usize;
 
 /// How many bytes stand before the digits of a frame's line: `frame`, a space, the eight digits of its address, a
 /// space.
@@ -49,7 +49,6 @@ fn write_block(bytes: &mut [u8], at: usize, block: &[u8])
     requires inside { at + 32 ≤ length bytes.old }
     requires block { length block.now ≡ 32 }
     ensures items { take (at + 32) bytes.new ≡ take at bytes.old ++ block.now }
-    ensures bytes { AreBytes block.now }
     ensures length { length bytes.new ≡ length bytes.old }
 {
     bytes[at..at + 32].copy_from_slice(block);
@@ -67,6 +66,7 @@ fn read_blocks(bytes: &mut [u8], digits: &[u8]) -> usize
         let Some(read) = block_of_hex(block) else {
             return 32 * k;
         };
+        are_bytes(&read);
         write_block(bytes, 32 * k, &read);
     }
     32 * blocks.len()
@@ -110,7 +110,7 @@ pub(crate) fn read_frame(frame: &mut Vec<u32>, width: u32, line: &[u8]) -> Optio
     let Some(found) = far_and_digits_of(line, 2 * byte_count) else {
         return None;
     };
-    let mut room = [0; MOST_FRAME_BYTES];
+    let mut room = [0; MOST_FRAME_SIZE];
     let bytes = &mut room[..byte_count];
     if !read_digits(bytes, found.digits) {
         return None;

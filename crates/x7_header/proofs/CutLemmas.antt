@@ -229,7 +229,7 @@ cut_in_header bytes place true f s e =
             after = drop 13 bytes;
             next = w.next;
             missing = w.missing;
-            have_header = h.have_header;
+            fit_header = h.fit_header;
             fixed_are = there;
             goes_on = ap (λ (c : List (List ℕ)). fixed_bytes ++ fields_bytes header_fields c) h.listed_again ∙ ap (λ r. fixed_bytes ++ r) w.goes_on ∙ ap (λ r. r ++ w.next ∷ w.missing) (sym there);
             missing_are = w.missing_are;
@@ -272,7 +272,7 @@ header_cut bytes (Ok x) f w e =
     let more = drop x.1 bytes in
     let both : header_bytes w.header ++ [] ≡ header_bytes x.0 ++ (more ++ w.next ∷ w.missing) =
     append-nil (header_bytes w.header) ∙ w.goes_on ∙ ap (λ r. r ++ w.next ∷ w.missing) t.prefix ∙ append_assoc (header_bytes x.0) more (w.next ∷ w.missing) in
-    let same = header_tells w.header x.0 [] (more ++ w.next ∷ w.missing) w.have_header t.have_header both in
+    let same = header_tells w.header x.0 [] (more ++ w.next ∷ w.missing) w.fit_header t.fit_header both in
     let a = ap (λ c. length (header_bytes c)) same in
     let b = ap length w.goes_on in
     let c = ap length t.prefix in
@@ -284,7 +284,7 @@ header_cut bytes (Err (fault.Cut place)) f w e =
 header_cut bytes (Err (fault.Field place)) f w e =
     let other = field_at_place bytes place (starts_with nat_eq bytes fixed_bytes) f refl e in
     let refused = header_refused (bytes ++ w.next ∷ w.missing) place (other_more bytes (w.next ∷ w.missing) place other) in
-    let read = header_again w.header [] w.have_header in
+    let read = header_again w.header [] w.fit_header in
     let same : header_bytes w.header ++ [] ≡ bytes ++ w.next ∷ w.missing = append-nil (header_bytes w.header) ∙ w.goes_on in
     absurd (ok_not_err (w.header, length (header_bytes w.header)) (fault.Field place) (sym read ∙ ap header_at same ∙ refused))
 

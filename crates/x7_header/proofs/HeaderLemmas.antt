@@ -10,7 +10,7 @@ use Rattle.x7_words.specs.Word.{AreBytes, bytes_of_word, word_of_bytes}
 use Rattle.x7_words.proofs.ListLemmas.{all_prefix, all_back}
 use Rattle.x7_words.proofs.WordLemmas.{bytes_words, words_fit}
 use Rattle.x7_words.proofs.WordLemmas.{word_whole}
-use Rattle.x7_header.specs.Header.{fixed_bytes, FieldKind, Field, header_fields, Holds, Hold, HasOtherLetter, HasOtherLetterAt, bytes_of_count, field_bytes, fields_bytes, Contents, contents_in_order, HaveHeader, header_bytes}
+use Rattle.x7_header.specs.Header.{fixed_bytes, FieldKind, Field, header_fields, Holds, Hold, HasOtherLetter, HasOtherLetterAt, bytes_of_count, field_bytes, fields_bytes, Contents, contents_in_order, FitHeader, header_bytes}
 use Rattle.x7_header.specs.Reading.{◌>>=◌, after_letter, first_bytes, content_at, field_at, fields_at, contents_from, after_fixed_bytes, header_fields_at, header_at, ReturnsAs}
 use Rattle.x7_header.specs.declared.fault.HeaderFault.{HeaderFault}
 use Rattle.x7_header.specs.declared.fault.HeaderFault.TheVariants as fault
@@ -56,7 +56,7 @@ fields_again total (field ∷ fields) (content ∷ contents) rest h =
     rw (append_assoc (field_bytes field content) (fields_bytes fields contents) rest, field_again total field content (fields_bytes fields contents ++ rest) h.0, fields_again total fields contents rest h.1) refl
 
 -- a header that stands at the beginning is read, with its size
-pub header_again : (x : Contents) (rest : List ℕ) → HaveHeader x → header_at (header_bytes x ++ rest) ≡ Ok (x, length (header_bytes x))
+pub header_again : (x : Contents) (rest : List ℕ) → FitHeader x → header_at (header_bytes x ++ rest) ≡ Ok (x, length (header_bytes x))
 unfolding header_at header_fields_at
 header_again x rest h =
     let size : length (header_bytes x ++ rest) - length rest ≡ length (header_bytes x) = omega (arith, length-append (header_bytes x) rest) in
@@ -78,11 +78,11 @@ pub ok_not_err : {A : Type 0} (x : A) (d : HeaderFault) → done x ≡ Err d →
 ok_not_err x d e = cc
 
 -- no two heads have the same bytes, whatever follows them
-pub header_tells : (x y : Contents) (more rest : List ℕ) → HaveHeader x → HaveHeader y → header_bytes x ++ more ≡ header_bytes y ++ rest → x ≡ y
+pub header_tells : (x y : Contents) (more rest : List ℕ) → FitHeader x → FitHeader y → header_bytes x ++ more ≡ header_bytes y ++ rest → x ≡ y
 header_tells x y more rest p q e =
     ap (λ (r : Contents × ℕ). r.0) (ok_is (x, length (header_bytes x)) (y, length (header_bytes y)) (sym (header_again x more p) ∙ ap header_at e ∙ header_again y rest q))
 
-pub header_same : (x y : Contents) → HaveHeader x → HaveHeader y → header_bytes x ≡ header_bytes y → x ≡ y
+pub header_same : (x y : Contents) → FitHeader x → FitHeader y → header_bytes x ≡ header_bytes y → x ≡ y
 header_same x y p q e = header_tells x y [] [] p q (ap (λ (r : List ℕ). r ++ []) e)
 
 -- ---- what is read is written so
@@ -164,7 +164,7 @@ four_again (a ∷ b ∷ c ∷ d ∷ []) f l = (bytes_words (a ∷ b ∷ c ∷ d 
 -- fields that hold what those of a header can are those of a head
 pub record FromHead (contents : List (List ℕ)) : Type 0 where
   pub listed_again : contents_in_order (contents_from contents) ≡ contents
-  pub have_header : HaveHeader (contents_from contents)
+  pub fit_header : FitHeader (contents_from contents)
 
 pub from_header_fields : (contents : List (List ℕ)) → Hold header_fields contents → AllByRecursion AreBytes contents → FromHead contents
 from_header_fields [] h f = absurd h
@@ -177,12 +177,12 @@ from_header_fields (a ∷ b ∷ c ∷ d ∷ e ∷ []) h f =
     let w = four_again e f.1.1.1.1.0 h.1.1.1.1.0 in
     record {
       listed_again = ap (λ (r : List ℕ). a ∷ b ∷ c ∷ d ∷ r ∷ []) w.0;
-      have_header = record { a = h.0; b = h.1.0; c = h.1.1.0; d = h.1.1.1.0; data_length = w.1 };
+      fit_header = record { a = h.0; b = h.1.0; c = h.1.1.0; d = h.1.1.1.0; data_length = w.1 };
     }
 
 -- what was read stands at the beginning, with its size
 pub record IsPrefix (bytes : List ℕ) (x : Contents × ℕ) : Type 0 where
-  pub have_header : HaveHeader x.0
+  pub fit_header : FitHeader x.0
   pub prefix : bytes ≡ header_bytes x.0 ++ drop x.1 bytes
   pub size : x.1 ≡ length (header_bytes x.0)
 
@@ -207,13 +207,13 @@ header_takes bytes x f e =
     let whole : bytes ≡ header_bytes (contents_from b.0.0) ++ b.0.1 = p ∙ ap (λ (r : List ℕ). fixed_bytes ++ r) (t.parts ∙ ap (λ (c : List (List ℕ)). fields_bytes header_fields c ++ b.0.1) (sym h.listed_again)) in
     let n = prefix_of bytes (header_bytes (contents_from b.0.0)) b.0.1 whole in
     let made : Contents × ℕ = (contents_from b.0.0, length bytes - length b.0.1) in
-    subst (IsPrefix bytes) (ok_is made x b.2) (record { have_header = h.have_header; prefix = n.1; size = n.0 })
+    subst (IsPrefix bytes) (ok_is made x b.2) (record { fit_header = h.fit_header; prefix = n.1; size = n.0 })
 
 -- ---- the clauses of what reads a header
 
 pub is_found : {X : Type 0} (view : X → Contents × ℕ) (result : Result X HeaderFault) (bytes : List ℕ) → AreBytes bytes → ReturnsAs view result (header_at bytes) →
-    IfOk result (λ x. HaveHeader (view x).0 × (bytes ≡ header_bytes (view x).0 ++ drop (view x).1 bytes) × ((view x).1 ≡ length (header_bytes (view x).0)))
-is_found view (Ok x) bytes f g = let t = header_takes bytes (view x) f g in (t.have_header, t.prefix, t.size)
+    IfOk result (λ x. FitHeader (view x).0 × (bytes ≡ header_bytes (view x).0 ++ drop (view x).1 bytes) × ((view x).1 ≡ length (header_bytes (view x).0)))
+is_found view (Ok x) bytes f g = let t = header_takes bytes (view x) f g in (t.fit_header, t.prefix, t.size)
 is_found view (Err e) bytes f g = tt
 
 header_size : (x : Contents) → length (header_bytes x) ≡ 13 + (3 + length x.a + (3 + length x.b + (3 + length x.c + (3 + length x.d + 5))))
@@ -228,13 +228,13 @@ pub is_short : {X : Type 0} (view : X → Contents × ℕ) (result : Result X He
     IfOk result (λ x. (view x).1 ≤ 262170)
 is_short view (Ok x) bytes f g =
     let t = header_takes bytes (view x) f g in
-    let h = t.have_header in
+    let h = t.fit_header in
     let a = h.a in let b = h.b in let c = h.c in let d = h.d in let n = t.size in
     omega (arith, a, b, c, d, n, header_size (view x).0)
 is_short view (Err e) bytes f g = tt
 
 pub is_only : {X : Type 0} (view : X → Contents × ℕ) (result : Result X HeaderFault) (bytes : List ℕ) → ReturnsAs view result (header_at bytes) →
-    (x : Contents) (rest : List ℕ) → HaveHeader x → bytes ≡ header_bytes x ++ rest → IsOkAnd result (λ head. (view head).0 ≡ x)
+    (x : Contents) (rest : List ℕ) → FitHeader x → bytes ≡ header_bytes x ++ rest → IsOkAnd result (λ head. (view head).0 ≡ x)
 is_only view (Ok y) bytes g x rest h e =
     ap (λ (r : Contents × ℕ). r.0) (ok_is (view y) (x, length (header_bytes x)) (sym g ∙ ap header_at e ∙ header_again x rest h))
 is_only view (Err d) bytes g x rest h e =

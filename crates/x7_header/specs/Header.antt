@@ -101,7 +101,7 @@ abbrev pub contents_in_order : Contents → List (List ℕ)
 contents_in_order x = x.a ∷ x.b ∷ x.c ∷ x.d ∷ bytes_of_word x.data_length ∷ []
 
 -- the contents fit a header: four texts of at most 65,535 bytes, and a length of 32 bits
-pub record HaveHeader (x : Contents) : Type 0 where
+pub record FitHeader (x : Contents) : Type 0 where
   pub a : length x.a < 2 ^ 16
   pub b : length x.b < 2 ^ 16
   pub c : length x.c < 2 ^ 16
@@ -114,7 +114,7 @@ header_bytes x = fixed_bytes ++ fields_bytes header_fields (contents_in_order x)
 
 -- the header with these contents and of this size stands at the beginning of the bytes
 abbrev pub BeginsWith : Contents → ℕ → List ℕ → Type 0
-BeginsWith x size bytes = HaveHeader x × (bytes ≡ header_bytes x ++ drop size bytes) × (size ≡ length (header_bytes x))
+BeginsWith x size bytes = FitHeader x × (bytes ≡ header_bytes x ++ drop size bytes) × (size ≡ length (header_bytes x))
 
 -- the input ends inside a header: its fixed bytes are there, and some header begins with the whole input and goes on
 pub record EndsInHeader (bytes : List ℕ) : Type 0 where
@@ -122,7 +122,7 @@ pub record EndsInHeader (bytes : List ℕ) : Type 0 where
   pub after : List ℕ
   pub next : ℕ
   pub missing : List ℕ
-  pub have_header : HaveHeader header
+  pub fit_header : FitHeader header
   pub fixed_are : bytes ≡ fixed_bytes ++ after
   pub goes_on : header_bytes header ≡ bytes ++ next ∷ missing
   pub missing_are : AreBytes (next ∷ missing)

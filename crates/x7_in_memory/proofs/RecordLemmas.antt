@@ -3,15 +3,15 @@ use Rattle.std.proofs.Common.{◌≡◌, ℕ, ◌+◌, ◌≤◌, ◌<◌, IsTru
 use Rattle.std.proofs.lemmas.List.{take_all, drop-append-le, take-append-le, length-drop}
 use Rattle.std.proofs.lemmas.Bool.Decides.{nat_tests}
 use Rattle.x7_in_memory.specs.Memory.{WriteRecord, has_room}
-use Rattle.x7_in_memory.specs.Spans.{span_bytes, writes_of}
+use Rattle.x7_in_memory.specs.Spans.{spans_size, writes_of}
 use Rattle.x7_in_memory.specs.declared.record.Span.{Span}
 
-pub span_bytes_more : (spans : List Span) (span : Span) → span_bytes (spans ++ span ∷ []) ≡ span_bytes spans + span.count
-span_bytes_more [] span = omega arith
-span_bytes_more (s ∷ spans) span = omega (arith, span_bytes_more spans span)
+pub spans_size_more : (spans : List Span) (span : Span) → spans_size (spans ++ span ∷ []) ≡ spans_size spans + span.count
+spans_size_more [] span = omega arith
+spans_size_more (s ∷ spans) span = omega (arith, spans_size_more spans span)
 
 -- one write more, whose bytes stand after those of the others
-pub writes_of_more : (spans : List Span) (span : Span) (befores targets before target : List ℕ) → length befores ≡ span_bytes spans → length targets ≡ span_bytes spans
+pub writes_of_more : (spans : List Span) (span : Span) (befores targets before target : List ℕ) → length befores ≡ spans_size spans → length targets ≡ spans_size spans
     → length before ≡ span.count → length target ≡ span.count
     → writes_of (spans ++ span ∷ []) (befores ++ before) (targets ++ target) ≡ writes_of spans befores targets ++ record { place = span.place; before = before; target = target } ∷ []
 writes_of_more [] span [] [] before target b t h k =
@@ -33,7 +33,7 @@ writes_of_more (s ∷ spans) span befores targets before target b t h k =
 -- after are given as the lists that they become
 pub writes_of_push : (spans : List Span) (span : Span) (befores targets before target : List ℕ) (news : List Span) (newb newt : List ℕ)
     → news ≡ spans ++ span ∷ [] → newb ≡ befores ++ before → newt ≡ targets ++ target
-    → length befores ≡ span_bytes spans → length targets ≡ span_bytes spans → length before ≡ length target → length target ≡ span.count
+    → length befores ≡ spans_size spans → length targets ≡ spans_size spans → length before ≡ length target → length target ≡ span.count
     → writes_of news newb newt ≡ writes_of spans befores targets ++ record { place = span.place; before = before; target = target } ∷ []
 writes_of_push spans span befores targets before target news newb newt s b t bl tl same count =
     rw (s, b, t) (writes_of_more spans span befores targets before target bl tl (same ∙ count) count)

@@ -3,15 +3,15 @@ use Rattle.std.proofs.Common.{◌≡◌, ℕ, ◌+◌, ◌-◌, ◌%◌, ◌<◌
 use Rattle.std.specs.Int.{bit_at}
 use Rattle.std.proofs.lemmas.Bool.{cases_eq}
 use Rattle.std.proofs.lemmas.Nat.Bits.{bit_at_and, bit_at_or, bit_at_xor, bit_at-lt}
-use Rattle.x7_words.specs.Flash.{folded_sector_bytes, erased_sector, replaced, IsTorn}
-use Rattle.x7_words.proofs.FlashLemmas.{get_or_replaced_inside, get_or_replaced_outside, get_or_slice_range, length_replaced, length_slice_range, replaced_back, folded_sector_bytes_is}
+use Rattle.x7_words.specs.Flash.{folded_sector_size, erased_sector, replaced, IsTorn}
+use Rattle.x7_words.proofs.FlashLemmas.{get_or_replaced_inside, get_or_replaced_outside, get_or_slice_range, length_replaced, length_slice_range, replaced_back, folded_sector_size_is}
 use Rattle.x7_words.proofs.ZipLemmas.{length_zip_with, get_or_zip_with}
 use Rattle.x7_in_memory.specs.Memory.{torn_byte, left_by}
 
 -- an empty list filled up to a sector
 pub filled : (empty now other : List ℕ) (count : ℕ) (ok : Bool) → ok ≡ true → empty ≡ [] → count ≡ 0 → now ≡ cond ok (take 65536 empty ++ replicate (65536 - count) 255) other → now ≡ erased_sector
 filled empty now other count ok is_ok is_empty is_zero e =
-    let same : 65536 - count ≡ folded_sector_bytes = omega (arith, folded_sector_bytes_is) in
+    let same : 65536 - count ≡ folded_sector_size = omega (arith, folded_sector_size_is) in
     e
     ∙ ap (λ b. cond b (take 65536 empty ++ replicate (65536 - count) 255) other) is_ok
     ∙ ap (λ l. take 65536 l ++ replicate (65536 - count) 255) is_empty

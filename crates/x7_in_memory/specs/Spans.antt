@@ -4,9 +4,9 @@ use Rattle.x7_in_memory.specs.Memory.{PastWrite}
 use Rattle.x7_in_memory.specs.declared.record.Span.{Span}
 
 -- the number of bytes of all ranges together
-abbrev pub span_bytes : List Span → ℕ
-span_bytes [] = 0
-span_bytes (span ∷ spans) = span.count + span_bytes spans
+abbrev pub spans_size : List Span → ℕ
+spans_size [] = 0
+spans_size (span ∷ spans) = span.count + spans_size spans
 
 -- the writes, whose bytes before and after lie one after the other
 abbrev pub writes_of : List Span → List ℕ → List ℕ → List PastWrite

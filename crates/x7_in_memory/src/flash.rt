@@ -2,14 +2,14 @@
 ghost use Rattle.std.specs.Prelude.{◌≡◌, ◌+◌, ◌<◌, ◌≤◌, ◌^◌, length, slice_range, IsTrue, Option, Some, None, true, false, is_some, OnOk, OnErr, IfOk, is_err, bit_and, vec_capacity};
 ghost use Rattle.x7_words.specs.Count.{IsLaterCount};
 ghost use Rattle.x7_words.specs.Word.{AreBytes};
-ghost use Rattle.x7_words.specs.Flash.{zip_with, cleared, erased_sector, replaced, sector_bytes, sector_place};
+ghost use Rattle.x7_words.specs.Flash.{zip_with, cleared, erased_sector, replaced, sector_size, sector_place};
 ghost use Rattle.x7_in_memory.specs.Memory.{new_flash, with_failing_call, flash_fails, numbered, with_room, has_room, recorded, left_by, torn_byte, attach_answer, after_memory_attach, after_read_at, write_refused, flash_write_fails, begun, after_refusal, after_flash_write, latest_tear, after_tear};
 
 use crate::calls::Calls;
 use crate::record::Record;
 use std::alloc::Global;
 use std::marker::Model;
-use x7_words::{ERASED_BYTE, Failed, Flash, NoMemory, SECTOR_BYTES, SelectFault, raised};
+use x7_words::{ERASED_BYTE, Failed, Flash, NoMemory, SECTOR_SIZE, SelectFault, are_bytes, raised};
 
 /// A write that is torn: the number of its call, and the pattern of the bits that stay old.
 #[derive(Clone, Copy, Drop)]
@@ -66,11 +66,6 @@ impl Model for MemoryFlash {
     ghost invariant = { λ f. (f.absences < 2 ^ 64) × (f.read_faults < 2 ^ 64) × (f.write_faults < 2 ^ 64)
         × (f.writes.bytes_left ≤ vec_capacity f.target) };
 }
-
-/// Each element of a slice of bytes is a byte.
-fn are_bytes(bytes: &[u8])
-    ensures { AreBytes bytes.now }
-{}
 
 /// Puts into the target what programming makes of the bytes: each bit is 1 where it was and the given one is.
 fn put_cleared(target: &mut Vec<u8>, bytes: &[u8], given: &[u8])
@@ -311,21 +306,21 @@ impl Flash for MemoryFlash {
 
     fn erase(&mut self, sector: u64) -> Result<(), Failed>
         requires attached { self.old.attached ≡ true }
-        requires within { sector_place sector + sector_bytes ≤ length self.old.bytes }
-        ensures answer { is_err result ≡ flash_write_fails self.old sector_bytes }
+        requires within { sector_place sector + sector_size ≤ length self.old.bytes }
+        ensures answer { is_err result ≡ flash_write_fails self.old sector_size }
         ensures after { self.new ≡ after_flash_write self.old (sector_place sector) erased_sector }
         ensures write_faults { IsLaterCount self.old.write_faults self.new.write_faults }
     {
-        self.begin_write(SECTOR_BYTES as usize)?;
+        self.begin_write(SECTOR_SIZE as usize)?;
         self.target.clear();
-        let Ok(()) = self.target.resize(SECTOR_BYTES as usize, ERASED_BYTE) else {
+        let Ok(()) = self.target.resize(SECTOR_SIZE as usize, ERASED_BYTE) else {
             unreachable!()
         };
         let torn = self.torn();
         write_target(
             &mut self.bytes,
             &mut self.writes,
-            (sector * SECTOR_BYTES) as usize,
+            (sector * SECTOR_SIZE) as usize,
             &self.target,
             torn,
         );

@@ -27,7 +27,7 @@ pub(crate) struct Record {
 impl Model for Record {
     ghost use Rattle.std.specs.Prelude.{◌≡◌, ◌+◌, ◌≤◌, length, vec_len, vec_capacity};
     ghost use Rattle.x7_in_memory.specs.Memory.{WriteRecord};
-    ghost use Rattle.x7_in_memory.specs.Spans.{writes_of, span_bytes};
+    ghost use Rattle.x7_in_memory.specs.Spans.{writes_of, spans_size};
 
     ghost Value = { WriteRecord };
 
@@ -38,8 +38,8 @@ impl Model for Record {
     } };
 
     ghost invariant = { λ r.
-        (length r.before.items ≡ span_bytes r.spans.items)
-        × (length r.target.items ≡ span_bytes r.spans.items)
+        (length r.before.items ≡ spans_size r.spans.items)
+        × (length r.target.items ≡ spans_size r.spans.items)
         × (vec_len r.spans + r.writes_left ≤ vec_capacity r.spans)
         × (vec_len r.before + r.bytes_left ≤ vec_capacity r.before)
         × (vec_len r.target + r.bytes_left ≤ vec_capacity r.target) };

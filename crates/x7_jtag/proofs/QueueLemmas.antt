@@ -1,7 +1,7 @@
 -- What holds of the queue of a port after any clocks.
 use Rattle.std.proofs.Common.{◌≡◌, ℕ, ◌+◌, ◌<◌, ◌≤◌, ◌≢◌, ◌==◌, ◌&&◌, nat_lt, Bool, true, false, if◌then◌else◌, List, [], ◌∷◌, ◌++◌, length, refl, sym, subst, ap, ◌∙◌, append_assoc, append-nil, arith, length-append}
 use Rattle.std.specs.List.{fold}
-use Rattle.x7_words.specs.Word.{AreBytes}
+use Rattle.x7_words.specs.Word.{AreBytes, number_of_bit}
 use Rattle.x7_words.proofs.ListLemmas.{all_append, all_prefix}
 use Rattle.x7_part.specs.Part.{PartData}
 use Rattle.x7_engine.specs.Kept.{on_the_bench}
@@ -12,7 +12,7 @@ use Rattle.x7_jtag.specs.declared.state.State.{State}
 use Rattle.x7_jtag.specs.declared.state.State.TheVariants as state
 use Rattle.x7_jtag.specs.Events.{byte_at_eight, data_events, events_in, events_of, idle_events, update_events}
 use Rattle.x7_jtag.specs.Instruction.{instruction_of}
-use Rattle.x7_jtag.specs.Port.{Port, clocked, new_port, number_of_bit, port_after, with_bit, words_read_out}
+use Rattle.x7_jtag.specs.Port.{Port, clocked, new_port, port_after, with_bit, words_read_out}
 use Rattle.x7_jtag.specs.Queue.{QueueEvent, Byte, Bit, Program, Queue, bits_read, dropped, in_turn, waits, give_held, empty_queue, by_event, most_bytes_held, QueueIsSound, queue_with_room}
 use Rattle.x7_jtag.specs.State.{Clock}
 use Rattle.x7_jtag.proofs.EventLemmas.{queue_events}

@@ -2,7 +2,7 @@
 use Rattle.std.proofs.Common.{◌≡◌, ℕ, suc, ◌+◌, ◌-◌, ◌*◌, ◌/◌, ◌%◌, ◌<◌, ◌==◌, Bool, true, false, List, [], ◌∷◌, ◌++◌, length, slice_index, refl, ap, sym, subst, ◌∙◌, arith}
 use Rattle.std.specs.List.{fold}
 use Rattle.std.proofs.lemmas.List.Sums.{fold-append}
-use Rattle.x7_words.specs.Word.{AreBytes}
+use Rattle.x7_words.specs.Word.{AreBytes, number_of_bit}
 use Rattle.x7_part.specs.Part.{PartData}
 use Rattle.x7_engine.specs.Standing.{DeviceState}
 use Rattle.x7_svf.specs.Bits.{byte_bits, bytes_bits}
@@ -11,7 +11,7 @@ use Rattle.x7_jtag.specs.declared.instruction.Instruction.TheVariants as instruc
 use Rattle.x7_jtag.specs.declared.state.State.{State}
 use Rattle.x7_jtag.specs.declared.state.State.TheVariants as state
 use Rattle.x7_jtag.specs.Clocks.{clock, inner_clocks}
-use Rattle.x7_jtag.specs.Port.{Port, clocked, number_of_bit, port_after, new_port, with_bit, words_read_out}
+use Rattle.x7_jtag.specs.Port.{Port, clocked, port_after, new_port, with_bit, words_read_out}
 use Rattle.x7_jtag.specs.Queue.{Queue, offered}
 use Rattle.x7_jtag.specs.State.{Clock}
 use Rattle.x7_jtag.specs.Tap.{QueueStandsFor, StandsForPort, TakesBytes, TapStandsFor, TapState, last_or}

@@ -1,6 +1,7 @@
 -- A test access port as a function of its clocks (IEEE 1149.1 and UG470, JTAG; what these leave free is this project's
 -- choice).
 use Rattle.std.specs.Prelude.{ℕ, ◌+◌, ◌*◌, ◌/◌, ◌%◌, ◌^◌, ◌==◌, Bool, true, false, if◌then◌else◌, List, fold}
+use Rattle.x7_words.specs.Word.{number_of_bit}
 use Rattle.x7_part.specs.Part.{PartData}
 use Rattle.x7_engine.specs.Kept.{on_the_bench}
 use Rattle.x7_engine.specs.State.{reads_of, state_of}
@@ -24,11 +25,6 @@ pub record Port : Type 0 where
 -- the words that a device of this part reads out of bytes given since a reset on the bench
 abbrev pub words_read_out : PartData → List ℕ → List ℕ
 words_read_out part given = reads_of part on_the_bench given
-
--- a bit as a number
-abbrev pub number_of_bit : Bool → ℕ
-number_of_bit false = 0
-number_of_bit true = 1
 
 -- the lowest bit of a register
 abbrev pub lowest_bit : ℕ → Bool

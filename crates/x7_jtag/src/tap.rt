@@ -1,9 +1,10 @@
 //! The test access port of a device.
 ghost use Rattle.std.specs.Prelude.{◌≡◌, ◌≤◌, ◌<◌, ◌+◌, ◌*◌, ◌/◌, ◌%◌, ◌^◌, ◌==◌, ◌∷◌, ℕ, false, [], List, length, IsTrue};
+ghost use Rattle.x7_words.specs.Word.{number_of_bit};
 ghost use Rattle.x7_part.specs.Part.{PartData};
 ghost use Rattle.x7_engine.specs.Kept.{on_the_bench};
 ghost use Rattle.x7_engine.specs.Standing.{DeviceStandsFor, DeviceState};
-ghost use Rattle.x7_jtag.specs.Port.{Port, acted, captured, data_shifted, data_shown, idled, lowest_bit, number_of_bit, port_after, register_shifted as shifted_in, ir_status, ir_status_with, tdo_of, updated, with_bit as with_bit_in};
+ghost use Rattle.x7_jtag.specs.Port.{Port, acted, captured, data_shifted, data_shown, idled, lowest_bit, port_after, register_shifted as shifted_in, ir_status, ir_status_with, tdo_of, updated, with_bit as with_bit_in};
 ghost use Rattle.x7_jtag.specs.State.{Clock};
 ghost use Rattle.x7_jtag.specs.declared.instruction.Instruction.TheVariants.{CfgIn};
 ghost use Rattle.x7_jtag.specs.Tap.{CanAllBeOffered, CanBeOffered, MakesClocks, PortBecomes, StandsForPort, TakesBytes, TapStandsFor, TookOfGiven, last_or};

@@ -5,7 +5,7 @@ use Rattle.std.specs.Fmt.{decimal}
 use Rattle.std.specs.List.{flat_map}
 use Rattle.std.specs.Str.{bytes_eq}
 use Rattle.x7_words.specs.Word.{AreBytes, bytes_of_word}
-use Rattle.x7_header.specs.Header.{Contents, field_bytes, HaveHeader, header_bytes, FieldKind, longest_header}
+use Rattle.x7_header.specs.Header.{Contents, field_bytes, FitHeader, header_bytes, FieldKind, longest_header}
 use Rattle.x7_text.specs.Digits.{hex_byte, hex_digit}
 use Rattle.x7_listing.specs.BitLine.{bit_text, field_text, has_no_space, IsCutAtSpace, IsField, IsHeaderOf, FitsHeader}
 use Rattle.x7_listing.specs.Line.{Empty, IsLine, Line, text_of}
@@ -186,7 +186,7 @@ header_made line fields r1 r2 r3 digits x bytes e a b c d n is = record {
 counted : (letter : ℕ) (x rest : List ℕ) → length x < 2 ^ 16 → length (field_bytes (record { letter = letter; kind = FieldKind.Counted }) x ++ rest) ≤ 65538 + length rest
 counted letter x rest k = omega (arith, k, length-append x rest)
 
-pub header_limit : (x : Contents) → HaveHeader x → length (header_bytes x) ≤ longest_header
+pub header_limit : (x : Contents) → FitHeader x → length (header_bytes x) ≤ longest_header
 header_limit x k =
     let last = bytes_of_word x.data_length ++ [] in
     let after_d = 0x65 ∷ last in

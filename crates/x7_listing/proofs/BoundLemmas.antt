@@ -131,7 +131,7 @@ listed_long false line held all start (Synced gap packets tail) m t p =
 listed_long true line held all start place m t p = omega (arith, ap length (sure_at line held all start place m t), length-append start (sure_place place), place_long place p)
   where
     sure_at : (line : ℕ) (held all start : List ℕ) (place : Place) (m : Mode) → HasListedAt (written_of true line held all) start place m → all ≡ start ++ sure_place place
-    sure_at line held all start (Searching gap) m t = place_sure true line held all start (Searching gap) Mode.Searching (λ e. let f : Mode.Searching ≡ Mode.Due = e in cc) t
+    sure_at line held all start (Searching gap) m t = place_sure true line held all start (Searching gap) Mode.Searching (λ e. let f : Mode.Searching ≡ Mode.SyncFound = e in cc) t
     sure_at line held all start (Synced gap packets tail) m t = place_sure true line held all start (Synced gap packets tail) m t.0 t
 
 -- a lister that takes runs is at most four bytes short too

@@ -8,7 +8,7 @@ use Rattle.std.proofs.lemmas.Fmt.{length-decimal-le}
 use Rattle.std.proofs.lemmas.Grind.{flat_map-append}
 use Rattle.x7_words.specs.Word.{AreBytes, bytes_of_word}
 use Rattle.x7_words.proofs.ListLemmas.{all_append, all_back, all_prefix}
-use Rattle.x7_header.specs.Header.{Contents, field_bytes, fixed_bytes, HaveHeader, header_bytes, FieldKind}
+use Rattle.x7_header.specs.Header.{Contents, field_bytes, fixed_bytes, FitHeader, header_bytes, FieldKind}
 use Rattle.x7_header.specs.Reading.{header_at}
 use Rattle.x7_header.specs.declared.fault.HeaderFault.{HeaderFault}
 use Rattle.x7_header.specs.declared.fault.HeaderFault.TheVariants as fault
@@ -198,7 +198,7 @@ field_long letter bs rest = omega (arith, length-append bs rest)
 spaced_long : (text rest : List ℕ) → length (text ++ 32 ∷ rest) ≡ length text + 1 + length rest
 spaced_long text rest = omega (arith, length-append text (32 ∷ rest))
 
-bit_short : (x : Contents) → HaveHeader x → length (bit_text x) + 1 ≤ 5 * length (header_bytes x)
+bit_short : (x : Contents) → FitHeader x → length (bit_text x) + 1 ≤ 5 * length (header_bytes x)
 bit_short x h =
     let e = field_bytes (record { letter = 0x65; kind = FieldKind.Four }) (bytes_of_word x.data_length) ++ [] in
     let d = field_bytes (record { letter = 0x64; kind = FieldKind.Counted }) x.d ++ e in
@@ -238,7 +238,7 @@ short_by b text (Ok top) e fits is =
     let rest : List ℕ = drop top.1 b in
     let whole : AreBytes (header_bytes top.0 ++ drop top.1 b) = subst AreBytes p.prefix fits in
     let more : AreBytes (drop top.1 b) = all_back (λ c. c < 256) (header_bytes top.0) (drop top.1 b) whole in
-    omega (arith, ap length (ok_text (bit_text top.0 ++ 10 ∷ listing_of (drop top.1 b)) text is), length-append (bit_text top.0) (10 ∷ listing_of (drop top.1 b)), bit_short top.0 p.have_header, listing_short (drop top.1 b) more, ap length p.prefix, length-append (header_bytes top.0) (drop top.1 b))
+    omega (arith, ap length (ok_text (bit_text top.0 ++ 10 ∷ listing_of (drop top.1 b)) text is), length-append (bit_text top.0) (10 ∷ listing_of (drop top.1 b)), bit_short top.0 p.fit_header, listing_short (drop top.1 b) more, ap length p.prefix, length-append (header_bytes top.0) (drop top.1 b))
 short_by b text (Err fault.Raw) e fits is = omega (arith, ap length (ok_text (listing_of b) text is), listing_short b fits)
 short_by b text (Err (fault.Cut place)) e fits is = absurd cc
 short_by b text (Err (fault.Field place)) e fits is = absurd cc

@@ -227,7 +227,7 @@ gap_sure all start line held gap g =
     g.listed ∙ ap (λ t. start ++ B 0 t) (sym same)
 
 -- what is listed at a place is the sure text there
-pub place_sure : (synced : Bool) (line : ℕ) (held all start : List ℕ) (place : Place) (m : Mode) → (m ≡ Mode.Due → ⊥) → HasListedAt (written_of synced line held all) start place m → all ≡ start ++ sure_place place
+pub place_sure : (synced : Bool) (line : ℕ) (held all start : List ℕ) (place : Place) (m : Mode) → (m ≡ Mode.SyncFound → ⊥) → HasListedAt (written_of synced line held all) start place m → all ≡ start ++ sure_place place
 place_sure false line held all start (Searching gap) m d t = gap_sure all start line held gap t
 place_sure false line held all start (Synced gap packets tail) m d t = absurd (d t.0)
 place_sure true line held all start (Searching gap) m d t = t.2 ∙ sym (append-nil start) ∙ ap (λ x. start ++ B 0 (before_last_four x)) (sym t.0)

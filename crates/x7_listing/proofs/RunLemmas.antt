@@ -42,21 +42,21 @@ not_payload w (Read a b) h r x e = absurd (cc)
 not_payload w (Bad a) h r x e = absurd (cc)
 
 head_adds : (synced : Bool) (line l2 : ℕ) (held h2 all all2 before bytes : List ℕ) (sessions new_sessions : List Session) (spot np : Place) (o n : Mode) (w : ℕ) (step : Step)
-    → HasListed (written_of synced line held all) before sessions spot o → Adds (Head w step) sessions spot new_sessions np → (o ≡ Mode.Due → ⊥) → (n ≡ Mode.Due → ⊥) → IsReading bytes new_sessions np
+    → HasListed (written_of synced line held all) before sessions spot o → Adds (Head w step) sessions spot new_sessions np → (o ≡ Mode.SyncFound → ⊥) → (n ≡ Mode.SyncFound → ⊥) → IsReading bytes new_sessions np
     → (synced ≡ true → (all2 ≡ all ++ open_words line ((w, step) ∷ [])) × (l2 ≡ in_line_after_words line ((w, step) ∷ []))) → HasListed (written_of true l2 h2 all2) before new_sessions np n
 head_adds synced line l2 held h2 all all2 before bytes sessions new_sessions (Searching gap) np o n w step t a p q r h = absurd a
 head_adds synced line l2 held h2 all all2 before bytes sessions new_sessions (Synced gap packets tail) np o n w step t a p q r h =
     words_listed_at synced line l2 held h2 all all2 before bytes sessions new_sessions gap tail packets np o n ((w, step) ∷ []) t p q a r h
 
 word_adds : (synced : Bool) (line l2 : ℕ) (held h2 all all2 before bytes : List ℕ) (sessions new_sessions : List Session) (spot np : Place) (o n : Mode) (register w : ℕ)
-    → HasListed (written_of synced line held all) before sessions spot o → Adds (Word register w) sessions spot new_sessions np → (o ≡ Mode.Due → ⊥) → (n ≡ Mode.Due → ⊥) → IsReading bytes new_sessions np
+    → HasListed (written_of synced line held all) before sessions spot o → Adds (Word register w) sessions spot new_sessions np → (o ≡ Mode.SyncFound → ⊥) → (n ≡ Mode.SyncFound → ⊥) → IsReading bytes new_sessions np
     → (synced ≡ true → (all2 ≡ all ++ open_words line (payload_steps register (w ∷ []))) × (l2 ≡ in_line_after_words line (payload_steps register (w ∷ [])))) → HasListed (written_of true l2 h2 all2) before new_sessions np n
 word_adds synced line l2 held h2 all all2 before bytes sessions new_sessions (Searching gap) np o n register w t a p q r h = absurd a
 word_adds synced line l2 held h2 all all2 before bytes sessions new_sessions (Synced gap packets tail) np o n register w t a p q r h =
     words_listed_at synced line l2 held h2 all all2 before bytes sessions new_sessions gap tail packets np o n (payload_steps register (w ∷ [])) t p q a r h
 
 body_adds : (synced : Bool) (line l2 : ℕ) (held h2 all all2 before bytes : List ℕ) (sessions new_sessions : List Session) (spot np : Place) (o n : Mode) (register : ℕ) (body : Bor (List ℕ))
-    → HasListed (written_of synced line held all) before sessions spot o → Adds (Body register body) sessions spot new_sessions np → (o ≡ Mode.Due → ⊥) → (n ≡ Mode.Due → ⊥) → IsReading bytes new_sessions np
+    → HasListed (written_of synced line held all) before sessions spot o → Adds (Body register body) sessions spot new_sessions np → (o ≡ Mode.SyncFound → ⊥) → (n ≡ Mode.SyncFound → ⊥) → IsReading bytes new_sessions np
     → (synced ≡ true → (all2 ≡ all ++ open_words line (payload_steps register (words_of_bytes body.now))) × (l2 ≡ in_line_after_words line (payload_steps register (words_of_bytes body.now)))) → HasListed (written_of true l2 h2 all2) before new_sessions np n
 body_adds synced line l2 held h2 all all2 before bytes sessions new_sessions (Searching gap) np o n register body t a p q r h = absurd a
 body_adds synced line l2 held h2 all all2 before bytes sessions new_sessions (Synced gap packets tail) np o n register body t a p q r h =

@@ -4,7 +4,7 @@ use Rattle.std.specs.Fmt.{decimal}
 use Rattle.std.specs.List.{AllByRecursion}
 use Rattle.x7_words.specs.Word.{AreBytes, bytes_of_word}
 use Rattle.x7_words.proofs.ListLemmas.{all_back, all_prefix}
-use Rattle.x7_header.specs.Header.{Contents, field_bytes, fixed_bytes, HaveHeader, header_bytes, FieldKind}
+use Rattle.x7_header.specs.Header.{Contents, field_bytes, fixed_bytes, FitHeader, header_bytes, FieldKind}
 use Rattle.x7_header.specs.Reading.{header_at}
 use Rattle.x7_header.specs.declared.fault.HeaderFault.{HeaderFault}
 use Rattle.x7_header.specs.declared.fault.HeaderFault.TheVariants as fault
@@ -29,7 +29,7 @@ field_free (b ∷ bs) = hex_free (b ∷ bs)
 field_more : (bs rest : List ℕ) → has_no_end rest ≡ true → has_no_end (field_text bs ++ 32 ∷ rest) ≡ true
 field_more bs rest h = free_both (field_text bs) (32 ∷ rest) (field_free bs) h
 
-pub bit_free : (x : Contents) → HaveHeader x → has_no_end (bit_text x) ≡ true
+pub bit_free : (x : Contents) → FitHeader x → has_no_end (bit_text x) ≡ true
 bit_free x h = field_more x.a (field_text x.b ++ 32 ∷ (field_text x.c ++ 32 ∷ (field_text x.d ++ 32 ∷ decimal x.data_length)))
     (field_more x.b (field_text x.c ++ 32 ∷ (field_text x.d ++ 32 ∷ decimal x.data_length))
     (field_more x.c (field_text x.d ++ 32 ∷ decimal x.data_length) (field_more x.d (decimal x.data_length) (decimal_free x.data_length (omega (arith, h.data_length))))))
@@ -40,7 +40,7 @@ first_bytes letter x rest a =
     let b = all_prefix (λ c. c < 256) (field_bytes (record { letter = letter; kind = FieldKind.Counted }) x) rest a in
     (all_back (λ c. c < 256) (letter ∷ length x / 256 ∷ length x % 256 ∷ []) x b, all_back (λ c. c < 256) (field_bytes (record { letter = letter; kind = FieldKind.Counted }) x) rest a)
 
-pub fitting_header : (x : Contents) → HaveHeader x → AreBytes (header_bytes x) → FitsHeader x
+pub fitting_header : (x : Contents) → FitHeader x → AreBytes (header_bytes x) → FitsHeader x
 fitting_header x h all =
     let e = field_bytes (record { letter = 0x65; kind = FieldKind.Four }) (bytes_of_word x.data_length) ++ [] in
     let d = field_bytes (record { letter = 0x64; kind = FieldKind.Counted }) x.d ++ e in
@@ -70,9 +70,9 @@ headed b head p a h =
     let fits : AreBytes (drop head.1 b) = all_back (λ c. c < 256) (header_bytes head.0) (drop head.1 b) whole in
     record {
       header = head.0;
-      fits = fitting_header head.0 p.have_header (all_prefix (λ c. c < 256) (header_bytes head.0) (drop head.1 b) whole);
+      fits = fitting_header head.0 p.fit_header (all_prefix (λ c. c < 256) (header_bytes head.0) (drop head.1 b) whole);
       others = split (listing_of (drop head.1 b));
-      texts = split_line (bit_text head.0) (listing_of (drop head.1 b)) (bit_free head.0 p.have_header);
+      texts = split_line (bit_text head.0) (listing_of (drop head.1 b)) (bit_free head.0 p.fit_header);
       follows = record { rest = Ok (drop head.1 b); lines = round_trip (asm_limit - length (header_bytes head.0)) (drop head.1 b) fits (omega (arith, h, ap length p.prefix, length-append (header_bytes head.0) (drop head.1 b))); outcome_is = ap Ok p.prefix };
     }
 

@@ -111,7 +111,7 @@ session_ended all start line gap packets s each =
 
 words_by : (line line2 : ℕ) (held2 all all2 before bytes : List ℕ) (sessions new_sessions : List Session) (gap : List ℕ) (packets all_packets : List Packet) (np : Place) (new : Mode) (more : List (ℕ × Step)) (b : Bool)
     → ended all_packets ≡ b → (b ≡ true → line2 ≡ 0)
-    → SessionListed all2 (before ++ flat_map session_text sessions) line2 gap all_packets → (new ≡ Mode.Due → ⊥)
+    → SessionListed all2 (before ++ flat_map session_text sessions) line2 gap all_packets → (new ≡ Mode.SyncFound → ⊥)
     → (b ≡ true → (new_sessions ≡ sessions ++ record { gap = gap; packets = all_packets } ∷ []) × (np ≡ Searching []))
     → (b ≡ false → (new_sessions ≡ sessions) × (np ≡ Synced gap all_packets []))
     → IsReading bytes new_sessions np → HasListed (written_of true line2 held2 all2) before new_sessions np new
@@ -131,7 +131,7 @@ words_by line line2 held2 all all2 before bytes sessions new_sessions gap packet
 
 -- words more of a session are listed: a header's word, or payload words
 pub words_listed_at : (synced : Bool) (line line2 : ℕ) (held held2 all all2 before bytes : List ℕ) (sessions new_sessions : List Session) (gap tail : List ℕ) (packets : List Packet) (np : Place) (old new : Mode) (more : List (ℕ × Step))
-    → HasListed (written_of synced line held all) before sessions (Synced gap packets tail) old → (old ≡ Mode.Due → ⊥) → (new ≡ Mode.Due → ⊥) → LongerSession gap packets more sessions new_sessions np → IsReading bytes new_sessions np
+    → HasListed (written_of synced line held all) before sessions (Synced gap packets tail) old → (old ≡ Mode.SyncFound → ⊥) → (new ≡ Mode.SyncFound → ⊥) → LongerSession gap packets more sessions new_sessions np → IsReading bytes new_sessions np
     → (synced ≡ true → (all2 ≡ all ++ open_words line more) × (line2 ≡ in_line_after_words line more)) → HasListed (written_of true line2 held2 all2) before new_sessions np new
 words_listed_at false line line2 held held2 all all2 before bytes sessions new_sessions gap tail packets np old new more t o n l r h = absurd (o t.0)
 words_listed_at true line line2 held held2 all all2 before bytes sessions new_sessions gap tail packets np old new more t o n l r h =
@@ -141,7 +141,7 @@ words_listed_at true line line2 held held2 all all2 before bytes sessions new_se
     (session_words all all2 (before ++ flat_map session_text sessions) line line2 gap packets l.all more t.1 l.grown e.0 e.1) n l.ends l.goes_on r
 
 -- the end of a listing in a gap
-pub gap_ended : (all all2 before : List ℕ) (line : ℕ) (held bytes : List ℕ) (sessions : List Session) (at : Place) (m : Mode) → HasListed (written_of false line held all) before sessions at m → (m ≡ Mode.Due → ⊥)
+pub gap_ended : (all all2 before : List ℕ) (line : ℕ) (held bytes : List ℕ) (sessions : List Session) (at : Place) (m : Mode) → HasListed (written_of false line held all) before sessions at m → (m ≡ Mode.SyncFound → ⊥)
     → all2 ≡ all ++ B line held ++ close (in_line_after 32 line held) → all2 ≡ before ++ reading_text sessions at
 gap_ended all all2 before line held bytes sessions (Synced gap packets tail) m t d e = absurd (d t.0)
 gap_ended all all2 before line held bytes sessions (Searching gap) m t d e =

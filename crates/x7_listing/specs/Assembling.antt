@@ -5,7 +5,7 @@ use Rattle.std.specs.List.{AllByRecursion, flat_map}
 use Rattle.x7_crc.specs.Checker.{CheckerState, KeepsCheckOf}
 use Rattle.x7_header.specs.Header.{Contents, header_bytes, longest_header}
 use Rattle.x7_text.specs.Appends.{HasSpareRoom}
-use Rattle.x7_text.specs.Row.{row_bytes}
+use Rattle.x7_text.specs.Row.{bytes_row_size}
 use Rattle.x7_listing.specs.BitLine.{bit_text, FitsHeader}
 use Rattle.x7_listing.specs.Line.{Line, line_bytes, FitsLine, IsListed, ended_texts}
 use Rattle.x7_listing.specs.Assembly.{AreHeadedAsm, asm_limit, assembled, BeginsWithLines, HasNoHeaderLine}
@@ -60,11 +60,11 @@ pub record Output : Type 0 where
 
 -- there is room in a vector for the bytes of one line more: 32 at most, a row
 abbrev pub HasRoomForLine : Vec ℕ Global → Type 0
-HasRoomForLine out = HasSpareRoom out row_bytes
+HasRoomForLine out = HasSpareRoom out bytes_row_size
 
 -- there is room in an output for the bytes of one line more: 32 at most, a row
 abbrev pub HasLineRoom : Output → Type 0
-HasLineRoom b = length b.out + row_bytes ≤ b.room
+HasLineRoom b = length b.out + bytes_row_size ≤ b.room
 
 -- the bytes of lines begin within the bytes so far, and the checker keeps their check
 pub record IsSoundOutput (out : List ℕ) (start : ℕ) (checker : CheckerState) : Type 0 where

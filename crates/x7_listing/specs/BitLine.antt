@@ -2,9 +2,9 @@
 use Rattle.std.specs.Prelude.{◌≡◌, ◌≢◌, ℕ, ◌<◌, ◌^◌, ◌==◌, Bool, true, false, if◌then◌else◌, List, [], ◌∷◌, ◌++◌, length, slice_index, codes, decimal}
 use Rattle.std.specs.List.{flat_map}
 use Rattle.x7_words.specs.Word.{AreBytes}
-use Rattle.x7_header.specs.Header.{Contents, HaveHeader, header_bytes}
+use Rattle.x7_header.specs.Header.{Contents, FitHeader, header_bytes}
 use Rattle.x7_text.specs.Digits.{hex_byte}
-use Rattle.x7_listing.specs.Line.{space_byte}
+use Rattle.x7_words.specs.Characters.{space_byte}
 
 -- the text of a header's field: two digits for each byte, or `-` where it holds nothing
 abbrev pub field_text : List ℕ → List ℕ
@@ -17,7 +17,7 @@ bit_text x = codes "bit " ++ (field_text x.a ++ space_byte ∷ (field_text x.b +
 
 -- a header can hold these contents: each field fits its length, and is of bytes
 pub record FitsHeader (x : Contents) : Type 0 where
-  pub have : HaveHeader x
+  pub have : FitHeader x
   pub a : AreBytes x.a
   pub b : AreBytes x.b
   pub c : AreBytes x.c

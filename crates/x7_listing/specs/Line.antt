@@ -8,7 +8,7 @@ use Rattle.x7_regs.specs.declared.command.Command.{Command}
 use Rattle.x7_regs.specs.declared.register.Reg.TheVariants.{Crc}
 use Rattle.x7_packets.specs.PacketWords.{no_op, sync_word, type1_read_header, type1_write_header, type2_read_header, type2_write_header}
 use Rattle.x7_text.specs.Digits.{hex_byte, hex_word}
-pub use Rattle.x7_text.specs.Lines.{line_end_byte, space_byte}
+use Rattle.x7_words.specs.Characters.{line_end_byte, space_byte}
 use Rattle.x7_text.specs.Row.{IsByteRow, IsWordRow, spaced}
 
 -- a line: nothing, a comment, bytes, a header word, payload words, a command, or

@@ -6,7 +6,7 @@ use Rattle.x7_packets.specs.Reading.{Place, Searching, Synced, Session}
 use Rattle.x7_packets.specs.ByHand.{reading_of}
 use Rattle.x7_regs.specs.Register.{number_of}
 use Rattle.x7_regs.specs.declared.register.Reg.TheVariants.{Cmd}
-use Rattle.x7_text.specs.Row.{row_bytes, row_words, rows}
+use Rattle.x7_text.specs.Row.{bytes_row_size, row_words, rows}
 use Rattle.x7_listing.specs.HeadLine.{line_as, line_of_head}
 use Rattle.x7_listing.specs.Line.{Line, Bytes, Sync, Data, cmd_line}
 
@@ -20,7 +20,7 @@ packet_lines p = line_as (line_of_head p.step p.head) ∷ payload_lines (named_b
 
 -- the lines of the bytes of a gap, or of no whole word: 32 bytes a line
 abbrev pub gap_lines : List ℕ → List Line
-gap_lines bs = map Bytes (rows row_bytes bs)
+gap_lines bs = map Bytes (rows bytes_row_size bs)
 
 -- the lines of a gap, the sync word after it and packets
 abbrev pub packets_lines : List ℕ → List Packet → List Line

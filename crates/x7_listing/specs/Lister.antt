@@ -11,7 +11,7 @@ use Rattle.x7_packets.specs.declared.cutter.Cut.{Cut}
 use Rattle.x7_packets.specs.Mode.{Mode}
 use Rattle.x7_regs.specs.Register.{number_of}
 use Rattle.x7_regs.specs.declared.register.Reg.TheVariants.{Cmd}
-use Rattle.x7_text.specs.Row.{bytes_text, close, element_text, in_line_after, next_in_line, spaced, open_bytes, row_bytes, row_words}
+use Rattle.x7_text.specs.Row.{bytes_text, close, element_text, in_line_after, next_in_line, spaced, open_bytes, bytes_row_size, row_words}
 use Rattle.x7_listing.specs.HeadLine.{command_line, text_of_head}
 use Rattle.x7_listing.specs.Listing.{IsListing, session_text}
 
@@ -48,7 +48,7 @@ pub record GapListed (all start : List ℕ) (in_line : ℕ) (held gap : List ℕ
   pub prefix : List ℕ
   pub split : gap ≡ prefix ++ held
   pub listed : all ≡ start ++ open_bytes 0 prefix
-  pub count : in_line ≡ in_line_after row_bytes 0 prefix
+  pub count : in_line ≡ in_line_after bytes_row_size 0 prefix
   pub full : (length held ≡ 4) ⊎ (prefix ≡ [])
   pub few : length held ≤ 4
 
@@ -75,9 +75,9 @@ written_of is_synced in_line held text = record { is_synced = is_synced; in_line
 -- the lines of the session, or those of the gap but for what is held
 abbrev pub HasListedBy : Bool → WrittenSoFar → List ℕ → Place → Mode → Type 0
 HasListedBy false w start (Searching gap) m = GapListed w.text start w.in_line w.held gap
-HasListedBy false w start (Synced gap packets tail) m = (m ≡ Mode.Due) × (packets ≡ []) × (tail ≡ []) × GapListed w.text start w.in_line w.held (gap ++ sync_bytes)
+HasListedBy false w start (Synced gap packets tail) m = (m ≡ Mode.SyncFound) × (packets ≡ []) × (tail ≡ []) × GapListed w.text start w.in_line w.held (gap ++ sync_bytes)
 HasListedBy true w start (Searching gap) m = (gap ≡ []) × (w.in_line ≡ 0) × (w.text ≡ start)
-HasListedBy true w start (Synced gap packets tail) m = (m ≡ Mode.Due → ⊥) × SessionListed w.text start w.in_line gap packets
+HasListedBy true w start (Synced gap packets tail) m = (m ≡ Mode.SyncFound → ⊥) × SessionListed w.text start w.in_line gap packets
 
 -- the text of what comes before the place is `start`, and after it stands what is listed at the place
 abbrev pub HasListedAt : WrittenSoFar → List ℕ → Place → Mode → Type 0
@@ -93,7 +93,7 @@ pub record HasListedAll (w : WrittenSoFar) (before : List ℕ) (sessions : List 
   pub reading : IsReading bytes sessions place
   pub mode : Mode
   pub listed : HasListed w before sessions place mode
-  pub not_due : mode ≡ Mode.Due → ⊥
+  pub not_sync_found : mode ≡ Mode.SyncFound → ⊥
 
 -- the run was listed: where a reading was listed before it, the reading with what the run adds is listed after it
 abbrev pub WritesRun : Cut → WrittenSoFar → WrittenSoFar → Type 0
@@ -133,7 +133,7 @@ pub record HasListedJust (l : ListerState) (given before bytes : List ℕ) : Typ
 -- no sync word is still to be listed.
 pub record ListerStandsFor (l : ListerState) (given before bytes : List ℕ) : Type 0 where
   pub has_listed : HasListedJust l given before bytes
-  pub ready : l.cutter.mode ≡ Mode.Due → ⊥
+  pub ready : l.cutter.mode ≡ Mode.SyncFound → ⊥
 
 -- A lister that takes the runs of a stream: the texts given and its own are those of listings before, and
 -- then what is listed of these bytes, a sync word being due to be listed or not. Its own cutter took no byte,

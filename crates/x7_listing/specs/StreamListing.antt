@@ -6,7 +6,7 @@ use Rattle.x7_header.specs.Reading.{header_at}
 use Rattle.x7_header.specs.declared.fault.HeaderFault.{HeaderFault}
 use Rattle.x7_header.specs.declared.fault.HeaderFault.TheVariants as fault
 use Rattle.x7_listing.specs.BitLine.{bit_text}
-use Rattle.x7_listing.specs.Line.{line_end_byte}
+use Rattle.x7_words.specs.Characters.{line_end_byte}
 use Rattle.x7_listing.specs.Listing.{listing_of}
 
 -- the listing of a stream by what its header is read as: contents and size, or why there is none

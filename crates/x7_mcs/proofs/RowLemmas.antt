@@ -11,7 +11,6 @@ use Rattle.std.proofs.lemmas.Slice.Eq.{slice_eq-Decides}
 use Rattle.std.specs.Cmp.Lexicographic.{pointwise}
 use Rattle.std.specs.List.{flat_map, range_with_len, sum}
 use Rattle.x7_text.specs.Digits.{hex_byte, hex_digit}
-use Rattle.x7_words.specs.Word.{AreBytes}
 use Rattle.x7_mcs.specs.Record.{sum_byte}
 use Rattle.x7_mcs.specs.Text.{data_line, record_line}
 use Rattle.x7_text.proofs.BlockLemmas.{bytes_fit, halves, halves_below, halves_digits}
@@ -112,7 +111,3 @@ row_stands address v line content fields first second last f1 s1 g1 long l zero 
     ∙ ap₂ (λ (x y : List ℕ). 58 ∷ (x ++ (y ++ (chunk 25 16 line ++ ((get_or line 41 0 ∷ get_or line 42 0 ∷ []) ++ 10 ∷ []))))) three one
     ∙ ap₂ (λ (x y : List ℕ). 58 ∷ (fields ++ (first ++ (x ++ (y ++ 10 ∷ []))))) two g
     ∙ row_written address v content fields first second last l s h i j
-
-pub are_bytes : (xs : List ℕ) → ((i : ℕ) → get_or xs i 0 < 256) → AreBytes xs
-are_bytes [] h = tt
-are_bytes (x ∷ xs) h = (h 0, are_bytes xs (λ i. h (suc i)))

@@ -1,10 +1,7 @@
 -- The lines of a text (this project's choice).
 use Rattle.std.specs.Prelude.{ℕ, ◌-◌, ◌==◌, if◌then◌else◌, List, [], ◌∷◌, length, take, get_or}
+use Rattle.x7_words.specs.Characters.{return_byte}
 pub use Rattle.x7_text.specs.Lines.{on_first, split}
-
--- the byte that may stand before a line end: 0D
-abbrev pub return_byte : ℕ
-return_byte = 13
 
 -- a line without a 0D at its end
 abbrev pub without_return : List ℕ → List ℕ

@@ -1,7 +1,8 @@
 -- What a record says: count, address, type, data and sum byte (Intel HEX).
 use Rattle.std.specs.Prelude.{◌≡◌, ℕ, ◌+◌, ◌*◌, ◌-◌, ◌%◌, ◌==◌, ◌&&◌, ◌||◌, nat_le, not, Bool, if◌then◌else◌, List, length, take, drop, get_or, Result, Ok, Err}
 use Rattle.std.specs.List.{sum}
-pub use Rattle.x7_text.specs.EitherCase.{byte_of, number_of_digit, byte_before, bytes_of_pairs}
+pub use Rattle.x7_words.specs.Characters.{number_of_digit}
+pub use Rattle.x7_text.specs.EitherCase.{byte_of, byte_before, bytes_of_pairs}
 use Rattle.x7_mcs.specs.declared.fault.McsFault.{McsFault}
 use Rattle.x7_mcs.specs.declared.fault.McsFault.TheVariants as fault
 

@@ -3,7 +3,7 @@ use Rattle.std.specs.Prelude.{ℕ, ◌+◌, ◌*◌, ◌/◌, ◌%◌, ◌==◌,
 use Rattle.std.specs.List.{flat_map}
 use Rattle.x7_text.specs.Digits.{hex_byte}
 use Rattle.x7_text.specs.Row.{rows}
-use Rattle.x7_text.specs.Lines.{line_end_byte}
+use Rattle.x7_words.specs.Characters.{line_end_byte}
 use Rattle.x7_mcs.specs.Record.{block_size, byte_values, data_type, linear_base_type, sum_byte}
 
 -- how many bytes of a flash a row has, each but the last
@@ -35,9 +35,17 @@ colon = 58
 abbrev pub record_line : List ℕ → List ℕ
 record_line bs = colon ∷ (flat_map hex_byte (bs ++ sum_byte bs ∷ []) ++ line_end_byte ∷ [])
 
+-- how many bytes of data a record 04 has: those of its base
+abbrev pub base_data_size : ℕ
+base_data_size = 2
+
+-- the high and the low byte of a record's address, where it gives none
+abbrev pub no_address : ℕ
+no_address = 0
+
 -- the record 04 of a block of 65,536 bytes
 abbrev pub base_line : ℕ → List ℕ
-base_line block = record_line (2 ∷ 0 ∷ 0 ∷ linear_base_type ∷ block / byte_values ∷ block % byte_values ∷ [])
+base_line block = record_line (base_data_size ∷ no_address ∷ no_address ∷ linear_base_type ∷ block / byte_values ∷ block % byte_values ∷ [])
 
 -- the data record of bytes at an address
 abbrev pub data_line : ℕ → List ℕ → List ℕ

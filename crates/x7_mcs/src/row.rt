@@ -11,6 +11,7 @@ ghost use Rattle.x7_mcs.specs.Text.{data_line, row_fields, row_line_size, row_si
 use crate::record::{DATA_TYPE, sum_of};
 use std::simd::prelude::*;
 use x7_text::hex_of_byte;
+use x7_words::are_bytes;
 
 /// How many bytes of a flash a row has, each but the last.
 pub(crate) const ROW_SIZE: usize = 16;
@@ -82,8 +83,7 @@ fn hex_of_fields(address: u16) -> [u8; 8]
 /// The line of a data record of sixteen bytes at an address.
 #[inline(always)]
 pub(crate) fn row_line(address: u16, content: &[u8; 16]) -> [u8; ROW_LINE_SIZE]
-    ensures line { result ≡ data_line address content.now }
-    ensures bytes { AreBytes content.now }
+    ensures { result ≡ data_line address content.now }
 {
     let (first, second) = hex_of_content(content);
     let mut line = [b'\n'; ROW_LINE_SIZE];
@@ -164,10 +164,8 @@ fn guess_row(line: &[u8; ROW_LINE_SIZE]) -> Row {
 
 /// Whether a line is that of a data record of sixteen bytes at an address. It is compared piece by piece.
 #[inline(always)]
-#[tactic(auto, using(crate::proofs::RowLemmas::are_bytes))]
 fn is_row_line(line: &[u8; ROW_LINE_SIZE], address: u16, content: &[u8; 16]) -> bool
-    ensures line { IsTrue result → line.now ≡ data_line address content.now }
-    ensures bytes { AreBytes content.now }
+    ensures { IsTrue result → line.now ≡ data_line address content.now }
 {
     if line[0] != b':' || line[43] != b'\n' {
         return false;
@@ -199,5 +197,6 @@ pub(crate) fn first_row(text: &[u8]) -> Option<(Row, &[u8])>
     if !is_row_line(line, row.address, &row.content) {
         return None;
     }
+    are_bytes(&row.content);
     Some((row, rest))
 }

@@ -11,7 +11,7 @@ use crate::record::{BYTES_BESIDE, Meaning, meaning_of, record_data};
 use x7_text::read_pairs;
 
 /// The bytes of the longest record: 255 of data, and those beside them.
-const MOST_RECORD_BYTES: usize = 255 + BYTES_BESIDE;
+const MOST_RECORD_SIZE: usize = 255 + BYTES_BESIDE;
 
 /// The base that stands, and whether a record 01 stood.
 #[derive(Clone, Copy)]
@@ -76,13 +76,13 @@ pub(crate) fn put_line(
         return Err(McsFault::Line(n));
     }
     let (_, digits) = line.split_at(1);
-    if digits.len() > 2 * MOST_RECORD_BYTES {
+    if digits.len() > 2 * MOST_RECORD_SIZE {
         return Err(McsFault::Line(n));
     }
     if digits.len() % 2 != 0 {
         return Err(McsFault::Line(n));
     }
-    let mut room = [0; MOST_RECORD_BYTES];
+    let mut room = [0; MOST_RECORD_SIZE];
     let bytes = &mut room[..digits.len() / 2];
     if !read_pairs(bytes, digits) {
         return Err(McsFault::Line(n));

@@ -19,6 +19,12 @@ use x7_words::NoMemory;
 /// How many bytes of text a record 04 has, with its line end.
 pub(crate) const BASE_LINE_SIZE: usize = 16;
 
+/// How many bytes of data a record 04 has: those of its base.
+const BASE_DATA_SIZE: u8 = 2;
+
+/// The high and the low byte of a record's address, where it gives none.
+const NO_ADDRESS: u8 = 0;
+
 /// The record 01, which ends a text.
 pub(crate) const END_LINE: &[u8] = b":00000001FF\n";
 
@@ -56,9 +62,9 @@ fn put_block_start(out: &mut Vec<u8>, place: u32)
         put_record_line(
             out,
             &[
-                2,
-                0,
-                0,
+                BASE_DATA_SIZE,
+                NO_ADDRESS,
+                NO_ADDRESS,
                 LINEAR_BASE_TYPE,
                 (block / 256) as u8,
                 (block % 256) as u8,

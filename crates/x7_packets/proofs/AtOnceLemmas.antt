@@ -95,7 +95,7 @@ pub takes_head : (c n : CutterState) (w : ℕ) (step : Step) → c.mode ≡ Mode
 takes_head c n w step is to none none2 calm grows bytes sessions (Searching gap) s = absurd (let h : AtPlace c Mode.Synced (Searching gap) = rw is at s.at in h)
 takes_head c n w step is to none none2 calm grows bytes sessions (Synced gap packets tail) s =
     let g : GoesOn n (bytes ++ bytes_of_word w) sessions gap packets ((w, step) ∷ []) = goes_on c n w step bytes sessions gap tail packets is to none none2 calm grows s in
-    record { new_sessions = sessions; new_place = g.new; stands = g.stands; adds = g.longer; mode_changes = (λ e. absurd (let f : Mode.Synced ≡ Mode.Due = sym is ∙ e in cc), λ e. absurd (let f : Mode.Synced ≡ Mode.Due = sym to ∙ e in cc)) }
+    record { new_sessions = sessions; new_place = g.new; stands = g.stands; adds = g.longer; mode_changes = (λ e. absurd (let f : Mode.Synced ≡ Mode.SyncFound = sym is ∙ e in cc), λ e. absurd (let f : Mode.Synced ≡ Mode.SyncFound = sym to ∙ e in cc)) }
 
 pub takes_nop : (c : CutterState) → c.mode ≡ Mode.Synced → c.kept ≡ [] → c.machine.due ≡ 0 → TakesAsOneRun c c (bytes_of_word no_op) (Head no_op Nop)
 takes_nop c is none due = takes_head c c no_op Nop is is none none refl (λ ps s. nop_grows c.machine ps due s)
@@ -178,7 +178,7 @@ other_register register b e f g = absurd (let h : true ≡ false = ap (λ r. r =
 pub ends_gap : (old new : CutterState) (bs : List ℕ) (count : ℕ) → old.mode ≡ Mode.Searching → new.mode ≡ Mode.Synced → new.machine ≡ old.machine → new.kept ≡ [] → IsClear old.matcher
     → short_gap_room ≤ length bs → AreBytes bs → count + 4 ≤ longest_gap_and_sync → IsFirstSync bs count → EndsGap old new bs count
 ends_gap old new bs count is to same none2 clear long fits near i =
-    let middle : CutterState = record { mode = Mode.Due; matcher = old.matcher; machine = old.machine; kept = [] } in
+    let middle : CutterState = record { mode = Mode.SyncFound; matcher = old.matcher; machine = old.machine; kept = [] } in
     record {
       middle = middle;
       near = near;

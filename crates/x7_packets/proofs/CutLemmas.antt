@@ -44,14 +44,14 @@ kept_more c n bytes more sessions (Synced gap packets tail) s is to same kept sh
         at = rw (to, same) (h.0, ap (λ t. t ++ more) h.1 ∙ sym kept);
       };
       adds = (refl, more, refl);
-      mode_changes = (λ e. absurd (let f : Mode.Synced ≡ Mode.Due = sym is ∙ e in cc), λ e. absurd (let f : Mode.Synced ≡ Mode.Due = sym to ∙ e in cc));
+      mode_changes = (λ e. absurd (let f : Mode.Synced ≡ Mode.SyncFound = sym is ∙ e in cc), λ e. absurd (let f : Mode.Synced ≡ Mode.SyncFound = sym to ∙ e in cc));
     }
 
 -- the sync word is given
 pub sync_given : (c n : CutterState) (bytes : List ℕ) (sessions : List Session) (place : Place) → CutterStandsFor c bytes sessions place
-    → c.mode ≡ Mode.Due → n.mode ≡ Mode.Synced → n.machine ≡ c.machine → n.kept ≡ []
+    → c.mode ≡ Mode.SyncFound → n.mode ≡ Mode.Synced → n.machine ≡ c.machine → n.kept ≡ []
     → AfterRun c n (bytes ++ []) sessions place Sync
-sync_given c n bytes sessions (Searching gap) s is to same none = absurd (let h : AtPlace c Mode.Due (Searching gap) = rw is at s.at in h)
+sync_given c n bytes sessions (Searching gap) s is to same none = absurd (let h : AtPlace c Mode.SyncFound (Searching gap) = rw is at s.at in h)
 sync_given c n bytes sessions (Synced gap packets tail) s is to same none =
     let h : (packets ≡ []) × (tail ≡ []) × MachineStandsFor c.machine [] = rw is at s.at in
     record {
@@ -62,12 +62,12 @@ sync_given c n bytes sessions (Synced gap packets tail) s is to same none =
         at = rw (to, same, h.0) (h.2, h.1 ∙ sym none);
       };
       adds = (h.0, h.1, refl, rw (h.0, h.1) refl);
-      mode_changes = (is, λ e. absurd (let f : Mode.Synced ≡ Mode.Due = sym to ∙ e in cc));
+      mode_changes = (is, λ e. absurd (let f : Mode.Synced ≡ Mode.SyncFound = sym to ∙ e in cc));
     }
 
 -- bytes taken while searching, up to and including a sync word
 pub skip_found : (c n : CutterState) (bytes rest : List ℕ) (run : Bor (List ℕ)) (count : ℕ) (sessions : List Session) (place : Place)
-    → CutterStandsFor c bytes sessions place → c.mode ≡ Mode.Searching → n.mode ≡ Mode.Due → n.machine ≡ c.machine
+    → CutterStandsFor c bytes sessions place → c.mode ≡ Mode.Searching → n.mode ≡ Mode.SyncFound → n.machine ≡ c.machine
     → ((gap : List ℕ) → MatcherStandsFor c.matcher gap → HasNoSync gap → Searched gap rest (Some count) n.matcher) → run.now ≡ take count rest → AreBytes (take count rest)
     → AfterRun c n (bytes ++ take count rest) sessions place (Skip run)
 skip_found c n bytes rest run count sessions (Synced gap packets tail) s is to same after e fits = absurd (let h : AtPlace c Mode.Searching (Synced gap packets tail) = rw is at s.at in h)
@@ -113,9 +113,9 @@ skip_all c n bytes rest run sessions (Searching gap) s is to same after e fits =
 pub packet_bytes_grown : (ps qs : List Packet) (more : List (ℕ × Step)) → flat_map stepped qs ≡ flat_map stepped ps ++ more → packet_bytes qs ≡ packet_bytes ps ++ flat_map bytes_of_word (map (λ (s : ℕ × Step). s.0) more)
 packet_bytes_grown ps qs more e = ap (flat_map bytes_of_word) (words_grown ps qs more e) ∙ flat_map-append bytes_of_word (flat_map words ps) (map (λ (s : ℕ × Step). s.0) more)
 
-not_due : {m : Mode} (b : Bool) → m ≡ (if b then Mode.Searching else Mode.Synced) → m ≡ Mode.Due → ⊥
-not_due true e f = absurd (cc)
-not_due false e f = absurd (cc)
+not_sync_found : {m : Mode} (b : Bool) → m ≡ (if b then Mode.Searching else Mode.Synced) → m ≡ Mode.SyncFound → ⊥
+not_sync_found true e f = absurd (cc)
+not_sync_found false e f = absurd (cc)
 
 -- what words more come to
 abbrev WordsMore : CutterState → List ℕ → List Session → List ℕ → List Packet → List (ℕ × Step) → Type 0
@@ -182,7 +182,7 @@ pub head_more : (c n : CutterState) (bytes new : List ℕ) (sessions : List Sess
 head_more c n bytes new sessions (Searching gap) w step s is grows fits word none to matcher = absurd (let h : AtPlace c Mode.Synced (Searching gap) = rw is at s.at in h)
 head_more c n bytes new sessions (Synced gap packets tail) w step s is grows fits word none to matcher =
     let m = words_more c n bytes new sessions gap tail packets ((w, step) ∷ []) s is grows fits (append-nil (bytes_of_word w) ∙ word) none to matcher in
-    record { new_sessions = m.0; new_place = m.1; stands = m.2; adds = m.3; mode_changes = (λ e. absurd (let f : Mode.Synced ≡ Mode.Due = sym is ∙ e in cc), λ e. absurd (not_due (ends_by ((w, step) ∷ [])) to e)) }
+    record { new_sessions = m.0; new_place = m.1; stands = m.2; adds = m.3; mode_changes = (λ e. absurd (let f : Mode.Synced ≡ Mode.SyncFound = sym is ∙ e in cc), λ e. absurd (not_sync_found (ends_by ((w, step) ∷ [])) to e)) }
 
 pub word_more : (c n : CutterState) (bytes new : List ℕ) (sessions : List Session) (place : Place) (register w : ℕ)
     → CutterStandsFor c bytes sessions place → c.mode ≡ Mode.Synced
@@ -192,7 +192,7 @@ pub word_more : (c n : CutterState) (bytes new : List ℕ) (sessions : List Sess
 word_more c n bytes new sessions (Searching gap) register w s is grows fits word none to matcher = absurd (let h : AtPlace c Mode.Synced (Searching gap) = rw is at s.at in h)
 word_more c n bytes new sessions (Synced gap packets tail) register w s is grows fits word none to matcher =
     let m = words_more c n bytes new sessions gap tail packets ((w, Payload register w) ∷ []) s is grows fits (append-nil (bytes_of_word w) ∙ word) none to matcher in
-    record { new_sessions = m.0; new_place = m.1; stands = m.2; adds = m.3; mode_changes = (λ e. absurd (let f : Mode.Synced ≡ Mode.Due = sym is ∙ e in cc), λ e. absurd (not_due (ends_by ((w, Payload register w) ∷ [])) to e)) }
+    record { new_sessions = m.0; new_place = m.1; stands = m.2; adds = m.3; mode_changes = (λ e. absurd (let f : Mode.Synced ≡ Mode.SyncFound = sym is ∙ e in cc), λ e. absurd (not_sync_found (ends_by ((w, Payload register w) ∷ [])) to e)) }
 
 pub body_more : (c n : CutterState) (bytes new : List ℕ) (sessions : List Session) (place : Place) (register : ℕ) (run : Bor (List ℕ))
     → CutterStandsFor c bytes sessions place → c.mode ≡ Mode.Synced
@@ -202,11 +202,11 @@ pub body_more : (c n : CutterState) (bytes new : List ℕ) (sessions : List Sess
 body_more c n bytes new sessions (Searching gap) register run s is grows fits word none to matcher = absurd (let h : AtPlace c Mode.Synced (Searching gap) = rw is at s.at in h)
 body_more c n bytes new sessions (Synced gap packets tail) register run s is grows fits word none to matcher =
     let m = words_more c n bytes new sessions gap tail packets (run_steps (Body register run)) s is grows fits word none to matcher in
-    record { new_sessions = m.0; new_place = m.1; stands = m.2; adds = m.3; mode_changes = (λ e. absurd (let f : Mode.Synced ≡ Mode.Due = sym is ∙ e in cc), λ e. absurd (not_due (ends_by (run_steps (Body register run))) to e)) }
+    record { new_sessions = m.0; new_place = m.1; stands = m.2; adds = m.3; mode_changes = (λ e. absurd (let f : Mode.Synced ≡ Mode.SyncFound = sym is ∙ e in cc), λ e. absurd (not_sync_found (ends_by (run_steps (Body register run))) to e)) }
 
 -- a call that skipped bytes, up to and including a sync word
 pub cuts_found : (c n : CutterState) (rest : List ℕ) (run : Bor (List ℕ)) (count taken : ℕ)
-    → c.mode ≡ Mode.Searching → n.mode ≡ Mode.Due → n.machine ≡ c.machine → c.kept ≡ [] → n.kept ≡ [] → 0 < count → count ≤ length rest → taken ≡ count
+    → c.mode ≡ Mode.Searching → n.mode ≡ Mode.SyncFound → n.machine ≡ c.machine → c.kept ≡ [] → n.kept ≡ [] → 0 < count → count ≤ length rest → taken ≡ count
     → ((gap : List ℕ) → MatcherStandsFor c.matcher gap → HasNoSync gap → Searched gap rest (Some count) n.matcher) → run.now ≡ take count rest → AreBytes (take count rest)
     → Cuts c n rest taken (Skip run)
 cuts_found c n rest run count taken is to same none none2 some most t after e fits =

@@ -18,7 +18,7 @@ use Rattle.x7_packets.specs.declared.stream.Run.{Run}
 use Rattle.x7_packets.specs.declared.stream.Run.TheVariants as run
 use Rattle.x7_packets.specs.PacketsState.{PacketsState, piece_size}
 use Rattle.x7_packets.specs.Run.{FitsRun, IsNext, RunAdds, cut_of, is_last, bytes_of_run}
-use Rattle.x7_packets.specs.Stream.{GivesRun, GivesUp, IsFoundRun, IsLastFound, IsRunOf, PacketsStandFor, TookBytes, SameDue, CutsNext, ReadsAndGives, filled, not_given, with_tail}
+use Rattle.x7_packets.specs.Stream.{GivesRun, GivesUp, IsFoundRun, IsLastFound, IsRunOf, PacketsStandFor, TookBytes, SameSyncFound, CutsNext, ReadsAndGives, filled, not_given, with_tail}
 
 -- how many reads there are at most until a word is whole
 abbrev pub turns_left : List ℕ → List ℕ → ℕ
@@ -133,7 +133,7 @@ same_run FoundRun.End c r bytes kept i l h = absurd i
 same_lent : (f : FoundRun) (c : Cut) (r : Run) (bytes kept : List ℕ) (o n : CutterState) (left : ℕ) → IsFoundRun f c → IsRunOf f bytes kept r → Lends c bytes → IsLent o left c → SkipsAll n left c → IsLent o left (cut_of r) × SkipsAll n left (cut_of r)
 same_lent FoundRun.Skip c r bytes kept o n left i l h x y =
     let there : Lends (cut.Skip i.0) bytes = subst (λ t. Lends t bytes) i.1 h in
-    rw l.1 (tt, subst (λ (t : List ℕ). (n.mode ≡ Mode.Due) ⊎ (length t ≡ left)) (there ∙ sym l.2) (subst (λ t. SkipsAll n left t) i.1 y))
+    rw l.1 (tt, subst (λ (t : List ℕ). (n.mode ≡ Mode.SyncFound) ⊎ (length t ≡ left)) (there ∙ sym l.2) (subst (λ t. SkipsAll n left t) i.1 y))
 same_lent FoundRun.Sync c r bytes kept o n left i l h x y = rw l (tt, tt)
 same_lent (FoundRun.Head w step) c r bytes kept o n left i l h x y = rw l (tt, tt)
 same_lent (FoundRun.Word register w) c r bytes kept o n left i l h x y = rw l (subst (λ t. IsLent o left t) i x, tt)
@@ -199,7 +199,7 @@ lends old new left taken count cut.Sync sessions ns place np l a k none j = tt
 lends old new left taken count (cut.Head w step) sessions ns place np l a k none j = tt
 lends old new left taken count (cut.Word register w) sessions ns place np l a k none j = tt
 
-same_due_turns : (c : Cut) (old now new : Mode) (place : Place) → SameDue old now → ChangesMode c now new place → ChangesMode c old new place
+same_due_turns : (c : Cut) (old now new : Mode) (place : Place) → SameSyncFound old now → ChangesMode c now new place → ChangesMode c old new place
 same_due_turns cut.Need old now new place s t = (λ e. t.0 (s.0 e), t.1)
 same_due_turns (cut.Skip bytes) old now new (Searching gap) s t = t
 same_due_turns (cut.Skip bytes) old now new (Synced gap packets tail) s t = t
@@ -226,7 +226,7 @@ need_tells_none (cut.Head w step) n = absurd n
 need_tells_none (cut.Word register w) n = absurd n
 need_tells_none (cut.Body register bytes) n = absurd n
 
-need_turns : (c : Cut) (old new : Mode) (place : Place) → IsNeed c → ChangesMode c old new place → (old ≡ Mode.Due → ⊥) × (new ≡ Mode.Due → ⊥)
+need_turns : (c : Cut) (old new : Mode) (place : Place) → IsNeed c → ChangesMode c old new place → (old ≡ Mode.SyncFound → ⊥) × (new ≡ Mode.SyncFound → ⊥)
 need_turns cut.Need old new place n t = t
 need_turns (cut.Skip bytes) old new place n t = absurd n
 need_turns cut.Sync old new place n t = absurd n
@@ -247,14 +247,14 @@ parted given kept left n = ap (λ t. given ++ (kept ++ t)) (sym (take-append-dro
 
 -- after a call that needs more bytes the reader stands for the same bytes
 pub needs : (old new : PacketsState) (bytes given : List ℕ) (s : CutsNext old new false) → old.is_done ≡ false → PacketsStandFor old bytes given
-    → PacketsStandFor new bytes given × (old.cutter.mode ≡ Mode.Due → ⊥) × (new.cutter.mode ≡ Mode.Due → ⊥)
+    → PacketsStandFor new bytes given × (old.cutter.mode ≡ Mode.SyncFound → ⊥) × (new.cutter.mode ≡ Mode.SyncFound → ⊥)
 needs old new bytes given s on p =
     let none : not_given old ≡ old.cutter.kept = unknown_on old on in
     let still : new.is_done ≡ false = s.done ∙ on in
     let w : AfterRun old.cutter new.cutter ((given ++ not_given old) ++ take s.count old.left) p.sessions (with_tail old.cutter.kept p.place) s.run = s.cuts.adds _ p.sessions _ p.cutter in
     let k : new.cutter.kept ≡ tail_of w.new_place = s.kept _ w.new_sessions w.new_place w.stands in
     let at : (w.new_sessions ≡ p.sessions) × (w.new_place ≡ with_tail new.cutter.kept p.place) = need_place s.run p.sessions w.new_sessions p.place w.new_place old.cutter.kept new.cutter.kept s.is w.adds k in
-    let t : (old.cutter.mode ≡ Mode.Due → ⊥) × (new.cutter.mode ≡ Mode.Due → ⊥) = need_turns s.run old.cutter.mode new.cutter.mode w.new_place s.is w.mode_changes in
+    let t : (old.cutter.mode ≡ Mode.SyncFound → ⊥) × (new.cutter.mode ≡ Mode.SyncFound → ⊥) = need_turns s.run old.cutter.mode new.cutter.mode w.new_place s.is w.mode_changes in
     let joined : old.cutter.kept ++ take s.count old.left ≡ new.cutter.kept = s.cuts.joined ∙ ap (λ x. x ++ new.cutter.kept) (need_tells_none s.run s.is) in
     let taken : (given ++ not_given old) ++ take s.count old.left ≡ given ++ not_given new = ap (λ x. (given ++ x) ++ take s.count old.left) none ∙ append_assoc given old.cutter.kept (take s.count old.left) ∙ ap (λ x. given ++ x) (joined ∙ sym (unknown_on new still)) in
     let stands : CutterStandsFor new.cutter (given ++ not_given new) p.sessions (with_tail new.cutter.kept p.place) = rw (← taken, ← at.0, ← at.1) w.stands in (
@@ -364,7 +364,7 @@ turns_fall kept (c ∷ left) new (b ∷ piece) s e h = let few : length kept + s
 
 few_left : (c : CutterState) (m : Mode) (left : ℕ) → CompletesNone c m left → 0 < left → length c.kept + left < 4
 few_left c Mode.Searching left h s = absurd (omega (arith, h))
-few_left c Mode.Due left h s = absurd h
+few_left c Mode.SyncFound left h s = absurd h
 few_left c Mode.Synced left h s = h
 
 pub turns_go : (old new : PacketsState) (s : CutsNext old new false) (piece : List ℕ) → 0 < length piece → turns_left new.cutter.kept piece < turns_left old.cutter.kept old.left
@@ -374,8 +374,8 @@ turns_go old new s piece some =
     let joined : old.cutter.kept ++ old.left ≡ new.cutter.kept = ap (λ t. old.cutter.kept ++ t) (sym whole) ∙ s.cuts.joined ∙ ap (λ x. x ++ new.cutter.kept) (need_tells_none s.run s.is) in
     turns_fall old.cutter.kept old.left new.cutter.kept piece some (ap length (sym joined) ∙ length-append old.cutter.kept old.left) (few_left old.cutter old.cutter.mode (length old.left) (s.cuts.need.0 s.is))
 
-same_due : (old now new : Mode) → SameDue old now → (now ≡ Mode.Due → ⊥) → (new ≡ Mode.Due → ⊥) → SameDue old new
-same_due old now new s n m = (λ e. absurd (n (s.0 e)), λ e. absurd (m e))
+same_sync_found : (old now new : Mode) → SameSyncFound old now → (now ≡ Mode.SyncFound → ⊥) → (new ≡ Mode.SyncFound → ⊥) → SameSyncFound old new
+same_sync_found old now new s n m = (λ e. absurd (n (s.0 e)), λ e. absurd (m e))
 
 -- after a call that needs more bytes, and a read
 pub reads_on : (first old new : PacketsState) (more piece : List ℕ) (s : CutsNext old new false) → old.is_done ≡ false → TookBytes first old more → TookBytes first (filled new piece) (more ++ piece)
@@ -385,7 +385,7 @@ reads_on first old new more piece s on r = record {
       let h = r.stands bytes given p in
       let n = needs old new (bytes ++ more) given s on h.0 in (
         subst (λ t. PacketsStandFor (filled new piece) t given) (append_assoc bytes more piece) (fills new (bytes ++ more) given piece (needs_all old new s) (s.done ∙ on) n.0),
-        same_due first.cutter.mode old.cutter.mode new.cutter.mode h.1 n.1 n.2,
+        same_sync_found first.cutter.mode old.cutter.mode new.cutter.mode h.1 n.1 n.2,
       );
 }
 
@@ -397,7 +397,7 @@ reads_none p = record {
 
 -- ---- what a call tells
 
-next_same : (given : List ℕ) (old now new : Mode) (r : Run) → SameDue old now → IsNext given now r new → IsNext given old r new
+next_same : (given : List ℕ) (old now new : Mode) (r : Run) → SameSyncFound old now → IsNext given now r new → IsNext given old r new
 next_same given old now new r s n = record {
   sessions = n.sessions;
   place = n.place;
@@ -452,7 +452,7 @@ short_tail kept (Searching gap) p k = omega (arith, ap length k)
 short_tail kept (Synced gap packets tail) p k = p.3
 
 -- the reader stands for its bytes, all given, once it is done
-ends_tail : (p : PacketsState) (bytes given : List ℕ) (lent : Bor (List ℕ)) → p.is_done ≡ false → p.left ≡ [] → 0 < length p.cutter.kept → lent.now ≡ p.cutter.kept → (p.cutter.mode ≡ Mode.Due → ⊥) → PacketsStandFor p bytes given
+ends_tail : (p : PacketsState) (bytes given : List ℕ) (lent : Bor (List ℕ)) → p.is_done ≡ false → p.left ≡ [] → 0 < length p.cutter.kept → lent.now ≡ p.cutter.kept → (p.cutter.mode ≡ Mode.SyncFound → ⊥) → PacketsStandFor p bytes given
     → PacketsStandFor (record p { found = FoundRun.Tail; is_done = true }) bytes (given ++ lent.now) × IsNext given p.cutter.mode (run.Tail lent) p.cutter.mode × (given ++ lent.now ≡ bytes)
 ends_tail p bytes given lent on none some e due s =
     let keeps : not_given p ≡ p.cutter.kept = unknown_on p on in
@@ -488,7 +488,7 @@ ends_tail p bytes given lent on none some e due s =
     )
 
 -- the end, of a reader that has no byte more to tell
-ends_none : (p : PacketsState) (bytes given : List ℕ) → p.left ≡ [] → not_given p ≡ [] → (p.cutter.mode ≡ Mode.Due → ⊥) → (s : PacketsStandFor p bytes given) → tail_of s.place ≡ p.cutter.kept
+ends_none : (p : PacketsState) (bytes given : List ℕ) → p.left ≡ [] → not_given p ≡ [] → (p.cutter.mode ≡ Mode.SyncFound → ⊥) → (s : PacketsStandFor p bytes given) → tail_of s.place ≡ p.cutter.kept
     → PacketsStandFor (record p { found = FoundRun.End; is_done = true }) bytes (given ++ []) × IsNext given p.cutter.mode run.End p.cutter.mode × (given ++ [] ≡ bytes)
 ends_none p bytes given none nothing due s own =
     let now : given ++ not_given p ≡ given ++ [] = ap (λ t. given ++ t) nothing in
@@ -525,7 +525,7 @@ record Ends (old new : PacketsState) (r : Run) : Type 0 where
   pub done : new.is_done ≡ true
   pub failed : new.has_failed ≡ old.has_failed
   pub taken : new.taken ≡ old.taken
-  pub stands : (bytes given : List ℕ) → (old.cutter.mode ≡ Mode.Due → ⊥) → PacketsStandFor old bytes given
+  pub stands : (bytes given : List ℕ) → (old.cutter.mode ≡ Mode.SyncFound → ⊥) → PacketsStandFor old bytes given
       → PacketsStandFor new bytes (given ++ bytes_of_run r) × IsNext given old.cutter.mode r new.cutter.mode × (given ++ bytes_of_run r ≡ bytes)
 
 tail_ends : (p : PacketsState) (lent : Bor (List ℕ)) → p.is_done ≡ false → p.left ≡ [] → 0 < length p.cutter.kept → lent.now ≡ p.cutter.kept → Ends p (record p { found = FoundRun.Tail; is_done = true }) (run.Tail lent)
@@ -560,7 +560,7 @@ tells_end first old now new more r s on good reads tail end last =
             let f = fills now (bytes ++ more) given [] (needs_all old now s) (s.done ∙ on) n.0 in
             let t = e.stands ((bytes ++ more) ++ []) given n.2 f in (
               subst (λ x. PacketsStandFor new x (given ++ bytes_of_run r)) (append-nil (bytes ++ more)) t.0,
-              next_same given first.cutter.mode now.cutter.mode new.cutter.mode r (same_due first.cutter.mode old.cutter.mode now.cutter.mode h.1 n.1 n.2) t.1,
+              next_same given first.cutter.mode now.cutter.mode new.cutter.mode r (same_sync_found first.cutter.mode old.cutter.mode now.cutter.mode h.1 n.1 n.2) t.1,
             );
         all = λ _ bytes given p.
             let h = reads.stands bytes given p in
@@ -629,7 +629,7 @@ gives_up first old now new more s on reads e = rw e (record {
         let n = needs old now (bytes ++ more) given s on h.0 in
         let k = n.0 in (
           record { sessions = k.sessions; place = k.place; split = k.split; reading = k.reading; tail = k.tail; cutter = k.cutter; kept = k.kept; all = k.all; count = k.count },
-          same_due first.cutter.mode old.cutter.mode now.cutter.mode h.1 n.1 n.2,
+          same_sync_found first.cutter.mode old.cutter.mode now.cutter.mode h.1 n.1 n.2,
         );
   };
   failed = refl;
@@ -670,5 +670,5 @@ searches c s = by_mode c.mode s.at
   where
     by_mode : (m : Mode) → AtPlace c m (Searching []) → m ≡ Mode.Searching
     by_mode Mode.Searching a = refl
-    by_mode Mode.Due a = absurd a
+    by_mode Mode.SyncFound a = absurd a
     by_mode Mode.Synced a = absurd a

@@ -28,10 +28,10 @@ pub record CutterState : Type 0 where
 -- has
 abbrev pub AtPlace : CutterState → Mode → Place → Type 0
 AtPlace c Mode.Searching (Searching gap) = MatcherStandsFor c.matcher gap × MachineStandsFor c.machine []
-AtPlace c Mode.Due (Synced gap packets tail) = (packets ≡ []) × (tail ≡ []) × MachineStandsFor c.machine []
+AtPlace c Mode.SyncFound (Synced gap packets tail) = (packets ≡ []) × (tail ≡ []) × MachineStandsFor c.machine []
 AtPlace c Mode.Synced (Synced gap packets tail) = MachineStandsFor c.machine packets × (tail ≡ c.kept)
 AtPlace c Mode.Searching (Synced gap packets tail) = ⊥
-AtPlace c Mode.Due (Searching gap) = ⊥
+AtPlace c Mode.SyncFound (Searching gap) = ⊥
 AtPlace c Mode.Synced (Searching gap) = ⊥
 
 -- the cutter took these bytes, and this is their reading
@@ -91,20 +91,20 @@ Adds (Word register w) sessions (Synced gap packets tail) new_sessions new = Lon
 Adds (Body register bytes) sessions (Searching gap) new_sessions new = ⊥
 Adds (Body register bytes) sessions (Synced gap packets tail) new_sessions new = LongerSession gap packets (run_steps (Body register bytes)) sessions new_sessions new
 
--- no sync word is due to be given
-abbrev pub IsNotDue : Mode → Type 0
-IsNotDue mode = mode ≡ Mode.Due → ⊥
+-- no sync word was found that is still to be given
+abbrev pub IsNotSyncFound : Mode → Type 0
+IsNotSyncFound mode = mode ≡ Mode.SyncFound → ⊥
 
--- how a run goes with where the cutter stands before and after it: the sync word is due just after its last byte came,
--- and is given at once
+-- how a run goes with where the cutter stands before and after it: the sync word is found when its last byte comes,
+-- and is given next
 abbrev pub ChangesMode : Cut → Mode → Mode → Place → Type 0
-ChangesMode Need old new place = IsNotDue old × IsNotDue new
+ChangesMode Need old new place = IsNotSyncFound old × IsNotSyncFound new
 ChangesMode (Skip bytes) old new (Searching gap) = Unit {0}
-ChangesMode (Skip bytes) old new (Synced gap packets tail) = new ≡ Mode.Due
-ChangesMode Sync old new place = (old ≡ Mode.Due) × IsNotDue new
-ChangesMode (Head w step) old new place = IsNotDue old × IsNotDue new
-ChangesMode (Word register w) old new place = IsNotDue old × IsNotDue new
-ChangesMode (Body register bytes) old new place = IsNotDue old × IsNotDue new
+ChangesMode (Skip bytes) old new (Synced gap packets tail) = new ≡ Mode.SyncFound
+ChangesMode Sync old new place = (old ≡ Mode.SyncFound) × IsNotSyncFound new
+ChangesMode (Head w step) old new place = IsNotSyncFound old × IsNotSyncFound new
+ChangesMode (Word register w) old new place = IsNotSyncFound old × IsNotSyncFound new
+ChangesMode (Body register bytes) old new place = IsNotSyncFound old × IsNotSyncFound new
 
 -- what holds of a run by itself, whatever the reading: a header's step is no payload, a register has a number below 32,
 -- and lent payload bytes are whole words, one where the register is CMD
@@ -124,13 +124,13 @@ IsLent c bytes_left _ = Unit {0}
 
 -- a gap's bytes are lent all, or up to the end of the sync word, which is then due to be given
 abbrev pub SkipsAll : CutterState → ℕ → Cut → Type 0
-SkipsAll new bytes_left (Skip bytes) = (new.mode ≡ Mode.Due) ⊎ (length bytes.now ≡ bytes_left)
+SkipsAll new bytes_left (Skip bytes) = (new.mode ≡ Mode.SyncFound) ⊎ (length bytes.now ≡ bytes_left)
 SkipsAll new bytes_left _ = Unit {0}
 
 -- a piece of which this many bytes are left completes no run, with the bytes that are kept before it
 abbrev pub CompletesNone : CutterState → Mode → ℕ → Type 0
 CompletesNone c Mode.Searching bytes_left = bytes_left ≡ 0
-CompletesNone c Mode.Due bytes_left = ⊥
+CompletesNone c Mode.SyncFound bytes_left = ⊥
 CompletesNone c Mode.Synced bytes_left = length c.kept + bytes_left < 4
 
 -- the call gave no run, and needs more bytes
@@ -141,7 +141,7 @@ IsNeed _ = ⊥
 -- a cutter that stands here keeps no byte: only in a session does it keep some
 abbrev pub KeepsNone : Mode → Type 0
 KeepsNone Mode.Searching = Unit {0}
-KeepsNone Mode.Due = Unit {0}
+KeepsNone Mode.SyncFound = Unit {0}
 KeepsNone Mode.Synced = ⊥
 
 -- the run is one word of a session: a header's, or one of a payload of which words are due
@@ -156,19 +156,19 @@ IsBody register body (Body r bytes) = (r ≡ register) × (bytes.now ≡ body)
 IsBody register body _ = ⊥
 
 -- how many sync words are still to be given: one just after a sync word, else none
-abbrev pub syncs_due : Mode → ℕ
-syncs_due Mode.Due = 1
-syncs_due _ = 0
+abbrev pub syncs_to_give : Mode → ℕ
+syncs_to_give Mode.SyncFound = 1
+syncs_to_give _ = 0
 
--- the run ended with a whole word of a session: no sync word is due after it, and no byte is kept
+-- the run ended with a whole word of a session: no sync word is to be given after it, and no byte is kept
 pub record EndsWithWord (new : CutterState) (cut : Cut) : Type 0 where
-  pub given : syncs_due new.mode ≡ 0
+  pub given : syncs_to_give new.mode ≡ 0
   pub none_kept : new.kept ≡ []
   pub run : IsRun cut
 
 -- how many calls there are at most until a piece is used up, of which this many bytes are left
 abbrev pub calls_left : CutterState → ℕ → ℕ
-calls_left c bytes_left = 2 * bytes_left + syncs_due c.mode
+calls_left c bytes_left = 2 * bytes_left + syncs_to_give c.mode
 
 -- a call that needs more bytes has used the piece up; any other comes nearer to that
 abbrev pub ComesNearer : Cut → ℕ → ℕ → ℕ → Type 0

@@ -2,7 +2,7 @@
 -- fallback; that the first word switches a slot is this project's choice).
 use Rattle.std.specs.Prelude.{ℕ, List, ◌++◌}
 use Rattle.std.specs.List.{flat_map}
-pub use Rattle.x7_words.specs.Flash.{sector_bytes}
+pub use Rattle.x7_words.specs.Flash.{sector_size}
 use Rattle.x7_words.specs.Word.{bytes_of_word}
 use Rattle.x7_regs.specs.Register.{number_of}
 use Rattle.x7_regs.specs.declared.command.Command.TheVariants.{Desync, Iprog}
@@ -10,8 +10,8 @@ use Rattle.x7_regs.specs.declared.register.Reg.TheVariants.{Wbstar}
 use Rattle.x7_packets.specs.PacketWords.{command, no_op, type1_write_header}
 
 -- how many bytes a slot of a flash has
-abbrev pub flash_slot_bytes : ℕ
-flash_slot_bytes = 32
+abbrev pub flash_slot_size : ℕ
+flash_slot_size = 32
 
 -- how many slots of a flash fill its first sector
 abbrev pub flash_slot_count : ℕ

@@ -4,7 +4,7 @@
 use Rattle.std.specs.Prelude.{◌≡◌, ℕ, ◌+◌, ◌*◌, ◌-◌, ◌%◌, ◌^◌, ◌<◌, ◌≤◌, ◌==◌, nat_lt, ◌&&◌, ◌||◌, Bool, false, not, if◌then◌else◌, List, [], ◌∷◌, ◌++◌, length, Option, Some, None}
 use Rattle.std.specs.List.{flat_map}
 use Rattle.x7_regs.specs.Register.{number_of}
-use Rattle.x7_regs.specs.Command.{code_of}
+use Rattle.x7_regs.specs.Command.{code_of, command_code_of}
 use Rattle.x7_regs.specs.declared.register.Reg.TheVariants.{Cmd, Far}
 use Rattle.x7_regs.specs.declared.command.Command.TheVariants.{Desync, Iprog, Null}
 use Rattle.x7_packets.specs.declared.header.Step.{Step}
@@ -104,13 +104,13 @@ last_word register kept (e ∷ h) = written register e.access (last_word registe
 
 -- the command that CMD holds: the low five bits of its last word, NULL where it was never written
 abbrev pub command_held : History → ℕ
-command_held h = last_word (number_of Cmd) (code_of Null) h % 2 ^ 5
+command_held h = command_code_of (last_word (number_of Cmd) (code_of Null) h)
 
 -- the command that an access executes where CMD holds this one: a write to CMD its own, a write to FAR
 -- again the one held, save DESYNC and IPROG
 abbrev pub executed_by : ℕ → Access → Option ℕ
 executed_by held (Write register w) =
-    if register == number_of Cmd then Some (w % 2 ^ 5) else
+    if register == number_of Cmd then Some (command_code_of w) else
     if register == number_of Far && not (held == code_of Desync || held == code_of Iprog) then Some held else None
 executed_by held _ = None
 

@@ -8,12 +8,12 @@ pub data Mode : Type 0 where
   -- in a gap
   Searching : Mode
   -- just after a sync word that is still to be given
-  Due : Mode
+  SyncFound : Mode
   -- in a session
   Synced : Mode
 
 -- where a cutter stands in a stream, by the cutter's field
 abbrev pub mode_of : Stage → Mode
 mode_of stage.Searching = Mode.Searching
-mode_of stage.Due = Mode.Due
+mode_of stage.SyncFound = Mode.SyncFound
 mode_of stage.Synced = Mode.Synced

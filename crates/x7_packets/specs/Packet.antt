@@ -5,7 +5,7 @@ use Rattle.std.specs.Prelude.{◌≡◌, ℕ, ◌/◌, ◌%◌, ◌^◌, ◌≤�
 use Rattle.std.specs.List.{flat_map}
 use Rattle.x7_words.specs.Word.{AreWords, field_of}
 use Rattle.x7_regs.specs.Register.{number_of}
-use Rattle.x7_regs.specs.Command.{code_of}
+use Rattle.x7_regs.specs.Command.{code_of, command_code_of}
 use Rattle.x7_regs.specs.declared.register.Reg.TheVariants.{Cmd}
 use Rattle.x7_regs.specs.declared.command.Command.TheVariants.{Desync}
 use Rattle.x7_packets.specs.PacketWords.{dummy_word, no_op_kind, sync_word, type1_read_kind, type1_write_kind, type2_read_kind, type2_write_kind}
@@ -86,7 +86,7 @@ latest_of latest (p ∷ ps) = latest_of (latest_after latest p.step) ps
 
 -- the word, written to the register, ends the session: DESYNC written to CMD, by its low five bits
 abbrev pub ends_session : ℕ → ℕ → Bool
-ends_session register w = register == number_of Cmd && w % 2 ^ 5 == code_of Desync
+ends_session register w = register == number_of Cmd && command_code_of w == code_of Desync
 
 -- no word written to the register ends the session
 abbrev pub NoneEnds : ℕ → List ℕ → Type 0

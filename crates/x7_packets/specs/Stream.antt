@@ -36,7 +36,7 @@ pub record PacketsStandFor (p : PacketsState) (bytes given : List ℕ) : Type 0 
   pub tail : tail_of place ≡ (if p.is_done then p.cutter.kept else [])
   pub cutter : CutterStandsFor p.cutter (given ++ not_given p) sessions (with_tail p.cutter.kept place)
   pub kept : p.cutter.kept ≡ tail_of (with_tail p.cutter.kept place)
-  pub all : p.is_done ≡ true → (p.left ≡ []) × (p.cutter.mode ≡ Mode.Due → ⊥)
+  pub all : p.is_done ≡ true → (p.left ≡ []) × (p.cutter.mode ≡ Mode.SyncFound → ⊥)
   pub count : p.taken ≡ length bytes
 
 -- the run that was found is the one that the cutter gave, whatever bytes that lends
@@ -93,14 +93,14 @@ pub record Fills (old new : PacketsState) (rest rest_now : Option (List ℕ)) (g
   pub some : gave_bytes ≡ true → 0 < length piece
   pub end : gave_bytes ≡ false → (piece ≡ []) × AtEnd rest_now
 
--- a sync word is due to be given in both, or in neither
-abbrev pub SameDue : Mode → Mode → Type 0
-SameDue old new = (old ≡ Mode.Due) ↔ (new ≡ Mode.Due)
+-- a sync word was found that is still to be given, in both or in neither
+abbrev pub SameSyncFound : Mode → Mode → Type 0
+SameSyncFound old new = (old ≡ Mode.SyncFound) ↔ (new ≡ Mode.SyncFound)
 
 -- the reader took more bytes of the input, and gave none
 pub record TookBytes (old new : PacketsState) (more : List ℕ) : Type 0 where
   pub count : new.taken ≡ old.taken + length more
-  pub stands : (bytes given : List ℕ) → PacketsStandFor old bytes given → PacketsStandFor new (bytes ++ more) given × SameDue old.cutter.mode new.cutter.mode
+  pub stands : (bytes given : List ℕ) → PacketsStandFor old bytes given → PacketsStandFor new (bytes ++ more) given × SameSyncFound old.cutter.mode new.cutter.mode
 
 -- The run was cut of all bytes in the buffer: its bytes and those left after it are the ones that were kept and left
 -- before, after what was read; payload words and a gap's bytes among them are lent at once.

@@ -27,7 +27,7 @@ pub(crate) enum Stage {
     /// In a gap.
     Searching,
     /// Just after a sync word that is still to be given.
-    Due,
+    SyncFound,
     /// In a session.
     Synced,
 }
@@ -177,7 +177,7 @@ impl Cutter {
     {
         match self.stage {
             Stage::Searching => false,
-            Stage::Due | Stage::Synced => true,
+            Stage::SyncFound | Stage::Synced => true,
         }
     }
 
@@ -314,7 +314,7 @@ impl Cutter {
         let rest = &piece[*at..];
         match self.stage {
             Stage::Searching => self.skip(rest, at),
-            Stage::Due => {
+            Stage::SyncFound => {
                 self.stage = Stage::Synced;
                 Cut::Sync
             }
@@ -334,7 +334,7 @@ impl Cutter {
         }
         let count = match self.matcher.search(rest) {
             Some(count) => {
-                self.stage = Stage::Due;
+                self.stage = Stage::SyncFound;
                 count
             }
             None => rest.len(),

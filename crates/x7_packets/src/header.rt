@@ -9,7 +9,7 @@ use crate::packet_words::{
     DUMMY_WORD, NO_OP_KIND, SYNC_WORD, TYPE1_READ_KIND, TYPE1_WRITE_KIND, TYPE2_READ_KIND,
     TYPE2_WRITE_KIND, kind_in, register_in, type1_count_in, type2_count_in,
 };
-use x7_regs::{COMMAND_BITS, Command, Reg};
+use x7_regs::{Command, Reg, command_code_of};
 
 /// What a word of a session is, by its place among the packets.
 #[derive(Clone, Copy)]
@@ -63,7 +63,7 @@ pub fn is_cmd(register: u8) -> bool
 pub(crate) fn ends_session(register: u8, w: u32) -> bool
     ensures { result ≡ ends_session register w }
 {
-    is_cmd(register) && w & COMMAND_BITS == Command::Desync.code()
+    is_cmd(register) && command_code_of(w) == Command::Desync.code()
 }
 
 impl Step {

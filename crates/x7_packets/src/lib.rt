@@ -33,6 +33,6 @@ pub use packet_words::{
     type1_read_header, type1_write_header, type2_count_in, type2_read_header, type2_write_header,
     write_one,
 };
-pub use slot::{FLASH_SLOT_BYTES, FLASH_SLOT_COUNT, flash_slot};
+pub use slot::{FLASH_SLOT_COUNT, FLASH_SLOT_SIZE, flash_slot};
 pub use stream::{Packets, Run};
 pub use sync::Matcher;

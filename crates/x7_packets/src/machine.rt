@@ -103,7 +103,6 @@ impl Machine {
         requires within_due { length body.now / 4 ≤ self.old.due }
         requires one_word_of_cmd { self.old.register ≡ number_of Cmd → length body.now ≡ 4 }
         ensures ends { result ≡ ends_by (payload_steps self.old.register (words_of_bytes body.now)) }
-        ensures register { self.old.register < reg_number_count }
         ensures grows { (ps : List Packet) → MachineStandsFor self.old ps → Grows ps (payload_steps self.old.register (words_of_bytes body.now)) self.new }
     {
         if is_cmd(self.register) {

@@ -9,7 +9,7 @@ use x7_words::{bytes_of, word_of};
 const BLOCK_WORDS: usize = 8;
 
 /// How many bytes a block has.
-const BLOCK_BYTES: usize = 32;
+const BLOCK_SIZE: usize = 32;
 
 /// How many of the first words are `w`, one after the other, counted word by word.
 #[inline(always)]
@@ -28,17 +28,17 @@ fn count_words(bytes: &[u8], w: u32) -> usize
 
 /// A block that has no word but `w`.
 #[inline(always)]
-fn block_of(w: u32) -> [u8; BLOCK_BYTES]
+fn block_of(w: u32) -> [u8; BLOCK_SIZE]
     ensures { result ≡ equal_bytes w BLOCK_WORDS }
 {
-    let mut block = [0; BLOCK_BYTES];
+    let mut block = [0; BLOCK_SIZE];
     block.copy_from_slice([bytes_of(w); BLOCK_WORDS].as_flattened());
     block
 }
 
 /// True only for equal blocks, compared at once; that equal ones give true is not promised.
 #[inline(always)]
-fn are_equal(a: &[u8; BLOCK_BYTES], b: &[u8; BLOCK_BYTES]) -> bool
+fn are_equal(a: &[u8; BLOCK_SIZE], b: &[u8; BLOCK_SIZE]) -> bool
     ensures { IsTrue result → a.now ≡ b.now }
 {
     u8x32::from_array(*a)
@@ -50,11 +50,11 @@ fn are_equal(a: &[u8; BLOCK_BYTES], b: &[u8; BLOCK_BYTES]) -> bool
 /// How many of the first blocks have no word but `w`, one after the other.
 #[inline(always)]
 fn count_blocks(bytes: &[u8], w: u32) -> usize
-    ensures within { BLOCK_BYTES * result ≤ length bytes.now }
-    ensures equal { take (BLOCK_BYTES * result) bytes.now ≡ equal_bytes w (BLOCK_WORDS * result) }
+    ensures within { BLOCK_SIZE * result ≤ length bytes.now }
+    ensures equal { take (BLOCK_SIZE * result) bytes.now ≡ equal_bytes w (BLOCK_WORDS * result) }
 {
     let block = block_of(w);
-    let (blocks, _) = bytes.as_chunks::<BLOCK_BYTES>();
+    let (blocks, _) = bytes.as_chunks::<BLOCK_SIZE>();
     for (i, next) in blocks.iter().enumerate() {
         if !are_equal(next, &block) {
             return i;
@@ -69,10 +69,10 @@ pub(crate) fn count_equal(bytes: &[u8], w: u32) -> usize
     ensures within { 4 * result ≤ length bytes.now }
     ensures equal { take (4 * result) bytes.now ≡ equal_bytes w result }
 {
-    let near = count_words(&bytes[..bytes.len().min(BLOCK_BYTES)], w);
+    let near = count_words(&bytes[..bytes.len().min(BLOCK_SIZE)], w);
     if near < BLOCK_WORDS {
         return near;
     }
     let blocks = count_blocks(bytes, w);
-    BLOCK_WORDS * blocks + count_words(&bytes[BLOCK_BYTES * blocks..], w)
+    BLOCK_WORDS * blocks + count_words(&bytes[BLOCK_SIZE * blocks..], w)
 }

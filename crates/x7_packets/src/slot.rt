@@ -7,7 +7,7 @@ use x7_regs::{Command, Reg};
 use x7_words::bytes_of;
 
 /// How many bytes a slot of a flash has.
-pub const FLASH_SLOT_BYTES: u64 = 32;
+pub const FLASH_SLOT_SIZE: u64 = 32;
 
 /// How many slots of a flash fill its first sector.
 pub const FLASH_SLOT_COUNT: u64 = 2048;

@@ -13,7 +13,7 @@ use Rattle.x7_part.specs.declared.fault.PartFault.{PartFault}
 use Rattle.x7_part.specs.declared.fault.PartFault.TheVariants.{Toml, Range, TooMany, NoMemory}
 use Rattle.x7_part.specs.declared.fault.PartKey.TheVariants as key
 use Rattle.x7_part.specs.Keys.{top}
-use Rattle.x7_part.specs.Limits.{greatest_bus_width, greatest_mode, most_name_bytes, least_frame_words, most_frame_words, most_rows, most_frames, most_wait_ticks, most_words}
+use Rattle.x7_part.specs.Limits.{greatest_bus_width, greatest_mode, most_name_size, least_frame_words, most_frame_words, most_rows, most_frames, most_wait_ticks, most_words}
 use Rattle.x7_part.specs.Part.{RowData, PartData}
 use Rattle.x7_part.specs.Ranges.{IsPart}
 use Rattle.x7_part.specs.Address.{IsRow}
@@ -55,7 +55,7 @@ made t types others ranges apart frames =
     ∷ unless (is_start_unit v.start_unit) (Range (top key.StartUnit))
     ∷ []) all.1.0 in
     let name = name_in v.name (unless_none (is_name v.name) (Range (top key.Name)) all.0) in
-    let long = long_in 1 most_name_bytes (length v.name) name.0 in
+    let long = long_in 1 most_name_size (length v.name) name.0 in
     let idcode = odd_in v.idcode (unless_none (is_odd v.idcode) (Range (top key.Idcode)) h.0) in
     let lock = (in_range 0 most_wait_ticks v.lock (unless_none (is_in 0 most_wait_ticks v.lock) (Range (top key.Lock)) h.1.1.1.0)).1 in
     let matched = (in_range 0 most_wait_ticks v.matched (unless_none (is_in 0 most_wait_ticks v.matched) (Range (top key.Match)) h.1.1.1.1.0)).1 in

@@ -10,7 +10,7 @@ use Rattle.x7_part.specs.declared.fault.PartFault.{PartFault}
 use Rattle.x7_part.specs.declared.fault.PartFault.TheVariants.{Range}
 use Rattle.x7_part.specs.declared.fault.PartKey.TheVariants as key
 use Rattle.x7_part.specs.Keys.{in_row}
-use Rattle.x7_part.specs.Limits.{first_printed, greatest_block, greatest_half, greatest_row, last_printed, most_columns, most_minors, most_name_bytes, IsStartUnit}
+use Rattle.x7_part.specs.Limits.{first_printed, greatest_block, greatest_half, greatest_row, last_printed, most_columns, most_minors, most_name_size, IsStartUnit}
 use Rattle.x7_part.specs.Address.{IsRow, AreWidths}
 use Rattle.x7_part.specs.Values.{RowValues, natural, row_by_values, widths_of}
 use Rattle.x7_part.specs.PartChecks.{unless, first_of, rows_fault, next_row_number, is_in, is_length_in, are_printed, is_name, is_odd, is_start_unit, are_in, are_minors, are_widths, are_widths_or_none, row_range_fault}
@@ -30,9 +30,9 @@ in_range low high (negsuc n) h =
     let p = and_parts (int_le (pos low) (negsuc n)) (int_le (negsuc n) (pos high)) h in
     absurd (false≢true p.0)
 
-pub name_in : (bs : List ℕ) → is_name bs ≡ true → (is_length_in 1 most_name_bytes (length bs) ≡ true) × (are_printed bs ≡ true)
+pub name_in : (bs : List ℕ) → is_name bs ≡ true → (is_length_in 1 most_name_size (length bs) ≡ true) × (are_printed bs ≡ true)
 unfolding is_name
-name_in bs h = and_parts (is_length_in 1 most_name_bytes (length bs)) (are_printed bs) h
+name_in bs h = and_parts (is_length_in 1 most_name_size (length bs)) (are_printed bs) h
 
 pub long_in : (low high n : ℕ) → is_length_in low high n ≡ true → (low ≤ n) × (n ≤ high)
 long_in low high n h = let p = and_parts (nat_le low n) (nat_le n high) h in (leb-true low n p.0, leb-true n high p.1)

@@ -26,8 +26,8 @@ abbrev pub greatest_row : ℕ
 greatest_row = 31
 
 -- the most bytes of a part's name
-abbrev pub most_name_bytes : ℕ
-most_name_bytes = 64
+abbrev pub most_name_size : ℕ
+most_name_size = 64
 
 -- the first byte that may stand in a part's name, an exclamation mark
 abbrev pub first_printed : ℕ

@@ -4,7 +4,7 @@ use Rattle.toml.specs.Data.{Data, Items, no_items, item, Members, as_str, as_int
 use Rattle.x7_part.specs.declared.fault.PartKey.TheVariants as key
 use Rattle.x7_part.specs.declared.fault.PartFault.{PartFault}
 use Rattle.x7_part.specs.declared.fault.PartFault.TheVariants.{Key, Range, NoMemory}
-use Rattle.x7_part.specs.Limits.{first_printed, greatest_block, greatest_bus_width, greatest_half, greatest_idcode, greatest_mode, greatest_row, half_width, last_printed, least_block_width, least_column_width, least_frame_words, least_minor_width, least_row_width, most_address_width, most_block_width, most_column_width, most_columns, most_frame_words, most_minor_width, most_minors, most_name_bytes, most_row_width, most_rows, most_wait_ticks}
+use Rattle.x7_part.specs.Limits.{first_printed, greatest_block, greatest_bus_width, greatest_half, greatest_idcode, greatest_mode, greatest_row, half_width, last_printed, least_block_width, least_column_width, least_frame_words, least_minor_width, least_row_width, most_address_width, most_block_width, most_column_width, most_columns, most_frame_words, most_minor_width, most_minors, most_name_size, most_row_width, most_rows, most_wait_ticks}
 use Rattle.x7_part.specs.Keys.{top, in_row}
 use Rattle.x7_part.specs.Address.{address_width}
 use Rattle.x7_part.specs.Values.{under, row_tables, RowValues, TopValues, natural, widths_of}
@@ -133,7 +133,7 @@ are_printed (b ∷ bs) = (nat_le first_printed b && nat_le b last_printed) && ar
 
 -- a name: 1 to 64 printed bytes
 unfoldable pub is_name : List ℕ → Bool
-is_name bs = is_length_in 1 most_name_bytes (length bs) && are_printed bs
+is_name bs = is_length_in 1 most_name_size (length bs) && are_printed bs
 
 -- the number is odd, positive and below 2^32
 unfoldable pub is_odd : ℤ → Bool

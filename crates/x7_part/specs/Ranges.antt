@@ -1,6 +1,6 @@
 -- The ranges of a part's numbers (this project's choice).
 use Rattle.std.specs.Prelude.{◌≡◌, ◌+◌, ◌*◌, ◌%◌, ◌^◌, ◌<◌, ◌≤◌, length, All}
-use Rattle.x7_part.specs.Limits.{first_printed, greatest_bus_width, greatest_mode, last_printed, least_frame_words, most_frame_words, most_name_bytes, most_rows, most_frames, most_words, IsStartUnit}
+use Rattle.x7_part.specs.Limits.{first_printed, greatest_bus_width, greatest_mode, last_printed, least_frame_words, most_frame_words, most_name_size, most_rows, most_frames, most_words, IsStartUnit}
 use Rattle.x7_part.specs.Part.{PartData, frame_words}
 use Rattle.x7_part.specs.Address.{AreRows, AreWidths}
 use Rattle.x7_part.specs.AddressOrder.{addresses_in}
@@ -9,7 +9,7 @@ use Rattle.x7_part.specs.AddressOrder.{addresses_in}
 -- a part may have
 pub record IsPart (part : PartData) : Type 0 where
   pub named : 1 ≤ length part.name
-  pub short : length part.name ≤ most_name_bytes
+  pub short : length part.name ≤ most_name_size
   pub printed : All (λ b. (first_printed ≤ b) × (b ≤ last_printed)) part.name
   pub idcode : part.idcode < 2 ^ 32
   pub odd : part.idcode % 2 ≡ 1

@@ -19,7 +19,7 @@ pub(crate) const GREATEST_HALF: u32 = 1;
 pub(crate) const GREATEST_ROW: u32 = 31;
 
 /// The most bytes of a part's name.
-pub(crate) const MOST_NAME_BYTES: usize = 64;
+pub(crate) const MOST_NAME_SIZE: usize = 64;
 
 /// The first byte that may stand in a part's name, an exclamation mark.
 pub(crate) const FIRST_PRINTED: u8 = 0x21;

@@ -9,7 +9,7 @@ use crate::fault::{PartFault, Which};
 use crate::limits::{
     FIRST_PRINTED, GREATEST_IDCODE, HALF_WIDTH, LAST_PRINTED, LEAST_BLOCK_WIDTH,
     LEAST_COLUMN_WIDTH, LEAST_MINOR_WIDTH, LEAST_ROW_WIDTH, MOST_BLOCK_WIDTH, MOST_COLUMN_WIDTH,
-    MOST_COLUMNS, MOST_MINOR_WIDTH, MOST_MINORS, MOST_NAME_BYTES, MOST_ROW_WIDTH,
+    MOST_COLUMNS, MOST_MINOR_WIDTH, MOST_MINORS, MOST_NAME_SIZE, MOST_ROW_WIDTH,
 };
 use std::alloc::Global;
 
@@ -44,7 +44,7 @@ fn are_printed(bytes: &[u8]) -> bool
 pub(crate) fn is_name(text: &str) -> bool
     ensures { result ≡ is_name text.now }
 {
-    is_length_in(text.len(), 1, MOST_NAME_BYTES) && are_printed(text.as_bytes())
+    is_length_in(text.len(), 1, MOST_NAME_SIZE) && are_printed(text.as_bytes())
 }
 
 /// The number, where it lies from `low` to `high`; else the fault `Range`.

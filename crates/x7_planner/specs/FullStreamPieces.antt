@@ -70,8 +70,8 @@ pub record HasGiven (s : FullStreamState) (given : List ℕ) : Type 0 where
   pub whole : given ++ left ≡ full_stream s.part s.plan
 
 -- the most bytes of a frame
-abbrev pub most_frame_bytes : ℕ
-most_frame_bytes = 4 * most_frame_words
+abbrev pub most_frame_size : ℕ
+most_frame_size = 4 * most_frame_words
 
 -- how many slots, pads too, a piece of the frame data has at most
 abbrev pub piece_slots : ℕ
@@ -79,7 +79,7 @@ piece_slots = 160
 
 -- how many bytes a piece has at most
 abbrev pub piece_limit : ℕ
-piece_limit = piece_slots * most_frame_bytes
+piece_limit = piece_slots * most_frame_size
 
 -- how many bytes the settings of startup have: those of nineteen words
 abbrev pub settings_size : ℕ

@@ -9,7 +9,7 @@ ghost use Rattle.x7_part.specs.Slot.{slots_in};
 ghost use Rattle.x7_planner.specs.FullStream.{frame_at_slot, full_opening, full_settings, full_stream, most_slots, words_of_slots};
 ghost use Rattle.x7_planner.specs.Fault.{IsFullFault};
 ghost use Rattle.x7_planner.specs.Writer.{bytes_of_words};
-ghost use Rattle.x7_planner.specs.FullStreamPieces.{AppendsWithin, HasGiven, AppendsNext, WritesPiece, most_frame_bytes, opening_size, piece_limit, puts_left, settings_size};
+ghost use Rattle.x7_planner.specs.FullStreamPieces.{AppendsWithin, HasGiven, AppendsNext, WritesPiece, most_frame_size, opening_size, piece_limit, puts_left, settings_size};
 ghost use Rattle.x7_planner.specs.declared.fault.PlanFault.{PlanFault};
 ghost use Rattle.x7_planner.specs.declared.full_stream.NextPiece.{NextPiece};
 
@@ -138,7 +138,7 @@ fn put_slots(
     requires order { from ≤ to }
     requires within { to ≤ length (slots_in part.now) }
     ensures appends { OnOk result (out.new.items ≡ out.old.items ++ bytes_of_words (words_of_slots part.now plan.now (drop from (take to (slots_in part.now))))) }
-    ensures within { AppendsWithin out.old out.new result (most_frame_bytes * (to - from)) }
+    ensures within { AppendsWithin out.old out.new result (most_frame_size * (to - from)) }
 {
     let first = first_address(part);
     for n in from..to {

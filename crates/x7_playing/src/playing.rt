@@ -4,7 +4,7 @@ ghost use Rattle.x7_words.specs.Input.{AsksAtMost, AtEnd, InputsStay};
 ghost use Rattle.x7_forms.specs.Event.{event_of, no_memory};
 ghost use Rattle.x7_forms.specs.Known.{stream_limit};
 ghost use Rattle.x7_playing.specs.Playing.{HasPlayed, MayPlay, PlaysOn, PlaysStream};
-ghost use Rattle.x7_forms.specs.Turn.{GivesFew, ReadsRest, IsLastAsked, UnreadRest, play_turn_bytes};
+ghost use Rattle.x7_forms.specs.Turn.{GivesFew, ReadsRest, IsLastAsked, UnreadRest, play_turn_size};
 ghost use Rattle.x7_forms.specs.ReadingStops.{StopsAmong, limited_together};
 ghost use Rattle.x7_forms.specs.Step.{IsOneUnplayed, IsUnplayed, ReadsStream, ReadsStreams};
 
@@ -12,11 +12,11 @@ use crate::player::Player;
 use std::alloc::Global;
 use x7_forms::{Refusal, STREAM_LIMIT, Why, data_start, next_turn, open, skip_rest};
 use x7_part::Part;
-use x7_words::Inputs;
+use x7_words::{Inputs, are_bytes};
 
 /// The most bytes that one turn of a stream that is played reads: no fewer than the longest header has, so that the
 /// first turn judges it.
-const PLAY_TURN_BYTES: usize = 266_240;
+const PLAY_TURN_SIZE: usize = 266_240;
 
 /// Plays the rest of the open stream, of which `limit` bytes are within the limit, and answers how many of these are
 /// left; where `last` says that the turn before was the last, there is no rest.
@@ -29,7 +29,7 @@ fn play_rest<'w, I: Inputs>(
     piece: &mut [u8],
 ) -> Result<usize, Refusal<'w>>
     requires selected { (I.state inputs.old).selected ≡ true }
-    requires buffer { length piece.old ≡ play_turn_bytes }
+    requires buffer { length piece.old ≡ play_turn_size }
     requires end { last ≡ true → AtEnd (I.state inputs.old).rest }
     requires may_play { MayPlay player.old limit }
     ensures played { IfOk result (λ left. (more : List ℕ) × (length more + left ≡ limit) × PlaysOn player.old player.new more × ReadsRest (I.state inputs.old) (I.state inputs.new) more) }
@@ -64,7 +64,7 @@ fn play_stream<'w, I: Inputs>(
     limit: usize,
     piece: &mut [u8],
 ) -> Result<usize, Refusal<'w>>
-    requires buffer { length piece.old ≡ play_turn_bytes }
+    requires buffer { length piece.old ≡ play_turn_size }
     requires may_play { MayPlay player.old limit }
     ensures played { IfOk result (λ left. PlaysStream limit left (PlaysOn player.old player.new) (ReadsStream (I.state inputs.old) (I.state inputs.new) limit name.now)) }
     ensures refused { IfErr result (λ r. ReadsStream (I.state inputs.old) (I.state inputs.new) limit name.now (Err (event_of r))) }
@@ -77,6 +77,7 @@ fn play_stream<'w, I: Inputs>(
     open(inputs, name)?;
     let first = next_turn(inputs, name, limit, piece)?;
     let left = limit - first.count;
+    are_bytes(&piece[..first.count]);
     match data_start(name, &piece[..first.count]) {
         Ok(start) => {
             if player.play(&piece[start..first.count]).is_err() {
@@ -110,7 +111,7 @@ pub fn play_streams<'w, I: Inputs>(
     let Ok(mut player) = Player::new(alloc, part) else {
         return Err(Refusal::unnamed(Why::NoMemory));
     };
-    let Ok(mut piece) = vec![in alloc; 0u8; PLAY_TURN_BYTES] else {
+    let Ok(mut piece) = vec![in alloc; 0u8; PLAY_TURN_SIZE] else {
         return Err(Refusal::unnamed(Why::NoMemory));
     };
     let mut left = STREAM_LIMIT;

@@ -4,7 +4,7 @@
 use Rattle.std.specs.Prelude.{◌≡◌, ℕ, List, [], ◌∷◌, None, drop}
 use Rattle.x7_words.specs.Word.{AreBytes}
 use Rattle.x7_packets.specs.History.{Entry, History, Write, entry, history_of}
-use Rattle.x7_packets.specs.FlashSlot.{sector_bytes}
+use Rattle.x7_packets.specs.FlashSlot.{sector_size}
 use Rattle.x7_part.specs.Part.{PartData}
 use Rattle.x7_regs.specs.Command.{code_of}
 use Rattle.x7_regs.specs.Register.{number_of}
@@ -36,5 +36,5 @@ pub data BeginsClean : History → Type 0 where
 pub record StartsClean (part : PartData) (flash : List ℕ) (t : AttemptCourse) : Type 0 where
   pub starts : StartsAtPower part (with_erased flash) t
   pub going : stop_in part t.kept t.bytes ≡ None
-  pub clean : BeginsClean (history_of (drop sector_bytes t.bytes))
+  pub clean : BeginsClean (history_of (drop sector_size t.bytes))
   pub fits : AreBytes t.bytes

@@ -3,7 +3,7 @@
 use Rattle.std.specs.Prelude.{◌≡◌, ◌≢◌, ℕ, ◌+◌, ◌<◌, ◌≤◌, List, ◌++◌, drop, length, slice_range}
 use Rattle.x7_words.specs.Flash.{erased_sector}
 use Rattle.x7_words.specs.Word.{AreBytes}
-use Rattle.x7_packets.specs.FlashSlot.{sector_bytes}
+use Rattle.x7_packets.specs.FlashSlot.{sector_size}
 use Rattle.x7_part.specs.Part.{PartData}
 use Rattle.x7_memory.specs.FrameMap.{AreSame}
 use Rattle.x7_memory.specs.Plan.{total}
@@ -20,11 +20,11 @@ use Rattle.x7_update.specs.Layout.{IsUpdatable, four_at, open_switch, update_pla
 
 -- the first sector leads nowhere: no sync word begins in it, as where none of its slots is open, or where it is erased
 abbrev pub LeadsNowhere : List ℕ → Type 0
-LeadsNowhere flash = (place : ℕ) → place < sector_bytes → four_at flash place ≢ open_switch
+LeadsNowhere flash = (place : ℕ) → place < sector_size → four_at flash place ≢ open_switch
 
 -- the flash with its first sector erased
 abbrev pub with_erased : List ℕ → List ℕ
-with_erased flash = erased_sector ++ drop sector_bytes flash
+with_erased flash = erased_sector ++ drop sector_size flash
 
 -- the attempt at power over a flash, which starts
 pub record StartsAtPower (part : PartData) (flash : List ℕ) (t : AttemptCourse) : Type 0 where
@@ -37,10 +37,10 @@ pub record StartsAtPower (part : PartData) (flash : List ℕ) (t : AttemptCourse
 -- starts over the first of them ended.
 pub record HaveSameGolden (part : PartData) (one other : List ℕ) (t : AttemptCourse) : Type 0 where
   pub starts : StartsAtPower part one t
-  pub same : slice_range other sector_bytes (length t.bytes) ≡ slice_range one sector_bytes (length t.bytes)
+  pub same : slice_range other sector_size (length t.bytes) ≡ slice_range one sector_size (length t.bytes)
   pub lead_nowhere : LeadsNowhere one × LeadsNowhere other
   pub fits : AreBytes one × AreBytes other
-  pub least : (sector_bytes ≤ length one) × (sector_bytes ≤ length other)
+  pub least : (sector_size ≤ length one) × (sector_size ≤ length other)
 
 -- The golden stream starts: with the first sector erased the attempt at power starts, and it ends
 -- at the update's place or before it.
@@ -59,7 +59,7 @@ pub record StartsAlike (part : PartData) (t : AttemptCourse) (c : BootCourse) : 
 -- memory of the plan over zeros, and BOOTSTS shows no other attempt
 pub record StartsAsPlanned (u : Updating) (t : AttemptCourse) : Type 0 where
   pub golden : GoldenStarts u.part u.flash t
-  pub within : length t.bytes ≤ sector_bytes + length (full_stream u.part u.golden)
+  pub within : length t.bytes ≤ sector_size + length (full_stream u.part u.golden)
   pub memory : AreSame (memory_in u.part t.kept t.bytes) (total u.part u.golden)
   pub bootsts : (end_state u.part t).bootsts ≡ power_status
 

@@ -1,7 +1,7 @@
 -- What a boot from a flash with an open slot comes to: the attempt at the update, and the fallback where that fails
 -- (UG470, MultiBoot and fallback).
 use Rattle.std.specs.Prelude.{◌≡◌, ℕ, Bool, true, false, List, [], ◌∷◌, ◌++◌, drop, length, Option, None, Some}
-use Rattle.x7_packets.specs.FlashSlot.{sector_bytes}
+use Rattle.x7_packets.specs.FlashSlot.{sector_size}
 use Rattle.x7_part.specs.Part.{PartData}
 use Rattle.x7_part.specs.Ranges.{IsPart}
 use Rattle.x7_regs.specs.BootStatus.{boot_status_of}
@@ -103,7 +103,7 @@ pub record HasFullGolden (o : OpenFlash) (golden : PlanData) : Type 0 where
   pub is_part : IsPart o.part
   pub plan : IsPlanFor o.part golden
   pub rest : List ℕ
-  pub stands : drop sector_bytes o.flash ≡ full_stream o.part golden ++ rest
+  pub stands : drop sector_size o.flash ≡ full_stream o.part golden ++ rest
 
 -- The boot falls back and starts with the memory of the golden plan over zeros, and BOOTSTS
 -- shows the fallback and the update's cause.
@@ -170,6 +170,6 @@ EachBootsOpen o = (c : BootCourse) → IsCourse o.part o.flash c → BootsOpen o
 -- from it is one from a flash with its first slot open, which leads to the update.
 pub record HasStreams (part : PartData) (golden update flash : List ℕ) : Type 0 where
   pub begins : BeginsAsImage part flash (place_after_golden (length golden))
-  pub has_golden : (rest : List ℕ) × (drop sector_bytes flash ≡ golden ++ rest)
+  pub has_golden : (rest : List ℕ) × (drop sector_size flash ≡ golden ++ rest)
   pub has_update : (rest : List ℕ) × (drop (place_after_golden (length golden)) flash ≡ update ++ rest)
   pub boots : EachBootsOpen (image_of_flash part flash (place_after_golden (length golden)))

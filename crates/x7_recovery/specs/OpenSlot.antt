@@ -2,7 +2,7 @@
 -- fallback; the layout is this project's choice).
 use Rattle.std.specs.Prelude.{◌≡◌, ℕ, ◌*◌, ◌/◌, ◌%◌, ◌^◌, ◌<◌, ◌≤◌, List, ◌++◌, length, take, drop}
 use Rattle.x7_words.specs.Word.{AreBytes}
-use Rattle.x7_packets.specs.FlashSlot.{sector_bytes, flash_slot_bytes, flash_slot_count}
+use Rattle.x7_packets.specs.FlashSlot.{sector_size, flash_slot_size, flash_slot_count}
 use Rattle.x7_part.specs.Part.{PartData}
 use Rattle.x7_boot.specs.Boot.{start_address}
 use Rattle.x7_boot.specs.Image.{first_sector, flash_limit, open_slot}
@@ -12,10 +12,10 @@ use Rattle.x7_update.specs.Layout.{four_at, open_switch}
 -- sector but that of the slot.
 pub record HasOpenSlot (flash : List ℕ) (slot start : ℕ) : Type 0 where
   pub within : slot < flash_slot_count
-  pub stands : take flash_slot_bytes (drop (flash_slot_bytes * slot) flash) ≡ open_slot start
-  pub alone : (place : ℕ) → place < sector_bytes → four_at flash place ≡ open_switch → place ≡ flash_slot_bytes * slot
-  pub long : sector_bytes ≤ length flash
-  pub fits : AreBytes (take sector_bytes flash)
+  pub stands : take flash_slot_size (drop (flash_slot_size * slot) flash) ≡ open_slot start
+  pub alone : (place : ℕ) → place < sector_size → four_at flash place ≡ open_switch → place ≡ flash_slot_size * slot
+  pub long : sector_size ≤ length flash
+  pub fits : AreBytes (take sector_size flash)
 
 -- a flash, the part that boots from it, its open slot with the start address, and the place to which that leads
 pub record OpenFlash : Type 0 where
@@ -37,7 +37,7 @@ pub record IsOpenFlash (o : OpenFlash) : Type 0 where
 pub record BeginsAsImage (part : PartData) (flash : List ℕ) (place : ℕ) : Type 0 where
   pub more : List ℕ
   pub begins : flash ≡ first_sector (place / part.start_unit) ++ more
-  pub whole : place % sector_bytes ≡ 0
+  pub whole : place % sector_size ≡ 0
   pub within : place ≤ flash_limit
 
 -- a flash that begins as an image does, with its first slot, which is the open one

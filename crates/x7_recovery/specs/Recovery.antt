@@ -1,7 +1,7 @@
 -- What a device does with a flash that a power loss left in an update (UG470, MultiBoot and
 -- fallback; the layout is this project's choice).
 use Rattle.std.specs.Prelude.{◌≡◌, ℕ, ◌+◌, ◌≤◌, false, List, [], ◌∷◌, ◌++◌, None, drop, length}
-use Rattle.x7_packets.specs.FlashSlot.{sector_bytes}
+use Rattle.x7_packets.specs.FlashSlot.{sector_size}
 use Rattle.x7_part.specs.Part.{PartData}
 use Rattle.x7_part.specs.Ranges.{IsPart}
 use Rattle.x7_regs.specs.BootStatus.{boot_status_of}
@@ -34,8 +34,8 @@ updating_image part golden update stream = record { part = part; golden = golden
 -- the full stream of a plan stands after the first sector of a flash, and ends at the update's place or before it
 pub record HasGolden (part : PartData) (golden : PlanData) (flash : List ℕ) : Type 0 where
   pub rest : List ℕ
-  pub stands : drop sector_bytes flash ≡ full_stream part golden ++ rest
-  pub ends : sector_bytes + length (full_stream part golden) ≤ update_place flash
+  pub stands : drop sector_size flash ≡ full_stream part golden ++ rest
+  pub ends : sector_size + length (full_stream part golden) ≤ update_place flash
 
 -- an update is prepared: the part's numbers are in range, the plan is one for the part, and the flash can be
 -- updated, with the full stream of the plan as its golden stream

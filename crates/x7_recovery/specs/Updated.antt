@@ -1,7 +1,7 @@
 -- A flash after any number of updates, of which each stands after the golden stream (this project's choice).
 use Rattle.std.specs.Prelude.{◌≡◌, ℕ, List, take}
 use Rattle.x7_words.specs.Word.{AreBytes}
-use Rattle.x7_packets.specs.FlashSlot.{sector_bytes}
+use Rattle.x7_packets.specs.FlashSlot.{sector_size}
 use Rattle.x7_part.specs.Part.{PartData}
 use Rattle.x7_boot.specs.Attempt.{AttemptCourse}
 use Rattle.x7_recovery.specs.Clean.{StartsClean}
@@ -26,7 +26,7 @@ pub record IsUpdated (part : PartData) (flash found : List ℕ) (golden : Attemp
   pub updatable : IsUpdatable before
   pub stream : List ℕ
   pub after : IsAfterUpdate stream before found
-  pub fits : AreBytes (take sector_bytes found)
+  pub fits : AreBytes (take sector_size found)
 
 -- the slot that the last update opened
 abbrev pub opened_by : (part : PartData) (flash found : List ℕ) (golden : AttemptCourse) → IsUpdated part flash found golden → OpenFlash

@@ -77,6 +77,10 @@ command_with n =
     if n == 18 then BspiRead else
     if n == 19 then FallEdge else Null
 
+-- the code of a command in a word of CMD: bits 4 to 0
+abbrev pub command_code_of : ℕ → ℕ
+command_code_of w = w % 2 ^ 5
+
 -- the command that a word of the command register calls for, by its low five bits
 abbrev pub command_by : ℕ → Command
-command_by w = command_with (w % 2 ^ 5)
+command_by w = command_with (command_code_of w)

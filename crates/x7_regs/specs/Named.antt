@@ -2,7 +2,7 @@
 -- choice).
 use Rattle.std.specs.Prelude.{◌≡◌, ℕ, ◌+◌, ◌-◌, ◌*◌, ◌%◌, ◌<◌, List, length, get_or}
 use Rattle.x7_regs.specs.Register.{reg_name, reg_number_count}
-use Rattle.x7_regs.specs.Command.{code_of, command_name_of}
+use Rattle.x7_regs.specs.Command.{code_of, command_name_limit, command_name_of}
 use Rattle.x7_regs.specs.declared.command.Command.{Command}
 
 -- the text is the name of the register number
@@ -20,9 +20,13 @@ pub record IsCommandName (text : List ℕ) (code : ℕ) : Type 0 where
 abbrev pub shortest_name : ℕ
 shortest_name = 2
 
+-- how many bytes a name of either table has at most: the longest is that of a command
+abbrev pub longest_name : ℕ
+longest_name = command_name_limit
+
 -- how many places a table of names has
-abbrev pub table_size : ℕ
-table_size = 64
+abbrev pub place_count : ℕ
+place_count = 64
 
 -- how often a name's second byte counts in its place; all that is asked of this weight and of those of the last byte
 -- and the length is that no two names of a table share a place
@@ -41,4 +45,4 @@ length_weight = 2
 abbrev pub place_of_name : List ℕ → ℕ
 place_of_name name =
     (get_or name 0 0 + second_weight * get_or name 1 0 + last_weight * get_or name (length name - 1) 0 + length_weight * length name)
-    % table_size
+    % place_count

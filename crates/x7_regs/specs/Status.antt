@@ -1,10 +1,11 @@
 -- The status register (UG470, status register).
-use Rattle.std.specs.Prelude.{ℕ, ◌+◌, ◌*◌, ◌^◌, Bool, List, [], ◌∷◌, get_or, if◌then◌else◌}
+use Rattle.std.specs.Prelude.{ℕ, ◌+◌, ◌*◌, ◌^◌, Bool, List, [], ◌∷◌, get_or}
+use Rattle.x7_words.specs.Word.{number_of_bit}
 use Rattle.x7_regs.specs.declared.status.StatParts.{StatParts}
 
--- the value of a bit: 1 where it is set
+-- `number_of_bit`, as a number that unfolds only where a proof says so: else a check would go through all words of STAT
 unfoldable pub flag_of : Bool → ℕ
-flag_of b = if b then 1 else 0
+flag_of b = number_of_bit b
 
 -- the codes of the startup machine's states for its phases from 0 to 7: 000, 001, 011, 010, 110, 111, 101, 100
 abbrev pub startup_states : List ℕ

@@ -1,6 +1,6 @@
 //! Commands of the command register (UG470, command register).
 ghost use Rattle.std.specs.Prelude.{◌≡◌, ◌<◌};
-ghost use Rattle.x7_regs.specs.Command.{code_of, command_by, command_code_count};
+ghost use Rattle.x7_regs.specs.Command.{code_of, command_by, command_code_count, command_code_of};
 
 /// The commands, in the order of their codes.
 #[derive(Clone, Copy)]
@@ -46,14 +46,23 @@ pub enum Command {
 }
 
 /// The bits of a word of CMD that are the code of a command, bits 4 to 0 (UG470, command register).
-pub const COMMAND_BITS: u32 = 0x1F;
+const COMMAND_BITS: u32 = 0x1F;
+
+/// The code of a command in a word of CMD: its low five bits, whether or not a command has this code.
+#[inline(always)]
+pub fn command_code_of(word: u32) -> u32
+    ensures value { result ≡ command_code_of word }
+    ensures most { result < command_code_count }
+{
+    word & COMMAND_BITS
+}
 
 /// The command that a word of the command register calls for, by its low five bits: `Null` where these are no code.
 #[rattlefmt::skip]
 pub fn command_of(word: u32) -> Command
     ensures { result ≡ command_by word }
 {
-    match word & COMMAND_BITS {
+    match command_code_of(word) {
         1  => Command::Wcfg,
         2  => Command::Mfw,
         3  => Command::Lfrm,

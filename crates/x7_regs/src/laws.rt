@@ -1,6 +1,6 @@
 //! Laws of the tables, for the proofs of crates above.
 ghost use Rattle.std.specs.Prelude.{◌≡◌, ◌≢◌, ◌<◌, ◌%◌, ◌^◌, ℕ};
-ghost use Rattle.x7_regs.specs.Command.{code_of, command_by, command_code_count, command_name_of};
+ghost use Rattle.x7_regs.specs.Command.{code_of, command_by, command_code_count, command_code_of, command_name_of};
 ghost use Rattle.x7_regs.specs.Register.{number_of, reg_name, reg_number_count};
 ghost use Rattle.x7_regs.specs.declared.command.Command.{Command};
 ghost use Rattle.x7_regs.specs.declared.register.Reg.{Reg};
@@ -14,8 +14,8 @@ pub fn numbers_are_distinct()
 /// A word whose low five bits are a command's code calls for that command, and any other for `Null`. Each code is below
 /// 32. So commands with the same code are the same.
 pub fn codes_are_distinct()
-    ensures named { (c : Command) (w : ℕ) → w % 2 ^ 5 ≡ code_of c → command_by w ≡ c }
-    ensures unnamed { (w : ℕ) → ((c : Command) → code_of c ≢ w % 2 ^ 5) → command_by w ≡ Command.Null }
+    ensures named { (c : Command) (w : ℕ) → command_code_of w ≡ code_of c → command_by w ≡ c }
+    ensures unnamed { (w : ℕ) → ((c : Command) → code_of c ≢ command_code_of w) → command_by w ≡ Command.Null }
     ensures most { (c : Command) → code_of c < command_code_count }
 {}
 

@@ -13,7 +13,7 @@ mod startup_options;
 mod status;
 
 pub use boot_status::{Attempt, Cause, Kind, boot_word};
-pub use command::{COMMAND_BITS, Command, command_of};
+pub use command::{Command, command_code_of, command_of};
 pub use control::{
     CONFIG_FALLBACK, GLUTMASK_B, GTS_USER_B, forbids_fallback, forbids_reading, forbids_writing,
     has_dec,

@@ -1,6 +1,7 @@
 -- The lines of frames, and which frames a report shows (this project's choice).
 use Rattle.std.specs.Prelude.{ℕ, ◌+◌, ◌*◌, not, Bool, false, if◌then◌else◌, Option, None, Some, List, [], ◌∷◌, ◌++◌, codes, decimal, length}
 use Rattle.std.specs.List.{flat_map}
+use Rattle.x7_words.specs.Characters.{space_byte}
 use Rattle.x7_part.specs.Limits.{most_frame_words}
 use Rattle.x7_memory.specs.FrameMap.{FrameMap}
 use Rattle.x7_memory.specs.PartFrames.{are_zeros}
@@ -25,7 +26,7 @@ room_at_once = lines_at_once * frame_line_room
 
 -- the line of a frame: its address and the digits of its words
 unfoldable pub frame_text : ℕ → List ℕ → List ℕ
-frame_text far words = codes "frame " ++ hex_word far ++ 32 ∷ flat_map hex_word words ++ codes "\n"
+frame_text far words = codes "frame " ++ hex_word far ++ space_byte ∷ flat_map hex_word words ++ codes "\n"
 
 -- there is a frame, and it has a word other than 0
 abbrev pub is_shown : Option (List ℕ) → Bool

@@ -2,6 +2,7 @@
 -- digits.
 use Rattle.std.specs.Prelude.{ℕ, ◌+◌, Bool, if◌then◌else◌, List, [], ◌∷◌, ◌++◌, codes, decimal}
 use Rattle.std.specs.List.{flat_map}
+use Rattle.x7_words.specs.Characters.{space_byte}
 use Rattle.x7_regs.specs.Register.{number_of, reg_name}
 use Rattle.x7_regs.specs.declared.register.Reg.{Reg}
 use Rattle.x7_regs.specs.declared.register.Reg.TheVariants as reg
@@ -15,8 +16,8 @@ use Rattle.x7_engine.specs.declared.regs.Regs.{Regs}
 -- the kind of a fault, and its words
 abbrev pub fault_text : Fault → List ℕ
 fault_text (fault.Packet w) = codes "Packet " ++ hex_word w
-fault_text (fault.Id want got) = codes "Id " ++ hex_word want ++ 32 ∷ hex_word got
-fault_text (fault.Crc want got) = codes "Crc " ++ hex_word want ++ 32 ∷ hex_word got
+fault_text (fault.Id want got) = codes "Id " ++ hex_word want ++ space_byte ∷ hex_word got
+fault_text (fault.Crc want got) = codes "Crc " ++ hex_word want ++ space_byte ∷ hex_word got
 fault_text (fault.Address far) = codes "Address " ++ hex_word far
 fault_text fault.Overrun = codes "Overrun"
 fault_text fault.Multi = codes "Multi"
@@ -78,7 +79,7 @@ reg_words r =
 
 -- the line of a register: its name and its word
 abbrev pub reg_line : Reg × ℕ → List ℕ
-reg_line row = codes "reg " ++ reg_name (number_of row.0) ++ 32 ∷ hex_word row.1 ++ codes "\n"
+reg_line row = codes "reg " ++ reg_name (number_of row.0) ++ space_byte ∷ hex_word row.1 ++ codes "\n"
 
 -- the most bytes that the line of a register has: those of the longest name, BOOTSTS
 abbrev pub reg_line_room : ℕ

@@ -1,6 +1,7 @@
 -- Lemmas on the bytes of digits.
 use Rattle.std.proofs.Common.{◌≡◌, ℕ, zero, suc, ◌+◌, ◌-◌, ◌*◌, ◌/◌, ◌%◌, ◌^◌, ◌<◌, ◌≤◌, ◌==◌, nat_lt, Bool, true, false, if◌then◌else◌, List, [], ◌∷◌, ◌++◌, length, take, drop, slice_index, refl, ap, ap₂, sym, ◌∙◌, append_assoc, append-nil, length-append, arith}
-use Rattle.x7_svf.specs.Bits.{bit_of, bits_from, byte_bits, bytes_bits, digit_number, mirrored_digit}
+use Rattle.x7_words.specs.Characters.{digit_number}
+use Rattle.x7_svf.specs.Bits.{bit_of, bits_from, byte_bits, bytes_bits, mirrored_digit}
 
 mirror_8 : (n : ℕ) → n < 16 → mirrored_digit n / 8 % 2 ≡ n % 2
 mirror_8 n l = omega (arith, l)

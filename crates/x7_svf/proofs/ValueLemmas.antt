@@ -3,14 +3,14 @@ use Rattle.std.proofs.Common.{◌≡◌, ◌⊎◌, inl, inr, ℕ, suc, ◌+◌,
 use Rattle.std.proofs.Math.Pow.{pow_mono}
 use Rattle.std.proofs.Math.Nat.{mul-le-mul_right}
 use Rattle.std.proofs.lemmas.Nat.{pow-add, pow_pos}
-use Rattle.x7_svf.specs.Bits.{digit_number}
-use Rattle.x7_svf.specs.Fields.{are_hex, digit_width, is_hex, hex_value, width}
+use Rattle.x7_words.specs.Characters.{digit_number, is_hex_digit}
+use Rattle.x7_svf.specs.Fields.{are_hex, digit_width, hex_value, width}
 
 pub both : (a b : Bool) → (a && b) ≡ true → (a ≡ true) × (b ≡ true)
 both true b e = (refl, e)
 both false b e = absurd cc
 
-digit_below : (c : ℕ) → is_hex c ≡ true → digit_number c < 16
+digit_below : (c : ℕ) → is_hex_digit c ≡ true → digit_number c < 16
 digit_below c h = grind (arith, h)
 
 more_bits : (k w : ℕ) → 2 ^ (w + 4 * k) ≡ 2 ^ w * 2 ^ (4 * k)
@@ -26,7 +26,7 @@ below_by d k r l m =
 pub value_below : (ds : List ℕ) → are_hex ds ≡ true → hex_value ds < 2 ^ (4 * length ds)
 value_below [] h = omega arith
 value_below (c ∷ cs) h =
-    let parts : (is_hex c ≡ true) × (are_hex cs ≡ true) = both (is_hex c) (are_hex cs) h in
+    let parts : (is_hex_digit c ≡ true) × (are_hex cs ≡ true) = both (is_hex_digit c) (are_hex cs) h in
     let e : 4 + 4 * length cs ≡ 4 * length (c ∷ cs) = omega arith in
     let s : digit_number c * 2 ^ (4 * length cs) + hex_value cs < 2 ^ (4 + 4 * length cs) = below_by (digit_number c) (length cs) (hex_value cs) (digit_below c parts.0) (value_below cs parts.1) in
     subst (λ n. digit_number c * 2 ^ (4 * length cs) + hex_value cs < 2 ^ n) e s
@@ -49,7 +49,7 @@ bits_by d false false true e p q r s l = inr (record { below = 1; is = refl; lea
 bits_by d false false false true p q r s l = inr (record { below = 2; is = refl; least = grind (arith, r); most = grind (arith, s) })
 bits_by d false false false false p q r s l = inr (record { below = 3; is = refl; least = grind (arith, s); most = omega (arith, l) })
 
-digit_bits : (c : ℕ) → is_hex c ≡ true → ((digit_width c ≡ 0) × (digit_number c ≡ 0)) ⊎ Highest (digit_number c) (digit_width c)
+digit_bits : (c : ℕ) → is_hex_digit c ≡ true → ((digit_width c ≡ 0) × (digit_number c ≡ 0)) ⊎ Highest (digit_number c) (digit_width c)
 digit_bits c h = bits_by (digit_number c) (nat_lt (digit_number c) 1) (nat_lt (digit_number c) 2) (nat_lt (digit_number c) 4) (nat_lt (digit_number c) 8) refl refl refl refl (digit_below c h)
 
 width_zero : (c : ℕ) (cs : List ℕ) → digit_width c ≡ 0 → width (c ∷ cs) ≡ width cs
@@ -84,7 +84,7 @@ top_above d v k r n l m w =
 pub fits_value : (ds : List ℕ) (n : ℕ) → are_hex ds ≡ true → width ds ≤ n → hex_value ds < 2 ^ n
 fits_value [] n h l = pow_pos n
 fits_value (c ∷ cs) n h l =
-    let parts : (is_hex c ≡ true) × (are_hex cs ≡ true) = both (is_hex c) (are_hex cs) h in
+    let parts : (is_hex_digit c ≡ true) × (are_hex cs ≡ true) = both (is_hex_digit c) (are_hex cs) h in
     elim (digit_bits c parts.0) [
       | inl z ↦ subst (λ (v : ℕ). v < 2 ^ n) (sym (value_zero c cs z.1)) (fits_value cs n parts.1 (omega (arith, l, width_zero c cs z.0)))
       | inr s ↦ top_below (digit_number c) s.below (length cs) (hex_value cs) n s.most (value_below cs parts.1) (omega (arith, l, width_some c cs s.below s.is))
@@ -93,7 +93,7 @@ fits_value (c ∷ cs) n h l =
 pub value_fits : (ds : List ℕ) (n : ℕ) → are_hex ds ≡ true → hex_value ds < 2 ^ n → width ds ≤ n
 value_fits [] n h l = omega arith
 value_fits (c ∷ cs) n h l =
-    let parts : (is_hex c ≡ true) × (are_hex cs ≡ true) = both (is_hex c) (are_hex cs) h in
+    let parts : (is_hex_digit c ≡ true) × (are_hex cs ≡ true) = both (is_hex_digit c) (are_hex cs) h in
     elim (digit_bits c parts.0) [
       | inl z ↦ (let m : width cs ≤ n = value_fits cs n parts.1 (subst (λ (v : ℕ). v < 2 ^ n) (value_zero c cs z.1) l) in omega (arith, m, width_zero c cs z.0))
       | inr s ↦ (let some : n < 4 * length cs + suc s.below → ⊥ = top_above (digit_number c) s.below (length cs) (hex_value cs) n s.least l in grind (arith, some, width_some c cs s.below s.is))

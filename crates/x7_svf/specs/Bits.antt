@@ -1,10 +1,7 @@
 -- The bits of hexadecimal digits, lowest first (this project's profile of SVF).
 use Rattle.std.specs.Prelude.{ℕ, zero, suc, ◌+◌, ◌-◌, ◌/◌, ◌%◌, ◌^◌, ◌*◌, ◌==◌, nat_le, nat_lt, Bool, false, if◌then◌else◌, List, [], ◌∷◌, length, slice_index}
 use Rattle.std.specs.List.{flat_map}
-
--- the number of a digit of either case
-abbrev pub digit_number : ℕ → ℕ
-digit_number c = if nat_le c 57 then c - 48 else (if nat_le c 70 then c - 55 else c - 87)
+use Rattle.x7_words.specs.Characters.{digit_number}
 
 -- bit i of digits, four a digit, the last of which is the lowest; 0 past the first
 abbrev pub bit_of : List ℕ → ℕ → Bool

@@ -1,5 +1,6 @@
 -- A text without its comments (this project's profile of SVF).
 use Rattle.std.specs.Prelude.{ℕ, ◌==◌, ◌||◌, ◌&&◌, not, Bool, true, false, if◌then◌else◌, List, [], ◌∷◌}
+use Rattle.x7_words.specs.Characters.{exclamation_byte, line_end_byte, return_byte, slash_byte, space_byte}
 
 -- the text begins with this byte
 abbrev pub begins_with : ℕ → List ℕ → Bool
@@ -8,16 +9,16 @@ begins_with d (c ∷ cs) = c == d
 
 -- a comment begins at this byte, which these follow: `!` or `//`
 abbrev pub begins_comment : ℕ → List ℕ → Bool
-begins_comment c cs = c == 33 || (c == 47 && begins_with 47 cs)
+begins_comment c cs = c == exclamation_byte || (c == slash_byte && begins_with slash_byte cs)
 
 -- the byte, which these follow, is one of a comment; the first argument says whether the byte before it was one
 abbrev pub is_inside : Bool → ℕ → List ℕ → Bool
-is_inside true c cs = not (c == 10)
+is_inside true c cs = not (c == line_end_byte)
 is_inside false c cs = begins_comment c cs
 
 -- what stands for a byte: a blank for those of comments and for 0D before 0A
 abbrev pub stand_in : Bool → ℕ → List ℕ → ℕ
-stand_in is_in_comment c cs = if is_in_comment then 32 else (if c == 13 && begins_with 10 cs then 32 else c)
+stand_in is_in_comment c cs = if is_in_comment then space_byte else (if c == return_byte && begins_with line_end_byte cs then space_byte else c)
 
 -- the text with what stands for each byte
 abbrev pub clean_text : Bool → List ℕ → List ℕ

@@ -3,9 +3,10 @@
 -- part, and `)`.
 use Rattle.std.specs.Prelude.{ℕ, ◌+◌, ◌*◌, ◌^◌, ◌==◌, ◌||◌, ◌&&◌, nat_le, nat_lt, Bool, true, false, if◌then◌else◌, List, [], ◌∷◌, ◌++◌, Option, Some, None, codes, length}
 use Rattle.std.specs.List.{list_all}
+use Rattle.x7_words.specs.Characters.{digit_number, is_hex_digit}
 use Rattle.x7_svf.specs.Token.{Token, Word, Open, Close, End}
-use Rattle.x7_svf.specs.Bits.{bits_of, digit_number}
-use Rattle.x7_svf.specs.Words.{is_digit, is_keyword, number_within}
+use Rattle.x7_svf.specs.Bits.{bits_of}
+use Rattle.x7_svf.specs.Words.{is_keyword, number_within}
 use Rattle.x7_svf.specs.declared.statement.ScannedRegister.{ScannedRegister}
 use Rattle.x7_svf.specs.declared.statement.Statement.{Statement}
 use Rattle.x7_svf.specs.declared.statement.Statement.TheVariants as statement
@@ -20,13 +21,9 @@ field_by_name w =
     else (if is_keyword w (codes "MASK") then Some field.Mask
     else (if is_keyword w (codes "SMASK") then Some field.Smask else None)))
 
--- a hexadecimal digit of either case
-abbrev pub is_hex : ℕ → Bool
-is_hex c = is_digit c || (nat_le 65 c && nat_le c 70) || (nat_le 97 c && nat_le c 102)
-
 -- a word of hexadecimal digits alone
 abbrev pub are_hex : List ℕ → Bool
-are_hex w = list_all is_hex w
+are_hex w = list_all is_hex_digit w
 
 -- where a reader of a scan stands: between fields, after a field's name, or inside its brackets after these digits
 pub data At : Type 0 where

@@ -1,5 +1,6 @@
 -- The tokens of a text without comments, each with the line on which it begins (this project's profile of SVF).
 use Rattle.std.specs.Prelude.{ℕ, ◌+◌, ◌==◌, ◌||◌, not, Bool, if◌then◌else◌, List, [], ◌∷◌, take}
+use Rattle.x7_words.specs.Characters.{close_bracket_byte, line_end_byte, open_bracket_byte, semicolon_byte, space_byte, tab_byte}
 use Rattle.x7_svf.specs.declared.token.NextToken.{NextToken}
 use Rattle.x7_svf.specs.declared.token.NextToken.TheVariants as next_token
 
@@ -17,19 +18,19 @@ pub record TokenOnLine : Type 0 where
 
 -- blanks, tabs and line ends separate words, and so do brackets and `;`
 abbrev pub is_word_byte : ℕ → Bool
-is_word_byte c = not (c == 32 || c == 9 || c == 10 || c == 40 || c == 41 || c == 59)
+is_word_byte c = not (c == space_byte || c == tab_byte || c == line_end_byte || c == open_bracket_byte || c == close_bracket_byte || c == semicolon_byte)
 
 -- blanks, tabs and line ends
 abbrev pub is_blank_byte : ℕ → Bool
-is_blank_byte c = c == 32 || c == 9 || c == 10
+is_blank_byte c = c == space_byte || c == tab_byte || c == line_end_byte
 
 -- the token of a byte that is no word's and no blank
 abbrev pub byte_token : ℕ → Token
-byte_token c = if c == 40 then Open else (if c == 41 then Close else End)
+byte_token c = if c == open_bracket_byte then Open else (if c == close_bracket_byte then Close else End)
 
 -- the line after a byte
 abbrev pub line_after : ℕ → ℕ → ℕ
-line_after c line = if c == 10 then line + 1 else line
+line_after c line = if c == line_end_byte then line + 1 else line
 
 -- tokens, of which the first is a word that has this byte more before it, or begins with it
 abbrev pub extend : ℕ → ℕ → List TokenOnLine → List TokenOnLine

@@ -4,6 +4,7 @@ use Rattle.std.specs.List.{list_all}
 use Rattle.std.specs.Borrow.{Bor}
 use Rattle.std.specs.Str.{str_eq_ignore_ascii_case}
 use Rattle.std.specs.Str.Parse.{digits_value}
+use Rattle.x7_words.specs.Characters.{exponent_byte, is_decimal_digit, minus_byte, plus_byte, point_byte, return_byte}
 use Rattle.x7_svf.specs.Token.{Token, Word, Open, Close, End}
 use Rattle.x7_svf.specs.declared.statement.Statement.{Statement}
 use Rattle.x7_svf.specs.declared.statement.Statement.TheVariants as statement
@@ -12,13 +13,9 @@ use Rattle.x7_svf.specs.declared.statement.Statement.TheVariants as statement
 abbrev pub is_keyword : List ℕ → List ℕ → Bool
 is_keyword word key = str_eq_ignore_ascii_case word key
 
--- a decimal digit
-abbrev pub is_digit : ℕ → Bool
-is_digit c = nat_le 48 c && nat_le c 57
-
 -- the number of a word of decimal digits, one at least and leading zeros allowed, where it is within a limit
 abbrev pub number_within : ℕ → List ℕ → Option ℕ
-number_within limit w = if nat_lt 0 (length w) && list_all is_digit w && nat_le (digits_value 10 w) limit then Some (digits_value 10 w) else None
+number_within limit w = if nat_lt 0 (length w) && list_all is_decimal_digit w && nat_le (digits_value 10 w) limit then Some (digits_value 10 w) else None
 
 -- the most clocks of a run: 2^24
 abbrev pub most_clocks : ℕ
@@ -26,7 +23,7 @@ most_clocks = 16777216
 
 -- a byte that may stand in a time: a digit, `.`, `E`, `+` or `-`
 abbrev pub is_time_byte : ℕ → Bool
-is_time_byte c = is_digit c || c == 46 || c == 69 || c == 43 || c == 45
+is_time_byte c = is_decimal_digit c || c == point_byte || c == exponent_byte || c == plus_byte || c == minus_byte
 
 -- a word of a time, one byte at least
 abbrev pub is_time : List ℕ → Bool
@@ -34,7 +31,7 @@ is_time w = nat_lt 0 (length w) && list_all is_time_byte w
 
 -- a byte that a word without meaning may hold: any but 0D
 abbrev pub is_free_byte : ℕ → Bool
-is_free_byte c = not (c == 13)
+is_free_byte c = not (c == return_byte)
 
 -- a word without 0D
 abbrev pub is_free_word : List ℕ → Bool

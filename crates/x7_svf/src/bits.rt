@@ -1,7 +1,8 @@
 //! The bits of a scan.
 ghost use Rattle.std.specs.Prelude.{◌≡◌, ◌<◌, ◌+◌, ◌*◌, ◌/◌, ◌%◌, ◌^◌, ◌==◌, ℕ, length, take, drop};
 ghost use Rattle.std.specs.List.{slice_get};
-ghost use Rattle.x7_svf.specs.Bits.{bit_of, bits_from, bits_of, byte_bits, bytes_bits, digit_number, mirrored_digit};
+ghost use Rattle.x7_words.specs.Characters.{digit_number};
+ghost use Rattle.x7_svf.specs.Bits.{bit_of, bits_from, bits_of, byte_bits, bytes_bits, mirrored_digit};
 
 use arrayvec::ArrayVec;
 use std::marker::Model;

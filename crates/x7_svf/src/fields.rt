@@ -1,7 +1,8 @@
 //! The fields of a scan.
 ghost use Rattle.std.specs.Prelude.{◌≡◌, ◌≤◌, ℕ, List, drop, length, IfSome, Option, Some, None};
+ghost use Rattle.x7_words.specs.Characters.{is_hex_digit};
 ghost use Rattle.x7_svf.specs.Token.{token_of, token_size};
-ghost use Rattle.x7_svf.specs.Fields.{are_hex, Between, closed_field, field_by_name, is_hex, no_fields, put_field, scan_from, scan_step};
+ghost use Rattle.x7_svf.specs.Fields.{are_hex, Between, closed_field, field_by_name, no_fields, put_field, scan_from, scan_step};
 ghost use Rattle.x7_svf.specs.Reading.{ReadsOn, StepsOver};
 ghost use Rattle.x7_svf.specs.Source.{tokens_left};
 ghost use Rattle.x7_svf.specs.Span.{AreWithin, IsWithin, at_of, bytes_in, span_end, fields_of, fields_if, scanning_of};
@@ -66,8 +67,8 @@ fn field_by_name(word: &[u8]) -> Option<Field>
 }
 
 /// Whether a byte is a hexadecimal digit, of either case.
-fn is_hex(byte: u8) -> bool
-    ensures { result ≡ is_hex byte }
+fn is_hex_digit(byte: u8) -> bool
+    ensures { result ≡ is_hex_digit byte }
 {
     let decimal = b'0' <= byte && byte <= b'9';
     let upper = b'A' <= byte && byte <= b'F';
@@ -81,8 +82,8 @@ fn are_hex(word: &[u8]) -> bool
 {
     word.iter().all(
         |byte|
-            ensures { result ≡ is_hex byte.now }
-        { is_hex(*byte) },
+            ensures { result ≡ is_hex_digit byte.now }
+        { is_hex_digit(*byte) },
     )
 }
 

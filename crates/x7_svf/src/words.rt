@@ -1,6 +1,7 @@
 //! Statements of words alone.
 ghost use Rattle.std.specs.Prelude.{◌≡◌, ◌<◌, ◌&&◌, ◌≤◌, ◌∷◌, ◌++◌, ℕ, [], List, length, codes, IfSome, IfNone, Option, Some, None};
-ghost use Rattle.x7_svf.specs.Words.{chain_statement, end_state_statement, is_digit, is_free_byte, is_free_word, is_keyword, is_time, is_time_byte, most_clocks, number_within, run_by, runtest_statement, state_statement, statement_of_words, trst_statement, word_list};
+ghost use Rattle.x7_words.specs.Characters.{is_decimal_digit};
+ghost use Rattle.x7_svf.specs.Words.{chain_statement, end_state_statement, is_free_byte, is_free_word, is_keyword, is_time, is_time_byte, most_clocks, number_within, run_by, runtest_statement, state_statement, statement_of_words, trst_statement, word_list};
 ghost use Rattle.x7_svf.specs.Span.{AreWordsWithin, bytes_in, span_end, words_kept};
 ghost use Rattle.x7_svf.specs.Stored.{IsStored};
 ghost use Rattle.std.specs.List.{list_all};
@@ -19,8 +20,8 @@ pub(crate) fn is_keyword(word: &[u8], key: &[u8]) -> bool
 }
 
 /// Whether a byte is a decimal digit.
-fn is_digit(byte: u8) -> bool
-    ensures { result ≡ is_digit byte }
+fn is_decimal_digit(byte: u8) -> bool
+    ensures { result ≡ is_decimal_digit byte }
 {
     b'0' <= byte && byte <= b'9'
 }
@@ -29,7 +30,7 @@ fn is_digit(byte: u8) -> bool
 fn is_time_byte(byte: u8) -> bool
     ensures { result ≡ is_time_byte byte }
 {
-    is_digit(byte) || byte == b'.' || byte == b'E' || byte == b'+' || byte == b'-'
+    is_decimal_digit(byte) || byte == b'.' || byte == b'E' || byte == b'+' || byte == b'-'
 }
 
 /// The number of a word of decimal digits, where it is within the limit.
@@ -43,7 +44,7 @@ pub(crate) fn number_within(word: &[u8], limit: u32) -> Option<u32>
     let mut rest = word;
     while !rest.is_empty() {
         let byte = rest[0];
-        if !is_digit(byte) {
+        if !is_decimal_digit(byte) {
             return None;
         }
         let more = u64::from(value) * 10 + u64::from(byte - b'0');

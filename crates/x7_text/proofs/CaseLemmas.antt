@@ -4,7 +4,8 @@ use Rattle.std.proofs.lemmas.Grind.{common_steps}
 use Rattle.std.specs.List.{flat_map}
 use Rattle.x7_words.specs.Word.{AreBytes}
 use Rattle.x7_text.specs.Digits.{hex_byte, hex_digit}
-use Rattle.x7_text.specs.EitherCase.{byte_of, number_of_digit, byte_before, bytes_of_pairs}
+use Rattle.x7_words.specs.Characters.{number_of_digit}
+use Rattle.x7_text.specs.EitherCase.{byte_of, byte_before, bytes_of_pairs}
 
 pub digit_upper : (n : ℕ) → n < 16 → number_of_digit (hex_digit n) ≡ Some n
 digit_upper n h = grind (arith, common_steps)

@@ -5,7 +5,8 @@ use Rattle.std.proofs.lemmas.Bool.Decides.{nat_tests}
 use Rattle.hex.specs.Hex.{decode_pairs, decode_sized, digit_or_error, hex_digit_value, pair_value, value_at, ◌>>=◌}
 use Rattle.hex.specs.declared.error.FromHexError.{FromHexError}
 use Rattle.std.specs.Result.{is_ok}
-use Rattle.x7_text.specs.EitherCase.{byte_of, number_of_digit, byte_before, bytes_of_pairs}
+use Rattle.x7_words.specs.Characters.{number_of_digit}
+use Rattle.x7_text.specs.EitherCase.{byte_of, byte_before, bytes_of_pairs}
 
 -- what was decoded, without the error
 found : {A : Type 0} → Result A FromHexError → Option A

@@ -1,13 +1,6 @@
 -- What hexadecimal digits of either case stand for (this project's choice).
-use Rattle.std.specs.Prelude.{ℕ, ◌+◌, ◌*◌, ◌-◌, ◌&&◌, nat_le, if◌then◌else◌, List, [], ◌∷◌, Option, None, Some}
-
--- the number that a digit from `0` to `9`, from `A` to `F` or from `a` to `f` stands for; none for any other byte
-abbrev pub number_of_digit : ℕ → Option ℕ
-number_of_digit c =
-    if nat_le 48 c && nat_le c 57 then Some (c - 48)
-    else if nat_le 65 c && nat_le c 70 then Some (c - 55)
-    else if nat_le 97 c && nat_le c 102 then Some (c - 87)
-    else None
+use Rattle.std.specs.Prelude.{ℕ, ◌+◌, ◌*◌, List, [], ◌∷◌, Option, None, Some}
+use Rattle.x7_words.specs.Characters.{number_of_digit}
 
 -- the byte of two digits' numbers, the high one first; none where one of them is none
 abbrev pub byte_of : Option ℕ → Option ℕ → Option ℕ

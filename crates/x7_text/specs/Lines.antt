@@ -1,13 +1,6 @@
 -- A text by its lines, which the byte 0A ends (this project's choice).
 use Rattle.std.specs.Prelude.{ℕ, ◌==◌, Bool, true, false, if◌then◌else◌, List, [], ◌∷◌, ◌++◌}
-
--- the byte that ends a line: 0A
-abbrev pub line_end_byte : ℕ
-line_end_byte = 10
-
--- a space
-abbrev pub space_byte : ℕ
-space_byte = 32
+use Rattle.x7_words.specs.Characters.{line_end_byte}
 
 -- the byte that begins a comment: `#`
 abbrev pub comment_byte : ℕ

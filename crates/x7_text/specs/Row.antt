@@ -5,7 +5,7 @@ use Rattle.std.specs.declared.alloc.Global.{Global}
 use Rattle.x7_words.specs.Word.{AreBytes, AreWords}
 use Rattle.x7_text.specs.Appends.{Appends}
 use Rattle.x7_text.specs.Digits.{hex_byte, hex_word}
-use Rattle.x7_text.specs.Lines.{line_end_byte, space_byte}
+use Rattle.x7_words.specs.Characters.{line_end_byte, space_byte}
 
 -- a row that has elements, and nothing for an empty one
 abbrev pub row_if_any : List ℕ → List (List ℕ)
@@ -32,8 +32,8 @@ abbrev pub row_words : ℕ
 row_words = 8
 
 -- how many bytes a full `bytes` line has
-abbrev pub row_bytes : ℕ
-row_bytes = 32
+abbrev pub bytes_row_size : ℕ
+bytes_row_size = 32
 
 -- the line of a row: its keyword, the text of each element, and the line end
 abbrev pub line : List ℕ → (ℕ → List ℕ) → List ℕ → List ℕ
@@ -45,7 +45,7 @@ spaced w = space_byte ∷ hex_word w
 
 -- bytes as `bytes` lines, the last of which may be shorter
 abbrev pub bytes_text : List ℕ → List ℕ
-bytes_text bs = flat_map (line (codes "bytes ") hex_byte) (rows row_bytes bs)
+bytes_text bs = flat_map (line (codes "bytes ") hex_byte) (rows bytes_row_size bs)
 
 -- words as `data` lines, the last of which may be shorter
 abbrev pub data_text : List ℕ → List ℕ
@@ -93,7 +93,7 @@ open_data in_line ws = open_text row_words (codes "data") spaced in_line ws
 
 -- the text that bytes add to `bytes` lines, of which the open one has `in_line` bytes
 abbrev pub open_bytes : ℕ → List ℕ → List ℕ
-open_bytes in_line bs = open_text row_bytes (codes "bytes ") hex_byte in_line bs
+open_bytes in_line bs = open_text bytes_row_size (codes "bytes ") hex_byte in_line bs
 
 -- the most bytes of text that one word adds: the line's keyword, a space and eight digits, and the line end
 abbrev pub word_text_limit : ℕ
@@ -110,8 +110,8 @@ rows_text_limit n = 3 * n + 16
 -- bytes were put to `bytes` lines, as text of at most this size: the open line had
 -- `in_line` bytes, and now has `next` of them
 pub record PutsBytes (in_line : ℕ) (bytes : List ℕ) (old new : Vec ℕ Global) (most next : ℕ) : Type 0 where
-  pub count : next ≡ in_line_after row_bytes in_line bytes
-  pub below : next < row_bytes
+  pub count : next ≡ in_line_after bytes_row_size in_line bytes
+  pub below : next < bytes_row_size
   pub appends : Appends old new (open_bytes in_line bytes) most
 
 -- words were put to `data` lines, as text of at most this size: the open line had
@@ -127,7 +127,7 @@ close in_line = if in_line == 0 then [] else line_end_byte ∷ []
 
 -- the bytes of one `bytes` line
 abbrev pub IsByteRow : List ℕ → Type 0
-IsByteRow bytes = AreBytes bytes × (0 < length bytes) × (length bytes ≤ row_bytes)
+IsByteRow bytes = AreBytes bytes × (0 < length bytes) × (length bytes ≤ bytes_row_size)
 
 -- the words of one `data` line
 abbrev pub IsWordRow : List ℕ → Type 0

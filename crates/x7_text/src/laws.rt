@@ -4,15 +4,16 @@ ghost use Rattle.std.specs.List.{flat_map, AllByRecursion};
 ghost use Rattle.x7_words.specs.Word.{AreBytes};
 ghost use Rattle.x7_text.specs.Digits.{hex_byte, hex_digit, hex_word};
 ghost use Rattle.x7_text.specs.DigitValue.{bytes_value, word_value};
-ghost use Rattle.x7_text.specs.EitherCase.{bytes_of_pairs, number_of_digit};
+ghost use Rattle.x7_words.specs.Characters.{number_of_digit};
+ghost use Rattle.x7_text.specs.EitherCase.{bytes_of_pairs};
 ghost use Rattle.x7_text.specs.Lines.{has_no_end, joined_lines, split};
-ghost use Rattle.x7_text.specs.Row.{AreFullButLast, rows, line, bytes_text, data_text, open_text, in_line_after, close, open_data, open_bytes, row_words, row_bytes};
+ghost use Rattle.x7_text.specs.Row.{AreFullButLast, rows, line, bytes_text, data_text, open_text, in_line_after, close, open_data, open_bytes, row_words, bytes_row_size};
 
 /// Words that are put where no line is open, with the end of the line that they leave open, make their `data` lines,
 /// and bytes their `bytes` lines.
 pub fn lines_one_by_one()
     ensures words { (ws : List ℕ) → open_data 0 ws ++ close (in_line_after row_words 0 ws) ≡ data_text ws }
-    ensures bytes { (bs : List ℕ) → open_bytes 0 bs ++ close (in_line_after row_bytes 0 bs) ≡ bytes_text bs }
+    ensures bytes { (bs : List ℕ) → open_bytes 0 bs ++ close (in_line_after bytes_row_size 0 bs) ≡ bytes_text bs }
 {}
 
 /// Elements that are put in two parts add the same text, and leave the same count in the open line, as all at once.

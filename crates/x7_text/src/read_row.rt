@@ -4,7 +4,7 @@ ghost use Rattle.std.specs.List.{flat_map};
 ghost use Rattle.std.specs.Simd.{first_chunks};
 ghost use Rattle.x7_words.specs.Word.{bytes_of_word};
 ghost use Rattle.x7_text.specs.Digits.{hex_byte};
-ghost use Rattle.x7_text.specs.Row.{IsByteRow, IsWordRow, row_bytes, spaced};
+ghost use Rattle.x7_text.specs.Row.{IsByteRow, IsWordRow, bytes_row_size, spaced};
 ghost use Rattle.x7_text.specs.Appends.{HasSpareRoom};
 ghost use Rattle.x7_text.specs.Reads.{Reads, StaysWithin};
 
@@ -25,9 +25,9 @@ fn padded(digits: &[u8]) -> [u8; 64]
 
 /// Appends the bytes of one to 32 pairs of digits, exactly where they are digits.
 pub fn put_byte_row(out: &mut Vec<u8>, digits: &[u8]) -> bool
-    requires { HasSpareRoom out.old row_bytes }
+    requires { HasSpareRoom out.old bytes_row_size }
     ensures reads { Reads IsByteRow (flat_map hex_byte) (λ (bs : List ℕ). bs) result digits.now out.old.items out.new.items }
-    ensures room { StaysWithin out.old out.new row_bytes }
+    ensures room { StaysWithin out.old out.new bytes_row_size }
 {
     let count = digits.len() / 2;
     if count == 0 || digits.len() > 64 || digits.len() != 2 * count {
@@ -68,10 +68,10 @@ fn gathered(text: &[u8]) -> [u8; 64]
 /// Appends the bytes of one word, exactly where a space and its eight digits stand.
 #[inline(always)]
 fn put_one_word(out: &mut Vec<u8>, text: &[u8]) -> bool
-    requires room { HasSpareRoom out.old row_bytes }
+    requires room { HasSpareRoom out.old bytes_row_size }
     requires length { length text.now ≡ 9 }
     ensures reads { Reads IsWordRow (flat_map spaced) (flat_map bytes_of_word) result text.now out.old.items out.new.items }
-    ensures room { StaysWithin out.old out.new row_bytes }
+    ensures room { StaysWithin out.old out.new bytes_row_size }
 {
     if text[0] != b' ' {
         return false;
@@ -87,9 +87,9 @@ fn put_one_word(out: &mut Vec<u8>, text: &[u8]) -> bool
 
 /// Appends the bytes of one to eight words, exactly where a space and eight digits stand for each.
 pub fn put_word_row(out: &mut Vec<u8>, text: &[u8]) -> bool
-    requires { HasSpareRoom out.old row_bytes }
+    requires { HasSpareRoom out.old bytes_row_size }
     ensures reads { Reads IsWordRow (flat_map spaced) (flat_map bytes_of_word) result text.now out.old.items out.new.items }
-    ensures room { StaysWithin out.old out.new row_bytes }
+    ensures room { StaysWithin out.old out.new bytes_row_size }
 {
     if text.len() == 9 {
         return put_one_word(out, text);

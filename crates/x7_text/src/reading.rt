@@ -22,7 +22,7 @@ fn numbers_of_eight(digits: u8x8) -> u8x8
     (digits & u8x8::splat(15)) + (digits >> 6) * u8x8::splat(9)
 }
 
-/// The bytes of four pairs of halves, numbers below 16, the high one first.
+/// The bytes of four pairs of halves, which are below 16 where they are of digits, the high one first.
 #[inline(always)]
 fn bytes_of_four_pairs(halves: u8x8) -> u8x4
     requires { length halves ≡ 8 }
@@ -101,7 +101,7 @@ fn numbers_of(digits: u8x64) -> u8x64
     (digits & u8x64::splat(15)) + (digits >> 6) * u8x64::splat(9)
 }
 
-/// The bytes of 32 pairs of halves, numbers below 16, the high one first.
+/// The bytes of 32 pairs of halves, which are below 16 where they are of digits, the high one first.
 #[inline(always)]
 fn bytes_of_halves(halves: u8x64) -> u8x32
     requires { length halves ≡ 64 }
@@ -165,7 +165,7 @@ fn same_prefix_size(a: &[u8; 64], b: &[u8; 64]) -> usize
 pub struct HexPrefix {
     /// The bytes that the digits stand for, and other bytes after them.
     pub bytes: [u8; 32],
-    /// How many digits the block begins with, from 0 to 64.
+    /// How many digits are known to begin the block, from 0 to 64: no whole pair is missed, an odd last one may be.
     pub digit_count: usize,
 }
 

@@ -3,7 +3,7 @@ ghost use Rattle.std.specs.Prelude.{◌≡◌, [], ◌∷◌, ◌<◌, ◌+◌, 
 ghost use Rattle.std.specs.List.{flat_map};
 ghost use Rattle.x7_text.specs.Appends.{Appends, HasSpareRoom};
 ghost use Rattle.x7_text.specs.Digits.{hex_byte};
-ghost use Rattle.x7_text.specs.Row.{line, line_start, line_end, next_in_line, in_line_after, spaced, close, PutsBytes, PutsWords, row_words, row_bytes, data_line_size, bytes_line_size, word_text_limit, byte_text_limit, rows_text_limit, open_data, open_bytes};
+ghost use Rattle.x7_text.specs.Row.{line, line_start, line_end, next_in_line, in_line_after, spaced, close, PutsBytes, PutsWords, row_words, bytes_row_size, data_line_size, bytes_line_size, word_text_limit, byte_text_limit, rows_text_limit, open_data, open_bytes};
 ghost use Rattle.x7_words.specs.Word.{AreWholeWords, words_of_bytes};
 
 use crate::block::{bytes_line, data_line, hex_of_short_block};
@@ -15,7 +15,7 @@ use x7_words::word_of;
 const ROW_WORDS: usize = 8;
 
 /// How many bytes a full `bytes` line has.
-const ROW_BYTES: usize = 32;
+const BYTES_ROW_SIZE: usize = 32;
 
 /// Appends the keyword that a line begins with, where no line is open.
 fn put_line_start(text: &mut Vec<u8>, keyword: &[u8], in_line: usize)
@@ -58,13 +58,13 @@ pub fn put_word(text: &mut Vec<u8>, in_line: usize, w: u32) -> usize
 
 /// Appends a byte to a `bytes` line that has `in_line` bytes (0 where no line is open). Gives that count afterwards.
 fn put_byte(text: &mut Vec<u8>, in_line: usize, byte: u8) -> usize
-    requires open { in_line < row_bytes }
+    requires open { in_line < bytes_row_size }
     requires room { HasSpareRoom text.old byte_text_limit }
     ensures { PutsBytes in_line (byte ∷ []) text.old text.new byte_text_limit result }
 {
     put_line_start(text, b"bytes ", in_line);
     put(text, &hex_of_byte(byte));
-    put_line_end(text, ROW_BYTES, in_line)
+    put_line_end(text, BYTES_ROW_SIZE, in_line)
 }
 
 /// Appends the end of an open line, and nothing where none is open.
@@ -114,7 +114,7 @@ fn put_each_word(text: &mut Vec<u8>, in_line: usize, bytes: &[u8]) -> usize
 
 /// Appends bytes to `bytes` lines, byte by byte.
 fn put_each_byte(text: &mut Vec<u8>, in_line: usize, bytes: &[u8]) -> usize
-    requires open { in_line < row_bytes }
+    requires open { in_line < bytes_row_size }
     requires room { HasSpareRoom text.old (3 * length bytes.now + 11) }
     ensures { PutsBytes in_line bytes.now text.old text.new (3 * length bytes.now + 5) result }
 {
@@ -127,7 +127,7 @@ fn put_each_byte(text: &mut Vec<u8>, in_line: usize, bytes: &[u8]) -> usize
 
 /// Appends bytes to a `bytes` line, which they leave open.
 fn put_bytes_in_line(text: &mut Vec<u8>, in_line: usize, bytes: &[u8]) -> usize
-    requires open { in_line + length bytes.now < row_bytes }
+    requires open { in_line + length bytes.now < bytes_row_size }
     requires room { HasSpareRoom text.old (2 * length bytes.now + 6) }
     ensures { PutsBytes in_line bytes.now text.old text.new (2 * length bytes.now + 6) result }
 {
@@ -185,16 +185,16 @@ pub fn put_words(text: &mut Vec<u8>, in_line: usize, bytes: &[u8]) -> usize
 /// Appends bytes to `bytes` lines of which the open one has `in_line` bytes (0 where none is open). Gives that count
 /// afterwards. It takes no memory.
 pub fn put_bytes(text: &mut Vec<u8>, in_line: usize, bytes: &[u8]) -> usize
-    requires open { in_line < row_bytes }
+    requires open { in_line < bytes_row_size }
     requires room { HasSpareRoom text.old (rows_text_limit (length bytes.now)) }
-    ensures count { result ≡ in_line_after row_bytes in_line bytes.now }
-    ensures open { result < row_bytes }
+    ensures count { result ≡ in_line_after bytes_row_size in_line bytes.now }
+    ensures open { result < bytes_row_size }
     ensures appends { Appends text.old text.new (open_bytes in_line bytes.now) (rows_text_limit (length bytes.now)) }
 {
     if in_line == 0 {
         return put_new_bytes(text, bytes);
     }
-    let missing_bytes = ROW_BYTES - in_line;
+    let missing_bytes = BYTES_ROW_SIZE - in_line;
     if bytes.len() < missing_bytes {
         return put_bytes_in_line(text, in_line, bytes);
     }

@@ -8,7 +8,7 @@ ghost use Rattle.x7_tool.specs.Outcome.{text_limit};
 ghost use Rattle.x7_tool.specs.Between.{IsFed, LinesGive};
 
 use std::alloc::Global;
-use x7_forms::{Refusal, TEXT_LIMIT, TURN_BYTES, next_turn, open};
+use x7_forms::{Refusal, TEXT_LIMIT, TURN_SIZE, next_turn, open};
 use x7_text::{LineReader, TakesLines};
 use x7_words::Inputs;
 
@@ -53,7 +53,7 @@ pub(crate) fn feed_whole<'w, I: Inputs, T: TakesLines>(
     ensures inputs { InputsStay (I.state inputs.old) (I.state inputs.new) }
 {
     open(inputs, name)?;
-    let mut piece = [0u8; TURN_BYTES];
+    let mut piece = [0u8; TURN_SIZE];
     let mut left = TEXT_LIMIT;
     let mut read = Ok(LineReader::new(alloc, taker));
     loop {

@@ -12,9 +12,9 @@ ghost use Rattle.x7_forms.specs.Step.{seen};
 ghost use Rattle.x7_tool.specs.Between.{IsUnlisted, Lists, StopsIn};
 
 use std::alloc::Global;
-use x7_forms::{Refusal, STREAM_LIMIT, TURN_BYTES, Why, next_turn, open, read_beginning};
+use x7_forms::{Refusal, STREAM_LIMIT, TURN_SIZE, Why, next_turn, open, read_beginning};
 use x7_listing::Lister;
-use x7_words::{Inputs, Sink, write_all, write_pieces};
+use x7_words::{Inputs, Sink, are_bytes, write_all, write_pieces};
 
 /// Lists a piece, and writes what that adds to the listing.
 fn put_turn<'w, O: Sink>(lister: &mut Lister, out: &mut O, piece: &[u8]) -> Result<(), Refusal<'w>>
@@ -22,7 +22,6 @@ fn put_turn<'w, O: Sink>(lister: &mut Lister, out: &mut O, piece: &[u8]) -> Resu
         → Lists lister.new first (O.state out.new).written (bytes ++ piece.now)) }
     ensures prefix { OnErr result (StopsIn lister.old (O.state out.old).written piece.now (O.state out.new).written) }
     ensures refused { IfErr result (λ r. IsUnlisted (O.state out.old) (O.state out.new) (event_of r)) }
-    ensures fits { AreBytes piece.now }
     ensures extends { Extends (O.state out.old) (O.state out.new) }
     ensures counts { SinkFaultsRise (O.state out.old) (O.state out.new) }
 {
@@ -73,7 +72,6 @@ fn put_beginning<'w, O: Sink>(
     ensures prefix { IfErr result (λ r. (rest : List ℕ) → AreBytes (content.now ++ rest)
         → PutsPrefix (O.state out.old).written (line.now ++ listing_of (content.now ++ rest)) (O.state out.new).written) }
     ensures refused { IfErr result (λ r. (event_of r ≡ no_memory) ⊎ ((event_of r ≡ writing_failed) × SinkFails (O.state out.old) (O.state out.new))) }
-    ensures fits { AreBytes content.now }
     ensures counts { SinkFaultsRise (O.state out.old) (O.state out.new) }
 {
     if write_all(out, line).is_err() {
@@ -118,12 +116,14 @@ pub(crate) fn list<'w, I: Inputs, O: Sink>(
     if beginning.last {
         return put_short(&mut lister, out, line, content);
     }
+    are_bytes(content);
     put_beginning(&mut lister, out, line, content)?;
-    let mut piece = [0u8; TURN_BYTES];
+    let mut piece = [0u8; TURN_SIZE];
     let mut left = STREAM_LIMIT - beginning.bytes.len();
     loop {
         let turn = next_turn(inputs, stream, left, &mut piece)?;
         let bytes = &piece[..turn.count];
+        are_bytes(bytes);
         put_turn(&mut lister, out, bytes)?;
         left -= turn.count;
         if turn.last {

@@ -2,12 +2,12 @@
 use Rattle.std.specs.Prelude.{◌≡◌, ℕ, ◌+◌, ◌-◌, ◌*◌, ◌%◌, ◌<◌, ◌≤◌, List, ◌++◌, length, get_or, take, replicate}
 use Rattle.x7_words.specs.Flash.{erased_byte, replaced}
 use Rattle.x7_words.specs.Word.{AreBytes}
-use Rattle.x7_packets.specs.FlashSlot.{sector_bytes, flash_slot_bytes, flash_slot_count}
-use Rattle.x7_update.specs.Layout.{IsUpdatable, HasNoOpenSlot, IsNextFreeSlot, IsOpen, open_switch, spent_switch, switch_bytes, switch_of, update_place}
+use Rattle.x7_packets.specs.FlashSlot.{sector_size, flash_slot_size, flash_slot_count}
+use Rattle.x7_update.specs.Layout.{IsUpdatable, HasNoOpenSlot, IsNextFreeSlot, IsOpen, open_switch, spent_switch, switch_size, switch_of, update_place}
 
 -- the flash with this switch word, four bytes, in a slot
 abbrev pub switched : ℕ → List ℕ → List ℕ → List ℕ
-switched slot word flash = replaced (flash_slot_bytes * slot) word flash
+switched slot word flash = replaced (flash_slot_size * slot) word flash
 
 -- the flash with this stream at its place, and FF from the stream's end to the flash's end
 abbrev pub with_stream : ℕ → List ℕ → List ℕ → List ℕ
@@ -33,10 +33,10 @@ pub record IsAfterUpdate (stream flash after : List ℕ) : Type 0 where
 -- from U on there may be anything.
 pub record IsBetweenSlots (flash found : List ℕ) : Type 0 where
   pub size : length found ≡ length flash
-  pub slots : (i : ℕ) → i < sector_bytes → switch_bytes ≤ i % flash_slot_bytes → get_or found i 0 ≡ get_or flash i 0
+  pub slots : (i : ℕ) → i < sector_size → switch_size ≤ i % flash_slot_size → get_or found i 0 ≡ get_or flash i 0
   pub none_open : HasNoOpenSlot found
   pub switches : (slot : ℕ) → slot < flash_slot_count → (IsOpen flash slot → ⊥) → (IsNextFreeSlot flash slot → ⊥) → switch_of found slot ≡ switch_of flash slot
-  pub golden : (i : ℕ) → sector_bytes ≤ i → i < update_place flash → get_or found i 0 ≡ get_or flash i 0
+  pub golden : (i : ℕ) → sector_size ≤ i → i < update_place flash → get_or found i 0 ≡ get_or flash i 0
 
 -- What a power loss may leave of a flash that is being updated with a stream: itself; and of one that can be updated
 -- bytes that are between, or the flash after the update.

@@ -1,8 +1,8 @@
 -- Why an update is refused, and the place that shows that a flash can't be updated (this project's choice).
 use Rattle.std.specs.Prelude.{◌≡◌, ◌≢◌, ℕ, ◌+◌, ◌-◌, ◌*◌, ◌<◌, ◌≤◌, ◌⊎◌, true, false, List, length, get_or, None, Some}
 use Rattle.x7_words.specs.Flash.{FlashFails, FlashState, IfKnown, WriteFails}
-use Rattle.x7_packets.specs.FlashSlot.{flash_slot_bytes, flash_slot_count}
-use Rattle.x7_update.specs.Layout.{CanStandAt, IsUpdatable, HasSize, IsFree, IsOpen, LeadsToUpdate, first_slot, start_place, switch_bytes, update_place}
+use Rattle.x7_packets.specs.FlashSlot.{flash_slot_size, flash_slot_count}
+use Rattle.x7_update.specs.Layout.{CanStandAt, IsUpdatable, HasSize, IsFree, IsOpen, LeadsToUpdate, first_slot, start_place, switch_size, update_place}
 use Rattle.x7_update.specs.Writing.{IsFirstRead, IsReadWrong}
 use Rattle.x7_update.specs.declared.fault.UpdateFault.{UpdateFault}
 use Rattle.x7_update.specs.declared.fault.UpdateFault.TheVariants.{Differs, Failed, NoLayout, NoMemory, TooLong}
@@ -10,11 +10,11 @@ use Rattle.x7_update.specs.declared.fault.UpdateFault.TheVariants.{Differs, Fail
 -- the first place of a slot, after its switch word, at which the slot differs from what it has to be
 pub record DiffersAt (flash : List ℕ) (slot place : ℕ) : Type 0 where
   pub i : ℕ
-  pub after_switch : switch_bytes ≤ i
-  pub within : i < flash_slot_bytes
-  pub is : place ≡ flash_slot_bytes * slot + i
+  pub after_switch : switch_size ≤ i
+  pub within : i < flash_slot_size
+  pub is : place ≡ flash_slot_size * slot + i
   pub differs : get_or flash place 0 ≢ get_or (first_slot flash) i 0
-  pub first : (j : ℕ) → switch_bytes ≤ j → j < i → get_or flash (flash_slot_bytes * slot + j) 0 ≡ get_or (first_slot flash) j 0
+  pub first : (j : ℕ) → switch_size ≤ j → j < i → get_or flash (flash_slot_size * slot + j) 0 ≡ get_or (first_slot flash) j 0
 
 -- a slot is open, and so is one before it
 pub record OpensAgain (flash : List ℕ) (slot : ℕ) : Type 0 where
@@ -30,7 +30,7 @@ IsGoodSlot flash slot = LeadsToUpdate flash slot × (OpensAgain flash slot → �
 -- why a slot isn't as the layout has it, and the place that shows it: the slot doesn't lead to the update's place
 -- (where it differs), or is open as one before it is (the slot's place)
 abbrev pub IsBadSlotAt : List ℕ → ℕ → ℕ → Type 0
-IsBadSlotAt flash slot place = DiffersAt flash slot place ⊎ (LeadsToUpdate flash slot × OpensAgain flash slot × (place ≡ flash_slot_bytes * slot))
+IsBadSlotAt flash slot place = DiffersAt flash slot place ⊎ (LeadsToUpdate flash slot × OpensAgain flash slot × (place ≡ flash_slot_size * slot))
 
 -- a flash can be updated by its size and its first slot: the slot leads to a place at which an update can stand
 pub record BeginsWell (size : ℕ) (flash : List ℕ) : Type 0 where
@@ -47,7 +47,7 @@ pub data NoLayoutAt (size : ℕ) (flash : List ℕ) (place : ℕ) : Type 0 where
   bad_place : HasSize size → LeadsToUpdate flash 0 → (CanStandAt size (update_place flash) → ⊥) → place ≡ start_place → NoLayoutAt size flash place
   bad_slot : BeginsWell size flash → (slot : ℕ) → slot < flash_slot_count → ((earlier : ℕ) → earlier < slot → IsGoodSlot flash earlier)
       → IsBadSlotAt flash slot place → NoLayoutAt size flash place
-  last_taken : BeginsWell size flash → ((slot : ℕ) → slot < flash_slot_count → IsGoodSlot flash slot) → (IsFree flash (flash_slot_count - 1) → ⊥) → place ≡ flash_slot_bytes * (flash_slot_count - 1)
+  last_taken : BeginsWell size flash → ((slot : ℕ) → slot < flash_slot_count → IsGoodSlot flash slot) → (IsFree flash (flash_slot_count - 1) → ⊥) → place ≡ flash_slot_size * (flash_slot_count - 1)
       → NoLayoutAt size flash place
 
 -- the stream passes the end of a flash that can be updated

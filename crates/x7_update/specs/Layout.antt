@@ -10,12 +10,12 @@
 use Rattle.std.specs.Prelude.{◌≡◌, ◌≢◌, ℕ, suc, ◌+◌, ◌-◌, ◌*◌, ◌%◌, ◌<◌, ◌≤◌, List, [], ◌∷◌, length, get_or}
 use Rattle.x7_words.specs.Flash.{flash_limit}
 use Rattle.x7_words.specs.Word.{word_of_bytes}
-use Rattle.x7_packets.specs.FlashSlot.{flash_slot, sector_bytes, flash_slot_bytes, flash_slot_count}
+use Rattle.x7_packets.specs.FlashSlot.{flash_slot, sector_size, flash_slot_size, flash_slot_count}
 use Rattle.x7_packets.specs.SyncWord.{sync_bytes}
 
 -- how many bytes a switch word has
-abbrev pub switch_bytes : ℕ
-switch_bytes = 4
+abbrev pub switch_size : ℕ
+switch_size = 4
 
 -- the four bytes from a place on
 abbrev pub four_at : List ℕ → ℕ → List ℕ
@@ -23,7 +23,7 @@ four_at flash place = get_or flash place 0 ∷ get_or flash (place + 1) 0 ∷ ge
 
 -- the switch word of a slot, by its bytes
 abbrev pub switch_of : List ℕ → ℕ → List ℕ
-switch_of flash slot = four_at flash (flash_slot_bytes * slot)
+switch_of flash slot = four_at flash (flash_slot_size * slot)
 
 -- the switch word of an open slot: the sync word
 abbrev pub open_switch : List ℕ
@@ -51,19 +51,19 @@ first_slot flash = flash_slot open_switch (four_at flash start_place)
 
 -- a flash of this size, in bytes, can be updated: it is whole sectors, two at least, and not too large
 pub record HasSize (size : ℕ) : Type 0 where
-  pub whole : size % sector_bytes ≡ 0
-  pub least : 2 * sector_bytes ≤ size
+  pub whole : size % sector_size ≡ 0
+  pub least : 2 * sector_size ≤ size
   pub most : size ≤ flash_limit
 
 -- a place at which an update may stand in a flash of a size
 pub record CanStandAt (size place : ℕ) : Type 0 where
-  pub whole : place % sector_bytes ≡ 0
-  pub least : 2 * sector_bytes ≤ place
+  pub whole : place % sector_size ≡ 0
+  pub least : 2 * sector_size ≤ place
   pub most : place ≤ size
 
 -- a slot of the flash leads to U: after its switch word it has the bytes that the first one has to have
 abbrev pub LeadsToUpdate : List ℕ → ℕ → Type 0
-LeadsToUpdate flash slot = (i : ℕ) → switch_bytes ≤ i → i < flash_slot_bytes → get_or flash (flash_slot_bytes * slot + i) 0 ≡ get_or (first_slot flash) i 0
+LeadsToUpdate flash slot = (i : ℕ) → switch_size ≤ i → i < flash_slot_size → get_or flash (flash_slot_size * slot + i) 0 ≡ get_or (first_slot flash) i 0
 
 -- a slot of the flash is open
 abbrev pub IsOpen : List ℕ → ℕ → Type 0

@@ -1,7 +1,7 @@
 -- What a look at the first sector of a flash finds (this project's choice).
 use Rattle.std.specs.Prelude.{◌≡◌, ◌≢◌, ℕ, suc, ◌<◌, ◌≤◌, true, List, length, Option, None, Some}
 use Rattle.x7_words.specs.Flash.{FlashState, IfKnown}
-use Rattle.x7_packets.specs.FlashSlot.{sector_bytes, flash_slot_count}
+use Rattle.x7_packets.specs.FlashSlot.{sector_size, flash_slot_count}
 use Rattle.x7_update.specs.Layout.{CanStandAt, HasSize, HasSlots, IsFree, IsNextFreeSlot, IsOpen, LeadsToUpdate, first_slot, free_switch, open_switch, switch_of, update_place}
 use Rattle.x7_update.specs.Fault.{OpensAgain}
 use Rattle.x7_update.specs.declared.slots.Slots.{Slots}
@@ -9,7 +9,7 @@ use Rattle.x7_update.specs.declared.slots.UpdateTarget.{UpdateTarget}
 
 -- the bytes are those of a sector, and this is what each of its slots has to be after its switch word
 pub record HasFirstSlot (first_sector wanted : List ℕ) : Type 0 where
-  pub whole : length first_sector ≡ sector_bytes
+  pub whole : length first_sector ≡ sector_size
   pub is : wanted ≡ first_slot first_sector
 
 -- of the first `count` slots the one of this number is open, or none is

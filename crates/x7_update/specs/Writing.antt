@@ -2,9 +2,9 @@
 use Rattle.std.specs.Prelude.{◌≡◌, ◌≢◌, ℕ, ◌+◌, ◌-◌, ◌*◌, ◌%◌, ◌<◌, ◌≤◌, ◌⊎◌, IsTrue, List, length, get_or, Option, Some, None, nat_lt, if◌then◌else◌, true, false}
 use Rattle.x7_words.specs.Flash.{erased_byte, Elapses, FlashFails, FlashState, IfKnown, OnlyWrites, WriteFails}
 use Rattle.x7_words.specs.Word.{AreBytes}
-use Rattle.x7_packets.specs.FlashSlot.{sector_bytes, flash_slot_bytes, flash_slot_count}
+use Rattle.x7_packets.specs.FlashSlot.{sector_size, flash_slot_size, flash_slot_count}
 use Rattle.x7_update.specs.After.{SpendsOpen, IsBetweenSlots, switched, with_stream}
-use Rattle.x7_update.specs.Layout.{CanStandAt, HasSize, open_switch, switch_bytes, switch_of}
+use Rattle.x7_update.specs.Layout.{CanStandAt, HasSize, open_switch, switch_size, switch_of}
 use Rattle.x7_update.specs.declared.fault.UpdateFault.{UpdateFault}
 use Rattle.x7_update.specs.declared.fault.UpdateFault.TheVariants.{Differs, Failed, NoLayout, NoMemory, TooLong}
 
@@ -51,13 +51,13 @@ pub record Writes (old new : FlashState) (past since : ℕ → List ℕ → Type
 pub record CanSwitch (state : FlashState) (slot : ℕ) : Type 0 where
   pub attached : state.attached ≡ true
   pub among : slot < flash_slot_count
-  pub within : flash_slot_bytes * slot + switch_bytes ≤ state.extent
+  pub within : flash_slot_size * slot + switch_size ≤ state.extent
 
 -- all from a place on can be erased: the flash is attached, and whole sectors are before the place and up to the end
 pub record CanEraseFrom (state : FlashState) (place : ℕ) : Type 0 where
   pub attached : state.attached ≡ true
-  pub size : state.extent % sector_bytes ≡ 0
-  pub begins : place % sector_bytes ≡ 0
+  pub size : state.extent % sector_size ≡ 0
+  pub begins : place % sector_size ≡ 0
 
 -- nothing of the flash below the place has changed
 pub record KeepsBelow (place : ℕ) (old found : List ℕ) : Type 0 where
@@ -73,7 +73,7 @@ pub record ErasedTo (place end : ℕ) (old now : List ℕ) : Type 0 where
 -- nothing of the flash has changed but, perhaps, the switch word of a slot, which isn't open
 pub record OnlySwitch (slot : ℕ) (old found : List ℕ) : Type 0 where
   pub size : length found ≡ length old
-  pub others : (i : ℕ) → (i < flash_slot_bytes * slot) ⊎ (flash_slot_bytes * slot + switch_bytes ≤ i) → get_or found i 0 ≡ get_or old i 0
+  pub others : (i : ℕ) → (i < flash_slot_size * slot) ⊎ (flash_slot_size * slot + switch_size ≤ i) → get_or found i 0 ≡ get_or old i 0
   pub not_open : switch_of found slot ≢ open_switch
 
 -- while an open slot is spent nothing has changed, or the slot isn't open
@@ -114,7 +114,7 @@ pub record CanVerify (state : FlashState) (stream_place : ℕ) (stream buffer : 
   pub place : CanStandAt state.extent stream_place
   pub fits : stream_place + length stream ≤ state.extent
   pub wanted : IfKnown state.bytes (HasWanted stream_place stream)
-  pub buffer_is : length buffer ≡ sector_bytes
+  pub buffer_is : length buffer ≡ sector_size
 
 -- from one place up to another each byte was read as it is wanted, and nothing was written since
 abbrev pub SeesWanted : ℕ → List ℕ → ℕ → ℕ → FlashState → Type 0
@@ -143,7 +143,7 @@ IsWrong stream_place stream place buffer NoMemory = ⊥
 -- the switch word of the slot that is opened.
 pub data IsWritten (size : ℕ) (stream piece : List ℕ) (from end : ℕ) : Type 0 where
   in_stream : CanStandAt size from → from + length stream ≤ size → piece ≡ stream → end ≡ size → IsWritten size stream piece from end
-  in_switch : (slot : ℕ) → slot < flash_slot_count → from ≡ flash_slot_bytes * slot → piece ≡ open_switch → end ≡ from + switch_bytes → IsWritten size stream piece from end
+  in_switch : (slot : ℕ) → slot < flash_slot_count → from ≡ flash_slot_size * slot → piece ≡ open_switch → end ≡ from + switch_size → IsWritten size stream piece from end
 
 -- a byte is another than the one that an update with this stream writes at a place of a flash of a size
 pub record IsReadWrong (size : ℕ) (stream : List ℕ) (place wrote read : ℕ) : Type 0 where

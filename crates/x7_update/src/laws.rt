@@ -1,6 +1,6 @@
 //! Laws of flashes that can be updated, and of updates.
 ghost use Rattle.std.specs.Prelude.{◌≡◌, ◌≢◌, ◌-◌, ◌<◌, ℕ, List, length};
-ghost use Rattle.x7_packets.specs.FlashSlot.{sector_bytes, flash_slot_count};
+ghost use Rattle.x7_packets.specs.FlashSlot.{sector_size, flash_slot_count};
 ghost use Rattle.x7_update.specs.After.{IsAfterUpdate, IsBetweenSlots, MayBeLeft};
 ghost use Rattle.x7_update.specs.Layout.{IsUpdatable, IsNextFreeSlot, four_at, open_switch};
 ghost use Rattle.x7_update.specs.Fault.{NoLayoutAt};
@@ -20,7 +20,7 @@ pub fn updates_have_one_outcome()
 /// word begins in the first sector.
 pub fn flashes_between_slots_hold_no_sync_word()
     ensures { (flash found : List ℕ) → IsUpdatable flash → IsBetweenSlots flash found
-        → (place : ℕ) → place < sector_bytes → four_at found place ≢ open_switch }
+        → (place : ℕ) → place < sector_size → four_at found place ≢ open_switch }
 {}
 
 /// Whatever a power loss in an update leaves of a flash that can be updated can be updated again, unless the next free

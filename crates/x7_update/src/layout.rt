@@ -3,10 +3,10 @@ ghost use Rattle.std.specs.Prelude.{◌≡◌, ◌↔◌, ◌+◌, ◌≤◌, tr
 ghost use Rattle.x7_update.specs.Layout.{CanStandAt, HasSize, first_slot, four_at, start_place};
 
 use x7_packets::{SYNC_BYTES, flash_slot};
-use x7_words::{FLASH_LIMIT, SECTOR_BYTES};
+use x7_words::{FLASH_LIMIT, SECTOR_SIZE};
 
 /// How many bytes a switch word has.
-pub(crate) const SWITCH_BYTES: usize = 4;
+pub(crate) const SWITCH_SIZE: usize = 4;
 
 /// The switch word of an open slot: the sync word.
 pub(crate) const OPEN_SWITCH: [u8; 4] = SYNC_BYTES;
@@ -46,12 +46,12 @@ pub(crate) fn first_slot(first_sector: &[u8]) -> [u8; 32]
 pub(crate) fn has_size(size: u64) -> bool
     ensures { (result ≡ true) ↔ HasSize size }
 {
-    size % SECTOR_BYTES == 0 && 2 * SECTOR_BYTES <= size && size <= FLASH_LIMIT
+    size % SECTOR_SIZE == 0 && 2 * SECTOR_SIZE <= size && size <= FLASH_LIMIT
 }
 
 /// Whether an update can stand at this place of a flash of a size, in bytes; at the flash's end an empty one can.
 pub(crate) fn can_stand(place: u64, size: u64) -> bool
     ensures { (result ≡ true) ↔ CanStandAt size place }
 {
-    place % SECTOR_BYTES == 0 && 2 * SECTOR_BYTES <= place && place <= size
+    place % SECTOR_SIZE == 0 && 2 * SECTOR_SIZE <= place && place <= size
 }

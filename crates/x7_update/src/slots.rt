@@ -1,16 +1,16 @@
 //! A look at the first sector: where the update goes, which slot is open, and which is the next.
 ghost use Rattle.std.specs.Prelude.{◌≡◌, ◌+◌, ◌<◌, ℕ, List, true, length, IfErr, IfOk, IfNone, IfSome};
 ghost use Rattle.x7_words.specs.Flash.{KnowsBytes, OnlyReads};
-ghost use Rattle.x7_packets.specs.FlashSlot.{sector_bytes, flash_slot_count};
+ghost use Rattle.x7_packets.specs.FlashSlot.{sector_size, flash_slot_count};
 ghost use Rattle.x7_update.specs.Layout.{HasSize, LeadsToUpdate};
 ghost use Rattle.x7_update.specs.Fault.{DiffersAt, HasCause, IsBadSlotAt, IsGoodSlot, NoLayoutAt};
 ghost use Rattle.x7_update.specs.Slots.{IsTargetIn, HasFirstSlot, HasTarget, SlotsAmong};
 
 use crate::fault::UpdateFault;
 use crate::layout::{
-    FREE_SWITCH, OPEN_SWITCH, START_PLACE, SWITCH_BYTES, can_stand, first_slot, four_at, has_size,
+    FREE_SWITCH, OPEN_SWITCH, START_PLACE, SWITCH_SIZE, can_stand, first_slot, four_at, has_size,
 };
-use x7_packets::{FLASH_SLOT_BYTES, FLASH_SLOT_COUNT};
+use x7_packets::{FLASH_SLOT_COUNT, FLASH_SLOT_SIZE};
 use x7_words::{Flash, is_same, word_of};
 
 /// The slots that an update switches, by their numbers.
@@ -38,8 +38,8 @@ fn slot_difference(first_sector: &[u8], wanted: &[u8; 32], slot: usize) -> Optio
     ensures leads { IfNone result (LeadsToUpdate first_sector.now slot) }
     ensures differs { IfSome result (λ place. DiffersAt first_sector.now slot place) }
 {
-    let slot_place = FLASH_SLOT_BYTES as usize * slot;
-    for i in SWITCH_BYTES..FLASH_SLOT_BYTES as usize {
+    let slot_place = FLASH_SLOT_SIZE as usize * slot;
+    for i in SWITCH_SIZE..FLASH_SLOT_SIZE as usize {
         if first_sector[slot_place + i] != wanted[i] {
             return Some((slot_place + i) as u64);
         }
@@ -63,11 +63,11 @@ fn look_at_slot(
     if let Some(place) = slot_difference(first_sector, wanted, slot as usize) {
         return Err(place);
     }
-    let switch = four_at(first_sector, FLASH_SLOT_BYTES as usize * slot as usize);
+    let switch = four_at(first_sector, FLASH_SLOT_SIZE as usize * slot as usize);
     let Slots { open_slot, next } = before;
     if is_same(&switch, &OPEN_SWITCH) {
         if open_slot.is_some() {
-            return Err(FLASH_SLOT_BYTES * slot);
+            return Err(FLASH_SLOT_SIZE * slot);
         }
         return Ok(Slots {
             open_slot: Some(slot),
@@ -102,7 +102,7 @@ fn look_at_slots(first_sector: &[u8], wanted: &[u8; 32]) -> Result<Slots, u64>
 
 /// Where an update goes in a flash of a size, by its first sector, or the first place that breaks the layout.
 fn target_of(first_sector: &[u8], size: u64) -> Result<UpdateTarget, u64>
-    requires first_sector { length first_sector.now ≡ sector_bytes }
+    requires first_sector { length first_sector.now ≡ sector_size }
     requires size { HasSize size }
     ensures found { IfOk result (IsTargetIn size first_sector.now) }
     ensures no_layout { IfErr result (NoLayoutAt size first_sector.now) }
@@ -118,7 +118,7 @@ fn target_of(first_sector: &[u8], size: u64) -> Result<UpdateTarget, u64>
     let slots = look_at_slots(first_sector, &wanted)?;
     // No free slot is left.
     if slots.next >= FLASH_SLOT_COUNT {
-        return Err(FLASH_SLOT_BYTES * (FLASH_SLOT_COUNT - 1));
+        return Err(FLASH_SLOT_SIZE * (FLASH_SLOT_COUNT - 1));
     }
     Ok(UpdateTarget { place, slots })
 }
@@ -129,7 +129,7 @@ pub(crate) fn find_target<F: Flash>(
     buffer: &mut [u8],
 ) -> Result<UpdateTarget, UpdateFault>
     requires attached { (F.state flash.old).attached ≡ true }
-    requires buffer { length buffer.old ≡ sector_bytes }
+    requires buffer { length buffer.old ≡ sector_size }
     ensures found { IfOk result (HasTarget (F.state flash.old)) }
     ensures refused { (stream : List ℕ) → IfErr result (HasCause stream (F.state flash.old) (F.state flash.new)) }
     ensures bytes { KnowsBytes (F.state flash.old) }

@@ -1,7 +1,7 @@
 //! The steps of an update, in their order: look, spend the open slot, write, verify, open the next.
 ghost use Rattle.std.specs.Prelude.{◌≡◌, ◌+◌, ◌*◌, ◌<◌, ◌≤◌, ◌⊎◌, ℕ, List, true, length, IfErr, OnOk, OnErr, option_map};
 ghost use Rattle.x7_words.specs.Flash.{OnlyReads, IfKnown, Sees, WriteFails};
-ghost use Rattle.x7_packets.specs.FlashSlot.{flash_slot_bytes, flash_slot_count};
+ghost use Rattle.x7_packets.specs.FlashSlot.{flash_slot_size, flash_slot_count};
 ghost use Rattle.x7_update.specs.After.{SpendsOpen, IsAfterUpdate, MayBeLeft, switched};
 ghost use Rattle.x7_update.specs.Layout.{IsUpdatable, HasNoOpenSlot, IsFree, open_switch};
 ghost use Rattle.x7_update.specs.Verified.{AllVerified, OpensVerified, WasReady};
@@ -16,7 +16,7 @@ use crate::switch::{open_slot, spend_slot};
 use crate::verify::{verify_stream, verify_switch};
 use crate::write::write_stream;
 use std::alloc::Global;
-use x7_words::{Failed, Flash, SECTOR_BYTES};
+use x7_words::{Failed, Flash, SECTOR_SIZE};
 
 /// Spends the open slot, if there is one.
 fn spend_open_slot<F: Flash>(flash: &mut F, target: UpdateTarget) -> Result<(), Failed>
@@ -62,7 +62,7 @@ fn verify_and_open<F: Flash>(
     ensures stays_bytes { AtAnyMoment (F.state flash.old) (F.state flash.new) (F.found_since flash.old) (F.found_since flash.new)
         StaysBytes }
     ensures was_ready { OnOk result (WasReady F.state target.place stream.now (F.state flash.new)) }
-    ensures seen { OnOk result (Sees (F.state flash.new) (flash_slot_bytes * target.slots.next) open_switch) }
+    ensures seen { OnOk result (Sees (F.state flash.new) (flash_slot_size * target.slots.next) open_switch) }
     ensures opens { AtAnyMoment (F.state flash.old) (F.state flash.new) (F.found_since flash.old) (F.found_since flash.new)
         (λ all found. (found ≡ all) ⊎ WasReady F.state target.place stream.now (F.state flash.new)) }
     ensures fault { IfErr result (HasLateCause stream.now (F.state flash.old) (F.state flash.new)) }
@@ -99,7 +99,7 @@ pub fn update<F: Flash>(alloc: Global, flash: &mut F, stream: &[u8]) -> Result<(
     ensures only_uses { OnlyUses (F.state flash.old) (F.state flash.new) }
 {
     let mut buffer = Vec::new(alloc);
-    let Ok(()) = buffer.resize(SECTOR_BYTES as usize, 0) else {
+    let Ok(()) = buffer.resize(SECTOR_SIZE as usize, 0) else {
         return Err(UpdateFault::NoMemory);
     };
     let target = find_target(flash, &mut buffer)?;

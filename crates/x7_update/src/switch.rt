@@ -6,7 +6,7 @@ ghost use Rattle.x7_update.specs.Layout.{IsFree, IsOpen, open_switch, spent_swit
 ghost use Rattle.x7_update.specs.Writing.{CanSwitch, SpendingSlot, OpeningSlot, Writes};
 
 use crate::layout::{OPEN_SWITCH, SPENT_SWITCH};
-use x7_packets::FLASH_SLOT_BYTES;
+use x7_packets::FLASH_SLOT_SIZE;
 use x7_words::{Failed, Flash};
 
 /// Spends an open slot: no slot that is spent is ever free or open again, but by an erase of the first sector.
@@ -18,7 +18,7 @@ pub(crate) fn spend_slot<F: Flash>(flash: &mut F, slot: u64) -> Result<(), Faile
         (SpendingSlot slot) }
     ensures failed { OnErr result (WriteFails (F.state flash.old) (F.state flash.new)) }
 {
-    flash.program(FLASH_SLOT_BYTES * slot, &SPENT_SWITCH)
+    flash.program(FLASH_SLOT_SIZE * slot, &SPENT_SWITCH)
 }
 
 /// Opens a free slot.
@@ -31,5 +31,5 @@ pub(crate) fn open_slot<F: Flash>(flash: &mut F, slot: u64) -> Result<(), Failed
     ensures moment { (F.state flash.new).moments ≤ (F.state flash.old).moments + 1 }
     ensures failed { OnErr result (WriteFails (F.state flash.old) (F.state flash.new)) }
 {
-    flash.program(FLASH_SLOT_BYTES * slot, &OPEN_SWITCH)
+    flash.program(FLASH_SLOT_SIZE * slot, &OPEN_SWITCH)
 }

@@ -1,14 +1,14 @@
 //! What an update has written is verified: read again and compared.
 ghost use Rattle.std.specs.Prelude.{◌≡◌, ◌+◌, ◌*◌, ◌<◌, ◌≤◌, ◌^◌, ℕ, List, true, length, IfErr, OnOk};
 ghost use Rattle.x7_words.specs.Flash.{OnlyReads, IfKnown, Sees};
-ghost use Rattle.x7_packets.specs.FlashSlot.{sector_bytes, flash_slot_bytes, flash_slot_count};
+ghost use Rattle.x7_packets.specs.FlashSlot.{sector_size, flash_slot_size, flash_slot_count};
 ghost use Rattle.x7_update.specs.Layout.{HasSize, IsOpen, open_switch};
 ghost use Rattle.x7_update.specs.Writing.{CanVerify, HasLateCause, IsWrong, ReadsWanted, SeesWanted, wanted_at};
 
 use crate::fault::UpdateFault;
 use crate::layout::OPEN_SWITCH;
-use x7_packets::FLASH_SLOT_BYTES;
-use x7_words::{ERASED_BYTE, Flash, SECTOR_BYTES};
+use x7_packets::FLASH_SLOT_SIZE;
+use x7_words::{ERASED_BYTE, Flash, SECTOR_SIZE};
 
 /// The byte that is wanted `after` bytes after the stream's place: the stream's, or FF after the stream.
 fn wanted(stream: &[u8], after: u64) -> u8
@@ -55,7 +55,7 @@ pub(crate) fn verify_stream<F: Flash>(
     ensures fault { IfErr result (HasLateCause stream.now (F.state flash.old) (F.state flash.new)) }
     ensures only_reads { OnlyReads (F.state flash.old) (F.state flash.new) (F.found_since flash.old) (F.found_since flash.new) }
 {
-    for sector in stream_place / SECTOR_BYTES..flash.size() / SECTOR_BYTES {
+    for sector in stream_place / SECTOR_SIZE..flash.size() / SECTOR_SIZE {
         verify_sector(flash, sector, stream_place, stream, buffer)?;
     }
     Ok(())
@@ -70,21 +70,21 @@ fn verify_sector<F: Flash>(
     buffer: &mut [u8],
 ) -> Result<(), UpdateFault>
     requires written { CanVerify (F.state flash.old) stream_place stream.now buffer.old }
-    requires within { sector * sector_bytes + sector_bytes ≤ (F.state flash.old).extent }
-    requires after { stream_place ≤ sector * sector_bytes }
-    requires before { SeesWanted stream_place stream.now stream_place (sector * sector_bytes) (F.state flash.old) }
-    ensures seen { OnOk result (SeesWanted stream_place stream.now stream_place (sector * sector_bytes + sector_bytes) (F.state flash.new)) }
+    requires within { sector * sector_size + sector_size ≤ (F.state flash.old).extent }
+    requires after { stream_place ≤ sector * sector_size }
+    requires before { SeesWanted stream_place stream.now stream_place (sector * sector_size) (F.state flash.old) }
+    ensures seen { OnOk result (SeesWanted stream_place stream.now stream_place (sector * sector_size + sector_size) (F.state flash.new)) }
     ensures fault { IfErr result (HasLateCause stream.now (F.state flash.old) (F.state flash.new)) }
     ensures only_reads { OnlyReads (F.state flash.old) (F.state flash.new) (F.found_since flash.old) (F.found_since flash.new) }
-    ensures length { length buffer.new ≡ sector_bytes }
+    ensures length { length buffer.new ≡ sector_size }
 {
-    match flash.read_at(sector * SECTOR_BYTES, buffer) {
+    match flash.read_at(sector * SECTOR_SIZE, buffer) {
         Ok(()) => (),
         Err(_) => return Err(UpdateFault::Failed { writing: false }),
     }
     compare(
         buffer,
-        sector * SECTOR_BYTES - stream_place,
+        sector * SECTOR_SIZE - stream_place,
         stream_place,
         stream,
     )
@@ -96,14 +96,14 @@ pub(crate) fn verify_switch<F: Flash>(flash: &mut F, slot: u64) -> Result<(), Up
     requires size { HasSize (F.state flash.old).extent }
     requires slot { slot < flash_slot_count }
     requires opened { IfKnown (F.state flash.old).bytes (λ all. IsOpen all slot) }
-    ensures seen { OnOk result (Sees (F.state flash.new) (flash_slot_bytes * slot) open_switch) }
+    ensures seen { OnOk result (Sees (F.state flash.new) (flash_slot_size * slot) open_switch) }
     ensures fault { (stream : List ℕ) → IfErr result (HasLateCause stream (F.state flash.old) (F.state flash.new)) }
     ensures only_reads { OnlyReads (F.state flash.old) (F.state flash.new) (F.found_since flash.old) (F.found_since flash.new) }
 {
     let mut word = [0; 4];
-    match flash.read_at(FLASH_SLOT_BYTES * slot, &mut word) {
+    match flash.read_at(FLASH_SLOT_SIZE * slot, &mut word) {
         Ok(()) => (),
         Err(_) => return Err(UpdateFault::Failed { writing: false }),
     }
-    compare(&word, 0, FLASH_SLOT_BYTES * slot, &OPEN_SWITCH)
+    compare(&word, 0, FLASH_SLOT_SIZE * slot, &OPEN_SWITCH)
 }

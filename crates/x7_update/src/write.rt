@@ -3,7 +3,7 @@ ghost use Rattle.std.specs.Prelude.{◌+◌, ◌≤◌, length, OnOk, OnErr};
 ghost use Rattle.x7_words.specs.Flash.{WriteFails};
 ghost use Rattle.x7_update.specs.Writing.{Becomes, CanEraseFrom, ErasedTo, KeepsBelow, StreamStands, Writes};
 
-use x7_words::{Failed, Flash, SECTOR_BYTES};
+use x7_words::{Failed, Flash, SECTOR_SIZE};
 
 /// Makes all from the place on FF, sector by sector. Nothing below the place changes, at any moment.
 fn erase_from<F: Flash>(flash: &mut F, place: u64) -> Result<(), Failed>
@@ -13,7 +13,7 @@ fn erase_from<F: Flash>(flash: &mut F, place: u64) -> Result<(), Failed>
         (KeepsBelow place) }
     ensures failed { OnErr result (WriteFails (F.state flash.old) (F.state flash.new)) }
 {
-    for sector in place / SECTOR_BYTES..flash.size() / SECTOR_BYTES {
+    for sector in place / SECTOR_SIZE..flash.size() / SECTOR_SIZE {
         flash.erase(sector)?;
     }
     Ok(())

@@ -5,20 +5,20 @@ use Rattle.std.proofs.lemmas.Bool.{cases_lt}
 use Rattle.std.proofs.lemmas.List.{length-take-le, length-replicate, get_or_append_left, get_or-append_right, get_or-take, get_or-drop, get_or-replicate, ext_get_or}
 use Rattle.std.proofs.lemmas.Nat.{and_mask}
 use Rattle.std.proofs.lemmas.Nat.Bits.{bit_at_above, bit_at_and, bit_at_ones, bit_at_ones_above, bit_at-lt, same_from_bits}
-use Rattle.x7_words.specs.Flash.{FlashState, OnlyReads, Unwritten, folded_sector_bytes, erased_sector, replaced, cleared, zip_with, IsTorn, Elapses}
+use Rattle.x7_words.specs.Flash.{FlashState, OnlyReads, Unwritten, folded_sector_size, erased_sector, replaced, cleared, zip_with, IsTorn, Elapses}
 use Rattle.x7_words.specs.Word.{AreBytes}
 use Rattle.x7_words.proofs.ListLemmas.{all_append, all_back, all_from_places, all_take}
 use Rattle.x7_words.proofs.ZipLemmas.{length_zip_with}
 
-pub folded_sector_bytes_is : folded_sector_bytes ≡ 65536
-unfolding folded_sector_bytes
-folded_sector_bytes_is = refl
+pub folded_sector_size_is : folded_sector_size ≡ 65536
+unfolding folded_sector_size
+folded_sector_size_is = refl
 
 pub length_erased_sector : length erased_sector ≡ 65536
-length_erased_sector = length-replicate folded_sector_bytes 255 ∙ folded_sector_bytes_is
+length_erased_sector = length-replicate folded_sector_size 255 ∙ folded_sector_size_is
 
 pub get_or_erased_sector : (i : ℕ) → i < 65536 → get_or erased_sector i 0 ≡ 255
-get_or_erased_sector i h = get_or-replicate folded_sector_bytes i 255 0 (omega (arith, folded_sector_bytes_is))
+get_or_erased_sector i h = get_or-replicate folded_sector_size i 255 0 (omega (arith, folded_sector_size_is))
 
 pub length_slice_range : (all : List ℕ) (place count : ℕ) → place + count ≤ length all → length (slice_range all place (place + count)) ≡ count
 length_slice_range all place count h =

@@ -9,12 +9,12 @@ use Rattle.x7_words.specs.declared.input.SelectFault.{SelectFault}
 use Rattle.x7_words.specs.declared.input.SelectFault.TheVariants.{Missing, Failed}
 
 -- how many bytes a sector has, which one erase sets to FF
-abbrev pub sector_bytes : ℕ
-sector_bytes = 65536
+abbrev pub sector_size : ℕ
+sector_size = 65536
 
--- `sector_bytes`, as a number that unfolds only where a proof says so: else a check would count out an erased sector
-unfoldable pub folded_sector_bytes : ℕ
-folded_sector_bytes = sector_bytes
+-- `sector_size`, as a number that unfolds only where a proof says so: else a check would count out an erased sector
+unfoldable pub folded_sector_size : ℕ
+folded_sector_size = sector_size
 
 -- what an erase sets each byte to
 abbrev pub erased_byte : ℕ
@@ -22,7 +22,7 @@ erased_byte = 0xFF
 
 -- the place, in bytes, at which the sector of this number begins; sectors count from 0
 abbrev pub sector_place : ℕ → ℕ
-sector_place sector = sector * sector_bytes
+sector_place sector = sector * sector_size
 
 -- the most bytes of a flash: 128 MiB
 abbrev pub flash_limit : ℕ
@@ -117,7 +117,7 @@ FlashRefuses old new Failed = FlashFails old new
 
 -- a sector with each bit 1
 abbrev pub erased_sector : List ℕ
-erased_sector = replicate folded_sector_bytes erased_byte
+erased_sector = replicate folded_sector_size erased_byte
 
 -- the bytes, of which those from the place on are replaced by as many of the piece
 abbrev pub replaced : ℕ → List ℕ → List ℕ → List ℕ

@@ -1,4 +1,5 @@
 pub mod Word
+pub mod Characters
 pub mod Count
 pub mod Input
 pub mod Sink

@@ -1,5 +1,5 @@
 -- Words of 32 bits, the bytes that they are read from, and their bit fields (UG470, configuration details).
-use Rattle.std.specs.Prelude.{◌≡◌, ℕ, ◌+◌, ◌*◌, ◌/◌, ◌%◌, ◌^◌, ◌<◌, List, [], ◌∷◌, length}
+use Rattle.std.specs.Prelude.{◌≡◌, ℕ, ◌+◌, ◌*◌, ◌/◌, ◌%◌, ◌^◌, ◌<◌, Bool, false, true, List, [], ◌∷◌, length}
 use Rattle.std.specs.List.{AllByRecursion}
 
 -- the word of four bytes, the first the highest; 0 for fewer bytes
@@ -37,3 +37,8 @@ AreWords ws = AllByRecursion (λ w. w < 2 ^ 32) ws
 -- the number in `width` bits of a word, from bit `low` up
 abbrev pub field_of : ℕ → ℕ → ℕ → ℕ
 field_of low width word = word / 2 ^ low % 2 ^ width
+
+-- a bit as a number: 1 where it is set
+abbrev pub number_of_bit : Bool → ℕ
+number_of_bit false = 0
+number_of_bit true = 1

@@ -1,5 +1,6 @@
-//! Two texts compared byte by byte.
+//! Two texts compared byte by byte, and what holds of all bytes.
 ghost use Rattle.std.specs.Prelude.{◌≡◌, ◌↔◌, IsTrue};
+ghost use Rattle.x7_words.specs.Word.{AreBytes};
 
 /// Whether two texts have the same bytes: `==`, with a contract that proofs cite in both directions.
 #[inline(always)]
@@ -8,3 +9,9 @@ pub fn is_same(a: &[u8], b: &[u8]) -> bool
 {
     a == b
 }
+
+/// Each element of a slice of bytes is a byte. The call has no effect: it gives a proof this fact.
+#[inline(always)]
+pub fn are_bytes(bytes: &[u8])
+    ensures { AreBytes bytes.now }
+{}

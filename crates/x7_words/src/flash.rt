@@ -1,11 +1,11 @@
 //! A flash that is read, erased and programmed at places.
 ghost use Rattle.std.specs.Prelude.{◌≡◌, ℕ, List, ◌+◌, ◌<◌, ◌≤◌, ◌^◌, length, Some, true, false, IfErr, OnOk, OnErr, slice_range, option_map};
-ghost use Rattle.x7_words.specs.Flash.{AsksFor, Elapses, FlashFails, FlashCountsFit, FlashState, FlashStays, IsSized, KnowsBytes, OnlyReads, OnlyWrites, Sees, TornFrom, FlashRefuses, IfKnown, WithinWrite, WriteFails, cleared, erased, erased_sector, programmed, sector_bytes, sector_place};
+ghost use Rattle.x7_words.specs.Flash.{AsksFor, Elapses, FlashFails, FlashCountsFit, FlashState, FlashStays, IsSized, KnowsBytes, OnlyReads, OnlyWrites, Sees, TornFrom, FlashRefuses, IfKnown, WithinWrite, WriteFails, cleared, erased, erased_sector, programmed, sector_size, sector_place};
 
 use crate::input::{Failed, SelectFault};
 
 /// How many bytes a sector has, which one erase sets to FF.
-pub const SECTOR_BYTES: u64 = 65_536;
+pub const SECTOR_SIZE: u64 = 65_536;
 
 /// What an erase sets each byte to.
 pub const ERASED_BYTE: u8 = 0xFF;
@@ -66,7 +66,7 @@ pub trait Flash {
     /// old or 1.
     fn erase(&mut self, sector: u64) -> Result<(), Failed>
         requires attached { (state self.old).attached ≡ true }
-        requires within { sector_place sector + sector_bytes ≤ (state self.old).extent }
+        requires within { sector_place sector + sector_size ≤ (state self.old).extent }
         ensures erased { OnOk result ((state self.new).bytes ≡ option_map (erased sector) (state self.old).bytes) }
         ensures torn { OnErr result
             (TornFrom (sector_place sector) (λ _. erased_sector) (state self.old).bytes (state self.new).bytes) }

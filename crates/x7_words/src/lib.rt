@@ -9,9 +9,9 @@ mod laws;
 mod sink;
 mod word;
 
-pub use bytes::is_same;
+pub use bytes::{are_bytes, is_same};
 pub use count::{ends_counted, raised};
-pub use flash::{ERASED_BYTE, FLASH_LIMIT, Flash, SECTOR_BYTES};
+pub use flash::{ERASED_BYTE, FLASH_LIMIT, Flash, SECTOR_SIZE};
 pub use input::{Failed, Inputs, NoMemory, SelectFault};
 pub use laws::words_are_big_endian;
 pub use sink::{Sink, write_all, write_pieces};

@@ -4,14 +4,14 @@ ghost use Rattle.std.specs.Io.KnownBytes.{Consumes};
 ghost use Rattle.std.specs.Io.Seek.{MovesTo};
 ghost use Rattle.x7_words.specs.Count.{IsLaterCount, raised};
 ghost use Rattle.x7_files.specs.Files.{after_attach, file_tells, known_flash, Clears, ClearsAt, EndsAt, IsExtent, ReadsAt, RefusedFor, TriesWrite, WhileOpen, WritesAt};
-ghost use Rattle.x7_words.specs.Flash.{erased_sector, sector_bytes, sector_place, zip_with};
+ghost use Rattle.x7_words.specs.Flash.{erased_sector, sector_size, sector_place, zip_with};
 
 use super::count_refusal;
 use std::fs::{self, OpenFile, OpenOptions};
 use std::io::{self, ErrorKind, Read, Seek, SeekFrom, Write};
 use std::marker::Model;
 use std::rt::Files;
-use x7_words::{ERASED_BYTE, Failed, Flash, SECTOR_BYTES, SelectFault, raised};
+use x7_words::{ERASED_BYTE, Failed, Flash, SECTOR_SIZE, SelectFault, raised};
 
 /// The number of a file's bytes: where its end is. A folder is no file.
 fn extent_of<F: OpenFile + Seek>(file: &mut F) -> io::Result<u64>
@@ -83,7 +83,7 @@ fn write_from<F: Write + Seek>(file: &mut F, place: u64, bytes: &[u8]) -> io::Re
 fn erase_from<F: Write + Seek + OpenFile>(file: &mut F, place: u64) -> io::Result<()>
     ensures { OnOk result (WritesAt (file_tells F.stream_position F.contents) place erased_sector file.old file.new) }
 {
-    let ones = [ERASED_BYTE; SECTOR_BYTES as usize];
+    let ones = [ERASED_BYTE; SECTOR_SIZE as usize];
     write_from(file, place, &ones)?;
     file.sync_data()
 }
@@ -253,14 +253,14 @@ impl<'r, R: Files> Flash for FileFlash<'r, R> {
 
     fn erase(&mut self, sector: u64) -> Result<(), Failed>
         requires attached { is_some self.old.file ≡ true }
-        requires within { sector_place sector + sector_bytes ≤ self.old.extent }
+        requires within { sector_place sector + sector_size ≤ self.old.extent }
         ensures { TriesWrite (WritesAt (file_tells R.File.stream_position R.File.contents) (sector_place sector) erased_sector)
             self.old result self.new }
     {
         let Some(file) = &mut self.file else {
             unreachable!()
         };
-        if erase_from(file, sector * SECTOR_BYTES).is_ok() {
+        if erase_from(file, sector * SECTOR_SIZE).is_ok() {
             return Ok(());
         }
         self.write_faults = raised(self.write_faults);

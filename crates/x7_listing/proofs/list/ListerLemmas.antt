@@ -2,7 +2,7 @@
 use Rattle.std.proofs.Common.{◌≡◌, ℕ, ◌+◌, ◌-◌, ◌<◌, ◌≤◌, Bool, true, false, List, [], ◌++◌, length, take, drop, take-add, take_all, length-take-le, length-drop, length-append, refl, ap, sym, subst, ◌∙◌, append_assoc, append-nil, arith, codes, Vec}
 use Rattle.std.specs.declared.alloc.Global.{Global}
 use Rattle.x7_packets.specs.Reading.{Place, Searching, Session, IsReading, tail_of}
-use Rattle.x7_packets.specs.Cutter.{between, CutterState, CutterStandsFor, ComesNearer, IsRun, syncs_due, AfterRun}
+use Rattle.x7_packets.specs.Cutter.{between, CutterState, CutterStandsFor, ComesNearer, IsRun, syncs_to_give, AfterRun}
 use Rattle.x7_packets.specs.Mode.{Mode}
 use Rattle.x7_packets.specs.declared.cutter.Cut.{Cut}
 use Rattle.x7_packets.specs.declared.cutter.Cut.TheVariants.{Need, Skip, Sync, Head, Word, Body}
@@ -67,7 +67,7 @@ not_gap (pen.Gap gap) n = absurd (n gap refl)
 not_gap (pen.Session words) n = refl
 not_gap (pen.Tail words tail) n = refl
 
-pub ended_gap : (synced : Bool) (line : ℕ) (held given old new before bytes : List ℕ) (sessions : List Session) (spot : Place) (m : Mode) → synced ≡ false → HasListed (written_of synced line held (given ++ old)) before sessions spot m → (m ≡ Mode.Due → ⊥)
+pub ended_gap : (synced : Bool) (line : ℕ) (held given old new before bytes : List ℕ) (sessions : List Session) (spot : Place) (m : Mode) → synced ≡ false → HasListed (written_of synced line held (given ++ old)) before sessions spot m → (m ≡ Mode.SyncFound → ⊥)
     → new ≡ old ++ open_text 32 (codes "bytes ") hex_byte line held ++ close (in_line_after 32 line held) → given ++ new ≡ before ++ reading_text sessions spot
 ended_gap synced line held given old new before bytes sessions spot m is t d e =
     let t2 : HasListed (written_of false line held (given ++ old)) before sessions spot m = subst (λ s. HasListed (written_of s line held (given ++ old)) before sessions spot m) is t in
@@ -85,7 +85,7 @@ ended_session synced line held kept given old new before bytes sessions spot m i
     (ap (λ x. given ++ x) e ∙ sym (append_assoc given (old ++ close line ++ B) C) ∙ ap (λ x. x ++ C) (sym (append_assoc given (old ++ close line) B)) ∙ ap (λ x. x ++ B ++ C) (sym (append_assoc given old (close line))))
 
 -- a listing that begins
-pub begins : (c : CutterState) (synced : Bool) (line : ℕ) (held text given before : List ℕ) → CutterStandsFor c [] [] (Searching []) → synced ≡ false → line ≡ 0 → held ≡ [] → given ++ text ≡ before → (c.mode ≡ Mode.Due → ⊥)
+pub begins : (c : CutterState) (synced : Bool) (line : ℕ) (held text given before : List ℕ) → CutterStandsFor c [] [] (Searching []) → synced ≡ false → line ≡ 0 → held ≡ [] → given ++ text ≡ before → (c.mode ≡ Mode.SyncFound → ⊥)
     → ListerStandsFor (lister_of c synced line held text) given before []
 begins c synced line held text given before s e f g t d =
     record {
@@ -100,8 +100,8 @@ begins c synced line held text given before s e f g t d =
     }
 
 -- a new cutter has no sync word to tell
-pub not_due : (c : CutterState) → CutterStandsFor c [] [] (Searching []) → c.mode ≡ Mode.Due → ⊥
-not_due c s e = let h = s.at in let a = rw e at h in a
+pub not_sync_found : (c : CutterState) → CutterStandsFor c [] [] (Searching []) → c.mode ≡ Mode.SyncFound → ⊥
+not_sync_found c s e = let h = s.at in let a = rw e at h in a
 
 -- a text moved to those given
 pub moved : (c : CutterState) (synced : Bool) (line : ℕ) (held text given before bytes : List ℕ) → ListerStandsFor (lister_of c synced line held text) given before bytes → ListerStandsFor (lister_of c synced line held []) (given ++ text) before bytes
@@ -143,7 +143,7 @@ goes_less (Body register bytes) left before after n g = g
 pub goes_out : (run : Cut) (left before after : ℕ) → run ≡ Need → ComesNearer run left before after → left ≡ 0
 goes_out run left before after e g = rw e at g
 
-pub one_due : (m : Mode) → syncs_due m ≤ 1
-one_due Mode.Searching = omega arith
-one_due Mode.Due = omega arith
-one_due Mode.Synced = omega arith
+pub one_sync_found : (m : Mode) → syncs_to_give m ≤ 1
+one_sync_found Mode.Searching = omega arith
+one_sync_found Mode.SyncFound = omega arith
+one_sync_found Mode.Synced = omega arith

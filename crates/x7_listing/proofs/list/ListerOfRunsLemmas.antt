@@ -14,7 +14,7 @@ use Rattle.x7_listing.specs.Listing.{reading_text, session_text}
 use Rattle.x7_listing.specs.Lister.{Finished, ListerState, TakerStandsFor, SessionListed, HasListed, HasListedAt, WritesRun, written_of}
 use Rattle.x7_listing.specs.ListerOfRuns.{TakesRun, runs_listed}
 use Rattle.x7_listing.proofs.GapLemmas.{fresh_gap}
-use Rattle.x7_listing.proofs.list.ListerLemmas.{begins, not_due}
+use Rattle.x7_listing.proofs.list.ListerLemmas.{begins, not_sync_found}
 
 -- ---- runs that are a cutter's
 
@@ -101,7 +101,7 @@ takes_cut l n r k given before bytes due next no_tail no_end same e writes none 
 -- ---- the tail
 
 listed_tail : (synced : Bool) (line l2 : ℕ) (held all before : List ℕ) (bytes : Bor (List ℕ)) (sessions new_sessions : List Session) (place new : Place) (old next : Mode) → (synced ≡ true → l2 ≡ line)
-    → HasListed (written_of synced line held all) before sessions place old → RunAdds (run.Tail bytes) sessions place new_sessions new → (old ≡ Mode.Due → ⊥) → (next ≡ Mode.Due → ⊥)
+    → HasListed (written_of synced line held all) before sessions place old → RunAdds (run.Tail bytes) sessions place new_sessions new → (old ≡ Mode.SyncFound → ⊥) → (next ≡ Mode.SyncFound → ⊥)
     → HasListed (written_of true l2 bytes.now all) before new_sessions new next × (tail_of new ≡ bytes.now)
 listed_tail synced line l2 held all before bytes sessions ns (Searching gap) new old next same t a d e = absurd a
 listed_tail false line l2 held all before bytes sessions ns (Synced gap packets tail) new old next same t a d e = absurd (d t.0)
@@ -139,7 +139,7 @@ starts l given before c s i h e = record {
 }
 
 pub takes_end : (l n : ListerState) (given before bytes : List ℕ) (due next : Mode) → n.cutter ≡ l.cutter → n.is_synced ≡ false → n.in_line ≡ 0 → n.held ≡ []
-    → ((given before bytes : List ℕ) (sessions : List Session) (place : Place) (m : Mode) → HasListed (written_of l.is_synced l.in_line l.held (given ++ l.text)) before sessions place m → (m ≡ Mode.Due → ⊥) → IsReading bytes sessions place
+    → ((given before bytes : List ℕ) (sessions : List Session) (place : Place) (m : Mode) → HasListed (written_of l.is_synced l.in_line l.held (given ++ l.text)) before sessions place m → (m ≡ Mode.SyncFound → ⊥) → IsReading bytes sessions place
     → (l.is_synced ≡ true → l.held ≡ tail_of place) → given ++ n.text ≡ before ++ reading_text sessions place)
     → TakerStandsFor l given before bytes due → IsNext bytes due run.End next → Finished n given before (bytes ++ [])
 takes_end l n given before bytes due next c s i h writes t x =
@@ -150,13 +150,13 @@ takes_end l n given before bytes due next c s i h writes t x =
       listing = listing;
       listing_is = record { sessions = t.sessions; place = t.at; reading = rw (append-nil bytes) t.reading; text_is = refl };
       listed = listed;
-      stands = begins n.cutter n.is_synced n.in_line n.held n.text given (before ++ listing) cutter s i h listed (not_due n.cutter cutter);
+      stands = begins n.cutter n.is_synced n.in_line n.held n.text given (before ++ listing) cutter s i h listed (not_sync_found n.cutter cutter);
       takes = starts n given (before ++ listing) cutter s i h listed;
     }
 
 -- the bytes that a pen holds at the end are the tail
 pub last_kept : (synced : Bool) (line : ℕ) (held all before : List ℕ) (sessions : List Session) (place : Place) (m : Mode) → HasListed (written_of synced line held all) before sessions place m
-    → (m ≡ Mode.Due → ⊥) → (synced ≡ true → held ≡ tail_of place) → (if synced then held else []) ≡ tail_of place
+    → (m ≡ Mode.SyncFound → ⊥) → (synced ≡ true → held ≡ tail_of place) → (if synced then held else []) ≡ tail_of place
 last_kept true line held all before sessions place m t d k = k refl
 last_kept false line held all before sessions (Searching gap) m t d k = refl
 last_kept false line held all before sessions (Synced gap packets tail) m t d k = absurd (d t.0)

@@ -2,7 +2,7 @@
 use Rattle.std.specs.Prelude.{◌≡◌, ℕ, ◌≤◌, List, Option, MatchOption, Vec, drop, length, vec_len}
 use Rattle.std.specs.declared.alloc.Global.{Global}
 use Rattle.x7_text.specs.Reads.{StaysWithin}
-use Rattle.x7_text.specs.Row.{row_bytes}
+use Rattle.x7_text.specs.Row.{bytes_row_size}
 use Rattle.x7_listing.specs.Assembling.{HasRoomForLine, AppendsFirstLines, AppendsLines}
 use Rattle.x7_listing.specs.Assembly.{asm_limit}
 use Rattle.x7_listing.specs.declared.asm.fast.quick.WholeLines.{WholeLines}
@@ -11,7 +11,7 @@ use Rattle.x7_listing.specs.declared.asm.fast.quick.WholeLines.{WholeLines}
 -- nothing was appended
 pub record AppendsFoundLines (text : List ℕ) (old new : Vec ℕ Global) (found : Option WholeLines) : Type 0 where
   pub takes : MatchOption found (new.items ≡ old.items) (λ taken. AppendsFirstLines text old.items new.items taken.size taken.count)
-  pub room : StaysWithin old new row_bytes
+  pub room : StaysWithin old new bytes_row_size
 
 -- the first lines of a text were read at once and their bytes appended: these pass the limit only where those before
 -- do, and where there was room for a line's bytes there is room for the next line's

@@ -5,7 +5,7 @@ ghost use Rattle.x7_words.specs.Word.{AreBytes};
 ghost use Rattle.x7_header.specs.Header.{Contents, longest_header};
 ghost use Rattle.x7_text.specs.Digits.{hex_byte};
 ghost use Rattle.x7_listing.specs.BitLine.{bit_text, field_text, HasFieldFirst, IsCutAtSpace, IsField, IsHeaderOf, FitsHeader};
-ghost use Rattle.x7_listing.specs.Line.{space_byte};
+ghost use Rattle.x7_words.specs.Characters.{space_byte};
 
 use memchr::memchr;
 use std::alloc::Global;

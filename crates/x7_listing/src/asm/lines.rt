@@ -9,7 +9,7 @@ ghost use Rattle.x7_listing.specs.declared.assembler.AsmFault.{AsmFault};
 
 use super::fast::{WholeLines, next_line, put_quick_after_first_line};
 use super::header::header_of_line;
-use super::reading::{MOST_LINE_BYTES, put_line};
+use super::reading::{MOST_ROW_SIZE, put_line};
 use crate::assembler::{ASM_LIMIT, AsmFault};
 use std::alloc::Global;
 use std::marker::Model;
@@ -75,14 +75,14 @@ impl AsmLines {
         ensures fault { IfErr result (FailsNext self.old n line.now) }
         ensures memory { IfErr result (λ fault. fault ≡ AsmFault.NoMemory → HasLineRoom self.old → ReadsNext self.old self.new n line.now) }
     {
-        self.out.reserve(MOST_LINE_BYTES)?;
+        self.out.reserve(MOST_ROW_SIZE)?;
         if !put_checked(&mut self.out, self.start, &mut self.checker, line) {
             return Err(AsmFault::Line(n));
         }
         if self.out.len() > ASM_LIMIT {
             return Err(AsmFault::TooLong(n));
         }
-        self.out.reserve(MOST_LINE_BYTES)?;
+        self.out.reserve(MOST_ROW_SIZE)?;
         Ok(())
     }
 
@@ -96,7 +96,7 @@ impl AsmLines {
             self.start = header.len();
             self.out = header;
             self.checker = Checker::new();
-            self.out.reserve(MOST_LINE_BYTES)?;
+            self.out.reserve(MOST_ROW_SIZE)?;
             return Ok(());
         }
         self.put_one(1, line)

@@ -8,11 +8,12 @@ ghost use Rattle.x7_packets.specs.PacketWords.{type1_read_header, type1_write_he
 ghost use Rattle.x7_text.specs.Appends.{Appends};
 ghost use Rattle.x7_text.specs.Digits.{hex_word};
 ghost use Rattle.x7_listing.specs.Assembling.{HasRoomForLine};
-ghost use Rattle.x7_listing.specs.Line.{type1_text, line_bytes, FitsLine, IsType1, IsPlain, text_of, space_byte};
+ghost use Rattle.x7_listing.specs.Line.{type1_text, line_bytes, FitsLine, IsType1, IsPlain, text_of};
+ghost use Rattle.x7_words.specs.Characters.{space_byte};
 ghost use Rattle.x7_listing.specs.BitLine.{IsFirstSpace};
 ghost use Rattle.x7_listing.specs.OneWord.{IsWordOf, PutsWord};
 ghost use Rattle.x7_text.specs.Reads.{Reads, StaysWithin};
-ghost use Rattle.x7_text.specs.Row.{row_bytes};
+ghost use Rattle.x7_text.specs.Row.{bytes_row_size};
 
 use x7_packets::{
     NO_OP, SYNC_WORD, type1_read_header, type1_write_header, type2_read_header, type2_write_header,
@@ -21,8 +22,8 @@ use x7_regs::{Reg, command_named, reg_named};
 use x7_text::{after, decimal_below, put, put_byte_row, put_word_row, word_of_hex};
 use x7_words::{bytes_of, is_same};
 
-/// How many bytes a line stands for at most: those of a full row.
-pub(crate) const MOST_LINE_BYTES: usize = 32;
+/// How many bytes the row of a line has at most; a line of another kind stands for fewer.
+pub(crate) const MOST_ROW_SIZE: usize = 32;
 
 /// How many word counts a type 1 header can say: each is below this (UG470, packet types).
 const TYPE1_COUNTS: u32 = 1 << 11;
@@ -79,7 +80,7 @@ pub(crate) fn type1_at(text: &[u8], space: usize) -> Option<(u8, u32)>
 /// Appends the bytes of a word.
 pub(crate) fn put_word(out: &mut Vec<u8>, w: u32)
     requires { HasRoomForLine out.old }
-    ensures appends { Appends out.old out.new (bytes_of_word w) row_bytes }
+    ensures appends { Appends out.old out.new (bytes_of_word w) bytes_row_size }
 {
     put(out, &bytes_of(w));
 }
@@ -88,7 +89,7 @@ pub(crate) fn put_word(out: &mut Vec<u8>, w: u32)
 fn put_found(out: &mut Vec<u8>, word: Option<u32>) -> bool
     requires { HasRoomForLine out.old }
     ensures puts { PutsWord word result out.old.items out.new.items }
-    ensures room { StaysWithin out.old out.new row_bytes }
+    ensures room { StaysWithin out.old out.new bytes_row_size }
 {
     match word {
         Some(w) => {
@@ -177,7 +178,7 @@ fn read_of(text: &[u8]) -> Option<u32>
 fn put_plain(out: &mut Vec<u8>, check: u32, line: &[u8]) -> bool
     requires { HasRoomForLine out.old }
     ensures reads { Reads IsPlain text_of (line_bytes check) result line.now out.old.items out.new.items }
-    ensures room { StaysWithin out.old out.new row_bytes }
+    ensures room { StaysWithin out.old out.new bytes_row_size }
 {
     if is_same(line, b"") {
         return true;
@@ -199,7 +200,7 @@ fn put_plain(out: &mut Vec<u8>, check: u32, line: &[u8]) -> bool
 pub(crate) fn put_line(out: &mut Vec<u8>, check: u32, line: &[u8]) -> bool
     requires { HasRoomForLine out.old }
     ensures reads { Reads FitsLine text_of (line_bytes check) result line.now out.old.items out.new.items }
-    ensures room { StaysWithin out.old out.new row_bytes }
+    ensures room { StaysWithin out.old out.new bytes_row_size }
 {
     if is_same(line, b"nop") {
         put_word(out, NO_OP);

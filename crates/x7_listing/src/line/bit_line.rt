@@ -4,7 +4,7 @@ ghost use Rattle.std.specs.List.{flat_map};
 ghost use Rattle.x7_header.specs.Header.{contents_of};
 ghost use Rattle.x7_text.specs.Digits.{hex_byte};
 ghost use Rattle.x7_listing.specs.BitLine.{bit_text, field_text};
-ghost use Rattle.x7_listing.specs.Line.{line_end_byte, space_byte};
+ghost use Rattle.x7_words.specs.Characters.{line_end_byte, space_byte};
 
 use std::alloc::Global;
 use x7_header::Head;

@@ -5,7 +5,7 @@ ghost use Rattle.x7_text.specs.Appends.{Appends, HasSpareRoom};
 ghost use Rattle.x7_text.specs.Digits.{hex_word};
 ghost use Rattle.x7_text.specs.Row.{close};
 ghost use Rattle.x7_listing.specs.HeadLine.{command_line, line_of_head, text_of_head, line_size};
-ghost use Rattle.x7_listing.specs.Line.{line_end_byte, space_byte};
+ghost use Rattle.x7_words.specs.Characters.{line_end_byte, space_byte};
 
 use x7_packets::{
     NO_OP, SYNC_WORD, Step, TYPE2_READ_KIND, TYPE2_WRITE_KIND, kind_in, register_in,

@@ -7,7 +7,7 @@ ghost use Rattle.x7_regs.specs.Register.{number_of};
 ghost use Rattle.x7_regs.specs.declared.register.Reg.TheVariants.{Cmd};
 ghost use Rattle.x7_text.specs.Appends.{Appends, HasSpareRoom};
 ghost use Rattle.x7_text.specs.Reads.{StaysWithin};
-ghost use Rattle.x7_text.specs.Row.{close, in_line_after, open_bytes, row_bytes, rows_text_limit};
+ghost use Rattle.x7_text.specs.Row.{close, in_line_after, open_bytes, bytes_row_size, rows_text_limit};
 ghost use Rattle.x7_listing.specs.HeadLine.{line_size};
 ghost use Rattle.x7_listing.specs.Pens.{EndsWith, GapGoesOn, gap_written, held_by, is_in_session, in_line_of, written_with};
 ghost use Rattle.x7_listing.specs.Lister.{in_line_after_words, open_words, WritesRun};
@@ -184,7 +184,7 @@ pub(crate) fn put_run(text: &mut Vec<u8>, pen: Pen, run: Cut) -> Pen
 /// Appends what is left of a gap.
 fn end_gap(text: &mut Vec<u8>, pen: GapPen)
     requires room { HasSpareRoom text.old CALL_ROOM }
-    ensures appends { text.new.items ≡ text.old.items ++ open_bytes pen.in_line (take pen.count pen.held) ++ close (in_line_after row_bytes pen.in_line (take pen.count pen.held)) }
+    ensures appends { text.new.items ≡ text.old.items ++ open_bytes pen.in_line (take pen.count pen.held) ++ close (in_line_after bytes_row_size pen.in_line (take pen.count pen.held)) }
 {
     let in_line = put_bytes(text, pen.in_line, &pen.held[..pen.count]);
     put_close(text, in_line);
@@ -194,7 +194,7 @@ fn end_gap(text: &mut Vec<u8>, pen: GapPen)
 fn end_session(text: &mut Vec<u8>, in_line: usize, kept: &[u8])
     requires short { length kept.now ≤ 3 }
     requires room { HasSpareRoom text.old CALL_ROOM }
-    ensures appends { text.new.items ≡ text.old.items ++ close in_line ++ open_bytes 0 kept.now ++ close (in_line_after row_bytes 0 kept.now) }
+    ensures appends { text.new.items ≡ text.old.items ++ close in_line ++ open_bytes 0 kept.now ++ close (in_line_after bytes_row_size 0 kept.now) }
 {
     put_close(text, in_line);
     let count = put_bytes(text, 0, kept);

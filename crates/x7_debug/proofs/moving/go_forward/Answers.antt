@@ -3,7 +3,7 @@ use Rattle.x7_debug.proofs.JournalLemmas.{comes_on, within_still}
 use Rattle.x7_debug.proofs.moving.go_forward.Goals as goal
 
 pub leap-requires : goal.leap-requires
-leap-requires c = record { may = record { on = c.requires.may.on; within = omega (arith, c.requires.may.within) }; forward = omega (arith, c.if-to-taken-gt-RECORDED_BYTES.true, c.taken.ensures.stored) }
+leap-requires c = record { may = record { on = c.requires.may.on; within = omega (arith, c.requires.may.within) }; forward = omega (arith, c.if-to-taken-gt-RECORDED_SIZE.true, c.taken.ensures.stored) }
 
 pub go_by_words-requires : goal.go_by_words-requires
 go_by_words-requires c =
@@ -16,11 +16,11 @@ go_by_words-requires c =
       forward = omega (arith, there.there.taken);
     }
 
-pub returns-then-to-taken-gt-RECORDED_BYTES : goal.returns-then-to-taken-gt-RECORDED_BYTES
-returns-then-to-taken-gt-RECORDED_BYTES c =
+pub returns-then-to-taken-gt-RECORDED_SIZE : goal.returns-then-to-taken-gt-RECORDED_SIZE
+returns-then-to-taken-gt-RECORDED_SIZE c =
     let near = c.leap.ensures.at_position in
     let there = c.go_by_words.ensures.at_position in
-    let far = c.if-to-taken-gt-RECORDED_BYTES.true in
+    let far = c.if-to-taken-gt-RECORDED_SIZE.true in
     let from = c.taken.ensures.stored in
     record {
       at_position = record {

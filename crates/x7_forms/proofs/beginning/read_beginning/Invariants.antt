@@ -2,7 +2,7 @@ use Rattle.std.proofs.Common.{◌≡◌, ◌≤◌, ◌<◌, ◌+◌, ◌-◌, l
 use Rattle.x7_header.specs.Header.{EndsInHeader, longest_header}
 use Rattle.x7_words.specs.Input.{InputsStay, preceded}
 use Rattle.x7_forms.specs.Known.{stream_limit}
-use Rattle.x7_forms.specs.Turn.{turn_bytes}
+use Rattle.x7_forms.specs.Turn.{turn_size}
 use Rattle.x7_forms.proofs.beginning.read_beginning.Given as goal
 
 abbrev pub invariant-loop-bytes : goal.invariant-loop-bytes
@@ -11,7 +11,7 @@ invariant-loop-bytes g l =
     record {
       selected : (i.state l.inputs).selected ≡ true;
       inputs : InputsStay (i.state l.fn.inputs) (i.state l.inputs);
-      piece : length l.piece ≡ turn_bytes;
+      piece : length l.piece ≡ turn_size;
       few : length l.bytes.items ≤ longest_header;
       waiting : 0 < length l.bytes.items → EndsInHeader l.bytes.items;
       asked : (i.state l.inputs).asked ≡ (i.state l.fn.inputs).asked;

@@ -7,7 +7,7 @@ pub loop-k-preserved : goal.loop-k-preserved
 loop-k-preserved c = (
   c.write_block.ensures.length ∙ c.loop-k.invariant.0,
   block_read c.args.digits.now c.loop-k.bytes c.write_block.new.bytes c.in-Some.read c.as_chunks.result.0.now c.loop-k.k [] c.as_chunks.ensures.front c.loop-k-test.true c.as_chunks.ensures.front_len
-      c.in-Some.ensures c.write_block.ensures.bytes c.loop-k.invariant.1 c.write_block.ensures.items,
+      c.in-Some.ensures c.are_bytes.ensures c.loop-k.invariant.1 c.write_block.ensures.items,
 )
 
 pub returns-clause-value : goal.returns-clause-value

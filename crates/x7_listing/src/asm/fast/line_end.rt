@@ -2,7 +2,7 @@
 ghost use Rattle.std.specs.Prelude.{◌≡◌, ◌<◌, ◌==◌, [], ◌∷◌, length, map, MatchOption};
 ghost use Rattle.std.specs.Simd.Lanes.{mask_l};
 ghost use Rattle.x7_text.specs.Lines.{split};
-ghost use Rattle.x7_listing.specs.Line.{line_end_byte};
+ghost use Rattle.x7_words.specs.Characters.{line_end_byte};
 
 use std::simd::prelude::*;
 use x7_text::first_line;

@@ -5,11 +5,11 @@ ghost use Rattle.std.specs.Simd.Lanes.{chunk};
 ghost use Rattle.x7_text.specs.Row.{row_words};
 ghost use Rattle.x7_listing.specs.Fast.AtOnce.{words_in_row};
 ghost use Rattle.x7_listing.specs.Assembling.{HasRoomForLine};
-ghost use Rattle.x7_listing.specs.Line.{space_byte};
+ghost use Rattle.x7_words.specs.Characters.{space_byte};
 ghost use Rattle.x7_listing.specs.Fast.Looking.{AppendsFoundLines, ReadsAtOnce};
 
 use super::write_pairs::{differences, put_pair};
-use crate::asm::reading::{MOST_LINE_BYTES, put_word, type1_at};
+use crate::asm::reading::{MOST_ROW_SIZE, put_word, type1_at};
 use crate::assembler::ASM_LIMIT;
 use std::simd::prelude::*;
 use x7_packets::type1_write_header;
@@ -258,10 +258,10 @@ fn put_quick(out: &mut Vec<u8>, text: &[u8]) -> WholeLines
 {
     let mut all = WholeLines { size: 0, count: 0 };
     loop {
-        let Ok(()) = out.reserve(2 * MOST_LINE_BYTES) else {
+        let Ok(()) = out.reserve(2 * MOST_ROW_SIZE) else {
             return all;
         };
-        if out.len() > ASM_LIMIT - MOST_LINE_BYTES {
+        if out.len() > ASM_LIMIT - MOST_ROW_SIZE {
             return all;
         }
         let Some((first, _)) = text[all.size..].split_first_chunk::<LOOK_SIZE>() else {

@@ -3,7 +3,7 @@ ghost use Rattle.std.specs.Prelude.{◌≡◌, ◌<◌, ◌≤◌, ◌+◌, ◌+
 ghost use Rattle.std.specs.Simd.Lanes.{chunk, mask_l, zip2};
 ghost use Rattle.x7_words.specs.Word.{bytes_of_word};
 ghost use Rattle.x7_text.specs.Appends.{Appends};
-ghost use Rattle.x7_text.specs.Row.{row_bytes};
+ghost use Rattle.x7_text.specs.Row.{bytes_row_size};
 ghost use Rattle.x7_regs.specs.Register.{reg_number_count};
 ghost use Rattle.x7_regs.specs.Command.{command_code_count};
 ghost use Rattle.x7_listing.specs.Fast.AtOnce.{bytes_differ, row_text};
@@ -83,7 +83,7 @@ fn matched_size(text: &[u8; LOOK_SIZE], row: &[u8; 32]) -> Option<usize>
 #[inline(always)]
 fn put_two(out: &mut Vec<u8>, one: u32, other: u32)
     requires { HasRoomForLine out.old }
-    ensures appends { Appends out.old out.new (bytes_of_word one ++ bytes_of_word other) row_bytes }
+    ensures appends { Appends out.old out.new (bytes_of_word one ++ bytes_of_word other) bytes_row_size }
 {
     put(out, &bytes_of(one));
     put(out, &bytes_of(other));

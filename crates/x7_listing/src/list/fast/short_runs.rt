@@ -7,12 +7,12 @@ ghost use Rattle.x7_packets.specs.Nops.{nop_bytes};
 ghost use Rattle.x7_packets.specs.PacketWords.{no_op};
 ghost use Rattle.x7_packets.specs.Packet.{payload_steps};
 ghost use Rattle.x7_text.specs.Appends.{HasSpareRoom};
-ghost use Rattle.x7_text.specs.Row.{bytes_text, close, row_bytes, row_words, data_line_size};
+ghost use Rattle.x7_text.specs.Row.{bytes_text, close, bytes_row_size, row_words, data_line_size};
 ghost use Rattle.x7_regs.specs.Register.{reg_number_count};
 ghost use Rattle.x7_listing.specs.Fast.AtOnce.{command_lines, write_head_text};
 ghost use Rattle.x7_listing.specs.Fast.OnSheet.{ShowsWords, ListsMoreAfter, on_sheet, one_write_lines_size, head_line_size, one_write_text, short_write_lines_size, nop_lines_size, gap_lines_size};
 ghost use Rattle.x7_listing.specs.Fast.TakingAtOnce.{TakesAtOnce, TakesOnSheet};
-ghost use Rattle.x7_listing.specs.Line.{line_end_byte};
+ghost use Rattle.x7_words.specs.Characters.{line_end_byte};
 ghost use Rattle.x7_listing.specs.Pens.{TakesHead, ListsMore, lister_with};
 ghost use Rattle.x7_listing.specs.declared.list.pen.state.Pen.{Pen};
 ghost use Rattle.x7_listing.specs.Lister.{in_line_after_words};
@@ -182,7 +182,7 @@ fn put_bytes_and_sync(
     bytes: &[u8; 32],
     count: usize,
 ) -> usize
-    requires in_row { count < row_bytes }
+    requires in_row { count < bytes_row_size }
     requires room { len + gap_lines_size ≤ SHEET_SIZE }
     ensures within { result ≤ len + gap_lines_size }
     ensures appends { take result sheet.new ≡ take len sheet.old ++ (bytes_text (take count bytes.now) ++ codes "sync\n") }

@@ -1,6 +1,6 @@
 //! What a pen keeps between two runs of a stream.
 ghost use Rattle.std.specs.Prelude.{◌<◌, ◌≤◌};
-ghost use Rattle.x7_text.specs.Row.{row_bytes, row_words};
+ghost use Rattle.x7_text.specs.Row.{bytes_row_size, row_words};
 
 /// A pen in a gap: how many bytes stand in the open line, and the bytes that are held, the last four at most, which are
 /// the first `count` of `held`.
@@ -9,7 +9,7 @@ pub(crate) struct GapPen {
     pub(crate) in_line: usize,
     pub(crate) held: [u8; 4],
     pub(crate) count: usize,
-    ghost short: { in_line < row_bytes },
+    ghost short: { in_line < bytes_row_size },
     ghost few: { count ≤ 4 },
 }
 

@@ -8,7 +8,7 @@ returns c =
     record {
       items =
           c.put.ensures.appends.items
-          ∙ ap (λ (t : List ℕ). c.args.out.now.items ++ t) (c.row_line.ensures.line ∙ ap (data_line c.args.address) (whole_row c.args.row.now c.in-Some.whole.now c.in-Some.ensures.cases.same c.requires.row));
+          ∙ ap (λ (t : List ℕ). c.args.out.now.items ++ t) (c.row_line.ensures ∙ ap (data_line c.args.address) (whole_row c.args.row.now c.in-Some.whole.now c.in-Some.ensures.cases.same c.requires.row));
       within = omega arith;
       room = omega arith;
     }

@@ -1,6 +1,6 @@
 use Rattle.std.proofs.Common.{◌≡◌, ℕ, List, ◌+◌, ◌≤◌, length, true}
 use Rattle.x7_words.specs.Input.{InputsStay}
-use Rattle.x7_forms.specs.Turn.{Reads, play_turn_bytes}
+use Rattle.x7_forms.specs.Turn.{Reads, play_turn_size}
 use Rattle.x7_playing.specs.Playing.{MayPlay, PlaysOn}
 use Rattle.x7_playing.proofs.playing.play_rest.Given as goal
 
@@ -12,7 +12,7 @@ invariant-loop-turn g l =
       inputs : InputsStay (i.state l.fn.inputs) (i.state l.inputs);
       ends : (i.state l.inputs).ends ≤ (i.state l.fn.inputs).ends;
       left : l.left ≤ l.limit;
-      piece : length l.piece ≡ play_turn_bytes;
+      piece : length l.piece ≡ play_turn_size;
       may : MayPlay l.player l.left;
       known : (taken : List ℕ) × ((length taken + l.left ≡ l.limit) × PlaysOn l.fn.player l.player taken × Reads (i.state l.fn.inputs) taken (i.state l.inputs));
     }

@@ -1,6 +1,6 @@
 use Rattle.std.proofs.Common.{◌≡◌, ℕ, List, [], ◌∷◌, ◌++◌, ◌+◌, None, arith, drop, length, length-append, length-take-le, map, string_bytes, refl, ◌∙◌, ap}
 use Rattle.x7_words.proofs.InputLemmas.{few_at, few_more, few_on, stays_at, stays_on}
-use Rattle.x7_forms.specs.Turn.{play_turn_bytes}
+use Rattle.x7_forms.specs.Turn.{play_turn_size}
 use Rattle.x7_forms.specs.Event.{event_of}
 use Rattle.x7_forms.specs.Known.{StreamRead, stream_limit}
 use Rattle.x7_forms.specs.Step.{CameIn, step_over}
@@ -46,7 +46,7 @@ loop-name-preserved g c =
     v.inputs.map c.loop-name-test.true c.name-item.is c.as_str.ensures.value v.played.1.2 p.reads in
     let new = c.play_stream.new.piece in
     let old = c.loop-name.piece.items in
-    let size : length new ≡ play_turn_bytes = c.play_stream.ensures.length ∙ ap length c.deref_mut.ensures.value ∙ v.piece in
+    let size : length new ≡ play_turn_size = c.play_stream.ensures.length ∙ ap length c.deref_mut.ensures.value ∙ v.piece in
     record {
       inputs = stays_on _ _ _ v.inputs c.play_stream.ensures.inputs;
       asks = few_on _ _ _ c.loop-name.name-index 1 v.asks c.play_stream.ensures.asks;

@@ -15,7 +15,7 @@ use Rattle.x7_forms.specs.Form.{Listing}
 use Rattle.x7_tool.specs.Ahead.{StaysNear}
 use Rattle.x7_tool.specs.Run.{ListsSoFar}
 use Rattle.x7_tool.specs.Between.{Lists, ListsStream}
-use Rattle.x7_forms.specs.Turn.{FollowsUnlessLast, longest_beginning, turn_bytes}
+use Rattle.x7_forms.specs.Turn.{FollowsUnlessLast, longest_beginning, turn_size}
 use Rattle.x7_tool.proofs.AheadLemmas.{prefix_given, prefix_near, longer_prefix, longer_twice, same_now, stays_near, turn_given, turn_near, without_prefix_near, unopened_near, unread_near, unwritten_near, why_weaker}
 use Rattle.x7_tool.proofs.Causes.{Ended, PutsListed, both_err, ends_same, list_ends, list_seen, listed_whole, nothing_put, nothing_taken, out_of_memory, without_prefix, unopened}
 use Rattle.x7_forms.proofs.ReadLemmas.{asked_on, at_on, turn_unread}
@@ -90,10 +90,10 @@ returns-in_err-put_beginning g c = rw (handed_on c.from_residual-in_err-put_begi
     let on : (left : List ℕ) → stream_listing (taken ++ left) ≡ Ok (line ++ listing_of (content ++ left)) = λ left. listing left (λ l. let never : false ≡ true = sym c.if-beginning.false ∙ l in absurd cc) in
     let end : (r ≡ no_memory) ⊎ ((r ≡ writing_failed) × SinkFails (o.state c.args.out.now) (o.state c.put_beginning.new.out)) → Ended (with_inputs contents flash) C stream Full old now (Err r)
     = elim [
-      | inl h ↦ ends_same (with_inputs contents flash) C stream Full old now r no_memory h (out_of_memory contents flash C stream taken rest Full old now sel (prefix_so_far taken line content old now c.put_beginning.ensures.fits on c.in_err-put_beginning.ensures.prefix))
-      | inr h ↦ ends_same (with_inputs contents flash) C stream Full old now r writing_failed h.0 (prefix_failed contents flash C stream taken line content rest last Full old now sel f.end h.1 c.put_beginning.ensures.fits listing c.in_err-put_beginning.ensures.prefix)
+      | inl h ↦ ends_same (with_inputs contents flash) C stream Full old now r no_memory h (out_of_memory contents flash C stream taken rest Full old now sel (prefix_so_far taken line content old now c.are_bytes.ensures on c.in_err-put_beginning.ensures.prefix))
+      | inr h ↦ ends_same (with_inputs contents flash) C stream Full old now r writing_failed h.0 (prefix_failed contents flash C stream taken line content rest last Full old now sel f.end h.1 c.are_bytes.ensures listing c.in_err-put_beginning.ensures.prefix)
     ] in
-    let put = c.in_err-put_beginning.ensures.prefix [] (subst AreBytes (sym (append-nil _)) c.put_beginning.ensures.fits) in
+    let put = c.in_err-put_beginning.ensures.prefix [] (subst AreBytes (sym (append-nil _)) c.are_bytes.ensures) in
     let longer = longer_prefix old now _ put in
     let few : given ≤ longest_beginning = omega (arith, c.open.ensures.asks.given, c.read_beginning.ensures.short) in
     let near = unwritten_near contents stream rest old now _ given r (prefix_given contents stream given old now few longer) (prefix_near contents stream taken rest old now sel f.short longer) c.in_err-put_beginning.ensures.refused in
@@ -214,11 +214,11 @@ returns-in_err-put_turn g c = rw (handed_on c.from_residual-in_err-put_turn.resu
           let err : (left : List ℕ) → AreBytes (t.content ++ (piece ++ left)) → PutsPrefix (appended old t.line) (listing_of (t.content ++ (piece ++ left))) now
           = λ left fits. c.in_err-put_turn.ensures.prefix (appended old t.line) t.content left t.lists fits in
           ends_same (with_inputs contents flash) C stream Full old now r writing_failed h.0
-          (write_failed contents flash C stream taken piece piece c.loop-lister.lister (i.state c.next_turn.new.inputs).rest Full old (o.state c.loop-lister.out).written now refl sel risen t c.put_turn.ensures.fits err)
+          (write_failed contents flash C stream taken piece piece c.loop-lister.lister (i.state c.next_turn.new.inputs).rest Full old (o.state c.loop-lister.out).written now refl sel risen t c.are_bytes-2.ensures err)
     ] in
     let n = c.in_ok-turn.turn.count in
     let rest = (i.state c.next_turn.new.inputs).rest in
-    let few : length piece ≤ turn_bytes = omega (arith, length-take-le n c.next_turn.new.buffer (omega (arith, c.in_ok-turn.ensures.within.1, c.next_turn.ensures.length, v.piece)), c.in_ok-turn.ensures.within.1, v.piece) in
+    let few : length piece ≤ turn_size = omega (arith, length-take-le n c.next_turn.new.buffer (omega (arith, c.in_ok-turn.ensures.within.1, c.next_turn.ensures.length, v.piece)), c.in_ok-turn.ensures.within.1, v.piece) in
     let known = stream_whole taken t.line t.content (t.listing []) in
     let near = turn_near contents stream taken piece t.line t.content c.loop-lister.lister rest old (o.state c.loop-lister.out).written now sel t.short_header few known t.lists c.put_turn.ensures.extends in
     let gives = turn_given contents stream taken t.line t.content given c.loop-lister.lister (i.state c.loop-lister.inputs).rest old (o.state c.loop-lister.out).written now v.known.1.0 (omega (arith, v.known.1.3.given, c.next_turn.ensures.gives_a_turn, v.piece)) known t.lists c.put_turn.ensures.extends in
@@ -275,7 +275,7 @@ returns-then-turn g c = λ before after.
     ] in
     end w)
     c.put_end.ensures.prefix c.put_end.ensures.refused in
-    let few : length piece ≤ turn_bytes = omega (arith, length-take-le n c.next_turn.new.buffer (omega (arith, c.in_ok-turn.ensures.within.1, c.next_turn.ensures.length, v.piece)), c.in_ok-turn.ensures.within.1, v.piece) in
+    let few : length piece ≤ turn_size = omega (arith, length-take-le n c.next_turn.new.buffer (omega (arith, c.in_ok-turn.ensures.within.1, c.next_turn.ensures.length, v.piece)), c.in_ok-turn.ensures.within.1, v.piece) in
     let longer = longer_twice (o.state c.loop-lister.out).written (o.state c.put_turn.new.out).written now c.put_turn.ensures.extends c.put_end.ensures.extends in
     let whole = stream_whole taken t.line t.content (t.listing []) in
     let near = turn_near contents stream taken piece t.line t.content c.loop-lister.lister (i.state c.next_turn.new.inputs).rest old (o.state c.loop-lister.out).written now sel t.short_header few whole t.lists longer in
@@ -306,7 +306,7 @@ loop-lister-preserved g c =
     let lists : Lists c.put_turn.new.lister (appended old t.line) (o.state c.put_turn.new.out).written (t.content ++ piece) = c.in_ok-put_turn.ensures.listed (appended old t.line) t.content t.lists in
     let listing = goes_on taken piece t.line t.content t.listing in
     let size : length (taken ++ piece) ≡ length taken + n = length-append taken piece ∙ ap (λ k. length taken + k) (length-take-le n c.next_turn.new.buffer (omega (arith, c.in_ok-turn.ensures.within.1, c.next_turn.ensures.length, v.piece))) in
-    let full : n ≡ turn_bytes = c.in_ok-turn.ensures.fills c.if-turn.false ∙ v.piece in
+    let full : n ≡ turn_size = c.in_ok-turn.ensures.fills c.if-turn.false ∙ v.piece in
     record {
       selected = c.in_ok-turn.ensures.takes.selected;
       inputs = stays_on _ _ _ v.inputs c.next_turn.ensures.inputs;

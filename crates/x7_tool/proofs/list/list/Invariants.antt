@@ -1,7 +1,7 @@
 use Rattle.std.proofs.Common.{◌≡◌, ℕ, List, ◌+◌, ◌≤◌, length, true}
 use Rattle.x7_words.specs.Input.{AsksOnce, RestIsWhole, InputsStay, preceded}
 use Rattle.x7_forms.specs.Known.{stream_limit}
-use Rattle.x7_forms.specs.Turn.{turn_bytes}
+use Rattle.x7_forms.specs.Turn.{turn_size}
 use Rattle.x7_forms.proofs.ReadLemmas.{IsAt}
 use Rattle.x7_tool.specs.Between.{ListsStream}
 use Rattle.x7_tool.proofs.list.list.Given as goal
@@ -16,7 +16,7 @@ invariant-loop-lister g l =
       written : (o.state l.fn.out).faults ≤ (o.state l.out).faults;
       once : AsksOnce (i.state l.fn.inputs) (i.state l.inputs);
       left : l.left ≤ stream_limit;
-      piece : length l.piece ≡ turn_bytes;
+      piece : length l.piece ≡ turn_size;
       known : (taken : List ℕ) × (RestIsWhole (i.state l.fn.inputs).contents l.stream (preceded taken (i.state l.inputs).rest) × ListsStream l.lister (o.state l.fn.out).written (o.state l.out).written taken × (length taken + l.left ≡ stream_limit) × IsAt l.stream taken (i.state l.inputs));
     }
 

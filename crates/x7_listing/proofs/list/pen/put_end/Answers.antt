@@ -11,7 +11,7 @@ returns-in-Gap c =
     let gap = c.in-Gap.gap in
     record {
       listed = subst (λ (p : Pen). EndsWith (written_with p c.args.text.now.items) c.args.kept.now c.end_gap.new.text.items) (sym c.in-Gap.is)
-          (λ given before sessions place t k. ended_gap false gap.in_line (take gap.count gap.held) given _ _ before t.bytes sessions place t.mode refl t.listed t.not_due c.end_gap.ensures.appends);
+          (λ given before sessions place t k. ended_gap false gap.in_line (take gap.count gap.held) given _ _ before t.bytes sessions place t.mode refl t.listed t.not_sync_found c.end_gap.ensures.appends);
     }
 
 pub returns-in_default : goal.returns-in_default

@@ -13,7 +13,7 @@ pub returns-in-End : goal.returns-in-End
 returns-in-End c = record {
   takes = λ cutter given before bytes due next t x.
       let e = c.new_pen.ensures in
-      rw c.in-End.is (takes_end _ _ given before bytes due next refl refl e.in_line e.held (λ given before bytes sessions place m t d r k. c.put_last.ensures.listed given before sessions place (record { bytes = bytes; reading = r; mode = m; listed = t; not_due = d }) k) t (rw c.in-End.is at x));
+      rw c.in-End.is (takes_end _ _ given before bytes due next refl refl e.in_line e.held (λ given before bytes sessions place m t d r k. c.put_last.ensures.listed given before sessions place (record { bytes = bytes; reading = r; mode = m; listed = t; not_sync_found = d }) k) t (rw c.in-End.is at x));
 }
 
 pub returns-in_default : goal.returns-in_default
