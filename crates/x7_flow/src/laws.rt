@@ -24,7 +24,7 @@ ghost use Rattle.x7_flow.specs.Saved.{FramesAreSaved, FramesBack, HaveOneAccessM
 ghost use Rattle.x7_flow.specs.Settings.{Settings, TakesFrames, settings_after, settings_from, settings_of};
 ghost use Rattle.x7_flow.specs.Sound.{IsSound};
 ghost use Rattle.x7_flow.specs.Standing.{FramesHaveDone, FramesFit, FramesStandFor, FramesState, ReadsData, ReadsFrames, ReadsMoreThanDue, flow_read, frames_map, frames_read, without_due, words_due, written_to};
-ghost use Rattle.x7_flow.specs.Stretches.{ends_of, is_boundary, overridden};
+ghost use Rattle.x7_flow.specs.Stretches.{ends_of, access_begins_stretch, overridden};
 ghost use Rattle.x7_flow.specs.WordsTaken.{HasRoomFor, NoneRefused, with_copies, with_frame_data};
 
 /// A flow is sound under its settings; a word more makes its written frames grow, and an access more its settings, as
@@ -52,7 +52,7 @@ pub fn stretches_override_in_order()
 
 /// What an access asks is what it does: frame data written, a copy, frame data read.
 pub fn accesses_do_what_they_ask()
-    ensures begins { (idcode : ℕ) (h : History) (access : Access) → is_boundary access ≡ begins_stretch (asks idcode h access) }
+    ensures begins { (idcode : ℕ) (h : History) (access : Access) → access_begins_stretch access ≡ begins_stretch (asks idcode h access) }
     ensures word { (idcode : ℕ) (h : History) (access : Access) → writes_frame_data idcode h access ≡ is_word (asks idcode h access) }
     ensures copy { (idcode : ℕ) (h : History) (access : Access) → copies_frame idcode h access ≡ is_copy (asks idcode h access) }
     ensures read { (idcode : ℕ) (h : History) (access : Access) → reads_frame_data h access ≡ is_read (asks idcode h access) }
