@@ -56,8 +56,8 @@ pub record AreColumnsOf (part : PartData) (columns : List Column) : Type 0 where
   pub slots : column_slots columns ≡ slots_in part
 
 module _ (pitch base : ℕ) where
-  -- the columns of the row at `base`, from its `i`th on, after `rank` addresses and `place` slots; the next column begins
-  -- `pitch` further, and the row's pads stand after its last column
+  -- the columns of the row at `base`, from its `i`th on, after `rank` addresses and `place` slots; the next column
+  -- begins `pitch` further, and the row's pads stand after its last column
   abbrev pub row_columns : ℕ → ℕ → ℕ → List ℕ → List Column
   row_columns i rank place [] = []
   row_columns i rank place (n ∷ []) = record { first = base + i * pitch; count = n; pad_count = pads_after_row; rank = rank; place = place } ∷ []
