@@ -18,13 +18,13 @@ use Rattle.x7_flow.specs.Asking.{Asked, Load, Commands, Word, Copies, Reads, Oth
 use Rattle.x7_flow.specs.Settings.{Settings, settings_of, takes_frames, takes_copies, gives_frames}
 use Rattle.x7_flow.specs.HistoryFlow.{Flow, asked_under, asks, begins_stretch, is_copy, flow_by, flow_of}
 use Rattle.x7_flow.specs.FrameMemory.{copy_pairs, written_frames_more, memory_of, puts}
-use Rattle.x7_flow.specs.Stretches.{is_boundary, copies_of, ends_of, overridden, stretch_pairs}
+use Rattle.x7_flow.specs.Stretches.{access_begins_stretch, copies_of, ends_of, overridden, stretch_pairs}
 use Rattle.x7_flow.proofs.FlowLemmas.{flow_sound, landed_grows, put_none}
 
 -- ---- boundaries and copies, by what is asked
 
-pub asked_boundary : (s : Settings) (access : Access) → is_boundary access ≡ begins_stretch (asked_under s access)
-asked_boundary s (Write r w) = by (r == 1) (r == 4) (r == 2 && takes_frames s) (r == 10 && takes_copies s)
+pub asked_begins_stretch : (s : Settings) (access : Access) → access_begins_stretch access ≡ begins_stretch (asked_under s access)
+asked_begins_stretch s (Write r w) = by (r == 1) (r == 4) (r == 2 && takes_frames s) (r == 10 && takes_copies s)
   where
     by : (far cmd fdri mfwr : Bool) → (cmd || far) ≡ begins_stretch (if far then Load w else if cmd then Commands (command_by w) else if fdri then Word w else if mfwr then Copies else Other)
     by true true fdri mfwr = refl
@@ -33,12 +33,12 @@ asked_boundary s (Write r w) = by (r == 1) (r == 4) (r == 2 && takes_frames s) (
     by false false true mfwr = refl
     by false false false true = refl
     by false false false false = refl
-asked_boundary s (Read r count) = by (r == 3 && (not (count == 0) && gives_frames s))
+asked_begins_stretch s (Read r count) = by (r == 3 && (not (count == 0) && gives_frames s))
   where
     by : (b : Bool) → false ≡ begins_stretch (if b then Reads count else Other)
     by true = refl
     by false = refl
-asked_boundary s (Bad w) = refl
+asked_begins_stretch s (Bad w) = refl
 
 copy_alone : (r : ℕ) (b c : Bool) → (r == 10 && b) ≡ true → ((r == 1) ≡ false) × ((r == 4) ≡ false) × ((r == 2 && c) ≡ false)
 copy_alone r b c t = (grind (arith, nat_tests), grind (arith, nat_tests), grind (arith, nat_tests))
@@ -70,7 +70,7 @@ copies_by part a f old = if begins_stretch a then [] else if is_copy a then copy
 
 copies_more : (part : PartData) (e : Entry) (h : History) → copies_of part (e ∷ h) ≡ copies_by part (asks part.idcode h e.access) (flow_of part h) (copies_of part h)
 unfolding copies_of copies_by
-copies_more part e h = rw (asked_boundary (settings_of part.idcode h) e.access, asked_copy part.idcode h e.access) refl
+copies_more part e h = rw (asked_begins_stretch (settings_of part.idcode h) e.access, asked_copy part.idcode h e.access) refl
 
 no_landing : (part : PartData) (base : ℕ) (run : List ℕ) → run ≡ [] → written_frames part base run ≡ []
 no_landing part base run e = ap (written_frames part base) e ∙ landed_empty part base
@@ -120,11 +120,11 @@ true_or_false : (b : Bool) → (b ≡ true) ⊎ (b ≡ false)
 true_or_false true = inl refl
 true_or_false false = inr refl
 
-ends_at : (e : Entry) (h : History) → is_boundary e.access ≡ true → h ∷ ends_of h ≡ ends_of (e ∷ h)
+ends_at : (e : Entry) (h : History) → access_begins_stretch e.access ≡ true → h ∷ ends_of h ≡ ends_of (e ∷ h)
 unfolding ends_of
 ends_at e h b = rw b refl
 
-ends_stay : (e : Entry) (h : History) → is_boundary e.access ≡ false → ends_of h ≡ ends_of (e ∷ h)
+ends_stay : (e : Entry) (h : History) → access_begins_stretch e.access ≡ false → ends_of h ≡ ends_of (e ∷ h)
 unfolding ends_of
 ends_stay e h b = rw b refl
 
@@ -141,12 +141,12 @@ by_stretches part (e ∷ h) far =
     elim (true_or_false (begins_stretch a)) [
       | inl t ↦
           let step = begin_step part a f old t in
-          let b : is_boundary e.access ≡ true = asked_boundary (settings_of part.idcode h) e.access ∙ t in
+          let b : access_begins_stretch e.access ≡ true = asked_begins_stretch (settings_of part.idcode h) e.access ∙ t in
           put_none (puts part a f) (memory_of part h) step.1 far ∙ ih far
           ∙ sym (put_none (stretch_pairs part (e ∷ h)) (overridden part (h ∷ ends_of h)) (pairs ∙ step.0) far)
           ∙ ap (λ (hs : List History). put_over (stretch_pairs part (e ∷ h)) (overridden part hs) far) (ends_at e h b)
       | inr n ↦
-          let b : is_boundary e.access ≡ false = asked_boundary (settings_of part.idcode h) e.access ∙ n in
+          let b : access_begins_stretch e.access ≡ false = asked_begins_stretch (settings_of part.idcode h) e.access ∙ n in
           let i = flow_sound part h in
           put_same (puts part a f) (memory_of part h) (overridden part (h ∷ ends_of h)) ih far
           ∙ sym (put_joined (puts part a f) (stretch_pairs part h) (overridden part (ends_of h)) far)

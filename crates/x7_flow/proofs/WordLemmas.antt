@@ -13,7 +13,7 @@ use Rattle.x7_flow.specs.FrameAccess.{reads_frame_data, writes_frame_data}
 use Rattle.x7_flow.specs.Asking.{Load, Commands, Word, Copies, Reads, Other}
 use Rattle.x7_flow.specs.Settings.{Settings, command_code_after, settings_of, takes_frames, takes_copies, gives_frames}
 use Rattle.x7_flow.specs.HistoryFlow.{Flow, asked_under, asks, is_read, is_word, far_in, far_read, flow_by, flow_of, base_of, run_of, source_of, count_given}
-use Rattle.x7_flow.specs.Stretches.{is_boundary}
+use Rattle.x7_flow.specs.Stretches.{access_begins_stretch}
 use Rattle.x7_flow.specs.FlowInWords.{base_after, count_asked, frame_taken, run_with_word, sum_of_reads, words_written}
 use Rattle.x7_flow.proofs.SettingsLemmas.{settings_more}
 use Rattle.x7_flow.proofs.FlowLemmas.{flow_sound}
@@ -61,7 +61,7 @@ asked_read idcode h (Bad w) = refl
 -- ---- the run
 
 run_step : (part : PartData) (s : Settings) (access : Access) (f : Flow) (fdri : Bool) → fdri ≡ is_word (asked_under s access) →
-    (flow_by part (asked_under s access) f).run ≡ (if is_boundary access then [] else if fdri then run_with_word access f.run else f.run)
+    (flow_by part (asked_under s access) f).run ≡ (if access_begins_stretch access then [] else if fdri then run_with_word access f.run else f.run)
 run_step part s (Write r w) f fdri e = rw e (by (r == 1) (r == 4) (r == 2 && takes_frames s) (r == 10 && takes_copies s))
   where
     by : (far cmd word mfwr : Bool) → (flow_by part (if far then Load w else if cmd then Commands (command_by w) else if word then Word w else if mfwr then Copies else Other) f).run
@@ -84,7 +84,7 @@ unfolding flow_of words_written
 run_is part [] = refl
 run_is part (e ∷ h) =
     run_step part (settings_of part.idcode h) e.access (flow_of part h) (writes_frame_data part.idcode h e.access) (asked_word part.idcode h e.access)
-    ∙ ap (λ (ws : List ℕ). if is_boundary e.access then [] else if writes_frame_data part.idcode h e.access then run_with_word e.access ws else ws) (run_is part h)
+    ∙ ap (λ (ws : List ℕ). if access_begins_stretch e.access then [] else if writes_frame_data part.idcode h e.access then run_with_word e.access ws else ws) (run_is part h)
 
 -- ---- the base
 
@@ -117,7 +117,7 @@ base_is part e h = base_step part (settings_of part.idcode h) e.access (flow_of 
 -- ---- the count given
 
 given_step : (part : PartData) (idcode : ℕ) (h : History) (access : Access) (f : Flow) →
-    (flow_by part (asks idcode h access) f).given ≡ (if is_boundary access then 0 else if reads_frame_data h access && has_frame_at part f.base then f.given + count_asked access else f.given)
+    (flow_by part (asks idcode h access) f).given ≡ (if access_begins_stretch access then 0 else if reads_frame_data h access && has_frame_at part f.base then f.given + count_asked access else f.given)
 given_step part idcode h (Write r w) f = by (r == 1) (r == 4) (r == 2 && takes_frames (settings_of idcode h)) (r == 10 && takes_copies (settings_of idcode h))
   where
     by : (far cmd word mfwr : Bool) → (flow_by part (if far then Load w else if cmd then Commands (command_by w) else if word then Word w else if mfwr then Copies else Other) f).given
@@ -140,7 +140,7 @@ unfolding flow_of sum_of_reads
 given_is part [] = refl
 given_is part (e ∷ h) =
     given_step part part.idcode h e.access (flow_of part h)
-    ∙ ap (λ (n : ℕ). if is_boundary e.access then 0 else if reads_frame_data h e.access && has_frame_at part (base_of part h) then n + count_asked e.access else n) (given_is part h)
+    ∙ ap (λ (n : ℕ). if access_begins_stretch e.access then 0 else if reads_frame_data h e.access && has_frame_at part (base_of part h) then n + count_asked e.access else n) (given_is part h)
 
 -- ---- the source
 

@@ -10,7 +10,7 @@ use Rattle.x7_pipeline.specs.Runs.{frames_of}
 use Rattle.x7_pipeline.specs.FarAsRead.{has_frame_at, loaded_base}
 use Rattle.x7_pipeline.specs.Copies.{newest_of}
 use Rattle.x7_flow.specs.FrameAccess.{reads_frame_data, writes_frame_data}
-use Rattle.x7_flow.specs.Stretches.{is_boundary}
+use Rattle.x7_flow.specs.Stretches.{access_begins_stretch}
 use Rattle.x7_flow.specs.HistoryFlow.{base_of}
 
 -- a run with the word of a write, and as it was after another access
@@ -23,11 +23,12 @@ abbrev pub count_asked : Access → ℕ
 count_asked (Read register count) = count
 count_asked _ = 0
 
--- the words of frame data that were written in the last stretch, which is what follows the latest write to CMD or FAR
+-- the words of frame data that were written in the last stretch: after the latest write to CMD or FAR, or where there
+-- is none from the beginning on
 unfoldable pub words_written : ℕ → History → List ℕ
 words_written idcode [] = []
 words_written idcode (e ∷ h) =
-    if is_boundary e.access then [] else
+    if access_begins_stretch e.access then [] else
     if writes_frame_data idcode h e.access then run_with_word e.access (words_written idcode h) else words_written idcode h
 
 -- where the last stretch began: at the address of a FAR load, or at FAR as read before a command
@@ -39,7 +40,7 @@ base_after part _ far old = old
 unfoldable pub sum_of_reads : PartData → History → ℕ
 sum_of_reads part [] = 0
 sum_of_reads part (e ∷ h) =
-    if is_boundary e.access then 0 else
+    if access_begins_stretch e.access then 0 else
     if reads_frame_data h e.access && has_frame_at part (base_of part h) then sum_of_reads part h + count_asked e.access else sum_of_reads part h
 
 -- under MFW the newest whole frame of the run that the latest write to CMD ended, if the command was WCFG before it

@@ -34,7 +34,7 @@ asked_under s (Bad w) = Other
 abbrev pub asks : ℕ → History → Access → Asked
 asks idcode h access = asked_under (settings_of idcode h) access
 
--- what is asked begins a stretch, which is what follows a write to CMD or FAR
+-- what is asked comes from a write to CMD or FAR, after which a stretch begins
 abbrev pub begins_stretch : Asked → Bool
 begins_stretch (Load w) = true
 begins_stretch (Commands c) = true

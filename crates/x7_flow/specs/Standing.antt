@@ -95,7 +95,8 @@ OfFrames part settings f Fact = (h : History) → AreSettingsAfter part.idcode s
 abbrev pub FramesHaveDone : PartData → FramesState → FramesState → History → Entry → Type 0
 FramesHaveDone part old new h e = HaveDone part (asks part.idcode h e.access) old new
 
--- an access after a history reads `count` words of frame data, from an address
+-- an access after a history reads `count` words of frame data, from an address; the frames stand for that history, with
+-- no word due
 pub record ReadsFrames (part : PartData) (f : FramesState) (h : History) (access : Access) (count : ℕ) : Type 0 where
   pub reads : asks part.idcode h access ≡ Reads count
   pub address : HasAddress part h
@@ -138,3 +139,10 @@ AfterRead part f h e None =
     × FramesStandFor part f (e ∷ h) (count_asked e.access)
     × (words_due part (e ∷ h) (count_asked e.access) ≡ frames_read part h (count_asked e.access))
 AfterRead part f h e (Some fault) = frame_fault part h e.access ≡ Some fault
+
+-- an answer to a read is right for each read of frame data, after each history that the frames stand for with no word
+-- due
+abbrev pub AnswersReads : PartData → FramesState → Option RunFault → Type 0
+AnswersReads part f answer =
+    (h : History) (register count place : ℕ) → ReadsData h register count → FramesStandFor part f h 0 →
+    AfterRead part f h (read_entry register count place) answer

@@ -13,20 +13,20 @@ use Rattle.x7_flow.specs.FrameAccess.{copies_frame}
 use Rattle.x7_flow.specs.HistoryFlow.{base_of, flow_of, run_of}
 use Rattle.x7_flow.specs.FrameMemory.{copy_pairs}
 
--- the access begins a stretch
-abbrev pub is_boundary : Access → Bool
-is_boundary access = writes (number_of reg.Cmd) access || writes (number_of reg.Far) access
+-- the access is a write to CMD or FAR, after which a stretch begins
+abbrev pub access_begins_stretch : Access → Bool
+access_begins_stretch access = writes (number_of reg.Cmd) access || writes (number_of reg.Far) access
 
 -- the histories at whose end a stretch ended, the newest first
 unfoldable pub ends_of : History → List History
 ends_of [] = []
-ends_of (e ∷ h) = if is_boundary e.access then h ∷ ends_of h else ends_of h
+ends_of (e ∷ h) = if access_begins_stretch e.access then h ∷ ends_of h else ends_of h
 
 -- the pairs of the copies of the last stretch
 unfoldable pub copies_of : PartData → History → List PlanRow
 copies_of part [] = []
 copies_of part (e ∷ h) =
-    if is_boundary e.access then [] else
+    if access_begins_stretch e.access then [] else
     if copies_frame part.idcode h e.access then copy_pairs part (flow_of part h) ++ copies_of part h else copies_of part h
 
 -- the pairs of the last stretch: its written frames and its copies

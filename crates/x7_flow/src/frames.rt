@@ -6,7 +6,7 @@ ghost use Rattle.x7_packets.specs.History.{History, Write};
 ghost use Rattle.x7_regs.specs.Register.{number_of};
 ghost use Rattle.x7_regs.specs.declared.register.Reg.TheVariants as reg;
 ghost use Rattle.x7_flow.specs.HistoryFlow.{far_in, flow_of, frame_fault};
-ghost use Rattle.x7_flow.specs.Standing.{AfterAccess, AfterRead, FramesFit, FramesStandFor, HaveWordsDue, OfFrames, ReadsData, without_due, read_entry, words_due, written_to};
+ghost use Rattle.x7_flow.specs.Standing.{AfterAccess, AnswersReads, FramesFit, FramesStandFor, HaveWordsDue, OfFrames, without_due, words_due, written_to};
 ghost use Rattle.x7_flow.specs.WordsTaken.{TakesWords, WordsTaken, words_to};
 
 mod saved;
@@ -151,8 +151,7 @@ impl Frames {
     /// The fault of a read of frame data, before a word of it is given. Where there is none, its words are due from now
     /// on, and `read_word` gives them.
     pub fn fault_of_read(&self, part: &Part) -> Option<RunFault>
-        ensures { (h : History) (register count place : ℕ) → ReadsData h register count → FramesStandFor part.now self.now h 0 →
-            AfterRead part.now self.now h (read_entry register count place) result }
+        ensures { AnswersReads part.now self.now result }
     {
         self.pipeline.fault_of_read(part)
     }

@@ -24,14 +24,15 @@ ghost use Rattle.x7_flow.specs.Saved.{FramesAreSaved, FramesBack, HaveOneAccessM
 ghost use Rattle.x7_flow.specs.Settings.{Settings, TakesFrames, settings_after, settings_from, settings_of};
 ghost use Rattle.x7_flow.specs.Sound.{IsSound};
 ghost use Rattle.x7_flow.specs.Standing.{FramesHaveDone, FramesFit, FramesStandFor, FramesState, ReadsData, ReadsFrames, ReadsMoreThanDue, flow_read, frames_map, frames_read, without_due, words_due, written_to};
-ghost use Rattle.x7_flow.specs.Stretches.{ends_of, is_boundary, overridden};
+ghost use Rattle.x7_flow.specs.Stretches.{ends_of, access_begins_stretch, overridden};
 ghost use Rattle.x7_flow.specs.WordsTaken.{HasRoomFor, NoneRefused, with_copies, with_frame_data};
 
 /// A flow is sound under its settings; a word more makes its written frames grow, and an access more its settings, as
 /// the definitions of one step say.
 pub fn flows_go_by_settings()
     ensures sound { (part : PartData) (h : History) → IsSound part (settings_of part.idcode h) (flow_of part h) }
-    ensures written_frames { (part : PartData) (base word : ℕ) (run : List ℕ) → written_frames part base (word ∷ run) ≡ written_frames_more part base run ++ written_frames part base run }
+    ensures written_frames { (part : PartData) (base word : ℕ) (run : List ℕ) →
+        written_frames part base (word ∷ run) ≡ written_frames_more part base run ++ written_frames part base run }
     ensures settings { (idcode : ℕ) (e : Entry) (h : History) → settings_of idcode (e ∷ h) ≡ settings_after idcode e.access (settings_of idcode h) }
 {}
 
@@ -52,7 +53,7 @@ pub fn stretches_override_in_order()
 
 /// What an access asks is what it does: frame data written, a copy, frame data read.
 pub fn accesses_do_what_they_ask()
-    ensures begins { (idcode : ℕ) (h : History) (access : Access) → is_boundary access ≡ begins_stretch (asks idcode h access) }
+    ensures begins { (idcode : ℕ) (h : History) (access : Access) → access_begins_stretch access ≡ begins_stretch (asks idcode h access) }
     ensures word { (idcode : ℕ) (h : History) (access : Access) → writes_frame_data idcode h access ≡ is_word (asks idcode h access) }
     ensures copy { (idcode : ℕ) (h : History) (access : Access) → copies_frame idcode h access ≡ is_copy (asks idcode h access) }
     ensures read { (idcode : ℕ) (h : History) (access : Access) → reads_frame_data h access ≡ is_read (asks idcode h access) }
@@ -87,10 +88,13 @@ pub fn refusals_have_causes()
     ensures no_source { (part : PartData) (h : History) (access : Access) → (frame_fault part h access ≡ Some RunFault.Multi) ↔ LacksSource part h access }
     ensures no_slot { (part : PartData) (h : History) (access : Access) (w : ℕ) → WritesWord part h access w →
         (frame_fault part h access ≡ Some RunFault.Overrun) ↔ LacksSlot part h w }
-    ensures only_words_overrun { (part : PartData) (h : History) (access : Access) → frame_fault part h access ≡ Some RunFault.Overrun → is_word (asks part.idcode h access) ≡ true }
+    ensures only_words_overrun { (part : PartData) (h : History) (access : Access) → frame_fault part h access ≡ Some RunFault.Overrun →
+        is_word (asks part.idcode h access) ≡ true }
     ensures runs_at_address { (part : PartData) (e : Entry) (h : History) → RunsAtAddress part h → frame_fault part h e.access ≡ None → RunsAtAddress part (e ∷ h) }
-    ensures memory { (part : PartData) (e : Entry) (h : History) (fault : RunFault) → frame_fault part h e.access ≡ Some fault → AreSame (memory_of part (e ∷ h)) (memory_of part h) }
-    ensures far { (part : PartData) (e : Entry) (h : History) (fault : RunFault) → frame_fault part h e.access ≡ Some fault → far_read part (e ∷ h) ≡ far_read part h }
+    ensures memory { (part : PartData) (e : Entry) (h : History) (fault : RunFault) → frame_fault part h e.access ≡ Some fault →
+        AreSame (memory_of part (e ∷ h)) (memory_of part h) }
+    ensures far { (part : PartData) (e : Entry) (h : History) (fault : RunFault) → frame_fault part h e.access ≡ Some fault →
+        far_read part (e ∷ h) ≡ far_read part h }
 {}
 
 /// Many words of frame data at once leave the settings. Where they go to the memory, they make the run longer by all of
@@ -110,7 +114,8 @@ pub fn words_at_once_land()
 /// where it writes MASK before each word of CTL0. Where CMD doesn't hold MFW before the load, the memory gets what the
 /// history puts there without a source.
 pub fn later_histories_join()
-    ensures settings { (idcode : ℕ) (s : Settings) (later middle : History) → settings_from idcode s (later ++ middle) ≡ settings_from idcode (settings_from idcode s middle) later }
+    ensures settings { (idcode : ℕ) (s : Settings) (later middle : History) →
+        settings_from idcode s (later ++ middle) ≡ settings_from idcode (settings_from idcode s middle) later }
     ensures flow { (x : Start) (later middle : History) → flow_on x (later ++ middle) ≡ flow_on (start_on x middle) later }
     ensures pairs { (x : Start) (later middle : History) → pairs_on x (later ++ middle) ≡ pairs_on (start_on x middle) later ++ pairs_on x middle }
     ensures same_but_for_mask { (part : PartData) (s t : Settings) (source : Option (List ℕ)) (w : ℕ) (h : History) → AreSameButForMask s t → WritesMaskBeforeCtl0 h →
@@ -123,8 +128,10 @@ pub fn later_histories_join()
 /// address on in order, pads left out: of two pairs for one address the later frame's wins, which stands first. Where
 /// it takes words of MFWR after a FAR load, they put the source at the address.
 pub fn written_frames_land_in_order()
-    ensures write { (part : PartData) (earlier : History) (x : FrameWrite) → TakesWrite part earlier x → MemoryGets part (with_frames x earlier) earlier (reverse (placed part x)) }
-    ensures copies { (part : PartData) (earlier : History) (x : FrameCopies) → TakesCopies part earlier x → MemoryGets part (with_frame_copies x earlier) earlier (pair_copied part x) }
+    ensures write { (part : PartData) (earlier : History) (x : FrameWrite) → TakesWrite part earlier x →
+        MemoryGets part (with_frames x earlier) earlier (reverse (placed part x)) }
+    ensures copies { (part : PartData) (earlier : History) (x : FrameCopies) → TakesCopies part earlier x →
+        MemoryGets part (with_frame_copies x earlier) earlier (pair_copied part x) }
 {}
 
 /// Quiet accesses put no pair and leave the memory. Where some words of a read of frame data are taken off as due, the
@@ -160,7 +167,8 @@ pub fn memory_has_frames()
 /// Of words of frame data that go to the memory, with a base that is an address and slots for their frames, none is
 /// refused. Where words that go to the memory begin a run, the memory gets what they land.
 pub fn words_have_room()
-    ensures none_refused { (part : PartData) (n : ℕ) (ws : List ℕ) (h : History) → TakesFrames part h → HasAddress part h → HasRoomFor part h ws → NoneRefused part reg.Fdri n ws h }
+    ensures none_refused { (part : PartData) (n : ℕ) (ws : List ℕ) (h : History) → TakesFrames part h → HasAddress part h → HasRoomFor part h ws →
+        NoneRefused part reg.Fdri n ws h }
     ensures memory { (part : PartData) (n : ℕ) (ws : List ℕ) (h : History) → TakesFrames part h → run_of part h ≡ [] →
         MemoryGets part (with_frame_data n ws h) h (written_frames part (base_of part h) (onto ws [])) }
 {}

@@ -79,7 +79,8 @@ pub(crate) fn take_copies(
 ) -> (usize, Option<RunFault>)
     requires whole { AreWholeWords bytes.now }
     requires part { AreOfPart part.now pipeline.old memory.old }
-    ensures taken { (n : ℕ) → OfTaking part.now takes_copies_by pipeline.old memory.old (λ h. WordsTaken part.now (frames_state pipeline.new memory.new) h (words_to reg.Mfwr n bytes.now) result) }
+    ensures taken { (n : ℕ) → OfTaking part.now takes_copies_by pipeline.old memory.old
+        (λ h. WordsTaken part.now (frames_state pipeline.new memory.new) h (words_to reg.Mfwr n bytes.now) result) }
     ensures within { result.0 ≤ length bytes.now / 4 }
     ensures part { AreOfPart part.now pipeline.new memory.new }
 {

@@ -1,8 +1,12 @@
 -- Frames as one list of words.
-use Rattle.std.proofs.Common.{◌≡◌, ℕ, zero, suc, ◌+◌, ◌-◌, ◌*◌, ◌<◌, ◌≤◌, List, ◌∷◌, ◌++◌, length, get_or, set, take, drop, refl, sym, ap, ◌∙◌, arith}
+use Rattle.std.proofs.Common.{◌≡◌, ℕ, zero, suc, ◌+◌, ◌-◌, ◌*◌, ◌<◌, ◌≤◌, List, [], ◌∷◌, ◌++◌, length, get_or, set, take, drop, refl, sym, ap, ◌∙◌, arith}
 use Rattle.std.proofs.Math.Nat.{mul-suc, mul-zero, zero-add, mul-le-mul_left}
 use Rattle.std.proofs.lemmas.List.{length-take-le, length-drop, take_at, drop_at, take-take, drop-take, drop-drop, take-append-le, drop-append-le}
-use Rattle.x7_memory.specs.Flat.{cut_in_frames}
+
+-- words cut into `count` frames of `width` words
+pub cut_in_frames : ℕ → ℕ → List ℕ → List (List ℕ)
+cut_in_frames width zero words = []
+cut_in_frames width (suc count) words = take width words ∷ cut_in_frames width count (drop width words)
 
 pub cut_length : (w n : ℕ) (ws : List ℕ) → length (cut_in_frames w n ws) ≡ n
 unfolding cut_in_frames

@@ -7,9 +7,9 @@ use Rattle.std.proofs.lemmas.List.Sums.{sum_by-le, sum_by-set}
 use Rattle.std.specs.List.{sum_by}
 use Rattle.std.specs.Prelude.{vec_capacity}
 use Rattle.x7_memory.specs.declared.memory.Memory.TheInside.{Inside}
-use Rattle.x7_memory.specs.Flat.{cut_in_frames, words_with_frame}
+use Rattle.x7_memory.specs.Flat.{words_with_frame}
 use Rattle.x7_memory.specs.MemoryFields.{frames_seen, stored_frame, own_frame_count, AreDistinct, HasRoom}
-use Rattle.x7_memory.proofs.FlatLemmas.{cut_length, cut_at, cut_set, frame_end}
+use Rattle.x7_memory.proofs.FlatLemmas.{cut_in_frames, cut_length, cut_at, cut_set, frame_end}
 
 -- ---- frames that are stored one after another
 

@@ -1,10 +1,5 @@
 -- Frames as one list of words (this project's choice).
-use Rattle.std.specs.Prelude.{ℕ, zero, suc, ◌+◌, ◌++◌, List, [], ◌∷◌, length, take, drop}
-
--- words cut into `count` frames of `width` words
-unfoldable pub cut_in_frames : ℕ → ℕ → List ℕ → List (List ℕ)
-cut_in_frames width zero words = []
-cut_in_frames width (suc count) words = take width words ∷ cut_in_frames width count (drop width words)
+use Rattle.std.specs.Prelude.{ℕ, ◌+◌, ◌++◌, List, length, take, drop}
 
 -- words, with a frame in the place of as many words from number `start` on
 abbrev pub words_with_frame : ℕ → List ℕ → List ℕ → List ℕ

@@ -32,7 +32,8 @@ pub fn memories_are_maps()
 /// what is planned at the addresses that it names, zeros at the others. A plan that names each address of the part, put
 /// over any frames, is its total.
 pub fn plans_are_maps()
-    ensures rows { (plan : PlanData) (k : ℕ) (d : PlanRow) → IsPlan plan → k < length plan.rows → planned plan.rows (slice_index_or plan.rows k d).far ≡ Some (slice_index_or plan.rows k d).words }
+    ensures rows { (plan : PlanData) (k : ℕ) (d : PlanRow) → IsPlan plan → k < length plan.rows →
+        planned plan.rows (slice_index_or plan.rows k d).far ≡ Some (slice_index_or plan.rows k d).words }
     ensures named { (rows : List PlanRow) (far : ℕ) → (planned rows far ≡ None) ↔ (¬ Contains (planned_addresses rows) far) }
     ensures joined { (before after : List PlanRow) → AreSame (planned (before ++ after)) (override (planned after) (planned before)) }
     ensures apart { (before after : List PlanRow) → AreInOrder (before ++ after) → AreDisjoint (planned before) (planned after) }
@@ -40,5 +41,6 @@ pub fn plans_are_maps()
     ensures total { (part : PartData) (plan : PlanData) → AreSame (total part plan) (override (zeros part) (planned plan.rows)) }
     ensures unplanned { (part : PartData) (plan : PlanData) (far : ℕ) → (¬ Contains (planned_addresses plan.rows) far) → total part plan far ≡ zeros part far }
     ensures planned { (part : PartData) (plan : PlanData) (far : ℕ) → Contains (planned_addresses plan.rows) far → total part plan far ≡ planned plan.rows far }
-    ensures whole { (part : PartData) (plan : PlanData) (frames : List (List ℕ)) → PlansEach part plan → AreSame (override (frame_at part frames) (planned plan.rows)) (total part plan) }
+    ensures whole { (part : PartData) (plan : PlanData) (frames : List (List ℕ)) → PlansEach part plan →
+        AreSame (override (frame_at part frames) (planned plan.rows)) (total part plan) }
 {}

@@ -365,6 +365,14 @@ missing_slot cs r n t le some before after last =
     rw same (omega arith)) in
     sym (get_or_past (column_slots cs) r End past)
 
+-- a slot after a column's place that is none of its frames is past them
+pub past_frames : (place count n : ℕ) → place ≤ n → ((place ≤ n) × (n < place + count) → ⊥) → count ≤ n - place
+past_frames place count n low out =
+    elim (cases_lt n (place + count)) [
+      | inl inside ↦ absurd (out (low, inside))
+      | inr past ↦ omega arith
+    ]
+
 -- no frame stands after the last column's
 pub no_frame : (cs : List Column) (r n far : ℕ) → IsTable 0 0 0 cs → n ≤ length cs → (n ≡ 0 → ⊥) →
     ((k : ℕ) (d : Column) → k < n → (get_or cs k d).place ≤ r) →

@@ -11,7 +11,7 @@ use Rattle.x7_part.specs.Limits.{most_minors}
 use Rattle.x7_part.specs.Part.{FieldWidths, RowData}
 use Rattle.x7_part.specs.declared.slot.Slot.{Slot}
 use Rattle.x7_part.specs.declared.slot.Slot.TheVariants.{Frame, Pad}
-use Rattle.x7_part.specs.Slot.{slots}
+use Rattle.x7_part.specs.Slot.{pads_after_row, slots}
 use Rattle.x7_part.specs.AddressOrder.{count_from, row_addresses, addresses, Rises, risen, rise}
 use Rattle.x7_part.specs.Address.{row_address, column_low, row_low, AreWidths, AreRows, no_row, row}
 use Rattle.x7_part.specs.Column.{addresses_of_column, slots_of, column_addresses, column_slots, IsTable, no_column, column, row_columns, table_of}
@@ -70,7 +70,7 @@ moved r s l r' s' l' cs er es h t = rw (← er, ← es) (lower r s l l' cs h t)
 -- a row's columns, and a table after them; `width` is that of all the row's columns from this one on
 row_table : (pitch base i rank slot least top : ℕ) (minors : List ℕ) (rest : List Column) → 128 ≤ pitch → 0 < length minors →
     least ≤ base + i * pitch → base + (i + length minors) * pitch ≤ top → top ≤ 2 ^ 32 → All (λ n. (1 ≤ n) × (n ≤ most_minors)) minors →
-    IsTable (rank + length (row_addresses pitch base i minors)) (slot + length (row_addresses pitch base i minors) + 2) top rest →
+    IsTable (rank + length (row_addresses pitch base i minors)) (slot + length (row_addresses pitch base i minors) + pads_after_row) top rest →
     IsTable rank slot least (row_columns pitch base i rank slot minors ++ rest)
 row_table pitch base i rank slot least top [] rest p some le short high all t = absurd (omega arith)
 row_table pitch base i rank slot least top (n ∷ []) rest p some le short high all t =
@@ -78,7 +78,7 @@ row_table pitch base i rank slot least top (n ∷ []) rest p some le short high 
     let end = column_end i 1 pitch in
     let len : length (count_from (base + i * pitch) n ++ []) ≡ n + 0 = length-append (count_from (base + i * pitch) n) [] ∙ ap (λ x. x + 0) (length_count_from (base + i * pitch) n) in
     column rank slot least _ rest refl refl le size.0 (omega arith)
-    (moved _ _ _ (rank + n) (slot + n + 2) (base + i * pitch + n) rest (omega arith) (omega arith) (omega arith) t)
+    (moved _ _ _ (rank + n) (slot + n + pads_after_row) (base + i * pitch + n) rest (omega arith) (omega arith) (omega arith) t)
 row_table pitch base i rank slot least top (n ∷ m ∷ minors) rest p some le short high all t =
     let size = All-head (λ n. (1 ≤ n) × (n ≤ most_minors)) n (m ∷ minors) all in
     let more = row_addresses pitch base (i + 1) (m ∷ minors) in
@@ -87,8 +87,8 @@ row_table pitch base i rank slot least top (n ∷ m ∷ minors) rest p some le s
     let same : i + 1 + length (m ∷ minors) ≡ i + length (n ∷ m ∷ minors) = omega arith in
     let len : length (count_from (base + i * pitch) n ++ more) ≡ n + length more =
     length-append (count_from (base + i * pitch) n) more ∙ ap (λ x. x + length more) (length_count_from (base + i * pitch) n) in
-    let after : IsTable (rank + n + length more) (slot + n + length more + 2) top rest =
-    moved _ _ _ (rank + n + length more) (slot + n + length more + 2) top rest (omega arith) (omega arith) (omega arith) t in
+    let after : IsTable (rank + n + length more) (slot + n + length more + pads_after_row) top rest =
+    moved _ _ _ (rank + n + length more) (slot + n + length more + pads_after_row) top rest (omega arith) (omega arith) (omega arith) t in
     let next : IsTable (rank + n) (slot + n) (base + i * pitch + n) (row_columns pitch base (i + 1) (rank + n) (slot + n) (m ∷ minors) ++ rest) =
     row_table pitch base (i + 1) (rank + n) (slot + n) (base + i * pitch + n) top (m ∷ minors) rest p (omega arith) (omega arith)
     (rw same short) high (All-tail (λ n. (1 ≤ n) × (n ≤ most_minors)) n (m ∷ minors) all) after in
@@ -104,9 +104,9 @@ table_is widths rank slot _ _ w (row f least r rows le is rest) =
     let base = row_address widths r in
     let n = length (row_addresses pitch base 0 r.minors) in
     let narrow = columns_fit widths (length r.minors) w is.columns in
-    row_table pitch base 0 rank slot least (base + 2 ^ row_low widths) r.minors (table_of widths (rank + n) (slot + n + 2) rows) (pitch_least widths w) is.some (omega arith)
+    row_table pitch base 0 rank slot least (base + 2 ^ row_low widths) r.minors (table_of widths (rank + n) (slot + n + pads_after_row) rows) (pitch_least widths w) is.some (omega arith)
     (omega arith) (row_top widths r w is) is.minors
-    (table_is widths (rank + n) (slot + n + 2) (base + 2 ^ row_low widths) rows w rest)
+    (table_is widths (rank + n) (slot + n + pads_after_row) (base + 2 ^ row_low widths) rows w rest)
 
 pub table_addresses : (widths : FieldWidths) (rank slot : ℕ) (rows : List RowData) → column_addresses (table_of widths rank slot rows) ≡ addresses widths rows
 unfolding addresses column_addresses
@@ -115,9 +115,9 @@ table_addresses widths rank slot (r ∷ rows) =
     let pitch = 2 ^ column_low widths in
     let base = row_address widths r in
     let n = length (row_addresses pitch base 0 r.minors) in
-    addresses_append (row_columns pitch base 0 rank slot r.minors) (table_of widths (rank + n) (slot + n + 2) rows)
-    ∙ ap (λ (l : List ℕ). l ++ column_addresses (table_of widths (rank + n) (slot + n + 2) rows)) (row_addresses_are pitch base 0 rank slot r.minors)
-    ∙ ap (λ (l : List ℕ). row_addresses pitch base 0 r.minors ++ l) (table_addresses widths (rank + n) (slot + n + 2) rows)
+    addresses_append (row_columns pitch base 0 rank slot r.minors) (table_of widths (rank + n) (slot + n + pads_after_row) rows)
+    ∙ ap (λ (l : List ℕ). l ++ column_addresses (table_of widths (rank + n) (slot + n + pads_after_row) rows)) (row_addresses_are pitch base 0 rank slot r.minors)
+    ∙ ap (λ (l : List ℕ). row_addresses pitch base 0 r.minors ++ l) (table_addresses widths (rank + n) (slot + n + pads_after_row) rows)
 
 pub table_slots : (widths : FieldWidths) (rank slot least : ℕ) (rows : List RowData) → AreRows widths least rows → column_slots (table_of widths rank slot rows) ≡ slots widths rows
 unfolding slots column_slots
@@ -126,9 +126,9 @@ table_slots widths rank slot _ _ (row f least r rows le is rest) =
     let pitch = 2 ^ column_low widths in
     let base = row_address widths r in
     let n = length (row_addresses pitch base 0 r.minors) in
-    slots_append (row_columns pitch base 0 rank slot r.minors) (table_of widths (rank + n) (slot + n + 2) rows)
-    ∙ ap (λ (l : List Slot). l ++ column_slots (table_of widths (rank + n) (slot + n + 2) rows)) (row_slots_are pitch base 0 rank slot r.minors is.some)
-    ∙ ap (λ (l : List Slot). map Frame (row_addresses pitch base 0 r.minors) ++ Pad ∷ Pad ∷ [] ++ l) (table_slots widths (rank + n) (slot + n + 2) (base + 2 ^ row_low widths) rows rest)
+    slots_append (row_columns pitch base 0 rank slot r.minors) (table_of widths (rank + n) (slot + n + pads_after_row) rows)
+    ∙ ap (λ (l : List Slot). l ++ column_slots (table_of widths (rank + n) (slot + n + pads_after_row) rows)) (row_slots_are pitch base 0 rank slot r.minors is.some)
+    ∙ ap (λ (l : List Slot). map Frame (row_addresses pitch base 0 r.minors) ++ Pad ∷ Pad ∷ [] ++ l) (table_slots widths (rank + n) (slot + n + pads_after_row) (base + 2 ^ row_low widths) rows rest)
 
 -- ---- number order
 
@@ -186,14 +186,14 @@ drop_step i xs h = rw (add-one, drop-cons xs i 0) refl
 
 one_more : (pitch base i rank slot n : ℕ) (rest : List ℕ) (all : ℕ) → length rest ≡ all - (i + 1) → i < all →
     row_columns pitch base i rank slot (n ∷ rest)
-    ≡ record { first = base + i * pitch; count = n; pad_count = (if i + 1 == all then 2 else 0); rank = rank; place = slot }
+    ≡ record { first = base + i * pitch; count = n; pad_count = (if i + 1 == all then pads_after_row else 0); rank = rank; place = slot }
     ∷ row_columns pitch base (i + 1) (rank + n) (slot + n) rest
 one_more pitch base i rank slot n [] all e h = let f : eqb (i + 1) all ≡ true = eq-eqb (i + 1) all (omega arith) in rw f refl
 one_more pitch base i rank slot n (m ∷ rest) all e h = let f : eqb (i + 1) all ≡ false = ne_eqb (i + 1) all (λ x. omega arith) in rw f refl
 
 pub row_more : (pitch base i rank slot : ℕ) (minors : List ℕ) → i < length minors →
     row_columns pitch base i rank slot (drop i minors)
-    ≡ record { first = base + i * pitch; count = get_or minors i 0; pad_count = (if i + 1 == length minors then 2 else 0); rank = rank; place = slot }
+    ≡ record { first = base + i * pitch; count = get_or minors i 0; pad_count = (if i + 1 == length minors then pads_after_row else 0); rank = rank; place = slot }
     ∷ row_columns pitch base (i + 1) (rank + get_or minors i 0) (slot + get_or minors i 0) (drop (i + 1) minors)
 row_more pitch base i rank slot minors h =
     rw (drop_step i minors h) (one_more pitch base i rank slot (get_or minors i 0) (drop (i + 1) minors) (length minors) (length-drop (i + 1) minors) h)

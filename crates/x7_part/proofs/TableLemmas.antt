@@ -7,6 +7,7 @@ use Rattle.x7_part.specs.Part.{FieldWidths, RowData}
 use Rattle.x7_part.specs.Address.{row_address, column_low}
 use Rattle.x7_part.specs.AddressOrder.{count_from, row_addresses, addresses_of, addresses}
 use Rattle.x7_part.specs.Column.{row_columns, table_of}
+use Rattle.x7_part.specs.Slot.{pads_after_row}
 use Rattle.x7_part.proofs.ColumnLemmas.{length_count_from}
 use Rattle.x7_part.specs.declared.column.Column.{Column}
 
@@ -27,9 +28,9 @@ pub frames_more : (widths : FieldWidths) (i : ℕ) (rows : List RowData) (d : Ro
 frames_more widths i rows d h = rw (drop_more rows i d h) (frames_cons widths (get_or rows i d) (drop (i + 1) rows))
 
 table_cons : (widths : FieldWidths) (rank slot n : ℕ) (r : RowData) (rows : List RowData) → n ≡ sum r.minors →
-    table_of widths rank slot (r ∷ rows) ≡ row_columns (2 ^ column_low widths) (row_address widths r) 0 rank slot r.minors ++ table_of widths (rank + n) (slot + (n + 2)) rows
+    table_of widths rank slot (r ∷ rows) ≡ row_columns (2 ^ column_low widths) (row_address widths r) 0 rank slot r.minors ++ table_of widths (rank + n) (slot + (n + pads_after_row)) rows
 table_cons widths rank slot n r rows e =
-    let s : slot + length (addresses_of widths r) + 2 ≡ slot + (n + 2) = let l = row_length (2 ^ column_low widths) (row_address widths r) 0 r.minors in omega arith in
+    let s : slot + length (addresses_of widths r) + pads_after_row ≡ slot + (n + pads_after_row) = let l = row_length (2 ^ column_low widths) (row_address widths r) 0 r.minors in omega arith in
     let k : rank + length (addresses_of widths r) ≡ rank + n = let l = row_length (2 ^ column_low widths) (row_address widths r) 0 r.minors in omega arith in
     rw (s, k) refl
 
@@ -37,11 +38,11 @@ table_cons widths rank slot n r rows e =
 pub table_more : (widths : FieldWidths) (done new all : List Column) (rank slot i n m pitch base : ℕ) (minors : List ℕ) (rows : List RowData) (r : RowData) → i < length rows →
     r ≡ get_or rows i r → pitch ≡ 2 ^ column_low widths → base ≡ row_address widths r → minors ≡ r.minors → n ≡ sum r.minors → m ≡ n →
     new ≡ done ++ row_columns pitch base 0 rank slot minors → done ++ table_of widths rank slot (drop i rows) ≡ all →
-    new ++ table_of widths (rank + n) (slot + (m + 2)) (drop (i + 1) rows) ≡ all
+    new ++ table_of widths (rank + n) (slot + (m + pads_after_row)) (drop (i + 1) rows) ≡ all
 table_more widths done new all rank slot i n m pitch base minors rows r h same wide at items e f is before =
     let more : drop i rows ≡ r ∷ drop (i + 1) rows = drop_more rows i r h ∙ rw (← same) refl in
-    let step : table_of widths rank slot (drop i rows) ≡ row_columns (2 ^ column_low widths) (row_address widths r) 0 rank slot r.minors ++ table_of widths (rank + n) (slot + (n + 2)) (drop (i + 1) rows) =
+    let step : table_of widths rank slot (drop i rows) ≡ row_columns (2 ^ column_low widths) (row_address widths r) 0 rank slot r.minors ++ table_of widths (rank + n) (slot + (n + pads_after_row)) (drop (i + 1) rows) =
     ap (table_of widths rank slot) more ∙ table_cons widths rank slot n r (drop (i + 1) rows) e in
     rw (is, wide, at, items, f)
-    (append_assoc done (row_columns (2 ^ column_low widths) (row_address widths r) 0 rank slot r.minors) (table_of widths (rank + n) (slot + (n + 2)) (drop (i + 1) rows))
+    (append_assoc done (row_columns (2 ^ column_low widths) (row_address widths r) 0 rank slot r.minors) (table_of widths (rank + n) (slot + (n + pads_after_row)) (drop (i + 1) rows))
     ∙ ap (λ l. done ++ l) (sym step) ∙ before)

@@ -5,7 +5,7 @@ use Rattle.x7_part.specs.Part.{FieldWidths, RowData, PartData}
 use Rattle.x7_part.specs.Address.{row_address, column_low}
 use Rattle.x7_part.specs.AddressOrder.{count_from, addresses_of, addresses_in}
 use Rattle.x7_part.specs.Ranges.{IsPart}
-use Rattle.x7_part.specs.Slot.{slots_in}
+use Rattle.x7_part.specs.Slot.{pads_after_row, slots_in}
 use Rattle.x7_part.specs.declared.column.Column.{Column}
 use Rattle.x7_part.specs.declared.slot.Slot.{Slot}
 use Rattle.x7_part.specs.declared.slot.Slot.TheVariants.{Frame, Pad}
@@ -21,6 +21,10 @@ slots_of c = map Frame (addresses_of_column c) ++ replicate c.pad_count Pad
 -- an address is one of a column's
 abbrev pub IsInColumn : Column → ℕ → Type 0
 IsInColumn c address = (c.first ≤ address) × (address < c.first + c.count)
+
+-- the slot of this number is a frame of the column
+abbrev pub HasFrameAt : Column → ℕ → Type 0
+HasFrameAt c slot_number = (c.place ≤ slot_number) × (slot_number < c.place + c.count)
 
 -- the addresses of all columns
 unfoldable pub column_addresses : List Column → List ℕ
@@ -52,11 +56,11 @@ pub record AreColumnsOf (part : PartData) (columns : List Column) : Type 0 where
   pub slots : column_slots columns ≡ slots_in part
 
 module _ (pitch base : ℕ) where
-  -- the columns of the row at `base`, from its `i`th on, after `rank` addresses and `place`
-  -- slots; the next column begins `pitch` further
+  -- the columns of the row at `base`, from its `i`th on, after `rank` addresses and `place` slots; the next column
+  -- begins `pitch` further, and the row's pads stand after its last column
   abbrev pub row_columns : ℕ → ℕ → ℕ → List ℕ → List Column
   row_columns i rank place [] = []
-  row_columns i rank place (n ∷ []) = record { first = base + i * pitch; count = n; pad_count = 2; rank = rank; place = place } ∷ []
+  row_columns i rank place (n ∷ []) = record { first = base + i * pitch; count = n; pad_count = pads_after_row; rank = rank; place = place } ∷ []
   row_columns i rank place (n ∷ m ∷ minors) =
       record { first = base + i * pitch; count = n; pad_count = 0; rank = rank; place = place } ∷ row_columns (i + 1) (rank + n) (place + n) (m ∷ minors)
 
@@ -65,4 +69,4 @@ abbrev pub table_of : FieldWidths → ℕ → ℕ → List RowData → List Colu
 table_of widths rank place [] = []
 table_of widths rank place (r ∷ rows) =
     row_columns (2 ^ column_low widths) (row_address widths r) 0 rank place r.minors
-    ++ table_of widths (rank + length (addresses_of widths r)) (place + length (addresses_of widths r) + 2) rows
+    ++ table_of widths (rank + length (addresses_of widths r)) (place + length (addresses_of widths r) + pads_after_row) rows

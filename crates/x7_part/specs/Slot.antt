@@ -7,7 +7,11 @@ use Rattle.x7_part.specs.AddressOrder.{addresses_of}
 use Rattle.x7_part.specs.declared.slot.Slot.{Slot}
 use Rattle.x7_part.specs.declared.slot.Slot.TheVariants.{Frame, Pad, End}
 
--- the addresses of the rows in number order, and two pads after each row's last
+-- how many pads stand after the last frame of a row
+abbrev pub pads_after_row : ℕ
+pads_after_row = 2
+
+-- the addresses of the rows in number order, and two pads (`pads_after_row`) after each row's last
 unfoldable pub slots : FieldWidths → List RowData → List Slot
 slots widths rows = flat_map (λ r. map Frame (addresses_of widths r) ++ Pad ∷ Pad ∷ []) rows
 

@@ -1,7 +1,7 @@
 //! The table of a part's columns, in which addresses and slots are found by binary search.
 ghost use Rattle.std.specs.Prelude.{◌≡◌, ◌<◌, ◌≤◌, ◌+◌, ◌-◌, ◌⊎◌, ℕ, length, slice_index_or, Contains, IfSome, IfNone};
 ghost use Rattle.x7_part.specs.AddressOrder.{HasRank, IsFollowedBy, IsLastIn};
-ghost use Rattle.x7_part.specs.Column.{IsInColumn, column_addresses, column_slots, AreColumns};
+ghost use Rattle.x7_part.specs.Column.{HasFrameAt, IsInColumn, column_addresses, column_slots, AreColumns};
 ghost use Rattle.x7_part.specs.Slot.{HasFrameOf, from};
 ghost use Rattle.x7_part.specs.declared.column.Column.{Column};
 ghost use Rattle.x7_part.specs.declared.slot.Slot.{Slot};
@@ -136,12 +136,13 @@ fn slot_at(columns: &[Column], slot_number: u64) -> Slot
     }
 }
 
-/// The rank of the frame at the slot of this number, where the column at `index` has that frame, and else none.
+/// The rank of the frame at the slot of this number, where the column at `index` has that frame. `None`: it has no such
+/// frame, or there is no column at `index`.
 fn rank_in(columns: &[Column], index: usize, slot_number: u64) -> Option<u32>
     requires { AreColumns columns.now }
     ensures found { IfSome result (λ r. HasFrameOf (column_addresses columns.now) (column_slots columns.now) slot_number r) }
-    ensures no_frame { IfNone result ((d : Column) → index < length columns.now → (slice_index_or columns.now index d).place ≤ slot_number →
-        (slice_index_or columns.now index d).count ≤ slot_number - (slice_index_or columns.now index d).place) }
+    ensures in_column { IfSome result (λ r. (index < length columns.now) × ((d : Column) → HasFrameAt (slice_index_or columns.now index d) slot_number)) }
+    ensures not_in_column { IfNone result ((d : Column) → index < length columns.now → ¬ HasFrameAt (slice_index_or columns.now index d) slot_number) }
 {
     if columns.len() <= index {
         return None;

@@ -33,7 +33,8 @@ pub fn slots_follow_the_addresses()
 /// What a part file gives is a part, and its rows are the rows of the file in another order. The rows of a part rise by
 /// block type, half and row, no two the same. Rows that are sorted are the same rows in the order of their addresses.
 pub fn rows_are_in_order()
-    ensures same_rows_as_file { (text : List ℕ) (table : Members) (part : PartData) → parse_document text ≡ Some table → part_in text ≡ Ok part → IsPermutation (rows_in_file table) part.rows }
+    ensures same_rows_as_file { (text : List ℕ) (table : Members) (part : PartData) → parse_document text ≡ Some table → part_in text ≡ Ok part →
+        IsPermutation (rows_in_file table) part.rows }
     ensures part { (text : List ℕ) (part : PartData) → part_in text ≡ Ok part → IsPart part }
     ensures rise { (part : PartData) → IsPart part → RowsRise part.rows }
     ensures same_rows { (widths : FieldWidths) (rows : List RowData) → IsPermutation rows (sorted_rows widths rows) }

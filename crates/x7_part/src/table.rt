@@ -4,19 +4,27 @@ ghost use Rattle.x7_part.specs.AddressOrder.{addresses};
 ghost use Rattle.x7_part.specs.Column.{row_columns, table_of as columns_of};
 ghost use Rattle.x7_part.specs.Address.{AreRows};
 ghost use Rattle.x7_part.specs.Limits.{most_columns, most_frames, most_rows};
+ghost use Rattle.x7_part.specs.Slot.{pads_after_row};
 
 use crate::address::Fields;
 use crate::column::Column;
 use crate::row::Row;
 use std::alloc::{AllocError, Global};
 
-/// The number of pads after a column of a row that has `column_count` columns: two after the last one, else none (this
-/// project's choice). Columns count from 0.
+/// The number of pads after the last frame of a row (this project's choice).
+const PADS_AFTER_ROW: u32 = 2;
+
+/// The number of pads after a column of a row that has `column_count` columns: the row's after the last one, else none.
+/// Columns count from 0.
 fn pads_after(column: usize, column_count: usize) -> u32
     requires { column < column_count }
-    ensures { result ≡ (if column + 1 == column_count then 2 else 0) }
+    ensures { result ≡ (if column + 1 == column_count then pads_after_row else 0) }
 {
-    if column + 1 == column_count { 2 } else { 0 }
+    if column + 1 == column_count {
+        PADS_AFTER_ROW
+    } else {
+        0
+    }
 }
 
 /// Adds the columns of the row at `base`, before which stand `rank` addresses and `place` slots. One column more adds
@@ -78,7 +86,7 @@ pub(crate) fn table_of(
         )?;
         let frame_count = row.frame_count();
         rank += frame_count;
-        place += u64::from(frame_count) + 2;
+        place += u64::from(frame_count) + u64::from(PADS_AFTER_ROW);
     }
     Ok(columns)
 }

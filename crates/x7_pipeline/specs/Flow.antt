@@ -7,6 +7,7 @@ use Rattle.x7_memory.specs.FrameMap.{FrameMap, AreSame}
 use Rattle.x7_regs.specs.declared.command.Command.{Command}
 use Rattle.x7_regs.specs.declared.command.Command.TheVariants.{Null}
 use Rattle.x7_pipeline.specs.FarAsRead.{far_of}
+use Rattle.x7_memory.specs.PartFrames.{frame_at}
 use Rattle.x7_memory.specs.Plan.{PlanRow}
 use Rattle.x7_pipeline.specs.declared.fault.RunFault.{RunFault}
 use Rattle.x7_pipeline.specs.Copies.{copied, newest_of, source_after}
@@ -99,6 +100,17 @@ flow_written part f words = run_written part f.base f.run words
 -- the memory gets the frames that land as these words are written, the oldest first
 abbrev pub LandsAt : PartData → Flow → List ℕ → FrameMap → FrameMap → Type 0
 LandsAt part f words old new = Lands part f.base f.run (onto words f.run) old new
+
+-- whatever flow the pipeline stands for: the memory, old before and new after, got the frames that land as these words
+-- are written, the oldest first
+abbrev pub FramesLand : PartData → PipelineData → List ℕ → List (List ℕ) → List (List ℕ) → Type 0
+FramesLand part p words old new = OfFlow part p (λ f. LandsAt part f words (frame_at part old) (frame_at part new))
+
+-- whatever flow the pipeline stands for: the memory, old before and new after, got the frames that land as these words
+-- are written up to the first that is refused
+abbrev pub FramesLandUpToFault : PartData → PipelineData → List ℕ → List (List ℕ) → List (List ℕ) → Type 0
+FramesLandUpToFault part p words old new =
+    OfFlow part p (λ f. Lands part f.base f.run (flow_written part f words).run (frame_at part old) (frame_at part new))
 
 -- ---- the newest whole frame
 

@@ -32,7 +32,8 @@ onto (w ∷ words) run = onto words (w ∷ run)
 abbrev pub slots_from : PartData → ℕ → List Slot
 slots_from part far = from far (slots_in part)
 
--- pairs, with that of a frame before them where its slot is an address: at a pad and past the last slot it lands nowhere
+-- pairs, with that of a frame before them where its slot is an address: at a pad and past the last slot it lands
+-- nowhere
 abbrev pub at_slot : Slot → List ℕ → List PlanRow → List PlanRow
 at_slot (Frame far) words pairs = record { far = far; words = words } ∷ pairs
 at_slot Pad words pairs = pairs

@@ -84,7 +84,8 @@ pub fn readbacks_give_frames_along_slots()
 /// Address at its base alone.
 pub fn faults_come_where()
     ensures is_address { (part : PartData) (far : ℕ) → (has_frame_at part far ≡ true) ↔ Contains (addresses_in part) far }
-    ensures overrun { (part : PartData) (base word newest : ℕ) (run : List ℕ) → (write_fault part base (newest ∷ run) ≡ Some RunFault.Overrun) ↔ Overruns part base (word ∷ newest ∷ run) }
+    ensures overrun { (part : PartData) (base word newest : ℕ) (run : List ℕ) →
+        (write_fault part base (newest ∷ run) ≡ Some RunFault.Overrun) ↔ Overruns part base (word ∷ newest ∷ run) }
     ensures no_multi_in_writes { (part : PartData) (base : ℕ) (run : List ℕ) → write_fault part base run ≢ Some RunFault.Multi }
     ensures no_overrun_in_copies { (part : PartData) (command : Command) (base : ℕ) (source : Option (List ℕ)) → copy_fault part command base source ≢ Some RunFault.Overrun }
     ensures only_address_in_reads { (part : PartData) (base given : ℕ) (fault : RunFault) → readback_fault part base given ≡ Some fault → fault ≡ RunFault.Address base }

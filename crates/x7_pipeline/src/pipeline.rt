@@ -7,14 +7,14 @@ ghost use Rattle.x7_memory.specs.FrameMap.{AreSame};
 ghost use Rattle.x7_memory.specs.PartFrames.{frame_at, AreFramesOf};
 ghost use Rattle.x7_part.specs.declared.slot.Slot.{Slot};
 ghost use Rattle.x7_regs.specs.declared.command.Command.{Command};
-ghost use Rattle.x7_pipeline.specs.Runs.{Lands, put_over, slots_from};
+ghost use Rattle.x7_pipeline.specs.Runs.{put_over, slots_from};
 ghost use Rattle.x7_pipeline.specs.FarAsRead.{far_of, loaded_base, has_frame_at};
 ghost use Rattle.x7_pipeline.specs.Copies.{is_wcfg, is_mfw, source_with};
 ghost use Rattle.x7_pipeline.specs.Readback.{readback_at, word_at};
 ghost use Rattle.x7_pipeline.specs.Fault.{write_fault, readback_fault, drop_fault};
 ghost use Rattle.x7_pipeline.specs.Place.{StartsAt};
 ghost use Rattle.x7_pipeline.specs.Pipeline.{AreOfPart, PipelineData, IsPipelineOf, passed};
-ghost use Rattle.x7_pipeline.specs.Flow.{copied_by, fault_of_copy, FlowGoesOn, HoldsFlow, LandsAt, OfFlow, PutsNewest, after_reads, after_words, begun_at, begun_by, first_flow, with_run, flow_written};
+ghost use Rattle.x7_pipeline.specs.Flow.{copied_by, fault_of_copy, FlowGoesOn, FramesLand, FramesLandUpToFault, HoldsFlow, OfFlow, PutsNewest, after_reads, after_words, begun_at, begun_by, first_flow, with_run, flow_written};
 
 mod saved;
 
@@ -149,7 +149,7 @@ impl Pipeline {
     pub fn write(&mut self, word: u32, part: &Part, memory: &mut Memory) -> Result<(), RunFault>
         requires part { AreOfPart part.now self.old memory.old }
         ensures stands { OnOk result (FlowGoesOn part.now self.old self.new (after_words (word ∷ []))) }
-        ensures lands { OnOk result (OfFlow part.now self.old (λ f. LandsAt part.now f (word ∷ []) (frame_at part.now memory.old) (frame_at part.now memory.new))) }
+        ensures lands { OnOk result (FramesLand part.now self.old (word ∷ []) memory.old memory.new) }
         ensures fault { OfFlow part.now self.old (λ f. result_err result ≡ write_fault part.now f.base f.run) }
 
         // Whatever the answer.
@@ -190,7 +190,7 @@ impl Pipeline {
         requires whole { AreWholeWords bytes.now }
         requires part { AreOfPart part.now self.old memory.old }
         ensures stands { OfFlow part.now self.old (λ f. HoldsFlow part.now self.new (with_run (flow_written part.now f (words_of_bytes bytes.now)).run f)) }
-        ensures lands { OfFlow part.now self.old (λ f. Lands part.now f.base f.run (flow_written part.now f (words_of_bytes bytes.now)).run (frame_at part.now memory.old) (frame_at part.now memory.new)) }
+        ensures lands { FramesLandUpToFault part.now self.old (words_of_bytes bytes.now) memory.old memory.new }
         ensures count { OfFlow part.now self.old (λ f. result.0 ≡ (flow_written part.now f (words_of_bytes bytes.now)).count) }
         ensures fault { OfFlow part.now self.old (λ f. result.1 ≡ (flow_written part.now f (words_of_bytes bytes.now)).fault) }
         ensures within { result.0 ≤ length bytes.now / 4 }
@@ -219,7 +219,7 @@ impl Pipeline {
         requires part { AreOfPart part.now self.old memory.old }
         ensures words { IfOk result (λ taken. (1 ≤ taken / 4) × (taken % 4 ≡ 0) × (taken ≤ length bytes.now)) }
         ensures stands { IfOk result (λ taken. FlowGoesOn part.now self.old self.new (after_words (words_of_bytes (take taken bytes.now)))) }
-        ensures lands { IfOk result (λ taken. OfFlow part.now self.old (λ f. LandsAt part.now f (words_of_bytes (take taken bytes.now)) (frame_at part.now memory.old) (frame_at part.now memory.new))) }
+        ensures lands { IfOk result (λ taken. FramesLand part.now self.old (words_of_bytes (take taken bytes.now)) memory.old memory.new) }
         ensures passes { IfOk result (λ taken. OfFlow part.now self.old (λ f. (flow_written part.now f (words_of_bytes (take taken bytes.now))).fault ≡ None)) }
         ensures fault { IfErr result (λ fault. OfFlow part.now self.old (λ f. Some fault ≡ write_fault part.now f.base f.run)) }
         ensures part { AreOfPart part.now self.new memory.new }
@@ -254,7 +254,7 @@ impl Pipeline {
         requires slot { self.old.frame_count < length (slots_from part.now self.old.base) }
         ensures words { (1 ≤ result / 4) × (result % 4 ≡ 0) × (result ≤ length bytes.now) }
         ensures stands { FlowGoesOn part.now self.old self.new (after_words (words_of_bytes (take result bytes.now))) }
-        ensures lands { OfFlow part.now self.old (λ f. LandsAt part.now f (words_of_bytes (take result bytes.now)) (frame_at part.now memory.old) (frame_at part.now memory.new)) }
+        ensures lands { FramesLand part.now self.old (words_of_bytes (take result bytes.now)) memory.old memory.new }
         ensures passes { OfFlow part.now self.old (λ f. (flow_written part.now f (words_of_bytes (take result bytes.now))).fault ≡ None) }
         ensures part { AreOfPart part.now self.new memory.new }
     {

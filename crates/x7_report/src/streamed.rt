@@ -20,9 +20,9 @@ use x7_words::{Failed, NoMemory, Sink, write_all};
 /// How many lines of frames are written at once.
 const LINES_AT_ONCE: usize = 128;
 
-/// The most bytes that the line of a frame takes: the digits of 255 words, and 16 bytes for its
-/// name, its address, a blank and a line end.
-const FRAME_LINE_ROOM: usize = 2_056;
+/// The most bytes that the line of a frame takes: eight digits for each of its words, and 16 bytes for its name, its
+/// address, a blank and a line end.
+const FRAME_LINE_ROOM: usize = 16 + 8 * x7_part::MOST_FRAME_WORDS as usize;
 
 /// The most bytes that the lines written at once take.
 const ROOM_AT_ONCE: usize = LINES_AT_ONCE * FRAME_LINE_ROOM;
@@ -33,7 +33,7 @@ fn put_frame_at(text: &mut Vec<u8>, part: &Part, memory: &Memory, far: u32)
     requires room { HasSpareRoom text.old frame_line_room }
     ensures appends { Appends text.old text.new (frame_text_if far (frame_at part.now memory.now far)) frame_line_room }
 {
-    // For the proof alone: a frame has at most 255 words.
+    // For the proof alone: a frame has at most `MOST_FRAME_WORDS` words.
     let _words = part.words();
     match memory.frame(part, far) {
         Some(words) => put_frame(text, far, words),

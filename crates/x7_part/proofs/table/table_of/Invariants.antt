@@ -1,11 +1,12 @@
 use Rattle.std.proofs.Common.{◌≡◌, ◌+◌, ◌*◌, ◌≤◌, ◌++◌, drop, length}
 use Rattle.x7_part.specs.AddressOrder.{addresses}
 use Rattle.x7_part.specs.Column.{table_of as columns_of}
+use Rattle.x7_part.specs.Slot.{pads_after_row}
 use Rattle.x7_part.proofs.table.table_of.Given as goal
 
 abbrev pub invariant-loop-row : goal.invariant-loop-row
 invariant-loop-row l = record {
   columns : l.columns.items ++ columns_of l.fields l.rank l.place (drop l.row-index l.rows) ≡ columns_of l.fields 0 0 l.rows;
   rank : l.rank + length (addresses l.fields (drop l.row-index l.rows)) ≡ length (addresses l.fields l.rows);
-  place : l.place ≤ l.rank + 2 * l.row-index;
+  place : l.place ≤ l.rank + pads_after_row * l.row-index;
 }
