@@ -17,10 +17,7 @@ returns-clause-back c = λ part kept wrapped bytes s.
     let piece : List ℕ = c.args.piece.now in
     let taken : ℕ = taken_in (length piece) c.feed-fed.result in
     let few : length (take taken piece) ≤ 4 = omega (arith, length-take taken piece, c.requires.four) in
-    leads_back part kept wrapped c.save.new.undo c.args.self.now c.feed-fed.new.self bytes (take taken piece) c.save.ensures.saves c.frames_fit.ensures c.requires.no_word_due few s (c.feed-fed.ensures.stands part kept wrapped bytes s)
+    leads_back part kept wrapped c.save.new.undo c.args.self.now c.feed-fed.new.self bytes (take taken piece) c.save.ensures.saves c.frames_fit.ensures c.requires.no_word_due few s (c.feed-fed.ensures.takes part kept wrapped bytes s)
 
 pub returns-clause-stopped : goal.returns-clause-stopped
 returns-clause-stopped c = λ part kept wrapped bytes s e. let same = c.feed-fed.ensures.stopped part kept wrapped bytes s e in (same.0, same.2)
-
-pub returns-clause-stays : goal.returns-clause-stays
-returns-clause-stays c = λ why e. let same = c.feed-fed.ensures.stays why e in (same.0, same.2)
