@@ -1,5 +1,6 @@
 -- Lemmas on bytes of a flash that an attempt takes: what it ends by, and that nothing ended it earlier.
-use Rattle.std.proofs.Common.{◌≡◌, ◌==◌, ◌+◌, ◌-◌, ◌^◌, ◌<◌, ◌≤◌, ℕ, Bool, true, false, if◌then◌else◌, List, ◌++◌, length, take, drop, Option, None, Some, IsSome, refl, ap, sym, subst, ◌∙◌, append_assoc, arith, length-drop, length-take-le, take-append-drop, take-take}
+use Rattle.std.proofs.Common.{◌≡◌, ◌==◌, ◌+◌, ◌-◌, ◌<◌, ◌≤◌, ℕ, Bool, true, false, if◌then◌else◌, List, ◌++◌, length, take, drop, Option, None, Some, IsSome, refl, ap, sym, subst, ◌∙◌, append_assoc, arith, length-drop, length-take-le, take-append-drop, take-take}
+use Rattle.x7_words.specs.Input.{taken_bytes_limit}
 use Rattle.x7_packets.specs.History.{history_of}
 use Rattle.x7_part.specs.Part.{PartData}
 use Rattle.x7_engine.specs.declared.fed.Fed.{Fed}
@@ -13,7 +14,7 @@ use Rattle.x7_regs.specs.declared.boot_status.Cause.{Cause}
 use Rattle.x7_engine.specs.Value.{failure_of}
 use Rattle.x7_engine.specs.ReadBuffer.{IsFullBy, ReadBufState}
 use Rattle.x7_engine.specs.Past.{Answers, AnswersUntil}
-use Rattle.x7_engine.specs.Standing.{DeviceState, DeviceStandsFor, NoWordDue, taken_in}
+use Rattle.x7_engine.specs.Standing.{CanBeGiven, DeviceState, DeviceStandsFor, NoWordDue, taken_in}
 use Rattle.x7_engine.specs.State.{history_by, why_of, state_of, stop_in, taken_by}
 use Rattle.x7_engine.specs.Startup.{phase_by, startup_progress}
 use Rattle.x7_engine.specs.Stop.{Stopped, stop_fault}
@@ -128,5 +129,5 @@ page_took part kept d bytes page read answer cause within s first dropping a sta
     }
 
 -- a device that nothing has stopped is ready for no more than was said
-pub ready_fits : (d : DeviceState) (n : ℕ) → CanTakePage d n → d.taken + n ≤ 2 ^ 63
-ready_fits d n r = let t : d.taken ≡ length r.bytes = r.stands.taken_is in let f : length r.bytes + n ≤ 2 ^ 63 = r.fits in omega (arith, t, f)
+pub ready_fits : (d : DeviceState) (n : ℕ) → CanTakePage d n → CanBeGiven d n
+ready_fits d n r = let t : d.taken ≡ length r.bytes = r.stands.taken_is in let f : length r.bytes + n ≤ taken_bytes_limit = r.fits in omega (arith, t, f)

@@ -1,7 +1,8 @@
 -- A boot attempt: a device takes the bytes of a flash from an address on, up to what ends the attempt (UG470, MultiBoot
 -- and fallback; the end at the least byte, and at the flash's end, are this project's choice).
-use Rattle.std.specs.Prelude.{◌≡◌, ℕ, suc, ◌+◌, ◌^◌, ◌<◌, ◌≤◌, ◌==◌, ◌⊎◌, Bool, true, false, if◌then◌else◌, List, ◌++◌, length, take, drop, slice_range, Option, None, Some, IsSome}
+use Rattle.std.specs.Prelude.{◌≡◌, ℕ, suc, ◌+◌, ◌<◌, ◌≤◌, ◌==◌, ◌⊎◌, Bool, true, false, if◌then◌else◌, List, ◌++◌, length, take, drop, slice_range, Option, None, Some, IsSome}
 use Rattle.x7_words.specs.Flash.{IfKnown}
+use Rattle.x7_words.specs.Input.{taken_bytes_limit}
 use Rattle.x7_part.specs.Part.{PartData}
 use Rattle.x7_regs.specs.declared.boot_status.Cause.{Cause}
 use Rattle.x7_regs.specs.declared.boot_status.Cause.TheVariants.{Wrap}
@@ -114,7 +115,7 @@ TakesPage old page step new =
     → Took (past_in_flash part kept bytes) new page step
 
 -- a device can take `more` bytes of a page: it is in an attempt that nothing has ended, and all its bytes with these
--- are at most 2^63
+-- are at most `taken_bytes_limit`
 pub record CanTakePage (d : DeviceState) (more : ℕ) : Type 0 where
   pub part : PartData
   pub kept : Kept
@@ -122,7 +123,7 @@ pub record CanTakePage (d : DeviceState) (more : ℕ) : Type 0 where
   pub stands : DeviceStandsFor part kept false d bytes
   pub going : stop_in part kept bytes ≡ None
   pub not_ended : ending_at part kept bytes ≡ None
-  pub fits : length bytes + more ≤ 2 ^ 63
+  pub fits : length bytes + more ≤ taken_bytes_limit
 
 -- how an attempt begins: its device's part, what the device kept over the reset, and the address in the flash
 pub record AttemptStart : Type 0 where

@@ -1,6 +1,6 @@
 //! Records of a device on its way, which lead it back.
-ghost use Rattle.std.specs.Prelude.{◌≡◌, ◌≤◌, ◌<◌, ◌+◌, ◌-◌, ◌^◌, ◌∷◌, ℕ, List, length, take, IfOk};
-ghost use Rattle.x7_engine.specs.Standing.{NoWordDue, fed_of};
+ghost use Rattle.std.specs.Prelude.{◌≡◌, ◌≤◌, ◌<◌, ◌+◌, ◌-◌, ◌∷◌, ℕ, List, length, take, IfOk};
+ghost use Rattle.x7_engine.specs.Standing.{CanBeGiven, NoWordDue, fed_of};
 ghost use Rattle.x7_engine.specs.Undo.{SavesDevice, UndoState};
 ghost use Rattle.x7_debug.specs.Journal.{AreRecordsOf, IsFedAsTaken, IsOnStream, KeepsOldest, oldest_by, record_reach, record_room, records_of};
 ghost use Rattle.x7_debug.specs.Session.{TakesPiece};
@@ -73,7 +73,7 @@ impl Journal {
     /// the oldest one is used again.
     pub(crate) fn feed(&mut self, device: &mut Device, piece: &[u8])
         requires one_record { length piece.now ≤ record_reach }
-        requires fits { device.old.taken + length piece.now ≤ 2 ^ 63 }
+        requires fits { CanBeGiven device.old (length piece.now) }
         requires no_word_due { NoWordDue device.old }
         requires records { AreRecordsOf device.old.part self.old }
         ensures takes { TakesPiece device.old device.new piece.now }

@@ -1,6 +1,6 @@
 //! A device is brought from one position of a stream to another one, forwards by pieces and backwards by records.
-ghost use Rattle.std.specs.Prelude.{◌≡◌, ◌≤◌, ◌<◌, ◌+◌, ◌-◌, ◌^◌, length};
-ghost use Rattle.x7_engine.specs.Standing.{fed_of};
+ghost use Rattle.std.specs.Prelude.{◌≡◌, ◌≤◌, ◌<◌, ◌+◌, ◌-◌, length};
+ghost use Rattle.x7_engine.specs.Standing.{CanBeGiven, fed_of};
 ghost use Rattle.x7_debug.specs.Journal.{ComesToPosition, MoveCosts, HasRecorded, IsFedAsTaken, IsFedAtMost, IsOnStream, KeepsOldest, oldest_by, reach, record_reach, record_room, records_of};
 ghost use Rattle.x7_debug.specs.SessionFields.{session_of};
 ghost use Rattle.x7_debug.specs.Moving.{ComesForward, ComesForwardRecorded, MayMove, MayMoveBack, MayMoveForward};
@@ -23,7 +23,7 @@ const RECORDED_SIZE: u64 = RECORD_ROOM as u64 * RECORD_REACH;
 
 /// Feeds a piece to a device, up to what stops it. Words read out are dropped.
 pub(crate) fn feed_piece(device: &mut Device, piece: &[u8])
-    requires { device.old.taken + length piece.now ≤ 2 ^ 63 }
+    requires { CanBeGiven device.old (length piece.now) }
     ensures takes { TakesPiece device.old device.new piece.now }
     ensures fed { IsFedAsTaken device.old device.new }
 {

@@ -13,7 +13,7 @@ use Rattle.x7_memory.proofs.MapLemmas.{override_same}
 use Rattle.x7_pipeline.specs.Runs.{put_over}
 use Rattle.x7_pipeline.proofs.LawLemmas.{put_twice}
 use Rattle.x7_planner.specs.PartialStream.{Section, Copies, Rows}
-use Rattle.x7_planner.specs.PartialStream.{same_words, with_content, is_shared, leads_group, groups_led, others, follows, with_row, runs_of, sections_of}
+use Rattle.x7_planner.specs.PartialStream.{same_words, with_content, is_shared, leads_group, groups_led, rows_not_shared, follows, with_row, runs_of, sections_of}
 use Rattle.x7_planner.specs.PartialStream.{joined_runs, IsRunOfRows, AreLongest, pairs_of}
 use Rattle.x7_planner.proofs.ContentLemmas.{same_words_true, same_words_own}
 use Rattle.x7_effects.proofs.Groups.{put_sections}
@@ -168,11 +168,11 @@ groups_agree all (r ∷ qs) a = by_test (leads_group all r) (groups_agree all qs
     by_test true ih = all_append (λ p. planned all p.far ≡ Some p.words) (Pairs r.words (with_content r.words all)) (flat_map pairs_of (groups_led all qs)) (content_agrees all all r.words a) ih
     by_test false ih = ih
 
-pub others_agree : (all qs : List PlanRow) → Agree all qs → Agree all (others all qs)
-others_agree all [] a = tt
-others_agree all (r ∷ qs) a = by_test (is_shared all r) (others_agree all qs a.1)
+pub not_shared_agree : (all qs : List PlanRow) → Agree all qs → Agree all (rows_not_shared all qs)
+not_shared_agree all [] a = tt
+not_shared_agree all (r ∷ qs) a = by_test (is_shared all r) (not_shared_agree all qs a.1)
   where
-    by_test : (b : Bool) → Agree all (others all qs) → Agree all (if b then others all qs else r ∷ others all qs)
+    by_test : (b : Bool) → Agree all (rows_not_shared all qs) → Agree all (if b then rows_not_shared all qs else r ∷ rows_not_shared all qs)
     by_test true ih = ih
     by_test false ih = (a.0, ih)
 
@@ -197,13 +197,13 @@ runs_pairs : (runs : List (List PlanRow)) → flat_map pairs_of (map Rows runs) 
 runs_pairs [] = refl
 runs_pairs (run ∷ runs) = ap (λ t. run ++ t) (runs_pairs runs)
 
-pub sections_pairs : (part : PartData) (rows : List PlanRow) → flat_map pairs_of (sections_of part rows) ≡ flat_map pairs_of (groups_led rows rows) ++ others rows rows
+pub sections_pairs : (part : PartData) (rows : List PlanRow) → flat_map pairs_of (sections_of part rows) ≡ flat_map pairs_of (groups_led rows rows) ++ rows_not_shared rows rows
 sections_pairs part rows =
-    flat_map-append pairs_of (groups_led rows rows) (map Rows (runs_of part (others rows rows)))
-    ∙ ap (λ t. flat_map pairs_of (groups_led rows rows) ++ t) (runs_pairs (runs_of part (others rows rows)) ∙ runs_joined part (others rows rows))
+    flat_map-append pairs_of (groups_led rows rows) (map Rows (runs_of part (rows_not_shared rows rows)))
+    ∙ ap (λ t. flat_map pairs_of (groups_led rows rows) ++ t) (runs_pairs (runs_of part (rows_not_shared rows rows)) ∙ runs_joined part (rows_not_shared rows rows))
 
 pub sections_agree : (part : PartData) (rows : List PlanRow) → AreInOrder rows → Agree rows (flat_map pairs_of (sections_of part rows))
-sections_agree part rows o = rw (sections_pairs part rows) (all_append (λ p. planned rows p.far ≡ Some p.words) (flat_map pairs_of (groups_led rows rows)) (others rows rows) (groups_agree rows rows (own rows o)) (others_agree rows rows (own rows o)))
+sections_agree part rows o = rw (sections_pairs part rows) (all_append (λ p. planned rows p.far ≡ Some p.words) (flat_map pairs_of (groups_led rows rows)) (rows_not_shared rows rows) (groups_agree rows rows (own rows o)) (not_shared_agree rows rows (own rows o)))
 
 -- the row is one of these
 abbrev IsIn : PlanRow → List PlanRow → Type 0
@@ -264,26 +264,26 @@ shared_named all q i t =
     let names : Names q.far (Pairs l.row.words (with_content l.row.words all)) = rw l.has (content_names q.words q all i refl) in
     group_names all all l.row q.far l.there leads names
 
-others_named : (all qs : List PlanRow) (q : PlanRow) → IsIn q qs → is_shared all q ≡ false → Names q.far (others all qs)
+others_named : (all qs : List PlanRow) (q : PlanRow) → IsIn q qs → is_shared all q ≡ false → Names q.far (rows_not_shared all qs)
 others_named all [] q i f = absurd i
 others_named all (r ∷ qs) q i f = by_test (is_shared all r) refl i (λ j. others_named all qs q j f)
   where
-    by_test : (b : Bool) → is_shared all r ≡ b → (r ≡ q) ⊎ IsIn q qs → (IsIn q qs → Names q.far (others all qs)) → Names q.far (if b then others all qs else r ∷ others all qs)
+    by_test : (b : Bool) → is_shared all r ≡ b → (r ≡ q) ⊎ IsIn q qs → (IsIn q qs → Names q.far (rows_not_shared all qs)) → Names q.far (if b then rows_not_shared all qs else r ∷ rows_not_shared all qs)
     by_test true t (inl e) ih = absurd (let u : is_shared all q ≡ true = ap (is_shared all) (sym e) ∙ t in cc)
     by_test true t (inr i) ih = ih i
     by_test false t (inl e) ih = inl (ap (λ (x : PlanRow). x.far) e)
     by_test false t (inr i) ih = inr (ih i)
 
-row_named : (rows : List PlanRow) (q : PlanRow) (b : Bool) → is_shared rows q ≡ b → IsIn q rows → Names q.far (flat_map pairs_of (groups_led rows rows) ++ others rows rows)
-row_named rows q true t i = names_prefix q.far (flat_map pairs_of (groups_led rows rows)) (others rows rows) (shared_named rows q i t)
-row_named rows q false t i = names_back q.far (flat_map pairs_of (groups_led rows rows)) (others rows rows) (others_named rows rows q i t)
+row_named : (rows : List PlanRow) (q : PlanRow) (b : Bool) → is_shared rows q ≡ b → IsIn q rows → Names q.far (flat_map pairs_of (groups_led rows rows) ++ rows_not_shared rows rows)
+row_named rows q true t i = names_prefix q.far (flat_map pairs_of (groups_led rows rows)) (rows_not_shared rows rows) (shared_named rows q i t)
+row_named rows q false t i = names_back q.far (flat_map pairs_of (groups_led rows rows)) (rows_not_shared rows rows) (others_named rows rows q i t)
 
 all_rows_named : (rows qs pairs : List PlanRow) → ((q : PlanRow) → IsIn q rows → Names q.far pairs) → ((q : PlanRow) → IsIn q qs → IsIn q rows) → Cover qs pairs
 all_rows_named rows [] pairs f g = tt
 all_rows_named rows (q ∷ qs) pairs f g = (f q (g q (inl refl)), all_rows_named rows qs pairs f (λ r i. g r (inr i)))
 
 pub sections_cover : (part : PartData) (rows : List PlanRow) → Cover rows (flat_map pairs_of (sections_of part rows))
-sections_cover part rows = rw (sections_pairs part rows) (all_rows_named rows rows (flat_map pairs_of (groups_led rows rows) ++ others rows rows) (λ q i. row_named rows q (is_shared rows q) refl i) (λ q i. i))
+sections_cover part rows = rw (sections_pairs part rows) (all_rows_named rows rows (flat_map pairs_of (groups_led rows rows) ++ rows_not_shared rows rows) (λ q i. row_named rows q (is_shared rows q) refl i) (λ q i. i))
 
 -- the sections of a plan put just the plan
 pub plan_put : (part : PartData) (rows : List PlanRow) (memory : FrameMap) → AreInOrder rows → AreSame (put_sections memory (sections_of part rows)) (override memory (planned rows))

@@ -7,7 +7,7 @@ use Rattle.x7_memory.proofs.PlanLemmas.{order_tail}
 use Rattle.x7_planner.proofs.RunLemmas.{all_rows}
 use Rattle.x7_part.specs.Part.{PartData}
 use Rattle.x7_memory.specs.Plan.{AreApart, AreInOrder, PlanRow, planned, planned_addresses}
-use Rattle.x7_planner.specs.PartialStream.{Copies, WritesOnce, groups_led, is_shared, leads_group, others, pairs_in, same_words, sections_of, with_content}
+use Rattle.x7_planner.specs.PartialStream.{Copies, WritesOnce, groups_led, is_shared, leads_group, rows_not_shared, pairs_in, same_words, sections_of, with_content}
 use Rattle.x7_effects.proofs.GroupLemmas.{Agree, Names, Pairs, content_agrees, later, names_either, own, sections_agree, sections_cover, sections_pairs}
 
 -- no address comes twice
@@ -42,22 +42,22 @@ content_apart words (q ∷ qs) a = by (same_words q.words words) (content_apart 
     by true ih = ((λ n. a.0 (content_some words qs q.far n)), ih)
     by false ih = ih
 
-others_some : (all qs : List PlanRow) (far : ℕ) → Names far (others all qs) → Names far qs
-others_some all [] far n = n
-others_some all (q ∷ qs) far n = by (is_shared all q) (λ m. others_some all qs far m) n
+not_shared_some : (all qs : List PlanRow) (far : ℕ) → Names far (rows_not_shared all qs) → Names far qs
+not_shared_some all [] far n = n
+not_shared_some all (q ∷ qs) far n = by (is_shared all q) (λ m. not_shared_some all qs far m) n
   where
-    by : (b : Bool) → (Names far (others all qs) → Names far qs) → Names far (if b then others all qs else q ∷ others all qs) → (q.far ≡ far) ⊎ Names far qs
+    by : (b : Bool) → (Names far (rows_not_shared all qs) → Names far qs) → Names far (if b then rows_not_shared all qs else q ∷ rows_not_shared all qs) → (q.far ≡ far) ⊎ Names far qs
     by true ih m = inr (ih m)
     by false ih (inl e) = inl e
     by false ih (inr m) = inr (ih m)
 
-others_apart : (all qs : List PlanRow) → Apart qs → Apart (others all qs)
-others_apart all [] a = tt
-others_apart all (q ∷ qs) a = by (is_shared all q) (others_apart all qs a.1)
+not_shared_apart : (all qs : List PlanRow) → Apart qs → Apart (rows_not_shared all qs)
+not_shared_apart all [] a = tt
+not_shared_apart all (q ∷ qs) a = by (is_shared all q) (not_shared_apart all qs a.1)
   where
-    by : (b : Bool) → Apart (others all qs) → Apart (if b then others all qs else q ∷ others all qs)
+    by : (b : Bool) → Apart (rows_not_shared all qs) → Apart (if b then rows_not_shared all qs else q ∷ rows_not_shared all qs)
     by true ih = ih
-    by false ih = ((λ n. a.0 (others_some all qs q.far n)), ih)
+    by false ih = ((λ n. a.0 (not_shared_some all qs q.far n)), ih)
 
 -- ---- what stands at an address of a group, and of another row
 
@@ -125,19 +125,19 @@ record Alone (all qs : List PlanRow) (far : ℕ) : Type 0 where
   lone : is_shared all row ≡ false
   named : planned all far ≡ Some row.words
 
-alone : (all qs : List PlanRow) (far : ℕ) → Agree all qs → Names far (others all qs) → Alone all qs far
+alone : (all qs : List PlanRow) (far : ℕ) → Agree all qs → Names far (rows_not_shared all qs) → Alone all qs far
 alone all [] far a n = absurd n
 alone all (q ∷ qs) far a n = by (is_shared all q) refl n (λ m. alone all qs far a.1 m)
   where
     in_rest : Alone all qs far → Alone all (q ∷ qs) far
     in_rest l = record { row = l.row; lone = l.lone; named = l.named }
 
-    by : (b : Bool) → is_shared all q ≡ b → Names far (if b then others all qs else q ∷ others all qs) → (Names far (others all qs) → Alone all qs far) → Alone all (q ∷ qs) far
+    by : (b : Bool) → is_shared all q ≡ b → Names far (if b then rows_not_shared all qs else q ∷ rows_not_shared all qs) → (Names far (rows_not_shared all qs) → Alone all qs far) → Alone all (q ∷ qs) far
     by true e n ih = in_rest (ih n)
     by false e (inl m) ih = record { row = q; lone = e; named = ap (planned all) (sym m) ∙ a.0 }
     by false e (inr m) ih = in_rest (ih m)
 
-group_or_other : (all : List PlanRow) (far : ℕ) → Agree all all → Names far (pairs_in (groups_led all all)) → Names far (others all all) → ⊥
+group_or_other : (all : List PlanRow) (far : ℕ) → Agree all all → Names far (pairs_in (groups_led all all)) → Names far (rows_not_shared all all) → ⊥
 group_or_other all far a n m =
     let l : LedBy all all far = led_by all all far n in
     let o : Alone all all far = alone all all far a m in
@@ -149,7 +149,7 @@ sections_apart : (part : PartData) (rows : List PlanRow) → AreInOrder rows →
 sections_apart part rows o =
     let apart : Apart rows = apart_rows rows o in
     subst Apart (sym (sections_pairs part rows))
-    (apart_append (pairs_in (groups_led rows rows)) (others rows rows) (groups_apart rows rows (own rows o) apart apart) (others_apart rows rows apart) (λ far n m. group_or_other rows far (own rows o) n m))
+    (apart_append (pairs_in (groups_led rows rows)) (rows_not_shared rows rows) (groups_apart rows rows (own rows o) apart apart) (not_shared_apart rows rows apart) (λ far n m. group_or_other rows far (own rows o) n m))
 
 -- ---- by places
 

@@ -5,7 +5,7 @@ use Rattle.std.specs.List.{AllByRecursion}
 use Rattle.std.proofs.Math.Nat.{mul-le-mul_left}
 use Rattle.std.proofs.lemmas.Bool.{cases_eq, eqb-true}
 use Rattle.std.proofs.lemmas.List.{length-replicate}
-use Rattle.x7_planner.proofs.RunLemmas.{all_rows, others_all, others_fewer}
+use Rattle.x7_planner.proofs.RunLemmas.{all_rows, not_shared_all, not_shared_fewer}
 use Rattle.x7_words.specs.Word.{AreWords}
 use Rattle.x7_words.proofs.ListLemmas.{all_append, all_prefix, all_back}
 use Rattle.x7_part.specs.AddressOrder.{addresses_in, Rises}
@@ -24,7 +24,7 @@ use Rattle.x7_effects.proofs.Frames.{joined, AreWide, row_frames}
 use Rattle.x7_planner.specs.FullStream.{zero_frame}
 use Rattle.x7_planner.specs.PartialStream.{Copies, Rows}
 use Rattle.x7_effects.proofs.Streams.{HaveWords, IsSection, AreSections}
-use Rattle.x7_planner.specs.PartialStream.{with_content, leads_group, groups_led, others, is_frame, follows, with_row, runs_of, sections_of, same_words}
+use Rattle.x7_planner.specs.PartialStream.{with_content, leads_group, groups_led, rows_not_shared, is_frame, follows, with_row, runs_of, sections_of, same_words}
 use Rattle.x7_effects.proofs.Groups.{IsPlaced, LandsAs, plan_pieces}
 use Rattle.x7_flow.proofs.StreamLemmas.{whole_cut}
 use Rattle.x7_effects.proofs.FrameLemmas.{rows_land}
@@ -121,8 +121,8 @@ of_content P words (r ∷ qs) a = by_test (same_words r.words words) (of_content
     by_test true ih = (a.0, ih)
     by_test false ih = ih
 
-pub of_runs : (P : PlanRow → Type 0) (part : PartData) (rows : List PlanRow) → AllByRecursion P rows → AllByRecursion (AllByRecursion P) (runs_of part (others rows rows))
-of_runs P part rows a = each_run P (runs_of part (others rows rows)) (rw (runs_joined part (others rows rows)) (others_all P rows rows a))
+pub of_runs : (P : PlanRow → Type 0) (part : PartData) (rows : List PlanRow) → AllByRecursion P rows → AllByRecursion (AllByRecursion P) (runs_of part (rows_not_shared rows rows))
+of_runs P part rows a = each_run P (runs_of part (rows_not_shared rows rows)) (rw (runs_joined part (rows_not_shared rows rows)) (not_shared_all P rows rows a))
 
 -- ---- how sections land
 
@@ -156,17 +156,17 @@ here_of : (part : PartData) (rows : List PlanRow) → All (λ row. Contains (add
 here_of part rows a = rw (addresses_among_slots part.field_widths part.rows) (by_rows (λ row. Contains (addresses_in part) row.far) rows a)
 
 -- the runs of a plan's other rows stand at slots that follow one another
-pub plan_placed : (part : PartData) (rows : List PlanRow) → IsPart part → All (λ row. Contains (addresses_in part) row.far) rows → AllByRecursion (IsPlaced part) (runs_of part (others rows rows))
+pub plan_placed : (part : PartData) (rows : List PlanRow) → IsPart part → All (λ row. Contains (addresses_in part) row.far) rows → AllByRecursion (IsPlaced part) (runs_of part (rows_not_shared rows rows))
 plan_placed part rows is h =
     let rises : Rises 0 (addresses_among (slots_in part)) = rw (addresses_among_slots part.field_widths part.rows) (part_rises part.field_widths part.rows is.field_widths is.rows) in
-    runs_placed part (others rows rows) rises (others_all (λ row. Contains (addresses_among (slots_in part)) row.far) rows rows (here_of part rows h))
+    runs_placed part (rows_not_shared rows rows) rises (not_shared_all (λ row. Contains (addresses_among (slots_in part)) row.far) rows rows (here_of part rows h))
 
 pub sections_land : (part : PartData) (rows : List PlanRow) → IsPart part → All (λ row. length row.words ≡ frame_words part) rows → All (λ row. Contains (addresses_in part) row.far) rows → AllByRecursion (LandsAs part) (sections_of part rows)
 sections_land part rows is w h =
     let wide : AllByRecursion (λ row. length row.words ≡ frame_words part) rows = by_rows (λ row. length row.words ≡ frame_words part) rows w in
-    all_append (LandsAs part) (groups_led rows rows) (map Rows (runs_of part (others rows rows)))
+    all_append (LandsAs part) (groups_led rows rows) (map Rows (runs_of part (rows_not_shared rows rows)))
     (groups_land part rows rows (omega (arith, is.words)) wide)
-    (runs_land part (runs_of part (others rows rows)) (omega (arith, is.words))
+    (runs_land part (runs_of part (rows_not_shared rows rows)) (omega (arith, is.words))
     (plan_placed part rows is h)
     (of_runs (λ row. length row.words ≡ frame_words part) part rows wide))
 
@@ -206,10 +206,10 @@ sections_are part rows n f a w =
     let ff : AllByRecursion (λ row. row.far < 2 ^ 32) rows = by_rows (λ row. row.far < 2 ^ 32) rows f in
     let aa : AllByRecursion (λ row. AreWords row.words) rows = by_rows (λ row. AreWords row.words) rows a in
     let ww : AllByRecursion (λ row. length row.words ≡ frame_words part) rows = by_rows (λ row. length row.words ≡ frame_words part) rows w in
-    let few : length (run_rows (runs_of part (others rows rows))) ≤ length rows = rw (runs_joined part (others rows rows)) (others_fewer rows rows) in
-    all_append (IsSection part) (groups_led rows rows) (map Rows (runs_of part (others rows rows)))
+    let few : length (run_rows (runs_of part (rows_not_shared rows rows))) ≤ length rows = rw (runs_joined part (rows_not_shared rows rows)) (not_shared_fewer rows rows) in
+    all_append (IsSection part) (groups_led rows rows) (map Rows (runs_of part (rows_not_shared rows rows)))
     (groups_fit part rows rows (omega arith) ff aa ww)
-    (runs_fit part (length rows) (runs_of part (others rows rows)) few n (of_runs (λ row. row.far < 2 ^ 32) part rows ff) (of_runs (λ row. AreWords row.words) part rows aa) (of_runs (λ row. length row.words ≡ frame_words part) part rows ww))
+    (runs_fit part (length rows) (runs_of part (rows_not_shared rows rows)) few n (of_runs (λ row. row.far < 2 ^ 32) part rows ff) (of_runs (λ row. AreWords row.words) part rows aa) (of_runs (λ row. length row.words ≡ frame_words part) part rows ww))
 
 pub plan_fits : (part : PartData) (rows : List PlanRow) → part.idcode < 2 ^ 32 → frame_words part * (length rows + 1) < 2 ^ 27 → All (λ row. row.far < 2 ^ 32) rows → HaveWords rows → All (λ row. length row.words ≡ frame_words part) rows → ArePieces (plan_pieces part rows)
 plan_fits part rows i n f a w = partial_fits part (sections_of part rows) i (sections_are part rows n f a w)

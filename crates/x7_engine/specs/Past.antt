@@ -32,7 +32,7 @@ pub record Past : Type 0 where
   pub wrapped : Bool
   pub bytes : List ℕ
 
--- a past of these four
+-- the past with this part, these kept values, this end of the flash or none, and these bytes
 abbrev pub past_of : PartData → Kept → Bool → List ℕ → Past
 past_of part kept wrapped bytes = record { part = part; kept = kept; wrapped = wrapped; bytes = bytes }
 

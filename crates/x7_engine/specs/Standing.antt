@@ -1,6 +1,7 @@
 -- What a device stands for: all bytes that it took since its reset. Each stored value is
 -- that of the bytes (this project's choice).
 use Rattle.std.specs.Prelude.{◌≡◌, ℕ, ◌<◌, ◌≤◌, ◌==◌, ◌+◌, ◌++◌, ◌-◌, ◌^◌, min, Bool, true, false, if◌then◌else◌, take, List, [], ◌∷◌, length, slice_index, Option, None, Some, IsSome, replicate}
+use Rattle.x7_words.specs.Input.{taken_bytes_limit}
 use Rattle.x7_words.specs.Word.{AreBytes}
 use Rattle.x7_packets.specs.Cutter.{CutterState, CutterStandsFor}
 use Rattle.x7_packets.specs.declared.cutter.Cut.{Cut}
@@ -222,6 +223,10 @@ fed_of d = min d.fed (2 ^ 64 - 1)
 -- the number of bytes that a device was ever fed, after `count` bytes more
 abbrev pub fed_more : DeviceState → ℕ → ℕ
 fed_more d count = min (d.fed + count) (2 ^ 64 - 1)
+
+-- a device can be given `count` bytes more: with these it took `taken_bytes_limit` at most since its reset
+abbrev pub CanBeGiven : DeviceState → ℕ → Type 0
+CanBeGiven d count = d.taken + count ≤ taken_bytes_limit
 
 -- something stopped the device
 abbrev pub HasStopped : DeviceState → Type 0

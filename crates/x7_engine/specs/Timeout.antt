@@ -16,7 +16,8 @@ use Rattle.x7_engine.specs.Watching.{timer_held}
 abbrev pub before_byte : List ℕ → ℕ → History
 before_byte bytes i = history_of (take (i - 1) bytes)
 
--- the watchdog is on at byte i: TIMER turns it on, the attempt is no fallback, and with this byte the phase isn't 7
+-- the watchdog is on at byte i: TIMER turns it on with a value other than 0, the attempt is no
+-- fallback, and with this byte the phase isn't 7
 abbrev pub is_on_at : PartData → Kept → List ℕ → ℕ → Bool
 is_on_at part kept bytes i = is_on (is_fallback kept.kind) (timer_held kept (before_byte bytes i)) (has_ended part (before_byte bytes i) i)
 
@@ -38,7 +39,7 @@ bytes_on_after part kept bytes from (suc count) = bytes_on_after part kept bytes
 abbrev pub bytes_on_since_load : PartData → Kept → List ℕ → ℕ → ℕ
 bytes_on_since_load part kept bytes n = bytes_on_after part kept bytes (last_load (before_byte bytes n)) (n - last_load (before_byte bytes n))
 
--- the watchdog's time is out at byte n, where it fires: it is on there, and four times TIMER's value of the bytes after
--- the last load had it on
+-- the watchdog's time is out at byte n, and it fires: it is on there, and with n as many bytes after the last load had
+-- it on as four times TIMER's value
 abbrev pub times_out_at : PartData → Kept → List ℕ → ℕ → Bool
 times_out_at part kept bytes n = is_on_at part kept bytes n && bytes_on_since_load part kept bytes n == timer_value_of (timer_held kept (before_byte bytes n)) * 4

@@ -1,17 +1,17 @@
 -- What one turn of a device does over bytes of a piece (this project's choice).
-use Rattle.std.specs.Prelude.{◌≡◌, ℕ, ◌+◌, ◌-◌, ◌^◌, ◌<◌, ◌≤◌, Bool, false, IsTrue, List, length, None}
+use Rattle.std.specs.Prelude.{◌≡◌, ℕ, ◌+◌, ◌-◌, ◌<◌, ◌≤◌, Bool, false, IsTrue, List, length, None}
 use Rattle.x7_packets.specs.Cutter.{between, calls_left}
 use Rattle.x7_engine.specs.Past.{GivesNoWord, OfPast, TakesJust}
-use Rattle.x7_engine.specs.Standing.{DeviceState, NoWordDue, fed_more, fed_of}
+use Rattle.x7_engine.specs.Standing.{CanBeGiven, DeviceState, NoWordDue, fed_more, fed_of}
 use Rattle.x7_engine.specs.UntilStarted.{CommandsLast}
 
--- a device that can take the bytes of a piece from a place on: nothing stopped it, no word is due, and
--- the count of its bytes has room for them
+-- a device that can take the bytes of a piece from a place on: nothing stopped it, no word is due, and it can be given
+-- them
 pub record MayTake (d : DeviceState) (piece : List ℕ) (at : ℕ) : Type 0 where
   pub within : at ≤ length piece
   pub going : d.registers.stop ≡ None
   pub no_word_due : NoWordDue d
-  pub fits : d.taken + (length piece - at) ≤ 2 ^ 63
+  pub fits : CanBeGiven d (length piece - at)
 
 -- in a turn a device keeps its part, takes just the bytes `more` and gives no word, and none of the bytes but the last
 -- ends a write to CMD, a read or a word that is no header

@@ -1,15 +1,15 @@
 //! Startup and the watchdog of a device, which the bytes taken move.
-ghost use Rattle.std.specs.Prelude.{◌≡◌, ◌<◌, ◌≤◌, ◌+◌, ◌++◌, [], ℕ, Bool, List, true, None, IfSome, IsTrue, ◌↔◌, ◌==◌, nat_le};
+ghost use Rattle.std.specs.Prelude.{◌≡◌, ◌<◌, ◌≤◌, ◌+◌, ◌++◌, [], ℕ, true, None, IfSome, IsTrue, ◌↔◌, ◌==◌, nat_le};
 ghost use Rattle.x7_packets.specs.History.{History};
 ghost use Rattle.x7_part.specs.Part.{PartData};
 ghost use Rattle.x7_flow.specs.Standing.{word_to, written_to};
 ghost use Rattle.x7_startup.specs.Phases.{last_phase};
-ghost use Rattle.x7_startup.specs.Startup.{Call, StandsForCalls, ticks_of};
-ghost use Rattle.x7_startup.specs.Watchdog.{WatchCall, WatchesFor};
-ghost use Rattle.x7_engine.specs.Clock.{AreEndedAlike, HasEndedBy, TakesEntry, ClockTakes, ClockTakesInAny, newest_place, startup_call_by, watch_call_by};
+ghost use Rattle.x7_startup.specs.Startup.{AddsCalls, ticks_of};
+ghost use Rattle.x7_startup.specs.Watchdog.{OfCalls, WatchesFor};
+ghost use Rattle.x7_engine.specs.Clock.{AreEndedAlike, HasEndedBy, TakesEntry, ClockTakes, ClockTakesInAny, OfClock, OfStartup, startup_call_by, watch_call_by};
 ghost use Rattle.x7_engine.specs.Course.{course_at};
 ghost use Rattle.x7_engine.specs.Registers.{AreFactsOfWrite};
-ghost use Rattle.x7_engine.specs.Startup.{has_ended, phase_of, startup_calls, startup_progress};
+ghost use Rattle.x7_engine.specs.Startup.{has_ended, phase_of, startup_progress};
 ghost use Rattle.x7_engine.specs.Value.{lines_by};
 ghost use Rattle.x7_engine.specs.Watching.{watchdog_fires, first_firing};
 ghost use Rattle.x7_engine.specs.declared.kept.Kept.{Kept as KeptData};
@@ -22,8 +22,7 @@ use x7_startup::{LAST_PHASE, Lines, Startup, Watchdog};
 
 /// What a written word asks of startup.
 fn move_startup(startup: &mut Startup, executed: Option<u8>, takes_shutdown: bool, cor0: u32)
-    ensures { (lock_ticks match_ticks : ℕ) (calls : List Call) → StandsForCalls lock_ticks match_ticks startup.old calls
-        → StandsForCalls lock_ticks match_ticks startup.new (calls ++ startup_call_by executed takes_shutdown cor0) }
+    ensures { (lock_ticks match_ticks : ℕ) → AddsCalls lock_ticks match_ticks startup.old startup.new (startup_call_by executed takes_shutdown cor0) }
 {
     if is_command(Command::Start, executed) {
         startup.arm();
@@ -40,7 +39,7 @@ fn move_startup(startup: &mut Startup, executed: Option<u8>, takes_shutdown: boo
 
 /// What a written word asks of the watchdog.
 fn move_watchdog(watchdog: &mut Watchdog, executed: Option<u8>, reg: Reg, word: u32)
-    ensures { (off : Bool) (first : ℕ) (calls : List WatchCall) → WatchesFor off first watchdog.old calls → WatchesFor off first watchdog.new (calls ++ watch_call_by executed (word_to reg word)) }
+    ensures { OfCalls watchdog.old (λ off first calls. WatchesFor off first watchdog.new (calls ++ watch_call_by executed (word_to reg word))) }
 {
     if is_command(Command::Ltimer, executed) {
         watchdog.reload();
@@ -90,7 +89,8 @@ impl Clock {
         reg: Reg,
         word: u32,
     )
-        ensures { (place : ℕ) → TakesEntry (clock_in self.old) (clock_in self.new) (written_to reg word place) (λ h. AreFactsOfWrite executed takes_shutdown cor0 h (word_to reg word)) }
+        ensures { (place : ℕ) → TakesEntry (clock_in self.old) (clock_in self.new) (written_to reg word place)
+            (λ h. AreFactsOfWrite executed takes_shutdown cor0 h (word_to reg word)) }
     {
         move_startup(&mut self.startup, executed, takes_shutdown, cor0);
         move_watchdog(&mut self.watchdog, executed, reg, word);
@@ -100,7 +100,7 @@ impl Clock {
     pub(crate) fn phase(&self) -> u8
         ensures stored { result ≡ self.now.startup.phase }
         ensures most { result ≤ last_phase }
-        ensures value { (part : PartData) (h : History) (n : ℕ) → StandsForCalls part.lock part.matched self.now.startup (startup_calls h n) → result ≡ phase_of part h n }
+        ensures value { OfStartup self.now.startup (λ part h n. result ≡ phase_of part h n) }
     {
         self.startup.phase()
     }
@@ -108,29 +108,29 @@ impl Clock {
     /// Whether startup has ended.
     pub(crate) fn has_ended(&self) -> bool
         ensures stored { result ≡ (self.now.startup.phase == last_phase) }
-        ensures value { (part : PartData) (h : History) (n : ℕ) → StandsForCalls part.lock part.matched self.now.startup (startup_calls h n) → result ≡ has_ended part h n }
+        ensures value { OfStartup self.now.startup (λ part h n. result ≡ has_ended part h n) }
     {
         self.phase() == LAST_PHASE
     }
 
     /// Whether `ticks` ticks have passed since startup began.
     pub(crate) fn have_passed(&self, ticks: u16) -> bool
-        ensures { (part : PartData) (h : History) (n : ℕ) → StandsForCalls part.lock part.matched self.now.startup (startup_calls h n) → result ≡ nat_le ticks (ticks_of (startup_progress h n)) }
+        ensures { OfStartup self.now.startup (λ part h n. result ≡ nat_le ticks (ticks_of (startup_progress h n))) }
     {
         ticks <= self.startup.ticks()
     }
 
     /// The lines DONE, GTS and GWE.
     pub(crate) fn lines(&self) -> Lines
-        ensures { (part : PartData) (h : History) (n : ℕ) → StandsForCalls part.lock part.matched self.now.startup (startup_calls h n) → result ≡ lines_by part (startup_progress h n) }
+        ensures { OfStartup self.now.startup (λ part h n. result ≡ lines_by part (startup_progress h n)) }
     {
         self.startup.lines()
     }
 
     /// Takes a byte: whether the watchdog fires at it.
     fn byte(&mut self, part: &Part) -> bool
-        ensures stands { (kept : KeptData) (h : History) (n : ℕ) → newest_place h ≤ n → IsClock part.now kept (clock_in self.old) h n → IsClock part.now kept (clock_in self.new) h (n + 1) }
-        ensures fires { (kept : KeptData) (h : History) (n : ℕ) → newest_place h ≤ n → IsClock part.now kept (clock_in self.old) h n → result ≡ watchdog_fires part.now kept h (n + 1) }
+        ensures stands { OfClock part.now (clock_in self.old) (λ kept h n. IsClock part.now kept (clock_in self.new) h (n + 1)) }
+        ensures fires { OfClock part.now (clock_in self.old) (λ kept h n. result ≡ watchdog_fires part.now kept h (n + 1)) }
     {
         self.startup.byte(part.lock(), part.matched());
         let eos = self.has_ended();
@@ -161,7 +161,9 @@ impl Clock {
         ensures takes { (kept : KeptData) (h : History) (n : ℕ) → HasEndedBy (course_at part.now kept h n) (clock_in self.old) taken
             → ClockTakes (course_at part.now kept h n) (clock_in self.new) count result }
     {
-        match self.bytes_alike(part, count - taken, true) {
+        // Startup has ended at each of the rest.
+        let eos = true;
+        match self.bytes_alike(part, count - taken, eos) {
             Some(k) => Some(taken + k),
             None => None,
         }
@@ -185,7 +187,7 @@ impl Clock {
 
     /// Whether startup would have ended after `count` bytes more.
     fn ends_within(&self, part: &Part, count: usize) -> bool
-        ensures { (kept : KeptData) (h : History) (n : ℕ) → newest_place h ≤ n → IsClock part.now kept (clock_in self.now) h n → result ≡ has_ended part.now h (n + count) }
+        ensures { OfClock part.now (clock_in self.now) (λ kept h n. result ≡ has_ended part.now h (n + count)) }
     {
         let mut then = *self;
         then.startup
@@ -221,7 +223,7 @@ impl Clock {
     #[inline(always)]
     pub(crate) fn before_firing(&self, part: &Part, count: usize) -> usize
         ensures within { result ≤ count }
-        ensures none_fires { (kept : KeptData) (h : History) (n : ℕ) → newest_place h ≤ n → IsClock part.now kept (clock_in self.now) h n → first_firing part.now kept h n result ≡ None }
+        ensures none_fires { OfClock part.now (clock_in self.now) (λ kept h n. first_firing part.now kept h n result ≡ None) }
     {
         let mut then = *self;
         match then.bytes(part, count) {

@@ -32,7 +32,8 @@ impl Controls {
 
     /// Stores the bits of a written word that MASK has, where the register is CTL0 or CTL1.
     pub(crate) fn write(&mut self, reg: Reg, word: u32, mask: u32)
-        ensures { (h : History) (place : ℕ) → mask ≡ mask_held h → AreControls (controls_in self.old) h → AreControls (controls_in self.new) (entry (Write (number_of reg) word) place ∷ h) }
+        ensures { (h : History) (place : ℕ) → mask ≡ mask_held h → AreControls (controls_in self.old) h
+            → AreControls (controls_in self.new) (entry (Write (number_of reg) word) place ∷ h) }
     {
         match reg {
             Reg::Ctl0 => self.ctl0 = masked_word(self.ctl0, mask, word),

@@ -1,5 +1,5 @@
 //! A device.
-ghost use Rattle.std.specs.Prelude.{◌≡◌, ◌≤◌, ◌<◌, ◌+◌, ◌-◌, ◌^◌, ◌++◌, [], false, true, length, IfOk, IsSome, IsTrue, is_some, ◌↔◌, ◌==◌, Option, None, Some};
+ghost use Rattle.std.specs.Prelude.{◌≡◌, ◌≤◌, ◌<◌, ◌+◌, ◌-◌, ◌++◌, [], false, true, length, IfOk, IsSome, IsTrue, is_some, ◌↔◌, ◌==◌, Option, None, Some};
 ghost use Rattle.x7_packets.specs.Cutter.{between, IsNeed};
 ghost use Rattle.x7_packets.specs.History.{history_of};
 ghost use Rattle.x7_memory.specs.FrameMap.{AreSame};
@@ -9,7 +9,7 @@ ghost use Rattle.x7_engine.specs.UntilRead.{RoomBefore};
 ghost use Rattle.x7_engine.specs.Kept.{on_the_bench};
 ghost use Rattle.x7_engine.specs.Readout.{DeviceGaveWords};
 ghost use Rattle.x7_engine.specs.ReadBuffer.{HoldsWithinMost, IsFull};
-ghost use Rattle.x7_engine.specs.Standing.{DeviceStandsFor, MayWrap, NoWordDue, due_count, answer_at_stop, fed_more, fed_of, frames_due, taken_in, with_wrap};
+ghost use Rattle.x7_engine.specs.Standing.{CanBeGiven, DeviceStandsFor, MayWrap, NoWordDue, due_count, answer_at_stop, fed_more, fed_of, frames_due, taken_in, with_wrap};
 ghost use Rattle.x7_engine.specs.State.{attempt_in, end_by, kept_after, why_of, memory_in, state_owing};
 ghost use Rattle.x7_engine.specs.Stop.{stop_fault};
 ghost use Rattle.x7_engine.specs.Turns.{MayTake, TookTurn, Turned};
@@ -39,6 +39,12 @@ use x7_packets::{Cut, Cutter};
 use x7_part::Part;
 use x7_regs::{Attempt, Cause, Kind, Reg, boot_word};
 use x7_words::NoMemory;
+
+/// How many bytes a word of a stream takes.
+pub(crate) const WORD_BYTES: usize = 4;
+
+/// How many bytes the write of one word takes: those of its header and of the word.
+const WRITE_BYTES: usize = 8;
 
 /// A device of a part: its state is a function of all bytes since its reset, and of what the reset kept.
 #[derive(Drop)]
@@ -228,7 +234,7 @@ impl Device {
         ensures cutter { self.new.cutter ≡ self.old.cutter }
         ensures same_history { OfPast self.old (λ p. history_of (p.bytes ++ between piece.now at.old at.new) ≡ history_of p.bytes) }
     {
-        let count = 4 * self.cutter.nop_count(&piece[*at..]);
+        let count = WORD_BYTES * self.cutter.nop_count(&piece[*at..]);
         let left = self.registers.take_bytes(&self.part, count);
         *at += count - left;
         self.taken += (count - left) as u64;
@@ -269,9 +275,9 @@ impl Device {
         };
         self.registers
             .write_to(&self.part, Target::numbered(register), word);
-        *at += 8;
-        self.taken += 8;
-        self.fed = self.fed.saturating_add(8);
+        *at += WRITE_BYTES;
+        self.taken += WRITE_BYTES as u64;
+        self.fed = self.fed.saturating_add(WRITE_BYTES as u64);
         true
     }
 
@@ -305,7 +311,7 @@ impl Device {
     /// Takes the bytes of a piece, up to one that stops the device or to the first read whose words have no room. After
     /// a stop the device takes nothing.
     pub fn feed(&mut self, piece: &[u8], read: &mut ReadBuf) -> Fed
-        requires { self.old.taken + length piece.now ≤ 2 ^ 63 }
+        requires { CanBeGiven self.old (length piece.now) }
         ensures within { taken_in (length piece.now) result ≤ length piece.now }
         ensures part { self.new.part ≡ self.old.part }
         ensures taken { self.new.taken ≡ self.old.taken + taken_in (length piece.now) result }
@@ -316,7 +322,6 @@ impl Device {
         ensures within_most { HoldsWithinMost read.new.most read.new.words }
         ensures room { OfPast self.old (λ p. RoomBefore p piece.now (taken_in (length piece.now) result) (reads_given_at self.old p) read.old) }
         ensures stopped { OfPast self.old (λ p. IsSome (stop_at p) → (self.new ≡ self.old) × (read.new ≡ read.old) × (taken_in (length piece.now) result ≡ 0)) }
-        ensures stays { (why : StopCause) → self.old.registers.stop ≡ Some why → (self.new ≡ self.old) × (read.new ≡ read.old) × (result ≡ answer_at_stop why 0) }
     {
         read.holds_within_most();
         let mut at = 0;
@@ -335,7 +340,7 @@ impl Device {
 
     /// The frames: those of the part, as the bytes taken have left them.
     pub fn memory(&self) -> &Memory
-        ensures value { result.now ≡ self.now.registers.frames.memory }
+        ensures stored { result.now ≡ self.now.registers.frames.memory }
         ensures frames { AreFramesOf self.now.part result.now }
         ensures shows { OfPast self.now (λ p. AreSame (frame_at p.part result.now) (memory_in p.part p.kept p.bytes)) }
     {

@@ -30,8 +30,10 @@ ghost use Rattle.x7_engine.specs.declared.kept.Kept.{Kept};
 /// The stop of bytes is the first one: it comes at one of them, fewer bytes have none, and with further bytes the stop,
 /// the state, the memory and the words read out stay.
 pub fn stops_are_final()
-    ensures place { (part : PartData) (kept : Kept) (bytes : List ℕ) (s : Stopped) → AreBytes bytes → stop_in part kept bytes ≡ Some s → (0 < s.place) × (s.place ≤ length bytes) }
-    ensures before { (p : Past) (more : List ℕ) (s : Stopped) → AreBytes (p.bytes ++ more) → stop_at (later p more) ≡ Some s → length p.bytes < s.place → stop_at p ≡ None }
+    ensures place { (part : PartData) (kept : Kept) (bytes : List ℕ) (s : Stopped) → AreBytes bytes → stop_in part kept bytes ≡ Some s
+        → (0 < s.place) × (s.place ≤ length bytes) }
+    ensures before { (p : Past) (more : List ℕ) (s : Stopped) → AreBytes (p.bytes ++ more) → stop_at (later p more) ≡ Some s
+        → length p.bytes < s.place → stop_at p ≡ None }
     ensures stop { (p : Past) (more : List ℕ) (s : Stopped) → HasStoppedBefore p more s → stop_at (later p more) ≡ Some s }
     ensures state { (p : Past) (more : List ℕ) (s : Stopped) → HasStoppedBefore p more s → state_at (later p more) ≡ state_at p }
     ensures reads { (p : Past) (more : List ℕ) (s : Stopped) → HasStoppedBefore p more s → reads_at (later p more) ≡ reads_at p }
@@ -72,10 +74,11 @@ pub fn stops_are_first()
         → why_at_byte part kept bytes n ≡ None }
 {}
 
-/// The watchdog fires at a byte that has it on, where four times TIMER's value of
-/// the bytes after the last load had it on.
+/// The watchdog fires at byte n where it is on there, and with n as many bytes after the last load had it on as four
+/// times TIMER's value.
 pub fn watchdog_fires()
-    ensures { (part : PartData) (kept : Kept) (bytes : List ℕ) (n : ℕ) → AreBytes bytes → 0 < n → n ≤ length bytes → watchdog_fires part kept (before_byte bytes n) n ≡ times_out_at part kept bytes n }
+    ensures { (part : PartData) (kept : Kept) (bytes : List ℕ) (n : ℕ) → AreBytes bytes → 0 < n → n ≤ length bytes
+        → watchdog_fires part kept (before_byte bytes n) n ≡ times_out_at part kept bytes n }
 {}
 
 /// Startup has begun only where START was executed after the part's IDCODE was written, and DESYNC after it. Each check
@@ -90,7 +93,8 @@ pub fn checks_before_startup()
 
 /// A device at rest stays so over bytes without a sync word, which enter no access; and a new one is at rest.
 pub fn rest_lasts()
-    ensures stays { (part : PartData) (kept : Kept) (bytes more : List ℕ) → AreBytes (bytes ++ more) → LastGapGoesOn bytes more → AtRest part kept bytes → AtRest part kept (bytes ++ more) }
+    ensures stays { (part : PartData) (kept : Kept) (bytes more : List ℕ) → AreBytes (bytes ++ more) → LastGapGoesOn bytes more
+        → AtRest part kept bytes → AtRest part kept (bytes ++ more) }
     ensures same_history { (bytes more : List ℕ) → AreBytes (bytes ++ more) → LastGapGoesOn bytes more → history_of (bytes ++ more) ≡ history_of bytes }
     ensures new_device { (part : PartData) → AtRest part on_the_bench [] }
 {}
@@ -103,13 +107,15 @@ pub fn reads_are_given_or_due()
 
 /// The words that further bytes read out come after those read out so far.
 pub fn reads_grow()
-    ensures { (part : PartData) (kept : Kept) (bytes more : List ℕ) → AreBytes (bytes ++ more) → (rest : List ℕ) × (reads_of part kept (bytes ++ more) ≡ reads_of part kept bytes ++ rest) }
+    ensures { (part : PartData) (kept : Kept) (bytes more : List ℕ) → AreBytes (bytes ++ more)
+        → (rest : List ℕ) × (reads_of part kept (bytes ++ more) ≡ reads_of part kept bytes ++ rest) }
 {}
 
 /// The end of the flash shows in BOOTSTS alone: where no fault that a fallback follows
 /// ended the attempt of a boot, by the wrap bit.
 pub fn wraps_show_in_bootsts()
-    ensures alone { (part : PartData) (kept : Kept) (bytes : List ℕ) → state_of part kept true bytes ≡ record (state_of part kept false bytes) { bootsts = (state_of part kept true bytes).bootsts } }
+    ensures alone { (part : PartData) (kept : Kept) (bytes : List ℕ)
+        → state_of part kept true bytes ≡ record (state_of part kept false bytes) { bootsts = (state_of part kept true bytes).bootsts } }
     ensures bit { (part : PartData) (kept : Kept) (bytes : List ℕ) → IsBootAttempt kept → cause_in part kept bytes ≡ None
         → bootsts_in part kept true bytes ≡ bootsts_in part kept false bytes + cause_bits_of (Some Wrap) }
 {}
@@ -119,7 +125,8 @@ pub fn wraps_show_in_bootsts()
 pub fn alike_bytes_do_alike()
     ensures stop { (part : PartData) (kept : Kept) (one other : List ℕ) → AreAlike one other → stop_in part kept one ≡ stop_in part kept other }
     ensures memory { (part : PartData) (kept : Kept) (one other : List ℕ) → AreAlike one other → memory_in part kept one ≡ memory_in part kept other }
-    ensures state { (part : PartData) (kept : Kept) (one other : List ℕ) → AreAlike one other → (wrapped : Bool) → state_of part kept wrapped one ≡ state_of part kept wrapped other }
+    ensures state { (part : PartData) (kept : Kept) (one other : List ℕ) → AreAlike one other → (wrapped : Bool)
+        → state_of part kept wrapped one ≡ state_of part kept wrapped other }
 {}
 
 /// A fallback does the same whatever its device kept over the reset: it has no watchdog, and kept
@@ -134,6 +141,8 @@ pub fn fallbacks_do_alike()
 /// A fallback waits for the sync word without end: bytes without it, however many,
 /// stop nothing, and startup doesn't begin.
 pub fn fallbacks_wait_for_the_sync_word()
-    ensures stop { (part : PartData) (kept : Kept) (bytes : List ℕ) → AreBytes bytes → is_fallback kept.kind ≡ true → HasNoSync bytes → stop_in part kept bytes ≡ None }
-    ensures phase { (part : PartData) (kept : Kept) (wrapped : Bool) (bytes : List ℕ) → AreBytes bytes → is_fallback kept.kind ≡ true → HasNoSync bytes → (state_of part kept wrapped bytes).phase ≡ 0 }
+    ensures stop { (part : PartData) (kept : Kept) (bytes : List ℕ) → AreBytes bytes → is_fallback kept.kind ≡ true → HasNoSync bytes
+        → stop_in part kept bytes ≡ None }
+    ensures phase { (part : PartData) (kept : Kept) (wrapped : Bool) (bytes : List ℕ) → AreBytes bytes → is_fallback kept.kind ≡ true → HasNoSync bytes
+        → (state_of part kept wrapped bytes).phase ≡ 0 }
 {}

@@ -115,7 +115,8 @@ impl Progress {
 
     /// Takes a word written to a register in which it stays, and is folded into the check.
     pub(crate) fn pass(&mut self, plain: PlainNumber, word: u32)
-        ensures { (idcode : ℕ) (h : History) (place : ℕ) → IsProgress idcode (progress_in self.old) h → IsProgress idcode (progress_in self.new) (entry (Write plain.register word) place ∷ h) }
+        ensures { (idcode : ℕ) (h : History) (place : ℕ) → IsProgress idcode (progress_in self.old) h
+            → IsProgress idcode (progress_in self.new) (entry (Write plain.register word) place ∷ h) }
     {
         self.check = fold(self.check, plain.register, word);
     }
@@ -143,7 +144,8 @@ impl Progress {
         requires register { register < reg_number_count }
         requires controls_nothing { is_controlling register ≡ false }
         requires whole { AreWholeWords bytes.now }
-        ensures { (idcode : ℕ) (h : History) (n : ℕ) → IsProgress idcode (progress_in self.old) h → IsProgress idcode (progress_in self.new) (words_entered register bytes.now n h) }
+        ensures { (idcode : ℕ) (h : History) (n : ℕ) → IsProgress idcode (progress_in self.old) h
+            → IsProgress idcode (progress_in self.new) (words_entered register bytes.now n h) }
     {
         self.check = fold_slice(self.check, register, bytes);
     }

@@ -3,7 +3,7 @@ ghost use Rattle.std.specs.Prelude.{◌≡◌, ◌≤◌, ◌<◌, ◌+◌, ◌*
 ghost use Rattle.std.specs.Option.{option_or};
 ghost use Rattle.x7_words.specs.Word.{AreWholeWords};
 ghost use Rattle.x7_packets.specs.Cutter.{IsRun};
-ghost use Rattle.x7_packets.specs.History.{command_held, entered, History};
+ghost use Rattle.x7_packets.specs.History.{command_held, entered};
 ghost use Rattle.x7_part.specs.Part.{PartData};
 ghost use Rattle.x7_regs.specs.Register.{number_of};
 ghost use Rattle.x7_flow.specs.Settings.{AreSettingsAfter};
@@ -14,13 +14,13 @@ ghost use Rattle.x7_engine.specs.WordCalls.{MayTakeWords, LeavesBytes, LeavesDue
 ghost use Rattle.x7_engine.specs.Standing.{counted_in, due_count};
 ghost use Rattle.x7_engine.specs.State.{last_counted};
 ghost use Rattle.x7_engine.specs.Stop.{why_by_access, why_by_frames, stop_of_refused};
-ghost use Rattle.x7_engine.specs.declared.kept.Kept.{Kept as KeptData};
 ghost use Rattle.x7_engine.specs.Taken.{TookFirst, TookWords, TookWrite};
 ghost use Rattle.x7_engine.specs.Targets.{target_number};
 ghost use Rattle.x7_engine.specs.Entering.{AreRead, change_of, Enters, EntersAt, EntersIf, OfHistory, ReadsIf, RunEnters, RunReads, step_entered, up_to_stop, word_entered};
 
 use crate::clock::Clock;
 use crate::controls::{Controls, masked_word};
+use crate::device::WORD_BYTES;
 use crate::due::Due;
 use crate::fault::Fault;
 use crate::kept::{Kept, is_fallback};
@@ -150,15 +150,15 @@ impl Registers {
 
     /// The command that CMD holds, five bits.
     pub(crate) fn command(&self) -> u8
-        ensures { (part : PartData) (kept : KeptData) (h : History) (n : ℕ) → RegistersStandFor part kept (registers_in self.now) h n → result ≡ command_held h }
+        ensures { (part : PartData) → OfHistory part (registers_in self.now) (λ kept h n. result ≡ command_held h) }
     {
         command_code_of(self.words.held(Reg::Cmd)) as u8
     }
 
     /// What decides whether an access concerns frames.
     pub(crate) fn settings(&self) -> FrameSettings
-        ensures after { (part : PartData) (kept : KeptData) (h : History) (n : ℕ) → RegistersStandFor part kept (registers_in self.now) h n → AreSettingsAfter part.idcode result h }
-        ensures held { (part : PartData) (kept : KeptData) (h : History) (n : ℕ) → RegistersStandFor part kept (registers_in self.now) h n → result.command_code ≡ command_held h }
+        ensures after { (part : PartData) → OfHistory part (registers_in self.now) (λ kept h n. AreSettingsAfter part.idcode result h) }
+        ensures held { (part : PartData) → OfHistory part (registers_in self.now) (λ kept h n. result.command_code ≡ command_held h) }
     {
         FrameSettings {
             has_idcode: self.progress.has_idcode,
@@ -175,7 +175,8 @@ impl Registers {
         word: u32,
         executed: Option<u8>,
     ) -> Option<StopCause>
-        ensures value { OfHistory part.now (registers_in self.now) (λ kept h n. executed ≡ executed_after h reg word → result ≡ why_by_access part.now kept h (word_to reg word)) }
+        ensures value { OfHistory part.now (registers_in self.now) (λ kept h n. executed ≡ executed_after h reg word
+            → result ≡ why_by_access part.now kept h (word_to reg word)) }
         ensures counts { (n : ℕ) → counted_in result n ≡ n }
     {
         let idcode = part.idcode();
@@ -294,7 +295,7 @@ impl Registers {
     {
         let left = self.take_bytes(part, bytes.len());
         let taken = bytes.len() - left;
-        let whole = counted_in(self.stop, taken) / 4 * 4;
+        let whole = counted_in(self.stop, taken) / WORD_BYTES * WORD_BYTES;
         let prefix = &bytes[..whole];
         self.progress.pass_all(plain.register, prefix);
         self.words.pass_all(plain.register, prefix);
@@ -310,11 +311,11 @@ impl Registers {
         ensures { TookFirst (change_of part.now self.old self.new) (number_of reg) bytes.now result }
     {
         let settings = self.settings();
-        let before = self.clock.before_firing(part, bytes.len()) / 4 * 4;
+        let before = self.clock.before_firing(part, bytes.len()) / WORD_BYTES * WORD_BYTES;
         let (count, refused) = self
             .frames
             .write_bytes(settings, reg, &bytes[..before], part);
-        let taken = count_taken(count, refused) * 4;
+        let taken = count_taken(count, refused) * WORD_BYTES;
         let prefix = &bytes[..taken];
         // No firing: the bytes before one are all that was looked at.
         let _ = self.clock.bytes(part, taken);
@@ -343,8 +344,8 @@ impl Registers {
         let (words, _) = bytes.as_chunks::<4>();
         let mut taken = 0;
         for word in words {
-            let left = self.word(part, Target::Effective(reg), word_of(*word), 4);
-            taken += 4 - left;
+            let left = self.word(part, Target::Effective(reg), word_of(*word), WORD_BYTES);
+            taken += WORD_BYTES - left;
             if self.stop.is_some() {
                 return taken;
             }

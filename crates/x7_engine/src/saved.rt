@@ -38,7 +38,8 @@ pub(crate) struct SavedRegisters {
 impl SavedRegisters {
     /// The stored values of a device on the bench that took nothing.
     pub(crate) fn new() -> SavedRegisters
-        ensures stands { (part : PartData) (f : FramesState) → FramesStandFor part f [] 0 → RegistersStandFor part on_the_bench (registers_with (saved_registers_in result) f) [] 0 }
+        ensures stands { (part : PartData) (f : FramesState) → FramesStandFor part f [] 0
+            → RegistersStandFor part on_the_bench (registers_with (saved_registers_in result) f) [] 0 }
         ensures no_word_due { result.due ≡ Due.Nothing }
         ensures going { result.stop ≡ None }
     {
@@ -78,7 +79,8 @@ impl Registers {
     pub(crate) fn restore(&mut self, part: &Part, values: &SavedRegisters, frames: &Saved)
         requires frames { FramesFit part.now self.old.frames }
         requires saved { IsSavedOf part.now frames.now }
-        ensures back { (old : RegistersState) → saved_registers_in values.now ≡ without_frames old → FramesBack part.now frames.now self.old.frames old.frames → registers_in self.new ≡ old }
+        ensures back { (old : RegistersState) → saved_registers_in values.now ≡ without_frames old
+            → FramesBack part.now frames.now self.old.frames old.frames → registers_in self.new ≡ old }
         ensures frames { FramesFit part.now self.new.frames }
     {
         self.words = values.words;

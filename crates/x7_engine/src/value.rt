@@ -1,6 +1,5 @@
 //! The values of the registers as they are read (UG470, configuration registers).
-ghost use Rattle.std.specs.Prelude.{◌≡◌, ◌&&◌, ℕ, None, false};
-ghost use Rattle.x7_packets.specs.History.{History};
+ghost use Rattle.std.specs.Prelude.{◌≡◌, ◌&&◌, None, false};
 ghost use Rattle.x7_part.specs.Part.{PartData};
 ghost use Rattle.x7_regs.specs.Status.{status_of};
 ghost use Rattle.x7_flow.specs.HistoryFlow.{far_in, flow_of};
@@ -12,7 +11,6 @@ ghost use Rattle.x7_engine.specs.Standing.{due_count, frames_due};
 ghost use Rattle.x7_engine.specs.Startup.{startup_progress};
 ghost use Rattle.x7_engine.specs.Stop.{stop_fault};
 ghost use Rattle.x7_engine.specs.Value.{attempt_of, failure_of, check_shown, is_crc_fault, is_id_fault, read_value, stat_parts, value_owing};
-ghost use Rattle.x7_engine.specs.declared.kept.Kept.{Kept};
 
 use crate::fault::Fault;
 use crate::registers::Registers;
@@ -65,12 +63,12 @@ fn ignores_iprog(kind: Kind, wrote_iprog: bool) -> bool
 }
 
 impl Registers {
-    ghost use Rattle.x7_engine.specs.Standing.{RegistersStandFor, registers_in};
+    ghost use Rattle.x7_engine.specs.Standing.{registers_in};
     ghost use Rattle.x7_engine.specs.Entering.{OfHistory};
 
     /// The running check; at a fault `Crc` the one that was wanted.
     fn check_shown(&self) -> u32
-        ensures { (part : PartData) (kept : Kept) (h : History) (n : ℕ) → RegistersStandFor part kept (registers_in self.now) h n → result ≡ check_shown (stop_fault self.now.stop) h }
+        ensures { (part : PartData) → OfHistory part (registers_in self.now) (λ kept h n. result ≡ check_shown (stop_fault self.now.stop) h) }
     {
         match self.stop {
             Some(StopCause::Fault(Fault::Crc { want, .. })) => want,
@@ -80,7 +78,8 @@ impl Registers {
 
     /// The word of STAT.
     fn stat(&self, part: &Part) -> u32
-        ensures { OfHistory part.now (registers_in self.now) (λ kept h n. result ≡ status_of (stat_parts part.now (stop_fault self.now.stop) (startup_progress h n) (has_ghigh h))) }
+        ensures { OfHistory part.now (registers_in self.now)
+            (λ kept h n. result ≡ status_of (stat_parts part.now (stop_fault self.now.stop) (startup_progress h n) (has_ghigh h))) }
     {
         let crc_error = is_crc_fault(self.stop);
         let lines = self.clock.lines();
@@ -103,7 +102,7 @@ impl Registers {
 
     /// The present boot attempt, as long as the flash goes on.
     pub(crate) fn attempt(&self) -> Attempt
-        ensures { (part : PartData) (kept : Kept) (h : History) (n : ℕ) → RegistersStandFor part kept (registers_in self.now) h n → result ≡ attempt_of kept false (stop_fault self.now.stop) h }
+        ensures { (part : PartData) → OfHistory part (registers_in self.now) (λ kept h n. result ≡ attempt_of kept false (stop_fault self.now.stop) h) }
     {
         Attempt {
             kind: self.kind,
@@ -122,7 +121,8 @@ impl Registers {
     /// The value of a register as it is read, and 0 for one that is only written and for frame data.
     #[rattlefmt::skip]
     pub(crate) fn value(&self, part: &Part, reg: Reg) -> u32
-        ensures { OfHistory part.now (registers_in self.now) (λ kept h n. result ≡ value_owing (course_at part.now kept h n) (stop_fault self.now.stop) (frames_due self.now.due) reg) }
+        ensures { OfHistory part.now (registers_in self.now)
+            (λ kept h n. result ≡ value_owing (course_at part.now kept h n) (stop_fault self.now.stop) (frames_due self.now.due) reg) }
     {
         match reg {
             Reg::Crc     => self.check_shown(),
@@ -150,7 +150,8 @@ impl Registers {
 
     /// What a read of a register number gives: its value, and 0 for a number without a register.
     pub(crate) fn read_value(&self, part: &Part, register: u8) -> u32
-        ensures { self.now.stop ≡ None → due_count self.now.due ≡ 0 → OfHistory part.now (registers_in self.now) (λ kept h n. result ≡ read_value (course_at part.now kept h n) register) }
+        ensures { self.now.stop ≡ None → due_count self.now.due ≡ 0 → OfHistory part.now (registers_in self.now)
+            (λ kept h n. result ≡ read_value (course_at part.now kept h n) register) }
     {
         match reg_of(register) {
             Some(reg) => self.value(part, reg),

@@ -50,7 +50,8 @@ impl Words {
     /// Stores a word written to a register.
     pub(crate) fn write(&mut self, register: u8, word: u32)
         requires { register < reg_number_count }
-        ensures { (kept : KeptData) (h : History) (place : ℕ) → AreLastWords kept self.old.last h → AreLastWords kept self.new.last (entry (Write register word) place ∷ h) }
+        ensures { (kept : KeptData) (h : History) (place : ℕ) → AreLastWords kept self.old.last h
+            → AreLastWords kept self.new.last (entry (Write register word) place ∷ h) }
     {
         self.last[register as usize] = word;
     }
@@ -66,7 +67,8 @@ impl Words {
     pub(crate) fn pass_all(&mut self, register: u8, bytes: &[u8])
         requires register { register < reg_number_count }
         requires whole { AreWholeWords bytes.now }
-        ensures { (kept : KeptData) (h : History) (n : ℕ) → AreLastWords kept self.old.last h → AreLastWords kept self.new.last (entered_all n (payload_steps register (words_of_bytes bytes.now)) h) }
+        ensures { (kept : KeptData) (h : History) (n : ℕ) → AreLastWords kept self.old.last h
+            → AreLastWords kept self.new.last (entered_all n (payload_steps register (words_of_bytes bytes.now)) h) }
     {
         let (words, _) = bytes.as_chunks::<4>();
         match words.last() {

@@ -1,12 +1,12 @@
 -- What a tap and its device stand for: a port after some clocks (this project's choice).
-use Rattle.std.specs.Prelude.{◌≡◌, ◌⊎◌, false, ℕ, ◌+◌, ◌*◌, ◌^◌, ◌<◌, ◌≤◌, List, [], ◌∷◌, ◌++◌, length}
+use Rattle.std.specs.Prelude.{◌≡◌, ◌⊎◌, false, ℕ, ◌+◌, ◌*◌, ◌<◌, ◌≤◌, List, [], ◌∷◌, ◌++◌, length}
 use Rattle.std.specs.Option.{IsSome}
 use Rattle.x7_words.specs.Word.{AreBytes}
 use Rattle.x7_part.specs.Part.{PartData}
 use Rattle.x7_engine.specs.declared.fed.Fed.{Fed}
 use Rattle.x7_engine.specs.declared.fed.Fed.TheVariants as fed
 use Rattle.x7_engine.specs.Kept.{on_the_bench}
-use Rattle.x7_engine.specs.Standing.{DeviceState, DeviceStandsFor, NoWordDue, reads_given}
+use Rattle.x7_engine.specs.Standing.{CanBeGiven, DeviceState, DeviceStandsFor, NoWordDue, reads_given}
 use Rattle.x7_engine.specs.State.{stop_in}
 use Rattle.x7_jtag.specs.declared.instruction.Instruction.{Instruction}
 use Rattle.x7_jtag.specs.declared.instruction.Instruction.TheVariants as instruction
@@ -54,10 +54,6 @@ abbrev pub words_taken : PartData → DeviceState → List ℕ → List ℕ
 words_taken part d bytes = reads_given part on_the_bench d bytes
 
 -- ---- how many bytes
-
--- a device can be given this many bytes more: it counts up to 2^63
-abbrev pub CanBeGiven : DeviceState → ℕ → Type 0
-CanBeGiven d count = d.taken + count ≤ 2 ^ 63
 
 -- a byte can be offered: the device can be given it, and the most that are held before it
 abbrev pub CanBeOffered : DeviceState → Type 0

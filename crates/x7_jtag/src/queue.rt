@@ -2,10 +2,10 @@
 ghost use Rattle.std.specs.Prelude.{◌≡◌, ◌≤◌, ◌<◌, ◌+◌, ◌-◌, ◌*◌, ◌/◌, ◌%◌, ◌^◌, ◌==◌, ◌&&◌, nat_lt, [], false, length, take};
 ghost use Rattle.std.specs.List.{fold};
 ghost use Rattle.x7_part.specs.Part.{PartData};
-ghost use Rattle.x7_engine.specs.Standing.{NoWordDue};
+ghost use Rattle.x7_engine.specs.Standing.{CanBeGiven, NoWordDue};
 ghost use Rattle.x7_jtag.specs.Port.{words_read_out};
 ghost use Rattle.x7_jtag.specs.Queue.{Queue as QueueData, bit_shown, dropped, empty_queue, in_turn, most_bytes_held, offered, give_held as give_held_by, shifted_out, with_given, queue_with_room};
-ghost use Rattle.x7_jtag.specs.Tap.{AreGivenAtMost, CanAllBeOffered, CanBeGiven, CanBeOffered, QueueBecomes, QueueHolds, QueueStandsFor, given_by, with_word_taken};
+ghost use Rattle.x7_jtag.specs.Tap.{AreGivenAtMost, CanAllBeOffered, CanBeOffered, QueueBecomes, QueueHolds, QueueStandsFor, given_by, with_word_taken};
 
 use arrayvec::ArrayVec;
 use std::marker::Model;

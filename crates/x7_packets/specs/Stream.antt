@@ -1,9 +1,9 @@
 -- Packets over an input: what a reader of packets stands for, and what each run
 -- that it lends says (this project's choice).
-use Rattle.std.specs.Prelude.{◌≡◌, ℕ, ◌+◌, ◌^◌, ◌<◌, ◌≤◌, ◌↔◌, List, [], ◌++◌, length, take, drop, Bool, true, false, if◌then◌else◌, Option, Result, Ok, Err, OnErr, OnOk, ◌⊎◌}
+use Rattle.std.specs.Prelude.{◌≡◌, ℕ, ◌+◌, ◌<◌, ◌≤◌, ◌↔◌, List, [], ◌++◌, length, take, drop, Bool, true, false, if◌then◌else◌, Option, Result, Ok, Err, OnErr, OnOk, ◌⊎◌}
 use Rattle.std.specs.Borrow.{Bor, Fml, MutBor}
 use Rattle.std.specs.Io.BufRead.{Rests}
-use Rattle.x7_words.specs.Input.{AtEnd, InputsFail, InputsState, InputsStay, preceded}
+use Rattle.x7_words.specs.Input.{AtEnd, InputsFail, InputsState, InputsStay, preceded, taken_bytes_limit}
 use Rattle.x7_words.specs.declared.input.Failed.{Failed}
 use Rattle.x7_packets.specs.Reading.{Place, Searching, Synced, Session, IsReading, tail_of}
 use Rattle.x7_packets.specs.Cutter.{CutterStandsFor, Cuts, IsLent, IsNeed, SkipsAll}
@@ -132,7 +132,7 @@ pub record GivesRun (old new : PacketsState) (rest rest_now : Option (List ℕ))
 pub record MayCall (p : PacketsState) (input : InputsState) : Type 0 where
   pub selected : p.has_failed ≡ false → input.selected ≡ true
   pub end : p.is_done ≡ true → AtEnd input.rest
-  pub count : p.taken ≤ 2 ^ 63
+  pub count : p.taken ≤ taken_bytes_limit
 
 -- what holds of the inputs and of a call's result: an input is still selected after a run, and the call fails only
 -- where a read failed in it or an earlier call failed; after an earlier failure it always fails

@@ -1,6 +1,6 @@
 //! Packets over an input: its runs, one after another, lent out of one buffer (this project's choice).
 ghost use Rattle.std.specs.Prelude.{◌≡◌, ◌≢◌, ◌≤◌, ◌<◌, ◌+◌, ◌^◌, ◌⊎◌, ℕ, List, [], length, take, vec_len, true, false, IfNone, IfOk, IfSome, OnErr, OnOk};
-ghost use Rattle.x7_words.specs.Input.{AtEnd, InputsFail, InputsStay};
+ghost use Rattle.x7_words.specs.Input.{AtEnd, InputsFail, InputsStay, taken_bytes_limit};
 ghost use Rattle.x7_packets.specs.Cutter.{IsNeed};
 ghost use Rattle.x7_packets.specs.Mode.{Mode};
 ghost use Rattle.x7_packets.specs.FoundRun.{FoundRun, found_of};
@@ -142,7 +142,7 @@ impl Packets {
     pub fn next_run<'b, I: Inputs>(&'b mut self, inputs: &mut I) -> Result<Run<'b>, Failed>
         requires selected { self.old.has_failed ≡ false → (I.state inputs.old).selected ≡ true }
         requires end { self.old.is_done ≡ true → AtEnd (I.state inputs.old).rest }
-        requires count { self.old.taken ≤ 2 ^ 63 }
+        requires count { self.old.taken ≤ taken_bytes_limit }
         ensures* next { sem 𝓛 (EndsNextCall self.entry (I.state inputs.old).rest (I.state inputs.new).rest result) }
         ensures failed { OnErr result ((self.old.has_failed ≡ true) ⊎ InputsFail (I.state inputs.old) (I.state inputs.new)) }
         ensures selected { OnOk result ((I.state inputs.new).selected ≡ true) }

@@ -11,7 +11,7 @@ use Rattle.x7_regs.specs.declared.command.Command.TheVariants.{Mfw, Wcfg}
 use Rattle.x7_regs.specs.declared.register.Reg.TheVariants.{Far}
 use Rattle.x7_packets.specs.PacketWords.{command, frame_data_headers, write_one}
 use Rattle.x7_planner.specs.Content.{AreFirsts, AreFramesByContent, AreStarts, AreTogether, IsFirst, planned_row, planned_rows}
-use Rattle.x7_planner.specs.PartialStream.{Copies, copy_words, groups_led, is_shared, leads_group, others, section_words, with_content}
+use Rattle.x7_planner.specs.PartialStream.{Copies, copy_words, groups_led, is_shared, leads_group, rows_not_shared, section_words, with_content}
 use Rattle.x7_planner.specs.Writer.{bytes_of_words}
 use Rattle.x7_planner.specs.declared.content.PlannedFrame.{PlannedFrame}
 use Rattle.x7_planner.proofs.ContentLemmas.{content_append, content_same, first_of, is_group, no_group, no_group_short, none_before, place_other, place_same, row_at, up_to}
@@ -92,23 +92,23 @@ same_content rows (c ∷ frames) words a g f =
 
 -- ---- the other rows
 
-pub others_append : (all xs ys : List PlanRow) → others all (xs ++ ys) ≡ others all xs ++ others all ys
-others_append all [] ys = refl
-others_append all (x ∷ xs) ys = by (is_shared all x) (others_append all xs ys)
+pub not_shared_append : (all xs ys : List PlanRow) → rows_not_shared all (xs ++ ys) ≡ rows_not_shared all xs ++ rows_not_shared all ys
+not_shared_append all [] ys = refl
+not_shared_append all (x ∷ xs) ys = by (is_shared all x) (not_shared_append all xs ys)
   where
-    by : (b : Bool) → others all (xs ++ ys) ≡ others all xs ++ others all ys → (if b then others all (xs ++ ys) else x ∷ others all (xs ++ ys)) ≡ (if b then others all xs else x ∷ others all xs) ++ others all ys
+    by : (b : Bool) → rows_not_shared all (xs ++ ys) ≡ rows_not_shared all xs ++ rows_not_shared all ys → (if b then rows_not_shared all (xs ++ ys) else x ∷ rows_not_shared all (xs ++ ys)) ≡ (if b then rows_not_shared all xs else x ∷ rows_not_shared all xs) ++ rows_not_shared all ys
     by true ih = ih
     by false ih = ap (λ t. x ∷ t) ih
 
-pub other_more : (rows : List PlanRow) (frames old new : List PlannedFrame) (a n : ℕ) (c : PlannedFrame) (d : PlanRow) (b : Bool) → AreFramesByContent rows frames → IsFirst (planned_rows frames) c.words.now a → n < length rows → get_or rows n d ≡ planned_row c
-    → b ≡ nat_le 3 (length (with_content c.words.now (planned_rows frames))) → planned_rows old ≡ others rows (take n rows) → new ≡ (if b then old else old ++ c ∷ []) → planned_rows new ≡ others rows (take (n + 1) rows)
-other_more rows frames old new a n c d b g f l at e h m =
+pub not_shared_more : (rows : List PlanRow) (frames old new : List PlannedFrame) (a n : ℕ) (c : PlannedFrame) (d : PlanRow) (b : Bool) → AreFramesByContent rows frames → IsFirst (planned_rows frames) c.words.now a → n < length rows → get_or rows n d ≡ planned_row c
+    → b ≡ nat_le 3 (length (with_content c.words.now (planned_rows frames))) → planned_rows old ≡ rows_not_shared rows (take n rows) → new ≡ (if b then old else old ++ c ∷ []) → planned_rows new ≡ rows_not_shared rows (take (n + 1) rows)
+not_shared_more rows frames old new a n c d b g f l at e h m =
     ap planned_rows m ∙ by b (e ∙ ap (λ t. nat_le 3 (length t)) (same_content rows frames c.words.now a g f))
-    ∙ sym (ap (others rows) (take_more rows n d l ∙ ap (λ (x : PlanRow). take n rows ++ x ∷ []) at) ∙ others_append rows (take n rows) (planned_row c ∷ []))
+    ∙ sym (ap (rows_not_shared rows) (take_more rows n d l ∙ ap (λ (x : PlanRow). take n rows ++ x ∷ []) at) ∙ not_shared_append rows (take n rows) (planned_row c ∷ []))
   where
-    by : (b : Bool) → b ≡ is_shared rows (planned_row c) → planned_rows (if b then old else old ++ c ∷ []) ≡ others rows (take n rows) ++ others rows (planned_row c ∷ [])
-    by true e = h ∙ sym (append-nil (others rows (take n rows))) ∙ ap (λ t. others rows (take n rows) ++ t) (rw (sym e) refl)
-    by false e = map-append planned_row old (c ∷ []) ∙ ap (λ t. t ++ planned_row c ∷ []) h ∙ ap (λ t. others rows (take n rows) ++ t) (rw (sym e) refl)
+    by : (b : Bool) → b ≡ is_shared rows (planned_row c) → planned_rows (if b then old else old ++ c ∷ []) ≡ rows_not_shared rows (take n rows) ++ rows_not_shared rows (planned_row c ∷ [])
+    by true e = h ∙ sym (append-nil (rows_not_shared rows (take n rows))) ∙ ap (λ t. rows_not_shared rows (take n rows) ++ t) (rw (sym e) refl)
+    by false e = map-append planned_row old (c ∷ []) ∙ ap (λ t. t ++ planned_row c ∷ []) h ∙ ap (λ t. rows_not_shared rows (take n rows) ++ t) (rw (sym e) refl)
 
 -- ---- the groups
 
@@ -122,8 +122,8 @@ groups_append all (x ∷ xs) ys = by (leads_group all x) (groups_append all xs y
     by true ih = ap (λ t. Copies x.words (planned_addresses (with_content x.words all)) ∷ t) ih
     by false ih = ih
 
-pub same_led : (rows others : List PlanRow) (r : PlanRow) → with_content r.words others ≡ with_content r.words rows → groups_led others (r ∷ []) ≡ groups_led rows (r ∷ [])
-same_led rows others r e =
+pub same_led : (rows rows_not_shared : List PlanRow) (r : PlanRow) → with_content r.words rows_not_shared ≡ with_content r.words rows → groups_led rows_not_shared (r ∷ []) ≡ groups_led rows (r ∷ [])
+same_led rows rows_not_shared r e =
     ap (λ t. if nat_le 3 (length t) && (get_or (planned_addresses t) 0 0 == r.far) then Copies r.words (planned_addresses t) ∷ [] else []) e
 
 pub group_more : (part : PartData) (rows : List PlanRow) (frames : List PlannedFrame) (old mid new : List ℕ) (a n : ℕ) (r : PlanRow) (d : PlanRow) → AreFramesByContent rows frames → IsFirst (planned_rows frames) r.words a → n < length rows → get_or rows n d ≡ r

@@ -16,7 +16,7 @@ use Rattle.x7_regs.specs.declared.command.Command.TheVariants.{Wcfg}
 use Rattle.x7_regs.specs.declared.register.Reg.TheVariants.{Far}
 use Rattle.x7_packets.specs.PacketWords.{command, frame_data_headers, write_one}
 use Rattle.x7_planner.specs.Content.{planned_row, planned_rows}
-use Rattle.x7_planner.specs.PartialStream.{IsRunLength, Rows, follows, frames_words, groups_led, is_shared, others, partial_ending, partial_opening, partial_stream, sections_of, runs_of, runs_words, section_words, with_row}
+use Rattle.x7_planner.specs.PartialStream.{IsRunLength, Rows, follows, frames_words, groups_led, is_shared, rows_not_shared, partial_ending, partial_opening, partial_stream, sections_of, runs_of, runs_words, section_words, with_row}
 use Rattle.x7_planner.specs.Writer.{Check, Words, bytes_of_words, with_piece}
 use Rattle.x7_planner.specs.declared.content.PlannedFrame.{PlannedFrame}
 use Rattle.x7_planner.proofs.ContentLemmas.{row_at}
@@ -146,19 +146,19 @@ runs_stepped part frames all mid new at count i l e h =
 
 -- ---- the other rows are some of the rows
 
-pub others_all : (P : PlanRow → Type 0) (all rows : List PlanRow) → AllByRecursion P rows → AllByRecursion P (others all rows)
-others_all P all [] h = tt
-others_all P all (r ∷ rows) h = by (is_shared all r) (others_all P all rows h.1)
+pub not_shared_all : (P : PlanRow → Type 0) (all rows : List PlanRow) → AllByRecursion P rows → AllByRecursion P (rows_not_shared all rows)
+not_shared_all P all [] h = tt
+not_shared_all P all (r ∷ rows) h = by (is_shared all r) (not_shared_all P all rows h.1)
   where
-    by : (b : Bool) → AllByRecursion P (others all rows) → AllByRecursion P (if b then others all rows else r ∷ others all rows)
+    by : (b : Bool) → AllByRecursion P (rows_not_shared all rows) → AllByRecursion P (if b then rows_not_shared all rows else r ∷ rows_not_shared all rows)
     by true ih = ih
     by false ih = (h.0, ih)
 
-pub others_fewer : (all rows : List PlanRow) → length (others all rows) ≤ length rows
-others_fewer all [] = omega arith
-others_fewer all (r ∷ rows) = by (is_shared all r) (others_fewer all rows)
+pub not_shared_fewer : (all rows : List PlanRow) → length (rows_not_shared all rows) ≤ length rows
+not_shared_fewer all [] = omega arith
+not_shared_fewer all (r ∷ rows) = by (is_shared all r) (not_shared_fewer all rows)
   where
-    by : (b : Bool) → length (others all rows) ≤ length rows → length (if b then others all rows else r ∷ others all rows) ≤ suc (length rows)
+    by : (b : Bool) → length (rows_not_shared all rows) ≤ length rows → length (if b then rows_not_shared all rows else r ∷ rows_not_shared all rows) ≤ suc (length rows)
     by true ih = omega (arith, ih)
     by false ih = omega (arith, ih)
 
@@ -166,20 +166,20 @@ pub all_rows : (P : PlanRow → Type 0) (rows : List PlanRow) → AllByRecursion
 all_rows P [] a = All-nil P
 all_rows P (r ∷ rows) a = All-cons P r rows a.0 (all_rows P rows a.1)
 
-pub alone_addressed : (part : PartData) (rows : List PlanRow) (alone : List PlannedFrame) → All (λ row. Contains (addresses_in part) row.far) rows → planned_rows alone ≡ others rows rows → All (λ row. Contains (addresses_in part) row.far) (planned_rows alone)
+pub alone_addressed : (part : PartData) (rows : List PlanRow) (alone : List PlannedFrame) → All (λ row. Contains (addresses_in part) row.far) rows → planned_rows alone ≡ rows_not_shared rows rows → All (λ row. Contains (addresses_in part) row.far) (planned_rows alone)
 alone_addressed part rows alone a e =
     subst (All (λ (row : PlanRow). Contains (addresses_in part) row.far)) (sym e)
-    (all_rows (λ (row : PlanRow). Contains (addresses_in part) row.far) (others rows rows) (others_all (λ (row : PlanRow). Contains (addresses_in part) row.far) rows rows (by_rows (λ (row : PlanRow). Contains (addresses_in part) row.far) rows a)))
+    (all_rows (λ (row : PlanRow). Contains (addresses_in part) row.far) (rows_not_shared rows rows) (not_shared_all (λ (row : PlanRow). Contains (addresses_in part) row.far) rows rows (by_rows (λ (row : PlanRow). Contains (addresses_in part) row.far) rows a)))
 
-pub alone_few : (part : PartData) (rows : List PlanRow) (alone : List PlannedFrame) → IsPart part → AreInOrder rows → All (λ row. Contains (addresses_in part) row.far) rows → planned_rows alone ≡ others rows rows → length alone ≤ 131072
-alone_few part rows alone is o a e = omega (arith, rows_few part rows is o a, is.few, others_fewer rows rows, ap length e, length-map alone planned_row)
+pub alone_few : (part : PartData) (rows : List PlanRow) (alone : List PlannedFrame) → IsPart part → AreInOrder rows → All (λ row. Contains (addresses_in part) row.far) rows → planned_rows alone ≡ rows_not_shared rows rows → length alone ≤ 131072
+alone_few part rows alone is o a e = omega (arith, rows_few part rows is o a, is.few, not_shared_fewer rows rows, ap length e, length-map alone planned_row)
 
-pub sections_written : (part : PartData) (rows : List PlanRow) (alone : List PlannedFrame) (old mid new : List ℕ) → planned_rows alone ≡ others rows rows → mid ≡ old ++ bytes_of_words (flat_map (section_words part) (groups_led rows rows))
+pub sections_written : (part : PartData) (rows : List PlanRow) (alone : List PlannedFrame) (old mid new : List ℕ) → planned_rows alone ≡ rows_not_shared rows rows → mid ≡ old ++ bytes_of_words (flat_map (section_words part) (groups_led rows rows))
     → new ≡ mid ++ bytes_of_words (runs_words part (planned_rows alone)) → new ≡ old ++ bytes_of_words (flat_map (section_words part) (sections_of part rows))
 sections_written part rows alone old mid new e g h =
     written_on old mid new (flat_map (section_words part) (groups_led rows rows)) (runs_words part (planned_rows alone)) g h
     ∙ ap (λ t. old ++ bytes_of_words (flat_map (section_words part) (groups_led rows rows) ++ runs_words part t)) e
-    ∙ ap (λ t. old ++ bytes_of_words t) (sym (flat_map-append (section_words part) (groups_led rows rows) (map Rows (runs_of part (others rows rows)))))
+    ∙ ap (λ t. old ++ bytes_of_words t) (sym (flat_map-append (section_words part) (groups_led rows rows) (map Rows (runs_of part (rows_not_shared rows rows)))))
 
 pub stream_written : (part : PartData) (rows : List PlanRow) (none one two three new : List ℕ) → none ≡ [] → one ≡ none ++ bytes_of_words (partial_opening part)
     → two ≡ one ++ bytes_of_words (flat_map (section_words part) (sections_of part rows)) → three ≡ with_piece two Check → new ≡ with_piece three (Words partial_ending) → new ≡ partial_stream part rows

@@ -46,9 +46,13 @@ full_opening part = opening_words ++ full_settings part
 abbrev pub start_words : List ℕ
 start_words = command Lfrm ++ command Start
 
+-- how many no-ops a full stream ends with
+abbrev pub full_ending_no_ops : ℕ
+full_ending_no_ops = 16
+
 -- the end of the session, and no-ops
 abbrev pub full_ending : List ℕ
-full_ending = command Desync ++ replicate 16 no_op
+full_ending = command Desync ++ replicate full_ending_no_ops no_op
 
 -- the pieces of the full stream of a plan
 abbrev pub full_pieces : PartData → PlanData → List StreamPiece

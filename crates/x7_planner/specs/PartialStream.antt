@@ -10,7 +10,7 @@ use Rattle.x7_memory.specs.Plan.{AreApart, PlanRow, planned, planned_addresses}
 use Rattle.x7_regs.specs.declared.command.Command.TheVariants.{Desync, Mfw, Rcrc, Wcfg}
 use Rattle.x7_regs.specs.declared.register.Reg.TheVariants.{Far, Idcode, Mfwr}
 use Rattle.x7_packets.specs.PacketWords.{command, frame_data_headers, no_op, write_one}
-use Rattle.x7_planner.specs.Writer.{Words, Check, opening_words, stream_of}
+use Rattle.x7_planner.specs.Writer.{Words, Check, ending_no_ops, opening_words, stream_of}
 use Rattle.x7_planner.specs.FullStream.{zero_frame}
 
 -- what a partial stream writes from one WCFG up to the next, or to its ending: a content at its first address and
@@ -58,9 +58,9 @@ groups_led all (r ∷ rows) =
     if leads_group all r then Copies r.words (addresses_with r.words all) ∷ groups_led all rows else groups_led all rows
 
 -- the rows whose content stands at fewer than `group_least` addresses
-abbrev pub others : List PlanRow → List PlanRow → List PlanRow
-others all [] = []
-others all (r ∷ rows) = if is_shared all r then others all rows else r ∷ others all rows
+abbrev pub rows_not_shared : List PlanRow → List PlanRow → List PlanRow
+rows_not_shared all [] = []
+rows_not_shared all (r ∷ rows) = if is_shared all r then rows_not_shared all rows else r ∷ rows_not_shared all rows
 
 -- the slot is the frame at this address
 abbrev pub is_frame : ℕ → Slot → Bool
@@ -92,7 +92,7 @@ pub record IsRunLength (part : PartData) (rows : List PlanRow) (count : ℕ) : T
 
 -- the groups, and then the runs
 abbrev pub sections_of : PartData → List PlanRow → List Section
-sections_of part rows = groups_led rows rows ++ map Rows (runs_of part (others rows rows))
+sections_of part rows = groups_led rows rows ++ map Rows (runs_of part (rows_not_shared rows rows))
 
 -- a copy of the frame to an address
 abbrev pub copy_words : ℕ → List ℕ
@@ -124,7 +124,7 @@ runs_words part rows = flat_map (section_words part) (map Rows (runs_of part row
 
 -- the end of the session, and no-ops
 abbrev pub partial_ending : List ℕ
-partial_ending = command Desync ++ replicate 4 no_op
+partial_ending = command Desync ++ replicate ending_no_ops no_op
 
 -- the partial stream of a plan's rows
 abbrev pub partial_stream : PartData → List PlanRow → List ℕ

@@ -5,12 +5,12 @@ use Rattle.x7_part.specs.Part.{PartData, frame_words}
 use Rattle.x7_regs.specs.declared.command.Command.TheVariants.{Desync, Rcfg, Rcrc}
 use Rattle.x7_regs.specs.declared.register.Reg.TheVariants.{Far}
 use Rattle.x7_packets.specs.PacketWords.{command, frame_read_headers, no_op, write_one}
-use Rattle.x7_planner.specs.Writer.{Words, opening_words, stream_of}
+use Rattle.x7_planner.specs.Writer.{Words, ending_no_ops, opening_words, stream_of}
 
 -- a read of this many words from an address on
 abbrev pub read_of_words : ℕ → ℕ → List ℕ
 read_of_words address count =
-    stream_of (Words (opening_words ++ (command Rcrc ++ (no_op ∷ (command Rcfg ++ (write_one Far address ++ (frame_read_headers count ++ (command Desync ++ replicate 4 no_op))))))) ∷ [])
+    stream_of (Words (opening_words ++ (command Rcrc ++ (no_op ∷ (command Rcfg ++ (write_one Far address ++ (frame_read_headers count ++ (command Desync ++ replicate ending_no_ops no_op))))))) ∷ [])
 
 -- the read stream of n slots from an address on
 abbrev pub read_stream : PartData → ℕ → ℕ → List ℕ

@@ -24,6 +24,10 @@ check_words check = write_one Crc check
 abbrev pub opening_words : List ℕ
 opening_words = dummy_word ∷ dummy_word ∷ dummy_word ∷ dummy_word ∷ bus_width_sync ∷ bus_width_detect ∷ dummy_word ∷ dummy_word ∷ sync_word ∷ no_op ∷ []
 
+-- how many no-ops a partial stream and a read stream end with
+abbrev pub ending_no_ops : ℕ
+ending_no_ops = 4
+
 -- ---- streams
 
 -- bytes with those of one piece more

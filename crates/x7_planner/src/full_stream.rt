@@ -29,6 +29,9 @@ use x7_words::NoMemory;
 /// How many words a full stream has beside its frame data.
 const WORDS_BESIDE_FRAMES: usize = 55;
 
+/// How many no-ops a full stream ends with.
+const FULL_ENDING_NO_OPS: usize = 16;
+
 /// How many slots a piece of the frame data has at most.
 const PIECE_SLOTS: u64 = 160;
 
@@ -261,7 +264,7 @@ impl<'p> FullStream<'p> {
             }
             NextPiece::Desync => {
                 put_words(out, &command(Command::Desync))?;
-                put_words(out, &[NO_OP; 16])?;
+                put_words(out, &[NO_OP; FULL_ENDING_NO_OPS])?;
                 Ok(NextPiece::Nothing)
             }
             NextPiece::Nothing => Ok(NextPiece::Nothing),

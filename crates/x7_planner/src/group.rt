@@ -2,7 +2,7 @@
 ghost use Rattle.std.specs.Prelude.{◌≡◌, ◌++◌, if◌then◌else◌, [], ◌∷◌, IfOk, OnOk};
 ghost use Rattle.std.specs.List.{flat_map};
 ghost use Rattle.x7_planner.specs.Content.{AreByContent, BeginsAt, planned_rows, rows_by_content};
-ghost use Rattle.x7_planner.specs.PartialStream.{addresses_with, are_shared, copy_words, groups_words, leads_group, others, section_words, Copies};
+ghost use Rattle.x7_planner.specs.PartialStream.{addresses_with, are_shared, copy_words, groups_words, leads_group, rows_not_shared, section_words, Copies};
 ghost use Rattle.x7_planner.specs.Writer.{with_piece, Words};
 
 use crate::content::{ByContent, PlannedFrame};
@@ -29,11 +29,11 @@ fn are_shared(by_content: &ByContent<'_>, start: usize, _words: &[u32]) -> bool
 }
 
 /// Whether the row at an address is the first of three or more with its content, which begins at `start`.
-fn leads_group(by_content: &ByContent<'_>, start: usize, far: u32, words: &[u32]) -> bool
-    requires { BeginsAt by_content.now words.now start }
-    ensures { result ≡ leads_group (rows_by_content by_content.now) record { far = far; words = words.now } }
+fn leads_group(by_content: &ByContent<'_>, start: usize, far: u32, _words: &[u32]) -> bool
+    requires { BeginsAt by_content.now _words.now start }
+    ensures { result ≡ leads_group (rows_by_content by_content.now) record { far = far; words = _words.now } }
 {
-    if !are_shared(by_content, start, words) {
+    if !are_shared(by_content, start, _words) {
         return false;
     }
     by_content.frames[start].far == far
@@ -136,14 +136,14 @@ fn add_alone<'p>(
     Ok(alone.push(frame)?)
 }
 
-/// The frames of a plan that no group has, in order.
-pub(crate) fn others_of<'p>(
+/// The frames of a plan whose content no group has, in order.
+pub(crate) fn frames_not_shared<'p>(
     alloc: Global,
     plan: &'p Plan,
     by_content: &ByContent<'_>,
 ) -> Result<Vec<PlannedFrame<'p>>, AllocError>
     requires { AreByContent plan.now.rows by_content.now }
-    ensures { IfOk result (λ alone. planned_rows alone.items ≡ others plan.now.rows plan.now.rows) }
+    ensures { IfOk result (λ alone. planned_rows alone.items ≡ rows_not_shared plan.now.rows plan.now.rows) }
 {
     let mut alone = Vec::with_capacity(alloc, plan.len())?;
     for row in 0..plan.len() {

@@ -12,9 +12,9 @@ ghost use Rattle.x7_planner.specs.declared.fault.PlanFault.{PlanFault};
 use crate::address::first_foreign;
 use crate::content::{ByContent, PlannedFrame, firsts_of, frames_by_content, starts_of};
 use crate::fault::PlanFault;
-use crate::group::{others_of, put_groups};
+use crate::group::{frames_not_shared, put_groups};
 use crate::run::put_runs;
-use crate::writer::{OPENING_WORDS, Writer};
+use crate::writer::{ENDING_NO_OPS, OPENING_WORDS, Writer};
 use std::alloc::{AllocError, Global};
 use x7_memory::Plan;
 use x7_packets::{NO_OP, command, write_one};
@@ -47,7 +47,7 @@ fn grouping_of(alloc: Global, plan: &Plan) -> Result<Grouping<'_>, AllocError>
         firsts: &firsts,
         starts: &starts,
     };
-    let alone = others_of(alloc, plan, &by_content)?;
+    let alone = frames_not_shared(alloc, plan, &by_content)?;
     Ok(Grouping {
         frames,
         firsts,
@@ -104,7 +104,7 @@ fn partial_of(alloc: Global, part: &Part, plan: &Plan) -> Result<Vec<u8>, NoMemo
     put_sections(&mut writer, part, plan, &grouping)?;
     writer.check()?;
     writer.words(&command(Command::Desync))?;
-    writer.words(&[NO_OP; 4])?;
+    writer.words(&[NO_OP; ENDING_NO_OPS])?;
     Ok(writer.finish())
 }
 

@@ -5,7 +5,7 @@ ghost use Rattle.x7_planner.specs.Fault.{CanRead, IsReadFault};
 ghost use Rattle.x7_planner.specs.declared.fault.PlanFault.{PlanFault};
 
 use crate::fault::PlanFault;
-use crate::writer::{OPENING_WORDS, Writer};
+use crate::writer::{ENDING_NO_OPS, OPENING_WORDS, Writer};
 use std::alloc::Global;
 use x7_packets::{NO_OP, command, frame_read_headers, write_one};
 use x7_part::Part;
@@ -30,7 +30,7 @@ fn read_of(alloc: Global, far: u32, word_count: u32) -> Result<Vec<u8>, NoMemory
         frame_read_headers(word_count),
         command(Command::Desync),
     ])?;
-    writer.words(&[NO_OP; 4])?;
+    writer.words(&[NO_OP; ENDING_NO_OPS])?;
     Ok(writer.finish())
 }
 

@@ -66,7 +66,7 @@ fn put_run(writer: &mut Writer, part: &Part, run: &[PlannedFrame]) -> Result<(),
     Ok(())
 }
 
-/// Writes the longest runs of frames in order.
+/// Writes the frames in order, cut into the longest runs.
 pub(crate) fn put_runs(
     writer: &mut Writer,
     part: &Part,

@@ -18,6 +18,9 @@ pub(crate) const OPENING_WORDS: [u32; 10] = [
     SYNC_WORD, NO_OP,
 ];
 
+/// How many no-ops a partial stream and a read stream end with.
+pub(crate) const ENDING_NO_OPS: usize = 4;
+
 /// The bytes so far, and their running check.
 #[derive(Drop)]
 pub(crate) struct Writer {

@@ -1,6 +1,7 @@
 -- What the steps of a play come to. A player is over once its device has read out more words than a play may (this
 -- project's choice).
-use Rattle.std.specs.Prelude.{◌≡◌, ◌+◌, ◌^◌, ◌<◌, ◌≤◌, ◌⊎◌, ◌++◌, ℕ, List, [], Some, Bool, true, false, IsSome, length, Result, Ok}
+use Rattle.std.specs.Prelude.{◌≡◌, ◌+◌, ◌<◌, ◌≤◌, ◌⊎◌, ◌++◌, ℕ, List, [], Some, Bool, true, false, IsSome, length, Result, Ok}
+use Rattle.x7_words.specs.Input.{taken_bytes_limit}
 use Rattle.x7_words.specs.Word.{AreBytes}
 use Rattle.x7_part.specs.Part.{PartData}
 use Rattle.x7_engine.specs.Kept.{on_the_bench}
@@ -80,7 +81,7 @@ FeedsPrefix old new prefix = (part : PartData) (bytes : List ℕ) → HasPlayedB
 
 -- by whether a player is over: with `count` bytes more it was given no more than a device counts
 abbrev pub MayPlayBy : Bool → PlayState → ℕ → Type 0
-MayPlayBy over s count = (part : PartData) × ((bytes : List ℕ) × (HasPlayedBy over part bytes s × (length bytes + count ≤ 2 ^ 63)))
+MayPlayBy over s count = (part : PartData) × ((bytes : List ℕ) × (HasPlayedBy over part bytes s × (length bytes + count ≤ taken_bytes_limit)))
 
 -- a player may be given `count` bytes more, which with all before are no more than a device counts
 abbrev pub MayPlay : Player → ℕ → Type 0

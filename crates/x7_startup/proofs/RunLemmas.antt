@@ -1,3 +1,4 @@
+-- How a run of ticks goes on, tick by tick.
 use Rattle.std.proofs.Common.{◌≡◌, ℕ, ◌+◌, ◌-◌, ◌<◌, ◌≤◌, min, arith, ◌^◌, ◌⊎◌, inl, inr}
 use Rattle.x7_startup.specs.Phases.{IsPhase, tick_limit}
 use Rattle.x7_startup.specs.Ticks.{PassesTicks, reached}

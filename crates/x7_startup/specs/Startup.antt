@@ -1,5 +1,5 @@
 -- What a list of calls of a `Startup` means: where startup begins (UG470, startup; arming is this project's choice).
-use Rattle.std.specs.Prelude.{◌≡◌, ℕ, ◌+◌, ◌/◌, ◌%◌, min, Bool, true, false, List, [], ◌∷◌, Option, Some, None, if◌then◌else◌}
+use Rattle.std.specs.Prelude.{◌++◌, ◌≡◌, ℕ, ◌+◌, ◌/◌, ◌%◌, min, Bool, true, false, List, [], ◌∷◌, Option, Some, None, if◌then◌else◌}
 use Rattle.x7_startup.specs.Phases.{wait_of, tick_limit, IsPhase}
 
 -- a call of a startup: START, DESYNC with COR0 as it stands there, a byte taken, a shutdown taken
@@ -91,3 +91,8 @@ pub record StoresAt (lock_ticks match_ticks : ℕ) (s : Stored) (progress : Star
 pub record StandsForCalls (lock_ticks match_ticks : ℕ) (s : Stored) (calls : List Call) : Type 0 where
   pub armed_is : s.armed ≡ is_armed false (since_shutdown calls)
   pub stores : StoresAt lock_ticks match_ticks s (progress_of calls)
+
+-- whatever calls the old startup stands for, the new one stands for these and then `more`
+abbrev pub AddsCalls : ℕ → ℕ → Stored → Stored → List Call → Type 0
+AddsCalls lock_ticks match_ticks old new more =
+    (calls : List Call) → StandsForCalls lock_ticks match_ticks old calls → StandsForCalls lock_ticks match_ticks new (calls ++ more)

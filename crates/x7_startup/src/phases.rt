@@ -55,7 +55,7 @@ pub(crate) fn tick(cor0: u32, start: Reached, lock_ticks: u16, match_ticks: u16)
     }
 }
 
-/// The phase and the ticks that are reached `count` ticks later, by a loop of at most fifteen turns.
+/// The phase and the ticks that are reached `count` ticks later.
 #[tactic(auto, using(crate::proofs::RunLemmas::ran_none, crate::proofs::RunLemmas::ran_stays, crate::proofs::RunLemmas::ran_moves, crate::proofs::RunLemmas::ran_all))]
 pub(crate) fn pass_ticks(
     cor0: u32,

@@ -2,7 +2,7 @@
 ghost use Rattle.std.specs.Prelude.{◌≡◌, ◌<◌, ◌≤◌, ◌+◌, ◌∷◌, ◌++◌, min, ℕ, List, [], replicate, is_some};
 ghost use Rattle.x7_startup.specs.Lines.{done_line, gts_line, gwe_line, AreLines};
 ghost use Rattle.x7_startup.specs.Phases.{last_phase, tick_limit};
-ghost use Rattle.x7_startup.specs.Startup.{Call, Arm, Desync, Byte, DropBack, Stored, StandsForCalls, IsPhaseOf, progress_of, cor0_of, ticks_of};
+ghost use Rattle.x7_startup.specs.Startup.{AddsCalls, Call, Arm, Desync, Byte, DropBack, Stored, StandsForCalls, IsPhaseOf, progress_of, cor0_of, ticks_of};
 
 use crate::lines::{Lines, lines_in};
 use crate::phases::{Reached, pass_ticks, tick};
@@ -46,16 +46,14 @@ impl Startup {
 
     /// START: the next DESYNC begins startup.
     pub fn arm(&mut self)
-        ensures stands { (lock_ticks match_ticks : ℕ) (calls : List Call) → StandsForCalls lock_ticks match_ticks self.old calls
-            → StandsForCalls lock_ticks match_ticks self.new (calls ++ Arm ∷ []) }
+        ensures stands { (lock_ticks match_ticks : ℕ) → AddsCalls lock_ticks match_ticks self.old self.new (Arm ∷ []) }
     {
         self.armed = true;
     }
 
     /// DESYNC: begins an armed startup with this COR0, unless it has begun already, and disarms.
     pub fn desync(&mut self, cor0: u32)
-        ensures stands { (lock_ticks match_ticks : ℕ) (calls : List Call) → StandsForCalls lock_ticks match_ticks self.old calls
-            → StandsForCalls lock_ticks match_ticks self.new (calls ++ Desync cor0 ∷ []) }
+        ensures stands { (lock_ticks match_ticks : ℕ) → AddsCalls lock_ticks match_ticks self.old self.new (Desync cor0 ∷ []) }
     {
         self.begun_with = self.begun_with.or(self.armed.then_some(cor0));
         self.armed = false;
@@ -63,7 +61,7 @@ impl Startup {
 
     /// One byte more was taken, by a part whose clocks lock and whose impedance matches after these ticks of startup.
     pub fn byte(&mut self, lock_ticks: u16, match_ticks: u16)
-        ensures stands { (calls : List Call) → StandsForCalls lock_ticks match_ticks self.old calls → StandsForCalls lock_ticks match_ticks self.new (calls ++ Byte ∷ []) }
+        ensures stands { AddsCalls lock_ticks match_ticks self.old self.new (Byte ∷ []) }
     {
         let Some(cor0) = self.begun_with else {
             return;
@@ -84,7 +82,7 @@ impl Startup {
 
     /// `count` bytes more were taken: what as many calls of `byte` do, at once.
     pub fn bytes(&mut self, count: u64, lock_ticks: u16, match_ticks: u16)
-        ensures stands { (calls : List Call) → StandsForCalls lock_ticks match_ticks self.old calls → StandsForCalls lock_ticks match_ticks self.new (calls ++ replicate count Byte) }
+        ensures stands { AddsCalls lock_ticks match_ticks self.old self.new (replicate count Byte) }
     {
         let Some(cor0) = self.begun_with else {
             return;
@@ -108,8 +106,7 @@ impl Startup {
 
     /// A shutdown was taken: not armed, not begun.
     pub fn drop_back(&mut self)
-        ensures stands { (lock_ticks match_ticks : ℕ) (calls : List Call) → StandsForCalls lock_ticks match_ticks self.old calls
-            → StandsForCalls lock_ticks match_ticks self.new (calls ++ DropBack ∷ []) }
+        ensures stands { (lock_ticks match_ticks : ℕ) → AddsCalls lock_ticks match_ticks self.old self.new (DropBack ∷ []) }
     {
         self.armed = false;
         self.begun_with = None;

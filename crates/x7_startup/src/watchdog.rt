@@ -62,7 +62,8 @@ impl Watchdog {
         self.count = 0;
     }
 
-    /// Whether the watchdog runs: TIMER turns it on, in an attempt that has one. Else bytes leave it as it is.
+    /// Whether the watchdog runs: TIMER turns it on with a value other than 0, in an attempt that has one. Else bytes
+    /// leave it as it is.
     pub fn is_running(&self) -> bool
         ensures { result ≡ not (self.now.limit == 0) }
     {
@@ -91,7 +92,7 @@ impl Watchdog {
             IfNone result (NoneFired off first calls eos count self.new)) }
     {
         let on = is_on(self.limit, eos);
-        let Some(n) = due_within(on, self.count, self.limit, count) else {
+        let Some(n) = firing_within(on, self.count, self.limit, count) else {
             self.count = count_after(on, self.count, count);
             return None;
         };
@@ -119,9 +120,9 @@ fn is_on(limit: u32, eos: bool) -> bool
 }
 
 /// How many more bytes, `bytes` at most, bring the count to the limit; none where that many don't.
-fn due_within(on: bool, count: u32, limit: u32, bytes: u64) -> Option<u64>
-    ensures due { IfSome result (λ n. (0 < n) × (n ≤ bytes) × IsTrue on × (count + n ≡ limit)) }
-    ensures none_due { IfNone result ((k : ℕ) → k < bytes → IsTrue on → ¬ (count + (k + 1) ≡ limit)) }
+fn firing_within(on: bool, count: u32, limit: u32, bytes: u64) -> Option<u64>
+    ensures fires { IfSome result (λ n. (0 < n) × (n ≤ bytes) × IsTrue on × (count + n ≡ limit)) }
+    ensures none_fires { IfNone result ((k : ℕ) → k < bytes → IsTrue on → ¬ (count + (k + 1) ≡ limit)) }
 {
     if on && count < limit && u64::from(limit - count) <= bytes {
         Some(u64::from(limit - count))

@@ -1,6 +1,6 @@
 //! Texts that are read line by line while they come.
-ghost use Rattle.std.specs.Prelude.{ℕ, ◌^◌, ◌<◌, List, [], ◌++◌, length, Ok, Err, IfOk, IfErr, ◌+◌};
-ghost use Rattle.x7_words.specs.Input.{AsksAtMost, InputsStay};
+ghost use Rattle.std.specs.Prelude.{ℕ, ◌<◌, List, [], ◌++◌, length, Ok, Err, IfOk, IfErr, ◌+◌};
+ghost use Rattle.x7_words.specs.Input.{AsksAtMost, InputsStay, taken_bytes_limit};
 ghost use Rattle.x7_forms.specs.Event.{event_of};
 ghost use Rattle.x7_forms.specs.Step.{IsUnread, ReadsWhole};
 ghost use Rattle.x7_forms.specs.Turn.{IsLastAsked};
@@ -17,7 +17,7 @@ fn take_turn<T: TakesLines>(
     read: Result<LineReader<T>, T::Fault>,
     piece: &[u8],
 ) -> Result<LineReader<T>, T::Fault>
-    ensures { (first : T) (text : List ℕ) → length (text ++ piece.now) < 2 ^ 63 → IsFed (T.took first) (T.fails first) read text
+    ensures { (first : T) (text : List ℕ) → length (text ++ piece.now) < taken_bytes_limit → IsFed (T.took first) (T.fails first) read text
         → IsFed (T.took first) (T.fails first) result (text ++ piece.now) }
 {
     match read {
@@ -28,7 +28,7 @@ fn take_turn<T: TakesLines>(
 
 /// Ends a text, where no fault was found in it.
 fn end_text<T: TakesLines>(read: Result<LineReader<T>, T::Fault>) -> Result<T::Out, T::Fault>
-    ensures { (first : T) (text : List ℕ) → length text < 2 ^ 63 → IsFed (T.took first) (T.fails first) read text
+    ensures { (first : T) (text : List ℕ) → length text < taken_bytes_limit → IsFed (T.took first) (T.fails first) read text
         → LinesGive (T.gives first) (T.fails first) result text }
 {
     match read {

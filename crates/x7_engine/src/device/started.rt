@@ -1,15 +1,15 @@
 //! Feeding up to where startup begins, or up to its end.
-ghost use Rattle.std.specs.Prelude.{◌≡◌, ◌≤◌, ◌<◌, ◌+◌, ◌-◌, ◌^◌, ◌⊎◌, false, if◌then◌else◌, length, take, is_some, IsSome, IsTrue};
+ghost use Rattle.std.specs.Prelude.{◌≡◌, ◌≤◌, ◌<◌, ◌+◌, ◌-◌, ◌⊎◌, false, if◌then◌else◌, length, take, is_some, IsSome, IsTrue};
 ghost use Rattle.x7_packets.specs.Cutter.{between};
 ghost use Rattle.x7_engine.specs.UntilRead.{RoomBefore};
 ghost use Rattle.x7_engine.specs.SoonestEnd.{soonest_end};
-ghost use Rattle.x7_engine.specs.Standing.{HasBegun, HasStopped, NoWordDue, fed_more, fed_of};
+ghost use Rattle.x7_engine.specs.Standing.{CanBeGiven, HasBegun, HasStopped, NoWordDue, fed_more, fed_of};
 ghost use Rattle.x7_engine.specs.Turns.{MayTake, TookTurn};
 ghost use Rattle.x7_engine.specs.UntilStarted.{HasNotBegun, NoneBegun, NoneStarted, says_started, taken_until};
 ghost use Rattle.x7_engine.specs.declared.until_started.UntilStarted.TheVariants as until;
 ghost use Rattle.x7_engine.specs.Past.{AnswersUntilFor, OfPast, TakesJust, GivesWordsNext, later, prefix_taken_until, started_at, state_at, stop_at, reads_given_at};
 
-use super::{Device, answer_at_stop};
+use super::{Device, WORD_BYTES, answer_at_stop};
 use crate::fed::Fed;
 use crate::read_buffer::ReadBuf;
 use crate::until_started::UntilStarted;
@@ -18,7 +18,7 @@ use crate::until_started::UntilStarted;
 fn soonest_end(phase: u8) -> usize
     ensures { result ≡ soonest_end phase }
 {
-    4 * 6usize.saturating_sub(phase as usize) + 1
+    WORD_BYTES * 6usize.saturating_sub(phase as usize) + 1
 }
 
 /// What is answered where a piece is used up, or a stop has come, at place `at` of the piece.
@@ -64,7 +64,7 @@ impl Device {
     /// Takes the bytes of a piece as `feed` does, and none after the byte at which startup ends: the least at which the
     /// phase is 7.
     pub fn feed_until_started(&mut self, piece: &[u8], read: &mut ReadBuf) -> UntilStarted
-        requires { self.old.taken + length piece.now ≤ 2 ^ 63 }
+        requires { CanBeGiven self.old (length piece.now) }
         ensures within { taken_until (length piece.now) result ≤ length piece.now }
         ensures part { self.new.part ≡ self.old.part }
         ensures taken { self.new.taken ≡ self.old.taken + taken_until (length piece.now) result }
@@ -76,7 +76,6 @@ impl Device {
         ensures reads { GivesWordsNext self.old self.new (prefix_taken_until piece.now result) read.old read.new }
         ensures room { OfPast self.old (λ p. RoomBefore p piece.now (taken_until (length piece.now) result) (reads_given_at self.old p) read.old) }
         ensures stopped { OfPast self.old (λ p. IsSome (stop_at p) → (self.new ≡ self.old) × (read.new ≡ read.old) × (taken_until (length piece.now) result ≡ 0)) }
-        ensures stays { HasStopped self.old → (self.new ≡ self.old) × (read.new ≡ read.old) × (taken_until (length piece.now) result ≡ 0) }
     {
         let mut at = 0;
         'runs: loop {
@@ -106,7 +105,7 @@ impl Device {
     /// Takes the bytes of a piece as `feed` does, where words read out are dropped, and none after the byte at which
     /// startup begins. Says how many these are.
     pub fn feed_until_begun(&mut self, piece: &[u8]) -> usize
-        requires { self.old.taken + length piece.now ≤ 2 ^ 63 }
+        requires { CanBeGiven self.old (length piece.now) }
         ensures within { result ≤ length piece.now }
         ensures part { self.new.part ≡ self.old.part }
         ensures taken { self.new.taken ≡ self.old.taken + result }

@@ -1,7 +1,7 @@
 use Rattle.std.proofs.Common.{◌∙◌, ◌++◌, ap, replicate}
 use Rattle.x7_regs.specs.declared.command.Command.TheVariants.{Desync}
 use Rattle.x7_packets.specs.PacketWords.{command, no_op}
-use Rattle.x7_planner.specs.Writer.{bytes_of_words}
+use Rattle.x7_planner.specs.Writer.{bytes_of_words, ending_no_ops}
 use Rattle.x7_planner.proofs.RunLemmas.{stream_written}
 use Rattle.x7_planner.proofs.SlotLemmas.{written_on}
 use Rattle.x7_planner.proofs.partial_stream.partial_of.Goals as goal
@@ -11,4 +11,4 @@ returns c =
     c.finish.ensures
     ∙ stream_written c.args.part.now c.args.plan.now.rows c.in_ok-writer.writer c.put_opening.new.writer c.put_sections.new.writer c.check.new.self c.words-2.new.self c.in_ok-writer.ensures c.in_ok-put_opening.ensures c.in_ok-put_sections.ensures
     c.in_ok-check.ensures
-    (written_on c.check.new.self c.words.new.self c.words-2.new.self (command Desync) (replicate 4 no_op) (c.in_ok-words.ensures ∙ ap (λ t. c.check.new.self ++ bytes_of_words t) c.command.ensures) c.in_ok-words-2.ensures)
+    (written_on c.check.new.self c.words.new.self c.words-2.new.self (command Desync) (replicate ending_no_ops no_op) (c.in_ok-words.ensures ∙ ap (λ t. c.check.new.self ++ bytes_of_words t) c.command.ensures) c.in_ok-words-2.ensures)

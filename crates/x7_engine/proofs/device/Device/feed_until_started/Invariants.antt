@@ -1,11 +1,11 @@
-use Rattle.std.proofs.Common.{◌≡◌, ◌+◌, ◌-◌, ◌^◌, ◌≤◌, ◌++◌, ℕ, List, length, take, true, if◌then◌else◌, Bool}
+use Rattle.std.proofs.Common.{◌≡◌, ◌+◌, ◌-◌, ◌≤◌, ◌++◌, ℕ, List, length, take, true, if◌then◌else◌, Bool}
 use Rattle.std.specs.Option.{is_some}
 use Rattle.x7_packets.specs.Cutter.{calls_left}
 use Rattle.x7_part.specs.Part.{PartData}
 use Rattle.x7_engine.specs.UntilRead.{RoomBefore}
 use Rattle.x7_engine.specs.declared.kept.Kept.{Kept}
 use Rattle.x7_engine.specs.ReadBuffer.{with_words}
-use Rattle.x7_engine.specs.Standing.{DeviceStandsFor, fed_more, fed_of, reads_given}
+use Rattle.x7_engine.specs.Standing.{CanBeGiven, DeviceStandsFor, fed_more, fed_of, reads_given}
 use Rattle.x7_engine.specs.UntilStarted.{NoneStarted}
 use Rattle.x7_engine.proofs.device.Device.feed_until_started.Given as goal
 
@@ -15,7 +15,7 @@ invariant-runs l = record {
   part : l.self.part ≡ l.initial.self.part;
   taken : l.self.taken ≡ l.initial.self.taken + l.at;
   fed : fed_of l.self ≡ fed_more l.initial.self l.at;
-  fits : l.self.taken + (length l.piece - l.at) ≤ 2 ^ 63;
+  fits : CanBeGiven l.self (length l.piece - l.at);
   stands : (part : PartData) (kept : Kept) (wrapped : Bool) (bytes : List ℕ) → DeviceStandsFor part kept wrapped l.initial.self bytes → DeviceStandsFor part kept wrapped l.self (bytes ++ take l.at l.piece);
   first : (part : PartData) (kept : Kept) (wrapped : Bool) (bytes : List ℕ) → DeviceStandsFor part kept wrapped l.initial.self bytes → NoneStarted part kept bytes l.piece l.at;
   reads : (part : PartData) (kept : Kept) (wrapped : Bool) (bytes : List ℕ) → DeviceStandsFor part kept wrapped l.initial.self bytes

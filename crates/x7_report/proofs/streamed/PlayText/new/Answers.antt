@@ -32,7 +32,7 @@ shows c part kept wrapped bytes state s is =
     let whole = play_is p part state reads m (memory_in part kept bytes) head fars (c.part.ensures.value part kept wrapped bytes s) (c.memory.ensures.shows part kept wrapped bytes s) c.in_ok-fars.ensures begun in
     ap (answer_with c.args.stopped)
     (ap (λ (x : PartData). head ++ frame_lines_text (frame_at x c.args.device.registers.frames.memory) fars) (sym c.part.ensures.stored)
-    ∙ ap (λ (x : List (List ℕ)). head ++ frame_lines_text (frame_at p x) fars) (sym c.memory.ensures.value)
+    ∙ ap (λ (x : List (List ℕ)). head ++ frame_lines_text (frame_at p x) fars) (sym c.memory.ensures.stored)
     ∙ whole)
 
 pub returns : goal.returns

@@ -15,14 +15,14 @@ pub returns-in_err-write_lines-clause-prefix : goal.returns-in_err-write_lines-c
 returns-in_err-write_lines-clause-prefix g c =
     let s = g.S.Sink in
     report_failed (s.state c.args.out.now).written (s.state c.write_all.new.sink).written (s.state c.write_lines.new.out).written c.part.result.now c.self.inside.device.part c.memory.result.now c.self.inside.device.registers.frames.memory
-    c.deref.result.now c.self.inside.head.items c.deref-2.result.now c.self.inside.fars.items c.args.self.now.text c.part.ensures.stored c.memory.ensures.value c.deref.ensures.value c.deref-2.ensures.value
+    c.deref.result.now c.self.inside.head.items c.deref-2.result.now c.self.inside.fars.items c.args.self.now.text c.part.ensures.stored c.memory.ensures.stored c.deref.ensures.value c.deref-2.ensures.value
     (ap (λ (a : PlayTextState). a.text) c.self.view_is) c.in_ok-write_all.ensures.appends c.in_err-write_lines.ensures.prefix
 
 pub returns-clause-whole : goal.returns-clause-whole
 returns-clause-whole g c =
     let s = g.S.Sink in
     report_whole (s.state c.args.out.now).written (s.state c.write_all.new.sink).written (s.state c.write_lines.new.out).written c.part.result.now c.self.inside.device.part c.memory.result.now c.self.inside.device.registers.frames.memory
-    c.deref.result.now c.self.inside.head.items c.deref-2.result.now c.self.inside.fars.items c.args.self.now.text c.part.ensures.stored c.memory.ensures.value c.deref.ensures.value c.deref-2.ensures.value
+    c.deref.result.now c.self.inside.head.items c.deref-2.result.now c.self.inside.fars.items c.args.self.now.text c.part.ensures.stored c.memory.ensures.stored c.deref.ensures.value c.deref-2.ensures.value
     (ap (λ (a : PlayTextState). a.text) c.self.view_is) c.in_ok-write_all.ensures.appends c.in_ok-write_lines.ensures.whole
 
 pub returns-clause-prefix : goal.returns-clause-prefix
@@ -30,5 +30,5 @@ returns-clause-prefix g c =
     let s = g.S.Sink in
     whole_put (s.state c.args.out.now).written (s.state c.write_lines.new.out).written c.args.self.now.text
     (report_whole (s.state c.args.out.now).written (s.state c.write_all.new.sink).written (s.state c.write_lines.new.out).written c.part.result.now c.self.inside.device.part c.memory.result.now c.self.inside.device.registers.frames.memory
-    c.deref.result.now c.self.inside.head.items c.deref-2.result.now c.self.inside.fars.items c.args.self.now.text c.part.ensures.stored c.memory.ensures.value c.deref.ensures.value c.deref-2.ensures.value
+    c.deref.result.now c.self.inside.head.items c.deref-2.result.now c.self.inside.fars.items c.args.self.now.text c.part.ensures.stored c.memory.ensures.stored c.deref.ensures.value c.deref-2.ensures.value
     (ap (λ (a : PlayTextState). a.text) c.self.view_is) c.in_ok-write_all.ensures.appends c.in_ok-write_lines.ensures.whole)
