@@ -322,6 +322,7 @@ impl Device {
         ensures within_most { HoldsWithinMost read.new.most read.new.words }
         ensures room { OfPast self.old (λ p. RoomBefore p piece.now (taken_in (length piece.now) result) (reads_given_at self.old p) read.old) }
         ensures stopped { OfPast self.old (λ p. IsSome (stop_at p) → (self.new ≡ self.old) × (read.new ≡ read.old) × (taken_in (length piece.now) result ≡ 0)) }
+        ensures stays { (why : StopCause) → self.old.registers.stop ≡ Some why → (self.new ≡ self.old) × (read.new ≡ read.old) × (result ≡ answer_at_stop why 0) }
     {
         read.holds_within_most();
         let mut at = 0;

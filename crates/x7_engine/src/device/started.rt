@@ -76,6 +76,7 @@ impl Device {
         ensures reads { GivesWordsNext self.old self.new (prefix_taken_until piece.now result) read.old read.new }
         ensures room { OfPast self.old (λ p. RoomBefore p piece.now (taken_until (length piece.now) result) (reads_given_at self.old p) read.old) }
         ensures stopped { OfPast self.old (λ p. IsSome (stop_at p) → (self.new ≡ self.old) × (read.new ≡ read.old) × (taken_until (length piece.now) result ≡ 0)) }
+        ensures stays { HasStopped self.old → (self.new ≡ self.old) × (read.new ≡ read.old) × (taken_until (length piece.now) result ≡ 0) }
     {
         let mut at = 0;
         'runs: loop {

@@ -1,8 +1,9 @@
 //! A device goes back over bytes that it took.
-ghost use Rattle.std.specs.Prelude.{◌≡◌, ◌≤◌, ◌+◌, ℕ, List, [], false, length, IfOk, IsSome};
+ghost use Rattle.std.specs.Prelude.{◌≡◌, ◌≤◌, ◌+◌, ℕ, List, [], false, length, IfOk, IsSome, Some};
 ghost use Rattle.x7_flow.specs.Standing.{FramesFit};
 ghost use Rattle.x7_engine.specs.Kept.{on_the_bench};
 ghost use Rattle.x7_engine.specs.ReadBuffer.{dropping};
+ghost use Rattle.x7_engine.specs.declared.stop.StopCause.{StopCause};
 ghost use Rattle.x7_engine.specs.Standing.{CanBeGiven, DeviceState, DeviceStandsFor, NoWordDue, fed_more, fed_of, taken_in};
 ghost use Rattle.x7_engine.specs.Undo.{AreEqual, Back, IsUndoOf, SavesDevice, TookFewSince, device_saved};
 ghost use Rattle.x7_engine.specs.Past.{AnswersFor, OfPast, TakesJust, prefix_taken, stop_at, HasPast, Past, later};
@@ -95,6 +96,7 @@ impl Device {
         ensures part { self.new.part ≡ self.old.part }
         ensures taken { self.new.taken ≡ self.old.taken + taken_in (length piece.now) result }
         ensures fed { fed_of self.new ≡ fed_more self.old (taken_in (length piece.now) result) }
+        ensures stays { (why : StopCause) → self.old.registers.stop ≡ Some why → (self.new ≡ self.old) × (result ≡ answer_at_stop why 0) }
         ensures saves { SavesDevice undo.new self.old }
         ensures back { OfPast self.old (λ p. Back undo.new self.new self.old) }
         ensures stopped { OfPast self.old (λ p. IsSome (stop_at p) → (self.new ≡ self.old) × (taken_in (length piece.now) result ≡ 0)) }

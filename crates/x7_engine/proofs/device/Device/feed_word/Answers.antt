@@ -21,3 +21,6 @@ returns-clause-back c = λ part kept wrapped bytes s.
 
 pub returns-clause-stopped : goal.returns-clause-stopped
 returns-clause-stopped c = λ part kept wrapped bytes s e. let same = c.feed-fed.ensures.stopped part kept wrapped bytes s e in (same.0, same.2)
+
+pub returns-clause-stays : goal.returns-clause-stays
+returns-clause-stays c = λ why e. let same = c.feed-fed.ensures.stays why e in (same.0, same.2)
