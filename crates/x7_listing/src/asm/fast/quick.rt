@@ -9,7 +9,7 @@ ghost use Rattle.x7_listing.specs.Line.{space_byte};
 ghost use Rattle.x7_listing.specs.Fast.Looking.{AppendsFoundLines, ReadsAtOnce};
 
 use super::write_pairs::{differences, put_pair};
-use crate::asm::reading::{MOST_LINE_BYTES, put_word, type1_at};
+use crate::asm::reading::{MOST_LINE_BYTES, put_word_bytes, type1_at};
 use crate::assembler::ASM_LIMIT;
 use std::simd::prelude::*;
 use x7_packets::type1_write_header;
@@ -217,7 +217,7 @@ fn put_write_line(out: &mut Vec<u8>, text: &[u8; LOOK_SIZE]) -> Option<WholeLine
     let Some((register, count)) = type1_at(&text[6..8 + space], space) else {
         return None;
     };
-    put_word(out, type1_write_header(register, count));
+    put_word_bytes(out, type1_write_header(register, count));
     Some(WholeLines {
         size: 9 + space,
         count: 1,
