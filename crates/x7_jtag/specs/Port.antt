@@ -26,6 +26,14 @@ pub record Port : Type 0 where
 abbrev pub words_read_out : PartData → List ℕ → List ℕ
 words_read_out part given = reads_of part on_the_bench given
 
+-- a count from 0 to 7, of the bits of a byte or of the clocks that offer one, after one more: 0 after 7
+abbrev pub next_of_eight : ℕ → ℕ
+next_of_eight count = (count + 1) % 8
+
+-- one more completes eight
+abbrev pub is_eighth : ℕ → Bool
+is_eighth count = count == 7
+
 -- the lowest bit of a register
 abbrev pub lowest_bit : ℕ → Bool
 lowest_bit register = register % 2 == 1
@@ -35,25 +43,49 @@ abbrev pub register_shifted : ℕ → ℕ → Bool → ℕ
 register_shifted top register tdi = register / 2 + top * number_of_bit tdi
 
 -- what the highest bit of a register of 32 bits is worth
-abbrev pub top_of_32 : ℕ
-top_of_32 = 2 ^ 31
+abbrev pub top_of_word : ℕ
+top_of_word = 2 ^ 31
 
 -- what the highest bit of the instruction register, which has six, is worth
 abbrev pub top_of_instruction : ℕ
 top_of_instruction = 32
 
--- a byte whose first bit is the highest: TDI comes in as the lowest
+-- what the bit of the bypass register, which has one, is worth
+abbrev pub top_of_bypass : ℕ
+top_of_bypass = 1
+
+-- what the highest bit of a byte is worth
+abbrev pub top_of_byte : ℕ
+top_of_byte = 128
+
+-- a byte after one bit more: TDI comes in as the lowest, and the highest is dropped
 abbrev pub with_bit : ℕ → Bool → ℕ
-with_bit byte tdi = byte % 128 * 2 + number_of_bit tdi
+with_bit byte tdi = byte % top_of_byte * 2 + number_of_bit tdi
+
+-- what DONE is worth in what Capture-IR loads: bit 5
+abbrev pub done_in_ir : ℕ
+done_in_ir = 32
+
+-- what INIT_B is worth in what Capture-IR loads: bit 4
+abbrev pub init_b_in_ir : ℕ
+init_b_in_ir = 16
+
+-- the two lowest bits of what Capture-IR loads: 01 (IEEE 1149.1)
+abbrev pub lowest_in_ir : ℕ
+lowest_in_ir = 1
+
+-- INIT_B in a word of STAT: bit 12
+abbrev pub init_b_of : ℕ → Bool
+init_b_of stat = stat / 2 ^ 12 % 2 == 1
 
 -- what Capture-IR loads for these values of DONE and INIT_B: DONE, INIT_B, 00 and 01, the highest bit first (bits 5 to
 -- 2 are this project's choice)
 abbrev pub ir_status_with : Bool → Bool → ℕ
-ir_status_with done init = 32 * number_of_bit done + 16 * number_of_bit init + 1
+ir_status_with done init_b = done_in_ir * number_of_bit done + init_b_in_ir * number_of_bit init_b + lowest_in_ir
 
--- what Capture-IR loads for a device of the part to which these bytes were given; INIT_B is bit 12 of STAT
+-- what Capture-IR loads for a device of the part to which these bytes were given
 abbrev pub ir_status : PartData → List ℕ → ℕ
-ir_status part given = ir_status_with (state_of part on_the_bench false given).lines.done ((state_of part on_the_bench false given).stat / 2 ^ 12 % 2 == 1)
+ir_status part given = ir_status_with (state_of part on_the_bench false given).lines.done (init_b_of (state_of part on_the_bench false given).stat)
 
 -- ---- the actions of the states
 
@@ -67,7 +99,7 @@ user_code = 0xFFFFFFFF
 
 -- Run-Test/Idle: under JSTART each eighth clock offers a byte FF
 abbrev pub idled : PartData → Instruction → Port → Port
-idled part instruction.Jstart p = record p { count = (p.count + 1) % 8; queue = if p.count == 7 then offered (words_read_out part) p.queue startup_byte else p.queue }
+idled part instruction.Jstart p = record p { count = next_of_eight p.count; queue = if is_eighth p.count then offered (words_read_out part) p.queue startup_byte else p.queue }
 idled part _ p = p
 
 -- Capture-DR: the register takes the idcode, the user code or 0; under CFG_IN the next bit is a byte's first
@@ -77,17 +109,18 @@ captured part instruction.Usercode p = record p { register = user_code }
 captured part instruction.CfgIn p = record p { register = 0; count = 0 }
 captured part _ p = record p { register = 0 }
 
--- Shift-DR: each eighth bit under CFG_IN completes a byte, which is offered
+-- Shift-DR, one bit: under CFG_IN each eighth completes a byte, which is offered; under CFG_OUT one of the words read
+-- out goes out; IDCODE and USERCODE shift the register of 32 bits, and any other instruction the one bit of bypass
 abbrev pub data_shifted : PartData → Instruction → Port → Bool → Port
 data_shifted part instruction.CfgIn p tdi = record p {
   register = with_bit p.register tdi;
-  count = (p.count + 1) % 8;
-  queue = if p.count == 7 then offered (words_read_out part) p.queue (with_bit p.register tdi) else p.queue;
+  count = next_of_eight p.count;
+  queue = if is_eighth p.count then offered (words_read_out part) p.queue (with_bit p.register tdi) else p.queue;
 }
 data_shifted part instruction.CfgOut p tdi = record p { queue = shifted_out (words_read_out part) p.queue }
-data_shifted part instruction.Idcode p tdi = record p { register = register_shifted top_of_32 p.register tdi }
-data_shifted part instruction.Usercode p tdi = record p { register = register_shifted top_of_32 p.register tdi }
-data_shifted part _ p tdi = record p { register = register_shifted 1 p.register tdi }
+data_shifted part instruction.Idcode p tdi = record p { register = register_shifted top_of_word p.register tdi }
+data_shifted part instruction.Usercode p tdi = record p { register = register_shifted top_of_word p.register tdi }
+data_shifted part _ p tdi = record p { register = register_shifted top_of_bypass p.register tdi }
 
 -- what an instruction does as it comes: JPROGRAM resets the device
 abbrev pub queue_at_update : Instruction → Queue → Queue

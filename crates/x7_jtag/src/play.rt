@@ -92,7 +92,7 @@ fn counts(mask: &Option<Bits<'_>>, i: u32) -> bool
 fn bits_differ(wanted: bool, shown: bool) -> bool
     ensures { result ≡ bits_differ wanted shown }
 {
-    if wanted { !shown } else { shown }
+    wanted != shown
 }
 
 /// Whether the bit that is shown differs from the wanted one, where bits are wanted and bit i counts.

@@ -1,10 +1,10 @@
 //! The test access port of a device.
-ghost use Rattle.std.specs.Prelude.{◌≡◌, ◌≤◌, ◌<◌, ◌+◌, ◌*◌, ◌/◌, ◌%◌, ◌^◌, ◌==◌, ◌∷◌, ℕ, false, [], List, length, IsTrue};
+ghost use Rattle.std.specs.Prelude.{◌≡◌, ◌≤◌, ◌∷◌, ℕ, false, [], List, length, IsTrue};
 ghost use Rattle.x7_words.specs.Word.{number_of_bit};
 ghost use Rattle.x7_part.specs.Part.{PartData};
 ghost use Rattle.x7_engine.specs.Kept.{on_the_bench};
 ghost use Rattle.x7_engine.specs.Standing.{DeviceStandsFor, DeviceState};
-ghost use Rattle.x7_jtag.specs.Port.{Port, acted, captured, data_shifted, data_shown, idled, lowest_bit, port_after, register_shifted as shifted_in, ir_status, ir_status_with, tdo_of, updated, with_bit as with_bit_in};
+ghost use Rattle.x7_jtag.specs.Port.{Port, acted, captured, data_shifted, data_shown, idled, init_b_of, is_eighth, lowest_bit, next_of_eight, port_after, register_shifted as shifted_in, ir_status, ir_status_with, tdo_of, top_of_word, updated, with_bit as with_bit_in};
 ghost use Rattle.x7_jtag.specs.State.{Clock};
 ghost use Rattle.x7_jtag.specs.declared.instruction.Instruction.TheVariants.{CfgIn};
 ghost use Rattle.x7_jtag.specs.Tap.{CanAllBeOffered, CanBeOffered, MakesClocks, PortBecomes, StandsForPort, TakesBytes, TapStandsFor, TookOfGiven, last_or};
@@ -22,9 +22,21 @@ const STARTUP_BYTE: u8 = 0xFF;
 /// The user code, which no stream sets here.
 const USER_CODE: u32 = 0xFFFF_FFFF;
 /// What the highest bit of a register of 32 bits is worth.
-const TOP_OF_32: u32 = 1 << 31;
+const TOP_OF_WORD: u32 = 1 << 31;
 /// What the highest bit of the instruction register, which has six, is worth.
 const TOP_OF_INSTRUCTION: u32 = 1 << 5;
+/// What the bit of the bypass register, which has one, is worth.
+const TOP_OF_BYPASS: u32 = 1;
+/// What the highest bit of a byte is worth.
+const TOP_OF_BYTE: u32 = 1 << 7;
+/// What DONE is worth in what Capture-IR loads.
+const DONE_IN_IR: u32 = 1 << 5;
+/// What INIT_B is worth in what Capture-IR loads.
+const INIT_B_IN_IR: u32 = 1 << 4;
+/// The two lowest bits of what Capture-IR loads (IEEE 1149.1).
+const LOWEST_IN_IR: u32 = 1;
+/// The place of INIT_B in a word of STAT, from the lowest bit, 0.
+const INIT_B_AT: u32 = 12;
 
 /// A test access port (IEEE 1149.1), clock by clock. It takes no memory.
 #[derive(Drop)]
@@ -66,25 +78,27 @@ fn lowest_bit(register: u32) -> bool
 
 /// One shift: the lowest bit goes out, and TDI comes in as the highest, which is worth `top`.
 fn register_shifted(top: u32, register: u32, tdi: bool) -> u32
-    requires { top ≤ 2 ^ 31 }
+    requires { top ≤ top_of_word }
     ensures { result ≡ shifted_in top register tdi }
 {
     let high = if tdi { top } else { 0 };
     register / 2 + high
 }
 
-/// A bit more of a byte whose first bit is the highest.
+/// The byte after one bit more: TDI comes in as the lowest, and the highest is dropped.
 fn with_bit(byte: u32, tdi: bool) -> u8
     ensures { result ≡ with_bit_in byte tdi }
 {
-    (byte % 128 * 2 + number_of_bit(tdi)) as u8
+    (byte % TOP_OF_BYTE * 2 + number_of_bit(tdi)) as u8
 }
 
 /// What Capture-IR loads for these values of DONE and STAT.
 fn ir_status_with(is_done: bool, stat: u32) -> u32
-    ensures { result ≡ ir_status_with is_done (stat / 2 ^ 12 % 2 == 1) }
+    ensures { result ≡ ir_status_with is_done (init_b_of stat) }
 {
-    32 * number_of_bit(is_done) + 16 * number_of_bit((stat >> 12) % 2 == 1) + 1
+    DONE_IN_IR * number_of_bit(is_done)
+        + INIT_B_IN_IR * number_of_bit((stat >> INIT_B_AT) % 2 == 1)
+        + LOWEST_IN_IR
 }
 
 /// What Capture-IR loads.
@@ -135,12 +149,12 @@ impl Tap {
 
     /// Counts to eight, and says whether it has.
     fn count_to_eight(&mut self) -> bool
-        ensures counted { self.new ≡ record self.old { count = (self.old.count + 1) % 8 } }
-        ensures eighth { result ≡ (self.old.count == 7) }
+        ensures counted { self.new ≡ record self.old { count = next_of_eight self.old.count } }
+        ensures eighth { result ≡ is_eighth self.old.count }
     {
-        let is_eighth = self.count == 7;
+        let completes = self.count == 7;
         self.count = (self.count + 1) % 8;
-        is_eighth
+        completes
     }
 
     /// Run-Test/Idle: under JSTART each eighth clock offers a byte FF.
@@ -187,7 +201,7 @@ impl Tap {
 
     /// One shift of the register, whose highest bit is worth `top`. Gives the bit that goes out.
     fn shift_register(&mut self, top: u32, tdi: bool) -> bool
-        requires { top ≤ 2 ^ 31 }
+        requires { top ≤ top_of_word }
         ensures shifted { self.new ≡ record self.old { register = shifted_in top self.old.register tdi } }
         ensures out { result ≡ lowest_bit self.old.register }
     {
@@ -229,9 +243,9 @@ impl Tap {
                 false
             }
             Instruction::CfgOut => self.queue.shift(device),
-            Instruction::Idcode => self.shift_register(TOP_OF_32, tdi),
-            Instruction::Usercode => self.shift_register(TOP_OF_32, tdi),
-            _ => self.shift_register(1, tdi),
+            Instruction::Idcode => self.shift_register(TOP_OF_WORD, tdi),
+            Instruction::Usercode => self.shift_register(TOP_OF_WORD, tdi),
+            _ => self.shift_register(TOP_OF_BYPASS, tdi),
         }
     }
 

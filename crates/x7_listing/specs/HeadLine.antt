@@ -45,6 +45,14 @@ HasRegister _ = Unit {0}
 abbrev pub line_size : ℕ
 line_size = 47
 
+-- how many bytes the keyword of a type 1 header's line has at most, with the space after it: `write `
+abbrev pub type1_keyword_limit : ℕ
+type1_keyword_limit = 6
+
+-- how many bytes the keyword of a type 2 header's line has at most, with the space after it: `write2 `
+abbrev pub type2_keyword_limit : ℕ
+type2_keyword_limit = 7
+
 -- the line of a word in a header's place, as one of the lines of a text
 abbrev pub line_as : HeadLine → Line
 line_as Nop = line.Nop

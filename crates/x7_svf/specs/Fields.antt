@@ -136,9 +136,9 @@ abbrev pub scan_by : ScannedRegister → ℕ → Option Fields → Option Statem
 scan_by register n None = None
 scan_by register n (Some f) = if all_fit n f then with_tdi register n f f.tdi else None
 
--- the most bits of a scan: 2^29
+-- the most bits of a scan
 abbrev pub most_bits : ℕ
-most_bits = 536870912
+most_bits = 2 ^ 29
 
 -- a number that is not 0: how many bits a scan has
 abbrev pub positive_count : Option ℕ → Option ℕ

@@ -1,7 +1,11 @@
 -- A text that is read from its first byte on, and the bytes that are kept of it (this project's choice).
-use Rattle.std.specs.Prelude.{ℕ, List, ◌∷◌, drop}
+use Rattle.std.specs.Prelude.{ℕ, ◌^◌, List, ◌∷◌, drop}
 use Rattle.x7_svf.specs.Token.{TokenOnLine, token_of, tokens, token_size}
 use Rattle.x7_svf.specs.declared.token.NextToken.{NextToken}
+
+-- how many bytes a text may have at most: 512 MiB
+abbrev pub svf_text_limit : ℕ
+svf_text_limit = 2 ^ 29
 
 -- the bytes kept of what was read, and the rest with the line on which it begins
 pub record SourceState : Type 0 where

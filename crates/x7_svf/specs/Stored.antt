@@ -40,6 +40,6 @@ IsStoredWithin n _ = ⊤
 abbrev pub AreStoredWithin : ℕ → List Stored → Type 0
 AreStoredWithin n ss = AllByRecursion (IsStoredWithin n) ss
 
--- what is stored, where these bytes are kept, is this statement, or none
+-- over the kept digits, the stored statement stands for this statement, and none for none; its digits are among them
 abbrev pub IsStored : List ℕ → Option Stored → Option Statement → Type 0
 IsStored kept o s = (stored_if kept o ≡ s) × IfSome o (IsStoredWithin (length kept))

@@ -19,4 +19,4 @@ pub use bits::Bits;
 pub use fault::SvfFault;
 pub use laws::{bits_are_those_of_the_value, values_fit_their_width};
 pub use statement::{Scan, ScannedRegister, Statement};
-pub use svf::{Svf, svf_from, svf_of};
+pub use svf::{SVF_TEXT_LIMIT, Svf, svf_from, svf_of};

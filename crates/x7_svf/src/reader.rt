@@ -22,8 +22,8 @@ use crate::stored::{Stored, StoredScan};
 use crate::token::{NextToken, next_within, pass_end};
 use crate::words::{Words, is_free_word, is_keyword, number_within, statement_of_kept, with_word};
 
-/// The most bits of a scan: 2^29.
-const MOST_BITS: u32 = 536_870_912;
+/// The most bits of a scan.
+const MOST_BITS: u32 = 1 << 29;
 
 /// Whether a token that a text begins with is a bracket, or a word without 0D.
 fn is_free_token(token: NextToken, text: &[u8]) -> bool

@@ -1,5 +1,6 @@
 //! A text that is read from its first byte on, and the bytes that are kept of it.
 ghost use Rattle.std.specs.Prelude.{◌≡◌, ◌≤◌, ◌<◌, ◌^◌, ◌++◌, [], length, drop, take, slice_index, vec_len};
+ghost use Rattle.x7_svf.specs.Source.{svf_text_limit};
 ghost use Rattle.x7_svf.specs.Token.{line_after};
 
 use std::marker::Model;
@@ -17,14 +18,14 @@ pub(crate) struct Source {
 }
 
 impl Model for Source {
-    ghost use Rattle.std.specs.Prelude.{◌≤◌, ◌+◌, ◌^◌, length, drop, take};
-    ghost use Rattle.x7_svf.specs.Source.{SourceState};
+    ghost use Rattle.std.specs.Prelude.{◌≤◌, ◌+◌, length, drop, take};
+    ghost use Rattle.x7_svf.specs.Source.{SourceState, svf_text_limit};
 
     ghost Value = { SourceState };
 
     ghost view = { λ s. record { kept = take s.kept s.text.items; line = s.line; rest = drop s.at s.text.items } };
 
-    ghost invariant = { λ s. (s.kept ≤ s.at) × (s.at ≤ length s.text.items) × (length s.text.items ≤ 2 ^ 29) × (s.line ≤ s.at + 1) };
+    ghost invariant = { λ s. (s.kept ≤ s.at) × (s.at ≤ length s.text.items) × (length s.text.items ≤ svf_text_limit) × (s.line ≤ s.at + 1) };
 }
 
 /// The line of the text after a byte that stands on this line.
@@ -36,9 +37,9 @@ fn line_after(byte: u8, line: u64) -> u64
 }
 
 impl Source {
-    /// A text of at most 2^29 bytes of which nothing is read or kept.
+    /// A text of at most 512 MiB of which nothing is read or kept.
     pub(crate) fn new(text: Vec<u8>) -> Source
-        requires { vec_len text ≤ 2 ^ 29 }
+        requires { vec_len text ≤ svf_text_limit }
         ensures { result ≡ record { kept = []; line = 1; rest = text.items } }
     {
         Source {
@@ -66,7 +67,7 @@ impl Source {
     /// The bytes that are kept.
     pub(crate) fn kept(&self) -> &[u8]
         ensures now { result.now ≡ self.now.kept }
-        ensures most { length result.now ≤ 2 ^ 29 }
+        ensures most { length result.now ≤ svf_text_limit }
     {
         &self.text[..self.kept]
     }

@@ -1,5 +1,6 @@
 //! Where bytes are kept.
-ghost use Rattle.std.specs.Prelude.{◌≡◌, ◌≤◌, ◌-◌, ◌^◌, length};
+ghost use Rattle.std.specs.Prelude.{◌≡◌, ◌≤◌, ◌-◌, length};
+ghost use Rattle.x7_svf.specs.Source.{svf_text_limit};
 ghost use Rattle.x7_svf.specs.Span.{bytes_in, span_end};
 
 /// Bytes that are kept one after another: how many come before them, and how many they are.
@@ -10,10 +11,10 @@ pub(crate) struct Span {
 }
 
 impl Span {
-    /// The bytes from `from` up to before `end`, which is at most 2^29.
+    /// The bytes from `from` up to before `end`, a place in a text or its end.
     pub(crate) fn new(from: usize, end: usize) -> Span
         requires order { from ≤ end }
-        requires within_limit { end ≤ 2 ^ 29 }
+        requires within_limit { end ≤ svf_text_limit }
         ensures from { result.from ≡ from }
         ensures count { result.count ≡ end - from }
     {

@@ -1,7 +1,7 @@
 //! The statements of a text.
-ghost use Rattle.std.specs.Prelude.{◌≡◌, ◌<◌, ◌≤◌, ◌*◌, ◌^◌, [], List, length, MatchResult, Some, None, IfOk, IfErr, Ok, Err, ◌⊎◌, vec_len};
+ghost use Rattle.std.specs.Prelude.{◌≡◌, ◌<◌, ◌≤◌, ◌*◌, [], List, length, MatchResult, Some, None, IfOk, IfErr, Ok, Err, ◌⊎◌, vec_len};
 ghost use Rattle.std.specs.List.{slice_get};
-ghost use Rattle.x7_svf.specs.Source.{tokens_left};
+ghost use Rattle.x7_svf.specs.Source.{svf_text_limit, tokens_left};
 ghost use Rattle.x7_svf.specs.Stored.{AreStoredWithin, statements_in};
 ghost use Rattle.x7_svf.specs.Svf.{BeginWithStatement, IsSvfOf, outcome, tokens_of};
 ghost use Rattle.x7_svf.specs.declared.fault.SvfFault.{SvfFault as FaultData};
@@ -16,7 +16,10 @@ use crate::token::next;
 use std::alloc::Global;
 use std::marker::Model;
 
-/// The statements of a text, fewer than 2^29.
+/// How many bytes a text may have at most: 512 MiB.
+pub const SVF_TEXT_LIMIT: usize = 1 << 29;
+
+/// The statements of a text, fewer than the bytes that a text may have.
 #[derive(Drop)]
 pub struct Svf {
     statements: Vec<Stored>,
@@ -25,7 +28,8 @@ pub struct Svf {
 }
 
 impl Model for Svf {
-    ghost use Rattle.std.specs.Prelude.{◌<◌, ◌^◌, List, length};
+    ghost use Rattle.std.specs.Prelude.{◌<◌, List, length};
+    ghost use Rattle.x7_svf.specs.Source.{svf_text_limit};
     ghost use Rattle.x7_svf.specs.Stored.{AreStoredWithin, statements_in};
     ghost use Rattle.x7_svf.specs.declared.statement.Statement.{Statement};
 
@@ -33,14 +37,14 @@ impl Model for Svf {
 
     ghost view = { λ s. statements_in s.digits.items s.statements.items };
 
-    ghost invariant = { λ s. (length s.statements.items < 2 ^ 29) × AreStoredWithin (length s.digits.items) s.statements.items };
+    ghost invariant = { λ s. (length s.statements.items < svf_text_limit) × AreStoredWithin (length s.digits.items) s.statements.items };
 }
 
 impl Svf {
     /// How many statements there are.
     pub fn len(&self) -> usize
         ensures length { result ≡ length self.now }
-        ensures most { result < 2 ^ 29 }
+        ensures most { result < svf_text_limit }
     {
         self.statements.len()
     }
@@ -59,7 +63,7 @@ impl Svf {
 /// The statements of a text without comments. The digits of their scans are kept.
 fn statements(alloc: Global, source: &mut Source) -> Result<Vec<Stored>, SvfFault>
     requires none_kept { source.old.kept ≡ [] }
-    requires within_limit { length source.old.rest ≤ 2 ^ 29 }
+    requires within_limit { length source.old.rest ≤ svf_text_limit }
     ensures says { MatchResult result (λ s. outcome (tokens_left source.old) ≡ Ok (statements_in source.new.kept s.items))
         (λ fault. (fault ≡ FaultData.NoMemory) ⊎ (outcome (tokens_left source.old) ≡ Err fault)) }
     ensures memory { IfErr result (λ fault. fault ≡ FaultData.NoMemory → BeginWithStatement (tokens_left source.old)) }
@@ -80,9 +84,10 @@ fn statements(alloc: Global, source: &mut Source) -> Result<Vec<Stored>, SvfFaul
 }
 
 /// The statements of a text that is given up for them, or the line on which the first begins that is none. The digits
-/// of the scans stay in the text's bytes, at most 2^29. Memory is wanting only for a text that begins with a statement.
+/// of the scans stay in the text's bytes, at most `SVF_TEXT_LIMIT`. Memory is wanting only for a text that begins with
+/// a statement.
 pub fn svf_from(alloc: Global, text: Vec<u8>) -> Result<Svf, SvfFault>
-    requires { vec_len text ≤ 2 ^ 29 }
+    requires { vec_len text ≤ svf_text_limit }
     ensures statements { IfOk result (λ svf. IsSvfOf text.items (Ok svf)) }
     ensures fault { IfErr result (λ fault. (fault ≡ FaultData.NoMemory) ⊎ IsSvfOf text.items (Err fault)) }
     ensures memory { IfErr result (λ fault. fault ≡ FaultData.NoMemory → BeginWithStatement (tokens_of text.items)) }
@@ -97,9 +102,10 @@ pub fn svf_from(alloc: Global, text: Vec<u8>) -> Result<Svf, SvfFault>
     })
 }
 
-/// The statements of a text, or the line on which the first begins that is none. A text has at most 2^29 bytes.
+/// The statements of a text, or the line on which the first begins that is none. A text has at most
+/// `SVF_TEXT_LIMIT` bytes.
 pub fn svf_of(alloc: Global, text: &[u8]) -> Result<Svf, SvfFault>
-    requires { length text.now ≤ 2 ^ 29 }
+    requires { length text.now ≤ svf_text_limit }
     ensures statements { IfOk result (λ svf. IsSvfOf text.now (Ok svf)) }
     ensures fault { IfErr result (λ fault. (fault ≡ FaultData.NoMemory) ⊎ IsSvfOf text.now (Err fault)) }
 {

@@ -1,14 +1,11 @@
 //! What no case of SVF texts shows of the test access port: a text that is read at once, and a new port.
 use std::alloc::Global;
 use x7_jtag::{Instruction, State, Tap};
-use x7_svf::{SvfFault, svf_of};
-
-/// The most bytes of a text that is read at once.
-const SVF_LIMIT: usize = 1 << 29;
+use x7_svf::{SVF_TEXT_LIMIT, SvfFault, svf_of};
 
 /// The line of the first statement that is none; 0 of a text of statements, and none without memory.
 fn line_of(alloc: Global, text: &[u8]) -> Option<u64> {
-    if text.len() > SVF_LIMIT {
+    if text.len() > SVF_TEXT_LIMIT {
         return None;
     }
     match svf_of(alloc, text) {

@@ -116,7 +116,8 @@ impl AsmLines {
         self.put_one(n, line)
     }
 
-    /// Appends the bytes of the text's first lines after `n` lines, as far as they are read at once.
+    /// Appends the bytes of the text's first lines after `n` lines, as far as they are read at once. A line that isn't is
+    /// left to `put_next`, and so are those after it.
     fn put_at_once(&mut self, n: u64, text: &[u8]) -> WholeLines
         ensures appends { AppendsLines text.now (drop result.size text.now) self.old.out self.new.out result.count }
         ensures start { self.new.start ≡ self.old.start }

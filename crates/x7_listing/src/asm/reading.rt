@@ -31,13 +31,16 @@ const TYPE1_COUNTS: u32 = 1 << 11;
 /// How many word counts a type 2 header can say: each is below this (UG470, packet types).
 const TYPE2_COUNTS: u32 = 1 << 27;
 
-/// The place of the first space, if one stands among the first ten bytes, which the name of a register never fills.
+/// How many bytes are searched for the space after a register's name: more than the longest name has.
+const NAME_SEARCH_SIZE: usize = 10;
+
+/// The place of the first space, if one stands among the first `NAME_SEARCH_SIZE` bytes.
 #[inline(always)]
 fn space_in(text: &[u8]) -> Option<usize>
-    ensures { MatchOption result ((j : ℕ) → j < 10 → j < length text.now → slice_index text.now j ≢ space_byte)
+    ensures { MatchOption result ((j : ℕ) → j < NAME_SEARCH_SIZE → j < length text.now → slice_index text.now j ≢ space_byte)
         (IsFirstSpace text.now) }
 {
-    let most = text.len().min(10);
+    let most = text.len().min(NAME_SEARCH_SIZE);
     for at in 0..most {
         if text[at] == b' ' {
             return Some(at);
@@ -77,12 +80,12 @@ pub(crate) fn type1_at(text: &[u8], space: usize) -> Option<(u8, u32)>
     Some((register, count))
 }
 
-/// Appends the bytes of a word.
-pub(crate) fn put_word(out: &mut Vec<u8>, w: u32)
+/// Appends the four bytes of a word, the highest first.
+pub(crate) fn put_word_bytes(out: &mut Vec<u8>, word: u32)
     requires { HasRoomForLine out.old }
-    ensures appends { Appends out.old out.new (bytes_of_word w) bytes_row_size }
+    ensures appends { Appends out.old out.new (bytes_of_word word) bytes_row_size }
 {
-    put(out, &bytes_of(w));
+    put(out, &bytes_of(word));
 }
 
 /// Appends the bytes of a word, and answers whether there is one.
@@ -93,7 +96,7 @@ fn put_found(out: &mut Vec<u8>, word: Option<u32>) -> bool
 {
     match word {
         Some(w) => {
-            put_word(out, w);
+            put_word_bytes(out, w);
             true
         }
         None => false,
@@ -184,11 +187,11 @@ fn put_plain(out: &mut Vec<u8>, check: u32, line: &[u8]) -> bool
         return true;
     }
     if is_same(line, b"sync") {
-        put_word(out, SYNC_WORD);
+        put_word_bytes(out, SYNC_WORD);
         return true;
     }
     if is_same(line, b"crc") {
-        put_word(out, type1_write_header(Reg::Crc.number(), 1));
+        put_word_bytes(out, type1_write_header(Reg::Crc.number(), 1));
         put(out, &bytes_of(check));
         return true;
     }
@@ -203,7 +206,7 @@ pub(crate) fn put_line(out: &mut Vec<u8>, check: u32, line: &[u8]) -> bool
     ensures room { StaysWithin out.old out.new bytes_row_size }
 {
     if is_same(line, b"nop") {
-        put_word(out, NO_OP);
+        put_word_bytes(out, NO_OP);
         return true;
     }
     if let Some(words) = after(line, b"data") {

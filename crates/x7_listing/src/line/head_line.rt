@@ -4,7 +4,7 @@ ghost use Rattle.x7_regs.specs.Register.{reg_name, reg_number_count};
 ghost use Rattle.x7_text.specs.Appends.{Appends, HasSpareRoom};
 ghost use Rattle.x7_text.specs.Digits.{hex_word};
 ghost use Rattle.x7_text.specs.Row.{close};
-ghost use Rattle.x7_listing.specs.HeadLine.{command_line, line_of_head, text_of_head, line_size};
+ghost use Rattle.x7_listing.specs.HeadLine.{command_line, line_of_head, text_of_head, line_size, type1_keyword_limit, type2_keyword_limit};
 ghost use Rattle.x7_words.specs.Characters.{line_end_byte, space_byte};
 
 use x7_packets::{
@@ -37,30 +37,30 @@ impl HeadLine {
     ghost use Rattle.x7_listing.specs.HeadLine.{line_of_head, HasRegister, line_text, line_word};
 
     /// The line of a word in a header's place with this step. It stands for just this word.
-    pub(crate) fn new(step: Step, w: u32) -> HeadLine
-        ensures line { result ≡ line_of_head step w }
-        ensures back { line_word result ≡ w }
+    pub(crate) fn new(step: Step, word: u32) -> HeadLine
+        ensures line { result ≡ line_of_head step word }
+        ensures back { line_word result ≡ word }
         ensures register { HasRegister result }
     {
         if let Step::Bad(_) = step {
-            return HeadLine::Word(w);
+            return HeadLine::Word(word);
         }
-        let register = register_in(w);
-        let count = type1_count_in(w);
-        if w == NO_OP {
+        let register = register_in(word);
+        let count = type1_count_in(word);
+        if word == NO_OP {
             HeadLine::Nop
-        } else if w == SYNC_WORD {
+        } else if word == SYNC_WORD {
             HeadLine::Sync
-        } else if w == type1_write_header(register, count) {
+        } else if word == type1_write_header(register, count) {
             HeadLine::Write(register, count)
-        } else if w == type1_read_header(register, count) {
+        } else if word == type1_read_header(register, count) {
             HeadLine::Read(register, count)
-        } else if kind_in(w) == TYPE2_WRITE_KIND {
-            HeadLine::Write2(type2_count_in(w))
-        } else if kind_in(w) == TYPE2_READ_KIND {
-            HeadLine::Read2(type2_count_in(w))
+        } else if kind_in(word) == TYPE2_WRITE_KIND {
+            HeadLine::Write2(type2_count_in(word))
+        } else if kind_in(word) == TYPE2_READ_KIND {
+            HeadLine::Read2(type2_count_in(word))
         } else {
-            HeadLine::Word(w)
+            HeadLine::Word(word)
         }
     }
 
@@ -77,7 +77,7 @@ impl HeadLine {
             HeadLine::Read(register, count) => put_type1(text, b"read ", register, count),
             HeadLine::Write2(count) => put_count(text, b"write2 ", count),
             HeadLine::Read2(count) => put_count(text, b"read2 ", count),
-            HeadLine::Word(w) => put_whole_word(text, b"word ", w),
+            HeadLine::Word(word) => put_whole_word(text, b"word ", word),
         }
     }
 }
@@ -85,7 +85,7 @@ impl HeadLine {
 /// Appends a line of a type 1 header: a keyword, the register's name and the word count.
 fn put_type1(text: &mut Vec<u8>, keyword: &[u8], register: u8, count: u32)
     requires room { HasSpareRoom text.old line_size }
-    requires short { length keyword.now ≤ 6 }
+    requires short { length keyword.now ≤ type1_keyword_limit }
     requires register { register < reg_number_count }
     ensures appends { Appends text.old text.new (keyword.now ++ reg_name register ++ space_byte ∷ decimal count ++ line_end_byte ∷ []) line_size }
 {
@@ -99,7 +99,7 @@ fn put_type1(text: &mut Vec<u8>, keyword: &[u8], register: u8, count: u32)
 /// Appends a line of a type 2 header: a keyword and the word count.
 fn put_count(text: &mut Vec<u8>, keyword: &[u8], count: u32)
     requires room { HasSpareRoom text.old line_size }
-    requires short { length keyword.now ≤ 7 }
+    requires short { length keyword.now ≤ type2_keyword_limit }
     ensures appends { Appends text.old text.new (keyword.now ++ decimal count ++ line_end_byte ∷ []) line_size }
 {
     put(text, keyword);
@@ -108,34 +108,34 @@ fn put_count(text: &mut Vec<u8>, keyword: &[u8], count: u32)
 }
 
 /// Appends a line of one word: a keyword of four letters, a space and eight digits.
-fn put_whole_word(text: &mut Vec<u8>, keyword: &[u8; 5], w: u32)
+fn put_whole_word(text: &mut Vec<u8>, keyword: &[u8; 5], word: u32)
     requires { HasSpareRoom text.old line_size }
-    ensures appends { Appends text.old text.new (keyword.now ++ hex_word w ++ line_end_byte ∷ []) line_size }
+    ensures appends { Appends text.old text.new (keyword.now ++ hex_word word ++ line_end_byte ∷ []) line_size }
 {
     let mut line = [b'\n'; 14];
-    line[5..13].copy_from_slice(&hex_of_word(w));
+    line[5..13].copy_from_slice(&hex_of_word(word));
     line[..5].copy_from_slice(keyword);
     put(text, &line);
 }
 
 /// Appends the line of a word in a header's place, after an open line of `in_line` words.
-pub(crate) fn put_head(text: &mut Vec<u8>, in_line: usize, step: Step, w: u32)
+pub(crate) fn put_head(text: &mut Vec<u8>, in_line: usize, step: Step, word: u32)
     requires { HasSpareRoom text.old (1 + line_size) }
-    ensures appends { Appends text.old text.new (close in_line ++ text_of_head step w) (1 + line_size) }
+    ensures appends { Appends text.old text.new (close in_line ++ text_of_head step word) (1 + line_size) }
 {
     put_close(text, in_line);
-    HeadLine::new(step, w).put(text);
+    HeadLine::new(step, word).put(text);
 }
 
 /// Appends the line of a payload word of CMD, after an open line of `in_line` words.
-pub(crate) fn put_command(text: &mut Vec<u8>, in_line: usize, w: u32)
+pub(crate) fn put_command(text: &mut Vec<u8>, in_line: usize, word: u32)
     requires { HasSpareRoom text.old (1 + line_size) }
-    ensures appends { Appends text.old text.new (close in_line ++ command_line w) (1 + line_size) }
+    ensures appends { Appends text.old text.new (close in_line ++ command_line word) (1 + line_size) }
 {
     put_close(text, in_line);
-    let command = command_of(w);
-    if command.code() != w {
-        return put_whole_word(text, b"data ", w);
+    let command = command_of(word);
+    if command.code() != word {
+        return put_whole_word(text, b"data ", word);
     }
     put(text, b"cmd ");
     put(text, command_text(command).bytes());

@@ -7,6 +7,9 @@ ghost use Rattle.x7_listing.specs.Fast.AtOnce.{AreRowsFrom, command_lines, row_t
 /// Where in a row it stands how many of its bytes are text: the last of its 32 bytes.
 pub(crate) const TEXT_SIZE_AT: usize = 31;
 
+/// How many commands have a row in their table: one each for the codes of five bits (UG470, command register).
+pub(crate) const COMMAND_CODES: u32 = 1 << 5;
+
 /// The row of this number in a table, from 0.
 #[inline(always)]
 fn row_in(rows: &[[u8; 32]; 32], n: usize) -> &[u8; 32]
@@ -25,13 +28,13 @@ pub(crate) fn write_row(register: u8) -> &'static [u8; 32]
     row_in(&WRITES, register as usize)
 }
 
-/// The row of the lines of a write of a word below 32 to CMD.
+/// The row of the lines of a write to CMD of a word that is a command's code.
 #[inline(always)]
-pub(crate) fn command_row(w: u32) -> &'static [u8; 32]
-    requires { w < command_code_count }
-    ensures { row_text result.now ≡ command_lines w }
+pub(crate) fn command_row(word: u32) -> &'static [u8; 32]
+    requires { word < command_code_count }
+    ensures { row_text result.now ≡ command_lines word }
 {
-    row_in(&COMMANDS, w as usize)
+    row_in(&COMMANDS, word as usize)
 }
 
 /// The row of the line of a write to a register, up to its word count.

@@ -121,17 +121,17 @@ fn hold_all(text: &mut Vec<u8>, pen: GapPen, bytes: &[u8]) -> GapPen
 }
 
 /// Appends a payload word after an open line. Gives how many words stand in the open line then.
-fn put_payload(text: &mut Vec<u8>, in_line: OpenWords, register: u8, w: u32) -> OpenWords
+fn put_payload(text: &mut Vec<u8>, in_line: OpenWords, register: u8, word: u32) -> OpenWords
     requires room { HasSpareRoom text.old (1 + line_size) }
-    ensures count { result.count ≡ in_line_after_words in_line.count (payload_steps register (w ∷ [])) }
-    ensures appends { Appends text.old text.new (open_words in_line.count (payload_steps register (w ∷ []))) (1 + line_size) }
+    ensures count { result.count ≡ in_line_after_words in_line.count (payload_steps register (word ∷ [])) }
+    ensures appends { Appends text.old text.new (open_words in_line.count (payload_steps register (word ∷ []))) (1 + line_size) }
 {
     if register == Reg::Cmd.number() {
-        put_command(text, in_line.count, w);
+        put_command(text, in_line.count, word);
         return OpenWords { count: 0 };
     }
     OpenWords {
-        count: put_word(text, in_line.count, w),
+        count: put_word(text, in_line.count, word),
     }
 }
 

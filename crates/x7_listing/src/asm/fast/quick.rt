@@ -9,7 +9,7 @@ ghost use Rattle.x7_words.specs.Characters.{space_byte};
 ghost use Rattle.x7_listing.specs.Fast.Looking.{AppendsFoundLines, ReadsAtOnce};
 
 use super::write_pairs::{differences, put_pair};
-use crate::asm::reading::{MOST_ROW_SIZE, put_word, type1_at};
+use crate::asm::reading::{MOST_ROW_SIZE, put_word_bytes, type1_at};
 use crate::assembler::ASM_LIMIT;
 use std::simd::prelude::*;
 use x7_packets::type1_write_header;
@@ -25,6 +25,24 @@ const NOP_BYTES: &[u8; 32] =
 
 /// How many bytes of a text are looked at: as many as the longest line that is read at once has, with its end.
 pub(crate) const LOOK_SIZE: usize = 77;
+
+/// How many bytes the word `data` has.
+const DATA_SIZE: usize = 4;
+
+/// How many bytes a word has in a `data` line: a space and eight digits.
+const SPACED_WORD_SIZE: usize = 9;
+
+/// How many bytes the word `bytes` and the space after it have.
+const BYTES_SIZE: usize = 6;
+
+/// How many digits the bytes of a full `bytes` line have.
+const FULL_DIGITS: usize = 64;
+
+/// How many bytes the word `write` and the space after it have.
+const WRITE_SIZE: usize = 6;
+
+/// How many bytes a `write` line with a count of one digit has beside the register's name and the line end.
+const BESIDE_NAME_SIZE: usize = WRITE_SIZE + 2;
 
 /// Some whole lines that were read: how many bytes of the text they are, and how many lines.
 #[derive(Clone, Copy, Drop)]
@@ -98,10 +116,10 @@ fn row_digits(text: &[u8; LOOK_SIZE]) -> [u8; 64]
 #[inline(always)]
 fn has_spaces(text: &[u8; LOOK_SIZE], count: usize) -> bool
     requires in_row { count ≤ row_words }
-    ensures { IsTrue result → (k : ℕ) → k < count → slice_index text.now (4 + 9 * k) ≡ space_byte }
+    ensures { IsTrue result → (k : ℕ) → k < count → slice_index text.now (DATA_SIZE + SPACED_WORD_SIZE * k) ≡ space_byte }
 {
     for k in 0..count {
-        if text[4 + 9 * k] != b' ' {
+        if text[DATA_SIZE + SPACED_WORD_SIZE * k] != b' ' {
             return false;
         }
     }
@@ -113,7 +131,7 @@ fn has_spaces(text: &[u8; LOOK_SIZE], count: usize) -> bool
 #[inline(always)]
 fn is_spaced(text: &[u8; LOOK_SIZE], count: usize) -> bool
     requires in_row { count ≤ row_words }
-    ensures { IsTrue result → (k : ℕ) → k < count → slice_index text.now (4 + 9 * k) ≡ space_byte }
+    ensures { IsTrue result → (k : ℕ) → k < count → slice_index text.now (DATA_SIZE + SPACED_WORD_SIZE * k) ≡ space_byte }
 {
     if count == 8 {
         return has_spaces(text, 8);
@@ -137,7 +155,7 @@ fn put_data_row(out: &mut Vec<u8>, text: &[u8; LOOK_SIZE]) -> Option<WholeLines>
 {
     let prefix = prefix_of_hex(&row_digits(text));
     let count = prefix.digit_count / 8;
-    if count == 0 || text[4 + 9 * count] != b'\n' || !is_data(text) {
+    if count == 0 || text[DATA_SIZE + SPACED_WORD_SIZE * count] != b'\n' || !is_data(text) {
         return None;
     }
     if !is_spaced(text, count) {
@@ -147,7 +165,7 @@ fn put_data_row(out: &mut Vec<u8>, text: &[u8; LOOK_SIZE]) -> Option<WholeLines>
     put(out, &prefix.bytes);
     out.truncate(end);
     Some(WholeLines {
-        size: 5 + 9 * count,
+        size: DATA_SIZE + 1 + SPACED_WORD_SIZE * count,
         count: 1,
     })
 }
@@ -163,9 +181,9 @@ fn is_bytes(text: &[u8; LOOK_SIZE]) -> bool
 /// The 64 bytes that stand where a full `bytes` line has its digits.
 #[inline(always)]
 fn bytes_digits(text: &[u8; LOOK_SIZE]) -> [u8; 64]
-    ensures { result ≡ take 64 (drop 6 text.now) }
+    ensures { result ≡ take 64 (drop BYTES_SIZE text.now) }
 {
-    u8x64::from_slice(&text[6..]).to_array()
+    u8x64::from_slice(&text[BYTES_SIZE..]).to_array()
 }
 
 /// Appends the bytes of a `bytes` line, if one begins the text.
@@ -178,19 +196,19 @@ fn put_bytes(out: &mut Vec<u8>, text: &[u8; LOOK_SIZE]) -> Option<WholeLines>
         return None;
     }
     let prefix = prefix_of_hex(&bytes_digits(text));
-    if prefix.digit_count == 64 && text[70] == b'\n' {
+    if prefix.digit_count == FULL_DIGITS && text[BYTES_SIZE + FULL_DIGITS] == b'\n' {
         put(out, &prefix.bytes);
-        return Some(WholeLines { size: 71, count: 1 });
+        return Some(WholeLines { size: BYTES_SIZE + FULL_DIGITS + 1, count: 1 });
     }
     let count = prefix.digit_count / 2;
-    if count == 0 || prefix.digit_count != 2 * count || text[6 + prefix.digit_count] != b'\n' {
+    if count == 0 || prefix.digit_count != 2 * count || text[BYTES_SIZE + prefix.digit_count] != b'\n' {
         return None;
     }
     let end = out.len() + count;
     put(out, &prefix.bytes);
     out.truncate(end);
     Some(WholeLines {
-        size: 7 + prefix.digit_count,
+        size: BYTES_SIZE + 1 + prefix.digit_count,
         count: 1,
     })
 }
@@ -210,16 +228,16 @@ fn put_write_line(out: &mut Vec<u8>, text: &[u8; LOOK_SIZE]) -> Option<WholeLine
     requires room { HasRoomForLine out.old }
     ensures { AppendsFoundLines text.now out.old out.new result }
 {
-    let space = place_of(b' ', u8x16::from_slice(&text[6..]));
-    if space > 16 || !is_same(&text[..6], b"write ") || text[8 + space] != b'\n' {
+    let space = place_of(b' ', u8x16::from_slice(&text[WRITE_SIZE..]));
+    if space > 16 || !is_same(&text[..WRITE_SIZE], b"write ") || text[BESIDE_NAME_SIZE + space] != b'\n' {
         return None;
     }
-    let Some((register, count)) = type1_at(&text[6..8 + space], space) else {
+    let Some((register, count)) = type1_at(&text[WRITE_SIZE..BESIDE_NAME_SIZE + space], space) else {
         return None;
     };
-    put_word(out, type1_write_header(register, count));
+    put_word_bytes(out, type1_write_header(register, count));
     Some(WholeLines {
-        size: 9 + space,
+        size: BESIDE_NAME_SIZE + space + 1,
         count: 1,
     })
 }

@@ -18,7 +18,7 @@ ghost use Rattle.x7_listing.specs.declared.list.pen.state.Pen.{Pen};
 ghost use Rattle.x7_listing.specs.Lister.{in_line_after_words};
 
 use super::sheet::{SHEET_SIZE, put_prefix, put_row, put_whole};
-use crate::line::{command_row, name_row, write_row};
+use crate::line::{COMMAND_CODES, command_row, name_row, write_row};
 use crate::list::lister::BYTE_ROOM;
 use crate::list::pen::{OpenWords, Pen};
 use x7_packets::{Cutter, Step};
@@ -56,17 +56,17 @@ fn put_close(sheet: &mut [u8; SHEET_SIZE], len: usize, in_line: usize) -> usize
 
 /// Puts the lines of a write of a word to CMD, after an open line of `in_line` words.
 #[inline(always)]
-fn put_command(sheet: &mut [u8; SHEET_SIZE], len: usize, in_line: usize, w: u32) -> usize
+fn put_command(sheet: &mut [u8; SHEET_SIZE], len: usize, in_line: usize, word: u32) -> usize
     requires room { len + one_write_lines_size ≤ SHEET_SIZE }
     ensures within { result ≤ len + one_write_lines_size }
-    ensures appends { take result sheet.new ≡ take len sheet.old ++ (close in_line ++ command_lines w) }
+    ensures appends { take result sheet.new ≡ take len sheet.old ++ (close in_line ++ command_lines word) }
 {
     let begin = put_close(sheet, len, in_line);
-    if w < 32 {
-        return put_row(sheet, begin, command_row(w));
+    if word < COMMAND_CODES {
+        return put_row(sheet, begin, command_row(word));
     }
     let start = put_row(sheet, begin, write_row(Reg::Cmd.number()));
-    let end = put_whole(sheet, start, &hex_of_word(w));
+    let end = put_whole(sheet, start, &hex_of_word(word));
     put_whole(sheet, end, b"\n")
 }
 
@@ -77,24 +77,24 @@ fn put_write_lines(
     len: usize,
     in_line: usize,
     register: u8,
-    w: u32,
+    word: u32,
 ) -> TextEnd
     requires register { register < reg_number_count }
     requires room { len + one_write_lines_size ≤ SHEET_SIZE }
-    ensures count { result.in_line.count ≡ in_line_after_words 0 (payload_steps register (w ∷ [])) }
+    ensures count { result.in_line.count ≡ in_line_after_words 0 (payload_steps register (word ∷ [])) }
     ensures within { result.len ≤ len + one_write_lines_size }
-    ensures appends { take result.len sheet.new ≡ take len sheet.old ++ one_write_text in_line register w }
+    ensures appends { take result.len sheet.new ≡ take len sheet.old ++ one_write_text in_line register word }
 {
     if register == Reg::Cmd.number() {
         return TextEnd {
-            len: put_command(sheet, len, in_line, w),
+            len: put_command(sheet, len, in_line, word),
             in_line: OpenWords { count: 0 },
         };
     }
     let begin = put_close(sheet, len, in_line);
     let start = put_row(sheet, begin, write_row(register));
     TextEnd {
-        len: put_whole(sheet, start, &hex_of_word(w)),
+        len: put_whole(sheet, start, &hex_of_word(word)),
         in_line: OpenWords { count: 1 },
     }
 }
@@ -210,16 +210,16 @@ fn put_one_write(
     len: usize,
     in_line: OpenWords,
     register: u8,
-    w: u32,
+    word: u32,
 ) -> PutRun
     requires register { register < reg_number_count }
     requires room { len + one_write_lines_size ≤ SHEET_SIZE }
     ensures size { result.size ≡ 8 }
     ensures within { result.len ≤ len + one_write_lines_size }
-    ensures listed { (c d : CutterState) (rest : List ℕ) → WritesOne c d rest register w
+    ensures listed { (c d : CutterState) (rest : List ℕ) → WritesOne c d rest register word
         → ListsMoreAfter (on_sheet c in_line sheet.old len) (on_sheet d result.in_line sheet.new result.len) (take 8 rest) }
 {
-    let end = put_write_lines(sheet, len, in_line.count, register, w);
+    let end = put_write_lines(sheet, len, in_line.count, register, word);
     PutRun {
         in_line: end.in_line,
         len: end.len,

@@ -37,4 +37,4 @@ returns-clause-reads c = plain_line c.args.check c.put_plain.result c.args.line.
     c.put_plain.ensures.reads
 
 pub returns-then-is_same-clause-reads : goal.returns-then-is_same-clause-reads
-returns-then-is_same-clause-reads c = (Nop, tt, c.is_same.ensures.0 c.if-is_same.true, c.put_word.ensures.appends.items)
+returns-then-is_same-clause-reads c = (Nop, tt, c.is_same.ensures.0 c.if-is_same.true, c.put_word_bytes.ensures.appends.items)

@@ -3,9 +3,9 @@ use Rattle.x7_regs.specs.Command.{code_of}
 use Rattle.x7_listing.proofs.line.LineTextLemmas.{no_command_line}
 use Rattle.x7_listing.proofs.line.head_line.put_command.Goals as goal
 
-pub returns-then-code-w : goal.returns-then-code-w
-returns-then-code-w c =
-    let line = no_command_line c.args.w (λ e. c.if-code-w.true (c.code.ensures.value ∙ ap code_of c.command_of-command.ensures ∙ e)) in
+pub returns-then-code-word : goal.returns-then-code-word
+returns-then-code-word c =
+    let line = no_command_line c.args.word (λ e. c.if-code-word.true (c.code.ensures.value ∙ ap code_of c.command_of-command.ensures ∙ e)) in
     record {
       appends = record {
         items = rw (line, c.put_whole_word.ensures.appends.items, c.put_close.ensures.appends.items) (simp append_assoc);

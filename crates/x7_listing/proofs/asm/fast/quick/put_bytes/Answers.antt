@@ -11,7 +11,7 @@ returns-then-text-eq10 c =
     let new = c.put.new.text.items in
     let bytes = c.prefix_of_hex-prefix.result.bytes in
     let n = c.prefix_of_hex-prefix.result.digit_count in
-    let full : n ≡ 64 = c.if-prefix-eq64.true in
+    let full : n ≡ 64 = c.if-prefix-eq-FULL_DIGITS.true in
     record {
       takes = subst (λ (k : ℕ). AppendsFirstLines c.args.text.now old new (7 + k) 1) full (takes_prefix c.args.text.now bytes old new new n 32 (length old + 32) (omega (arith, c.told-text))
           (c.is_bytes.ensures c.if-not-is_bytes.false) c.prefix_of_hex-prefix.ensures.most c.prefix_of_hex-prefix.ensures.length c.prefix_of_hex-prefix.ensures.bytes
