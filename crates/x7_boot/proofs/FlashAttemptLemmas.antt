@@ -22,8 +22,8 @@ use Rattle.x7_engine.proofs.StateLemmas.{stop_is_final_state, stop_is_final_stop
 use Rattle.x7_boot.specs.Attempt.{IsUnderWay, CanTakePage, NoneBefore, StepsTo, Took, AttemptCourse, AttemptEnds, attempt_at, ending_at, ending_by, failed_by, past_in_flash}
 use Rattle.x7_boot.specs.declared.attempt.Ending.{Ending}
 use Rattle.x7_boot.specs.declared.attempt.Ending.TheVariants.{Started, Iprog, Failed}
-use Rattle.x7_boot.specs.declared.attempt.Step.{Step}
-use Rattle.x7_boot.specs.declared.attempt.Step.TheVariants.{GoesOn, Ends, Stops}
+use Rattle.x7_boot.specs.declared.attempt.AttemptStep.{AttemptStep}
+use Rattle.x7_boot.specs.declared.attempt.AttemptStep.TheVariants.{GoesOn, Ends, Stops}
 use Rattle.x7_boot.proofs.BootedLemmas.{where_all}
 use Rattle.x7_boot.proofs.TookLemmas.{ends_by_stop, ends_started}
 
@@ -118,12 +118,12 @@ joined_known : (known : Option (List ℕ)) (bytes page : List ℕ) (a b c : ℕ)
 joined_known None bytes page a b c l m e f = tt
 joined_known (Some all) bytes page a b c l m e f = ap (λ (x : List ℕ). x ++ page) e ∙ ap (λ (x : List ℕ). slice_range all a b ++ x) f ∙ ranges_join all a b c l m
 
-pub feeds_on : (part : PartData) (kept : Kept) (address : ℕ) (known : Option (List ℕ)) (d new : DeviceState) (page : List ℕ) (at end : ℕ) (step : Step) → at + length page ≡ end → (f : IsUnderWay (attempt_at part kept address) known d at)
+pub feeds_on : (part : PartData) (kept : Kept) (address : ℕ) (known : Option (List ℕ)) (d new : DeviceState) (page : List ℕ) (at end : ℕ) (step : AttemptStep) → at + length page ≡ end → (f : IsUnderWay (attempt_at part kept address) known d at)
     → IfKnown known (λ all. page ≡ slice_range all at end) → Took (past_in_flash part kept f.bytes) new page step → step ≡ GoesOn → IsUnderWay (attempt_at part kept address) known new end
 feeds_on part kept address known d new page at end step sum f knows t goes =
     let whole : t.count ≡ length page = t.all goes in
     let all : take t.count page ≡ page = ap (λ (n : ℕ). take n page) whole ∙ take_all (length page) page (omega arith) in
-    let steps : StepsTo part kept (f.bytes ++ page) GoesOn = subst (λ (s : Step). StepsTo part kept (f.bytes ++ page) s) goes (subst (λ (b : List ℕ). StepsTo part kept (f.bytes ++ b) step) all t.steps) in
+    let steps : StepsTo part kept (f.bytes ++ page) GoesOn = subst (λ (s : AttemptStep). StepsTo part kept (f.bytes ++ page) s) goes (subst (λ (b : List ℕ). StepsTo part kept (f.bytes ++ b) step) all t.steps) in
     let count : address + length f.bytes ≡ at = f.count in
     let long : length (f.bytes ++ page) ≡ length f.bytes + length page = length-append f.bytes page in
     record {
@@ -155,14 +155,14 @@ none_of part kept from bytes rest e none k l =
     subst (λ (b : List ℕ). ending_at part kept b ≡ None) (sym (ap (take k) e ∙ take-append-le k bytes rest (omega (arith, l)))) (none k l)
 
 -- the attempt of a page that ends it
-pub tries_ended : (part : PartData) (kept : Kept) (address : ℕ) (all : List ℕ) (d new : DeviceState) (page : List ℕ) (at end : ℕ) (step : Step) (e : Ending) → at ≤ end → (f : IsUnderWay (attempt_at part kept address) (Some all) d at)
+pub tries_ended : (part : PartData) (kept : Kept) (address : ℕ) (all : List ℕ) (d new : DeviceState) (page : List ℕ) (at end : ℕ) (step : AttemptStep) (e : Ending) → at ≤ end → (f : IsUnderWay (attempt_at part kept address) (Some all) d at)
     → page ≡ slice_range all at end → Took (past_in_flash part kept f.bytes) new page step → step ≡ Ends e → AttemptEnds (attempt_at part kept address) all new e
 tries_ended part kept address all d new page at end step e order f knows t is =
     let bytes : List ℕ = f.bytes ++ take t.count page in
     let count : address + length f.bytes ≡ at = f.count in
     let rest : List ℕ = drop t.count page ++ drop (end - address) (drop address all) in
     let from : drop address all ≡ bytes ++ rest = flash_from all f.bytes page address at end t.count (omega (arith, count)) order t.within f.read knows in
-    let ends : ending_at part kept bytes ≡ Some e = subst (λ (s : Step). StepsTo part kept bytes s) is t.steps in
+    let ends : ending_at part kept bytes ≡ Some e = subst (λ (s : AttemptStep). StepsTo part kept bytes s) is t.steps in
     let course : AttemptCourse = record { kept = kept; address = address; bytes = bytes; wrapped = false; ending = e } in
     record {
       course = course;
@@ -217,14 +217,14 @@ taken_stopped part kept d from bytes rest e fits stands some = by (stop_in part 
         sym (ap (λ (n : ℕ). take n from) count ∙ ap (take (length bytes)) e ∙ take-append_seam bytes rest)
 
 -- the attempt of a page in which the device stopped, where the flash has ended for it
-pub tries_stopped : (part : PartData) (kept : Kept) (address : ℕ) (all : List ℕ) (d new wrapped : DeviceState) (page : List ℕ) (at end : ℕ) (step : Step) → AreBytes all → at ≤ end → (f : IsUnderWay (attempt_at part kept address) (Some all) d at)
+pub tries_stopped : (part : PartData) (kept : Kept) (address : ℕ) (all : List ℕ) (d new wrapped : DeviceState) (page : List ℕ) (at end : ℕ) (step : AttemptStep) → AreBytes all → at ≤ end → (f : IsUnderWay (attempt_at part kept address) (Some all) d at)
     → page ≡ slice_range all at end → (t : Took (past_in_flash part kept f.bytes) new page step) → step ≡ Stops → DeviceStandsFor part kept true wrapped (f.bytes ++ take t.count page) → AttemptEnds (attempt_at part kept address) all wrapped (Failed Wrap)
 tries_stopped part kept address all d new wrapped page at end step fits order f knows t is w =
     let bytes : List ℕ = f.bytes ++ take t.count page in
     let count : address + length f.bytes ≡ at = f.count in
     let rest : List ℕ = drop t.count page ++ drop (end - address) (drop address all) in
     let from : drop address all ≡ bytes ++ rest = flash_from all f.bytes page address at end t.count (omega (arith, count)) order t.within f.read knows in
-    let stopped : StepsTo part kept bytes Stops = subst (λ (s : Step). StepsTo part kept bytes s) is t.steps in
+    let stopped : StepsTo part kept bytes Stops = subst (λ (s : AttemptStep). StepsTo part kept bytes s) is t.steps in
     let fits' : AreBytes (bytes ++ rest) = subst AreBytes from (all_back (λ b. b < 256) (take address all) (drop address all) (subst AreBytes (sym (take-append-drop address all)) fits)) in
     record {
       course = record { kept = kept; address = address; bytes = bytes; wrapped = true; ending = Failed Wrap };
@@ -277,12 +277,12 @@ known_out part kept address None d wrapped at size e f past knows w is = tt
 known_out part kept address (Some all) d wrapped at size e f past knows w is =
     λ fits. subst (λ (x : Ending). AttemptEnds (attempt_at part kept address) all wrapped x) (sym is) (tries_out part kept address all d wrapped at f (omega (arith, past, knows)) w)
 
-pub known_ended : (part : PartData) (kept : Kept) (address : ℕ) (known : Option (List ℕ)) (d new : DeviceState) (page : List ℕ) (at : ℕ) (step : Step) (e : Ending) → (f : IsUnderWay (attempt_at part kept address) known d at)
+pub known_ended : (part : PartData) (kept : Kept) (address : ℕ) (known : Option (List ℕ)) (d new : DeviceState) (page : List ℕ) (at : ℕ) (step : AttemptStep) (e : Ending) → (f : IsUnderWay (attempt_at part kept address) known d at)
     → IfKnown known (λ all. page ≡ slice_range all at (at + length page)) → Took (past_in_flash part kept f.bytes) new page step → step ≡ Ends e → IfKnown known (λ all. AreBytes all → AttemptEnds (attempt_at part kept address) all new e)
 known_ended part kept address None d new page at step e f knows t is = tt
 known_ended part kept address (Some all) d new page at step e f knows t is = λ fits. tries_ended part kept address all d new page at (at + length page) step e (omega arith) f knows t is
 
-pub known_stopped : (part : PartData) (kept : Kept) (address : ℕ) (known : Option (List ℕ)) (d new wrapped : DeviceState) (page : List ℕ) (at : ℕ) (step : Step) (e : Ending) → (f : IsUnderWay (attempt_at part kept address) known d at)
+pub known_stopped : (part : PartData) (kept : Kept) (address : ℕ) (known : Option (List ℕ)) (d new wrapped : DeviceState) (page : List ℕ) (at : ℕ) (step : AttemptStep) (e : Ending) → (f : IsUnderWay (attempt_at part kept address) known d at)
     → IfKnown known (λ all. page ≡ slice_range all at (at + length page)) → (t : Took (past_in_flash part kept f.bytes) new page step) → step ≡ Stops → DeviceStandsFor part kept true wrapped (f.bytes ++ take t.count page) → e ≡ Failed Wrap
     → IfKnown known (λ all. AreBytes all → AttemptEnds (attempt_at part kept address) all wrapped e)
 known_stopped part kept address None d new wrapped page at step e f knows t is w failed = tt
@@ -290,7 +290,7 @@ known_stopped part kept address (Some all) d new wrapped page at step e f knows 
     λ fits. subst (λ (x : Ending). AttemptEnds (attempt_at part kept address) all wrapped x) (sym failed) (tries_stopped part kept address all d new wrapped page at (at + length page) step fits (omega arith) f knows t is w)
 
 -- a device that stopped, where the flash may end
-pub stops_here : (part : PartData) (kept : Kept) (d : DeviceState) (bytes page : List ℕ) (step : Step) → (kept.kind ≡ Bench → ⊥) → Took (past_in_flash part kept bytes) d page step → step ≡ Stops → MayWrap d
+pub stops_here : (part : PartData) (kept : Kept) (d : DeviceState) (bytes page : List ℕ) (step : AttemptStep) → (kept.kind ≡ Bench → ⊥) → Took (past_in_flash part kept bytes) d page step → step ≡ Stops → MayWrap d
 stops_here part kept d bytes page step boots t is =
-    let steps : StepsTo part kept (bytes ++ take t.count page) Stops = subst (λ (s : Step). StepsTo part kept (bytes ++ take t.count page) s) is t.steps in
+    let steps : StepsTo part kept (bytes ++ take t.count page) Stops = subst (λ (s : AttemptStep). StepsTo part kept (bytes ++ take t.count page) s) is t.steps in
     ends_here part kept d (bytes ++ take t.count page) boots t.stands steps.1 t.due

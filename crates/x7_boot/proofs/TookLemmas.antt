@@ -23,8 +23,8 @@ use Rattle.x7_engine.proofs.UntilLemmas.{going_before}
 use Rattle.x7_boot.specs.Attempt.{ending_at, ending_by, failed_by, CanTakePage, step_by, StepsTo, Took, past_in_flash}
 use Rattle.x7_boot.specs.declared.attempt.Ending.{Ending}
 use Rattle.x7_boot.specs.declared.attempt.Ending.TheVariants.{Started}
-use Rattle.x7_boot.specs.declared.attempt.Step.{Step}
-use Rattle.x7_boot.specs.declared.attempt.Step.TheVariants.{GoesOn, Ends}
+use Rattle.x7_boot.specs.declared.attempt.AttemptStep.{AttemptStep}
+use Rattle.x7_boot.specs.declared.attempt.AttemptStep.TheVariants.{GoesOn, Ends}
 
 -- ---- what ends an attempt
 
@@ -92,7 +92,7 @@ goes_all part kept d bytes read (fed.ReadFull k) cause n dropping a e = absurd (
 -- ---- a page
 
 -- what a feed up to the end of startup does to an attempt
-abbrev pub step_until : UntilStarted → Option Cause → Step
+abbrev pub step_until : UntilStarted → Option Cause → AttemptStep
 step_until (until.Started n) cause = Ends Started
 step_until (until.Fed answer) cause = step_by answer cause
 

@@ -18,8 +18,8 @@ use Rattle.x7_engine.specs.declared.stop.StopCause.{StopCause}
 use Rattle.x7_engine.specs.declared.stop.StopCause.TheVariants as stop
 use Rattle.x7_boot.specs.declared.attempt.Ending.{Ending}
 use Rattle.x7_boot.specs.declared.attempt.Ending.TheVariants.{Started, Iprog, Failed}
-use Rattle.x7_boot.specs.declared.attempt.Step.{Step}
-use Rattle.x7_boot.specs.declared.attempt.Step.TheVariants.{GoesOn, Ends, Stops}
+use Rattle.x7_boot.specs.declared.attempt.AttemptStep.{AttemptStep}
+use Rattle.x7_boot.specs.declared.attempt.AttemptStep.TheVariants.{GoesOn, Ends, Stops}
 
 -- a failure by this cause, if there is a cause
 abbrev pub failed_by : Option Cause → Option Ending
@@ -79,7 +79,7 @@ IsDeviceOf part d t = DeviceStandsFor part t.kept t.wrapped d t.bytes
 
 -- what a feed with this answer does to an attempt in which startup hasn't ended, where the device then has this cause
 -- of a failure, if any
-abbrev pub step_by : Fed → Option Cause → Step
+abbrev pub step_by : Fed → Option Cause → AttemptStep
 step_by (fed.Iprog n) cause = Ends Iprog
 step_by (fed.Stopped n) (Some cause) = Ends (Failed cause)
 step_by (fed.Stopped n) None = Stops
@@ -88,7 +88,7 @@ step_by (fed.ReadFull n) cause = GoesOn
 
 -- what the bytes taken do to an attempt that fewer of them hadn't ended: it goes on, it ends, or its device stops,
 -- which ends no attempt before the flash's end
-abbrev pub StepsTo : PartData → Kept → List ℕ → Step → Type 0
+abbrev pub StepsTo : PartData → Kept → List ℕ → AttemptStep → Type 0
 StepsTo part kept bytes GoesOn = (stop_in part kept bytes ≡ None) × (ending_at part kept bytes ≡ None)
 StepsTo part kept bytes (Ends e) = ending_at part kept bytes ≡ Some e
 StepsTo part kept bytes Stops = IsSome (stop_in part kept bytes) × (ending_at part kept bytes ≡ None)
@@ -99,7 +99,7 @@ past_in_flash part kept bytes = record { part = part; kept = kept; wrapped = fal
 
 -- a device with this past took the first bytes of a piece, up to what ended its attempt or stopped it: all of the piece
 -- where the attempt goes on
-pub record Took (p : Past) (d : DeviceState) (piece : List ℕ) (step : Step) : Type 0 where
+pub record Took (p : Past) (d : DeviceState) (piece : List ℕ) (step : AttemptStep) : Type 0 where
   pub count : ℕ
   pub within : count ≤ length piece
   pub all : step ≡ GoesOn → count ≡ length piece
@@ -109,7 +109,7 @@ pub record Took (p : Past) (d : DeviceState) (piece : List ℕ) (step : Step) : 
   pub none : (k : ℕ) → k < count → ending_at p.part p.kept (p.bytes ++ take k piece) ≡ None
 
 -- a device takes bytes of a page, whatever it had taken before without a stop and in an attempt that nothing had ended
-abbrev pub TakesPage : DeviceState → List ℕ → Step → DeviceState → Type 0
+abbrev pub TakesPage : DeviceState → List ℕ → AttemptStep → DeviceState → Type 0
 TakesPage old page step new =
     (part : PartData) (kept : Kept) (bytes : List ℕ) → DeviceStandsFor part kept false old bytes → stop_in part kept bytes ≡ None → ending_at part kept bytes ≡ None
     → Took (past_in_flash part kept bytes) new page step

@@ -19,7 +19,7 @@ pub enum Ending {
 
 /// What bytes of a flash did to an attempt.
 #[derive(Clone, Copy)]
-pub(crate) enum Step {
+pub(crate) enum AttemptStep {
     /// Nothing: the attempt goes on after the bytes.
     GoesOn,
     /// The bytes ended the attempt.
@@ -29,7 +29,7 @@ pub(crate) enum Step {
 }
 
 /// The cause by which a device's fault ends an attempt, none for a fault that doesn't end it.
-fn cause_in(fault: Option<Fault>) -> Option<Cause>
+fn failure_of(fault: Option<Fault>) -> Option<Cause>
     ensures { result ≡ failure_of fault false }
 {
     match fault {
@@ -42,27 +42,27 @@ fn cause_in(fault: Option<Fault>) -> Option<Cause>
 
 /// What a feed with this answer does to an attempt in which startup has not ended, where the device has this cause of a
 /// failure.
-fn step_by(fed: Fed, cause: Option<Cause>) -> Step
+fn step_by(fed: Fed, cause: Option<Cause>) -> AttemptStep
     ensures { result ≡ step_by fed cause }
 {
     match fed {
-        Fed::Iprog(_) => Step::Ends(Ending::Iprog),
+        Fed::Iprog(_) => AttemptStep::Ends(Ending::Iprog),
         Fed::Stopped(_) => match cause {
-            Some(cause) => Step::Ends(Ending::Failed(cause)),
-            None => Step::Stops,
+            Some(cause) => AttemptStep::Ends(Ending::Failed(cause)),
+            None => AttemptStep::Stops,
         },
-        Fed::All | Fed::ReadFull(_) => Step::GoesOn,
+        Fed::All | Fed::ReadFull(_) => AttemptStep::GoesOn,
     }
 }
 
 /// Gives a device bytes of a flash, up to what ends the attempt or stops the device.
-pub(crate) fn take_page(device: &mut Device, page: &[u8]) -> Step
+pub(crate) fn take_page(device: &mut Device, page: &[u8]) -> AttemptStep
     requires { CanTakePage device.old (length page.now) }
     ensures { TakesPage device.old page.now result device.new }
 {
     let mut read = ReadBuf::dropping();
     match device.feed_until_started(page, &mut read) {
-        UntilStarted::Started(_) => Step::Ends(Ending::Started),
-        UntilStarted::Fed(fed) => step_by(fed, cause_in(device.fault())),
+        UntilStarted::Started(_) => AttemptStep::Ends(Ending::Started),
+        UntilStarted::Fed(fed) => step_by(fed, failure_of(device.fault())),
     }
 }

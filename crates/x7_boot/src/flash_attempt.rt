@@ -12,7 +12,7 @@ ghost use Rattle.x7_boot.specs.Image.{flash_limit};
 ghost use Rattle.x7_boot.specs.Pages.{ArePages};
 ghost use Rattle.x7_boot.specs.declared.attempt.Ending.TheVariants as ending;
 
-use crate::attempt::{Ending, Step, take_page};
+use crate::attempt::{Ending, AttemptStep, take_page};
 use crate::cache::PageCache;
 use crate::fault::BootFault;
 use crate::pages::PAGE_SIZE;
@@ -71,9 +71,9 @@ pub(crate) fn try_once<F: Flash>(
         let loaded = pages.load(flash, place / PAGE_SIZE)?;
         let bytes = pages.bytes_from(place, loaded);
         match take_page(device, bytes) {
-            Step::GoesOn => place += bytes.len() as u64,
-            Step::Ends(ending) => return Ok(ending),
-            Step::Stops => return Ok(run_out(device)),
+            AttemptStep::GoesOn => place += bytes.len() as u64,
+            AttemptStep::Ends(ending) => return Ok(ending),
+            AttemptStep::Stops => return Ok(run_out(device)),
         }
     }
 }

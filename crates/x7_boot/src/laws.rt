@@ -14,15 +14,19 @@ ghost use Rattle.x7_boot.specs.declared.boots.BootEnd.TheVariants as boot_end;
 
 /// Over a flash of bytes an attempt that started made its checks, and so did the last one of a boot that started.
 pub fn starts_are_checked()
-    ensures attempt { (part : PartData) (flash : List ℕ) (t : AttemptCourse) → AreBytes flash → IsFlashAttempt part flash t → t.ending ≡ ending.Started → HasChecked part t.kept t.bytes }
-    ensures boot { (part : PartData) (flash : List ℕ) (b : BootedState) → AreBytes flash → (is : IsBoot part flash b) → b.end ≡ boot_end.Started → HasChecked part is.last.kept is.last.bytes }
+    ensures attempt { (part : PartData) (flash : List ℕ) (t : AttemptCourse) → AreBytes flash → IsFlashAttempt part flash t → t.ending ≡ ending.Started
+        → HasChecked part t.kept t.bytes }
+    ensures boot { (part : PartData) (flash : List ℕ) (b : BootedState) → AreBytes flash → (is : IsBoot part flash b) → b.end ≡ boot_end.Started
+        → HasChecked part is.last.kept is.last.bytes }
 {}
 
 /// Where startup has begun its checks were made: after any bytes, at the end of an attempt over a flash of bytes, and
 /// at the end of a boot from one, whether the attempt or the boot started or not.
 pub fn startup_is_checked()
-    ensures state { (part : PartData) (kept : Kept) (wrapped : Bool) (bytes : List ℕ) → AreBytes bytes → 0 < (state_of part kept wrapped bytes).phase → HasChecked part kept bytes }
-    ensures attempt { (part : PartData) (flash : List ℕ) (t : AttemptCourse) → AreBytes flash → IsFlashAttempt part flash t → 0 < (end_state part t).phase → HasChecked part t.kept t.bytes }
+    ensures state { (part : PartData) (kept : Kept) (wrapped : Bool) (bytes : List ℕ) → AreBytes bytes → 0 < (state_of part kept wrapped bytes).phase
+        → HasChecked part kept bytes }
+    ensures attempt { (part : PartData) (flash : List ℕ) (t : AttemptCourse) → AreBytes flash → IsFlashAttempt part flash t → 0 < (end_state part t).phase
+        → HasChecked part t.kept t.bytes }
     ensures boot { (part : PartData) (flash : List ℕ) (b : BootedState) → AreBytes flash → (is : IsBoot part flash b) → 0 < (end_state part is.last).phase
         → HasChecked part is.last.kept is.last.bytes }
 {}
@@ -49,7 +53,8 @@ pub fn one_course()
 /// A flash has one boot of a part: two attempts over it that keep the same and begin at the same address are the same,
 /// and two boots from it have the same attempts, the same end and the same course of the last attempt.
 pub fn one_boot()
-    ensures attempt { (part : PartData) (flash : List ℕ) (s t : AttemptCourse) → IsFlashAttempt part flash s → IsFlashAttempt part flash t → s.kept ≡ t.kept → s.address ≡ t.address → s ≡ t }
+    ensures attempt { (part : PartData) (flash : List ℕ) (s t : AttemptCourse) → IsFlashAttempt part flash s → IsFlashAttempt part flash t
+        → s.kept ≡ t.kept → s.address ≡ t.address → s ≡ t }
     ensures boot { (part : PartData) (flash : List ℕ) (a b : BootedState) → IsBoot part flash a → IsBoot part flash b → (a.attempts ≡ b.attempts) × (a.end ≡ b.end) }
     ensures last { (part : PartData) (flash : List ℕ) (a b : BootedState) → (x : IsBoot part flash a) → (y : IsBoot part flash b) → x.last ≡ y.last }
 {}

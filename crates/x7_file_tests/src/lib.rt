@@ -1,4 +1,4 @@
-//! Calls on files of the system: each runs once while memory is left, and at a type of its own.
+//! Calls on files of the system: each runs once while memory is left, and each generic one at a type.
 #![tactic(auto)]
 
 #[cfg(test)]

@@ -35,7 +35,7 @@ pub data Cause : Type 0 where
   Absence : Cause
   -- the output failed, or a write of the flash, by its count of faults
   Break : Cause
-  -- a byte of the flash that was read back is another than the one written
+  -- a byte of the flash that was verified is another than the one written
   Difference : Cause
   -- what the inputs and the flash hold
   Contents : Cause
@@ -142,7 +142,7 @@ no_memory = record { reason = why.NoMemory; concerned = [] }
 abbrev pub too_large : List ℕ → Event
 too_large name = record { reason = why.TooLarge; concerned = name }
 
--- a byte of the flash of this name that was read back, at this place, is another than the one written
+-- a byte of the flash of this name that was verified, at this place, is another than the one written
 abbrev pub differs : List ℕ → ℕ → Event
 differs name place = record { reason = why.Differs place; concerned = name }
 

@@ -30,7 +30,7 @@ pub enum Why {
     NoMemory,
     /// An input or the flash has more bytes than its limit; with the name `reads`, too many words were read out.
     TooLarge,
-    /// A byte of the flash that was read back, at this place, is another than the one written.
+    /// A byte of the flash that was verified, at this place, is another than the one written.
     Differs(u64),
 }
 

@@ -26,7 +26,7 @@ pub enum Status {
     NoMemory,
     /// An input or the flash has more bytes than its limit, or too many words were read out.
     TooLarge,
-    /// A byte of the flash that was read back is another than the one written.
+    /// A byte of the flash that was verified is another than the one written.
     Differs,
 }
 

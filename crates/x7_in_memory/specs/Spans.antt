@@ -8,7 +8,7 @@ abbrev pub spans_size : List Span → ℕ
 spans_size [] = 0
 spans_size (span ∷ spans) = span.count + spans_size spans
 
--- the writes, whose bytes before and after lie one after the other
+-- the writes of these ranges; their bytes before, and those that they were to bring, lie one after the other
 abbrev pub writes_of : List Span → List ℕ → List ℕ → List PastWrite
 writes_of [] before target = []
 writes_of (span ∷ spans) before target =

@@ -5,6 +5,7 @@ use Rattle.std.proofs.lemmas.Bool.{cases_lt, cases_eq}
 use Rattle.std.proofs.lemmas.List.{get_or_append_left, get_or-append_right, get_or_past}
 use Rattle.std.proofs.lemmas.List.FromFn.{fill_by_all}
 use Rattle.std.specs.List.{flat_map}
+use Rattle.x7_mcs.specs.Record.{block_size}
 use Rattle.x7_words.specs.Word.{AreBytes}
 use Rattle.x7_text.specs.Row.{AreFullButLast, rows}
 use Rattle.x7_text.proofs.RowLemmas.{rows_full, rows_joined}
@@ -86,29 +87,29 @@ eq_false_not a e f = grind (arith, common_steps)
 
 -- where a base stands for a place
 abbrev pub AtBase : ℕ → ℕ → Type 0
-AtBase place base = (base ≡ 65536 * (place / 65536)) ⊎ (place % 65536 ≡ 0)
+AtBase place base = (base ≡ block_size * (place / block_size)) ⊎ (place % block_size ≡ 0)
 
-read_block : (b : Bool) (n base place : ℕ) (xs : List DataRecord) (rest : List ℕ) → (place % 65536 == 0) ≡ b → place < 2 ^ 27 → AtBase place base
-    → (m : ℕ) × (after_lines n (mcs_reading base false xs) (lines_of ((if b then base_line (place / 65536) else []) ++ rest)) ≡ after_lines m (mcs_reading (65536 * (place / 65536)) false xs) (lines_of rest))
-read_block true n base place xs rest e h (inl i) = (n + 1, read_base n base (place / 65536) xs rest (omega arith))
-read_block true n base place xs rest e h (inr z) = (n + 1, read_base n base (place / 65536) xs rest (omega arith))
+read_block : (b : Bool) (n base place : ℕ) (xs : List DataRecord) (rest : List ℕ) → (place % block_size == 0) ≡ b → place < 2 ^ 27 → AtBase place base
+    → (m : ℕ) × (after_lines n (mcs_reading base false xs) (lines_of ((if b then base_line (place / block_size) else []) ++ rest)) ≡ after_lines m (mcs_reading (block_size * (place / block_size)) false xs) (lines_of rest))
+read_block true n base place xs rest e h (inl i) = (n + 1, read_base n base (place / block_size) xs rest (omega arith))
+read_block true n base place xs rest e h (inr z) = (n + 1, read_base n base (place / block_size) xs rest (omega arith))
 read_block false n base place xs rest e h (inl i) = (n, ap (λ (v : ℕ). after_lines n (mcs_reading v false xs) (lines_of rest)) i)
-read_block false n base place xs rest e h (inr z) = absurd (eq_false_not (place % 65536) e z)
+read_block false n base place xs rest e h (inr z) = absurd (eq_false_not (place % block_size) e z)
 
-placed : (place : ℕ) → 65536 * (place / 65536) + place % 65536 ≡ place
+placed : (place : ℕ) → block_size * (place / block_size) + place % block_size ≡ place
 placed place = omega arith
 
 pub one_row : (n base place : ℕ) (xs : List DataRecord) (done r rest : List ℕ) → GiveJust xs done → place ≡ length done → 0 < length r → length r ≤ 16 → place % 16 ≡ 0 → place + length r ≤ 2 ^ 27 → AreBytes r → AtBase place base
-    → (m : ℕ) × (after_lines n (mcs_reading base false xs) (lines_of ((block_start place ++ data_line (place % 65536) r) ++ rest)) ≡ after_lines m (mcs_reading (65536 * (place / 65536)) false (record { place = place; bytes = r } ∷ xs)) (lines_of rest))
+    → (m : ℕ) × (after_lines n (mcs_reading base false xs) (lines_of ((block_start place ++ data_line (place % block_size) r) ++ rest)) ≡ after_lines m (mcs_reading (block_size * (place / block_size)) false (record { place = place; bytes = r } ∷ xs)) (lines_of rest))
 one_row n base place xs done r rest f e h l a w b i =
-    let p = read_block (place % 65536 == 0) n base place xs (data_line (place % 65536) r ++ rest) refl (omega arith) i in
-    let q : ℕ = 65536 * (place / 65536) + place % 65536 in
-    let is : 65536 * (place / 65536) + place % 65536 ≡ place = placed place in (
+    let p = read_block (place % block_size == 0) n base place xs (data_line (place % block_size) r ++ rest) refl (omega arith) i in
+    let q : ℕ = block_size * (place / block_size) + place % block_size in
+    let is : block_size * (place / block_size) + place % block_size ≡ place = placed place in (
       p.0 + 1,
-      ap (λ t. after_lines n (mcs_reading base false xs) (lines_of t)) (append_assoc (block_start place) (data_line (place % 65536) r) rest) ∙ p.1
-          ∙ read_free p.0 (65536 * (place / 65536)) (place % 65536) xs r rest b (omega arith) (omega arith) (omega arith)
-          (free_piece p.0 xs done r (65536 * (place / 65536) + place % 65536) f (is ∙ e) h (omega (arith, is)))
-          ∙ ap (λ (k : ℕ). after_lines (p.0 + 1) (mcs_reading (65536 * (place / 65536)) false (record { place = k; bytes = r } ∷ xs)) (lines_of rest)) is,
+      ap (λ t. after_lines n (mcs_reading base false xs) (lines_of t)) (append_assoc (block_start place) (data_line (place % block_size) r) rest) ∙ p.1
+          ∙ read_free p.0 (block_size * (place / block_size)) (place % block_size) xs r rest b (omega arith) (omega arith) (omega arith)
+          (free_piece p.0 xs done r (block_size * (place / block_size) + place % block_size) f (is ∙ e) h (omega (arith, is)))
+          ∙ ap (λ (k : ℕ). after_lines (p.0 + 1) (mcs_reading (block_size * (place / block_size)) false (record { place = k; bytes = r } ∷ xs)) (lines_of rest)) is,
     )
 
 -- what holds before rows, if any
@@ -124,15 +125,15 @@ rest_full : (r : List ℕ) (rs : List (List ℕ)) → AreFullButLast 16 (r ∷ r
 rest_full r [] h = tt
 rest_full r (s ∷ rs) h = h.1
 
-same_block : (place : ℕ) → place % 16 ≡ 0 → (65536 * (place / 65536) ≡ 65536 * ((place + 16) / 65536)) ⊎ ((place + 16) % 65536 ≡ 0)
-same_block place h = elim (cases_eq ((place + 16) % 65536) 0) [
+same_block : (place : ℕ) → place % 16 ≡ 0 → (block_size * (place / block_size) ≡ block_size * ((place + 16) / block_size)) ⊎ ((place + 16) % block_size ≡ 0)
+same_block place h = elim (cases_eq ((place + 16) % block_size) 0) [
   | inl e ↦ inr e
   | inr e ↦ inl (omega (arith, h, e))
 ]
 
-next_aligned : (place : ℕ) (r : List ℕ) (rs : List (List ℕ)) → AreFullButLast 16 (r ∷ rs) → place % 16 ≡ 0 → Aligned (place + length r) (65536 * (place / 65536)) rs
+next_aligned : (place : ℕ) (r : List ℕ) (rs : List (List ℕ)) → AreFullButLast 16 (r ∷ rs) → place % 16 ≡ 0 → Aligned (place + length r) (block_size * (place / block_size)) rs
 next_aligned place r [] h a = tt
-next_aligned place r (s ∷ rs) h a = (omega (arith, h.0, a), subst (λ (k : ℕ). AtBase (place + k) (65536 * (place / 65536))) (sym h.0) (same_block place a))
+next_aligned place r (s ∷ rs) h a = (omega (arith, h.0, a), subst (λ (k : ℕ). AtBase (place + k) (block_size * (place / block_size))) (sym h.0) (same_block place a))
 
 nil_after : (xs : List ℕ) → xs ≡ xs ++ []
 nil_after [] = refl
@@ -146,11 +147,11 @@ rows_read (r ∷ rs) n base place xs done all f e is full a w b =
     let size = first_size r rs full in
     let both = parts r (flat_map (λ (s : List ℕ). s) rs) b in
     let p = one_row n base place xs done r (row_lines (place + length r) rs ++ codes ":00000001FF\n") f e size.0 size.1 a.0 (omega (arith, long, w)) both.0 a.1 in
-    let more = rows_read rs p.0 (65536 * (place / 65536)) (place + length r) (record { place = place; bytes = r } ∷ xs) (done ++ r) all (prefix_more xs (record { place = place; bytes = r }) done f e size.0)
+    let more = rows_read rs p.0 (block_size * (place / block_size)) (place + length r) (record { place = place; bytes = r } ∷ xs) (done ++ r) all (prefix_more xs (record { place = place; bytes = r }) done f e size.0)
     (ap (λ (k : ℕ). k + length r) e ∙ sym (length-append done r)) (is ∙ sym (append_assoc done r (flat_map (λ (s : List ℕ). s) rs))) (rest_full r rs full) (next_aligned place r rs full a.0) (omega (arith, long, w)) both.1 in
     record {
       reading = more.reading;
-      is = ap with_end (ap (λ t. after_lines n (mcs_reading base false xs) (lines_of t)) (append_assoc (block_start place ++ data_line (place % 65536) r) (row_lines (place + length r) rs) (codes ":00000001FF\n")) ∙ p.1) ∙ more.is;
+      is = ap with_end (ap (λ t. after_lines n (mcs_reading base false xs) (lines_of t)) (append_assoc (block_start place ++ data_line (place % block_size) r) (row_lines (place + length r) rs) (codes ":00000001FF\n")) ∙ p.1) ∙ more.is;
       image = more.image;
     }
 

@@ -4,6 +4,7 @@ use Rattle.std.specs.Prelude.{OnOk, Result}
 use Rattle.std.proofs.lemmas.Result.{on_ok_weaker}
 use Rattle.std.proofs.lemmas.Grind.{common_steps}
 use Rattle.std.proofs.lemmas.List.{take-append-drop}
+use Rattle.x7_mcs.specs.Record.{block_size}
 use Rattle.x7_words.specs.Sink.{appended, PutsPrefix}
 use Rattle.x7_words.proofs.SinkLemmas.{appended_appended, appended_nil, prefix_more}
 use Rattle.x7_text.specs.Row.{rows}
@@ -17,17 +18,17 @@ pub record Goes (first now : Option (List ℕ)) (flash : List ℕ) (place : ℕ)
   pub put : now ≡ appended first done
   pub lines : row_lines 0 (rows 16 flash) ≡ done ++ row_lines place (rows 16 rest)
 
-by_min : (n k : ℕ) → k ≡ min n 65536 → (k ≡ 65536) ⊎ ((k ≡ n) × (n ≤ 65536))
+by_min : (n k : ℕ) → k ≡ min n block_size → (k ≡ block_size) ⊎ ((k ≡ n) × (n ≤ block_size))
 by_min n k e = grind (arith, common_steps)
 
 -- whole rows, or all that is left
-whole : (place n k m : ℕ) → k ≡ min n 65536 → m + k ≡ n → (k % 16 ≡ 0) ⊎ (m ≡ 0)
+whole : (place n k m : ℕ) → k ≡ min n block_size → m + k ≡ n → (k % 16 ≡ 0) ⊎ (m ≡ 0)
 whole place n k m e f = elim (by_min n k e) [
   | inl s ↦ inl (omega (arith, s))
   | inr s ↦ inr (omega (arith, s.0, f))
 ]
 
-pub begins_more : (place n k m : ℕ) → k ≡ min n 65536 → m + k ≡ n → place % 65536 ≡ 0 → 0 < m → (place + k) % 65536 ≡ 0
+pub begins_more : (place n k m : ℕ) → k ≡ min n block_size → m + k ≡ n → place % block_size ≡ 0 → 0 < m → (place + k) % block_size ≡ 0
 begins_more place n k m e f h g = elim (by_min n k e) [
   | inl s ↦ omega (arith, s, h)
   | inr s ↦ absurd (omega (arith, s.0, f, g))
@@ -48,7 +49,7 @@ in_two place rest bytes more e (inr z) =
     ∙ sym (append-nil (row_lines place (rows 16 bytes)))
     ∙ ap (λ t. row_lines place (rows 16 bytes) ++ t) (sym (nothing (place + length bytes) more z))
 
-module _ (first now : Option (List ℕ)) (flash : List ℕ) (place : ℕ) (rest bytes more block : List ℕ) (k : ℕ) (g : Goes first now flash place rest) (e : k ≡ min (length rest) 65536) (long : length more + k ≡ length rest)
+module _ (first now : Option (List ℕ)) (flash : List ℕ) (place : ℕ) (rest bytes more block : List ℕ) (k : ℕ) (g : Goes first now flash place rest) (e : k ≡ min (length rest) block_size) (long : length more + k ≡ length rest)
     (prefix : bytes ≡ take k rest) (back : more ≡ drop k rest) (size : length bytes ≡ k) (is : block ≡ row_lines place (rows 16 bytes)) where
   parts : rest ≡ bytes ++ more
   parts = sym (take-append-drop k rest) ∙ ap (λ t. t ++ drop k rest) (sym prefix) ∙ ap (λ t. bytes ++ t) (sym back)

@@ -5,7 +5,7 @@ use Rattle.std.proofs.lemmas.List.{take-append-le}
 use Rattle.std.proofs.lemmas.List.FromFn.{get_or-map-range_with_len, length-map-range_with_len}
 use Rattle.x7_text.specs.Row.{rows}
 use Rattle.x7_mcs.specs.Lines.{lines_of}
-use Rattle.x7_mcs.specs.Record.{Meaning, record_address, record_count, record_data, sum_found, meaning_by_type, meaning_of, bytes_of_pairs, record_type, base_value, sum_wanted}
+use Rattle.x7_mcs.specs.Record.{block_size, Meaning, record_address, record_count, record_data, sum_found, meaning_by_type, meaning_of, bytes_of_pairs, record_type, base_value, sum_wanted}
 use Rattle.x7_mcs.specs.DataRecords.{HaveNoOverlap, DataRecord, byte_at, covered, covers, record_end, extent, records_image, overlap, unless_covered, with_record}
 use Rattle.x7_mcs.specs.Flash.{FlashReading, after_bytes, after_line, after_lines, after_meaning, and_then, flash_in, mcs_of, of_no_line, flash_reading, with_end, with_records}
 use Rattle.x7_mcs.specs.Text.{block_start, data_line, row_lines}
@@ -151,9 +151,9 @@ in_parts (suc k) place xs ys e =
     let rest : length (drop 16 xs) ≡ 16 * k = omega (arith, e, long) in
     let there : place + length (take 16 xs) + length (drop 16 xs) ≡ place + length xs = omega (arith, one, long, e) in
     ap (row_lines place) (first_of_16 (xs ++ ys) (omega (arith, both, e)))
-    ∙ ap₂ (λ (t u : List ℕ). block_start place ++ data_line (place % 65536) t ++ row_lines (place + length t) (rows 16 u)) (take-append-le 16 xs ys (omega (arith, e))) (drop_append 16 xs ys (omega (arith, e)))
-    ∙ ap (λ (t : List ℕ). block_start place ++ data_line (place % 65536) (take 16 xs) ++ t) (in_parts k (place + length (take 16 xs)) (drop 16 xs) ys rest ∙ ap (λ (p : ℕ). row_lines (place + length (take 16 xs)) (rows 16 (drop 16 xs)) ++ row_lines p (rows 16 ys)) there)
-    ∙ joined (block_start place) (data_line (place % 65536) (take 16 xs)) (row_lines (place + length (take 16 xs)) (rows 16 (drop 16 xs))) (row_lines (place + length xs) (rows 16 ys))
+    ∙ ap₂ (λ (t u : List ℕ). block_start place ++ data_line (place % block_size) t ++ row_lines (place + length t) (rows 16 u)) (take-append-le 16 xs ys (omega (arith, e))) (drop_append 16 xs ys (omega (arith, e)))
+    ∙ ap (λ (t : List ℕ). block_start place ++ data_line (place % block_size) (take 16 xs) ++ t) (in_parts k (place + length (take 16 xs)) (drop 16 xs) ys rest ∙ ap (λ (p : ℕ). row_lines (place + length (take 16 xs)) (rows 16 (drop 16 xs)) ++ row_lines p (rows 16 ys)) there)
+    ∙ joined (block_start place) (data_line (place % block_size) (take 16 xs)) (row_lines (place + length (take 16 xs)) (rows 16 (drop 16 xs))) (row_lines (place + length xs) (rows 16 ys))
     ∙ ap (λ (t : List (List ℕ)). row_lines place t ++ row_lines (place + length xs) (rows 16 ys)) (sym (first_of_16 xs (omega (arith, e))))
   where
     first_long : (zs : List ℕ) → 16 ≤ length zs → length (take 16 zs) ≡ 16
@@ -187,10 +187,10 @@ reported_line n e = absurd cc
 
 reported_type : (n : ℕ) (bs : List ℕ) → IsReported (meaning_by_type n bs)
 reported_type n bs =
-    reported_if_ok (record_type bs == 0 && nat_le (record_address bs + record_count bs) 65536) (Meaning.Data (record_address bs)) _
+    reported_if_ok (record_type bs == 0 && nat_le (record_address bs + record_count bs) block_size) (Meaning.Data (record_address bs)) _
     (reported_if_ok (record_type bs == 1 && record_count bs == 0) Meaning.End _
     (reported_if_ok (record_type bs == 2 && record_count bs == 2) (Meaning.Base (16 * base_value bs)) _
-    (reported_if_ok (record_type bs == 4 && record_count bs == 2) (Meaning.Base (65536 * base_value bs)) _
+    (reported_if_ok (record_type bs == 4 && record_count bs == 2) (Meaning.Base (block_size * base_value bs)) _
     (reported_if_ok ((record_type bs == 3 || record_type bs == 5) && record_count bs == 4) Meaning.Start (Err (fault.Line n)) (reported_line n)))))
 
 reported_meaning : (n : ℕ) (has_ended : Bool) (bs : List ℕ) → IsReported (meaning_of n has_ended bs)

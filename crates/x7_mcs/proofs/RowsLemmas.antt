@@ -2,6 +2,7 @@
 use Rattle.std.proofs.Common.{◌≡◌, ℕ, suc, zero, ◌+◌, ◌*◌, ◌%◌, min, ◌<◌, ◌≤◌, ◌==◌, Bool, true, false, if◌then◌else◌, List, [], ◌∷◌, ◌++◌, length, take, drop, refl, ap, ap₂, sym, ◌∙◌, ◌⊎◌, inl, inr, append_assoc, arith, length-append}
 use Rattle.std.proofs.lemmas.Grind.{common_steps}
 use Rattle.std.proofs.lemmas.List.{take_all, drop_all}
+use Rattle.x7_mcs.specs.Record.{block_size}
 use Rattle.x7_text.specs.Row.{rows, rows_from}
 use Rattle.x7_mcs.specs.Text.{block_start, data_line, row_lines}
 
@@ -51,12 +52,12 @@ cut_off k xs e = elim (by_min (length xs) k e) [
 
 -- one row more of the text is written
 pub row_more : (whole out next : List ℕ) (place k : ℕ) (rest row more : List ℕ) → whole ≡ out ++ row_lines place (rows 16 rest) → 0 < length rest → k ≡ min (length rest) 16
-    → row ≡ take k rest → more ≡ drop k rest → next ≡ out ++ (block_start place ++ data_line (place % 65536) row) → whole ≡ next ++ row_lines (place + length row) (rows 16 more)
+    → row ≡ take k rest → more ≡ drop k rest → next ≡ out ++ (block_start place ++ data_line (place % block_size) row) → whole ≡ next ++ row_lines (place + length row) (rows 16 more)
 row_more whole out next place k rest row more e h n f g i =
     let r : row ≡ take 16 rest = f ∙ cut k rest n in
     let m : more ≡ drop 16 rest = g ∙ cut_off k rest n in
     e ∙ ap (λ t. out ++ row_lines place t) (first_of_16 rest h ∙ ap₂ (λ (s : List ℕ) (t : List ℕ). s ∷ rows 16 t) (sym r) (sym m))
-    ∙ sym (append_assoc out (block_start place ++ data_line (place % 65536) row) (row_lines (place + length row) (rows 16 more)))
+    ∙ sym (append_assoc out (block_start place ++ data_line (place % block_size) row) (row_lines (place + length row) (rows 16 more)))
     ∙ ap (λ t. t ++ row_lines (place + length row) (rows 16 more)) (sym i)
 
 -- the room that is left for the rows after one

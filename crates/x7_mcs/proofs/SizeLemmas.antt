@@ -4,7 +4,7 @@ use Rattle.x7_text.specs.Digits.{hex_byte}
 use Rattle.x7_text.specs.Row.{AreFullButLast, rows}
 use Rattle.x7_text.proofs.RowLemmas.{rows_full, rows_joined}
 use Rattle.x7_text.proofs.WholeLineLemmas.{length_hex_bytes}
-use Rattle.x7_mcs.specs.Record.{sum_byte}
+use Rattle.x7_mcs.specs.Record.{block_size, sum_byte}
 use Rattle.x7_mcs.specs.Text.{base_line, block_start, data_line, mcs_text, record_line, row_lines}
 
 record_long : (bs : List ℕ) → length (record_line bs) ≡ 2 * length bs + 4
@@ -21,14 +21,14 @@ start_by block true = omega (arith, record_long (2 ∷ 0 ∷ 0 ∷ 4 ∷ block /
 start_by block false = omega arith
 
 -- a row's lines: its data record, and a record 04 where a block begins
-row_long : (place : ℕ) (r : List ℕ) (more : List ℕ) → length (block_start place ++ data_line (place % 65536) r ++ more) ≤ 2 * length r + 28 + length more
+row_long : (place : ℕ) (r : List ℕ) (more : List ℕ) → length (block_start place ++ data_line (place % block_size) r ++ more) ≤ 2 * length r + 28 + length more
 row_long place r more =
     omega (
       arith,
-      length-append (block_start place ++ data_line (place % 65536) r) more,
-      length-append (block_start place) (data_line (place % 65536) r),
-      data_long (place % 65536) r,
-      start_by (place / 65536) (place % 65536 == 0),
+      length-append (block_start place ++ data_line (place % block_size) r) more,
+      length-append (block_start place) (data_line (place % block_size) r),
+      data_long (place % block_size) r,
+      start_by (place / block_size) (place % block_size == 0),
     )
 
 rows_long : (place : ℕ) (rs : List (List ℕ)) → AreFullButLast 16 rs → 4 * length (row_lines place rs) ≤ 15 * length (flat_map (λ (r : List ℕ). r) rs) + 112

@@ -77,8 +77,8 @@ abbrev pub iprog_attempt : Option Cause → Attempt
 iprog_attempt cause = record { kind = Iprog; cause = cause; ignored = false }
 
 -- BOOTSTS of an attempt by IPROG that did not fail, after one at power
-abbrev pub update_status : ℕ
-update_status = boot_status_of (iprog_attempt None) (Some power_attempt)
+abbrev pub update_bootsts : ℕ
+update_bootsts = boot_status_of (iprog_attempt None) (Some power_attempt)
 
 -- The boot starts with the update: with the memory of its plan over zeros, and BOOTSTS shows
 -- an attempt by IPROG, after one at power.
@@ -86,7 +86,7 @@ pub record StartsUpdate (o : OpenFlash) (update : PlanData) (c : BootCourse) : T
   pub attempts_are : c.attempts ≡ through_update o.place ending.Started []
   pub started : c.end ≡ boot_end.Started
   pub memory : AreSame (memory_in o.part c.last.kept c.last.bytes) (total o.part update)
-  pub bootsts : (end_state o.part c.last).bootsts ≡ update_status
+  pub bootsts : (end_state o.part c.last).bootsts ≡ update_bootsts
 
 -- ---- the fallback
 

@@ -26,7 +26,8 @@ pub fn updates_keep_golden_streams()
 /// Where that stream fails and CTL0 allows it the boot falls back to the golden stream, which starts at the byte at
 /// which it started before, with the same memory, and BOOTSTS shows the fallback and the cause of the update's failure.
 pub fn updated_flashes_fall_back()
-    ensures boots { (part : PartData) (flash found : List ℕ) (golden : AttemptCourse) → (u : IsUpdated part flash found golden) → EachBootsOpen (opened_by part flash found golden u) }
+    ensures boots { (part : PartData) (flash found : List ℕ) (golden : AttemptCourse) → (u : IsUpdated part flash found golden)
+        → EachBootsOpen (opened_by part flash found golden u) }
     ensures falls_back { (part : PartData) (flash found : List ℕ) (golden t : AttemptCourse) (cause : Cause) (c : BootCourse) → (u : IsUpdated part flash found golden)
         → IsCourse part found c → UpdateFails (opened_by part flash found golden u) t cause false → FallsBackClean (opened_by part flash found golden u) cause golden c }
 {}

@@ -34,5 +34,6 @@ pub fn premises_hold()
     ensures image { HasImage tiny nothing_planned [] }
     ensures prepared { (stream : List ℕ) → IsPrepared (updating_image tiny nothing_planned [] stream) }
     ensures torn { (stream : List ℕ) → (found : List ℕ) × MayBeLeft stream (golden_image tiny nothing_planned []) found × (found ≢ golden_image tiny nothing_planned []) }
-    ensures fails { (part : PartData) (golden : PlanData) → (t : AttemptCourse) × UpdateFails (image_of_flash part (golden_image part golden []) (place_after part golden)) t Wrap false }
+    ensures fails { (part : PartData) (golden : PlanData)
+        → (t : AttemptCourse) × UpdateFails (image_of_flash part (golden_image part golden []) (place_after part golden)) t Wrap false }
 {}

@@ -28,8 +28,8 @@ pub fn open_slots_boot()
 /// stands at the update's place.
 pub fn flashes_have_an_open_slot()
     ensures image { (part : PartData) (flash : List ℕ) (place : ℕ) → IsPart part → BeginsAsImage part flash place → IsOpenFlash (image_of_flash part flash place) }
-    ensures updatable { (part : PartData) (flash : List ℕ) (slot : ℕ) → part.start_unit ≡ 1 → IsUpdatable flash → AreBytes (take sector_size flash) → slot < flash_slot_count → IsOpen flash slot
-        → IsOpenFlash (slot_of_flash part flash slot (update_place flash)) }
+    ensures updatable { (part : PartData) (flash : List ℕ) (slot : ℕ) → part.start_unit ≡ 1 → IsUpdatable flash → AreBytes (take sector_size flash)
+        → slot < flash_slot_count → IsOpen flash slot → IsOpenFlash (slot_of_flash part flash slot (update_place flash)) }
     ensures after { (part : PartData) (stream flash found : List ℕ) → part.start_unit ≡ 1 → IsUpdatable flash → AreBytes (take sector_size found)
         → (a : IsAfterUpdate stream flash found) → IsOpenFlash (slot_of_flash part found a.next (update_place flash)) }
     ensures golden { (part : PartData) (golden : PlanData) (stream flash found : List ℕ) → IsUpdatable flash → IsAfterUpdate stream flash found → HasGolden part golden flash

@@ -34,14 +34,13 @@ pub(crate) fn has_name(list: &[Named], name: &str) -> bool {
     place_of(list, name).is_some()
 }
 
-/// The bytes under the name, where the list has it.
+/// The bytes under the name; `Fault::Line` where the list lacks it.
 pub(crate) fn bytes_of<'a>(list: &'a [Named], name: &str) -> Result<&'a [u8], Fault> {
-    for named in list {
-        if named.name.as_str() == name {
-            return Ok(&named.bytes);
-        }
+    let place = place_of(list, name).ok_or(Fault::Line)?;
+    match list.get(place) {
+        Some(named) => Ok(&named.bytes),
+        None => Err(Fault::Line),
     }
-    Err(Fault::Line)
 }
 
 /// The bytes under the name, none yet where it is new.

@@ -10,7 +10,7 @@ use x7_words::Flash;
 /// How a boot from a flash ends, in how many attempts, and how many calls of the flash that takes.
 type Boot = (BootEnd, usize, u64);
 
-/// A boot from a flash that holds `f`.
+/// A boot from a flash of the name `f`; none where a call is refused.
 fn booted_from(alloc: Global, part: &Part, flash: &mut MemoryFlash) -> Option<Boot> {
     if flash.attach("f").is_err() {
         return None;
@@ -21,7 +21,7 @@ fn booted_from(alloc: Global, part: &Part, flash: &mut MemoryFlash) -> Option<Bo
     Some((booted.end(), booted.attempts().len(), flash.calls()))
 }
 
-/// A boot from these bytes.
+/// A boot from these bytes; none where a call is refused.
 fn booted(alloc: Global, bytes: &[u8]) -> Option<Boot> {
     let Ok(part) = part_of(alloc, TINY) else {
         return None;
@@ -42,13 +42,13 @@ const LOOP: [u8; 24] = [
 #[test]
 fn sixteen_attempts_read_a_small_flash_once(rt: HostRuntime) {
     let Some((end, attempts, calls)) = booted(rt.alloc(), &LOOP) else {
-        panic!(rt; "no memory")
+        panic!(rt; "no boot")
     };
     // two calls: the attach, and one read
     assert!(rt; (end, attempts, calls) == (BootEnd::Loop, 16, 2));
 }
 
-/// The image of a full stream and of the same stream with a wrong check.
+/// The image of a full stream and of the same stream with a wrong check; none where a call is refused.
 fn image_of_a_wrong_update(alloc: Global) -> Option<Vec<u8>> {
     let (golden, _) = planned(alloc, TINY, &line(alloc)?)?;
     let mut update = Vec::from_slice(alloc, &golden).ok()?;
@@ -60,10 +60,10 @@ fn image_of_a_wrong_update(alloc: Global) -> Option<Vec<u8>> {
 #[test]
 fn a_fallback_reads_each_page_once(rt: HostRuntime) {
     let Some(image) = image_of_a_wrong_update(rt.alloc()) else {
-        panic!(rt; "no memory")
+        panic!(rt; "no image")
     };
     let Some((end, attempts, calls)) = booted(rt.alloc(), &image) else {
-        panic!(rt; "no memory")
+        panic!(rt; "no boot")
     };
     // the attach, and at most 18 reads of the image's 48 pages
     assert!(rt; (end, attempts, calls <= 19) == (BootEnd::Started, 3, true));

@@ -1,4 +1,5 @@
-//! Calls of the crates below that no worked case makes: each runs once while memory is left, and at a type of its own.
+//! Calls of the crates below that no worked case makes: each runs once while memory is left, and each generic one
+//! at a type.
 #![tactic(auto)]
 
 #[cfg(test)]

@@ -3,14 +3,23 @@ use std::alloc::Global;
 use x7_jtag::{Instruction, State, Tap};
 use x7_svf::{SVF_TEXT_LIMIT, SvfFault, svf_of};
 
-/// The line of the first statement that is none; 0 of a text of statements, and none without memory.
-fn line_of(alloc: Global, text: &[u8]) -> Option<u64> {
+/// What reading a text of statements came to.
+#[derive(Clone, Copy, PartialEq, Eq)]
+enum Found {
+    /// This many statements.
+    Statements(usize),
+    /// No statement, on the line of this number, from 1.
+    FaultOnLine(u64),
+}
+
+/// What reading the text comes to; none without memory, and of a text over the limit.
+fn found_in(alloc: Global, text: &[u8]) -> Option<Found> {
     if text.len() > SVF_TEXT_LIMIT {
         return None;
     }
     match svf_of(alloc, text) {
-        Ok(_) => Some(0),
-        Err(SvfFault::Line(line)) => Some(line),
+        Ok(svf) => Some(Found::Statements(svf.len())),
+        Err(SvfFault::Line(line)) => Some(Found::FaultOnLine(line)),
         Err(SvfFault::NoMemory) => None,
     }
 }
@@ -18,8 +27,8 @@ fn line_of(alloc: Global, text: &[u8]) -> Option<u64> {
 #[test]
 fn a_text_has_statements_or_a_line_at_fault(rt: HostRuntime) {
     let good = b"STATE RESET; SIR 6 TDI (09); SDR 32 TDI (0) TDO (0362D093) MASK (0FFFFFFF);";
-    assert!(rt; line_of(rt.alloc(), good) == Some(0));
-    assert!(rt; line_of(rt.alloc(), b"STATE RESET;\nSDR 8;") == Some(2));
+    assert!(rt; found_in(rt.alloc(), good) == Some(Found::Statements(3)));
+    assert!(rt; found_in(rt.alloc(), b"STATE RESET;\nSDR 8;") == Some(Found::FaultOnLine(2)));
 }
 
 #[test]

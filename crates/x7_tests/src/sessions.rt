@@ -1,9 +1,10 @@
-//! How many bytes the moves of a debug session give to its device.
+//! How many bytes the moves of a debug session feed to its device, and whether its device is then as if played anew.
 use crate::tiny::TINY;
 use std::alloc::Global;
 use x7_debug::Session;
 use x7_engine::{Device, ReadBuf};
 use x7_part::{Part, part_of};
+use x7_report::report;
 
 /// What comes before the frame data of a write to frame 00000001: the sync word,
 /// IDCODE, WCFG, FAR, and FDRI with 202 words.
@@ -21,21 +22,23 @@ fn frame_write(alloc: Global) -> Option<Vec<u8>> {
     Some(stream)
 }
 
-/// Whether a device shows what a new one does that is fed the stream's first `count` bytes.
+/// Whether the report of a device, its state and its frames, is that of a new one that is fed the stream's first `count`
+/// bytes; none where a call is refused.
 fn is_as_played(alloc: Global, part: &Part, device: &Device, count: usize) -> Option<bool> {
     let stream = frame_write(alloc)?;
     let bytes = stream.get(..count)?;
     match Device::new(alloc, part) {
         Ok(mut fresh) => {
             fresh.feed(bytes, &mut ReadBuf::dropping());
-            Some(fresh.state() == device.state())
+            let wanted = report(alloc, &fresh, &[]).ok()?;
+            Some(report(alloc, device, &[]).ok()? == wanted)
         }
         Err(_) => None,
     }
 }
 
-/// By how much a move back by `count` bytes raises what the session's device was fed, and whether the device is then as
-/// one that plays the stream up to there.
+/// By how much a move back by `count` bytes raises the count of bytes fed to the session's device, and whether the device
+/// is then as played up to there.
 fn went_back(alloc: Global, part: &Part, session: &mut Session, count: u64) -> Option<(u64, bool)> {
     let fed = session.device().fed();
     session.back(count);
@@ -43,7 +46,8 @@ fn went_back(alloc: Global, part: &Part, session: &mut Session, count: u64) -> O
     Some((session.device().fed().wrapping_sub(fed), played))
 }
 
-/// What moves back by 4, 252 and 500 bytes from byte 844 raise.
+/// By how much moves back by 4, 252 and 500 bytes, the first from byte 844, each raise the count of bytes fed, and
+/// whether the device is then as played.
 fn moves_of(alloc: Global, part: &Part, session: &mut Session) -> Option<[(u64, bool); 3]> {
     session.go(844);
     Some([
@@ -53,7 +57,8 @@ fn moves_of(alloc: Global, part: &Part, session: &mut Session) -> Option<[(u64, 
     ])
 }
 
-/// What the moves raise in a session of the stream.
+/// By how much the three moves back each raise the count of bytes fed in a session of the stream, and whether its device
+/// is then as played; none where a call is refused.
 fn moves_back(alloc: Global) -> Option<[(u64, bool); 3]> {
     let stream = frame_write(alloc)?;
     let Ok(part) = part_of(alloc, TINY) else {

@@ -10,7 +10,8 @@ use x7_words::bytes_of;
 const SMALL: &[u8] =
     b"name = \"small\"\nidcode = 0x0362D093\nframe_words = 2\nrow = [{block = 0, half = 0, row = 0, minors = [2]}, {block = 0, half = 1, row = 0, minors = [2]}]\n";
 
-/// The words of the small part's full stream for one frame at 00400000, by the list of a planned stream.
+/// The words of the small part's full stream for one frame at 00400000, by the list of FORMATS, planned
+/// streams; the checks were worked out apart from x7.
 #[rattlefmt::skip]
 const PLANNED: [u32; 71] = [
     0xFFFF_FFFF, 0xFFFF_FFFF, 0xFFFF_FFFF, 0xFFFF_FFFF, 0x0000_00BB, 0x1122_0044, 0xFFFF_FFFF, 0xFFFF_FFFF,
@@ -24,7 +25,8 @@ const PLANNED: [u32; 71] = [
     0x2000_0000, 0x2000_0000, 0x2000_0000, 0x2000_0000, 0x2000_0000, 0x2000_0000, 0x2000_0000,
 ];
 
-/// The full stream of a frames text, and the text of its plan.
+/// The full stream of a frames text, and the text of its plan; none where the part, the frames or the plan is refused,
+/// or without memory.
 pub(crate) fn planned(alloc: Global, part: &[u8], text: &[u8]) -> Option<(Vec<u8>, Vec<u8>)> {
     let Ok(part) = part_of(alloc, part) else {
         return None;
@@ -48,14 +50,14 @@ fn are_bytes_of(bytes: &[u8], words: &[u32]) -> bool {
             return false;
         }
     }
-    bytes.len() / 4 == words.len()
+    bytes.len() == 4 * words.len()
 }
 
 #[test]
 fn a_full_stream_is_its_list_of_words(rt: HostRuntime) {
     let text = b"frame 00400000 DEADBEEF01234567\n";
     let Some((stream, again)) = planned(rt.alloc(), SMALL, text) else {
-        panic!(rt; "no memory")
+        panic!(rt; "no stream")
     };
     assert!(rt; are_bytes_of(&stream, &PLANNED) && again.as_slice() == text.as_slice());
 }
@@ -74,7 +76,7 @@ fn the_text_of_a_plan_is_its_line(rt: HostRuntime) {
         panic!(rt; "no memory")
     };
     let Some((_, again)) = planned(rt.alloc(), TINY, &line) else {
-        panic!(rt; "no memory")
+        panic!(rt; "no stream")
     };
     assert!(rt; again == line);
 }
@@ -84,7 +86,7 @@ fn frames_come_again_in_order_and_in_upper_case(rt: HostRuntime) {
     let text = b"# two frames\n\nframe 00400000 0123456789abcdef\nframe 00000001 aAaAbBbBCCCCDDDD";
     let lines = b"frame 00000001 AAAABBBBCCCCDDDD\nframe 00400000 0123456789ABCDEF\n";
     let Some((_, again)) = planned(rt.alloc(), SMALL, text) else {
-        panic!(rt; "no memory")
+        panic!(rt; "no stream")
     };
     assert!(rt; again.as_slice() == lines.as_slice());
 }

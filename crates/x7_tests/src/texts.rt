@@ -6,7 +6,7 @@ use x7_mcs::{flash_of, mcs_text};
 use x7_packets::{Packets, Run, Step};
 use x7_words::{Inputs, NoMemory};
 
-/// The Intel HEX text of three bytes, and the image of that text.
+/// The Intel HEX text of three bytes, and the image of that text; none where one is refused, or without memory.
 fn text_and_image(alloc: Global) -> Option<(Vec<u8>, Vec<u8>)> {
     let text = mcs_text(alloc, &[1, 2, 3]).ok()?;
     let image = flash_of(alloc, &text).ok()?;
@@ -16,7 +16,7 @@ fn text_and_image(alloc: Global) -> Option<(Vec<u8>, Vec<u8>)> {
 #[test]
 fn an_image_comes_back_from_its_intel_hex_text(rt: HostRuntime) {
     let Some((text, image)) = text_and_image(rt.alloc()) else {
-        panic!(rt; "no memory")
+        panic!(rt; "refused, or no memory")
     };
     let want = b":020000040000FA\n:03000000010203F7\n:00000001FF\n";
     assert!(rt; text.as_slice() == want.as_slice());
@@ -26,7 +26,7 @@ fn an_image_comes_back_from_its_intel_hex_text(rt: HostRuntime) {
 #[test]
 fn a_text_assembles_at_once(rt: HostRuntime) {
     let Ok(bytes) = assemble(rt.alloc(), b"sync\nwrite CMD 1\ndata 00000001\ncrc\n") else {
-        panic!(rt; "no memory")
+        panic!(rt; "refused, or no memory")
     };
     let want = b"\xAA\x99\x55\x66\x30\0\x80\x01\0\0\0\x01\x30\0\0\x01\xE5\xDA\x85\x4F";
     assert!(rt; bytes.as_slice() == want.as_slice());

@@ -306,8 +306,8 @@ update_event names (update_fault.NoLayout place) = bad_input names.flash (input.
 update_event names (update_fault.Differs place wrote read) = differs names.flash place
 update_event names update_fault.NoMemory = no_memory
 
--- why a flash isn't updated with a stream, by its bytes where they are known; a byte read back may be another than the
--- one written there only where they aren't
+-- why a flash isn't updated with a stream, by its bytes where they are known; a byte that is verified may be
+-- another than the one written there only where they aren't
 abbrev pub IsUpdateFault : Option (List ℕ) → List ℕ → UpdateFault → Type 0
 IsUpdateFault bytes stream (update_fault.NoLayout place) = IfKnown bytes (λ flash. NoLayoutAt (length flash) flash place)
 IsUpdateFault bytes stream update_fault.TooLong = IfKnown bytes (IsTooLong stream)

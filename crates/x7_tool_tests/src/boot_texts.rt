@@ -17,7 +17,7 @@ const WRONG_CHECK: &[u8] = b"\xAA\x99\x55\x66\x30\0\0\x01\0\0\0\x01";
 const CRC: &[u8] =
     b"boot tiny\nattempt 1 power 00000000 crc\nattempt 2 fallback 00000000 crc\nend stopped\npart tiny\ntaken 12\nend fault Crc 00000000 00000001\n";
 
-/// The text of a boot from a flash of these bytes.
+/// The text of a boot from a flash of these bytes; none where a call is refused.
 fn booted(alloc: Global, bytes: &[u8]) -> Option<Vec<u8>> {
     let part = part_of(alloc, TINY).ok()?;
     let mut flash = MemoryFlash::new(alloc, "f", bytes).ok()?;
@@ -29,7 +29,7 @@ fn booted(alloc: Global, bytes: &[u8]) -> Option<Vec<u8>> {
 #[test]
 fn a_boot_that_stops_tells_both_attempts(rt: HostRuntime) {
     let Some(text) = booted(rt.alloc(), WRONG_CHECK) else {
-        panic!(rt; "no memory")
+        panic!(rt; "no boot text")
     };
     // after these lines come the phase, fifteen registers, no reads and no frames
     assert!(rt; text.len() == 453 && text.starts_with(CRC));

@@ -1,4 +1,5 @@
 use Rattle.std.proofs.Common.{◌≡◌, ◌+◌, ◌%◌, ◌++◌, length, List, ℕ, ap, arith, ◌∙◌}
+use Rattle.x7_mcs.specs.Record.{block_size}
 use Rattle.x7_words.proofs.SinkLemmas.{counts_on}
 use Rattle.x7_text.specs.Row.{rows}
 use Rattle.x7_mcs.specs.Text.{row_lines}
@@ -21,7 +22,7 @@ loop-rest-preserved g c =
           block_put (s.state c.args.out.now).written (s.state c.loop-rest.out).written c.args.flash.now c.loop-rest.place c.loop-rest.rest.now c.split_at.result.0.now c.split_at.result.1.now c.deref.result.now c.min.result
           c.loop-rest.invariant.goes c.min.ensures (omega arith) c.split_at.ensures.front c.split_at.ensures.back (omega arith) block (s.state c.write_all.new.sink).written c.in_ok-write_all.ensures.appends;
       left = omega arith;
-      begins = λ more. ap (λ n. (c.loop-rest.place + n) % 65536) (omega arith) ∙ begins_more c.loop-rest.place (length c.loop-rest.rest.now) c.min.result (length c.split_at.result.1.now) c.min.ensures (omega arith) (c.loop-rest.invariant.begins (omega arith)) more;
+      begins = λ more. ap (λ n. (c.loop-rest.place + n) % block_size) (omega arith) ∙ begins_more c.loop-rest.place (length c.loop-rest.rest.now) c.min.result (length c.split_at.result.1.now) c.min.ensures (omega arith) (c.loop-rest.invariant.begins (omega arith)) more;
       room = omega arith;
       counts = counts_on _ _ _ c.loop-rest.invariant.counts c.in_ok-write_all.ensures.counts;
     }
