@@ -14,7 +14,7 @@ from x7run import Refused, program, read_file, read_in, run, say, write_file, wr
 
 # ---- words, registers and commands (UG470, configuration registers; command register codes)
 
-SYNC_WORD, BLANK = 0xAA995566, 0xFFFFFFFF  # BLANK: a word of a bus that is at rest, or of an erased flash
+SYNC_WORD, DUMMY_WORD = 0xAA995566, 0xFFFFFFFF
 SYNC = bytes.fromhex("AA995566")
 NOP = bytes.fromhex("20000000")
 FRAME_WORDS = 101
@@ -152,7 +152,7 @@ def packet(data, place, named):
     names."""
     word = word_at(data, place)
     kind_bits, first, end = word >> 27, place + 4, place + 4
-    if word in (SYNC_WORD, BLANK) or kind_bits >> 2 == 0 or kind_bits == 0b00100:
+    if word in (SYNC_WORD, DUMMY_WORD) or kind_bits >> 2 == 0 or kind_bits == 0b00100:
         return Step("filler", place, word, None, 0, first, 0, end)
     kinds = {0b00110: "write", 0b00101: "read", 0b01010: "write", 0b01001: "read"}
     is_type_1 = kind_bits >> 2 == 1
