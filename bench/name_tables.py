@@ -2,8 +2,8 @@
 """The tables by which names are read back: where a register's or a command's name stands in a table of 64.
 
 x7_regs (src/named.rt) looks at a name's first two letters, its last one and its length; x7_listing
-(src/asm/fast/write_pairs.rt) at its first four bytes, of which the byte after a short name is one. The factors are such
-that no two names have one place.
+(src/asm/fast/write_pairs.rt) at its first four bytes, of which the byte after a short name is one. The weights and
+the factor are such that no two names have one place.
 
     python3 bench/name_tables.py           compares the tables with those of the two files
     python3 bench/name_tables.py --print   writes them
@@ -26,7 +26,11 @@ REGISTERS = {0: "CRC", 1: "FAR", 2: "FDRI", 3: "FDRO", 4: "CMD", 5: "CTL0", 6: "
 COMMANDS = {0: "NULL", 1: "WCFG", 2: "MFW", 3: "LFRM", 4: "RCFG", 5: "START", 6: "RCAP", 7: "RCRC", 8: "AGHIGH",
             9: "SWITCH", 10: "GRESTORE", 11: "SHUTDOWN", 12: "GCAPTURE", 13: "DESYNC", 15: "IPROG", 16: "CRCC",
             17: "LTIMER", 18: "BSPI_READ", 19: "FALL_EDGE"}
+# how often a name's second byte, its last one and its length count in its place in a table of x7_regs
+SECOND_WEIGHT, LAST_WEIGHT, LENGTH_WEIGHT = 13, 3, 2
+# by what a table of x7_listing multiplies a name's first four bytes
 SPREAD_FACTOR = 0x3F20_35EB
+TABLE_SIZE = 64
 
 
 def register_name(number):
@@ -36,7 +40,8 @@ def register_name(number):
 
 def by_letters(name, _after):
     """The place in a table of x7_regs."""
-    return (ord(name[0]) + 13 * ord(name[1]) + 3 * ord(name[-1]) + 2 * len(name)) % 64
+    weighed = ord(name[0]) + SECOND_WEIGHT * ord(name[1]) + LAST_WEIGHT * ord(name[-1]) + LENGTH_WEIGHT * len(name)
+    return weighed % TABLE_SIZE
 
 
 def by_four_bytes(name, after):
@@ -47,12 +52,12 @@ def by_four_bytes(name, after):
 
 def table(what, names, place, after):
     """The table: each number at the place of its name. It refuses two names that have one place."""
-    result = [0] * 64
+    result = [0] * TABLE_SIZE
     taken = {}
     for number, name in names.items():
         at = place(name, after)
         if at in taken:
-            raise Refused(f"{what}: {name} and {taken[at]} have one place; other factors are wanted")
+            raise Refused(f"{what}: {name} and {taken[at]} have one place; other weights, or another factor, are wanted")
         taken[at] = name
         result[at] = number
     return result
@@ -61,7 +66,7 @@ def table(what, names, place, after):
 def table_in(path, name):
     """The table of this name in a file."""
     text = read_file(os.path.join(TOP, path)).decode()
-    found = re.search(name + r": \[u8; 64\] = \[(.*?)\];", text, re.S)
+    found = re.search(name + r": \[u8; \w+\] = \[(.*?)\];", text, re.S)
     if not found:
         raise Refused(f"{path} has no table {name}")
     return [int(n) for n in re.findall(r"\d+", found.group(1))]
@@ -80,7 +85,7 @@ def main(words):
     for path, name, names, place, after in wanted:
         numbers = table(f"{path} {name}", names, place, after)
         if words:
-            rows = ["    " + ", ".join(f"{n:2}" for n in numbers[row:row + 16]) + "," for row in range(0, 64, 16)]
+            rows = ["    " + ", ".join(f"{n:2}" for n in numbers[row:row + 16]) + "," for row in range(0, TABLE_SIZE, 16)]
             write_out("\n".join([f"{path} {name}", *rows, ""]))
         elif table_in(path, name) != numbers:
             raise Refused(f"{path} has another table {name}")

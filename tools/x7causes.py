@@ -7,9 +7,19 @@ from collections import namedtuple
 import x7formats as x7
 import x7kinds
 from x7device import MOST_READS, Device
-from x7parts import family_of, idcode_of_name, is_7_series, name_of_idcode, SSI
+from x7parts import DEVICE_BITS, family_of, idcode_of_name, is_7_series, name_of_idcode, SSI
 
 SECTOR = 65536
+# bits of STAT: MMCM_LOCK, the clocks are locked, and DCI_MATCH, the impedance is matched
+LOCKED, MATCHED = 1 << 2, 1 << 3
+# the first bytes of a file that are looked at before all of it
+LOOK_BYTES = 65536
+# a write to FDRI of fewer words than this isn't searched for packets: no frame fits in it
+FEWEST_WORDS = 64
+# the NOPs after frame data are searched in this many last bytes of a payload
+TAIL_BYTES = 64
+# how many bytes of packets `PACKETS` needs, of which all but the first may lie past the payload
+PACKET_BYTES = 9
 AGAIN = "take the file again; where it goes through a cable or a processor, compare the number of bytes that arrive"
 # What `x7 image` writes in a slot of the first sector after its switch word, around the address (docs/FORMATS.md).
 SLOT = (bytes.fromhex("2000000030020001"), bytes.fromhex("300080010000000F300080010000000D"))
@@ -69,7 +79,7 @@ class Subject:
     def fate_of_device(self):
         """What the streams do to a device without frames."""
         it = self.device
-        return Fate(it.end, it.taken, it.phase, it.gts, it.gwe, int(it.ghigh), {**it.registers, "STAT": 12})
+        return Fate(it.end, it.taken, it.phase, it.gts, it.gwe, int(it.ghigh), {**it.registers, "STAT": LOCKED | MATCHED})
 
     def source_at(self, after):
         """The stream that the byte before a place stands in, or none."""
@@ -127,7 +137,7 @@ def of_kind(source):
 def of_no_sync(source):
     """The cause where nothing names why the sync word is missing."""
     data = source.data
-    if len(set(data[:65536])) == 1 and len(set(data)) == 1 and source.lost <= 0:
+    if len(set(data[:LOOK_BYTES])) == 1 and len(set(data)) == 1 and source.lost <= 0:
         what = {0xFF: "all bytes are FF, as in an erased flash", 0: "all bytes are 00"}.get(data[0], f"all bytes are {data[0]:02X}")
         return unsynced(
             f"no sync word: {what}", "write the stream into it, or look where the file comes from", source)
@@ -237,7 +247,7 @@ def of_swallowed(subject):
     is damaged."""
     for source in subject.sources:
         for step in x7.steps(source.data):
-            if step.kind != "write" or step.register != x7.FDRI or step.count < 64:
+            if step.kind != "write" or step.register != x7.FDRI or step.count < FEWEST_WORDS:
                 continue
             begins = packets_begin(source.data, step)
             if begins is not None:
@@ -250,10 +260,10 @@ PACKETS = re.compile(rb"\x30\x00\x00\x01.{4}(?:\x20\x00\x00\x00|\x30)|\x30\x00\x
 
 def packets_begin(data, step):
     """Where packets begin within the payload of frame data, or none."""
-    found = PACKETS.search(data, step.first, step.end + 9)
+    found = PACKETS.search(data, step.first, step.end + PACKET_BYTES)
     if found and found.start() < step.end:
         return found.start()
-    ended = data.find(x7.NOP * 4, max(step.end - 64, step.first), step.end)
+    ended = data.find(x7.NOP * 4, max(step.end - TAIL_BYTES, step.first), step.end)
     return ended if ended >= 0 and step.present < step.count else None
 
 
@@ -311,7 +321,7 @@ def of_large_counts(subject):
     return None
 
 
-def of_text_mode(source):
+def is_text_mode(source):
     """Whether a file went through a transfer as text, which puts 0D before each 0A."""
     lone = len(re.findall(rb"(?<!\r)\n", source.data))
     return lone == 0 and source.data.count(b"\n") > 8
@@ -354,7 +364,7 @@ def of_idcode(subject, source, words, after):
     want, got = int(words[0], 16), int(words[1], 16)
     text = f"the stream is for a device with IDCODE {words[1]}{named(got)}, this one has {words[0]}{named(want)}"
     by_header = idcode_of_name(source.part)
-    if by_header is not None and not (by_header ^ want) & 0xFFFFFFF:
+    if by_header is not None and not (by_header ^ want) & DEVICE_BITS:
         return cause(
             f"{text}; or the word is damaged: its header is for {source.part}, which is this one",
             "take the file again; compare it with a good copy", section, after, source,
@@ -373,7 +383,7 @@ def named(idcode):
 
 def of_packet(subject, source, words, after):
     """The cause of a fault Packet."""
-    if of_text_mode(source):
+    if is_text_mode(source):
         return cause(
             f"{words[0]} stands where a packet's header should: the file went through a transfer as text, which puts 0D "
             "before each 0A",
@@ -437,9 +447,9 @@ def of_copy(subject, source, words, after):
 def waiting(phase, registers):
     """What startup waits for in its phase, or none."""
     waits = []
-    if registers["COR0"] >> 6 & 7 == phase and not registers["STAT"] & 4:
+    if registers["COR0"] >> 6 & 7 == phase and not registers["STAT"] & LOCKED:
         waits.append("the clocks to lock (LOCK_CYCLE)")
-    if registers["COR0"] >> 9 & 7 == phase and not registers["STAT"] & 8:
+    if registers["COR0"] >> 9 & 7 == phase and not registers["STAT"] & MATCHED:
         waits.append("the impedance to match (MATCH_CYCLE)")
     return " and ".join(waits)
 
@@ -715,7 +725,7 @@ def of_name(subject):
         return None
     written = [(source, *it) for source in subject.sources for it in idcodes_of(source)]
     for source, after, word in written:
-        if (word ^ written[0][2]) & 0xFFFFFFF:
+        if (word ^ written[0][2]) & DEVICE_BITS:
             text = (
                 f"the streams are for different devices: {written[0][0].name} for {written[0][2]:08X}{named(written[0][2])}, "
                 f"{source.name} for {word:08X}{named(word)}"
@@ -723,7 +733,7 @@ def of_name(subject):
             return cause(text, "give the streams of one device", "A stream for another device", source.first + after, None)
     for source in subject.sources:
         by_header, words = idcode_of_name(source.part), idcodes_of(source)
-        if by_header is not None and words and (by_header ^ words[0][1]) & 0xFFFFFFF:
+        if by_header is not None and words and (by_header ^ words[0][1]) & DEVICE_BITS:
             text = (
                 f"the stream writes the IDCODE {words[0][1]:08X}{named(words[0][1])}, and its header names {source.part}, which "
                 f"has {by_header:08X}: the word is damaged, or the header is another stream's"
@@ -749,7 +759,7 @@ def notes_of(subject, found):
                 "DISABLE, or RCRC in its place)",
             )
         words = idcodes_of(source)
-        if words and words[0][1] & 0xFFFFFFF in SSI:
+        if words and words[0][1] & DEVICE_BITS in SSI:
             notes.append(
                 f"{words[0][1]:08X} is a device of several dies, whose streams hold further ones in register R30: x7 plays the "
                 "first die's alone",

@@ -6,6 +6,7 @@ and what frames hold aren't known here; x7report has them."""
 from collections import namedtuple
 
 import x7formats as x7
+from x7parts import DEVICE_BITS
 
 DESYNC, IPROG = x7.CODES["DESYNC"], x7.CODES["IPROG"]
 MOST_READS = 1 << 24
@@ -189,7 +190,7 @@ class Device:
 
     def identify(self, word, after):
         """Compares a word of IDCODE, where the device is known."""
-        if self.idcode is not None and (word ^ self.idcode) & 0xFFFFFFF:
+        if self.idcode is not None and (word ^ self.idcode) & DEVICE_BITS:
             self.stop(after, "fault", "Id", f"{self.idcode:08X}", f"{word:08X}")
         self.matched = True
 

@@ -14,6 +14,7 @@ from x7run import Refused, program, read_file, read_in, run, say, write_file, wr
 
 # ---- words, registers and commands (UG470, configuration registers; command register codes)
 
+SYNC_WORD, DUMMY_WORD = 0xAA995566, 0xFFFFFFFF
 SYNC = bytes.fromhex("AA995566")
 NOP = bytes.fromhex("20000000")
 FRAME_WORDS = 101
@@ -151,7 +152,7 @@ def packet(data, place, named):
     names."""
     word = word_at(data, place)
     kind_bits, first, end = word >> 27, place + 4, place + 4
-    if word in (0xAA995566, 0xFFFFFFFF) or kind_bits >> 2 == 0 or kind_bits == 0b00100:
+    if word in (SYNC_WORD, DUMMY_WORD) or kind_bits >> 2 == 0 or kind_bits == 0b00100:
         return Step("filler", place, word, None, 0, first, 0, end)
     kinds = {0b00110: "write", 0b00101: "read", 0b01010: "write", 0b01001: "read"}
     is_type_1 = kind_bits >> 2 == 1
@@ -184,7 +185,7 @@ def payload(data, step):
 def head_line(step):
     """The line of a word in a header's place."""
     word, register = step.word, step.register
-    if word == 0xAA995566:
+    if word == SYNC_WORD:
         return "sync"
     if register is not None and word & ~0x3E7FF in (0x30000000, 0x28000000):
         return f"{step.kind} {REGISTERS[register]} {step.count}"

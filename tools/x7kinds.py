@@ -109,7 +109,7 @@ def reads(data):
         return False
     known = seen = 0
     for step in x7.session(data[: at + 1024], at + 4):
-        if step.kind in ("bad", "filler") and step.word not in (0xFFFFFFFF, 0xAA995566):
+        if step.kind in ("bad", "filler") and step.word not in (x7.DUMMY_WORD, x7.SYNC_WORD):
             return False
         if step.kind == "write" and step.register not in (x7.FDRI, x7.MFWR) and step.count > 64:
             return False

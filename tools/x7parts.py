@@ -1,5 +1,10 @@
 """The 7-series devices by IDCODE (UG470, device identification register), without the version in bits 31:28."""
 
+# the bits of an IDCODE without the version, by which devices are compared
+DEVICE_BITS = 0xFFFFFFF
+# bits 27:21 of an IDCODE are the family's code, and this one is that of the 7 series
+FAMILY_SHIFT, FAMILY_BITS, SERIES_7 = 21, 0x7F, 0x1B
+
 IDCODES = {
     "7s6": 0x3622093, "7s15": 0x3620093, "7s25": 0x37C4093, "7s50": 0x362F093, "7s75": 0x37C8093, "7s100": 0x37C7093,
     "7a12t": 0x37C3093, "7a15t": 0x362E093, "7a25t": 0x37C2093, "7a35t": 0x362D093, "7a50t": 0x362C093, "7a75t": 0x3632093,
@@ -59,9 +64,9 @@ def idcode_of_name(part):
 
 def name_of_idcode(idcode):
     """The device of an IDCODE, or none."""
-    return next((f"xc{name}" for name, code in IDCODES.items() if code == idcode & 0xFFFFFFF), None)
+    return next((f"xc{name}" for name, code in IDCODES.items() if code == idcode & DEVICE_BITS), None)
 
 
 def is_7_series(idcode):
     """Whether an IDCODE is one of the family."""
-    return idcode >> 21 & 0x7F == 0x1B
+    return idcode >> FAMILY_SHIFT & FAMILY_BITS == SERIES_7

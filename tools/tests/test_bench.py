@@ -25,6 +25,8 @@ with tempfile.TemporaryDirectory() as folder:
     for name in ("streams.py", "times.py"):
         came = run(folder, [sys.executable, os.path.join(BENCH, name)])
         tally.same(f"{name} without words", (came.status, came.out, came.err.count(b"\n")), (1, b"", 1))
+    came = run(folder, [os.path.join(BENCH, "name_tables.py")])
+    tally.check("name_tables.py in another folder", came.status == 0, came)
     os.environ["X7"] = sys.executable
     for name in ("closed", "no_memory", "update"):
         came = run(folder, [os.path.join(BENCH, name), os.path.realpath(__file__)])

@@ -13,6 +13,8 @@ tally = Tally()
 with tempfile.TemporaryDirectory() as folder:
     install = os.path.join(TOP, "install")
     tally.same("install of no folder, status", run(folder, [install]).status, 2)
+    tally.same("install -h, status", run(folder, [install, "-h"]).status, 0)
+    tally.same("install of another option, status", run(folder, [install, "--other"]).status, 2)
     if X7:
         came = run(folder, [install, "there"])
         tally.same("install, status", came.status, 0)

@@ -1,6 +1,7 @@
 #!/usr/bin/env python3
 """Tests the pages against the tree: what MAP and the READMEs name is there, what is there is named, and links lead
-somewhere; and that crates.txt names no library that a crate doesn't cite."""
+somewhere; that the clauses that PROOFS and the READMEs name are there; and that crates.txt names no library that a
+crate doesn't cite."""
 import glob
 import os
 import re
@@ -87,12 +88,12 @@ def check_links(tally):
 
 
 def check_seconds(tally):
-    """MAP's times of the crates are those by which ./build reckons."""
-    table = text_of("docs", "MAP.md").partition("| Crate | Seconds |")[2].partition("\n\n")[0]
+    """The times of the crates in bench/README are those by which ./build reckons."""
+    table = text_of("bench", "README.md").partition("| Crate | Seconds |")[2].partition("\n\n")[0]
     row_pairs = re.findall(r"(x7\w*) \| (\d+)", table)
     reckoned = re.findall(r'"(x7\w*)": (\d+)', text_of("build"))
     tally.check("build has its times", len(reckoned) > 20, reckoned)
-    tally.same("MAP's times and those of build", sorted(row_pairs), sorted(reckoned))
+    tally.same("the times of bench/README and those of build", sorted(row_pairs), sorted(reckoned))
 
 
 def check_readme(tally):
@@ -135,6 +136,20 @@ def check_clauses(tally):
             tally.check(f"{crate}: its README's specs/{name}", os.path.isfile(f"{path}.antt") or os.path.isdir(path), name)
 
 
+def check_promises(tally):
+    """Each clause, field or definition that PROOFS names after a crate is one of that crate, or of one below it."""
+    below = {line.partition(":")[0]: line.partition(":")[2].split() for line in text_of("crates.txt").splitlines() if not line.startswith("#")}
+    known = {crate: says(crate) for crate in crates()}
+    rows = [line for line in text_of("docs", "PROOFS.md").splitlines() if re.match(r"- \[?x7", line)]
+    tally.check("PROOFS has rows of clauses", len(rows) > 20, rows)
+    for row in rows:
+        pieces = re.split(r"(?:^- |; )\[?(x7\w*)(?:\]\([^)]*\))?(?:: | (?=`))", row)[1:]
+        for crate, text in zip(pieces[::2], pieces[1::2]):
+            near = known[crate].union(*(known[it] for it in below[crate] if it in known))
+            for name in re.findall(r"`(?:\w+::)?(\w+)`", text):
+                tally.check(f"PROOFS: {crate} has {name}", name in near, row)
+
+
 def check_libraries(tally):
     """Each library that crates.txt names for a crate is cited by its code, its definitions or its proofs."""
     for line in text_of("crates.txt").splitlines():
@@ -153,4 +168,5 @@ check_links(tally)
 check_seconds(tally)
 check_readme(tally)
 check_clauses(tally)
+check_promises(tally)
 tally.end()

@@ -4,4 +4,4 @@ pub mod HeadLemmas
 pub mod PartLemmas
 pub mod ReadLemmas
 pub mod ResultLemmas
-pub mod StandLemmas
+pub mod AskedLemmas

@@ -24,21 +24,21 @@ abbrev pub event_of : Refusal → Event
 event_of refusal = record { reason = refusal.reason; concerned = refusal.name.now }
 
 -- what brings a reason about
-pub data Cause : Type 0 where
+pub data ReasonCause : Type 0 where
   -- the words have no form
-  Wording : Cause
+  Wording : ReasonCause
   -- want of memory, which may come at any time
-  Want : Cause
+  Want : ReasonCause
   -- an input or the flash failed, by its count of faults
-  Fault : Cause
+  Fault : ReasonCause
   -- a name isn't there, by the contents or by a count of absences
-  Absence : Cause
+  Absence : ReasonCause
   -- the output failed, or a write of the flash, by its count of faults
-  Break : Cause
+  Break : ReasonCause
   -- a byte of the flash that was verified is another than the one written
-  Difference : Cause
+  Difference : ReasonCause
   -- what the inputs and the flash hold
-  Contents : Cause
+  Contents : ReasonCause
 
 -- a key of a part file, and its row where it is a row's
 abbrev pub placed_key : List ℕ → Option ℕ → List ℕ
@@ -80,7 +80,7 @@ input_fault_text (input.Layout place) = codes "layout byte " ++ decimal place
 -- a row of the table of reasons: the status and the cause of a reason, and what its line says before and after the name
 pub record ReasonRow : Type 0 where
   pub ends_as : Status
-  pub cause : Cause
+  pub cause : ReasonCause
   pub before_name : List ℕ
   pub after_name : List ℕ
 
@@ -97,7 +97,7 @@ reason_row why.TooLarge = record { ends_as = status.TooLarge; cause = Contents; 
 reason_row (why.Differs place) = record { ends_as = status.Differs; cause = Difference; before_name = codes "differs "; after_name = codes ": byte " ++ decimal place }
 
 -- what brings an event about
-abbrev pub cause_of_event : Event → Cause
+abbrev pub cause_of_event : Event → ReasonCause
 cause_of_event e = (reason_row e.reason).cause
 
 -- the status of a run that an event ends

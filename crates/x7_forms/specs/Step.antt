@@ -5,10 +5,11 @@ use Rattle.x7_words.specs.Input.{InputsState}
 use Rattle.x7_forms.specs.declared.refusal.Refusal.{Refusal}
 use Rattle.x7_part.specs.declared.fault.PartFault.{PartFault}
 use Rattle.x7_forms.specs.declared.bad_input.InputFault.TheVariants as input
-use Rattle.x7_forms.specs.Event.{Event, Cause, Absence, Contents, bad_input, bad_part, cause_of_event, event_of, missing, no_memory, reading_failed, too_large}
+use Rattle.x7_forms.specs.Event.{Event, ReasonCause, Absence, Contents, bad_input, bad_part, cause_of_event, event_of, missing, no_memory, reading_failed, too_large}
 use Rattle.x7_forms.specs.Known.{Failing, Known, Lacking, Mishap, StreamRead, streams_known, mishap_event, stream_known, stream_limit, whole_known, with_inputs, with_mishap}
 
--- the name is one of these
+-- the name is one of these; said by recursion, so that it computes to a choice for names that are listed, where std's
+-- `Contains` asks for a place
 abbrev pub Among : List (List ℕ) → List ℕ → Type 0
 Among [] name = ⊥
 Among (first ∷ names) name = (name ≡ first) ⊎ Among names name
@@ -50,7 +51,7 @@ abbrev pub seen : {A B : Type 0} → (A → B) → Result A Refusal → Result B
 seen value (Ok a) = Ok (value a)
 seen value (Err refusal) = Err (event_of refusal)
 
--- the event is due over the known contents with this mishap; where they aren't known, nothing is said
+-- the event is the result that is due over the known contents with this mishap; where they aren't known, nothing is said
 abbrev pub DueBy : {A : Type 0} → Option Known → Mishap → (Known → Result A Event → Type 0) → Event → Type 0
 DueBy None mishap Due event = Unit {0}
 DueBy (Some known) mishap Due event = Due (with_mishap mishap known) (Err event)
@@ -69,7 +70,7 @@ IsFromOutside known Came Due (Ok a) = ⊥
 IsFromOutside {A} known Came Due (Err event) = (event ≡ no_memory) ⊎ IsOfMishap A known Came Due event
 
 -- what known contents may decide
-abbrev pub DecidedBy : Cause → Type 0
+abbrev pub DecidedBy : ReasonCause → Type 0
 DecidedBy Absence = Unit {0}
 DecidedBy Contents = Unit {0}
 DecidedBy _ = ⊥
@@ -81,7 +82,7 @@ IsDecided (Err event) = DecidedBy (cause_of_event event)
 
 -- what contents that are not known may bring about: an event that lies in them; which name it has, and which reason, a
 -- step says by a clause of its own
-abbrev pub PossibleBy : Cause → Type 0
+abbrev pub PossibleBy : ReasonCause → Type 0
 PossibleBy Contents = Unit {0}
 PossibleBy _ = ⊥
 

@@ -62,6 +62,10 @@ Unread old name new left event =
 abbrev pub ReadsRest : InputsState → InputsState → List ℕ → Type 0
 ReadsRest old new more = (old.rest ≡ preceded more new.rest) × AtEnd new.rest
 
+-- the rest of the open input, no more than `limit` bytes, was read to its end and appended
+abbrev pub AppendsRest : InputsState → InputsState → ℕ → List ℕ → List ℕ → Type 0
+AppendsRest old new limit before after = (more : List ℕ) × (after ≡ before ++ more) × (length more ≤ limit) × ReadsRest old new more
+
 -- the rest of the open input was not read: a read failed, or the rest is over the limit; the name last asked for stays
 abbrev pub UnreadRest : InputsState → List ℕ → InputsState → ℕ → Event → Type 0
 UnreadRest old name new limit event = Unread old name new limit event × (new.asked ≡ old.asked)

@@ -3,7 +3,7 @@ ghost use Rattle.std.specs.Prelude.{◌≡◌, ◌+◌, ◌-◌, ◌<◌, ◌≤
 ghost use Rattle.x7_words.specs.Input.{Asks, AsksAtMost, AsksOnce, AtEnd, Opens, InputsStay, TakesInput};
 ghost use Rattle.x7_forms.specs.Event.{bad_input, event_of, no_memory, reading_failed, too_large};
 ghost use Rattle.x7_forms.specs.Known.{data_in};
-ghost use Rattle.x7_forms.specs.Turn.{Breaks, GivesFew, ReadsRest, IsLastAsked, Unopened, Unread, UnreadRest};
+ghost use Rattle.x7_forms.specs.Turn.{AppendsRest, Breaks, GivesFew, ReadsRest, IsLastAsked, Unopened, Unread, UnreadRest};
 ghost use Rattle.x7_forms.specs.Step.{IsUnread, ReadsWhole, seen};
 ghost use Rattle.x7_forms.specs.declared.bad_input.InputFault.TheVariants as input;
 
@@ -148,7 +148,7 @@ fn read_rest<'w, I: Inputs>(
     onto: &mut Vec<u8>,
 ) -> Result<(), Refusal<'w>>
     requires selected { (I.state inputs.old).selected ≡ true }
-    ensures read { OnOk result ((more : List ℕ) × (onto.new.items ≡ onto.old.items ++ more) × (length more ≤ limit) × ReadsRest (I.state inputs.old) (I.state inputs.new) more) }
+    ensures read { OnOk result (AppendsRest (I.state inputs.old) (I.state inputs.new) limit onto.old.items onto.new.items) }
     ensures refused { IfErr result (λ r. (event_of r ≡ no_memory) ⊎ UnreadRest (I.state inputs.old) name.now (I.state inputs.new) limit (event_of r)) }
     ensures gives_few { GivesFew (I.state inputs.old) limit (I.state inputs.new) }
     ensures inputs { InputsStay (I.state inputs.old) (I.state inputs.new) }

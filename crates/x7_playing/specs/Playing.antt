@@ -9,6 +9,9 @@ use Rattle.x7_engine.specs.ReadBuffer.{ReadBufState}
 use Rattle.x7_engine.specs.Standing.{DeviceState, DeviceStandsFor, NoWordDue, reads_given}
 use Rattle.x7_engine.specs.State.{reads_of, stop_in}
 use Rattle.x7_forms.specs.Known.{reads_limit, StreamRead}
+use Rattle.x7_forms.specs.Step.{ReadsStreams}
+use Rattle.x7_forms.specs.Turn.{ReadsRest}
+use Rattle.x7_words.specs.Input.{InputsState}
 use Rattle.x7_forms.specs.Event.{Event}
 use Rattle.x7_playing.specs.declared.player.Player.{Player}
 
@@ -86,6 +89,14 @@ MayPlayBy over s count = (part : PartData) × ((bytes : List ℕ) × (HasPlayedB
 -- a player may be given `count` bytes more, which with all before are no more than a device counts
 abbrev pub MayPlay : Player → ℕ → Type 0
 MayPlay p count = MayPlayBy p.is_over (play_state p.device p.buffer p.reads.items) count
+
+-- the rest of the open stream was read to its end and played, with `left` of `limit` bytes left
+abbrev pub PlaysRest : Player → Player → InputsState → InputsState → ℕ → ℕ → Type 0
+PlaysRest before after old new limit left = (more : List ℕ) × (length more + left ≡ limit) × PlaysOn before after more × ReadsRest old new more
+
+-- the player was given the data of the streams of these names, as a step reads them
+abbrev pub PlaysStreams : PartData → Player → InputsState → InputsState → List (List ℕ) → Type 0
+PlaysStreams part player old new names = (bytes : List ℕ) × HasPlayed part bytes player × ReadsStreams old new names (Ok bytes)
 
 -- The data of a stream were played, as `WerePlayed` says, with `left` of `limit` bytes left for the next streams, and
 -- are what a step reads, as `IsRead` says.

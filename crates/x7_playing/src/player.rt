@@ -96,7 +96,7 @@ impl Player {
     pub fn play(&mut self, piece: &[u8]) -> Result<(), NoMemory>
         requires { MayPlay self.old (length piece.now) }
         ensures played { OnOk result (PlaysOn self.old self.new piece.now) }
-        ensures over { self.old.is_over ≡ true → IsOk result × (self.new ≡ self.old) }
+        ensures stays_over { self.old.is_over ≡ true → IsOk result × (self.new ≡ self.old) }
         ensures prefix { OnErr result (OfPrefix piece.now (PlaysPrefix self.old self.new)) }
         ensures not_over { OnErr result (self.new.is_over ≡ false) }
         ensures empties_buffer { OnErr result (self.new.buffer ≡ empty_buffer) }

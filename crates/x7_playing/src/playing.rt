@@ -3,8 +3,8 @@ ghost use Rattle.std.specs.Prelude.{◌≡◌, ℕ, List, [], ◌∷◌, ◌+◌
 ghost use Rattle.x7_words.specs.Input.{AsksAtMost, AtEnd, InputsStay};
 ghost use Rattle.x7_forms.specs.Event.{event_of, no_memory};
 ghost use Rattle.x7_forms.specs.Known.{stream_limit};
-ghost use Rattle.x7_playing.specs.Playing.{HasPlayed, MayPlay, PlaysOn, PlaysStream};
-ghost use Rattle.x7_forms.specs.Turn.{GivesFew, ReadsRest, IsLastAsked, UnreadRest, play_turn_size};
+ghost use Rattle.x7_playing.specs.Playing.{MayPlay, PlaysOn, PlaysRest, PlaysStream, PlaysStreams};
+ghost use Rattle.x7_forms.specs.Turn.{GivesFew, IsLastAsked, UnreadRest, play_turn_size};
 ghost use Rattle.x7_forms.specs.ReadingStops.{StopsAmong, limited_together};
 ghost use Rattle.x7_forms.specs.Step.{IsOneUnplayed, IsUnplayed, ReadsStream, ReadsStreams};
 
@@ -32,7 +32,7 @@ fn play_rest<'w, I: Inputs>(
     requires buffer { length piece.old ≡ play_turn_size }
     requires end { last ≡ true → AtEnd (I.state inputs.old).rest }
     requires may_play { MayPlay player.old limit }
-    ensures played { IfOk result (λ left. (more : List ℕ) × (length more + left ≡ limit) × PlaysOn player.old player.new more × ReadsRest (I.state inputs.old) (I.state inputs.new) more) }
+    ensures played { IfOk result (λ left. PlaysRest player.old player.new (I.state inputs.old) (I.state inputs.new) limit left) }
     ensures refused { IfErr result (λ r. (event_of r ≡ no_memory) ⊎ UnreadRest (I.state inputs.old) name.now (I.state inputs.new) limit (event_of r)) }
     ensures length { length piece.new ≡ length piece.old }
     ensures gives_few { GivesFew (I.state inputs.old) limit (I.state inputs.new) }
@@ -100,7 +100,7 @@ pub fn play_streams<'w, I: Inputs>(
     inputs: &mut I,
     streams: &'w [String],
 ) -> Result<Player, Refusal<'w>>
-    ensures played { IfOk result (λ player. (bytes : List ℕ) × HasPlayed part.now bytes player × ReadsStreams (I.state inputs.old) (I.state inputs.new) (map string_bytes streams.now) (Ok bytes)) }
+    ensures played { IfOk result (λ player. PlaysStreams part.now player (I.state inputs.old) (I.state inputs.new) (map string_bytes streams.now)) }
     ensures refused { IfErr result (λ r. ReadsStreams (I.state inputs.old) (I.state inputs.new) (map string_bytes streams.now) (Err (event_of r))) }
     ensures named { IfErr result (λ r. IsOneUnplayed (map string_bytes streams.now) (event_of r)) }
     ensures stops { IfErr result (λ r. StopsAmong (limited_together (I.state inputs.old).contents stream_limit (map string_bytes streams.now))

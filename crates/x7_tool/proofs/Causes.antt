@@ -16,7 +16,7 @@ use Rattle.x7_listing.specs.Listing.{listing_of}
 use Rattle.x7_listing.specs.StreamListing.{stream_listing}
 use Rattle.x7_forms.specs.declared.bad_input.InputFault.TheVariants as input
 use Rattle.x7_forms.specs.Form.{Listing}
-use Rattle.x7_forms.specs.Event.{Event, Cause, Break, bad_input, cause_of_event, event_of, missing, no_memory, reading_failed, status_of_event, too_large, writing_failed}
+use Rattle.x7_forms.specs.Event.{Event, ReasonCause, Break, bad_input, cause_of_event, event_of, missing, no_memory, reading_failed, status_of_event, too_large, writing_failed}
 use Rattle.x7_forms.specs.Status.{final_status}
 use Rattle.x7_forms.specs.declared.refusal.Refusal.{Refusal}
 use Rattle.x7_forms.specs.declared.refusal.Why.{Why}
@@ -55,7 +55,7 @@ abbrev pub PutsSomeOf : Option Known → List ℕ → Option (List ℕ) → Opti
 PutsSomeOf None stream old new = (text : List ℕ) × PutsPrefix old text new
 PutsSomeOf (Some known) stream old new = (bytes : List ℕ) × ((known.inputs stream ≡ Held bytes) × (AreBytes bytes → PutsListed bytes old new))
 
-abbrev pub EndedBy : Cause → Option Known → (Mishap → Type 0) → List ℕ → Type 0 → Option (List ℕ) → Option (List ℕ) → Event → Type 0
+abbrev pub EndedBy : ReasonCause → Option Known → (Mishap → Type 0) → List ℕ → Type 0 → Option (List ℕ) → Option (List ℕ) → Event → Type 0
 EndedBy Break known C stream Full old new event = (event ≡ writing_failed) × Full × PutsSomeOf known stream old new
 EndedBy _ known C stream Full old new event = IsCaused {A = Answer} known C (λ t. listed t stream) (Err event) × LeftAs event.reason known stream old new
 
@@ -68,7 +68,7 @@ abbrev pub EndedIn : List ℕ → Outside → Outside → Result Answer Event �
 EndedIn stream old new end =
     Ended (known_in old) (CameIn (step_over (stream ∷ []) old.inputs new.inputs)) stream (SinkFails old.out new.out) old.out.written new.out.written end
 
-ended_cause : (cause : Cause) (stream : List ℕ) (old new : Outside) (event : Event) → cause_of_event event ≡ cause
+ended_cause : (cause : ReasonCause) (stream : List ℕ) (old new : Outside) (event : Event) → cause_of_event event ≡ cause
     → EndedBy cause (known_in old) (CameIn (step_over (stream ∷ []) old.inputs new.inputs)) stream (SinkFails old.out new.out) old.out.written new.out.written event
     → EndIsCaused (Some (Listing stream)) old new (Err event)
 ended_cause Break stream old new event e h = rw e (h.0, inl h.1)
@@ -84,7 +84,7 @@ some_of : (known : Option Known) (stream : List ℕ) (old new : SinkState) → P
 some_of None stream old new h = h
 some_of (Some known) stream old new h = h
 
-ended_left : (cause : Cause) (stream : List ℕ) (old new : Outside) (event : Event)
+ended_left : (cause : ReasonCause) (stream : List ℕ) (old new : Outside) (event : Event)
     → EndedBy cause (known_in old) (CameIn (step_over (stream ∷ []) old.inputs new.inputs)) stream (SinkFails old.out new.out) old.out.written new.out.written event
     → LeftBy cause (Some (Listing stream)) old new event
 ended_left Break stream old new event h = some_of (known_in old) stream old.out new.out h.2

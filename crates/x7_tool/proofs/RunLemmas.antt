@@ -15,7 +15,7 @@ use Rattle.x7_mcs.proofs.BackLemmas.{text_gives}
 use Rattle.x7_mcs.proofs.SizeLemmas.{text_short}
 use Rattle.x7_forms.specs.declared.status.Status.{Status}
 use Rattle.x7_forms.specs.declared.status.Status.TheVariants as status
-use Rattle.x7_forms.specs.Event.{Event, Cause, Wording, Want, Fault, Absence, Break, Contents, Difference, cause_of_event, no_memory, status_of_event, usage, writing_failed}
+use Rattle.x7_forms.specs.Event.{Event, ReasonCause, Wording, Want, Fault, Absence, Break, Contents, Difference, cause_of_event, no_memory, status_of_event, usage, writing_failed}
 use Rattle.x7_forms.specs.Form.{AskedForm, Assembling, FlashUse, FromMcs, Unused, flash_use, listed_by, names_of, names_used, updated_by}
 use Rattle.x7_forms.specs.Status.{final_status, text_status}
 use Rattle.x7_forms.specs.Known.{Answer, Failing, Known, Lacking, Mishap, mishap_event, and_so, input_found, known_of, taken_whole, whole_known, with_inputs, if_within}
@@ -45,7 +45,7 @@ never_came form old new (Failing name given) q h = q.0 name h.1
 never_came form old new (Lacking name) q h = q.1 name h
 
 -- an event of a form is want of memory or the outcome
-event_by : (known : Known) (form : AskedForm) (old new : Outside) (event : Event) (cause : Cause) → known_in old ≡ Some known → IsQuiet (Some form) old new
+event_by : (known : Known) (form : AskedForm) (old new : Outside) (event : Event) (cause : ReasonCause) → known_in old ≡ Some known → IsQuiet (Some form) old new
     → CausedBy cause form old new event → (event ≡ no_memory) ⊎ FormGives known form (Err event)
 event_by known form old new event Wording k q h = absurd h
 event_by known form old new event Want k q h = inl h
@@ -85,19 +85,19 @@ is_ok (Err event) = false
 
 -- an event of a mishap, by that
 mishap_cause : (m : Mishap) (form : AskedForm) (old new : Outside) (event : Event) → mishap_event m ≡ event → ReportsMishap form old new event → CausedBy (cause_of_event event) form old new event
-mishap_cause (Failing name given) form old new event e h = subst (λ (c : Cause). CausedBy c form old new event) (ap cause_of_event e) h
-mishap_cause (Lacking name) form old new event e h = subst (λ (c : Cause). CausedBy c form old new event) (ap cause_of_event e) (inl h)
+mishap_cause (Failing name given) form old new event e h = subst (λ (c : ReasonCause). CausedBy c form old new event) (ap cause_of_event e) h
+mishap_cause (Lacking name) form old new event e h = subst (λ (c : ReasonCause). CausedBy c form old new event) (ap cause_of_event e) (inl h)
 
 outside_cause : (form : AskedForm) (old new : Outside) (event : Event) → IsFromOutside {A = Answer} (known_in old) (Came (Some form) old new) (λ t end. FormGives t form end) (Err event) → CausedBy (cause_of_event event) form old new event
 outside_cause form old new event (inl e) = subst (λ (x : Event). CausedBy (cause_of_event x) form old new x) (sym e) refl
 outside_cause form old new event (inr h) = mishap_cause h.mishap form old new event h.reports h
 
-known_cause : (cause : Cause) (known : Known) (form : AskedForm) (old new : Outside) (event : Event) → known_in old ≡ Some known → DecidedBy cause → FormGives known form (Err event) → CausedBy cause form old new event
+known_cause : (cause : ReasonCause) (known : Known) (form : AskedForm) (old new : Outside) (event : Event) → known_in old ≡ Some known → DecidedBy cause → FormGives known form (Err event) → CausedBy cause form old new event
 known_cause Absence known form old new event k d h = inr (rw k h)
 known_cause Contents known form old new event k d h = rw k h
 known_cause cause known form old new event k d h = absurd d
 
-open_cause : (cause : Cause) (form : AskedForm) (old new : Outside) (event : Event) → known_in old ≡ None → PossibleBy cause → CausedBy cause form old new event
+open_cause : (cause : ReasonCause) (form : AskedForm) (old new : Outside) (event : Event) → known_in old ≡ None → PossibleBy cause → CausedBy cause form old new event
 open_cause Contents form old new event k o = rw k tt
 open_cause cause form old new event k o = absurd o
 
@@ -216,7 +216,7 @@ runs form old new s r f =
 -- ---- a text that is whole before it is written
 
 -- what other forms leave where nothing was written
-pub leaves_all : (form : AskedForm) (cause : Cause) (old new : Outside) (event : Event) → listed_by (Some form) ≡ None → (cause ≡ Break → ⊥) → new.out.written ≡ old.out.written → LeftBy cause (Some form) old new event
+pub leaves_all : (form : AskedForm) (cause : ReasonCause) (old new : Outside) (event : Event) → listed_by (Some form) ≡ None → (cause ≡ Break → ⊥) → new.out.written ≡ old.out.written → LeftBy cause (Some form) old new event
 leaves_all form Break old new event l n e = absurd (n refl)
 leaves_all form cause old new event l n e = subst (λ (s : Option (List ℕ)). LeavesBy s event old new) (sym l) e
 
@@ -228,11 +228,11 @@ outside_by known C Due event (inr h) b = by h.mishap h.reports
     by (Failing name given) e = let c : Fault ≡ Break = ap cause_of_event e ∙ b in absurd (cc)
     by (Lacking name) e = let c : Absence ≡ Break = ap cause_of_event e ∙ b in absurd (cc)
 
-decided_by : (cause : Cause) → DecidedBy cause → cause ≡ Break → ⊥
+decided_by : (cause : ReasonCause) → DecidedBy cause → cause ≡ Break → ⊥
 decided_by Break h e = h
 decided_by cause h e = absurd (cc)
 
-open_by : (cause : Cause) → PossibleBy cause → cause ≡ Break → ⊥
+open_by : (cause : ReasonCause) → PossibleBy cause → cause ≡ Break → ⊥
 open_by Break h e = h
 open_by cause h e = absurd (cc)
 

@@ -7,7 +7,7 @@ use Rattle.x7_words.specs.Flash.{FlashState}
 use Rattle.x7_words.specs.Sink.{SinkState}
 use Rattle.x7_part.specs.Part.{PartData}
 use Rattle.x7_forms.specs.declared.refusal.Refusal.{Refusal}
-use Rattle.x7_forms.specs.Event.{Absence, Break, Cause, Contents, Difference, Event, Fault, Want, Wording, bad_input, cause_of_event, differs, event_of, missing, no_memory, reading_failed, too_large, too_many_reads, writing_failed}
+use Rattle.x7_forms.specs.Event.{Absence, Break, ReasonCause, Contents, Difference, Event, Fault, Want, Wording, bad_input, cause_of_event, differs, event_of, missing, no_memory, reading_failed, too_large, too_many_reads, writing_failed}
 use Rattle.x7_forms.specs.declared.bad_input.InputFault.TheVariants as input
 use Rattle.x7_forms.specs.declared.refusal.Why.{Why}
 use Rattle.x7_forms.specs.declared.refusal.Why.TheVariants as why
@@ -16,7 +16,7 @@ use Rattle.x7_forms.specs.Known.{Answer, part_limit, stream_limit}
 use Rattle.x7_forms.specs.Step.{Among, seen}
 use Rattle.x7_forms.specs.ReadingStops.{IsAbout, Limited, StopsAmong, limited, limited_together}
 use Rattle.x7_forms.specs.Turn.{IsLastAsked}
-use Rattle.x7_forms.proofs.StandLemmas.{about_among, about_by, stops_after}
+use Rattle.x7_forms.proofs.AskedLemmas.{about_among, about_by, stops_after}
 use Rattle.x7_frames.specs.declared.fault.FramesFault.{FramesFault}
 use Rattle.x7_frames.specs.declared.fault.FramesFault.TheVariants as frames
 use Rattle.x7_planner.specs.declared.fault.PlanFault.{PlanFault}
@@ -33,7 +33,7 @@ use Rattle.x7_tool.specs.Outcome.{DebugInputs, DebuggedAs, PartAndText, PlayedSv
 use Rattle.x7_update.specs.declared.fault.UpdateFault.{UpdateFault}
 use Rattle.x7_update.specs.declared.fault.UpdateFault.TheVariants as update
 use Rattle.x7_tool.specs.Outside.{Sources}
-use Rattle.x7_tool.specs.Run.{FlashComes, IsUnopened, IsUnusable, JudgesFlash, PutsAnswer}
+use Rattle.x7_tool.specs.Run.{FlashComes, IsUnattachedOrLarge, IsUnusable, JudgesFlash, PutsAnswer}
 use Rattle.x7_tool.proofs.FlashLemmas.{flash_open}
 use Rattle.x7_tool.specs.Stopping.{Stops, StopsBy, NamesItsStop, inputs_of}
 
@@ -82,7 +82,7 @@ svf_played_about name texts event (inr h) = about_by name event (svf_event name 
 
 -- ---- where reading stops
 
-stops_by : (cause : Cause) (form : AskedForm) (old now : InputsState) (event : Event) → NamesItsStop form old now event → StopsBy cause form old now event
+stops_by : (cause : ReasonCause) (form : AskedForm) (old now : InputsState) (event : Event) → NamesItsStop form old now event → StopsBy cause form old now event
 stops_by Wording form old now event t = tt
 stops_by Want form old now event t = tt
 stops_by Break form old now event t = tt
@@ -154,10 +154,10 @@ boot_stops name part_name part old now first last (Err event) (inr (inl (inr h))
 boot_stops name part_name part old now first last (Err event) (inr (inr h)) = flash_stops (Booting part_name name) old now event name (ap (λ (x : Event). x.concerned) (flash_open name part first.bytes event h.0)) (inl refl)
 
 -- a flash that can't be used
-pub unopened_stops : (name stream : List ℕ) (old now : InputsState) (first last : FlashState) (event : Event) → IsUnopened name first last event → StopsBy (cause_of_event event) (UpdatingFlash name stream) old now event
-unopened_stops name stream old now first last event (inl (inl h, d)) = flash_stops (UpdatingFlash name stream) old now event name (ap (λ (x : Event). x.concerned) h.0) (inl refl)
-unopened_stops name stream old now first last event (inl (inr h, d)) = flash_stops (UpdatingFlash name stream) old now event name (ap (λ (x : Event). x.concerned) h.0) (inl refl)
-unopened_stops name stream old now first last event (inr h) = flash_stops (UpdatingFlash name stream) old now event name (ap (λ (x : Event). x.concerned) h.0) (inl refl)
+pub attach_refused_stops : (name stream : List ℕ) (old now : InputsState) (first last : FlashState) (event : Event) → IsUnattachedOrLarge name first last event → StopsBy (cause_of_event event) (UpdatingFlash name stream) old now event
+attach_refused_stops name stream old now first last event (inl (inl h, d)) = flash_stops (UpdatingFlash name stream) old now event name (ap (λ (x : Event). x.concerned) h.0) (inl refl)
+attach_refused_stops name stream old now first last event (inl (inr h, d)) = flash_stops (UpdatingFlash name stream) old now event name (ap (λ (x : Event). x.concerned) h.0) (inl refl)
+attach_refused_stops name stream old now first last event (inr h) = flash_stops (UpdatingFlash name stream) old now event name (ap (λ (x : Event). x.concerned) h.0) (inl refl)
 
 -- a fault of an update
 fault_stops : (flash stream : List ℕ) (old now : InputsState) (fault : UpdateFault) → IsLastAsked stream stream_limit now → AsksAtMost old 1 now

@@ -29,7 +29,7 @@ use Rattle.x7_forms.proofs.ReadLemmas.{name_is, outside_goes}
 use Rattle.x7_tool.specs.Leaving.{HasData, KeepsBytes, MayBeFound, UsesFlash}
 use Rattle.x7_tool.specs.Outcome.{FlashUpdates, FormGives, IsUpdateFault, UpdateNames, UpdatesBytes, UpdatesWith, no_text, stream_data, update_event}
 use Rattle.x7_tool.specs.Outside.{Came, Outside, known_in, sources}
-use Rattle.x7_tool.specs.Run.{GivesIfKnown, AnswersOver, EndsAs, FailsLast, IsMeasured, IsUnopened}
+use Rattle.x7_tool.specs.Run.{GivesIfKnown, AnswersOver, EndsAs, FailsLast, IsMeasured, IsUnattachedOrLarge}
 use Rattle.x7_tool.proofs.FlashLemmas.{bad_small, came_wider, detached, not_fault, not_large, other_fault, known_flash, unattached_measured, unread_last, unread_measured}
 use Rattle.x7_tool.proofs.RunLemmas.{has_cause, leaves_all, near_all, no_break}
 
@@ -115,9 +115,9 @@ unread_due (Some t) bytes flash stream event same within h = (h.0, update_given 
 -- ---- how an update ends
 
 -- a flash that can't be used, by its size
-pub unopened_measured : (form : Option AskedForm) (name : List ℕ) (old new : FlashState) (event : Event) → IsUnopened name old new event → IsMeasured form new (Err event)
-unopened_measured form name old new event (inl h) = unattached_measured form name old new event h.0
-unopened_measured form name old new event (inr h) = λ other a e. inl h.1
+pub attach_refused_measured : (form : Option AskedForm) (name : List ℕ) (old new : FlashState) (event : Event) → IsUnattachedOrLarge name old new event → IsMeasured form new (Err event)
+attach_refused_measured form name old new event (inl h) = unattached_measured form name old new event h.0
+attach_refused_measured form name old new event (inr h) = λ other a e. inl h.1
 
 -- a stream that was not read says nothing of it
 pub unplayed_measured : (form : Option AskedForm) (new : FlashState) (name : List ℕ) (event : Event) → Among (names_of form) name → IsUnplayed name event → IsMeasured form new (Err event)
@@ -125,9 +125,9 @@ unplayed_measured form new name event a (inl h) = unread_measured form new name 
 unplayed_measured form new name event a (inr h) = bad_small form new name (input.Byte h.0) event h.1
 
 -- neither is a fault of a flash that is attached
-pub unopened_last : (form : AskedForm) (name : List ℕ) (inputs : InputsState) (old new : FlashState) (event : Event) → IsUnopened name old new event → FailsLast (Some form) inputs new (Err event)
-unopened_last form name inputs old new event (inl h) = detached form inputs new event h.1
-unopened_last form name inputs old new event (inr h) = other_fault (Some form) inputs new event (too_large name) h.0 (λ r. absurd (cc))
+pub attach_refused_last : (form : AskedForm) (name : List ℕ) (inputs : InputsState) (old new : FlashState) (event : Event) → IsUnattachedOrLarge name old new event → FailsLast (Some form) inputs new (Err event)
+attach_refused_last form name inputs old new event (inl h) = detached form inputs new event h.1
+attach_refused_last form name inputs old new event (inr h) = other_fault (Some form) inputs new event (too_large name) h.0 (λ r. absurd (cc))
 
 pub unplayed_last : (form : AskedForm) (inputs : InputsState) (new : FlashState) (name : List ℕ) (event : Event) → Among (names_of (Some form)) name → IsUnplayed name event → FailsLast (Some form) inputs new (Err event)
 unplayed_last form inputs new name event a (inl h) = unread_last form inputs new name event a h
@@ -143,12 +143,12 @@ fault_measured form n new (Differs place wrote read) = not_large form new (diffe
 fault_measured form n new NoMemory = not_large form new no_memory (λ r. absurd (cc))
 
 -- a flash that can't be used
-pub unopened_over : (flash stream : List ℕ) (old new : Outside) (event : Event) → IsUnopened flash old.flash new.flash event → AnswersOver (UpdatingFlash flash stream) old new (Err event)
-unopened_over flash stream old new event (inl (inl h, d)) =
+pub attach_refused_over : (flash stream : List ℕ) (old new : Outside) (event : Event) → IsUnattachedOrLarge flash old.flash new.flash event → AnswersOver (UpdatingFlash flash stream) old new (Err event)
+attach_refused_over flash stream old new event (inl (inl h, d)) =
     subst (λ (e : Event). AnswersOver (UpdatingFlash flash stream) old new (Err e)) (sym h.0) (inl (inr (record { mishap = Lacking flash; came = inr h.1; reports = refl; due = flash_due (known_in old) (Lacking flash) flash stream refl })))
-unopened_over flash stream old new event (inl (inr h, d)) =
+attach_refused_over flash stream old new event (inl (inr h, d)) =
     subst (λ (e : Event). AnswersOver (UpdatingFlash flash stream) old new (Err e)) (sym h.0) (inl (inr (record { mishap = Failing flash new.inputs.given; came = (refl, inr h.1); reports = refl; due = flash_due (known_in old) (Failing flash new.inputs.given) flash stream refl })))
-unopened_over flash stream old new event (inr h) =
+attach_refused_over flash stream old new event (inr h) =
     subst (λ (e : Event). AnswersOver (UpdatingFlash flash stream) old new (Err e)) (sym h.0) (update_over flash stream old new (Err (too_large flash)) (tt, tt) (λ t e. inl (h.2, refl)))
 
 -- a stream that was not read

@@ -10,7 +10,7 @@ use Rattle.x7_listing.specs.StreamListing.{stream_listing}
 use Rattle.x7_forms.specs.declared.refusal.Refusal.{Refusal}
 use Rattle.x7_forms.specs.declared.refusal.Why.{Why}
 use Rattle.x7_forms.specs.declared.refusal.Why.TheVariants as why
-use Rattle.x7_forms.specs.Event.{Event, Cause, Wording, Want, Fault, Absence, Break, Contents, Difference, cause_of_event, differs, event_line, missing, no_memory, reading_failed, too_large, usage, writing_failed}
+use Rattle.x7_forms.specs.Event.{Event, ReasonCause, Wording, Want, Fault, Absence, Break, Contents, Difference, cause_of_event, differs, event_line, missing, no_memory, reading_failed, too_large, usage, writing_failed}
 use Rattle.x7_forms.specs.Form.{AskedForm, Listing, UpdatingFlash, flash_names, listed_by, names_of, updated_by}
 use Rattle.x7_forms.specs.Known.{Answer, Held, Known, bytes_found, flash_found, with_inputs}
 use Rattle.x7_part.specs.Part.{PartData}
@@ -59,14 +59,21 @@ IsDifference _ old new event = ⊥
 abbrev pub WritesLast : AskedForm → Outside → Outside → Type 0
 WritesLast form old new = WritesFail (updated_by (Some form)) old.flash new.flash × (new.flash.extent ≤ flash_limit) × GivesIfKnown (known_in old) form (Ok no_text)
 
--- by its cause, what is so of an event: a fault, or an absence by its count, is the first event that comes
-abbrev pub CausedBy : Cause → AskedForm → Outside → Outside → Event → Type 0
+-- by its cause, what is so of an event that ends a form
+abbrev pub CausedBy : ReasonCause → AskedForm → Outside → Outside → Event → Type 0
+-- never: the words have a form
 CausedBy Wording form old new event = ⊥
+-- it is that of want of memory
 CausedBy Want form old new event = event ≡ no_memory
+-- it reports a fault that came, and is the first event over known contents with that fault
 CausedBy Fault form old new event = ReportsMishap form old new event
+-- the same of a name that was missing by the count of absences; or by known contents the name isn't there
 CausedBy Absence form old new event = ReportsMishap form old new event ⊎ IsKnownToGive (known_in old) form (Err event)
+-- the output failed, or the flash at a write once all else was done
 CausedBy Break form old new event = (event ≡ writing_failed) × (SinkFails old.out new.out ⊎ WritesLast form old new)
+-- a byte of a flash whose bytes aren't known differs, and known contents give the event
 CausedBy Difference form old new event = IsDifference form old new event × GivesIfKnown (known_in old) form (Err event)
+-- known contents give the event
 CausedBy Contents form old new event = GivesIfKnown (known_in old) form (Err event)
 
 -- why a command ended so: words without a form are a wrong usage, a whole text is that of the
@@ -134,7 +141,7 @@ LeftAtBreak None form old new = GetsPrefix (known_in old) form old.out new.out
 LeftAtBreak (Some stream) form old new = new.out.written ≡ old.out.written
 
 -- what the output got after an event of this cause
-abbrev pub LeftBy : Cause → Option AskedForm → Outside → Outside → Event → Type 0
+abbrev pub LeftBy : ReasonCause → Option AskedForm → Outside → Outside → Event → Type 0
 LeftBy Break (Some form) old new event = LeftAtBreak (updated_by (Some form)) form old new
 LeftBy _ form old new event = LeavesBy (listed_by form) event old new
 
@@ -247,8 +254,8 @@ pub record MakesReady (form : AskedForm) (old new : InputsState) (got : Result A
   pub asks : AsksAtMost old (length (names_of (Some form))) new
   pub stays : InputsStay old new
 
--- A form that reads a flash too made its text ready, or not: what is said of a form that reads inputs alone, by what
--- the flash holds too; and of the flash, how large it is, and when it may fail.
+-- A form that reads a flash too made its text ready, or not: the text has its cause in inputs and flash, the flash's
+-- size and its faults fit the answer, and the rest is as in `MakesReady`.
 pub record MakesReadyFrom (form : AskedForm) (old new : Sources) (got : Result Answer Event) : Type 0 where
   pub caused : AnswersFrom form old new got
   pub stops : Stops (Some form) old.inputs new.inputs got
@@ -262,8 +269,8 @@ abbrev pub IsUnattached : List ℕ → FlashState → FlashState → Event → T
 IsUnattached name old new event = ((event ≡ missing name) × FlashLacksAmong (name ∷ []) old new name) ⊎ ((event ≡ reading_failed name) × FlashFailsAmong (name ∷ []) old new name)
 
 -- a flash can't be used: it was not attached and none is, or it is larger than a flash may be
-abbrev pub IsUnopened : List ℕ → FlashState → FlashState → Event → Type 0
-IsUnopened name old new event = (IsUnattached name old new event × (new.attached ≡ false)) ⊎ ((event ≡ too_large name) × (flash_limit < new.extent) × IfKnown old.bytes (λ all. flash_limit < length all))
+abbrev pub IsUnattachedOrLarge : List ℕ → FlashState → FlashState → Event → Type 0
+IsUnattachedOrLarge name old new event = (IsUnattached name old new event × (new.attached ≡ false)) ⊎ ((event ≡ too_large name) × (flash_limit < new.extent) × IfKnown old.bytes (λ all. flash_limit < length all))
 
 -- what a boot from a flash of this name comes to: want of memory, a flash that was not attached or
 -- failed, or what its bytes give, by their number

@@ -3,7 +3,7 @@
 use Rattle.std.specs.Prelude.{◌≡◌, ℕ, List, [], ◌∷◌, Option, None, Some, Result, Ok, Err, ◌⊎◌}
 use Rattle.x7_words.specs.Input.{InputsState}
 use Rattle.x7_boot.specs.Image.{flash_limit}
-use Rattle.x7_forms.specs.Event.{Absence, Cause, Contents, Event, Fault, cause_of_event, too_many_reads}
+use Rattle.x7_forms.specs.Event.{Absence, ReasonCause, Contents, Event, Fault, cause_of_event, too_many_reads}
 use Rattle.x7_forms.specs.Form.{AskedForm, Assembling, Booting, Debugging, FromMcs, Generating, Imaging, ImagingFor, Listing, PlanningFull, PlanningPartial, PlanningRead, Playing, PlayingSvf, ToMcs, UpdatingFlash, flash_names}
 use Rattle.x7_forms.specs.Known.{part_limit, stream_limit}
 use Rattle.x7_forms.specs.Step.{Among}
@@ -34,7 +34,7 @@ NamesItsStop form old now event = Among (flash_names (Some form)) event.concerne
 
 -- by the cause of an event: one that lies in what an input or a flash holds, in its fault or in its absence names where
 -- the command stopped; of any other nothing is said
-abbrev pub StopsBy : Cause → AskedForm → InputsState → InputsState → Event → Type 0
+abbrev pub StopsBy : ReasonCause → AskedForm → InputsState → InputsState → Event → Type 0
 StopsBy Fault form old now event = NamesItsStop form old now event
 StopsBy Absence form old now event = NamesItsStop form old now event
 StopsBy Contents form old now event = NamesItsStop form old now event

@@ -4,7 +4,7 @@ ghost use Rattle.x7_words.specs.Flash.{AsksFor, FlashStays, IsSized, IfKnown};
 ghost use Rattle.x7_boot.specs.Image.{flash_limit};
 ghost use Rattle.x7_forms.specs.Event.{event_of};
 ghost use Rattle.x7_tool.specs.Outside.{ReadsFlash};
-ghost use Rattle.x7_tool.specs.Run.{IsUnattached, IsUnopened};
+ghost use Rattle.x7_tool.specs.Run.{IsUnattached, IsUnattachedOrLarge};
 
 use x7_forms::{Refusal, Why};
 use x7_words::{FLASH_LIMIT, Flash, SelectFault};
@@ -37,7 +37,7 @@ pub(crate) fn open_flash<'w, F: Flash>(flash: &mut F, name: &'w str) -> Result<(
     ensures attached { OnOk result ((F.state flash.new).attached ≡ true) }
     ensures within { OnOk result (IfKnown (F.state flash.new).bytes (λ all. length all ≤ flash_limit)) }
     ensures size { OnOk result ((F.state flash.new).extent ≤ flash_limit) }
-    ensures refused { IfErr result (λ r. IsUnopened name.now (F.state flash.old) (F.state flash.new) (event_of r)) }
+    ensures refused { IfErr result (λ r. IsUnattachedOrLarge name.now (F.state flash.old) (F.state flash.new) (event_of r)) }
     ensures stays { FlashStays (F.state flash.old) (F.state flash.new) (F.found_since flash.old) (F.found_since flash.new) }
     ensures asks { AsksFor (F.state flash.old) name.now (F.state flash.new) }
 {

@@ -71,7 +71,8 @@ fn ready_text(alloc: Global, booted: Booted) -> Result<PlayText, NoMemory>
 
 /// The text of a boot, or want of memory.
 fn text_of<'w>(alloc: Global, booted: Booted) -> Result<PlayText, Refusal<'w>>
-    ensures text { IfOk result (λ text. (part : PartData) (flash : List ℕ) → IsBoot part flash booted → NoWordDue booted.device → IsBootText part flash (play_answer text)) }
+    ensures text { IfOk result (λ text. (part : PartData) (flash : List ℕ) → IsBoot part flash booted → NoWordDue booted.device
+        → IsBootText part flash (play_answer text)) }
     ensures refused { IfErr result (λ r. event_of r ≡ no_memory) }
 {
     Ok(ready_text(alloc, booted)?)

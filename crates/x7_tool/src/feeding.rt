@@ -45,7 +45,8 @@ pub(crate) fn feed_whole<'w, I: Inputs, T: TakesLines>(
     taker: T,
 ) -> Result<Result<T::Out, T::Fault>, Refusal<'w>>
     requires nothing_taken { T.took taker taker [] }
-    ensures read { IfOk result (λ read. (text : List ℕ) × LinesGive (T.gives taker) (T.fails taker) read text × ReadsWhole (I.state inputs.old) (I.state inputs.new) text_limit name.now (Ok text)) }
+    ensures read { IfOk result (λ read. (text : List ℕ) × LinesGive (T.gives taker) (T.fails taker) read text
+        × ReadsWhole (I.state inputs.old) (I.state inputs.new) text_limit name.now (Ok text)) }
     ensures refused { IfErr result (λ r. ReadsWhole (I.state inputs.old) (I.state inputs.new) text_limit name.now (Err (event_of r))) }
     ensures named { IfErr result (λ r. IsUnread name.now (event_of r)) }
     ensures last_asked { IsLastAsked name.now text_limit (I.state inputs.new) }

@@ -215,7 +215,8 @@ fn put_sum(text: &mut Vec<u8>, sum: u32) -> Result<(), NoMemory>
 
 /// Appends a summary.
 fn put_summary(text: &mut Vec<u8>, name: &str, seed: u32, summary: Summary) -> Result<(), NoMemory>
-    ensures { OnOk result (text.new.items ≡ text.old.items ++ summary_text name.now seed (record { planned = summary.planned; size = summary.size; phase = summary.phase; sum = summary.sum })) }
+    ensures { OnOk result (text.new.items ≡ text.old.items ++ summary_text name.now seed
+        (record { planned = summary.planned; size = summary.size; phase = summary.phase; sum = summary.sum })) }
 {
     put_gen_line(text, name, seed)?;
     put_count(text, b"planned ", summary.planned)?;
@@ -232,7 +233,8 @@ fn summarized(
     planned: usize,
     played: &Played,
 ) -> Result<Vec<u8>, NoMemory>
-    ensures { IfOk result (λ text. (part : PartData) (stream : List ℕ) → TookStream part stream played.now.player played.now.size → text.items ≡ played_summary part seed planned stream) }
+    ensures { IfOk result (λ text. (part : PartData) (stream : List ℕ) → TookStream part stream played.now.player played.now.size
+        → text.items ≡ played_summary part seed planned stream) }
 {
     let device = &played.player.device;
     let part = device.part();

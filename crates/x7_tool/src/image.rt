@@ -37,7 +37,8 @@ fn read_streams<'w, I: Inputs>(
     ensures caused { AnswersAs (step_over (golden.now ∷ update.now ∷ []) (I.state inputs.old) (I.state inputs.new))
         (λ known. image_streams known golden.now update.now) (seen streams_of result) }
     ensures last_asked { IfOk result (λ streams. IsLastAsked update.now stream_limit (I.state inputs.new)) }
-    ensures stops { IfErr result (λ r. StopsAmong (limited stream_limit golden.now ∷ limited stream_limit update.now ∷ []) (I.state inputs.old) (I.state inputs.new) (event_of r)) }
+    ensures stops { IfErr result (λ r. StopsAmong (limited stream_limit golden.now ∷ limited stream_limit update.now ∷ [])
+        (I.state inputs.old) (I.state inputs.new) (event_of r)) }
     ensures golden { IfOk result (λ streams. streams.golden.start ≤ length streams.golden.bytes.items) }
     ensures update { IfOk result (λ streams. streams.update.start ≤ length streams.update.bytes.items) }
     ensures asks { AsksAtMost (I.state inputs.old) 2 (I.state inputs.new) }

@@ -53,10 +53,10 @@ fn put_short<'w, O: Sink>(
     if lister.finish().is_err() {
         return Err(Refusal::unnamed(Why::NoMemory));
     }
-    match write_pieces(out, &[line, lister.text()]) {
-        Ok(()) => Ok(()),
-        Err(_) => Err(Refusal::unnamed(Why::WriteFault)),
+    if write_pieces(out, &[line, lister.text()]).is_err() {
+        return Err(Refusal::unnamed(Why::WriteFault));
     }
+    Ok(())
 }
 
 /// Writes the line of a stream's header, or nothing, and what is listed of its first data.
@@ -92,10 +92,10 @@ fn put_end<'w, O: Sink>(lister: &mut Lister, out: &mut O) -> Result<(), Refusal<
     if lister.finish().is_err() {
         return Err(Refusal::unnamed(Why::NoMemory));
     }
-    match write_all(out, lister.text()) {
-        Ok(()) => Ok(()),
-        Err(_) => Err(Refusal::unnamed(Why::WriteFault)),
+    if write_all(out, lister.text()).is_err() {
+        return Err(Refusal::unnamed(Why::WriteFault));
     }
+    Ok(())
 }
 
 /// `list STREAM`: the stream is read up to where its header is judged and then in turns, and what each adds to the

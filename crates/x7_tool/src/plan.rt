@@ -101,7 +101,8 @@ fn partial_text<'w>(
     frames: &'w str,
 ) -> Result<Vec<u8>, Refusal<'w>>
     requires { plan.now.width ≡ frame_words part.now }
-    ensures text { IfOk result (λ end. (text : List ℕ) → IsPlanOf part.now text (Ok plan.now) → PlannedPartial frames.now (Ok (record { part = part.now; text = text })) (Ok (bytes_answer end))) }
+    ensures text { IfOk result (λ end. (text : List ℕ) → IsPlanOf part.now text (Ok plan.now)
+        → PlannedPartial frames.now (Ok (record { part = part.now; text = text })) (Ok (bytes_answer end))) }
     ensures refused { IfErr result (λ r. (event_of r ≡ no_memory)
         ⊎ ((text : List ℕ) → IsPlanOf part.now text (Ok plan.now) → PlannedPartial frames.now (Ok (record { part = part.now; text = text })) (Err (event_of r)))) }
     ensures named { IfErr result (λ r. IsAbout frames.now (event_of r)) }

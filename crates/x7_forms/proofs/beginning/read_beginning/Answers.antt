@@ -7,7 +7,7 @@ use Rattle.x7_forms.specs.Known.{stream_limit}
 use Rattle.x7_forms.specs.Turn.{DataBeginAt, IsBeginning}
 use Rattle.std.proofs.lemmas.List.{take-append-le}
 use Rattle.x7_forms.proofs.BeginningLemmas.{found_none, found_some, beginning_read, joined_taken, none_given, piece_of, reads_by, refused_soon, unread_turn}
-use Rattle.x7_forms.proofs.StandLemmas.{gives_on}
+use Rattle.x7_forms.proofs.AskedLemmas.{gives_on}
 use Rattle.x7_forms.proofs.ResultLemmas.{handed_on}
 use Rattle.x7_forms.proofs.beginning.read_beginning.Goals as goal
 

@@ -4,7 +4,7 @@ use Rattle.x7_forms.specs.Event.{event_of}
 use Rattle.x7_forms.specs.Step.{CameIn, IsCaused, step_over}
 use Rattle.x7_forms.specs.Known.{whole_known, with_inputs}
 use Rattle.x7_forms.proofs.ReadLemmas.{open_refused, unopened_unread, want_unread, whole_read, whole_refused}
-use Rattle.x7_forms.proofs.StandLemmas.{few_read, last_asked_opened, last_asked_read}
+use Rattle.x7_forms.proofs.AskedLemmas.{few_read, last_asked_opened, last_asked_read}
 use Rattle.x7_words.proofs.InputLemmas.{few_once}
 use Rattle.x7_forms.proofs.ResultLemmas.{handed_on}
 use Rattle.x7_forms.proofs.read.read_whole.Goals as goal

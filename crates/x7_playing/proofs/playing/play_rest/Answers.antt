@@ -5,7 +5,7 @@ use Rattle.x7_playing.specs.Playing.{PlaysOn}
 use Rattle.x7_playing.proofs.PlayerLemmas.{may_less, may_on, on_none, on_on}
 use Rattle.x7_forms.proofs.ReadLemmas.{reads_none, reads_on, rest_unread}
 use Rattle.x7_forms.proofs.ResultLemmas.{handed_on, from_ok}
-use Rattle.x7_forms.proofs.StandLemmas.{gives_on}
+use Rattle.x7_forms.proofs.AskedLemmas.{gives_on}
 use Rattle.x7_playing.proofs.playing.play_rest.Goals as goal
 
 pub returns-in_err-turn-clause-refused : goal.returns-in_err-turn-clause-refused

@@ -11,7 +11,7 @@ use Rattle.x7_forms.proofs.ResultLemmas.{handed_on, err_weaker, ok_weaker, from_
 use Rattle.x7_playing.proofs.PlayerLemmas.{may_less, may_on, on_on}
 use Rattle.x7_forms.proofs.ReadLemmas.{header_refused, reads_first, slice_of, stream_read, stream_refused, stream_unopened, stream_unread, turn_unread, unopened_unread, want_or_rest, want_unread}
 use Rattle.x7_words.proofs.InputLemmas.{few_once, stays_on}
-use Rattle.x7_forms.proofs.StandLemmas.{few_after, few_read, last_asked_rest, last_asked_opened, last_asked_read}
+use Rattle.x7_forms.proofs.AskedLemmas.{few_after, few_read, last_asked_rest, last_asked_opened, last_asked_read}
 use Rattle.x7_playing.proofs.playing.play_stream.Goals as goal
 
 pub play-requires : goal.play-requires

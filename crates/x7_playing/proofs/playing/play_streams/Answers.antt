@@ -6,7 +6,7 @@ use Rattle.x7_forms.specs.Known.{StreamRead, stream_limit}
 use Rattle.x7_forms.specs.Step.{CameIn, step_over}
 use Rattle.x7_forms.proofs.ReadLemmas.{one_unplayed, rests_all, rests_none, stream_err, stream_next}
 use Rattle.x7_forms.specs.ReadingStops.{limited_together}
-use Rattle.x7_forms.proofs.StandLemmas.{limits_first, limits_next, limits_stop, room_left}
+use Rattle.x7_forms.proofs.AskedLemmas.{limits_first, limits_next, limits_stop, room_left}
 use Rattle.x7_forms.proofs.ResultLemmas.{handed_on}
 use Rattle.x7_playing.proofs.playing.play_streams.Goals as goal
 

@@ -5,7 +5,7 @@ use Rattle.x7_forms.specs.Known.{stream_limit}
 use Rattle.x7_playing.specs.Playing.{HasPlayed}
 use Rattle.x7_forms.specs.ReadingStops.{limited_together}
 use Rattle.x7_forms.proofs.ReadLemmas.{Rests}
-use Rattle.x7_forms.proofs.StandLemmas.{LimitsFrom}
+use Rattle.x7_forms.proofs.AskedLemmas.{LimitsFrom}
 use Rattle.x7_playing.proofs.playing.play_streams.Given as goal
 
 abbrev pub invariant-loop-name : goal.invariant-loop-name

@@ -6,7 +6,7 @@ use Rattle.x7_forms.specs.Step.{CameIn, seen, step_over}
 use Rattle.x7_tool.proofs.FlashLemmas.{boot_last, boot_measured, booted_ends, no_part_last, no_part_measured, part_good, part_refused}
 use Rattle.x7_forms.specs.Known.{part_limit}
 use Rattle.x7_tool.proofs.StopLemmas.{boot_stops, first_stops}
-use Rattle.x7_forms.proofs.StandLemmas.{no_part_about}
+use Rattle.x7_forms.proofs.AskedLemmas.{no_part_about}
 use Rattle.x7_forms.specs.ReadingStops.{limited}
 use Rattle.x7_forms.proofs.ResultLemmas.{handed_on}
 use Rattle.x7_tool.proofs.boot.boot.Goals as goal

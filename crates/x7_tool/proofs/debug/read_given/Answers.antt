@@ -5,7 +5,7 @@ use Rattle.x7_forms.specs.Known.{and_so, part_known, whole_known, part_limit, st
 use Rattle.x7_forms.proofs.ReadLemmas.{answers_end, answers_go, answers_stop, first_of, part_steady, whole_steady}
 use Rattle.x7_tool.specs.Outcome.{DebugInputs, script_limit, stream_data}
 use Rattle.x7_tool.proofs.DebugLemmas.{stream_steady}
-use Rattle.x7_forms.proofs.StandLemmas.{about_among, no_part_about, unplayed_about, unread_about}
+use Rattle.x7_forms.proofs.AskedLemmas.{about_among, no_part_about, unplayed_about, unread_about}
 use Rattle.x7_forms.specs.ReadingStops.{limited}
 use Rattle.x7_tool.proofs.StopLemmas.{both_asked, all_asked}
 use Rattle.x7_words.proofs.InputLemmas.{few_more, few_on}

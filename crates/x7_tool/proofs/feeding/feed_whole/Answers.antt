@@ -5,7 +5,7 @@ use Rattle.x7_tool.specs.Outcome.{text_limit}
 use Rattle.x7_forms.specs.Step.{CameIn, step_over}
 use Rattle.x7_forms.proofs.ReadLemmas.{at_on, open_refused, turn_refused, whole_read, turn_unread, unopened_unread}
 use Rattle.x7_tool.proofs.TurnLemmas.{taken_more}
-use Rattle.x7_forms.proofs.StandLemmas.{few_read, last_asked_opened, last_asked_turn}
+use Rattle.x7_forms.proofs.AskedLemmas.{few_read, last_asked_opened, last_asked_turn}
 use Rattle.x7_forms.proofs.ResultLemmas.{handed_on}
 use Rattle.x7_tool.proofs.feeding.feed_whole.Goals as goal
 

@@ -6,7 +6,7 @@ use Rattle.x7_forms.specs.Event.{event_of}
 use Rattle.x7_forms.specs.ReadingStops.{limited}
 use Rattle.x7_forms.specs.Step.{seen}
 use Rattle.x7_forms.proofs.ReadLemmas.{answers_end, answers_stop, part_steady}
-use Rattle.x7_forms.proofs.StandLemmas.{no_part_about}
+use Rattle.x7_forms.proofs.AskedLemmas.{no_part_about}
 use Rattle.x7_tool.specs.Outcome.{gen_answer}
 use Rattle.x7_tool.specs.Ready.{bytes_answer}
 use Rattle.x7_tool.proofs.ReadyLemmas.{made_due}

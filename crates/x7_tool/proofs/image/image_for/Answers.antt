@@ -8,7 +8,7 @@ use Rattle.x7_forms.specs.ReadingStops.{limited}
 use Rattle.x7_forms.specs.Step.{seen}
 use Rattle.x7_forms.proofs.ReadLemmas.{answers_end, answers_go, answers_stop, first_of, part_steady}
 use Rattle.x7_forms.proofs.ResultLemmas.{handed_on, err_weaker}
-use Rattle.x7_forms.proofs.StandLemmas.{stops_after, no_part_about}
+use Rattle.x7_forms.proofs.AskedLemmas.{stops_after, no_part_about}
 use Rattle.x7_tool.specs.Outcome.{ImageStreams, image_by, image_streams}
 use Rattle.x7_tool.specs.Ready.{bytes_answer}
 use Rattle.x7_tool.specs.Stream.{streams_of}

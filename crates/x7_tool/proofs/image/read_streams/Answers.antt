@@ -5,7 +5,7 @@ use Rattle.x7_forms.proofs.ReadLemmas.{answers_end, answers_go, answers_stop, fi
 use Rattle.x7_tool.specs.Outcome.{ImageStreams, stream_data}
 use Rattle.x7_tool.specs.Stream.{data_from}
 use Rattle.x7_tool.proofs.DebugLemmas.{stream_steady}
-use Rattle.x7_forms.proofs.StandLemmas.{about_among, unplayed_about}
+use Rattle.x7_forms.proofs.AskedLemmas.{about_among, unplayed_about}
 use Rattle.x7_tool.proofs.StopLemmas.{both_asked}
 use Rattle.x7_forms.specs.ReadingStops.{limited}
 use Rattle.x7_words.proofs.InputLemmas.{few_more, few_on}

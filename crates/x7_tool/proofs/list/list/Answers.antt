@@ -21,7 +21,7 @@ use Rattle.x7_tool.proofs.Causes.{Ended, PutsListed, both_err, ends_same, list_e
 use Rattle.x7_forms.proofs.ReadLemmas.{asked_on, at_on, turn_unread}
 use Rattle.x7_forms.proofs.ResultLemmas.{handed_on, err_weaker}
 use Rattle.x7_tool.proofs.TurnLemmas.{end_failed, prefix_failed, prefix_so_far, goes_on, line_prefix, line_then, stream_so_far, stream_whole, taken_more, unread_end, write_failed}
-use Rattle.x7_forms.proofs.StandLemmas.{few_read, last_asked_opened, last_asked_read, last_asked_turn, without_prefix_about, unopened_about, unread_about}
+use Rattle.x7_forms.proofs.AskedLemmas.{few_read, last_asked_opened, last_asked_read, last_asked_turn, without_prefix_about, unopened_about, unread_about}
 use Rattle.x7_tool.proofs.StopLemmas.{prefix_stops, put_stops, written_stops, first_stops}
 use Rattle.x7_forms.specs.ReadingStops.{limited}
 use Rattle.x7_tool.proofs.list.list.Goals as goal

@@ -8,21 +8,22 @@ pub returns-then-is_err-clause-prefix : goal.returns-then-is_err-clause-prefix
 returns-then-is_err-clause-prefix g c = λ first bytes lists.
     lists_here c.args.lister.now first (g.O.Sink.state c.args.out.now).written bytes lists
 
-pub returns-in-Ok-clause-listed : goal.returns-in-Ok-clause-listed
-returns-in-Ok-clause-listed g c = λ first bytes lists.
+pub returns-clause-listed : goal.returns-clause-listed
+returns-clause-listed g c = λ first bytes lists.
     let ends = from_ok c.finish.result (sym c.is_err.ensures.value ∙ c.if-is_err.false) c.finish.ensures.finished in
-    end_put c.args.lister.now c.finish.new.self first (g.O.Sink.state c.args.out.now).written (g.O.Sink.state c.write_all.new.sink).written bytes c.text.result.now lists ends c.text.ensures c.in-Ok.ensures.appends
+    let put = from_ok c.write_all.result (sym c.is_err-2.ensures.value ∙ c.if-is_err-2.false) c.write_all.ensures.appends in
+    end_put c.args.lister.now c.finish.new.self first (g.O.Sink.state c.args.out.now).written (g.O.Sink.state c.write_all.new.sink).written bytes c.text.result.now lists ends c.text.ensures put
 
-pub returns-in-Err-clause-prefix : goal.returns-in-Err-clause-prefix
-returns-in-Err-clause-prefix g c = λ first bytes lists.
+pub returns-then-is_err-2-clause-prefix : goal.returns-then-is_err-2-clause-prefix
+returns-then-is_err-2-clause-prefix g c = λ first bytes lists.
     let ends = from_ok c.finish.result (sym c.is_err.ensures.value ∙ c.if-is_err.false) c.finish.ensures.finished in
     end_part c.args.lister.now c.finish.new.self first (g.O.Sink.state c.args.out.now).written (g.O.Sink.state c.write_all.new.sink).written bytes c.text.result.now lists ends c.text.ensures c.write_all.ensures.prefix
 
 pub returns-then-is_err-clause-extends : goal.returns-then-is_err-clause-extends
 returns-then-is_err-clause-extends g c = same_now (g.O.Sink.state c.args.out.now)
 
-pub returns-in-Ok-clause-extends : goal.returns-in-Ok-clause-extends
-returns-in-Ok-clause-extends g c = longer_prefix (g.O.Sink.state c.args.out.now).written (g.O.Sink.state c.write_all.new.sink).written _ c.write_all.ensures.prefix
+pub returns-clause-extends : goal.returns-clause-extends
+returns-clause-extends g c = longer_prefix (g.O.Sink.state c.args.out.now).written (g.O.Sink.state c.write_all.new.sink).written _ c.write_all.ensures.prefix
 
-pub returns-in-Err-clause-extends : goal.returns-in-Err-clause-extends
-returns-in-Err-clause-extends g c = longer_prefix (g.O.Sink.state c.args.out.now).written (g.O.Sink.state c.write_all.new.sink).written _ c.write_all.ensures.prefix
+pub returns-then-is_err-2-clause-extends : goal.returns-then-is_err-2-clause-extends
+returns-then-is_err-2-clause-extends g c = longer_prefix (g.O.Sink.state c.args.out.now).written (g.O.Sink.state c.write_all.new.sink).written _ c.write_all.ensures.prefix

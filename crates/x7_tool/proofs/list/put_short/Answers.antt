@@ -4,15 +4,16 @@ use Rattle.x7_forms.proofs.ResultLemmas.{from_ok}
 use Rattle.x7_tool.proofs.TurnLemmas.{puts_a_prefix, whole_text}
 use Rattle.x7_tool.proofs.list.put_short.Goals as goal
 
-pub returns-in-Ok-clause-listed : goal.returns-in-Ok-clause-listed
-returns-in-Ok-clause-listed g c =
+pub returns-clause-listed : goal.returns-clause-listed
+returns-clause-listed g c =
     let feeds = from_ok c.feed.result (sym c.is_err.ensures.value ∙ c.if-is_err.false) c.feed.ensures.stands in
     let ends = from_ok c.finish.result (sym c.is_err-2.ensures.value ∙ c.if-is_err-2.false) c.finish.ensures.finished in
     let text = whole_text c.args.lister.now c.feed.new.self c.finish.new.self c.args.content.now c.text.result.now c.requires.nothing_listed feeds ends c.text.ensures in
-    c.in-Ok.ensures.appends ∙ ap (λ (t : List ℕ). appended (g.O.Sink.state c.args.out.now).written (c.args.line.now ++ t)) (append-nil c.text.result.now ∙ text)
+    let put = from_ok c.write_pieces.result (sym c.is_err-3.ensures.value ∙ c.if-is_err-3.false) c.write_pieces.ensures.appends in
+    put ∙ ap (λ (t : List ℕ). appended (g.O.Sink.state c.args.out.now).written (c.args.line.now ++ t)) (append-nil c.text.result.now ∙ text)
 
-pub returns-in-Err-clause-prefix : goal.returns-in-Err-clause-prefix
-returns-in-Err-clause-prefix g c =
+pub returns-then-is_err-3-clause-prefix : goal.returns-then-is_err-3-clause-prefix
+returns-then-is_err-3-clause-prefix g c =
     let feeds = from_ok c.feed.result (sym c.is_err.ensures.value ∙ c.if-is_err.false) c.feed.ensures.stands in
     let ends = from_ok c.finish.result (sym c.is_err-2.ensures.value ∙ c.if-is_err-2.false) c.finish.ensures.finished in
     let text = whole_text c.args.lister.now c.feed.new.self c.finish.new.self c.args.content.now c.text.result.now c.requires.nothing_listed feeds ends c.text.ensures in

@@ -5,7 +5,7 @@ use Rattle.x7_forms.specs.Form.{ToMcs}
 use Rattle.x7_forms.specs.Known.{Answer, whole_known}
 use Rattle.x7_forms.specs.ReadingStops.{limited}
 use Rattle.x7_forms.proofs.ReadLemmas.{answers_end, answers_stop, whole_steady}
-use Rattle.x7_forms.proofs.StandLemmas.{unread_about}
+use Rattle.x7_forms.proofs.AskedLemmas.{unread_about}
 use Rattle.x7_tool.proofs.StopLemmas.{first_stops, want_stops}
 use Rattle.x7_forms.proofs.ResultLemmas.{handed_on}
 use Rattle.x7_forms.specs.Event.{event_of, no_memory}

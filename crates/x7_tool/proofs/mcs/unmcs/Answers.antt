@@ -2,7 +2,7 @@ use Rattle.std.proofs.Common.{sym, refl, []}
 use Rattle.x7_forms.specs.Event.{event_of}
 use Rattle.x7_forms.specs.ReadingStops.{limited}
 use Rattle.x7_forms.specs.Form.{FromMcs}
-use Rattle.x7_forms.proofs.StandLemmas.{about_by, unread_about}
+use Rattle.x7_forms.proofs.AskedLemmas.{about_by, unread_about}
 use Rattle.x7_tool.specs.Outcome.{mcs_event, text_limit}
 use Rattle.x7_tool.proofs.McsLemmas.{mcs_faulted, mcs_given, mcs_unread}
 use Rattle.x7_tool.proofs.StopLemmas.{mcs_about, first_stops}

@@ -1,6 +1,6 @@
 use Rattle.x7_forms.specs.Event.{event_of}
 use Rattle.x7_tool.specs.Outcome.{planner_event}
-use Rattle.x7_forms.proofs.StandLemmas.{about_by}
+use Rattle.x7_forms.proofs.AskedLemmas.{about_by}
 use Rattle.x7_tool.proofs.StopLemmas.{planner_about}
 use Rattle.x7_tool.proofs.plan.partial_text.Goals as goal
 

@@ -8,7 +8,7 @@ use Rattle.x7_forms.specs.Form.{PlanningFull}
 use Rattle.x7_forms.specs.Known.{part_limit}
 use Rattle.x7_words.proofs.InputLemmas.{stays_on}
 use Rattle.x7_tool.proofs.StopLemmas.{both_asked, first_asked, want_only, among_stops, first_stops}
-use Rattle.x7_forms.proofs.StandLemmas.{no_part_about, stops_after}
+use Rattle.x7_forms.proofs.AskedLemmas.{no_part_about, stops_after}
 use Rattle.x7_forms.specs.ReadingStops.{limited}
 use Rattle.x7_forms.proofs.ResultLemmas.{handed_on}
 use Rattle.x7_tool.proofs.plan.plan_full.Goals as goal

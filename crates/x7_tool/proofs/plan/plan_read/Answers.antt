@@ -7,7 +7,7 @@ use Rattle.x7_forms.specs.ReadingStops.{limited}
 use Rattle.x7_forms.specs.Step.{seen}
 use Rattle.x7_forms.proofs.ReadLemmas.{answers_by, answers_kept}
 use Rattle.x7_forms.proofs.ResultLemmas.{handed_on, err_weaker}
-use Rattle.x7_forms.proofs.StandLemmas.{no_part_about}
+use Rattle.x7_forms.proofs.AskedLemmas.{no_part_about}
 use Rattle.x7_tool.specs.Outcome.{PlannedRead}
 use Rattle.x7_tool.specs.Ready.{bytes_answer}
 use Rattle.x7_tool.proofs.ReadyLemmas.{read_due}

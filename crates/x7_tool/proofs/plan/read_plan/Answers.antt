@@ -1,7 +1,7 @@
 use Rattle.std.proofs.Common.{inl, ◌∷◌, [], refl}
 use Rattle.x7_forms.specs.Event.{event_of}
 use Rattle.x7_forms.specs.ReadingStops.{limited}
-use Rattle.x7_forms.proofs.StandLemmas.{about_among, about_by, unread_about}
+use Rattle.x7_forms.proofs.AskedLemmas.{about_among, about_by, unread_about}
 use Rattle.x7_forms.proofs.ResultLemmas.{handed_on}
 use Rattle.x7_tool.specs.Outcome.{frames_event, text_limit}
 use Rattle.x7_tool.proofs.PlanLemmas.{frames_given, frames_refused}

@@ -11,7 +11,7 @@ use Rattle.x7_forms.proofs.ResultLemmas.{handed_on, err_weaker}
 use Rattle.x7_words.proofs.InputLemmas.{stays_on}
 use Rattle.x7_tool.proofs.StopLemmas.{first_asked, streams_asked, reads_only, streams_stop, first_stops}
 use Rattle.x7_forms.specs.ReadingStops.{limited_together, limited}
-use Rattle.x7_forms.proofs.StandLemmas.{no_part_about}
+use Rattle.x7_forms.proofs.AskedLemmas.{no_part_about}
 use Rattle.x7_tool.proofs.play.play.Goals as goal
 
 pub returns-in_err-part : goal.returns-in_err-part

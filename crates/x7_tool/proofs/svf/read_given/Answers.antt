@@ -5,7 +5,7 @@ use Rattle.x7_forms.specs.Known.{and_so, part_known, whole_known, part_limit}
 use Rattle.x7_forms.proofs.ReadLemmas.{answers_stop, first_of}
 use Rattle.x7_tool.proofs.PlanLemmas.{texts_read, texts_unread}
 use Rattle.x7_tool.specs.Outcome.{PartAndText, text_limit}
-use Rattle.x7_forms.proofs.StandLemmas.{about_among, no_part_about, unread_about}
+use Rattle.x7_forms.proofs.AskedLemmas.{about_among, no_part_about, unread_about}
 use Rattle.x7_tool.proofs.StopLemmas.{both_asked}
 use Rattle.x7_forms.specs.ReadingStops.{limited}
 use Rattle.x7_words.proofs.InputLemmas.{few_more, few_on}

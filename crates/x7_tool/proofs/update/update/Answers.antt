@@ -13,10 +13,10 @@ use Rattle.x7_forms.specs.Step.{CameIn, step_over}
 use Rattle.x7_tool.specs.Outside.{Outside, sources}
 use Rattle.x7_tool.specs.Run.{EndsAs}
 use Rattle.x7_tool.specs.Stream.{data_from}
-use Rattle.x7_tool.proofs.UpdateLemmas.{cause_from, data_given, done_ends, fault_ends, keeps_all, refused_ends, rest_of, unopened_last, unopened_measured, unopened_over, unplayed_last, unplayed_measured, unread_over, uses_opened, uses_updated}
-use Rattle.x7_tool.proofs.StopLemmas.{stream_judges, unopened_judges, updated_judges, unopened_stops, updated_stops, first_stops}
+use Rattle.x7_tool.proofs.UpdateLemmas.{cause_from, data_given, done_ends, fault_ends, keeps_all, refused_ends, rest_of, attach_refused_last, attach_refused_measured, attach_refused_over, unplayed_last, unplayed_measured, unread_over, uses_opened, uses_updated}
+use Rattle.x7_tool.proofs.StopLemmas.{stream_judges, unopened_judges, updated_judges, attach_refused_stops, updated_stops, first_stops}
 use Rattle.x7_forms.specs.ReadingStops.{limited}
-use Rattle.x7_forms.proofs.StandLemmas.{unplayed_about}
+use Rattle.x7_forms.proofs.AskedLemmas.{unplayed_about}
 use Rattle.x7_forms.proofs.ResultLemmas.{handed_on}
 use Rattle.x7_tool.proofs.update.update.Goals as goal
 
@@ -28,8 +28,8 @@ returns-in_err-open_flash-clause-answered g c = rw (handed_on c.from_residual.re
     let new : Outside = record after { inputs = g.I.Inputs.state c.args.inputs.now; flash = mid } in
     let event = event_of c.in_err-open_flash.field-0.0 in
     record {
-      ends = refused_ends c.args.flash_name.now c.args.stream.now old new event out (unopened_measured (Some (UpdatingFlash c.args.flash_name.now c.args.stream.now)) c.args.flash_name.now first mid event c.in_err-open_flash.ensures.refused) (unopened_last (UpdatingFlash c.args.flash_name.now c.args.stream.now) c.args.flash_name.now old.inputs first mid event c.in_err-open_flash.ensures.refused) (unopened_over c.args.flash_name.now c.args.stream.now old new event c.in_err-open_flash.ensures.refused) (keeps_all event.reason first mid c.open_flash.ensures.stays.bytes);
-      stops = unopened_stops c.args.flash_name.now c.args.stream.now (g.I.Inputs.state c.args.inputs.now) (g.I.Inputs.state c.args.inputs.now) (g.F.Flash.state c.args.flash.now) (g.F.Flash.state c.open_flash.new.flash) (event_of c.in_err-open_flash.field-0.0) c.in_err-open_flash.ensures.refused;
+      ends = refused_ends c.args.flash_name.now c.args.stream.now old new event out (attach_refused_measured (Some (UpdatingFlash c.args.flash_name.now c.args.stream.now)) c.args.flash_name.now first mid event c.in_err-open_flash.ensures.refused) (attach_refused_last (UpdatingFlash c.args.flash_name.now c.args.stream.now) c.args.flash_name.now old.inputs first mid event c.in_err-open_flash.ensures.refused) (attach_refused_over c.args.flash_name.now c.args.stream.now old new event c.in_err-open_flash.ensures.refused) (keeps_all event.reason first mid c.open_flash.ensures.stays.bytes);
+      stops = attach_refused_stops c.args.flash_name.now c.args.stream.now (g.I.Inputs.state c.args.inputs.now) (g.I.Inputs.state c.args.inputs.now) (g.F.Flash.state c.args.flash.now) (g.F.Flash.state c.open_flash.new.flash) (event_of c.in_err-open_flash.field-0.0) c.in_err-open_flash.ensures.refused;
       judges = unopened_judges c.args.flash_name.now c.args.stream.now (sources (g.I.Inputs.state c.args.inputs.now) (g.F.Flash.state c.args.flash.now)) (sources (g.I.Inputs.state c.args.inputs.now) (g.F.Flash.state c.open_flash.new.flash)) (event_of c.in_err-open_flash.field-0.0) refl;
       asks = few_more (g.I.Inputs.state c.args.inputs.now) (g.I.Inputs.state c.args.inputs.now) 0 1 (omega arith) (few_at (g.I.Inputs.state c.args.inputs.now));
       stays = stays_at _;
