@@ -1,7 +1,7 @@
 -- A golden stream that begins clean starts as a fallback after an open slot, where
 -- it starts at power after an erased sector.
 use Rattle.std.proofs.Common.{◌≡◌, ◌==◌, ◌+◌, ◌-◌, ◌*◌, ◌^◌, ◌<◌, ◌≤◌, inl, inr, ℕ, true, false, if◌then◌else◌, None, Some, List, ◌++◌, drop, take, length, length-append, length-drop, refl, ap, sym, subst, ◌∙◌, append_assoc, take-append-drop, drop_of_length-le, arith}
-use Rattle.x7_packets.specs.FlashSlot.{sector_bytes}
+use Rattle.x7_packets.specs.FlashSlot.{sector_size}
 use Rattle.x7_words.specs.Flash.{erased_sector}
 use Rattle.x7_words.proofs.FlashLemmas.{length_erased_sector}
 use Rattle.std.proofs.lemmas.Bool.{cases_lt}
@@ -73,7 +73,7 @@ module _ (flash : List ℕ) (number start : ℕ) (o : HasOpenSlot flash number s
   whole_is : first ++ s ≡ before ++ (open_slot start ++ (after ++ s))
   whole_is = ap (λ (x : List ℕ). x ++ s) (slots.sector_is flash number start o small) ∙ regroup before (open_slot start) after s
 
-  lengths : length before + (32 + length after) ≡ sector_bytes
+  lengths : length before + (32 + length after) ≡ sector_size
   lengths =
       sym (sym (sector_long flash number start o small) ∙ ap length (slots.sector_is flash number start o small) ∙ length-append before (open_slot start ++ after) ∙ ap (λ (x : ℕ). length before + x) (length-append (open_slot start) after)
       ∙ ap (λ (x : ℕ). length before + (x + length after)) (slot_long 0xAA995566 start))
@@ -109,7 +109,7 @@ module _ (flash : List ℕ) (number start : ℕ) (o : HasOpenSlot flash number s
       ∙ ap (λ (n : ℕ). moved n (moved (length after) (history_of s)) ++ history_of (open_slot start)) (slot_long 0xAA995566 start)
       ∙ ap (λ (h : History). moved 32 (moved (length after) (history_of s)) ++ h) (slot_history start small)
 
-  pub sector_then : history_of (first ++ s) ≡ moved sector_bytes (history_of s) ++ desync_at (32 * number) start
+  pub sector_then : history_of (first ++ s) ≡ moved sector_size (history_of s) ++ desync_at (32 * number) start
   sector_then =
       let inner : History = moved 32 (moved (length after) (history_of s)) in
       let n : ℕ = length before in
@@ -119,44 +119,44 @@ module _ (flash : List ℕ) (number start : ℕ) (o : HasOpenSlot flash number s
       ∙ moved_append n inner (after_slot start)
       ∙ ap (λ (h : History). moved n h ++ moved n (after_slot start)) (moved_again 32 (length after) (history_of s))
       ∙ ap (λ (h : History). h ++ moved n (after_slot start)) (moved_again n (32 + length after) (history_of s) ∙ ap (λ (m : ℕ). moved m (history_of s)) lengths)
-      ∙ ap (λ (m : ℕ). moved sector_bytes (history_of s) ++ desync_at m start) (slots.gap_long flash number start o small)
+      ∙ ap (λ (m : ℕ). moved sector_size (history_of s) ++ desync_at m start) (slots.gap_long flash number start o small)
 
 -- ---- the fallback
 
 module _ (o : OpenFlash) (is : IsOpenFlash o) (t : AttemptCourse) (c : StartsClean o.part o.flash t) where
   abbrev s : List ℕ
-  s = drop sector_bytes t.bytes
+  s = drop sector_size t.bytes
 
   abbrev one : List ℕ
   one = with_erased o.flash
 
   abbrev prefix' : List ℕ
-  prefix' = take sector_bytes o.flash
+  prefix' = take sector_size o.flash
 
   x : EndsFirst o.part one t
   x = ended o.part one t c.starts
 
-  long : sector_bytes ≤ length t.bytes
-  long = elim (cases_lt (length t.bytes) sector_bytes) [
+  long : sector_size ≤ length t.bytes
+  long = elim (cases_lt (length t.bytes) sector_size) [
     | inr past ↦ past
     | inl few ↦
-        let short : length t.bytes ≤ sector_bytes = omega (arith, few) in
+        let short : length t.bytes ≤ sector_size = omega (arith, few) in
         absurd (not_empty (history_of s) (ap history_of (drop_of_length-le t.bytes short)) c.clean)
   ]
 
   bytes_are : t.bytes ≡ erased_sector ++ s
   bytes_are =
-      sym (take-append-drop sector_bytes t.bytes)
-      ∙ ap (λ (y : List ℕ). y ++ s) (sym (take-append-le sector_bytes t.bytes x.rest long) ∙ ap (take sector_bytes) (sym x.taken) ∙ erased_take (drop sector_bytes o.flash))
+      sym (take-append-drop sector_size t.bytes)
+      ∙ ap (λ (y : List ℕ). y ++ s) (sym (take-append-le sector_size t.bytes x.rest long) ∙ ap (take sector_size) (sym x.taken) ∙ erased_take (drop sector_size o.flash))
 
   one_is : one ≡ (erased_sector ++ s) ++ x.rest
   one_is = x.taken ∙ ap (λ (b : List ℕ). b ++ x.rest) bytes_are
 
-  after_is : drop sector_bytes o.flash ≡ s ++ x.rest
-  after_is = sym (erased_drop (drop sector_bytes o.flash)) ∙ ap (drop sector_bytes) (one_is ∙ append_assoc erased_sector s x.rest) ∙ erased_drop (s ++ x.rest)
+  after_is : drop sector_size o.flash ≡ s ++ x.rest
+  after_is = sym (erased_drop (drop sector_size o.flash)) ∙ ap (drop sector_size) (one_is ∙ append_assoc erased_sector s x.rest) ∙ erased_drop (s ++ x.rest)
 
   flash_is : o.flash ≡ (prefix' ++ s) ++ x.rest
-  flash_is = sym (take-append-drop sector_bytes o.flash) ∙ ap (λ (y : List ℕ). prefix' ++ y) after_is ∙ sym (append_assoc prefix' s x.rest)
+  flash_is = sym (take-append-drop sector_size o.flash) ∙ ap (λ (y : List ℕ). prefix' ++ y) after_is ∙ sym (append_assoc prefix' s x.rest)
 
   s_fits : AreBytes s
   s_fits = all_back (λ b. b < 256) erased_sector s (subst AreBytes bytes_are c.fits)
@@ -167,7 +167,7 @@ module _ (o : OpenFlash) (is : IsOpenFlash o) (t : AttemptCourse) (c : StartsCle
   going : stop_in o.part at_power (erased_sector ++ s) ≡ None
   going = sym (ap (stop_in o.part at_power) bytes_are) ∙ ap (λ (k : Kept). stop_in o.part k t.bytes) (sym c.starts.kept) ∙ c.going
 
-  prefix_long : length prefix' ≡ sector_bytes
+  prefix_long : length prefix' ≡ sector_size
   prefix_long = sector_long o.flash o.slot o.start is.has is.small
 
   -- prefixes of the golden stream
@@ -178,16 +178,16 @@ module _ (o : OpenFlash) (is : IsOpenFlash o) (t : AttemptCourse) (c : StartsCle
     sk_fits : AreBytes sk
     sk_fits = all_take (λ b. b < 256) k s s_fits
 
-    power_long : length (erased_sector ++ sk) ≡ sector_bytes + length sk
+    power_long : length (erased_sector ++ sk) ≡ sector_size + length sk
     power_long = length-append erased_sector sk ∙ ap (λ (n : ℕ). n + length sk) length_erased_sector
 
-    fall_long : length (prefix' ++ sk) ≡ sector_bytes + length sk
+    fall_long : length (prefix' ++ sk) ≡ sector_size + length sk
     fall_long = length-append prefix' sk ∙ ap (λ (n : ℕ). n + length sk) prefix_long
 
-    power_history : history_of (erased_sector ++ sk) ≡ moved sector_bytes (history_of sk)
+    power_history : history_of (erased_sector ++ sk) ≡ moved sector_size (history_of sk)
     power_history = erased_history sk sk_fits
 
-    fall_history : history_of (prefix' ++ sk) ≡ moved sector_bytes (history_of sk) ++ desync_at (32 * o.slot) o.start
+    fall_history : history_of (prefix' ++ sk) ≡ moved sector_size (history_of sk) ++ desync_at (32 * o.slot) o.start
     fall_history =
         let rest_k : List ℕ = drop k s ++ x.rest in
         let split : o.flash ≡ (prefix' ++ sk) ++ rest_k = flash_is ∙ ap (λ (y : List ℕ). (prefix' ++ y) ++ x.rest) (sym (take-append-drop k s)) ∙ ap (λ (y : List ℕ). y ++ x.rest) (sym (append_assoc prefix' sk (drop k s))) ∙ append_assoc (prefix' ++ sk) (drop k s) x.rest in
@@ -200,26 +200,26 @@ module _ (o : OpenFlash) (is : IsOpenFlash o) (t : AttemptCourse) (c : StartsCle
     power_going = ap (stop_in o.part at_power) (sym (take-append-add erased_sector s k)) ∙ prefix_goes o.part at_power (length erased_sector + k) (erased_sector ++ s) erased_all going
 
     module _ (kept : Kept) (fell : is_fallback kept.kind ≡ true) where
-      slot_going : IsGoing o.part kept NotBegun (desync_at (32 * o.slot) o.start) sector_bytes
+      slot_going : IsGoing o.part kept NotBegun (desync_at (32 * o.slot) o.start) sector_size
       slot_going = sector_going o.flash o.slot o.start is.has is.small o.part kept fell
 
       abbrev AreAlikeHere : Type 0
-      AreAlikeHere = ComesAlike o.part kept at_power sector_bytes fell (desync_at (32 * o.slot) o.start) (slot_near o.part kept (32 * o.slot) o.start slot_going)
-          (λ m l. (going_bytes o.part kept NotBegun (desync_at (32 * o.slot) o.start) sector_bytes m l slot_going).calm.no_stop) (history_of sk) (sector_bytes + length sk)
+      AreAlikeHere = ComesAlike o.part kept at_power sector_size fell (desync_at (32 * o.slot) o.start) (slot_near o.part kept (32 * o.slot) o.start slot_going)
+          (λ m l. (going_bytes o.part kept NotBegun (desync_at (32 * o.slot) o.start) sector_size m l slot_going).calm.no_stop) (history_of sk) (sector_size + length sk)
 
       alike : AreAlikeHere
-      alike = comes o.part kept at_power sector_bytes fell (desync_at (32 * o.slot) o.start) (slot_near o.part kept (32 * o.slot) o.start slot_going)
-          (λ m l. (going_bytes o.part kept NotBegun (desync_at (32 * o.slot) o.start) sector_bytes m l slot_going).calm.no_stop) (history_of sk) (sector_bytes + length sk) (omega arith) clean
-          (sym (ap (λ (h : History). stop_of o.part at_power h (length (erased_sector ++ sk))) power_history ∙ ap (stop_of o.part at_power (moved sector_bytes (history_of sk))) power_long) ∙ power_going)
+      alike = comes o.part kept at_power sector_size fell (desync_at (32 * o.slot) o.start) (slot_near o.part kept (32 * o.slot) o.start slot_going)
+          (λ m l. (going_bytes o.part kept NotBegun (desync_at (32 * o.slot) o.start) sector_size m l slot_going).calm.no_stop) (history_of sk) (sector_size + length sk) (omega arith) clean
+          (sym (ap (λ (h : History). stop_of o.part at_power h (length (erased_sector ++ sk))) power_history ∙ ap (stop_of o.part at_power (moved sector_size (history_of sk))) power_long) ∙ power_going)
 
       fall_going : stop_in o.part kept (prefix' ++ sk) ≡ None
-      fall_going = ap (λ (h : History). stop_of o.part kept h (length (prefix' ++ sk))) fall_history ∙ ap (stop_of o.part kept (moved sector_bytes (history_of sk) ++ desync_at (32 * o.slot) o.start)) fall_long ∙ alike.none
+      fall_going = ap (λ (h : History). stop_of o.part kept h (length (prefix' ++ sk))) fall_history ∙ ap (stop_of o.part kept (moved sector_size (history_of sk) ++ desync_at (32 * o.slot) o.start)) fall_long ∙ alike.none
 
       progress_alike : startup_progress (history_of (prefix' ++ sk)) (length (prefix' ++ sk)) ≡ startup_progress (history_of (erased_sector ++ sk)) (length (erased_sector ++ sk))
       progress_alike =
-          ap (λ (h : History). startup_progress h (length (prefix' ++ sk))) fall_history ∙ ap (startup_progress (moved sector_bytes (history_of sk) ++ desync_at (32 * o.slot) o.start)) fall_long
+          ap (λ (h : History). startup_progress h (length (prefix' ++ sk))) fall_history ∙ ap (startup_progress (moved sector_size (history_of sk) ++ desync_at (32 * o.slot) o.start)) fall_long
           ∙ alike.startup.1
-          ∙ sym (ap (λ (h : History). startup_progress h (length (erased_sector ++ sk))) power_history ∙ ap (startup_progress (moved sector_bytes (history_of sk))) power_long)
+          ∙ sym (ap (λ (h : History). startup_progress h (length (erased_sector ++ sk))) power_history ∙ ap (startup_progress (moved sector_size (history_of sk))) power_long)
 
       ending_alike : ending_at o.part kept (prefix' ++ sk) ≡ ending_at o.part at_power (erased_sector ++ sk)
       ending_alike =
@@ -240,15 +240,15 @@ module _ (o : OpenFlash) (is : IsOpenFlash o) (t : AttemptCourse) (c : StartsCle
 
     fallen_alike : (k : ℕ) → k ≤ length t.bytes → ending_at o.part kept (take k o.flash) ≡ ending_at o.part t.kept (take k one)
     fallen_alike k within =
-        let most : k ≤ length (prefix' ++ s) = omega (arith, within, length-append prefix' s, prefix_long, length-drop sector_bytes t.bytes, long) in
+        let most : k ≤ length (prefix' ++ s) = omega (arith, within, length-append prefix' s, prefix_long, length-drop sector_size t.bytes, long) in
         let here : take k o.flash ≡ take k (prefix' ++ s) = ap (take k) flash_is ∙ take-append-le k (prefix' ++ s) x.rest most in
-        elim (cases_lt k sector_bytes) [
+        elim (cases_lt k sector_size) [
           | inl early ↦
               ap (ending_at o.part kept) (here ∙ take-append-le k prefix' s (omega (arith, early, prefix_long)))
               ∙ prefix_open o.part kept k prefix' is.has.fits (sector_never o.flash o.slot o.start is.has is.small) (prefix_goes o.part kept k prefix' is.has.fits (sector_rests o.flash o.slot o.start is.has is.small o.part kept fell).no_stop)
               ∙ sym (x.first k (omega (arith, early, long)))
           | inr late ↦
-              let j : ℕ = k - sector_bytes in
+              let j : ℕ = k - sector_size in
               let sum : length prefix' + j ≡ k = omega (arith, late, prefix_long) in
               let same : length erased_sector + j ≡ k = omega (arith, late, length_erased_sector) in
               let whole : k ≤ length (erased_sector ++ s) = omega (arith, within, ap length bytes_are) in
@@ -262,7 +262,7 @@ module _ (o : OpenFlash) (is : IsOpenFlash o) (t : AttemptCourse) (c : StartsCle
 
     pub fallen_is : IsFlashAttempt o.part o.flash fallen
     fallen_is =
-        let count : length (prefix' ++ s) ≡ length t.bytes = omega (arith, length-append prefix' s, prefix_long, length-drop sector_bytes t.bytes, long) in
+        let count : length (prefix' ++ s) ≡ length t.bytes = omega (arith, length-append prefix' s, prefix_long, length-drop sector_size t.bytes, long) in
         inl (ends_alike o.part one o.flash t fallen x (record {
           bytes = sym (ap (take (length t.bytes)) flash_is ∙ ap (λ (n : ℕ). take n ((prefix' ++ s) ++ x.rest)) (sym count) ∙ take-append_seam (prefix' ++ s) x.rest);
           long = omega (arith, ap length flash_is, length-append (prefix' ++ s) x.rest, count);
@@ -290,7 +290,7 @@ module _ (o : OpenFlash) (is : IsOpenFlash o) (t : AttemptCourse) (c : StartsCle
       record {
         attempts_are = f.attempts_are;
         started = f.started;
-        taken = ap (λ (v : AttemptCourse). length v.bytes) f.last_is ∙ omega (arith, length-append prefix' s, prefix_long, length-drop sector_bytes t.bytes, long);
+        taken = ap (λ (v : AttemptCourse). length v.bytes) f.last_is ∙ omega (arith, length-append prefix' s, prefix_long, length-drop sector_size t.bytes, long);
         memory = ap (λ (v : AttemptCourse). memory_in o.part v.kept v.bytes) f.last_is ∙ fallen_memory kept refl;
         bootsts = ap (λ (v : AttemptCourse). (end_state o.part v).bootsts) f.last_is
             ∙ bootsts_is o.part kept (prefix' ++ s) true (fallen_going kept refl) (fallen_wrote kept refl)

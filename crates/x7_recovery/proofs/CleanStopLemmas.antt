@@ -1,7 +1,7 @@
 -- A golden stream that begins clean stops no fallback after a slot, where it stopped no attempt at power after a gap.
 use Rattle.std.proofs.Common.{◌≡◌, ◌+◌, ◌≤◌, ◌⊎◌, inl, inr, ℕ, Bool, true, false, if◌then◌else◌, None, [], ◌∷◌, ◌++◌, refl, sym, ◌∙◌, arith}
 use Rattle.std.specs.Prelude.{nat_lt}
-use Rattle.x7_packets.specs.FlashSlot.{sector_bytes}
+use Rattle.x7_packets.specs.FlashSlot.{sector_size}
 use Rattle.x7_packets.specs.History.{History, Write, entry, until}
 use Rattle.x7_packets.specs.Appended.{moved}
 use Rattle.x7_part.specs.Part.{PartData}
@@ -127,7 +127,7 @@ startup_slot : (part : PartData) (h : History) (n : ℕ) → IsStill part NotBeg
 startup_slot part h n (inl s) = (s.0.armed_is ∙ sym (never_armed n), s.0.progress_is ∙ sym (progress_bytes [] n))
 startup_slot part h n (inr s) = (let no : 0 ≡ 7 = s.before in absurd (omega (arith, no)))
 
-pub slot_near : (part : PartData) (kept : Kept) (n start : ℕ) → IsGoing part kept NotBegun (desync_at n start) sector_bytes → IsNear part sector_bytes (desync_at n start) []
+pub slot_near : (part : PartData) (kept : Kept) (n start : ℕ) → IsGoing part kept NotBegun (desync_at n start) sector_size → IsNear part sector_size (desync_at n start) []
 slot_near part kept n start g = record {
   words = λ r d o p. rw (o, p) refl;
   ctl0 = refl;
@@ -136,5 +136,5 @@ slot_near part kept n start g = record {
   flow = idle_slot part n start;
   other_flow = idle_none part;
   memory = memory_slot part n start;
-  startup = λ m l. startup_slot part (desync_at n start) m (going_bytes part kept NotBegun (desync_at n start) sector_bytes m l g).still;
+  startup = λ m l. startup_slot part (desync_at n start) m (going_bytes part kept NotBegun (desync_at n start) sector_size m l g).still;
 }

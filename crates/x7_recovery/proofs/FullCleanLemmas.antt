@@ -1,7 +1,7 @@
 -- The full stream of a plan begins clean: after an erased first sector it starts,
 -- and nothing has stopped the device by then.
 use Rattle.std.proofs.Common.{◌≡◌, ◌==◌, ◌+◌, ◌-◌, ◌*◌, ◌<◌, ◌≤◌, ◌⊎◌, inl, inr, ℕ, Bool, true, false, if◌then◌else◌, Option, None, Some, List, [], ◌∷◌, ◌++◌, drop, take, length, length-append, refl, ap, sym, subst, ◌∙◌, append_assoc, arith}
-use Rattle.x7_packets.specs.FlashSlot.{sector_bytes}
+use Rattle.x7_packets.specs.FlashSlot.{sector_size}
 use Rattle.x7_words.specs.Flash.{erased_sector}
 use Rattle.x7_words.proofs.FlashLemmas.{length_erased_sector, bytes_erased_sector}
 use Rattle.std.proofs.lemmas.Bool.{cases_lt}
@@ -93,7 +93,7 @@ module _ (u : Updating) (p : IsPrepared u) (t : AttemptCourse) (s : StartsAsPlan
   short_fits : AreBytes short
   short_fits = all_append (λ b. b < 256) erased_sector stream bytes_erased_sector stream_fits
 
-  short_long : length short ≡ sector_bytes + length stream
+  short_long : length short ≡ sector_size + length stream
   short_long = length-append erased_sector stream ∙ ap (λ (n : ℕ). n + length stream) length_erased_sector
 
   x : EndsFirst u.part (with_erased u.flash) t
@@ -133,7 +133,7 @@ module _ (u : Updating) (p : IsPrepared u) (t : AttemptCourse) (s : StartsAsPlan
       let l : length t.bytes ≤ length erased_sector = omega (arith, few) in
       let cut : take (length t.bytes) short ≡ take (length t.bytes) erased_sector = take-append-le (length t.bytes) erased_sector stream l in
       let empty : history_of (take (length t.bytes) short) ≡ [] = ap history_of cut ∙ erased_prefix (length t.bytes) (omega (arith, l, length_erased_sector)) in
-      not_empty (history_of stream) (moved_same sector_bytes (history_of stream) [] (sym (erased_history stream stream_fits) ∙ sym same_history ∙ empty)) (stream_clean u.part u.golden p.is_part p.plan)
+      not_empty (history_of stream) (moved_same sector_size (history_of stream) [] (sym (erased_history stream stream_fits) ∙ sym same_history ∙ empty)) (stream_clean u.part u.golden p.is_part p.plan)
 
   pub full_clean : StartsClean u.part u.flash t
   full_clean = by (cases_lt (length t.bytes) (length erased_sector))
@@ -149,6 +149,6 @@ module _ (u : Updating) (p : IsPrepared u) (t : AttemptCourse) (s : StartsAsPlan
       by (inr l) =
           let part_fits : AreBytes part_of = all_take (λ b. b < 256) (length t.bytes - length erased_sector) stream stream_fits in
           let same : history_of part_of ≡ history_of stream =
-          moved_same sector_bytes (history_of part_of) (history_of stream) (sym (erased_history part_of part_fits) ∙ ap history_of (sym (split l) ∙ taken) ∙ same_history ∙ erased_history stream stream_fits) in
-          let dropped : drop sector_bytes t.bytes ≡ part_of = ap (drop sector_bytes) (split l) ∙ ap (λ (n : ℕ). drop n (erased_sector ++ part_of)) (sym length_erased_sector) ∙ drop-append_seam erased_sector part_of in
+          moved_same sector_size (history_of part_of) (history_of stream) (sym (erased_history part_of part_fits) ∙ ap history_of (sym (split l) ∙ taken) ∙ same_history ∙ erased_history stream stream_fits) in
+          let dropped : drop sector_size t.bytes ≡ part_of = ap (drop sector_size) (split l) ∙ ap (λ (n : ℕ). drop n (erased_sector ++ part_of)) (sym length_erased_sector) ∙ drop-append_seam erased_sector part_of in
           record { starts = s.golden.starts; going = going; clean = subst BeginsClean (sym (ap history_of dropped ∙ same)) (stream_clean u.part u.golden p.is_part p.plan); fits = fits }

@@ -1,6 +1,6 @@
 -- A golden stream that starts after one first sector that leads nowhere starts after each.
 use Rattle.std.proofs.Common.{◌≡◌, ℕ, ◌+◌, ◌-◌, ◌<◌, ◌≤◌, inl, inr, Bool, false, List, [], ◌∷◌, ◌++◌, length, get_or, take, drop, refl, ap, sym, subst, ◌∙◌, arith, length-append, length-drop, take-append-drop, append_assoc, append-nil, length-take-le}
-use Rattle.x7_packets.specs.FlashSlot.{sector_bytes}
+use Rattle.x7_packets.specs.FlashSlot.{sector_size}
 use Rattle.x7_words.specs.Flash.{erased_sector}
 use Rattle.x7_words.proofs.FlashLemmas.{length_erased_sector, get_or_erased_sector, bytes_erased_sector}
 use Rattle.std.specs.Prelude.{slice_range}
@@ -53,13 +53,13 @@ word_at flash prefix back e =
     let first : get_or flash (length prefix) 0 ≡ 0xAA = let at : length prefix ≡ length prefix + 0 = omega arith in ap (λ (n : ℕ). get_or flash n 0) at ∙ byte 0 in
     rw (first, byte 1, byte 2, byte 3) refl
 
-pub leads_nowhere_none : (flash gap more : List ℕ) → LeadsNowhere flash → flash ≡ gap ++ more → length gap ≤ sector_bytes → NoneBegins gap more
+pub leads_nowhere_none : (flash gap more : List ℕ) → LeadsNowhere flash → flash ≡ gap ++ more → length gap ≤ sector_size → NoneBegins gap more
 leads_nowhere_none flash gap more nowhere e l prefix back split = elim (cases_lt (length prefix) (length gap)) [
   | inl less ↦ absurd (nowhere (length prefix) (omega (arith, less, l)) (word_at flash prefix back (e ∙ split)))
   | inr past ↦ past
 ]
 
-none_before : (flash gap s rest : List ℕ) → LeadsNowhere flash → flash ≡ (gap ++ s) ++ rest → length gap ≤ sector_bytes → NoneBegins gap s
+none_before : (flash gap s rest : List ℕ) → LeadsNowhere flash → flash ≡ (gap ++ s) ++ rest → length gap ≤ sector_size → NoneBegins gap s
 none_before flash gap s rest nowhere e l = none_before_prefix gap s rest (leads_nowhere_none flash gap (s ++ rest) nowhere (e ∙ append_assoc gap s rest) l)
 
 -- ---- an attempt over the other flash
@@ -113,41 +113,41 @@ in_flash part flash t s = (ended part flash t s).in_flash
 
 -- ---- two flashes whose first sector leads nowhere
 
-module _ (part : PartData) (one other : List ℕ) (t : AttemptCourse) (nowhere : LeadsNowhere one) (other_nowhere : LeadsNowhere other) (fits : AreBytes (take sector_bytes one)) (other_fits : AreBytes other)
-    (least : sector_bytes ≤ length one) (other_least : sector_bytes ≤ length other) (starts : StartsAtPower part one t) (same : slice_range other sector_bytes (length t.bytes) ≡ slice_range one sector_bytes (length t.bytes)) where
+module _ (part : PartData) (one other : List ℕ) (t : AttemptCourse) (nowhere : LeadsNowhere one) (other_nowhere : LeadsNowhere other) (fits : AreBytes (take sector_size one)) (other_fits : AreBytes other)
+    (least : sector_size ≤ length one) (other_least : sector_size ≤ length other) (starts : StartsAtPower part one t) (same : slice_range other sector_size (length t.bytes) ≡ slice_range one sector_size (length t.bytes)) where
   abbrev g : List ℕ
-  g = take sector_bytes one
+  g = take sector_size one
 
   abbrev h : List ℕ
-  h = take sector_bytes other
+  h = take sector_size other
 
   abbrev s : List ℕ
-  s = take (length t.bytes - sector_bytes) (drop sector_bytes one)
+  s = take (length t.bytes - sector_size) (drop sector_size one)
 
   abbrev f : List ℕ
-  f = drop (length t.bytes - sector_bytes) (drop sector_bytes one)
+  f = drop (length t.bytes - sector_size) (drop sector_size one)
 
   abbrev r : List ℕ
-  r = drop (length t.bytes - sector_bytes) (drop sector_bytes other)
+  r = drop (length t.bytes - sector_size) (drop sector_size other)
 
   one_is : one ≡ (g ++ s) ++ f
-  one_is = sym (take-append-drop sector_bytes one) ∙ ap (λ (x : List ℕ). g ++ x) (sym (take-append-drop (length t.bytes - sector_bytes) (drop sector_bytes one))) ∙ sym (append_assoc g s f)
+  one_is = sym (take-append-drop sector_size one) ∙ ap (λ (x : List ℕ). g ++ x) (sym (take-append-drop (length t.bytes - sector_size) (drop sector_size one))) ∙ sym (append_assoc g s f)
 
   other_is : other ≡ (h ++ s) ++ r
-  other_is = sym (take-append-drop sector_bytes other) ∙ ap (λ (x : List ℕ). h ++ x) (sym (take-append-drop (length t.bytes - sector_bytes) (drop sector_bytes other))) ∙ ap (λ (x : List ℕ). h ++ (x ++ r)) same ∙ sym (append_assoc h s r)
+  other_is = sym (take-append-drop sector_size other) ∙ ap (λ (x : List ℕ). h ++ x) (sym (take-append-drop (length t.bytes - sector_size) (drop sector_size other))) ∙ ap (λ (x : List ℕ). h ++ (x ++ r)) same ∙ sym (append_assoc h s r)
 
-  g_long : length g ≡ sector_bytes
-  g_long = length-take-le sector_bytes one least
+  g_long : length g ≡ sector_size
+  g_long = length-take-le sector_size one least
 
-  h_long : length h ≡ sector_bytes
-  h_long = length-take-le sector_bytes other other_least
+  h_long : length h ≡ sector_size
+  h_long = length-take-le sector_size other other_least
 
   within : length t.bytes ≤ length (g ++ s)
   within =
       let x : EndsFirst part one t = ended part one t starts in
       let most : length t.bytes ≤ length one = omega (arith, ap length x.taken, length-append t.bytes x.rest) in
-      let left : length t.bytes - sector_bytes ≤ length (drop sector_bytes one) = omega (arith, most, length-drop sector_bytes one) in
-      omega (arith, length-append g s, length-take-le (length t.bytes - sector_bytes) (drop sector_bytes one) left, g_long)
+      let left : length t.bytes - sector_size ≤ length (drop sector_size one) = omega (arith, most, length-drop sector_size one) in
+      omega (arith, length-append g s, length-take-le (length t.bytes - sector_size) (drop sector_size one) left, g_long)
 
   other_sum : AreBytes (h ++ s)
   other_sum = all_prefix (λ x. x < 256) (h ++ s) r (subst AreBytes other_is other_fits)
@@ -167,7 +167,7 @@ module _ (part : PartData) (one other : List ℕ) (t : AttemptCourse) (nowhere :
   leading_nowhere_alike b boot = alike_alone part other t there b (subst (λ (x : List ℕ). StartsAtPower part x there) (sym other_is) both.0) refl (sym (in_flash part one t starts)) both.1 boot
 
 pub same_golden_alike : (part : PartData) (one other : List ℕ) (t : AttemptCourse) (b : BootedState) → HaveSameGolden part one other t → (boot : IsBoot part other b) → StartsAlike part t (course_of b boot.last)
-same_golden_alike part one other t b s boot = leading_nowhere_alike part one other t s.lead_nowhere.0 s.lead_nowhere.1 (all_take (λ x. x < 256) sector_bytes one s.fits.0) s.fits.1 s.least.0 s.least.1 s.starts s.same b boot
+same_golden_alike part one other t b s boot = leading_nowhere_alike part one other t s.lead_nowhere.0 s.lead_nowhere.1 (all_take (λ x. x < 256) sector_size one s.fits.0) s.fits.1 s.least.0 s.least.1 s.starts s.same b boot
 
 -- ---- the first sector erased
 
@@ -177,49 +177,49 @@ erased_leads_nowhere more place h e =
     let first : get_or (erased_sector ++ more) place 0 ≡ 0xAA = ap (λ (w : List ℕ). get_or w 0 0) e in
     absurd (omega (arith, byte, first))
 
-pub erased_take : (more : List ℕ) → take sector_bytes (erased_sector ++ more) ≡ erased_sector
+pub erased_take : (more : List ℕ) → take sector_size (erased_sector ++ more) ≡ erased_sector
 erased_take more = ap (λ (n : ℕ). take n (erased_sector ++ more)) (sym length_erased_sector) ∙ take-append_seam erased_sector more
 
-pub erased_drop : (more : List ℕ) → drop sector_bytes (erased_sector ++ more) ≡ more
+pub erased_drop : (more : List ℕ) → drop sector_size (erased_sector ++ more) ≡ more
 erased_drop more = ap (λ (n : ℕ). drop n (erased_sector ++ more)) (sym length_erased_sector) ∙ drop-append_seam erased_sector more
 
 erased_none : (more : List ℕ) → NoneBegins erased_sector more
 erased_none more = leads_nowhere_none (erased_sector ++ more) erased_sector more (erased_leads_nowhere more) refl (omega (arith, length_erased_sector))
 
-pub erased_history : (more : List ℕ) → AreBytes more → history_of (erased_sector ++ more) ≡ moved sector_bytes (history_of more)
+pub erased_history : (more : List ℕ) → AreBytes more → history_of (erased_sector ++ more) ≡ moved sector_size (history_of more)
 erased_history more fits = history_passed erased_sector more (all_append (λ x. x < 256) erased_sector more bytes_erased_sector fits) (erased_none more) ∙ ap (λ (n : ℕ). moved n (history_of more)) length_erased_sector
 
-pub erased_prefix : (k : ℕ) → k ≤ sector_bytes → history_of (take k erased_sector) ≡ []
+pub erased_prefix : (k : ℕ) → k ≤ sector_size → history_of (take k erased_sector) ≡ []
 erased_prefix k l = (prefix_asks_nothing erased_sector [] k (omega (arith, l, length_erased_sector)) bytes_erased_sector (erased_none [])).1
 
 -- ---- what a power loss leaves
 
-pub golden_stands : (flash found : List ℕ) (n : ℕ) → IsUpdatable flash → IsBetweenSlots flash found → n ≤ update_place flash → take (n - sector_bytes) (drop sector_bytes found) ≡ take (n - sector_bytes) (drop sector_bytes flash)
-golden_stands flash found n l b most = ext_get_or 0 (take (n - sector_bytes) (drop sector_bytes found)) (take (n - sector_bytes) (drop sector_bytes flash)) (found_long ∙ sym flash_long) each
+pub golden_stands : (flash found : List ℕ) (n : ℕ) → IsUpdatable flash → IsBetweenSlots flash found → n ≤ update_place flash → take (n - sector_size) (drop sector_size found) ≡ take (n - sector_size) (drop sector_size flash)
+golden_stands flash found n l b most = ext_get_or 0 (take (n - sector_size) (drop sector_size found)) (take (n - sector_size) (drop sector_size flash)) (found_long ∙ sym flash_long) each
   where
     place : update_place flash ≤ length flash
     place = l.slots.place.most
 
-    found_long : length (take (n - sector_bytes) (drop sector_bytes found)) ≡ n - sector_bytes
-    found_long = length-take-le (n - sector_bytes) (drop sector_bytes found) (omega (arith, length-drop sector_bytes found, b.size, most, place))
+    found_long : length (take (n - sector_size) (drop sector_size found)) ≡ n - sector_size
+    found_long = length-take-le (n - sector_size) (drop sector_size found) (omega (arith, length-drop sector_size found, b.size, most, place))
 
-    flash_long : length (take (n - sector_bytes) (drop sector_bytes flash)) ≡ n - sector_bytes
-    flash_long = length-take-le (n - sector_bytes) (drop sector_bytes flash) (omega (arith, length-drop sector_bytes flash, most, place))
+    flash_long : length (take (n - sector_size) (drop sector_size flash)) ≡ n - sector_size
+    flash_long = length-take-le (n - sector_size) (drop sector_size flash) (omega (arith, length-drop sector_size flash, most, place))
 
-    each : (i : ℕ) → i < length (take (n - sector_bytes) (drop sector_bytes found)) → get_or (take (n - sector_bytes) (drop sector_bytes found)) i 0 ≡ get_or (take (n - sector_bytes) (drop sector_bytes flash)) i 0
+    each : (i : ℕ) → i < length (take (n - sector_size) (drop sector_size found)) → get_or (take (n - sector_size) (drop sector_size found)) i 0 ≡ get_or (take (n - sector_size) (drop sector_size flash)) i 0
     each i h =
-        let short : i < n - sector_bytes = omega (arith, h, found_long) in
-        get_or-take (n - sector_bytes) (drop sector_bytes found) i 0 short
-        ∙ get_or-drop sector_bytes found i 0
-        ∙ b.golden (sector_bytes + i) (omega arith) (omega (arith, short, most))
-        ∙ sym (get_or-drop sector_bytes flash i 0)
-        ∙ sym (get_or-take (n - sector_bytes) (drop sector_bytes flash) i 0 short)
+        let short : i < n - sector_size = omega (arith, h, found_long) in
+        get_or-take (n - sector_size) (drop sector_size found) i 0 short
+        ∙ get_or-drop sector_size found i 0
+        ∙ b.golden (sector_size + i) (omega arith) (omega (arith, short, most))
+        ∙ sym (get_or-drop sector_size flash i 0)
+        ∙ sym (get_or-take (n - sector_size) (drop sector_size flash) i 0 short)
 
 pub between_alike : (part : PartData) (flash found : List ℕ) (t : AttemptCourse) (b : BootedState) → IsUpdatable flash → IsBetweenSlots flash found → GoldenStarts part flash t → AreBytes found → (boot : IsBoot part found b) → StartsAlike part t (course_of b boot.last)
 between_alike part flash found t b l left starts fits boot =
-    leading_nowhere_alike part (with_erased flash) found t (erased_leads_nowhere (drop sector_bytes flash)) (no_sync flash found l left) (subst AreBytes (sym (erased_take (drop sector_bytes flash))) bytes_erased_sector) fits
-    (omega (arith, length-append erased_sector (drop sector_bytes flash), length_erased_sector)) (omega (arith, left.size, l.size.least)) starts.starts
-    (golden_stands flash found (length t.bytes) l left starts.ends ∙ ap (take (length t.bytes - sector_bytes)) (sym (erased_drop (drop sector_bytes flash)))) b boot
+    leading_nowhere_alike part (with_erased flash) found t (erased_leads_nowhere (drop sector_size flash)) (no_sync flash found l left) (subst AreBytes (sym (erased_take (drop sector_size flash))) bytes_erased_sector) fits
+    (omega (arith, length-append erased_sector (drop sector_size flash), length_erased_sector)) (omega (arith, left.size, l.size.least)) starts.starts
+    (golden_stands flash found (length t.bytes) l left starts.ends ∙ ap (take (length t.bytes - sector_size)) (sym (erased_drop (drop sector_size flash)))) b boot
 
 pub found_alike : (u : UpdatingAny) (found : List ℕ) (b : BootedState) → IsPreparedAny u → MayBeLeft u.stream u.flash found → IsBoot u.part found b → BootsAlike u found b
 found_alike u found b p (untouched same) boot = as_before (subst (λ (x : List ℕ). IsBoot u.part x b) same boot)
@@ -249,7 +249,7 @@ full_golden u p =
     let x : EndsFirst u.part short t = subst (λ (n : ℕ). EndsFirst u.part (drop n short) t) s.address_is (started_first u.part short t s.is s.ending_is) in
     let most : length t.bytes ≤ length short = omega (arith, ap length x.taken, length-append t.bytes x.rest) in
     let whole : with_erased u.flash ≡ short ++ p.golden.rest = ap (λ (x : List ℕ). erased_sector ++ x) p.golden.stands ∙ sym (append_assoc erased_sector stream p.golden.rest) in
-    let within : length t.bytes ≤ sector_bytes + length stream = omega (arith, most, length-append erased_sector stream, length_erased_sector) in
+    let within : length t.bytes ≤ sector_size + length stream = omega (arith, most, length-append erased_sector stream, length_erased_sector) in
     let same : take (t.address + length t.bytes) (with_erased u.flash) ≡ take (t.address + length t.bytes) short =
     ap (take (t.address + length t.bytes)) whole ∙ take-append-le (t.address + length t.bytes) short p.golden.rest (omega (arith, most, s.address_is)) in (
       t,

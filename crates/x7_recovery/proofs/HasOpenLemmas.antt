@@ -6,7 +6,7 @@ use Rattle.std.proofs.lemmas.List.{ext_get_or, get_or-drop, get_or-take, get_or_
 use Rattle.std.proofs.Math.Seq.{drop-append_seam, take-append_seam}
 use Rattle.x7_words.specs.Word.{AreBytes, bytes_of_word, word_of_bytes}
 use Rattle.x7_words.proofs.WordLemmas.{bytes_words}
-use Rattle.x7_packets.specs.FlashSlot.{sector_bytes, flash_slot}
+use Rattle.x7_packets.specs.FlashSlot.{sector_size, flash_slot}
 use Rattle.x7_packets.specs.SyncWord.{HasNoSync, sync_bytes}
 use Rattle.x7_part.specs.Part.{PartData}
 use Rattle.x7_part.specs.Ranges.{IsPart}
@@ -44,7 +44,7 @@ module _ (flash now found : List ℕ) (number : ℕ) (l : IsUpdatable flash) (b 
   found_long = omega (arith, size, b.size, l.size.least)
 
   -- a byte after a switch word
-  byte_at : (i m : ℕ) → i < sector_bytes → i % 32 ≡ m → 4 ≤ m → get_or found i 0 ≡ get_or (first_slot flash) m 0
+  byte_at : (i m : ℕ) → i < sector_size → i % 32 ≡ m → 4 ≤ m → get_or found i 0 ≡ get_or (first_slot flash) m 0
   byte_at i m h e k =
       let at : 32 * (i / 32) + m ≡ i = omega (arith, e) in
       others i (outside_switch number i (omega (arith, e, k))) ∙ b.slots i h (omega (arith, e, k)) ∙ ap (λ (n : ℕ). get_or flash n 0) (sym at) ∙ l.slots.leads (i / 32) (omega (arith, h)) m k (omega (arith, e))
@@ -55,7 +55,7 @@ module _ (flash now found : List ℕ) (number : ℕ) (l : IsUpdatable flash) (b 
       let first : get_or found place 0 ≡ get_or now place 0 = ap (λ (n : ℕ). get_or found n 0) at ∙ others (place + 0) (out 0 (omega arith)) ∙ ap (λ (n : ℕ). get_or now n 0) (sym at) in
       rw (first, others (place + 1) (out 1 (omega arith)), others (place + 2) (out 2 (omega arith)), others (place + 3) (out 3 (omega arith))) refl
 
-  alone : (place : ℕ) → place < sector_bytes → four_at found place ≡ open_switch → place ≡ 32 * number
+  alone : (place : ℕ) → place < sector_size → four_at found place ≡ open_switch → place ≡ 32 * number
   alone place h e =
       let first : get_or found place 0 ≡ 0xAA = ap (λ (w : List ℕ). get_or w 0 0) e in
       elim (cases_lt (place + 3) (32 * number)) [
@@ -108,13 +108,13 @@ module _ (flash now found : List ℕ) (number : ℕ) (l : IsUpdatable flash) (b 
           let short : i < 32 = omega (arith, h, long) in
           get_or-take 32 (drop (32 * number) found) i 0 short ∙ get_or-drop (32 * number) found i 0 ∙ slot_byte i short
 
-  pub opened : AreBytes (take sector_bytes found) → HasOpenSlot found number (update_place flash)
+  pub opened : AreBytes (take sector_size found) → HasOpenSlot found number (update_place flash)
   opened fits =
-      let long : length (take sector_bytes found) ≡ sector_bytes = length-take-le sector_bytes found (omega (arith, found_long)) in
+      let long : length (take sector_size found) ≡ sector_size = length-take-le sector_size found (omega (arith, found_long)) in
       let small : (m : ℕ) → 12 ≤ m → m < 16 → get_or (first_slot flash) m 0 < 256 =
       λ m least most. (let byte : get_or found m 0 ≡ get_or (first_slot flash) m 0 = byte_at m m (omega (arith, most)) (omega (arith, most)) (omega (arith, least)) in
-      let held : get_or (take sector_bytes found) m 0 ≡ get_or found m 0 = get_or-take sector_bytes found m 0 (omega (arith, most)) in
-      omega (arith, byte, held, fits_at (take sector_bytes found) m fits (omega (arith, long, most)))) in
+      let held : get_or (take sector_size found) m 0 ≡ get_or found m 0 = get_or-take sector_size found m 0 (omega (arith, most)) in
+      omega (arith, byte, held, fits_at (take sector_size found) m fits (omega (arith, long, most)))) in
       let start_fits : AreBytes (four_at flash 12) = (small 12 (omega arith) (omega arith), (small 13 (omega arith) (omega arith), (small 14 (omega arith) (omega arith), (small 15 (omega arith) (omega arith), tt)))) in
       let start : bytes_of_word (update_place flash) ≡ four_at flash 12 = bytes_back (get_or flash 12 0) (get_or flash (12 + 1) 0) (get_or flash (12 + 2) 0) (get_or flash (12 + 3) 0) start_fits in
       record {
@@ -132,20 +132,20 @@ module _ (flash now found : List ℕ) (number : ℕ) (l : IsUpdatable flash) (b 
       ap word_of_bytes start
 
   -- after the first sector the flash is as it was between
-  pub same_from : (at : ℕ) → sector_bytes ≤ at → drop at found ≡ drop at now
+  pub same_from : (at : ℕ) → sector_size ≤ at → drop at found ≡ drop at now
   same_from at past = ext_get_or 0 (drop at found) (drop at now) (length-drop at found ∙ ap (λ (n : ℕ). n - at) size ∙ sym (length-drop at now))
       (λ i h. get_or-drop at found i 0 ∙ others (at + i) (inr (omega (arith, past, within))) ∙ sym (get_or-drop at now i 0))
 
   -- the golden stream stands after the first sector
-  pub golden_from : (part : PartData) (golden : PlanData) → HasGolden part golden flash → (rest : List ℕ) × (drop sector_bytes found ≡ full_stream part golden ++ rest)
+  pub golden_from : (part : PartData) (golden : PlanData) → HasGolden part golden flash → (rest : List ℕ) × (drop sector_size found ≡ full_stream part golden ++ rest)
   golden_from part golden g =
       let stream : List ℕ = full_stream part golden in
-      let n : ℕ = sector_bytes + length stream in
-      let count : n - sector_bytes ≡ length stream = omega arith in
-      let here : take (length stream) (drop sector_bytes now) ≡ stream =
-      ap (λ (m : ℕ). take m (drop sector_bytes now)) (sym count) ∙ golden_stands flash now n l b g.ends ∙ ap (λ (m : ℕ). take m (drop sector_bytes flash)) count ∙ ap (take (length stream)) g.stands ∙ take-append_seam stream g.rest in (
-        drop (length stream) (drop sector_bytes now),
-        same_from sector_bytes (omega arith) ∙ sym (take-append-drop (length stream) (drop sector_bytes now)) ∙ ap (λ (x : List ℕ). x ++ drop (length stream) (drop sector_bytes now)) here,
+      let n : ℕ = sector_size + length stream in
+      let count : n - sector_size ≡ length stream = omega arith in
+      let here : take (length stream) (drop sector_size now) ≡ stream =
+      ap (λ (m : ℕ). take m (drop sector_size now)) (sym count) ∙ golden_stands flash now n l b g.ends ∙ ap (λ (m : ℕ). take m (drop sector_size flash)) count ∙ ap (take (length stream)) g.stands ∙ take-append_seam stream g.rest in (
+        drop (length stream) (drop sector_size now),
+        same_from sector_size (omega arith) ∙ sym (take-append-drop (length stream) (drop sector_size now)) ∙ ap (λ (x : List ℕ). x ++ drop (length stream) (drop sector_size now)) here,
       )
 
 -- ---- a flash that can be updated
@@ -160,7 +160,7 @@ module _ (flash : List ℕ) (number : ℕ) (l : IsUpdatable flash) (within : num
   spent_between : IsBetweenSlots flash spent
   spent_between = between_spent flash spent l.slots (spends number within is refl)
 
-  pub updatable_opened : AreBytes (take sector_bytes flash) → HasOpenSlot flash number (update_place flash)
+  pub updatable_opened : AreBytes (take sector_size flash) → HasOpenSlot flash number (update_place flash)
   updatable_opened fits = opened flash spent flash number l spent_between within (sym (length_switched number spent_switch flash refl room)) (λ i h. sym (switched_others number spent_switch flash refl room i h)) is fits
 
 -- ---- a flash after an update
@@ -187,22 +187,22 @@ module _ (stream flash found : List ℕ) (l : IsUpdatable flash) (a : IsAfterUpd
   found_open : switch_of found a.next ≡ open_switch
   found_open = ap (λ (x : List ℕ). switch_of x a.next) a.is ∙ switch_switched a.next 0xAA 0x99 0x55 0x66 now now_room
 
-  pub after_opened : AreBytes (take sector_bytes found) → HasOpenSlot found a.next (update_place flash)
+  pub after_opened : AreBytes (take sector_size found) → HasOpenSlot found a.next (update_place flash)
   after_opened fits = opened flash now found a.next l now_between a.is_next.within found_size found_others found_open fits
 
-  pub after_golden : (part : PartData) (golden : PlanData) → HasGolden part golden flash → (rest : List ℕ) × (drop sector_bytes found ≡ full_stream part golden ++ rest)
+  pub after_golden : (part : PartData) (golden : PlanData) → HasGolden part golden flash → (rest : List ℕ) × (drop sector_size found ≡ full_stream part golden ++ rest)
   after_golden part golden g = golden_from flash now found a.next l now_between a.is_next.within found_size found_others found_open part golden g
 
-  pub after_golden_same : (n : ℕ) → n ≤ update_place flash → take (n - sector_bytes) (drop sector_bytes found) ≡ take (n - sector_bytes) (drop sector_bytes flash)
+  pub after_golden_same : (n : ℕ) → n ≤ update_place flash → take (n - sector_size) (drop sector_size found) ≡ take (n - sector_size) (drop sector_size flash)
   after_golden_same n most =
-      ap (take (n - sector_bytes)) (same_from flash now found a.next l now_between a.is_next.within found_size found_others found_open sector_bytes (omega arith)) ∙ golden_stands flash now n l now_between most
+      ap (take (n - sector_size)) (same_from flash now found a.next l now_between a.is_next.within found_size found_others found_open sector_size (omega arith)) ∙ golden_stands flash now n l now_between most
 
   pub after_place : update_place found ≡ update_place flash
   after_place = same_place flash now found a.next l now_between a.is_next.within found_size found_others found_open
 
   pub after_has_golden : (part : PartData) (golden : PlanData) → HasGolden part golden flash → HasGolden part golden found
   after_has_golden part golden g =
-      let stands : (rest : List ℕ) × (drop sector_bytes found ≡ full_stream part golden ++ rest) = after_golden part golden g in
+      let stands : (rest : List ℕ) × (drop sector_size found ≡ full_stream part golden ++ rest) = after_golden part golden g in
       let place : update_place found ≡ update_place flash = same_place flash now found a.next l now_between a.is_next.within found_size found_others found_open in
       record { rest = stands.0; stands = stands.1; ends = omega (arith, place, g.ends) }
 
@@ -244,8 +244,8 @@ unfolding slot
 free_end start = (refl, refl, refl)
 
 module _ (start : ℕ) (flash more : List ℕ) (whole : start % 256 ≡ 0) (low : start < 0xAA000000) (begins : flash ≡ first_sector start ++ more) where
-  prefix_is : take sector_bytes flash ≡ first_sector start
-  prefix_is = ap (take sector_bytes) begins ∙ ap (λ (n : ℕ). take n (first_sector start ++ more)) (sym (sector_long start)) ∙ take-append_seam (first_sector start) more
+  prefix_is : take sector_size flash ≡ first_sector start
+  prefix_is = ap (take sector_size) begins ∙ ap (λ (n : ℕ). take n (first_sector start ++ more)) (sym (sector_long start)) ∙ take-append_seam (first_sector start) more
 
   image_stands : take 32 (drop 0 flash) ≡ open_slot start
   image_stands =
@@ -258,21 +258,21 @@ module _ (start : ℕ) (flash more : List ℕ) (whole : start % 256 ≡ 0) (low 
   first_sector_none : (tail : List ℕ) × (first_sector start ≡ 0xAA ∷ tail) × HasNoSync tail
   first_sector_none = open_none start (free_slots start) whole low (free_none start whole low)
 
-  in_sector : (place : ℕ) → place + 4 ≤ sector_bytes → four_at flash place ≡ four_at (first_sector start) place
+  in_sector : (place : ℕ) → place + 4 ≤ sector_size → four_at flash place ≡ four_at (first_sector start) place
   in_sector place h =
-      let byte : (i : ℕ) → i < sector_bytes → get_or flash i 0 ≡ get_or (first_sector start) i 0 = λ i m. ap (λ (x : List ℕ). get_or x i 0) begins ∙ get_or_append_left (first_sector start) more 0 i (omega (arith, m, sector_long start)) in
+      let byte : (i : ℕ) → i < sector_size → get_or flash i 0 ≡ get_or (first_sector start) i 0 = λ i m. ap (λ (x : List ℕ). get_or x i 0) begins ∙ get_or_append_left (first_sector start) more 0 i (omega (arith, m, sector_long start)) in
       rw (byte place (omega (arith, h)), byte (place + 1) (omega (arith, h)), byte (place + 2) (omega (arith, h)), byte (place + 3) (omega (arith, h))) refl
 
-  not_later : (p : ℕ) → suc p + 4 ≤ sector_bytes → four_at flash (suc p) ≡ open_switch → ⊥
+  not_later : (p : ℕ) → suc p + 4 ≤ sector_size → four_at flash (suc p) ≡ open_switch → ⊥
   not_later p h e =
       let t : (tail : List ℕ) × (first_sector start ≡ 0xAA ∷ tail) × HasNoSync tail = first_sector_none in
       let there : four_at (first_sector start) (suc p) ≡ open_switch = sym (in_sector (suc p) h) ∙ e in
       let here : four_at t.0 p ≡ open_switch = sym (four_suc 0xAA t.0 p) ∙ ap (λ (x : List ℕ). four_at x (suc p)) (sym t.1) ∙ there in
-      let long : sector_bytes ≡ suc (length t.0) = sym (sector_long start) ∙ ap length t.1 in
+      let long : sector_size ≡ suc (length t.0) = sym (sector_long start) ∙ ap length t.1 in
       let split : t.0 ≡ take p t.0 ++ (sync_bytes ++ drop (p + 4) t.0) = four_split t.0 p (omega (arith, long, h)) here in
       t.2.none (take p t.0) (drop (p + 4) t.0) (split ∙ sym (append_assoc (take p t.0) sync_bytes (drop (p + 4) t.0)))
 
-  image_alone : (place : ℕ) → place < sector_bytes → four_at flash place ≡ open_switch → place ≡ 32 * 0
+  image_alone : (place : ℕ) → place < sector_size → four_at flash place ≡ open_switch → place ≡ 32 * 0
   image_alone zero h e = refl
   image_alone (suc p) h e =
       let first : get_or flash (suc p) 0 ≡ 0xAA = ap (λ (w : List ℕ). get_or w 0 0) e in
@@ -299,13 +299,13 @@ module _ (start : ℕ) (flash more : List ℕ) (whole : start % 256 ≡ 0) (low 
     fits = subst AreBytes (sym prefix_is) (sector_fits start);
   }
 
-  pub image_after : drop sector_bytes flash ≡ more
-  image_after = ap (drop sector_bytes) begins ∙ ap (λ (n : ℕ). drop n (first_sector start ++ more)) (sym (sector_long start)) ∙ drop-append_seam (first_sector start) more
+  pub image_after : drop sector_size flash ≡ more
+  image_after = ap (drop sector_size) begins ∙ ap (λ (n : ℕ). drop n (first_sector start ++ more)) (sym (sector_long start)) ∙ drop-append_seam (first_sector start) more
 
 -- ---- by the part
 
 -- the start address leads to its place
-start_leads : (unit place : ℕ) → (unit ≡ 1) ⊎ (unit ≡ 256) → place % sector_bytes ≡ 0 → place ≤ flash_limit → start_address unit (place / unit) ≡ place
+start_leads : (unit place : ℕ) → (unit ≡ 1) ⊎ (unit ≡ 256) → place % sector_size ≡ 0 → place ≤ flash_limit → start_address unit (place / unit) ≡ place
 start_leads unit place (inl e) whole l = ap (λ (u : ℕ). start_address u (place / u)) e ∙ omega (arith, whole, l)
 start_leads unit place (inr e) whole l = ap (λ (u : ℕ). start_address u (place / u)) e ∙ omega (arith, whole, l)
 
@@ -315,12 +315,12 @@ leads_itself unit place e l = ap (λ (u : ℕ). start_address u place) e ∙ ome
 place_small : (flash : List ℕ) → IsUpdatable flash → update_place flash ≤ 134217728
 place_small flash l = omega (arith, l.slots.place.most, l.size.most)
 
-pub open_is_opened : (part : PartData) (flash : List ℕ) (number : ℕ) → part.start_unit ≡ 1 → IsUpdatable flash → AreBytes (take sector_bytes flash) → number < 2048 → IsOpen flash number → IsOpenFlash (slot_of_flash part flash number (update_place flash))
+pub open_is_opened : (part : PartData) (flash : List ℕ) (number : ℕ) → part.start_unit ≡ 1 → IsUpdatable flash → AreBytes (take sector_size flash) → number < 2048 → IsOpen flash number → IsOpenFlash (slot_of_flash part flash number (update_place flash))
 open_is_opened part flash number unit l fits within is =
     let small : update_place flash ≤ 134217728 = place_small flash l in
     record { has = updatable_opened flash number l within is fits; small = omega (arith, small); leads = leads_itself part.start_unit (update_place flash) unit small }
 
-pub after_is_opened : (part : PartData) (stream flash found : List ℕ) → part.start_unit ≡ 1 → IsUpdatable flash → AreBytes (take sector_bytes found) → (a : IsAfterUpdate stream flash found) → IsOpenFlash (slot_of_flash part found a.next (update_place flash))
+pub after_is_opened : (part : PartData) (stream flash found : List ℕ) → part.start_unit ≡ 1 → IsUpdatable flash → AreBytes (take sector_size found) → (a : IsAfterUpdate stream flash found) → IsOpenFlash (slot_of_flash part found a.next (update_place flash))
 after_is_opened part stream flash found unit l fits a =
     let small : update_place flash ≤ 134217728 = place_small flash l in
     record { has = after_opened stream flash found l a fits; small = omega (arith, small); leads = leads_itself part.start_unit (update_place flash) unit small }
@@ -358,7 +358,7 @@ module _ (part : PartData) (golden update after : List ℕ) (is : IsPart part) (
   pub image_as : BeginsAsImage part all place
   image_as = record { more = golden ++ begun.0; begins = begun.1; whole = place_whole (length golden); within = place_low }
 
-  pub image_golden_stands : (rest : List ℕ) × (drop sector_bytes all ≡ golden ++ rest)
+  pub image_golden_stands : (rest : List ℕ) × (drop sector_size all ≡ golden ++ rest)
   image_golden_stands =
       let whole : start % 256 ≡ 0 = start_whole part.start_unit place is.start_unit (place_whole (length golden)) in
       let low : start ≤ flash_limit = start_small part.start_unit place is.start_unit place_low in
@@ -370,5 +370,5 @@ module _ (part : PartData) (golden update after : List ℕ) (is : IsPart part) (
 -- the full stream of a plan
 pub image_planned : (part : PartData) (golden : PlanData) (update after : List ℕ) → HasImage part golden update → HasFullGolden (image_of_flash part (golden_image part golden update ++ after) (place_after part golden)) golden
 image_planned part golden update after has =
-    let s : (rest : List ℕ) × (drop sector_bytes (golden_image part golden update ++ after) ≡ full_stream part golden ++ rest) = image_golden_stands part (full_stream part golden) update after has.is_part has.fits in
+    let s : (rest : List ℕ) × (drop sector_size (golden_image part golden update ++ after) ≡ full_stream part golden ++ rest) = image_golden_stands part (full_stream part golden) update after has.is_part has.fits in
     record { is_part = has.is_part; plan = has.plan; rest = s.0; stands = s.1 }

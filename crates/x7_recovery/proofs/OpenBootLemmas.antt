@@ -1,7 +1,7 @@
 -- A boot from a flash with an open slot: at power to the update, and from there to its start or to the fallback.
 use Rattle.std.proofs.Common.{◌≡◌, ◌&&◌, ◌<◌, inl, ℕ, Bool, true, false, Option, None, Some, List, [], ◌∷◌, ◌++◌, drop, take, map, reverse, refl, ap, sym, subst, ◌∙◌, append_assoc, take-append-drop}
 use Rattle.std.proofs.lemmas.List.{reverse-append}
-use Rattle.x7_packets.specs.FlashSlot.{sector_bytes}
+use Rattle.x7_packets.specs.FlashSlot.{sector_size}
 use Rattle.x7_words.specs.Word.{AreBytes}
 use Rattle.x7_words.proofs.ListLemmas.{all_append, map_append}
 use Rattle.x7_packets.specs.History.{history_of}
@@ -147,10 +147,10 @@ module _ (o : OpenFlash) (is : IsOpenFlash o) where
   planned_starts : (kept : Kept) (golden : PlanData) → HasFullGolden o golden → is_fallback kept.kind ≡ true → StartsWith o.part kept 0 o.flash golden true
   planned_starts kept golden has e =
       let stream : List ℕ = full_stream o.part golden in
-      let prefix : List ℕ = take sector_bytes o.flash in
+      let prefix : List ℕ = take sector_size o.flash in
       let fits : AreBytes (prefix ++ stream) = all_append (λ b. b < 256) prefix stream is.has.fits (full_stream_fits o.part golden has.is_part has.plan) in
       let wrote : wrote_iprog (history_of prefix) ≡ true = sector_wrote o.flash o.slot o.start is.has is.small in
-      let split : o.flash ≡ (prefix ++ stream) ++ has.rest = sym (take-append-drop sector_bytes o.flash) ∙ ap (λ (x : List ℕ). prefix ++ x) has.stands ∙ sym (append_assoc prefix stream has.rest) in
+      let split : o.flash ≡ (prefix ++ stream) ++ has.rest = sym (take-append-drop sector_size o.flash) ∙ ap (λ (x : List ℕ). prefix ++ x) has.stands ∙ sym (append_assoc prefix stream has.rest) in
       full_starts o.part kept prefix golden 0 o.flash has.rest true is.has.fits (sector_rests o.flash o.slot o.start is.has is.small o.part kept e) (sector_never o.flash o.slot o.start is.has is.small) has.is_part has.plan split
       (ap (λ (x : Bool). x && wrote_iprog (history_of (prefix ++ stream))) e ∙ iprog_later prefix stream fits wrote)
 

@@ -4,7 +4,7 @@ use Rattle.std.proofs.Common.{◌≡◌, ◌+◌, ◌-◌, ◌*◌, ◌^◌, ◌
 use Rattle.std.proofs.lemmas.Bool.{cases_lt}
 use Rattle.std.proofs.lemmas.List.{take-append-le, take-take}
 use Rattle.std.proofs.Math.Seq.{take-append-add}
-use Rattle.x7_packets.specs.FlashSlot.{sector_bytes}
+use Rattle.x7_packets.specs.FlashSlot.{sector_size}
 use Rattle.x7_words.specs.Word.{AreBytes}
 use Rattle.x7_words.proofs.ListLemmas.{all_append, all_back, all_prefix, all_take}
 use Rattle.x7_packets.specs.ByHand.{reading_of}
@@ -82,10 +82,10 @@ module _ (flash : List ℕ) (number start : ℕ) (o : HasOpenSlot flash number s
   rest = drop 32 (drop (32 * number) flash)
 
   abbrev pub sector : List ℕ
-  sector = take sector_bytes flash
+  sector = take sector_size flash
 
   abbrev pub tail : List ℕ
-  tail = drop sector_bytes flash
+  tail = drop sector_size flash
 
   pub gap_long : length gap ≡ 32 * number
   gap_long = length-take-le (32 * number) flash (omega (arith, o.within, o.long))
@@ -94,7 +94,7 @@ module _ (flash : List ℕ) (number start : ℕ) (o : HasOpenSlot flash number s
   split = sym (take-append-drop (32 * number) flash) ∙ ap (λ (x : List ℕ). gap ++ x) (sym (take-append-drop 32 (drop (32 * number) flash))) ∙ ap (λ (x : List ℕ). gap ++ (x ++ rest)) o.stands
 
   pub gap_fits : AreBytes gap
-  gap_fits = subst AreBytes (take-take (32 * number) sector_bytes flash (omega (arith, o.within))) (all_take (λ b. b < 256) (32 * number) sector o.fits)
+  gap_fits = subst AreBytes (take-take (32 * number) sector_size flash (omega (arith, o.within))) (all_take (λ b. b < 256) (32 * number) sector o.fits)
 
   -- no sync word begins before the slot
   pub none_before : (s more : List ℕ) → flash ≡ (gap ++ s) ++ more → NoneBegins gap s
@@ -206,37 +206,37 @@ module _ (flash : List ℕ) (number start : ℕ) (o : HasOpenSlot flash number s
 
   -- the sector from the slot on
   abbrev pub more : List ℕ
-  more = take (sector_bytes - 32 * number - 32) rest
+  more = take (sector_size - 32 * number - 32) rest
 
   abbrev pub from_slot : List ℕ
   from_slot = open_slot start ++ more
 
   pub sector_is : sector ≡ gap ++ from_slot
   sector_is =
-      let m : ℕ = sector_bytes - 32 * number in
-      let k : ℕ = sector_bytes - 32 * number - 32 in
-      let sum : length gap + m ≡ sector_bytes = omega (arith, gap_long, o.within) in
+      let m : ℕ = sector_size - 32 * number in
+      let k : ℕ = sector_size - 32 * number - 32 in
+      let sum : length gap + m ≡ sector_size = omega (arith, gap_long, o.within) in
       let sum_2 : length (open_slot start) + k ≡ m = omega (arith, slot_long 0xAA995566 start, o.within) in
-      ap (take sector_bytes) split
+      ap (take sector_size) split
       ∙ ap (λ (x : ℕ). take x (gap ++ (open_slot start ++ rest))) (sym sum)
       ∙ take-append-add gap (open_slot start ++ rest) m
       ∙ ap (λ (x : List ℕ). gap ++ x) (ap (λ (x : ℕ). take x (open_slot start ++ rest)) (sym sum_2) ∙ take-append-add (open_slot start) rest k)
 
-  pub sector_long : length sector ≡ sector_bytes
-  sector_long = length-take-le sector_bytes flash o.long
+  pub sector_long : length sector ≡ sector_size
+  sector_long = length-take-le sector_size flash o.long
 
   -- no sync word after the slot
   pub more_none : HasNoSync more
   more_none = record {
     none = λ prefix back e.
-        let cut : flash ≡ (gap ++ from_slot) ++ tail = sym (take-append-drop sector_bytes flash) ∙ ap (λ (x : List ℕ). x ++ tail) sector_is in
+        let cut : flash ≡ (gap ++ from_slot) ++ tail = sym (take-append-drop sector_size flash) ∙ ap (λ (x : List ℕ). x ++ tail) sector_is in
         let word : more ≡ prefix ++ (sync_bytes ++ back) = e ∙ append_assoc prefix sync_bytes back in
         let prefix_2 : List ℕ = (gap ++ open_slot start) ++ prefix in
         let grouped : (gap ++ (open_slot start ++ (prefix ++ (sync_bytes ++ back)))) ++ tail ≡ ((gap ++ open_slot start) ++ prefix) ++ (sync_bytes ++ (back ++ tail)) = simp append_assoc in
         let there : flash ≡ prefix_2 ++ (sync_bytes ++ (back ++ tail)) = cut ∙ ap (λ (x : List ℕ). (gap ++ (open_slot start ++ x)) ++ tail) word ∙ grouped in
         let long : length prefix_2 ≡ 32 * number + 32 + length prefix = length-append (gap ++ open_slot start) prefix ∙ ap (λ (x : ℕ). x + length prefix) (length-append gap (open_slot start) ∙ omega (arith, gap_long, slot_long 0xAA995566 start)) in
         let of_more : length more ≡ length prefix + (4 + length back) = ap length word ∙ length-append prefix (sync_bytes ++ back) ∙ ap (λ (x : ℕ). length prefix + x) (length-append sync_bytes back) in
-        let of_sector : sector_bytes ≡ 32 * number + (32 + length more) =
+        let of_sector : sector_size ≡ 32 * number + (32 + length more) =
         sym sector_long ∙ ap length sector_is ∙ length-append gap from_slot ∙ ap (λ (x : ℕ). length gap + x) (length-append (open_slot start) more) ∙ omega (arith, gap_long, slot_long 0xAA995566 start) in
         let here : length prefix_2 ≡ 32 * number = o.alone (length prefix_2) (omega (arith, long, of_more, of_sector)) (word_at flash prefix_2 (back ++ tail) there) in
         absurd (omega (arith, here, long));
@@ -249,7 +249,7 @@ module _ (flash : List ℕ) (number start : ℕ) (o : HasOpenSlot flash number s
   goes = record { gap = []; searching = slot_place start small; none = more_none }
 
   pub none_sector : NoneBegins gap from_slot
-  none_sector = none_before from_slot tail (sym (take-append-drop sector_bytes flash) ∙ ap (λ (x : List ℕ). x ++ tail) sector_is)
+  none_sector = none_before from_slot tail (sym (take-append-drop sector_size flash) ∙ ap (λ (x : List ℕ). x ++ tail) sector_is)
 
   pub sector_history : history_of sector ≡ desync_at (32 * number) start
   sector_history =
@@ -258,7 +258,7 @@ module _ (flash : List ℕ) (number start : ℕ) (o : HasOpenSlot flash number s
       ∙ ap (moved (length gap)) (history_on (open_slot start) more slot_fits' goes ∙ slot_history start small)
       ∙ ap (λ (m : ℕ). desync_at m start) gap_long
 
-  pub sector_going : (part : PartData) (kept : Kept) → is_fallback kept.kind ≡ true → IsGoing part kept NotBegun (desync_at (32 * number) start) sector_bytes
+  pub sector_going : (part : PartData) (kept : Kept) → is_fallback kept.kind ≡ true → IsGoing part kept NotBegun (desync_at (32 * number) start) sector_size
   sector_going part kept e =
       let m : ℕ = 32 * number in
       let first : IsGoing part kept NotBegun [] 0 = record { calm = record { no_stop = refl; off = fallback_off kept [] e; newest = omega arith }; still = inl (record { armed_is = never_armed 0; progress_is = refl }, refl); pending = refl } in
@@ -268,7 +268,7 @@ module _ (flash : List ℕ) (number start : ℕ) (o : HasOpenSlot flash number s
       let iprog : IsGoing part kept NotBegun (iprog_at m start) (m + 24) =
       going_access part kept NotBegun (wbstar_at m start) (access.Write 4 15) (m + 16) (m + 24) (omega arith) wbstar (record { start = refl; shutdown = refl; desync = refl }) ignored (fallback_off kept (iprog_at m start) e) in
       let desync : IsGoing part kept NotBegun (desync_at m start) (m + 32) = going_desync part kept NotBegun (iprog_at m start) (m + 24) (m + 32) (omega arith) iprog (why_none part kept (iprog_at m start) (access.Write 4 13) refl refl) in
-      going_bytes part kept NotBegun (desync_at m start) (m + 32) sector_bytes (omega (arith, o.within)) desync
+      going_bytes part kept NotBegun (desync_at m start) (m + 32) sector_size (omega (arith, o.within)) desync
 
   -- after the first sector a fallback is at rest, and has ignored IPROG
   pub sector_rests : (part : PartData) (kept : Kept) → is_fallback kept.kind ≡ true → AtRest part kept sector
@@ -276,7 +276,7 @@ module _ (flash : List ℕ) (number start : ℕ) (o : HasOpenSlot flash number s
       let searching : is_synced (reading_of sector).place ≡ false =
       ap (λ (x : List ℕ). is_synced (reading_of x).place) sector_is ∙ synced_passed gap from_slot (subst AreBytes sector_is o.fits) none_sector
       ∙ (rest_on part kept (open_slot start) more slot_fits' goes (slot_rests part kept start small e)).searching in
-      rests part kept NotBegun sector (desync_at (32 * number) start) sector_bytes sector_history sector_long searching (sector_going part kept e) refl
+      rests part kept NotBegun sector (desync_at (32 * number) start) sector_size sector_history sector_long searching (sector_going part kept e) refl
 
   pub sector_never : NeverStarts (history_of sector)
   sector_never = subst NeverStarts (sym sector_history) (inr (refl, (refl, tt)), (inl refl, (inl refl, tt)))

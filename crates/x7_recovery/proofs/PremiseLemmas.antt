@@ -2,7 +2,7 @@
 use Rattle.std.proofs.Common.{◌≡◌, ◌≢◌, ◌+◌, ◌*◌, ◌/◌, ◌%◌, ◌<◌, ◌≤◌, get_or, append_assoc, inl, inr, ℕ, zero, suc, true, false, None, List, [], ◌∷◌, ◌++◌, drop, take, length, replicate, ◌-◌, length-append, refl, ap, sym, subst, ◌∙◌, arith}
 use Rattle.std.proofs.lemmas.List.{append-nil, get_or-take, length-replicate}
 use Rattle.std.proofs.Math.Seq.{drop-append_seam, take-append_seam}
-use Rattle.x7_packets.specs.FlashSlot.{sector_bytes}
+use Rattle.x7_packets.specs.FlashSlot.{sector_size}
 use Rattle.x7_words.specs.Word.{AreBytes}
 use Rattle.x7_words.proofs.FlashLemmas.{bytes_replaced}
 use Rattle.x7_part.specs.Part.{PartData}
@@ -67,9 +67,9 @@ empty_ends unit golden =
     let prefix : List ℕ = first_sector (place / unit) ++ golden in
     let filled : List ℕ = filled_to place prefix in
     let size : ℕ = image_size (length golden) 0 in
-    let long : length prefix ≡ sector_bytes + length golden = length-append (first_sector (place / unit)) golden ∙ ap (λ (n : ℕ). n + length golden) (sector_long (place / unit)) in
+    let long : length prefix ≡ sector_size + length golden = length-append (first_sector (place / unit)) golden ∙ ap (λ (n : ℕ). n + length golden) (sector_long (place / unit)) in
     let count : length filled ≡ place = length-append prefix (replicate (place - length prefix) 255) ∙ omega (arith, length-replicate {A = ℕ} (place - length prefix) 255, long, update_after (length golden)) in
-    let whole : place % sector_bytes ≡ 0 = place_whole (length golden) in
+    let whole : place % sector_size ≡ 0 = place_whole (length golden) in
     let more : length (filled ++ []) ≡ place = ap length (append-nil filled) ∙ count in
     drop_all place (filled_to size (filled ++ []))
     (length-append (filled ++ []) (replicate (size - length (filled ++ [])) 255) ∙ omega (arith, length-replicate {A = ℕ} (size - length (filled ++ [])) 255, more, whole))

@@ -6,7 +6,7 @@ use Rattle.std.proofs.lemmas.Bool.{cases_lt}
 use Rattle.std.proofs.lemmas.List.{length-replicate}
 use Rattle.std.proofs.Math.Seq.{drop-append_seam}
 use Rattle.std.specs.List.{repeat}
-use Rattle.x7_packets.specs.FlashSlot.{sector_bytes}
+use Rattle.x7_packets.specs.FlashSlot.{sector_size}
 use Rattle.x7_words.specs.Word.{AreBytes}
 use Rattle.x7_words.proofs.ListLemmas.{all_append}
 use Rattle.x7_packets.specs.Appended.{LacksFirst}
@@ -119,20 +119,20 @@ image_fits unit golden update g u =
 -- ---- places
 
 -- the update begins a sector, after the first sector and the golden stream
-pub place_whole : (golden : ℕ) → place_after_golden golden % sector_bytes ≡ 0
-place_whole golden = elim (cases_lt (sector_from (sector_bytes + golden)) 131072) [
-  | inl l ↦ ap (λ (n : ℕ). n % sector_bytes) (max-eq_left (let m : sector_from (sector_bytes + golden) ≤ 131072 = omega (arith, l) in m))
-  | inr l ↦ ap (λ (n : ℕ). n % sector_bytes) (max-eq_right l) ∙ omega arith
+pub place_whole : (golden : ℕ) → place_after_golden golden % sector_size ≡ 0
+place_whole golden = elim (cases_lt (sector_from (sector_size + golden)) 131072) [
+  | inl l ↦ ap (λ (n : ℕ). n % sector_size) (max-eq_left (let m : sector_from (sector_size + golden) ≤ 131072 = omega (arith, l) in m))
+  | inr l ↦ ap (λ (n : ℕ). n % sector_size) (max-eq_right l) ∙ omega arith
 ]
 
-pub update_after : (golden : ℕ) → sector_bytes + golden ≤ place_after_golden golden
-update_after golden = let m : sector_from (sector_bytes + golden) ≤ place_after_golden golden = le-max_right 131072 (sector_from (sector_bytes + golden)) in omega (arith, m)
+pub update_after : (golden : ℕ) → sector_size + golden ≤ place_after_golden golden
+update_after golden = let m : sector_from (sector_size + golden) ≤ place_after_golden golden = le-max_right 131072 (sector_from (sector_size + golden)) in omega (arith, m)
 
 pub size_after : (golden update : ℕ) → place_after_golden golden + update ≤ image_size golden update
 size_after golden update = omega arith
 
 -- an update's start address is of whole pages of 256, and small, in either unit
-pub start_whole : (unit place : ℕ) → (unit ≡ 1) ⊎ (unit ≡ 256) → place % sector_bytes ≡ 0 → place / unit % 256 ≡ 0
+pub start_whole : (unit place : ℕ) → (unit ≡ 1) ⊎ (unit ≡ 256) → place % sector_size ≡ 0 → place / unit % 256 ≡ 0
 start_whole unit place (inl e) whole = ap (λ (u : ℕ). place / u % 256) e ∙ omega (arith, whole)
 start_whole unit place (inr e) whole = ap (λ (u : ℕ). place / u % 256) e ∙ omega (arith, whole)
 
@@ -156,7 +156,7 @@ free_long : (start : ℕ) → length (free_slots start) ≡ 65504
 unfolding free_slots
 free_long start = repeat_long 2047 (free_slot start) ∙ ap (λ (n : ℕ). 2047 * n) (slot_long 0xFFFFFFFF start)
 
-pub sector_long : (start : ℕ) → length (first_sector start) ≡ sector_bytes
+pub sector_long : (start : ℕ) → length (first_sector start) ≡ sector_size
 sector_long start = length-append (open_slot start) (free_slots start) ∙ omega (arith, slot_long 0xAA995566 start, free_long start)
 
 -- an image begins with its first sector and the golden stream
@@ -178,7 +178,7 @@ image_has unit golden update more =
     let placed : List ℕ = filled_to place prefix in
     let size : ℕ = image_size (length golden) (length update) in
     let end : List ℕ = replicate (size - length (placed ++ update)) 255 in
-    let long : length prefix ≡ sector_bytes + length golden = length-append (first_sector (place / unit)) golden ∙ ap (λ (n : ℕ). n + length golden) (sector_long (place / unit)) in
+    let long : length prefix ≡ sector_size + length golden = length-append (first_sector (place / unit)) golden ∙ ap (λ (n : ℕ). n + length golden) (sector_long (place / unit)) in
     let filled : length placed ≡ place = length-append prefix (replicate (place - length prefix) 255) ∙ omega (arith, length-replicate {A = ℕ} (place - length prefix) 255, long, update_after (length golden)) in (
       end ++ more,
       ap (drop place) (append_assoc (placed ++ update) end more ∙ append_assoc placed update (end ++ more))

@@ -1,6 +1,6 @@
 -- A golden stream that starts does so after updates too.
 use Rattle.std.proofs.Common.{◌≡◌, ◌+◌, ◌-◌, ◌≤◌, inl, inr, ℕ, List, ◌++◌, drop, take, length, refl, ap, sym, ◌∙◌, arith}
-use Rattle.x7_packets.specs.FlashSlot.{sector_bytes}
+use Rattle.x7_packets.specs.FlashSlot.{sector_size}
 use Rattle.x7_words.specs.Flash.{erased_sector}
 use Rattle.x7_words.proofs.FlashLemmas.{length_erased_sector}
 use Rattle.std.proofs.lemmas.Bool.{cases_lt}
@@ -24,11 +24,11 @@ same_prefixes e xs ys m same = elim (cases_lt m (length e)) [
       ap (λ (n : ℕ). take n (e ++ xs)) (sym sum) ∙ take-append-add e xs (m - length e) ∙ ap (λ (x : List ℕ). e ++ x) same ∙ sym (take-append-add e ys (m - length e)) ∙ ap (λ (n : ℕ). take n (e ++ ys)) sum)
 ]
 
-power_moves : (part : PartData) (flash other : List ℕ) (t : AttemptCourse) → StartsAtPower part (with_erased flash) t → take (length t.bytes - sector_bytes) (drop sector_bytes other) ≡ take (length t.bytes - sector_bytes) (drop sector_bytes flash) → StartsAtPower part (with_erased other) t
+power_moves : (part : PartData) (flash other : List ℕ) (t : AttemptCourse) → StartsAtPower part (with_erased flash) t → take (length t.bytes - sector_size) (drop sector_size other) ≡ take (length t.bytes - sector_size) (drop sector_size flash) → StartsAtPower part (with_erased other) t
 power_moves part flash other t s same =
     let at : t.address + length t.bytes ≡ length t.bytes = omega (arith, s.address) in
     let prefixes : take (length t.bytes) (with_erased other) ≡ take (length t.bytes) (with_erased flash) =
-    same_prefixes erased_sector (drop sector_bytes other) (drop sector_bytes flash) (length t.bytes) (ap (λ (n : ℕ). take (length t.bytes - n) (drop sector_bytes other)) length_erased_sector ∙ same ∙ ap (λ (n : ℕ). take (length t.bytes - n) (drop sector_bytes flash)) (sym length_erased_sector)) in
+    same_prefixes erased_sector (drop sector_size other) (drop sector_size flash) (length t.bytes) (ap (λ (n : ℕ). take (length t.bytes - n) (drop sector_size other)) length_erased_sector ∙ same ∙ ap (λ (n : ℕ). take (length t.bytes - n) (drop sector_size flash)) (sym length_erased_sector)) in
     record {
       is = attempt_over part (with_erased flash) (with_erased other) t s.is (in_flash part (with_erased flash) t s)
           (ap (λ (n : ℕ). take n (with_erased other)) at ∙ prefixes ∙ ap (λ (n : ℕ). take n (with_erased flash)) (sym at));

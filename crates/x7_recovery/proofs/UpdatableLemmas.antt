@@ -5,7 +5,7 @@ use Rattle.std.proofs.lemmas.List.{length-replicate, get_or-drop, get_or_append_
 use Rattle.x7_words.proofs.WordLemmas.{word_whole}
 use Rattle.x7_words.specs.Word.{bytes_of_word, word_of_bytes}
 use Rattle.std.proofs.Math.Seq.{drop-append_seam}
-use Rattle.x7_packets.specs.FlashSlot.{sector_bytes, flash_slot}
+use Rattle.x7_packets.specs.FlashSlot.{sector_size, flash_slot}
 use Rattle.x7_boot.specs.Image as image
 use Rattle.x7_boot.specs.Image.{free_slot, free_slots, filled_to, first_sector, image_of, image_size, open_slot, sector_from, slot}
 use Rattle.x7_recovery.proofs.SlotLemmas.{image_begins, place_whole, sector_long, size_after, slot_long, update_after}
@@ -129,12 +129,12 @@ image_updatable golden update limit =
     let long = image_long golden update in
     let within : place + length update ≤ length all = omega (arith, long, size_after (length golden) (length update)) in
     let least : 131072 ≤ place = omega arith in
-    let whole : image_size (length golden) (length update) % sector_bytes ≡ 0 = omega arith in
+    let whole : image_size (length golden) (length update) % sector_size ≡ 0 = omega arith in
     let is : update_place all ≡ place = place_is (place / 1) all (golden ++ b.0) begins (omega (arith, same, within, long, limit)) ∙ same in
     record {
-      size = record { whole = ap (λ n. n % sector_bytes) long ∙ whole; least = omega (arith, within, least); most = omega (arith, long, limit) };
+      size = record { whole = ap (λ n. n % sector_size) long ∙ whole; least = omega (arith, within, least); most = omega (arith, long, limit) };
       slots = record {
-        place = record { whole = ap (λ n. n % sector_bytes) is ∙ place_whole (length golden); least = omega (arith, is, least); most = omega (arith, is, within) };
+        place = record { whole = ap (λ n. n % sector_size) is ∙ place_whole (length golden); least = omega (arith, is, least); most = omega (arith, is, within) };
         leads = leads (place / 1) all (golden ++ b.0) begins;
         one_open = one_open (place / 1) all (golden ++ b.0) begins;
         last_free = others_free (place / 1) all (golden ++ b.0) begins 2046 (omega arith);
@@ -151,12 +151,12 @@ image_place golden update limit =
     place_is (place / 1) (image_of 1 golden update) (golden ++ b.0) begins (omega (arith, same, limit, size_after (length golden) (length update))) ∙ same
 
 -- after the first sector stands the golden stream
-image_golden : (golden update : List ℕ) → (rest : List ℕ) × (drop sector_bytes (image_of 1 golden update) ≡ golden ++ rest)
+image_golden : (golden update : List ℕ) → (rest : List ℕ) × (drop sector_size (image_of 1 golden update) ≡ golden ++ rest)
 image_golden golden update =
     let place = image.place_after_golden (length golden) in
     let b = image_begins 1 golden update in
     let begins : image_of 1 golden update ≡ first_sector (place / 1) ++ (golden ++ b.0) = b.1 ∙ append_assoc (first_sector (place / 1)) golden b.0 in
-    (b.0, ap (drop sector_bytes) begins ∙ ap (λ n. drop n (first_sector (place / 1) ++ (golden ++ b.0))) (sym (sector_long (place / 1))) ∙ drop-append_seam (first_sector (place / 1)) (golden ++ b.0))
+    (b.0, ap (drop sector_size) begins ∙ ap (λ n. drop n (first_sector (place / 1) ++ (golden ++ b.0))) (sym (sector_long (place / 1))) ∙ drop-append_seam (first_sector (place / 1)) (golden ++ b.0))
 
 -- such an image of the full stream of a plan is prepared
 pub image_prepared : (part : PartData) (golden : PlanData) (update stream : List ℕ) → HasImage part golden update → part.start_unit ≡ 1 → IsPrepared (record { part = part; golden = golden; flash = golden_image part golden update; stream = stream })
@@ -170,7 +170,7 @@ image_prepared part golden update stream has unit =
       updatable = subst IsUpdatable (sym same) (image_updatable full update has.fits);
       golden = record {
         rest = stands.0;
-        stands = ap (drop sector_bytes) same ∙ stands.1;
+        stands = ap (drop sector_size) same ∙ stands.1;
         ends = omega (arith, update_after (length full), ap update_place same, image_place full update has.fits);
       };
     }

@@ -2,7 +2,7 @@
 use Rattle.std.proofs.Common.{◌≡◌, ◌≢◌, ℕ, zero, suc, ◌+◌, ◌-◌, ◌*◌, ◌/◌, ◌%◌, ◌<◌, ◌≤◌, inl, inr, false, nat_eq, List, [], ◌∷◌, length, get_or, take, drop, refl, ap, sym, subst, ◌∙◌, arith}
 use Rattle.std.proofs.lemmas.Bool.{cases_eq, cases_lt, cases_order}
 use Rattle.std.proofs.lemmas.List.{get_or-drop, get_or-take}
-use Rattle.x7_words.specs.Flash.{sector_bytes}
+use Rattle.x7_words.specs.Flash.{sector_size}
 use Rattle.x7_words.specs.Word.{word_of_bytes}
 use Rattle.x7_packets.specs.FlashSlot.{flash_slot}
 use Rattle.x7_update.specs.Layout.{CanStandAt, IsUpdatable, HasSize, IsFree, IsNextFreeSlot, IsOpen, first_slot, four_at, open_switch, switch_of}
@@ -56,13 +56,13 @@ back_apart flash = (
 
 module _ (flash found : List ℕ) (l : IsUpdatable flash) (b : IsBetweenSlots flash found) where
   -- a byte after a switch word
-  byte_at : (i m : ℕ) → i < sector_bytes → i % 32 ≡ m → 4 ≤ m → get_or found i 0 ≡ get_or (first_slot flash) m 0
+  byte_at : (i m : ℕ) → i < sector_size → i % 32 ≡ m → 4 ≤ m → get_or found i 0 ≡ get_or (first_slot flash) m 0
   byte_at i m h e k =
       let at : 32 * (i / 32) + m ≡ i = omega arith in
       b.slots i h (omega (arith, e, k)) ∙ ap (λ n. get_or flash n 0) (sym at) ∙ l.slots.leads (i / 32) (omega arith) m k (omega arith)
 
   -- no sync word begins in the first sector
-  pub no_sync : (place : ℕ) → place < sector_bytes → four_at found place ≢ open_switch
+  pub no_sync : (place : ℕ) → place < sector_size → four_at found place ≢ open_switch
   no_sync place h e =
       let e0 : get_or found place 0 ≡ 0xAA = ap (λ w. get_or w 0 0) e in
       let e1 : get_or found (place + 1) 0 ≡ 0x99 = ap (λ w. get_or w 1 0) e in
@@ -112,7 +112,7 @@ module _ (flash found : List ℕ) (l : IsUpdatable flash) (b : IsBetweenSlots fl
 -- ---- a flash that was left can be updated again
 
 -- one whose slots lead to U still, of which one at most is open and the last is free
-updatable_with : (flash found : List ℕ) → IsUpdatable flash → length found ≡ length flash → ((i : ℕ) → i < sector_bytes → 4 ≤ i % 32 → get_or found i 0 ≡ get_or flash i 0)
+updatable_with : (flash found : List ℕ) → IsUpdatable flash → length found ≡ length flash → ((i : ℕ) → i < sector_size → 4 ≤ i % 32 → get_or found i 0 ≡ get_or flash i 0)
     → ((slot other : ℕ) → slot < 2048 → other < 2048 → IsOpen found slot → IsOpen found other → slot ≡ other) → IsFree found 2047 → IsUpdatable found
 updatable_with flash found l size slots one_open last_free =
     let start : four_at found 12 ≡ four_at flash 12 = rw (slots 12 (omega arith) (omega arith), slots 13 (omega arith) (omega arith), slots 14 (omega arith) (omega arith), slots 15 (omega arith) (omega arith)) refl in

@@ -1,7 +1,7 @@
 -- Lemmas on what was verified before a slot is opened.
 use Rattle.std.proofs.Common.{◌≡◌, ℕ, ◌+◌, ◌-◌, ◌*◌, ◌≤◌, inl, inr, IsTrue, List, length, get_or, Option, Result, Ok, Err, OnOk, ap, sym, subst, ◌∙◌, arith}
 use Rattle.std.proofs.lemmas.Bool.{cases_lt}
-use Rattle.x7_words.specs.Flash.{sector_bytes, FlashState, IfKnown, Sees}
+use Rattle.x7_words.specs.Flash.{sector_size, FlashState, IfKnown, Sees}
 use Rattle.x7_update.specs.After.{IsAfterUpdate, IsBetweenSlots, with_stream}
 use Rattle.x7_update.specs.Layout.{CanStandAt, IsUpdatable, HasSize, HasNoOpenSlot, IsNextFreeSlot, IsOpen, open_switch, switch_of, update_place}
 use Rattle.x7_update.specs.Verified.{AllVerified, IsVerified, WasReady}
@@ -55,7 +55,7 @@ still_found old new target attached size bytes found = record {
 }
 
 -- what can be verified still can, after reads alone
-pub can_still_verify : (old new : FlashState) (update : ℕ) (stream buffer after : List ℕ) → new.attached ≡ old.attached → new.extent ≡ old.extent → new.bytes ≡ old.bytes → length after ≡ sector_bytes → CanVerify old update stream buffer → CanVerify new update stream after
+pub can_still_verify : (old new : FlashState) (update : ℕ) (stream buffer after : List ℕ) → new.attached ≡ old.attached → new.extent ≡ old.extent → new.bytes ≡ old.bytes → length after ≡ sector_size → CanVerify old update stream buffer → CanVerify new update stream after
 can_still_verify old new update stream buffer after attached size bytes long can = record {
   attached = attached ∙ can.attached;
   size = subst HasSize (sym size) can.size;

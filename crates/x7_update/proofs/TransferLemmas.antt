@@ -1,6 +1,6 @@
 -- Lemmas on two lists with the same first sector: what holds of the slots of the one holds of those of the other.
 use Rattle.std.proofs.Common.{◌≡◌, ℕ, ◌+◌, ◌*◌, ◌<◌, ◌≤◌, inl, inr, List, Option, None, Some, get_or, refl, ap, sym, subst, ◌∙◌, arith}
-use Rattle.x7_words.specs.Flash.{sector_bytes}
+use Rattle.x7_words.specs.Flash.{sector_size}
 use Rattle.x7_words.specs.Word.{word_of_bytes}
 use Rattle.x7_packets.specs.FlashSlot.{flash_slot}
 use Rattle.x7_update.specs.Layout.{CanStandAt, LeadsToUpdate, IsOpen, IsFree, four_at, switch_of, first_slot, update_place, open_switch}
@@ -8,8 +8,8 @@ use Rattle.x7_update.specs.Fault.{BeginsWell, DiffersAt, IsBadSlotAt, IsGoodSlot
 use Rattle.x7_update.specs.Slots.{OpenAmong, IsTargetIn}
 use Rattle.x7_update.specs.declared.slots.UpdateTarget.{UpdateTarget}
 
-module _ (first all : List ℕ) (same : (i : ℕ) → i < sector_bytes → get_or first i 0 ≡ get_or all i 0) where
-  four_same : (place : ℕ) → place + 4 ≤ sector_bytes → four_at first place ≡ four_at all place
+module _ (first all : List ℕ) (same : (i : ℕ) → i < sector_size → get_or first i 0 ≡ get_or all i 0) where
+  four_same : (place : ℕ) → place + 4 ≤ sector_size → four_at first place ≡ four_at all place
   four_same place h = rw (same place (omega arith), same (place + 1) (omega arith), same (place + 2) (omega arith), same (place + 3) (omega arith)) refl
 
   switch_same : (slot : ℕ) → slot < 2048 → switch_of first slot ≡ switch_of all slot
@@ -38,7 +38,7 @@ module _ (first all : List ℕ) (same : (i : ℕ) → i < sector_bytes → get_o
 
   pub differs_same : (slot place : ℕ) → slot < 2048 → DiffersAt first slot place → DiffersAt all slot place
   differs_same slot place h d =
-      let short : place < sector_bytes = omega (arith, d.is, d.within) in
+      let short : place < sector_size = omega (arith, d.is, d.within) in
       record {
         i = d.i;
         after_switch = d.after_switch;
@@ -49,8 +49,8 @@ module _ (first all : List ℕ) (same : (i : ℕ) → i < sector_bytes → get_o
       }
 
 -- the first sector of the one is that of the other
-module _ (first all : List ℕ) (same : (i : ℕ) → i < sector_bytes → get_or first i 0 ≡ get_or all i 0) where
-  back : (i : ℕ) → i < sector_bytes → get_or all i 0 ≡ get_or first i 0
+module _ (first all : List ℕ) (same : (i : ℕ) → i < sector_size → get_or first i 0 ≡ get_or all i 0) where
+  back : (i : ℕ) → i < sector_size → get_or all i 0 ≡ get_or first i 0
   back i h = sym (same i h)
 
   pub finds_same : (size : ℕ) (target : UpdateTarget) → IsTargetIn size first target → IsTargetIn size all target

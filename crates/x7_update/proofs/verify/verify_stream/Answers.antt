@@ -1,5 +1,5 @@
 use Rattle.std.proofs.Common.{◌≤◌, ◌+◌, ◌*◌, IfErr, sym, ◌∙◌, arith, rules}
-use Rattle.x7_words.specs.Flash.{sector_bytes}
+use Rattle.x7_words.specs.Flash.{sector_size}
 use Rattle.x7_words.proofs.FlashLemmas.{reads_on}
 use Rattle.x7_update.specs.Writing.{HasLateCause}
 use Rattle.x7_update.proofs.VerifyLemmas.{fails_since}
@@ -14,14 +14,14 @@ loop-sector-preserved g c =
     record {
       only = reads_on first mid last _ _ _ c.loop-sector.invariant.only c.verify_sector.ensures.only_reads;
       buffer = c.verify_sector.ensures.length;
-      seen = sees_up_to c.args.stream_place c.args.stream.now c.args.stream_place (c.loop-sector.sector * sector_bytes + sector_bytes) ((c.loop-sector.sector + 1) * sector_bytes) last (omega arith) c.in_ok-verify_sector.ensures.seen;
+      seen = sees_up_to c.args.stream_place c.args.stream.now c.args.stream_place (c.loop-sector.sector * sector_size + sector_size) ((c.loop-sector.sector + 1) * sector_size) last (omega arith) c.in_ok-verify_sector.ensures.seen;
     }
 
 pub returns-clause-seen : goal.returns-clause-seen
 returns-clause-seen g c =
     let first = g.F.Flash.state c.args.flash.now in
-    let end : first.extent ≤ c.loop-sector.sector * sector_bytes = omega (arith, c.size-sector-end.ensures.extent, c.requires.size.whole) in
-    sees_up_to c.args.stream_place c.args.stream.now c.args.stream_place (c.loop-sector.sector * sector_bytes) first.extent (g.F.Flash.state c.loop-sector.flash) end c.loop-sector.invariant.seen
+    let end : first.extent ≤ c.loop-sector.sector * sector_size = omega (arith, c.size-sector-end.ensures.extent, c.requires.size.whole) in
+    sees_up_to c.args.stream_place c.args.stream.now c.args.stream_place (c.loop-sector.sector * sector_size) first.extent (g.F.Flash.state c.loop-sector.flash) end c.loop-sector.invariant.seen
 
 pub returns-in_err-verify_sector-clause-fault : goal.returns-in_err-verify_sector-clause-fault
 returns-in_err-verify_sector-clause-fault g c =

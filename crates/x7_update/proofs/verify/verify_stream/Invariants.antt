@@ -1,5 +1,5 @@
 use Rattle.std.proofs.Common.{◌≡◌, ◌*◌, length}
-use Rattle.x7_words.specs.Flash.{sector_bytes, OnlyReads}
+use Rattle.x7_words.specs.Flash.{sector_size, OnlyReads}
 use Rattle.x7_update.specs.Writing.{SeesWanted}
 use Rattle.x7_update.proofs.verify.verify_stream.Given as goal
 
@@ -8,6 +8,6 @@ invariant-loop-sector g l =
     let f = g.F.Flash in
     record {
       only : OnlyReads (f.state l.fn.flash) (f.state l.flash) (f.found_since l.fn.flash) (f.found_since l.flash);
-      buffer : length l.buffer ≡ sector_bytes;
-      seen : SeesWanted l.stream_place l.stream l.stream_place (l.sector * sector_bytes) (f.state l.flash);
+      buffer : length l.buffer ≡ sector_size;
+      seen : SeesWanted l.stream_place l.stream l.stream_place (l.sector * sector_size) (f.state l.flash);
     }

@@ -1,5 +1,5 @@
 use Rattle.std.proofs.Common.{◌≡◌, ◌*◌, ◌+◌, ◌≤◌, ℕ, List, Some, length, refl, subst, sym, arith}
-use Rattle.x7_words.specs.Flash.{sector_bytes, IsTorn, erased, erased_sector}
+use Rattle.x7_words.specs.Flash.{sector_size, IsTorn, erased, erased_sector}
 use Rattle.x7_words.proofs.FlashLemmas.{bytes_erased_sector, length_erased_sector}
 use Rattle.x7_update.specs.Writing.{ErasedTo, KeepsBelow}
 use Rattle.x7_update.proofs.ByteLemmas.{bytes_on, bytes_write}
@@ -15,24 +15,24 @@ loop-sector-preserved g c =
     let place = c.args.place in
     let sector = c.loop-sector.sector in
     let inv = c.loop-sector.invariant in
-    let from : place ≤ sector * sector_bytes = omega arith in
-    let inside : (all : List ℕ) → mid.bytes ≡ Some all → sector * sector_bytes + sector_bytes ≤ length all =
+    let from : place ≤ sector * sector_size = omega arith in
+    let inside : (all : List ℕ) → mid.bytes ≡ Some all → sector * sector_size + sector_size ≤ length all =
     λ all e. omega (arith, known_at mid.bytes (λ all. mid.extent ≡ length all) (g.met.F.Flash.counted c.loop-sector.flash) all e, inv.only.extent, c.size-sector-end.ensures.extent) in
-    let within : (all : List ℕ) → first.bytes ≡ Some all → sector * sector_bytes + sector_bytes ≤ length all =
+    let within : (all : List ℕ) → first.bytes ≡ Some all → sector * sector_size + sector_size ≤ length all =
     λ all e. omega (arith, known_at first.bytes (λ all. first.extent ≡ length all) (g.met.F.Flash.counted c.args.flash.now) all e, c.size-sector-end.ensures.extent) in
-    let next : sector * sector_bytes + sector_bytes ≡ (sector + 1) * sector_bytes = omega arith in
+    let next : sector * sector_size + sector_size ≡ (sector + 1) * sector_size = omega arith in
     record {
       only = writes_on first mid last inv.only c.erase.ensures.only;
-      erased = becomes_on first mid last (ErasedTo place (sector * sector_bytes)) (λ all now. now ≡ erased sector all) (ErasedTo place ((sector + 1) * sector_bytes))
+      erased = becomes_on first mid last (ErasedTo place (sector * sector_size)) (λ all now. now ≡ erased sector all) (ErasedTo place ((sector + 1) * sector_size))
           (λ all mid now e so is. subst (λ n. ErasedTo place n all now) next
-          (subst (ErasedTo place (sector * sector_bytes + sector_bytes) all) (sym is) (erased_more place sector all mid from (omega (arith, within all e, so.size)) so)))
+          (subst (ErasedTo place (sector * sector_size + sector_size) all) (sym is) (erased_more place sector all mid from (omega (arith, within all e, so.size)) so)))
           inv.erased (becomes_of mid last (erased sector) (λ all now. now ≡ erased sector all) c.in_ok-erase.ensures.erased (λ all e. refl));
-      any_moment = moments_on first mid last _ _ _ (ErasedTo place (sector * sector_bytes)) (IsTorn (sector * sector_bytes) erased_sector) (KeepsBelow place)
-          (λ all mid found e so torn. torn_keeps place (sector * sector_bytes) erased_sector all mid found from (erased_keeps place (sector * sector_bytes) all mid so) torn)
-          inv.any_moment (becomes_leaves first mid (ErasedTo place (sector * sector_bytes)) inv.erased)
-          (write_moments (sector * sector_bytes) (λ _. erased_sector) mid last _ _ c.erase.result (λ all e. omega (arith, length_erased_sector, inside all e)) c.erase.ensures.erased c.erase.ensures.torn c.erase.ensures.passes);
+      any_moment = moments_on first mid last _ _ _ (ErasedTo place (sector * sector_size)) (IsTorn (sector * sector_size) erased_sector) (KeepsBelow place)
+          (λ all mid found e so torn. torn_keeps place (sector * sector_size) erased_sector all mid found from (erased_keeps place (sector * sector_size) all mid so) torn)
+          inv.any_moment (becomes_leaves first mid (ErasedTo place (sector * sector_size)) inv.erased)
+          (write_moments (sector * sector_size) (λ _. erased_sector) mid last _ _ c.erase.result (λ all e. omega (arith, length_erased_sector, inside all e)) c.erase.ensures.erased c.erase.ensures.torn c.erase.ensures.passes);
       bytes = bytes_on first mid last _ _ _ inv.bytes
-          (bytes_write (sector * sector_bytes) (λ _. erased_sector) mid last _ _ c.erase.result (λ _. bytes_erased_sector) (λ all e. omega (arith, length_erased_sector, inside all e)) c.erase.ensures.erased c.erase.ensures.torn c.erase.ensures.passes);
+          (bytes_write (sector * sector_size) (λ _. erased_sector) mid last _ _ c.erase.result (λ _. bytes_erased_sector) (λ all e. omega (arith, length_erased_sector, inside all e)) c.erase.ensures.erased c.erase.ensures.torn c.erase.ensures.passes);
     }
 
 pub returns-in_err-erase-clause-writes : goal.returns-in_err-erase-clause-writes
@@ -43,16 +43,16 @@ returns-in_err-erase-clause-writes g c =
     let place = c.args.place in
     let sector = c.loop-sector.sector in
     let inv = c.loop-sector.invariant in
-    let from : place ≤ sector * sector_bytes = omega arith in
-    let within : (all : List ℕ) → mid.bytes ≡ Some all → sector * sector_bytes + length erased_sector ≤ length all =
+    let from : place ≤ sector * sector_size = omega arith in
+    let within : (all : List ℕ) → mid.bytes ≡ Some all → sector * sector_size + length erased_sector ≤ length all =
     λ all e. omega (arith, length_erased_sector, known_at mid.bytes (λ all. mid.extent ≡ length all) (g.met.F.Flash.counted c.loop-sector.flash) all e, inv.only.extent, c.size-sector-end.ensures.extent) in
     record {
-      any_moment = moments_on first mid last _ _ _ (ErasedTo place (sector * sector_bytes)) (IsTorn (sector * sector_bytes) erased_sector) (KeepsBelow place)
-          (λ all mid found e so torn. torn_keeps place (sector * sector_bytes) erased_sector all mid found from (erased_keeps place (sector * sector_bytes) all mid so) torn)
-          inv.any_moment (becomes_leaves first mid (ErasedTo place (sector * sector_bytes)) inv.erased)
-          (write_moments (sector * sector_bytes) (λ _. erased_sector) mid last _ _ c.erase.result within c.erase.ensures.erased c.erase.ensures.torn c.erase.ensures.passes);
+      any_moment = moments_on first mid last _ _ _ (ErasedTo place (sector * sector_size)) (IsTorn (sector * sector_size) erased_sector) (KeepsBelow place)
+          (λ all mid found e so torn. torn_keeps place (sector * sector_size) erased_sector all mid found from (erased_keeps place (sector * sector_size) all mid so) torn)
+          inv.any_moment (becomes_leaves first mid (ErasedTo place (sector * sector_size)) inv.erased)
+          (write_moments (sector * sector_size) (λ _. erased_sector) mid last _ _ c.erase.result within c.erase.ensures.erased c.erase.ensures.torn c.erase.ensures.passes);
       bytes = bytes_on first mid last _ _ _ inv.bytes
-          (bytes_write (sector * sector_bytes) (λ _. erased_sector) mid last _ _ c.erase.result (λ _. bytes_erased_sector) within c.erase.ensures.erased c.erase.ensures.torn c.erase.ensures.passes);
+          (bytes_write (sector * sector_size) (λ _. erased_sector) mid last _ _ c.erase.result (λ _. bytes_erased_sector) within c.erase.ensures.erased c.erase.ensures.torn c.erase.ensures.passes);
       only = writes_on first mid last inv.only c.erase.ensures.only;
     }
 
@@ -64,6 +64,6 @@ returns-clause-erased g c =
     let first = g.F.Flash.state c.args.flash.now in
     let place = c.args.place in
     let sector = c.loop-sector.sector in
-    let end : first.extent ≤ sector * sector_bytes = omega (arith, c.size-sector-end.ensures.extent, c.requires.size) in
-    becomes_map first (g.F.Flash.state c.loop-sector.flash) (ErasedTo place (sector * sector_bytes)) (ErasedTo place first.extent)
-    (λ all now e so. erased_all place (sector * sector_bytes) first.extent all now end so) c.loop-sector.invariant.erased
+    let end : first.extent ≤ sector * sector_size = omega (arith, c.size-sector-end.ensures.extent, c.requires.size) in
+    becomes_map first (g.F.Flash.state c.loop-sector.flash) (ErasedTo place (sector * sector_size)) (ErasedTo place first.extent)
+    (λ all now e so. erased_all place (sector * sector_size) first.extent all now end so) c.loop-sector.invariant.erased

@@ -1,5 +1,5 @@
 use Rattle.std.proofs.Common.{◌*◌}
-use Rattle.x7_words.specs.Flash.{sector_bytes, OnlyWrites}
+use Rattle.x7_words.specs.Flash.{sector_size, OnlyWrites}
 use Rattle.x7_update.specs.Writing.{AtAnyMoment, Becomes, ErasedTo, KeepsBelow, StaysBytes}
 use Rattle.x7_update.proofs.write.erase_from.Given as goal
 
@@ -8,7 +8,7 @@ invariant-loop-sector g l =
     let f = g.F.Flash in
     record {
       only : OnlyWrites (f.state l.fn.flash) (f.state l.flash);
-      erased : Becomes (f.state l.fn.flash) (f.state l.flash) (ErasedTo l.place (l.sector * sector_bytes));
+      erased : Becomes (f.state l.fn.flash) (f.state l.flash) (ErasedTo l.place (l.sector * sector_size));
       any_moment : AtAnyMoment (f.state l.fn.flash) (f.state l.flash) (f.found_since l.fn.flash) (f.found_since l.flash) (KeepsBelow l.place);
       bytes : AtAnyMoment (f.state l.fn.flash) (f.state l.flash) (f.found_since l.fn.flash) (f.found_since l.flash) StaysBytes;
     }
