@@ -4,7 +4,7 @@ ghost use Rattle.x7_flow.specs.Standing.{FramesFit};
 ghost use Rattle.x7_engine.specs.Kept.{on_the_bench};
 ghost use Rattle.x7_engine.specs.ReadBuffer.{dropping};
 ghost use Rattle.x7_engine.specs.declared.stop.StopCause.{StopCause};
-ghost use Rattle.x7_engine.specs.Standing.{CanBeGiven, DeviceState, DeviceStandsFor, NoWordDue, fed_more, fed_of, taken_in};
+ghost use Rattle.x7_engine.specs.Standing.{CanBeGiven, DeviceState, DeviceStandsFor, NoWordDue, answer_at_stop, fed_more, fed_of, taken_in};
 ghost use Rattle.x7_engine.specs.Undo.{AreEqual, Back, IsUndoOf, SavesDevice, TookFewSince, device_saved};
 ghost use Rattle.x7_engine.specs.Past.{AnswersFor, OfPast, TakesJust, prefix_taken, stop_at, HasPast, Past, later};
 
