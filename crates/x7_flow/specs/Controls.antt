@@ -1,7 +1,6 @@
 -- The registers that decide what a word of frame data does: MASK and the registers under it, and IDCODE (UG470,
 -- configuration registers). A history stands with its newest access first.
-use Rattle.std.specs.Prelude.{ℕ, ◌-◌, ◌%◌, ◌^◌, ◌==◌, ◌&&◌, ◌||◌, Bool, false, not, if◌then◌else◌, [], ◌∷◌, bit_and, bit_or}
-use Rattle.x7_words.specs.Word.{field_of}
+use Rattle.std.specs.Prelude.{ℕ, ◌-◌, ◌%◌, ◌^◌, ◌==◌, ◌&&◌, ◌||◌, Bool, false, if◌then◌else◌, [], ◌∷◌, bit_and, bit_or}
 use Rattle.x7_packets.specs.History.{Access, Write, History, last_word}
 use Rattle.x7_regs.specs.declared.register.Reg.TheVariants.{Ctl0, Idcode, Mask}
 use Rattle.x7_regs.specs.Register.{number_of}

@@ -1,5 +1,5 @@
 -- Writes of whole frames, and copies, after a FAR load (UG470, frame data input and multi-frame write registers).
-use Rattle.std.specs.Prelude.{◌≡◌, ℕ, ◌<◌, ◌%◌, ◌^◌, true, List, [], ◌∷◌, ◌++◌, length, Some}
+use Rattle.std.specs.Prelude.{◌≡◌, ℕ, ◌<◌, true, List, [], ◌∷◌, ◌++◌, length, Some}
 use Rattle.std.specs.List.{AllByRecursion, flat_map}
 use Rattle.x7_packets.specs.History.{History, command_held}
 use Rattle.x7_regs.specs.declared.command.Command.TheVariants as command

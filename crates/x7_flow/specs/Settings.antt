@@ -1,6 +1,6 @@
 -- What decides whether an access concerns frames: whether the device's IDCODE was written, MASK, CTL0 and CMD (UG470,
 -- configuration registers).
-use Rattle.std.specs.Prelude.{◌≡◌, ℕ, ◌%◌, ◌^◌, ◌==◌, ◌||◌, ◌&&◌, not, Bool, true, if◌then◌else◌, [], ◌∷◌}
+use Rattle.std.specs.Prelude.{◌≡◌, ℕ, ◌==◌, ◌||◌, ◌&&◌, not, Bool, true, if◌then◌else◌, [], ◌∷◌}
 use Rattle.x7_part.specs.Part.{PartData}
 use Rattle.x7_packets.specs.History.{Access, Write, History, command_held, written}
 use Rattle.x7_regs.specs.declared.command.Command.TheVariants as command

@@ -1,7 +1,7 @@
 -- The fields of a scan, and what it says (this project's profile of SVF). After the number of bits come the fields, in
 -- any order and each at most once: a field's name, `(`, hexadecimal digits, at least one, which blanks may
 -- part, and `)`.
-use Rattle.std.specs.Prelude.{ℕ, ◌+◌, ◌*◌, ◌^◌, ◌==◌, ◌||◌, ◌&&◌, nat_le, nat_lt, Bool, true, false, if◌then◌else◌, List, [], ◌∷◌, ◌++◌, Option, Some, None, codes, length}
+use Rattle.std.specs.Prelude.{ℕ, ◌+◌, ◌*◌, ◌^◌, ◌==◌, ◌&&◌, nat_le, nat_lt, Bool, true, false, if◌then◌else◌, List, [], ◌∷◌, ◌++◌, Option, Some, None, codes, length}
 use Rattle.std.specs.List.{list_all}
 use Rattle.x7_words.specs.Characters.{digit_number, is_hex_digit}
 use Rattle.x7_svf.specs.Token.{Token, Word, Open, Close, End}

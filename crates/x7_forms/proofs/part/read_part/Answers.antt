@@ -1,4 +1,4 @@
-use Rattle.std.proofs.Common.{ℕ, List, [], ◌∷◌, Ok, Err, ap, inl}
+use Rattle.std.proofs.Common.{[], ◌∷◌, Ok, Err, ap, inl}
 use Rattle.x7_forms.specs.Event.{event_of}
 use Rattle.x7_forms.specs.Known.{part_by, part_event, part_limit, part_known, whole_known, with_inputs}
 use Rattle.x7_part.specs.PartFile.{part_in}
