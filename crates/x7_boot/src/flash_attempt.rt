@@ -12,7 +12,7 @@ ghost use Rattle.x7_boot.specs.Image.{flash_limit};
 ghost use Rattle.x7_boot.specs.Pages.{ArePages};
 ghost use Rattle.x7_boot.specs.declared.attempt.Ending.TheVariants as ending;
 
-use crate::attempt::{Ending, AttemptStep, take_page};
+use crate::attempt::{AttemptStep, Ending, take_page};
 use crate::cache::PageCache;
 use crate::fault::BootFault;
 use crate::pages::PAGE_SIZE;

@@ -35,7 +35,7 @@ fn say_key_in_row<'x, E: Sink>(
     key: &'x str,
     row: u32,
 ) -> Result<(), Failed>
-    ensures { PutsOrFails (E.state err.old) 
+    ensures { PutsOrFails (E.state err.old)
         (codes "x7: bad part " ++ (name.now ++ (reason.now ++ (key.now ++ (codes " in row " ++ (decimal row ++ codes "\n")))))) (E.state err.new) }
 {
     let mut buffer = Buffer::new();

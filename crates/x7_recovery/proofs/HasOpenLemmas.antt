@@ -157,11 +157,11 @@ module _ (flash : List ℕ) (number : ℕ) (l : IsUpdatable flash) (within : num
   room : 32 * number + 4 ≤ length flash
   room = omega (arith, within, l.size.least)
 
-  spent_between : IsBetweenSlots flash spent
-  spent_between = between_spent flash spent l.slots (spends number within is refl)
+  switched_between : IsBetweenSlots flash spent
+  switched_between = between_spent flash spent l.slots (spends number within is refl)
 
   pub updatable_opened : AreBytes (take sector_size flash) → HasOpenSlot flash number (update_place flash)
-  updatable_opened fits = opened flash spent flash number l spent_between within (sym (length_switched number spent_switch flash refl room)) (λ i h. sym (switched_others number spent_switch flash refl room i h)) is fits
+  updatable_opened fits = opened flash spent flash number l switched_between within (sym (length_switched number spent_switch flash refl room)) (λ i h. sym (switched_others number spent_switch flash refl room i h)) is fits
 
 -- ---- a flash after an update
 

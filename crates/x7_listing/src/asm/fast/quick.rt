@@ -198,10 +198,16 @@ fn put_bytes(out: &mut Vec<u8>, text: &[u8; LOOK_SIZE]) -> Option<WholeLines>
     let prefix = prefix_of_hex(&bytes_digits(text));
     if prefix.digit_count == FULL_DIGITS && text[BYTES_SIZE + FULL_DIGITS] == b'\n' {
         put(out, &prefix.bytes);
-        return Some(WholeLines { size: BYTES_SIZE + FULL_DIGITS + 1, count: 1 });
+        return Some(WholeLines {
+            size: BYTES_SIZE + FULL_DIGITS + 1,
+            count: 1,
+        });
     }
     let count = prefix.digit_count / 2;
-    if count == 0 || prefix.digit_count != 2 * count || text[BYTES_SIZE + prefix.digit_count] != b'\n' {
+    if count == 0
+        || prefix.digit_count != 2 * count
+        || text[BYTES_SIZE + prefix.digit_count] != b'\n'
+    {
         return None;
     }
     let end = out.len() + count;
@@ -229,10 +235,14 @@ fn put_write_line(out: &mut Vec<u8>, text: &[u8; LOOK_SIZE]) -> Option<WholeLine
     ensures { AppendsFoundLines text.now out.old out.new result }
 {
     let space = place_of(b' ', u8x16::from_slice(&text[WRITE_SIZE..]));
-    if space > 16 || !is_same(&text[..WRITE_SIZE], b"write ") || text[BESIDE_NAME_SIZE + space] != b'\n' {
+    if space > 16
+        || !is_same(&text[..WRITE_SIZE], b"write ")
+        || text[BESIDE_NAME_SIZE + space] != b'\n'
+    {
         return None;
     }
-    let Some((register, count)) = type1_at(&text[WRITE_SIZE..BESIDE_NAME_SIZE + space], space) else {
+    let Some((register, count)) = type1_at(&text[WRITE_SIZE..BESIDE_NAME_SIZE + space], space)
+    else {
         return None;
     };
     put_word_bytes(out, type1_write_header(register, count));
