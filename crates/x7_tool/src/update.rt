@@ -1,5 +1,5 @@
 //! The command `update`: a flash gets another update stream, and may lose its power at any moment.
-ghost use Rattle.std.specs.Prelude.{◌≡◌, Some, false};
+ghost use Rattle.std.specs.Prelude.{◌≡◌, ℕ, List, Some, false};
 ghost use Rattle.x7_forms.specs.Form.{UpdatingFlash};
 ghost use Rattle.x7_forms.specs.Event.{event_of};
 ghost use Rattle.x7_forms.specs.Step.{seen};
@@ -7,6 +7,7 @@ ghost use Rattle.x7_tool.specs.Leaving.{UsesFlash};
 ghost use Rattle.x7_tool.specs.Outcome.{update_event};
 ghost use Rattle.x7_tool.specs.Outside.{sources};
 ghost use Rattle.x7_tool.specs.Run.{AnsweredSilently};
+ghost use Rattle.x7_update.specs.declared.fault.UpdateFault.TheVariants.{Failed};
 
 use crate::attach::open_flash;
 use crate::stream::read_stream;
@@ -15,16 +16,25 @@ use x7_forms::{InputFault, Refusal, Why};
 use x7_update::UpdateFault;
 use x7_words::{Flash, Inputs};
 
+/// A write of the flash failed, or a read.
+fn failed<'w>(flash: &'w str, writing: bool) -> Refusal<'w>
+    ensures { (stream : List ℕ) → event_of result ≡ update_event (record { flash = flash.now; stream = stream }) (Failed writing) }
+{
+    if writing {
+        return Refusal::unnamed(Why::WriteFault);
+    }
+    Refusal {
+        reason: Why::ReadFault,
+        name: flash,
+    }
+}
+
 /// Why a flash wasn't updated.
 fn refusal_of<'w>(flash: &'w str, stream: &'w str, fault: UpdateFault) -> Refusal<'w>
     ensures { event_of result ≡ update_event (record { flash = flash.now; stream = stream.now }) fault }
 {
     match fault {
-        UpdateFault::Failed { writing: true } => Refusal::unnamed(Why::WriteFault),
-        UpdateFault::Failed { writing: false } => Refusal {
-            reason: Why::ReadFault,
-            name: flash,
-        },
+        UpdateFault::Failed { writing } => failed(flash, writing),
         UpdateFault::TooLong => Refusal {
             reason: Why::BadInput(InputFault::Long),
             name: stream,
