@@ -1,5 +1,5 @@
 -- What may end a command, and what its output holds then (this project's choice).
-use Rattle.std.specs.Prelude.{◌≡◌, ◌<◌, ◌≤◌, ◌+◌, ℕ, List, [], ◌∷◌, ◌++◌, length, Option, None, Some, Result, Ok, Err, Bool, true, false, ◌⊎◌}
+use Rattle.std.specs.Prelude.{◌≡◌, ◌<◌, ◌≤◌, ℕ, List, [], ◌∷◌, ◌++◌, length, Option, None, Some, Result, Ok, Err, Bool, true, false, ◌⊎◌}
 use Rattle.x7_words.specs.Flash.{FlashState, IfKnown}
 use Rattle.x7_words.specs.Input.{AsksAtMost, InputsState, InputsStay}
 use Rattle.x7_boot.specs.Image.{flash_limit}

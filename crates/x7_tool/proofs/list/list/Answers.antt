@@ -214,7 +214,7 @@ returns-in_err-put_turn g c = rw (handed_on c.from_residual-in_err-put_turn.resu
           let err : (left : List ℕ) → AreBytes (t.content ++ (piece ++ left)) → PutsPrefix (appended old t.line) (listing_of (t.content ++ (piece ++ left))) now
           = λ left fits. c.in_err-put_turn.ensures.prefix (appended old t.line) t.content left t.lists fits in
           ends_same (with_inputs contents flash) C stream Full old now r writing_failed h.0
-          (write_failed contents flash C stream taken piece piece c.loop-lister.lister (i.state c.next_turn.new.inputs).rest Full old (o.state c.loop-lister.out).written now refl sel risen t c.are_bytes-2.ensures err)
+          (write_failed contents flash C stream taken piece piece c.loop-lister.lister (i.state c.next_turn.new.inputs).rest Full old (o.state c.loop-lister.out).written now refl sel risen t c.are_bytes-in-loop-lister.ensures err)
     ] in
     let n = c.in_ok-turn.turn.count in
     let rest = (i.state c.next_turn.new.inputs).rest in
