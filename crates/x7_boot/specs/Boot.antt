@@ -5,7 +5,7 @@
 --     phase 7                  the boot has started
 --     IPROG                    an attempt at the start address in WBSTAR; after 16 attempts that all ended so, a loop
 --     a failure                a fallback at address 0; the boot stops where the attempt is one, or CTL0 forbids it
-use Rattle.std.specs.Prelude.{◌≡◌, ℕ, ◌+◌, ◌*◌, ◌==◌, ◌||◌, nat_le, Bool, if◌then◌else◌, List, [], ◌∷◌, length, map, reverse, None}
+use Rattle.std.specs.Prelude.{◌≡◌, ℕ, ◌+◌, ◌*◌, ◌==◌, ◌||◌, nat_le, if◌then◌else◌, List, [], ◌∷◌, length, map, reverse, None}
 use Rattle.x7_words.specs.Word.{field_of}
 use Rattle.x7_part.specs.Part.{PartData}
 use Rattle.x7_regs.specs.Control.{forbids_fallback}

@@ -1,5 +1,5 @@
 -- Scripts: the orders to a session, a line each (this project's choice).
-use Rattle.std.specs.Prelude.{◌≡◌, ◌≢◌, ℕ, ◌+◌, ◌<◌, ◌^◌, ◌==◌, Bool, true, not, List, [], ◌∷◌, ◌++◌, length, map, codes, decimal, Result, Ok, Err}
+use Rattle.std.specs.Prelude.{◌≡◌, ◌≢◌, ℕ, ◌+◌, ◌<◌, ◌^◌, Bool, true, not, List, ◌∷◌, ◌++◌, length, map, codes, decimal, Result, Ok, Err}
 use Rattle.std.specs.List.{AllByRecursion, filter}
 use Rattle.x7_text.specs.Digits.{hex_word}
 use Rattle.x7_text.specs.Lines.{means_nothing, split}

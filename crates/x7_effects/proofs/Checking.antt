@@ -3,7 +3,7 @@ use Rattle.std.specs.Prelude.{◌≡◌, ℕ, ◌+◌, ◌%◌, ◌^◌, ◌==�
 use Rattle.std.specs.List.{AllByRecursion}
 use Rattle.x7_packets.specs.History as access
 use Rattle.x7_packets.specs.History.{Access, History, command_held, executed_by, is_command, writes}
-use Rattle.x7_crc.specs.Check.{check_after, check_after_one}
+use Rattle.x7_crc.specs.Check.{check_after_one}
 use Rattle.x7_crc.specs.RunningCheck.{running_check}
 use Rattle.x7_effects.proofs.Items.{Item, Noop, Dummy, Write, WriteLong, Read, ReadLong, IsItem, item_words}
 

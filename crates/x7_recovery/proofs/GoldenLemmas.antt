@@ -4,10 +4,9 @@ use Rattle.x7_packets.specs.FlashSlot.{sector_size}
 use Rattle.x7_words.specs.Flash.{erased_sector}
 use Rattle.x7_words.proofs.FlashLemmas.{length_erased_sector, get_or_erased_sector, bytes_erased_sector}
 use Rattle.std.specs.Prelude.{slice_range}
-use Rattle.std.proofs.lemmas.List.{length-replicate, get_or-take, get_or-drop, get_or_append_left, get_or-append_right, ext_get_or, take-append-le}
+use Rattle.std.proofs.lemmas.List.{get_or-take, get_or-drop, get_or_append_left, get_or-append_right, ext_get_or, take-append-le}
 use Rattle.std.proofs.Math.Seq.{take-append_seam, take-length, drop-append_seam}
 use Rattle.std.proofs.lemmas.Bool.{cases_lt}
-use lib.ListN.{get_or-replicate}
 use Rattle.x7_words.specs.Word.{AreBytes}
 use Rattle.x7_words.proofs.ListLemmas.{all_append, all_back, all_prefix, all_take}
 use Rattle.x7_packets.specs.Appended.{moved}
@@ -39,7 +38,6 @@ use Rattle.x7_update.proofs.LawLemmas.{no_sync}
 use Rattle.x7_recovery.specs.Golden.{BootsAlike, GoldenStarts, HaveSameGolden, IsPreparedAny, LeadsNowhere, StartsAlike, StartsAsPlanned, StartsAtPower, UpdatingAny, as_after, as_before, golden, with_erased}
 use Rattle.x7_recovery.specs.Recovery.{IsPrepared, Updating}
 use Rattle.x7_recovery.proofs.FullAttemptLemmas.{StartsWith, full_starts}
-use Rattle.x7_recovery.proofs.SlotLemmas.{fill_fits}
 
 -- ---- no sync word begins in the first sector
 

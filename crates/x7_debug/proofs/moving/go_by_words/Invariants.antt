@@ -1,4 +1,4 @@
-use Rattle.std.proofs.Common.{◌≡◌, ◌≤◌, ◌-◌}
+use Rattle.std.proofs.Common.{◌≤◌, ◌-◌}
 use Rattle.x7_debug.specs.Journal.{records_of}
 use Rattle.x7_debug.specs.Moving.{ComesForward}
 use Rattle.x7_debug.proofs.JournalLemmas.{Reaches}

@@ -1,4 +1,4 @@
-use Rattle.std.proofs.Common.{◌≡◌, ℕ, List, [], ◌∷◌, ◌++◌, ◌+◌, None, arith, drop, length, length-append, length-take-le, map, string_bytes, refl, ◌∙◌, ap}
+use Rattle.std.proofs.Common.{◌≡◌, [], ◌∷◌, ◌++◌, ◌+◌, None, arith, drop, length, length-append, length-take-le, map, string_bytes, ◌∙◌, ap}
 use Rattle.x7_words.proofs.InputLemmas.{few_at, few_more, few_on, stays_at, stays_on}
 use Rattle.x7_forms.specs.Turn.{play_turn_size}
 use Rattle.x7_forms.specs.Event.{event_of}
