@@ -68,7 +68,7 @@ impl AsmLines {
     }
 
     /// Appends the bytes of line `n`, counted from 1, which is no header's, and makes room for those of the next. Where
-    /// there was room for those of line `n`, memory is wanting only once they are read.
+    /// there was room for those of line `n`, memory is wanting only once that line is read.
     fn put_one(&mut self, n: u64, line: &[u8]) -> Result<(), AsmFault>
         ensures reads { OnOk result (ReadsNext self.old self.new n line.now) }
         ensures room { OnOk result (HasLineRoom self.new) }
