@@ -1,4 +1,5 @@
-//! Asks a large part ten million questions of one kind, and as many of a sorted list: bench/asks times them.
+//! Asks a large part ten million questions of each kind that is named; `sorted` searches a sorted list as often.
+//! bench/asks times them.
 #![tactic(auto)]
 
 use std::alloc::{AllocError, Global};
@@ -45,6 +46,7 @@ fn ask(part: &Part, kind: &str, addresses: &[u32], rank: u32, far: u32) -> u64 {
         "next" => u64::from(part.next(far).unwrap_or(0)),
         "slot_after" => slot_after(part, far, rank),
         "slots_from" => slots_from(part, far),
+        // any other kind, as `none` of bench/asks, asks nothing: the bare loop
         _ => 0,
     }
 }

@@ -15,7 +15,7 @@ use Rattle.x7_packets.specs.PacketWords.{dummy_word, sync_word}
 use Rattle.x7_words.specs.Flash.{erased_byte}
 pub use Rattle.x7_words.specs.Flash.{flash_limit}
 
--- the first place at or after this one at which a sector begins
+-- the first place at or after `place` at which a sector begins
 abbrev pub sector_from : ℕ → ℕ
 sector_from place = (place + (sector_size - 1)) / sector_size * sector_size
 

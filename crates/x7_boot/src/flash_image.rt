@@ -9,7 +9,7 @@ use x7_packets::{DUMMY_WORD, FLASH_SLOT_COUNT, SYNC_WORD, flash_slot};
 use x7_part::Part;
 use x7_words::{ERASED_BYTE, FLASH_LIMIT, NoMemory, SECTOR_SIZE, bytes_of};
 
-/// The first place at or after this one at which a sector begins.
+/// The first place at or after `place` at which a sector begins.
 fn sector_from(place: u64) -> u64
     requires { place ≤ flash_limit }
     ensures value { result ≡ sector_from place }

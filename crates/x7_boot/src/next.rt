@@ -83,7 +83,7 @@ pub(crate) fn next_by(device: &Device, kind: Kind, number: u32, ending: Ending) 
     }
 }
 
-/// What the next attempt, of this kind, keeps over the reset of the device with which this one ended.
+/// What an attempt of this kind keeps over the reset of `device`, with which the attempt before it ended.
 fn kept_after(device: &Device, kind: Kind) -> Kept
     ensures kind { result.kind ≡ kind }
     ensures kept { (part : PartData) (t : AttemptCourse) → IsDeviceOf part device.now t → result ≡ kept_after part t.kept t.wrapped t.bytes kind }

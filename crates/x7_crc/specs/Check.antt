@@ -31,12 +31,12 @@ bits_of_writes (w ∷ ws) = bits_of_write w.register w.word ++ bits_of_writes ws
 unfoldable pub dividend : ℕ → List Bool → ℕ
 dividend before bits = bit_xor (mirrored 32 before * 2 ^ length bits) (from_highest bits * 2 ^ 32)
 
--- the check of writes that begins with the check `before`
+-- the check after writes, from the check `before` on
 unfoldable pub check_after : ℕ → List RegisterWrite → ℕ
 check_after before writes =
     mirrored 32 (remainder generator 32 (length (bits_of_writes writes)) (dividend before (bits_of_writes writes)))
 
--- `check` is the check of writes that begin with the check `before`: the remainder of their bits
+-- `check` is the check after writes, from the check `before` on: the remainder of their bits
 abbrev pub IsCheckAfter : ℕ → List RegisterWrite → ℕ → Type 0
 IsCheckAfter before writes check = IsRemainder (dividend before (bits_of_writes writes)) generator 32 (mirrored 32 check)
 

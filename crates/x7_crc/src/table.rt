@@ -95,7 +95,7 @@ fn word_entries(tables: &[[u32; 256]; 4], bit_count: u32, check: u32) -> u32
 }
 
 /// The check of one byte, `index`, after the bits of 0 that one of four tables is for, by its number from 0: after
-/// `_bit_count` bits, and eight more for each table before it.
+/// `_bit_count` bits, and eight more for each table before it. `_bit_count` is for the contract alone.
 #[tactic(auto, using(crate::proofs::TableLemmas::entry_in_all))]
 fn word_entry(tables: &[[u32; 256]; 4], _bit_count: u32, number: usize, index: u32) -> u32
     requires tables { IsTrue (all_have_advances _bit_count tables.now) }

@@ -8,7 +8,7 @@ ghost use Rattle.x7_crc.specs.RunningCheck.{executed_after, running_check};
 use crate::check::fold;
 use x7_regs::{Command, Reg, command_code_of};
 
-/// The command that a written word executes, where CMD holds this one: a write to FAR executes it again, save DESYNC
+/// The command that a written word executes, where CMD holds `held`: a write to FAR executes `held` again, save DESYNC
 /// and IPROG (this project's choice).
 pub fn executed(held: u8, reg: Reg, word: u32) -> Option<u8>
     ensures { result ≡ executed_by held (Write (number_of reg) word) }
@@ -27,7 +27,7 @@ fn is_executed_again(held: u8) -> bool
     u32::from(held) != Command::Desync.code() && u32::from(held) != Command::Iprog.code()
 }
 
-/// Whether the command executed is this one.
+/// Whether a command was executed, and is `command`.
 pub fn is_command(command: Command, executed: Option<u8>) -> bool
     ensures { result ≡ is_command (code_of command) executed }
 {

@@ -110,7 +110,7 @@ fn replay(device: &mut Device, journal: &mut Journal, stream: &[u8], to: u64)
     go_forward(device, journal, stream, to);
 }
 
-/// Takes a device back by records to the last position at or before this one where a record was made.
+/// Takes a device back by records to the last position at or before `to` where a record was made.
 fn take_back(device: &mut Device, journal: &mut Journal, stream: &[u8], to: u64)
     requires { MayMoveBack stream.now device.old journal.old to }
     ensures at_position { ComesToPosition stream.now device.old device.new journal.new device.new.taken }

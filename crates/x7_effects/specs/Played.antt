@@ -76,7 +76,7 @@ slot_words part memory End = zero_frame part
 abbrev pub words_along : PartData → FrameMap → ℕ → ℕ → List ℕ
 words_along part memory far n = zero_frame part ++ flat_map (slot_words part memory) (take n (slots_from part far))
 
--- DONE, GTS and GWE are 1: the device is configured, drives its outputs, and may write its memories
+-- DONE, GTS_CFG_B and GWE are 1: the device is configured, drives its outputs, and may write its memories
 abbrev pub all_high : Lines
 all_high = record { done = true; gts = true; gwe = true }
 
@@ -97,8 +97,9 @@ pub record KeepsSettings (old new : Regs) : Type 0 where
   pub cor0 : new.cor0 ≡ old.cor0
   pub unwritten : KeepsUnwritten old new
 
--- After a full stream the memory is the plan over zeros, startup has ended, and its lines are 1. It reads nothing out,
--- there is no stop, and the device is at rest again.
+-- After a full stream the memory is the plan over zeros, startup has ended, its lines are 1, and the registers that no
+-- planned stream writes are as they were. The stream reads nothing out, there is no stop, and the device is at rest
+-- again.
 pub record PlaysFull (d : DeviceAfter) (stream : List ℕ) (plan : PlanData) : Type 0 where
   pub memory : AreSame (memory_in d.part d.kept (d.bytes ++ stream)) (total d.part plan)
   pub phase : (wrapped : Bool) → (state_of d.part d.kept wrapped (d.bytes ++ stream)).phase ≡ last_phase

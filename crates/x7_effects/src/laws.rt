@@ -11,8 +11,8 @@ ghost use Rattle.x7_planner.specs.ReadStream.{read_stream};
 ghost use Rattle.x7_planner.specs.Fault.{CanRead};
 
 /// After bytes at rest the full stream of a plan for the part leaves the plan over zeros and ends startup with DONE,
-/// GTS and GWE 1; the registers that it doesn't write stay, it reads nothing out, there is no stop, and the device is
-/// at rest again. So also on a new device of the part, before any byte.
+/// GTS_CFG_B and GWE 1; the registers that it doesn't write stay, it reads nothing out, there is no stop, and the
+/// device is at rest again. So also on a new device of the part, before any byte.
 pub fn full_streams_play()
     ensures plays { (d : DeviceAfter) (plan : PlanData) → Rests d → IsPlanFor d.part plan → PlaysFull d (full_stream d.part plan) plan }
     ensures plays_new { (part : PartData) (plan : PlanData) → IsPart part → IsPlanFor part plan → PlaysFull (device_after part on_the_bench []) (full_stream part plan) plan }

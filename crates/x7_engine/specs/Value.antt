@@ -39,7 +39,7 @@ abbrev pub is_id_fault : Option Fault → Bool
 is_id_fault (Some (fault.Id want got)) = true
 is_id_fault _ = false
 
--- the lines DONE, GTS and GWE, by how far startup is
+-- the lines DONE, GTS_CFG_B and GWE, by how far startup is
 abbrev pub lines_by : PartData → StartupProgress → Lines
 lines_by part p = record {
   done = done_line (cor0_of p) (phase_by part p);
@@ -85,7 +85,7 @@ failure_of _ wrapped = wrap_cause wrapped
 abbrev pub attempt_of : Kept → Bool → Option Fault → History → Attempt
 attempt_of kept wrapped fault h = record { kind = kept.kind; cause = failure_of fault wrapped; ignored = is_fallback kept.kind && wrote_iprog h }
 
--- the value of a register in the course of a device, and 0 for one that is only written
+-- the value of a register in the course of a device, and 0 for one that is only written and for frame data
 abbrev pub register_value : Course → Bool → Option Fault → Reg → ℕ
 register_value c wrapped fault Crc = check_shown fault c.history
 register_value c wrapped fault Far = far_read c.part c.history

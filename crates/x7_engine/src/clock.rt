@@ -120,7 +120,7 @@ impl Clock {
         ticks <= self.startup.ticks()
     }
 
-    /// The lines DONE, GTS and GWE.
+    /// The lines DONE, GTS_CFG_B and GWE.
     pub(crate) fn lines(&self) -> Lines
         ensures { OfStartup self.now.startup (λ part h n. result ≡ lines_by part (startup_progress h n)) }
     {

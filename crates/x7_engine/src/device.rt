@@ -241,8 +241,8 @@ impl Device {
         self.fed = self.fed.saturating_add((count - left) as u64);
     }
 
-    /// Takes the next run of the piece from place `at` on, moves `at` past the bytes
-    /// taken, and says whether the piece is used up.
+    /// Takes the next run of the piece from place `at` on, and moves `at` past the bytes taken. The answer is `true`
+    /// only where the piece is used up; after `false` the next turn may find nothing left.
     fn take_run(&mut self, piece: &[u8], at: &mut usize) -> bool
         requires { MayTake self.old piece.now at.old }
         ensures { TookTurn self.old self.new piece.now at.old at.new result }
@@ -282,7 +282,8 @@ impl Device {
     }
 
     /// Takes one turn: the write of one word that comes next, where it lies whole in the piece and no byte moves the
-    /// clock, or else what `take_next` takes. Moves `at` past it, and says whether the piece is used up.
+    /// clock, or else what `take_next` takes. Moves `at` past it. The answer is `true` only where the piece is used up;
+    /// after `false` the next turn may find nothing left.
     #[inline(always)]
     fn turn(&mut self, piece: &[u8], at: &mut usize) -> bool
         requires { MayTake self.old piece.now at.old }
@@ -294,8 +295,8 @@ impl Device {
         self.take_next(piece, at)
     }
 
-    /// Takes the no-ops that come next, and then the next run. Moves `at` past the bytes
-    /// taken, and says whether the piece is used up.
+    /// Takes the no-ops that come next, and then the next run. Moves `at` past the bytes taken. The answer is `true`
+    /// only where the piece is used up; after `false` the next turn may find nothing left.
     #[inline(never)]
     fn take_next(&mut self, piece: &[u8], at: &mut usize) -> bool
         requires { MayTake self.old piece.now at.old }
@@ -417,7 +418,7 @@ impl Device {
     pub fn past_exists(&self)
         ensures past { HasSomePast self.now }
     {
-        // the fields are what it rests on
+        // reading a field gives the proof the invariant of the device
         let _taken = self.taken;
     }
 

@@ -25,7 +25,7 @@ pub struct Regs {
     pub end: End,
     /// The phase of startup, 0 to 7.
     pub phase: u8,
-    /// The lines DONE, GTS and GWE.
+    /// The lines DONE, GTS_CFG_B and GWE.
     pub lines: Lines,
     /// The running check; at a fault `Crc` the one that was wanted.
     pub crc: u32,

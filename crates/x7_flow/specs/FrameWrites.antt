@@ -56,7 +56,7 @@ pub record RunHolds (part : PartData) (h : History) (frames : List (List ℕ)) :
   pub run : run_of part h ≡ onto (words_of_frames frames) []
   pub whole : AreWhole part frames
 
--- MFW is written right after a run under WCFG, whose last frame is this one
+-- MFW is written right after a run under WCFG, whose last frame is `last`
 pub record MfwAfter (part : PartData) (h : History) (word : ℕ) (frames : List (List ℕ)) (last : List ℕ) : Type 0 where
   pub run : RunHolds part h (frames ++ last ∷ [])
   pub wcfg : command_held h ≡ code_of command.Wcfg

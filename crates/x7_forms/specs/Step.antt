@@ -51,7 +51,8 @@ abbrev pub seen : {A B : Type 0} → (A → B) → Result A Refusal → Result B
 seen value (Ok a) = Ok (value a)
 seen value (Err refusal) = Err (event_of refusal)
 
--- the event is the result that is due over the known contents with this mishap; where they aren't known, nothing is said
+-- the event is the result that is due over the known contents with this mishap; where they aren't known, nothing is
+-- said
 abbrev pub DueBy : {A : Type 0} → Option Known → Mishap → (Known → Result A Event → Type 0) → Event → Type 0
 DueBy None mishap Due event = Unit {0}
 DueBy (Some known) mishap Due event = Due (with_mishap mishap known) (Err event)

@@ -52,7 +52,7 @@ pub record Plans (part : PartData) (text : List ℕ) (plan : PlanData) : Type 0 
   pub is_plan : IsPlan plan
   pub width : plan.width ≡ frame_words part
 
--- line n of a text, from 1, is this one, and the lines before it are good and have these rows
+-- line n of a text, from 1, is `line`, and the lines before it are good and have these rows
 pub record ReachesLine (part : PartData) (text : List ℕ) (n : ℕ) (line : List ℕ) (rows : List PlanRow) : Type 0 where
   pub before : List (List ℕ)
   pub after : List (List ℕ)

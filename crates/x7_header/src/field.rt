@@ -77,7 +77,7 @@ pub fn number_field(bytes: &[u8], letter: u8, total: usize) -> Result<(u32, &[u8
     requires { length bytes.now ≤ total }
     ensures value { ReturnsAs (λ x. (bytes_of_word x.0, x.1.now)) result
         (field_at total (number_of_letter letter) bytes.now) }
-    // The number is the word of the field's four bytes.
+    // The number's four bytes give the number again, as those of each number do: the proof of a whole header cites it.
     ensures word { IfOk result (λ x. word_of_bytes (bytes_of_word x.0) ≡ x.0) }
     // What follows is left of the bytes.
     ensures within { IfOk result (λ x. length x.1.now ≤ length bytes.now) }

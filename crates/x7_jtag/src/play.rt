@@ -142,8 +142,8 @@ fn shift_bytes(tap: &mut Tap, device: &mut Device, scan: &Scan<'_>) -> u32
     at
 }
 
-/// Shifts the bits of a scan from this one on, with TMS 1 at the last, and finds the least of them at which TDO differs
-/// from what is wanted.
+/// Shifts the bits of a scan from bit `first` on, with TMS 1 at the last, and finds the least of them at which TDO
+/// differs from what is wanted.
 fn shift_from(tap: &mut Tap, device: &mut Device, scan: &Scan<'_>, first: u32) -> Option<u32>
     requires ready { MayClock tap.old device.old (count_limit - first) }
     requires within { first ≤ length scan.now.tdi }

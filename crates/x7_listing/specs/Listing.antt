@@ -45,6 +45,6 @@ pub record IsListing (bytes text : List ℕ) : Type 0 where
 abbrev pub listing_of : List ℕ → List ℕ
 listing_of bytes = reading_text (reading_of bytes).sessions (reading_of bytes).place
 
--- a text begins with this one
+-- a text begins with `prefix`
 abbrev pub IsTextPrefix : List ℕ → List ℕ → Type 0
 IsTextPrefix prefix text = (more : List ℕ) × (text ≡ prefix ++ more)

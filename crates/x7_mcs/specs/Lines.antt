@@ -7,7 +7,7 @@ pub use Rattle.x7_text.specs.Lines.{on_first, split}
 abbrev pub without_return : List ℕ → List ℕ
 without_return t = if get_or t (length t - 1) 0 == return_byte then take (length t - 1) t else t
 
--- each line but the last has an end, and the end may be 0D 0A
+-- lines without the 0D of their ends; the last, which has no end, as it is
 abbrev pub bare : List (List ℕ) → List (List ℕ)
 bare [] = []
 bare (t ∷ []) = t ∷ []

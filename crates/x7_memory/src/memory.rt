@@ -104,7 +104,7 @@ impl Memory {
         }
     }
 
-    /// Puts a frame at the address of a rank. The part is for the proof alone.
+    /// Puts a frame at the address of a rank. `_part` is for the contract alone.
     pub fn put_at_rank(&mut self, _part: &Part, rank: u32, words: &[u32])
         requires part { AreFramesOf _part.now self.old }
         requires rank { rank < length (addresses_in _part.now) }

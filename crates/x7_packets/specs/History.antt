@@ -106,8 +106,8 @@ last_word register kept (e ∷ h) = written register e.access (last_word registe
 abbrev pub command_held : History → ℕ
 command_held h = command_code_of (last_word (number_of Cmd) (code_of Null) h)
 
--- the command that an access executes where CMD holds this one: a write to CMD its own, a write to FAR
--- again the one held, save DESYNC and IPROG
+-- the command that an access executes where CMD holds `held`: a write to CMD its own, a write to FAR
+-- again `held`, save DESYNC and IPROG
 abbrev pub executed_by : ℕ → Access → Option ℕ
 executed_by held (Write register w) =
     if register == number_of Cmd then Some (command_code_of w) else

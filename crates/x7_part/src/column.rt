@@ -69,7 +69,7 @@ pub(crate) fn column_index(columns: &[Column], far: u32) -> Option<usize>
     }
 }
 
-/// The number of the part's addresses below this one, none for what is no address.
+/// The number of the part's addresses below `far`, none where `far` is no address of the part.
 pub(crate) fn rank_of(columns: &[Column], far: u32) -> Option<u32>
     requires { AreColumns columns.now }
     ensures found { IfSome result (λ rank. HasRank (column_addresses columns.now) far rank) }

@@ -4,8 +4,8 @@ use Rattle.std.specs.Prelude.{ℕ, ◌+◌, ◌*◌, ◌^◌}
 use Rattle.x7_regs.specs.Control.{config_fallback, glutmask_b, gts_user_b}
 use Rattle.x7_regs.specs.StartupOptions.{done_cycle, done_pipe, gts_cycle, gwe_cycle, lock_cycle, match_cycle}
 
--- COR0 02003FE5: DONE_PIPE; DONE_CYCLE has DONE rise in phase 4, GTS_CYCLE GTS in phase 5, GWE_CYCLE GWE in phase 6;
--- MATCH_CYCLE and LOCK_CYCLE wait for nothing
+-- COR0 02003FE5: DONE_PIPE; DONE_CYCLE has DONE rise in phase 4, GTS_CYCLE GTS_CFG_B in phase 5, GWE_CYCLE GWE in phase
+-- 6; MATCH_CYCLE and LOCK_CYCLE wait for nothing
 abbrev pub startup_options : ℕ
 startup_options =
     2 ^ done_pipe + 3 * 2 ^ done_cycle + 7 * 2 ^ match_cycle + 7 * 2 ^ lock_cycle + 4 * 2 ^ gts_cycle + 5 * 2 ^ gwe_cycle

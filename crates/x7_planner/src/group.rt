@@ -17,7 +17,8 @@ use x7_words::NoMemory;
 /// How many addresses a content has at least that is written once and copied.
 const GROUP_LEAST: usize = 3;
 
-/// Whether the content that begins at `start` stands at three addresses or more.
+/// Whether the content that begins at `start` stands at three addresses or more. `_words` is for the contract
+/// alone.
 fn are_shared(by_content: &ByContent<'_>, start: usize, _words: &[u32]) -> bool
     requires { BeginsAt by_content.now _words.now start }
     ensures { result ≡ are_shared (rows_by_content by_content.now) _words.now }
@@ -28,7 +29,8 @@ fn are_shared(by_content: &ByContent<'_>, start: usize, _words: &[u32]) -> bool
     by_content.firsts[start + (GROUP_LEAST - 1)] == start
 }
 
-/// Whether the row at an address is the first of three or more with its content, which begins at `start`.
+/// Whether the row at an address is the first of three or more with its content, which begins at `start`. `_words` is
+/// for the contract alone.
 fn leads_group(by_content: &ByContent<'_>, start: usize, far: u32, _words: &[u32]) -> bool
     requires { BeginsAt by_content.now _words.now start }
     ensures { result ≡ leads_group (rows_by_content by_content.now) record { far = far; words = _words.now } }
@@ -39,7 +41,8 @@ fn leads_group(by_content: &ByContent<'_>, start: usize, far: u32, _words: &[u32
     by_content.frames[start].far == far
 }
 
-/// Copies the frame that was written to each address of its content, which begins at `start`.
+/// Copies the frame that was written to each address of its content, which begins at `start`. `_words` is for the
+/// contract alone.
 fn put_copies(
     writer: &mut Writer,
     by_content: &ByContent<'_>,

@@ -6,7 +6,7 @@ use x7_regs::{
     LOCK_CYCLE, MATCH_CYCLE,
 };
 
-/// COR0 02003FE5: DONE rises in phase 4, GTS in phase 5 and GWE in phase 6, and startup waits for nothing.
+/// COR0 02003FE5: DONE rises in phase 4, GTS_CFG_B in phase 5 and GWE in phase 6, and startup waits for nothing.
 pub(crate) const STARTUP_OPTIONS: u32 = (1 << DONE_PIPE)
     + 3 * (1 << DONE_CYCLE)
     + 7 * (1 << MATCH_CYCLE)

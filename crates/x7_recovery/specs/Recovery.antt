@@ -45,7 +45,7 @@ pub record IsPrepared (u : Updating) : Type 0 where
   pub updatable : IsUpdatable u.flash
   pub golden : HasGolden u.part u.golden u.flash
 
--- the attempts of a boot that starts at power: this one alone
+-- the attempts of a boot that starts at power: the one attempt, at address 0, starts
 abbrev pub started_at_power : List Tried
 started_at_power = record { kind = Power; address = 0; ending = ending.Started } ∷ []
 

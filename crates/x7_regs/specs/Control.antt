@@ -2,23 +2,23 @@
 use Rattle.std.specs.Prelude.{ℕ, ◌+◌, ◌==◌, Bool, not}
 use Rattle.x7_words.specs.Word.{field_of}
 
--- GTS_USER_B: 1 where the outputs are as startup says
+-- the bit of GTS_USER_B in CTL0: 1 where the outputs are as startup says
 abbrev pub gts_user_b : ℕ
 gts_user_b = 0
 
--- SBITS, two bits: 00 allows reading and writing of frames, 01 forbids reading, 1x forbids both
+-- the lower bit of SBITS in CTL0, two bits: 00 allows reading and writing of frames, 01 forbids reading, 1x both
 abbrev pub sbits : ℕ
 sbits = 4
 
--- DEC: 1 where a stream would be encrypted
+-- the bit of DEC in CTL0: 1 where a stream would be encrypted
 abbrev pub dec : ℕ
 dec = 6
 
--- GLUTMASK_B: 1 where readback shows memories in logic
+-- the bit of GLUTMASK_B in CTL0: 1 where readback shows memories in logic
 abbrev pub glutmask_b : ℕ
 glutmask_b = 8
 
--- CONFIG_FALLBACK: 1 forbids a fallback
+-- the bit of CONFIG_FALLBACK in CTL0: 1 forbids a fallback
 abbrev pub config_fallback : ℕ
 config_fallback = 10
 

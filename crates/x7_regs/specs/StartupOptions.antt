@@ -2,26 +2,26 @@
 -- by the number of its lowest bit.
 use Rattle.std.specs.Prelude.{ℕ}
 
--- DONE_PIPE, one bit: 1 where startup looks at DONE a clock later
+-- the bit of DONE_PIPE in COR0: 1 where startup looks at DONE a clock later
 abbrev pub done_pipe : ℕ
 done_pipe = 25
 
--- DONE_CYCLE, three bits: the code of the phase in which DONE rises
+-- the lowest bit of DONE_CYCLE in COR0, three bits: the code of the phase in which DONE rises
 abbrev pub done_cycle : ℕ
 done_cycle = 12
 
--- MATCH_CYCLE, three bits: the code of the phase that waits for the DCI match
+-- the lowest bit of MATCH_CYCLE in COR0, three bits: the code of the phase that waits for the DCI match
 abbrev pub match_cycle : ℕ
 match_cycle = 9
 
--- LOCK_CYCLE, three bits: the code of the phase that waits for the MMCM lock
+-- the lowest bit of LOCK_CYCLE in COR0, three bits: the code of the phase that waits for the MMCM lock
 abbrev pub lock_cycle : ℕ
 lock_cycle = 6
 
--- GTS_CYCLE, three bits: the code of the phase in which GTS rises
+-- the lowest bit of GTS_CYCLE in COR0, three bits: the code of the phase in which GTS_CFG_B rises
 abbrev pub gts_cycle : ℕ
 gts_cycle = 3
 
--- GWE_CYCLE, three bits: the code of the phase in which GWE rises
+-- the lowest bit of GWE_CYCLE in COR0, three bits: the code of the phase in which GWE rises
 abbrev pub gwe_cycle : ℕ
 gwe_cycle = 0

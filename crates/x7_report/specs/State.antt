@@ -39,7 +39,7 @@ end_text at_end.Synced = codes "synced"
 end_text (at_end.Iprog wbstar) = codes "iprog " ++ hex_word wbstar
 end_text (at_end.Fault f) = codes "fault " ++ fault_text f
 
--- the digit of DONE, GTS or GWE, 0 or 1
+-- the digit of DONE, GTS_CFG_B or GWE, 0 or 1
 abbrev pub line_digit : Bool → List ℕ
 line_digit b = if b then codes "1" else codes "0"
 
@@ -47,7 +47,7 @@ line_digit b = if b then codes "1" else codes "0"
 abbrev pub phase_room : ℕ
 phase_room = 46
 
--- the line of startup: its phase, and DONE, GTS and GWE
+-- the line of startup: its phase, and DONE, GTS_CFG_B and GWE
 unfoldable pub phase_text : Regs → List ℕ
 phase_text r =
     codes "phase " ++ decimal r.phase

@@ -119,7 +119,7 @@ pub fn frame_line(out: &mut Vec<u8>, far: u32, words: &[u32]) -> Result<(), NoMe
     Ok(())
 }
 
-/// Whether the frame of a rank has a word other than 0.
+/// Whether the frame of a rank has a word other than 0. `_part` is for the contract alone.
 fn is_shown_at(_part: &Part, memory: &Memory, rank: u32) -> bool
     requires part { AreFramesOf _part.now memory.now }
     requires rank { rank < length (addresses_in _part.now) }

@@ -112,7 +112,7 @@ fn put_phase(out: &mut Vec<u8>, r: &Regs)
 }
 
 /// Appends to `out` the line `phase P done D gts G gwe E` (this project's choice): the phase of startup in decimal, and
-/// DONE, GTS and GWE as 0 or 1. `NoMemory` leaves `out` as it was.
+/// DONE, GTS_CFG_B and GWE as 0 or 1. `NoMemory` leaves `out` as it was.
 pub fn phase_line(out: &mut Vec<u8>, r: &Regs) -> Result<(), NoMemory>
     ensures appends { OnOk result (out.new.items ≡ out.old.items ++ phase_text r.now) }
     ensures unchanged { OnErr result (out.new.items ≡ out.old.items) }

@@ -12,7 +12,7 @@ pub(crate) enum Extent {
     Prefix,
     /// The text has the lines and the length that are given.
     Parts,
-    /// The text is any: the runs beside this one come to the same.
+    /// Status, text and message are any: they are compared among the runs of the case alone.
     Any,
 }
 

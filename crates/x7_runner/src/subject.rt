@@ -16,8 +16,9 @@ struct Subject {
     alloc: Global,
     /// The inputs of each case: the part file `p`, the streams named outside a case, and what cases kept.
     shared: Vec<Named>,
-    /// Whether a case is open, and the last one.
+    /// Whether a case is open.
     is_open: bool,
+    /// The case that was opened last, by its lines taken so far.
     case: Case,
     notes: Notes,
     /// How many cases came as they are written.

@@ -1,8 +1,9 @@
--- The phases in which the lines DONE, GTS and GWE rise (UG470, startup; codes 6 and 7 are this project's choice).
+-- The phases in which the lines DONE, GTS_CFG_B and GWE rise (UG470, startup; codes 6 and 7 are this project's
+-- choice).
 --
---     code       0  1  2  3  4  5  6             7
---     DONE       1  2  3  4  5  6  6             6
---     GTS, GWE   1  2  3  4  5  6  DONE's phase  never
+--     code             0  1  2  3  4  5  6             7
+--     DONE             1  2  3  4  5  6  6             6
+--     GTS_CFG_B, GWE   1  2  3  4  5  6  DONE's phase  never
 use Rattle.std.specs.Prelude.{◌≡◌, ◌==◌, ℕ, ◌+◌, Bool, false, not, nat_lt, Option, Some, None, if◌then◌else◌}
 use Rattle.x7_startup.specs.Options.{done_cycle_of, gts_cycle_of, gwe_cycle_of}
 
@@ -10,7 +11,7 @@ use Rattle.x7_startup.specs.Options.{done_cycle_of, gts_cycle_of, gwe_cycle_of}
 abbrev pub done_rise : ℕ → ℕ
 done_rise code = if nat_lt code 6 then code + 1 else 6
 
--- the phase of GTS or GWE by its code, and by DONE's phase; none for a line that never rises
+-- the phase of GTS_CFG_B or GWE by its code, and by DONE's phase; none for a line that never rises
 abbrev pub line_rise : ℕ → ℕ → Option ℕ
 line_rise done code = if nat_lt code 6 then Some (code + 1) else if code == 6 then Some done else None
 
@@ -24,7 +25,7 @@ abbrev pub done_line : Option ℕ → ℕ → Bool
 done_line None phase = false
 done_line (Some cor0) phase = has_risen (Some (done_rise (done_cycle_of cor0))) phase
 
--- GTS by the COR0 that startup began with, if it has begun, and the phase
+-- GTS_CFG_B by the COR0 that startup began with, if it has begun, and the phase
 abbrev pub gts_line : Option ℕ → ℕ → Bool
 gts_line None phase = false
 gts_line (Some cor0) phase = has_risen (line_rise (done_rise (done_cycle_of cor0)) (gts_cycle_of cor0)) phase
@@ -34,7 +35,7 @@ abbrev pub gwe_line : Option ℕ → ℕ → Bool
 gwe_line None phase = false
 gwe_line (Some cor0) phase = has_risen (line_rise (done_rise (done_cycle_of cor0)) (gwe_cycle_of cor0)) phase
 
--- these are DONE, GTS and GWE in a phase, by the COR0 that startup began with, if it has begun
+-- these are DONE, GTS_CFG_B and GWE in a phase, by the COR0 that startup began with, if it has begun
 pub record AreLines (begun_with : Option ℕ) (phase : ℕ) (done gts gwe : Bool) : Type 0 where
   pub done_is : done ≡ done_line begun_with phase
   pub gts_is : gts ≡ gts_line begun_with phase

@@ -15,7 +15,7 @@ match_cycle_of = field_of match_cycle 3
 abbrev pub lock_cycle_of : ℕ → ℕ
 lock_cycle_of = field_of lock_cycle 3
 
--- GTS_CYCLE, bits 5:3: the code of the phase in which GTS rises
+-- GTS_CYCLE, bits 5:3: the code of the phase in which GTS_CFG_B rises
 abbrev pub gts_cycle_of : ℕ → ℕ
 gts_cycle_of = field_of gts_cycle 3
 

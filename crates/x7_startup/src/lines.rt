@@ -1,4 +1,4 @@
-//! The lines DONE, GTS and GWE (UG470, startup).
+//! The lines DONE, GTS_CFG_B and GWE (UG470, startup).
 ghost use Rattle.std.specs.Prelude.{◌≡◌, ◌<◌, Some};
 ghost use Rattle.x7_startup.specs.Lines.{done_rise, line_rise, has_risen, done_line, gts_line, gwe_line};
 
@@ -9,14 +9,14 @@ use x7_regs::{DONE_CYCLE, GTS_CYCLE, GWE_CYCLE};
 pub struct Lines {
     /// DONE.
     pub done: bool,
-    /// GTS: 1 where the outputs are on.
+    /// GTS_CFG_B: 1 where the outputs are on.
     pub gts: bool,
     /// GWE: 1 where flip-flops and memories can be written.
     pub gwe: bool,
 }
 
-/// By a code of COR0 the phase in which DONE rises, and that in which GTS or GWE does (codes 6 and 7 are this project's
-/// choice). `done` is DONE's own phase; a line without a phase never rises.
+/// By a code of COR0 the phase in which DONE rises, and that in which GTS_CFG_B or GWE does (codes 6 and 7 are this
+/// project's choice). `done` is DONE's own phase; a line without a phase never rises.
 #[rattlefmt::skip]
 fn rises_of(code: u32, done: u8) -> (u8, Option<u8>)
     requires code { code < 8 }

@@ -141,7 +141,7 @@ impl Startup {
         self.ticks
     }
 
-    /// The lines DONE, GTS and GWE, which are 0 until startup has begun.
+    /// The lines DONE, GTS_CFG_B and GWE, which are 0 until startup has begun.
     pub fn lines(&self) -> Lines
         ensures stands { (lock_ticks match_ticks : ℕ) (calls : List Call) → StandsForCalls lock_ticks match_ticks self.now calls
             → AreLines (cor0_of (progress_of calls)) self.now.phase result.done result.gts result.gwe }

@@ -111,6 +111,6 @@ abbrev pub is_free_token : Token → Bool
 is_free_token (Word w) = is_free_word w
 is_free_token _ = true
 
--- words as lists
+-- the bytes of each word
 abbrev pub word_list : List (Bor (List ℕ)) → List (List ℕ)
 word_list ws = map (λ w. w.now) ws

@@ -66,7 +66,7 @@ fn mirrored_digit(bits: u8) -> u8
     bits % 2 * 8 + bits / 2 % 2 * 4 + bits / 4 % 2 * 2 + bits / 8 % 2
 }
 
-/// The byte of the eight bits from this one on, a multiple of four, the first of which is the highest.
+/// The byte of the eight bits from bit `at` on, a multiple of four, the first of which is the highest.
 fn byte_from(digits: &[u8], at: u32) -> u8
     requires whole { at % 4 ≡ 0 }
     ensures { byte_bits result ≡ bits_from digits.now at 8 }
@@ -77,7 +77,7 @@ fn byte_from(digits: &[u8], at: u32) -> u8
     mirrored_digit(first) * 16 + mirrored_digit(second)
 }
 
-/// The bytes of the bits of digits from this one on, a multiple of eight: those that end before the last of `count`
+/// The bytes of the bits of digits from bit `from` on, a multiple of eight: those that end before the last of `count`
 /// bits, and at most 1,024.
 fn bytes_of(digits: &[u8], count: u32, from: u32) -> ArrayVec<u8, MOST_BYTES_AT_ONCE>
     requires whole { from % 8 ≡ 0 }
@@ -120,7 +120,7 @@ impl<'t> Bits<'t> {
         Some(bit_of(self.digits, i))
     }
 
-    /// The bytes of the bits from this one on, a multiple of eight: those that end before the last bit, and at most
+    /// The bytes of the bits from bit `from` on, a multiple of eight: those that end before the last bit, and at most
     /// 1,024. The first of eight bits is the highest of its byte.
     pub fn bytes_from(&self, from: u32) -> ArrayVec<u8, MOST_BYTES_AT_ONCE>
         requires whole { from % 8 ≡ 0 }

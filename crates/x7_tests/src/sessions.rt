@@ -22,8 +22,8 @@ fn frame_write(alloc: Global) -> Option<Vec<u8>> {
     Some(stream)
 }
 
-/// Whether the report of a device, its state and its frames, is that of a new one that is fed the stream's first `count`
-/// bytes; none where a call is refused.
+/// Whether the report of a device, its state and its frames, is that of a new one that is fed the stream's first
+/// `count` bytes; none where a call is refused.
 fn is_as_played(alloc: Global, part: &Part, device: &Device, count: usize) -> Option<bool> {
     let stream = frame_write(alloc)?;
     let bytes = stream.get(..count)?;
@@ -37,8 +37,8 @@ fn is_as_played(alloc: Global, part: &Part, device: &Device, count: usize) -> Op
     }
 }
 
-/// By how much a move back by `count` bytes raises the count of bytes fed to the session's device, and whether the device
-/// is then as played up to there.
+/// By how much a move back by `count` bytes raises the count of bytes fed to the session's device, and whether the
+/// device is then as played up to there.
 fn went_back(alloc: Global, part: &Part, session: &mut Session, count: u64) -> Option<(u64, bool)> {
     let fed = session.device().fed();
     session.back(count);
@@ -57,8 +57,8 @@ fn moves_of(alloc: Global, part: &Part, session: &mut Session) -> Option<[(u64, 
     ])
 }
 
-/// By how much the three moves back each raise the count of bytes fed in a session of the stream, and whether its device
-/// is then as played; none where a call is refused.
+/// By how much the three moves back each raise the count of bytes fed in a session of the stream, and whether its
+/// device is then as played; none where a call is refused.
 fn moves_back(alloc: Global) -> Option<[(u64, bool); 3]> {
     let stream = frame_write(alloc)?;
     let Ok(part) = part_of(alloc, TINY) else {

@@ -97,7 +97,8 @@ fn put_bytes_lines(text: &mut Vec<u8>, lines: &[[u8; 32]])
     }
 }
 
-/// Appends the words of whole groups of four bytes to `data` lines, word by word.
+/// Appends the words of whole groups of four bytes to `data` lines, word by word. Gives how many words stand in the
+/// open line then.
 fn put_each_word(text: &mut Vec<u8>, in_line: usize, bytes: &[u8]) -> usize
     requires open { in_line < row_words }
     requires whole { AreWholeWords bytes.now }
@@ -112,7 +113,7 @@ fn put_each_word(text: &mut Vec<u8>, in_line: usize, bytes: &[u8]) -> usize
     count
 }
 
-/// Appends bytes to `bytes` lines, byte by byte.
+/// Appends bytes to `bytes` lines, byte by byte. Gives how many bytes stand in the open line then.
 fn put_each_byte(text: &mut Vec<u8>, in_line: usize, bytes: &[u8]) -> usize
     requires open { in_line < bytes_row_size }
     requires room { HasSpareRoom text.old (3 * length bytes.now + 11) }
@@ -125,7 +126,7 @@ fn put_each_byte(text: &mut Vec<u8>, in_line: usize, bytes: &[u8]) -> usize
     count
 }
 
-/// Appends bytes to a `bytes` line, which they leave open.
+/// Appends bytes to a `bytes` line, which they leave open. Gives how many bytes stand in the open line then.
 fn put_bytes_in_line(text: &mut Vec<u8>, in_line: usize, bytes: &[u8]) -> usize
     requires open { in_line + length bytes.now < bytes_row_size }
     requires room { HasSpareRoom text.old (2 * length bytes.now + 6) }

@@ -13,7 +13,7 @@ use Rattle.x7_forms.specs.Known.{reads_limit}
 use Rattle.x7_playing.specs.Playing.{HasPlayed}
 use Rattle.x7_playing.specs.declared.player.Player.{Player}
 
--- the number after this one in the sequence that a seed begins: a linear congruence modulo 2^32
+-- the number after `x` in the sequence that a seed begins: a linear congruence modulo 2^32
 abbrev pub next_number : ℕ → ℕ
 next_number x = (1664525 * x + 1013904223) % 2 ^ 32
 

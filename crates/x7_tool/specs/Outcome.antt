@@ -64,7 +64,7 @@ abbrev pub text_by : List ℕ → Result (List ℕ) ℕ → Result (List ℕ) Ev
 text_by name (Ok text) = Ok text
 text_by name (Err place) = Err (bad_input name (input.Byte place))
 
--- the listing of a stream's bytes: its header is judged as soon as its bytes are read, and its length after it
+-- the listing of a stream's bytes: a header at fault is reported even where the stream is over its limit
 abbrev pub listed_bytes : List ℕ → List ℕ → Result Answer Event
 listed_bytes stream_name bytes =
     and_so (text_by stream_name (stream_listing bytes)) (λ text. and_so (if_within stream_name stream_limit bytes) (λ _. Ok (record { stopped = false; text = text })))

@@ -29,7 +29,7 @@ use x7_words::{Inputs, NoMemory};
 /// The least number with which a frame is planned: with a smaller one it is not.
 const LEAST_PLANNED: u32 = 1 << 31;
 
-/// The number after this one in the sequence that a seed begins: a linear congruence modulo 2^32 (this project's
+/// The number after `x` in the sequence that a seed begins: a linear congruence modulo 2^32 (this project's
 /// choice).
 fn next_number(x: u32) -> u32
     ensures { result ≡ next_number x }

@@ -47,7 +47,7 @@ fn slot_difference(first_sector: &[u8], wanted: &[u8; 32], slot: usize) -> Optio
     None
 }
 
-/// The slots up to this one, by the slots before it, or the place that shows that this one isn't as the layout has it.
+/// The slots up to `slot`, by those before it, or the place that shows that `slot` isn't as the layout has it.
 fn look_at_slot(
     first_sector: &[u8],
     wanted: &[u8; 32],

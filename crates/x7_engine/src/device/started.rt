@@ -14,7 +14,7 @@ use crate::fed::Fed;
 use crate::read_buffer::ReadBuf;
 use crate::until_started::UntilStarted;
 
-/// How many bytes a device in this phase can be given, so that startup ends at the last of them at the soonest.
+/// The least number of bytes more after which the last phase may have come, of a device in this phase.
 fn soonest_end(phase: u8) -> usize
     ensures { result ≡ soonest_end phase }
 {
@@ -48,7 +48,8 @@ impl Device {
         length
     }
 
-    /// Takes the next turn of a piece, up to a byte at which startup may end, and says whether the piece is used up.
+    /// Takes the next turn of a piece, up to a byte at which startup may end, and moves `at` past it. The answer is
+    /// `true` only where the piece is used up; after `false` the next turn may find nothing left.
     fn turn_until_started(&mut self, piece: &[u8], at: &mut usize) -> bool
         requires { MayTake self.old piece.now at.old }
         ensures took { TookTurn self.old self.new piece.now at.old at.new result }

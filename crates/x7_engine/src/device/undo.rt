@@ -113,7 +113,7 @@ impl Device {
     fn frames_fit(&self)
         ensures { FramesFit self.now.part self.now.registers.frames }
     {
-        // the fields are what it rests on
+        // reading a field gives the proof the invariant of the device
         let _taken = self.taken;
     }
 
@@ -132,7 +132,7 @@ impl Device {
         self.go_back(undo);
     }
 
-    /// Does what `undo` does: a call of its own, which is proved by what is saved alone.
+    /// Sets the device to what is saved, but for the count of fed bytes.
     fn go_back(&mut self, undo: &Undo)
         requires undo { IsUndoOf self.old.part undo.now }
         requires back { TookFewSince undo.now self.old }

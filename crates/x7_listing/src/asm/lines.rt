@@ -68,7 +68,7 @@ impl AsmLines {
     }
 
     /// Appends the bytes of line `n`, counted from 1, which is no header's, and makes room for those of the next. Where
-    /// there was room for this one, memory is wanting only once it is read.
+    /// there was room for those of line `n`, memory is wanting only once that line is read.
     fn put_one(&mut self, n: u64, line: &[u8]) -> Result<(), AsmFault>
         ensures reads { OnOk result (ReadsNext self.old self.new n line.now) }
         ensures room { OnOk result (HasLineRoom self.new) }
@@ -103,7 +103,7 @@ impl AsmLines {
     }
 
     /// Appends the bytes of line `n`, counted from 1. Memory is wanting only at the first line, or where all lines up
-    /// to this one are good.
+    /// to line `n` are good.
     fn put_next(&mut self, n: u64, line: &[u8]) -> Result<(), AsmFault>
         ensures read { (lines : List (List ℕ)) → n ≡ length lines + 1 → HasReadWithRoom self.old lines
             → MatchResult result (λ _. HasReadWithRoom self.new (lines ++ line.now ∷ [])) (λ f. (left : List (List ℕ)) → HasAsmFault f (lines ++ line.now ∷ left)) }
@@ -116,8 +116,8 @@ impl AsmLines {
         self.put_one(n, line)
     }
 
-    /// Appends the bytes of the text's first lines after `n` lines, as far as they are read at once. A line that isn't is
-    /// left to `put_next`, and so are those after it.
+    /// Appends the bytes of the text's first lines after `n` lines, as far as they are read at once. A line that isn't
+    /// is left to `put_next`, and so are those after it.
     fn put_at_once(&mut self, n: u64, text: &[u8]) -> WholeLines
         ensures appends { AppendsLines text.now (drop result.size text.now) self.old.out self.new.out result.count }
         ensures start { self.new.start ≡ self.old.start }
