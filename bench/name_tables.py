@@ -18,24 +18,16 @@ TOP = os.path.dirname(os.path.dirname(os.path.realpath(__file__)))
 sys.path.insert(0, os.path.join(TOP, "tools"))
 sys.dont_write_bytecode = True
 
+from x7formats import COMMANDS, REGISTERS  # noqa: E402
 from x7run import Refused, read_file, run, write_out  # noqa: E402
 
-REGISTERS = {0: "CRC", 1: "FAR", 2: "FDRI", 3: "FDRO", 4: "CMD", 5: "CTL0", 6: "MASK", 7: "STAT", 8: "LOUT", 9: "COR0",
-             10: "MFWR", 11: "CBC", 12: "IDCODE", 13: "AXSS", 14: "COR1", 16: "WBSTAR", 17: "TIMER", 22: "BOOTSTS",
-             24: "CTL1", 31: "BSPI"}
-COMMANDS = {0: "NULL", 1: "WCFG", 2: "MFW", 3: "LFRM", 4: "RCFG", 5: "START", 6: "RCAP", 7: "RCRC", 8: "AGHIGH",
-            9: "SWITCH", 10: "GRESTORE", 11: "SHUTDOWN", 12: "GCAPTURE", 13: "DESYNC", 15: "IPROG", 16: "CRCC",
-            17: "LTIMER", 18: "BSPI_READ", 19: "FALL_EDGE"}
 # how often a name's second byte, its last one and its length count in its place in a table of x7_regs
 SECOND_WEIGHT, LAST_WEIGHT, LENGTH_WEIGHT = 13, 3, 2
 # by what a table of x7_listing multiplies a name's first four bytes
 SPREAD_FACTOR = 0x3F20_35EB
-TABLE_SIZE = 64
-
-
-def register_name(number):
-    """A register's name, or R and two digits."""
-    return REGISTERS.get(number, f"R{number:02}")
+# a place in a table has PLACE_BITS bits: in x7_listing they are the highest of the WORD_BITS of a product
+WORD_BITS, PLACE_BITS = 32, 6
+TABLE_SIZE = 1 << PLACE_BITS
 
 
 def by_letters(name, _after):
@@ -47,7 +39,7 @@ def by_letters(name, _after):
 def by_four_bytes(name, after):
     """The place in a table of x7_listing; `after` is the byte that comes after a name."""
     four = (name + after).encode()[:4]
-    return (int.from_bytes(four, "little") * SPREAD_FACTOR % 2**32) >> 26
+    return (int.from_bytes(four, "little") * SPREAD_FACTOR % (1 << WORD_BITS)) >> (WORD_BITS - PLACE_BITS)
 
 
 def table(what, names, place, after):
@@ -75,7 +67,7 @@ def table_in(path, name):
 def main(words):
     if words not in ([], ["--print"]):
         raise Refused("usage: name_tables.py [--print] (name_tables.py --help)")
-    registers = {number: register_name(number) for number in range(32)}
+    registers = dict(enumerate(REGISTERS))
     wanted = [
         ("crates/x7_regs/src/named.rt", "REGISTERS", registers, by_letters, ""),
         ("crates/x7_regs/src/named.rt", "COMMANDS", COMMANDS, by_letters, ""),

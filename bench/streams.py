@@ -1,8 +1,18 @@
-"""Makes the streams that the benchmark lists and plays, from a fixed rule."""
+"""Makes the streams that bench/run lists and plays, from a fixed rule, and the part file of two of them.
 
+usage: streams.py FOLDER    (bench/run calls it; the files are made in the folder)
+"""
+
+import os
 import pathlib
 import struct
 import sys
+
+TOP = os.path.dirname(os.path.dirname(os.path.realpath(__file__)))
+sys.path.insert(0, os.path.join(TOP, "tools"))
+sys.dont_write_bytecode = True
+
+from x7run import Refused, run  # noqa: E402
 
 SYNC = b"\xaa\x99\x55\x66"
 WORDS = 13_893_632
@@ -71,13 +81,13 @@ def streams():
     yield "gap", words(WORDS, 3).replace(SYNC, b"\x00\x00\x00\x00")
 
 
-def main():
-    if len(sys.argv) != 2 or not pathlib.Path(sys.argv[1]).is_dir():
-        sys.exit("usage: streams.py FOLDER, which bench/run calls")
-    folder = pathlib.Path(sys.argv[1])
+def main(words):
+    if len(words) != 1 or not pathlib.Path(words[0]).is_dir():
+        raise Refused("usage: streams.py FOLDER (streams.py --help)")
+    folder = pathlib.Path(words[0])
     for name, stream in streams():
         (folder / f"{name}.bin").write_bytes(stream)
     (folder / "bench.part").write_text(part())
 
 
-main()
+run(main, __doc__)

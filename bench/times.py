@@ -1,9 +1,18 @@
-"""Times the lister beside xxd and cat, and the player beside md5sum: ratios of processor time, and the peak memory."""
+"""Times `x7 list` beside xxd and cat, and `x7 play` beside md5sum: ratios of processor time, and the peak memory.
+
+usage: times.py FOLDER PART    (bench/run calls it; the folder has the streams that streams.py made, and x7)
+"""
 
 import os
 import pathlib
 import subprocess
 import sys
+
+TOP = os.path.dirname(os.path.dirname(os.path.realpath(__file__)))
+sys.path.insert(0, os.path.join(TOP, "tools"))
+sys.dont_write_bytecode = True
+
+from x7run import Refused, run  # noqa: E402
 
 RUNS = 5
 
@@ -11,8 +20,8 @@ RUNS = 5
 def peak(command):
     """The peak memory in MiB. A child of this process would count this process's own."""
     timed = ["/usr/bin/time", "-f", "%M", *command]
-    run = subprocess.run(timed, stdout=subprocess.DEVNULL, stderr=subprocess.PIPE, check=True)
-    return int(run.stderr.split()[-1]) / 1024
+    ended = subprocess.run(timed, stdout=subprocess.DEVNULL, stderr=subprocess.PIPE, check=True)
+    return int(ended.stderr.split()[-1]) / 1024
 
 
 def cost(command):
@@ -54,12 +63,12 @@ def play_times(folder, tiny):
         print(f"{name:10} {ours:.3f}   {md5sum:.3f}     {ours / md5sum:6.2f}     {peak(command):6.1f}")
 
 
-def main():
-    if len(sys.argv) != 3 or not (pathlib.Path(sys.argv[1]) / "x7").is_file():
-        sys.exit("usage: times.py FOLDER PART, which bench/run calls: the folder has its streams, and x7")
-    folder = pathlib.Path(sys.argv[1])
+def main(words):
+    if len(words) != 2 or not (pathlib.Path(words[0]) / "x7").is_file():
+        raise Refused("usage: times.py FOLDER PART, where FOLDER has x7 and its streams (times.py --help)")
+    folder = pathlib.Path(words[0])
     list_times(folder)
-    play_times(folder, sys.argv[2])
+    play_times(folder, words[1])
 
 
-main()
+run(main, __doc__)

@@ -23,6 +23,8 @@ PACKET_BYTES = 9
 AGAIN = "take the file again; where it goes through a cable or a processor, compare the number of bytes that arrive"
 # What `x7 image` writes in a slot of the first sector after its switch word, around the address (docs/FORMATS.md).
 SLOT = (bytes.fromhex("2000000030020001"), bytes.fromhex("300080010000000F300080010000000D"))
+# The section of the page BOARD by which `why` tells whether nothing is wrong with a stream but that it starts nothing.
+PARTIAL_SECTION = "A partial stream on a device that isn't configured"
 
 Cause = namedtuple("Cause", "cause remedy section after source")
 
@@ -504,11 +506,10 @@ def of_open_session(subject):
 def of_no_start(subject):
     """The cause where a stream has no START: it is a partial one, or START is damaged or lost."""
     device, last = subject.device, subject.sources[-1]
-    section = "A partial stream on a device that isn't configured"
     if not device.frames and subject.device.reads:
         return cause(
             "the streams read a device, and start nothing",
-            "play them after the full stream of the device: x7 play PART full.bit read.bin", section,
+            "play them after the full stream of the device: x7 play PART full.bit read.bin", PARTIAL_SECTION,
         )
     commands = [it.word for it in device.written if it.register == "CMD"]
     if device.last("COR0") and "LFRM" in commands and "START" not in commands:
@@ -518,7 +519,7 @@ def of_no_start(subject):
         return cause(text, "take the file again", "A stream that ends early", following.after if following else lfrm, last)
     return cause(
         "the stream has no START: a partial one changes frames and starts nothing",
-        "play it after the full stream of the device: x7 play PART full.bit partial.bit", section,
+        "play it after the full stream of the device: x7 play PART full.bit partial.bit", PARTIAL_SECTION,
     )
 
 
@@ -685,7 +686,7 @@ def of_svf(subject):
     if report.phase == 0 and not subject.has("START") and subject.device.end[0] == "searching":
         return cause(
             f"{differs}; the stream has no START: the text resets the device, and then sends a partial stream",
-            "send a partial stream without JPROGRAM: tools/svf --partial", "A partial stream on a device that isn't configured",
+            "send a partial stream without JPROGRAM: tools/svf --partial", PARTIAL_SECTION,
         )
     if report.end[0] == "fault":
         found = of_fault(subject)

@@ -10,6 +10,8 @@ TOP = os.path.dirname(TOOLS)
 DATA = os.path.join(TOP, "crates", "x7_cases", "data")
 sys.path.insert(0, TOOLS)
 
+from x7formats import FIXED  # noqa: E402
+
 
 def hex_bytes(words):
     """The bytes of a HEX list: digits, or digits and how many times."""
@@ -84,6 +86,13 @@ def put_file(folder, name, data):
     with open(path, "wb") as file:
         file.write(data if isinstance(data, bytes) else data.encode())
     return path
+
+
+def header(length, part_name="7a35tcpg236", design="made", date="2026/11/29", time="10:00:00"):
+    """A header of a .bit file that gives `length` as the bytes of the data; an empty text is a field without bytes."""
+    fields = [text.encode() + b"\0" if text else b"" for text in (design, part_name, date, time)]
+    texts = b"".join(bytes([letter]) + len(field).to_bytes(2, "big") + field for letter, field in zip(b"abcd", fields))
+    return FIXED + texts + b"e" + length.to_bytes(4, "big")
 
 
 def cases_of(path):

@@ -41,10 +41,10 @@ def run_here(folder, words):
         status = 70
         try:
             os.chdir(folder)
-            for number, path in ((0, os.devnull), *zip((1, 2), paths)):
-                os.dup2(os.open(path, os.O_RDONLY if number == 0 else os.O_WRONLY | os.O_CREAT | os.O_TRUNC, 0o600), number)
-            for name, mode in (("stdin", "r"), ("stdout", "w"), ("stderr", "w")):
-                setattr(sys, name, open(("stdin", "stdout", "stderr").index(name), mode, closefd=False, encoding="utf-8", errors="backslashreplace"))
+            for number, name, path in zip((0, 1, 2), ("stdin", "stdout", "stderr"), (os.devnull, *paths)):
+                how, mode = (os.O_RDONLY, "r") if name == "stdin" else (os.O_WRONLY | os.O_CREAT | os.O_TRUNC, "w")
+                os.dup2(os.open(path, how, 0o600), number)
+                setattr(sys, name, open(number, mode, closefd=False, encoding="utf-8", errors="backslashreplace"))
             signal.alarm(SECONDS)
             sys.argv = [os.path.join(TOOLS, words[0]), *words[1:]]
             status = status_of(sys.argv[0])

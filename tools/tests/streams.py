@@ -1,6 +1,6 @@
 """Streams for tests, planned here: whole ones as the vendor's tool orders them, uncompressed and compressed, and
 partial ones, of a small part that is made up; their headers, and what becomes of them when words are changed."""
-from casefiles import TOOLS  # noqa: F401  (it puts the tools on the path)
+from casefiles import header  # (casefiles puts the tools on the path)
 import x7formats as x7
 
 IDCODE = 0x0362D093
@@ -52,14 +52,14 @@ def command(name):
 
 
 def beginning():
-    """The words before the frames."""
+    """The lines before the frames."""
     lines = [*HEAD, "write TIMER 1", "data 00000000", "write WBSTAR 1", "data 00000000", *command("NULL"), "nop", *command("RCRC"), "nop", "nop"]
     lines += ["write COR0 1", "data 02003FE5", "write COR1 1", "data 00000000", "write IDCODE 1", f"data {IDCODE:08X}", *command("SWITCH"), "nop"]
     return lines + ["write MASK 1", "data 00000401", "write CTL0 1", "data 00000501", "write MASK 1", "data 00000000", "write CTL1 1", "data 00000000"] + ["nop"] * 8
 
 
 def end():
-    """The words after the frames."""
+    """The lines after the frames."""
     lines = ["crc", "nop", "nop", *command("GRESTORE"), "nop", *command("LFRM")] + ["nop"] * 100
     lines += [*command("START"), "nop", "write FAR 1", "data 00000000", "write MASK 1", "data 00000501", "write CTL0 1", "data 00000501", "crc", "nop", "nop"]
     return lines + command("DESYNC") + ["nop"] * 400
@@ -109,13 +109,6 @@ def data_of(lines):
             made.append(len(data) + 4)
         data += bytes.fromhex("3000000100000000") if line == "crc" else x7.line_bytes(line.encode())
     return x7.with_checks(bytes(data), made)
-
-
-def header(length, part_name="7a35tcpg236", design="made"):
-    """A header that gives `length` as the bytes of the data."""
-    fields = [design.encode() + b"\0", part_name.encode() + b"\0", b"2026/11/29\0", b"10:00:00\0"]
-    texts = b"".join(bytes([letter]) + len(field).to_bytes(2, "big") + field for letter, field in zip(b"abcd", fields))
-    return x7.FIXED + texts + b"e" + length.to_bytes(4, "big")
 
 
 def bit(lines, part_name="7a35tcpg236"):

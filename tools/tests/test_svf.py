@@ -3,6 +3,7 @@
 change and as a readback; and what can't start so is refused."""
 import tempfile
 
+from casefiles import header
 from runs import DEVICE, X7, Bench, frame_of
 import x7formats as x7
 
@@ -25,9 +26,8 @@ def make(bench):
 
 
 def with_header(data, length=None):
-    """A stream after a header."""
-    fields = b"".join(letter + len(text).to_bytes(2, "big") + text for letter, text in ((b"a", b"design\0"), (b"b", b"made\0"), (b"c", b"\0"), (b"d", b"\0")))
-    return x7.FIXED + fields + b"e" + (len(data) if length is None else length).to_bytes(4, "big") + data
+    """A stream after a header, which gives `length` as its bytes, or how many they are."""
+    return header(len(data) if length is None else length, "made", "design") + data
 
 
 def ends(bench, name, *texts):

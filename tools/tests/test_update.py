@@ -6,11 +6,16 @@ import random
 import re
 import tempfile
 
+from casefiles import header
 from runs import DEVICE, X7, Bench, frame_of
 import x7formats as x7
 from x7bench import SECTOR, slot_of
 
 SIZE = 5 * SECTOR
+# the texts of a header that has none
+NO_TEXTS = [""] * 4
+# a header for data of length 0
+EMPTY_HEADER = header(0, *NO_TEXTS)
 
 
 def text_of(frames):
@@ -87,16 +92,11 @@ def steps(bench):
     bench.tally.check("a program stays in its page", all(place // 256 == (place + size - 1) // 256 for place, size in sizes))
     bench.put("nothing", b"")
     do_steps(bench, "an empty stream", "nothing")
-    bench.put("headed", header() + bench.get("next"))
+    bench.put("headed", EMPTY_HEADER + bench.get("next"))
     do_steps(bench, "a stream after a header", "headed", "--page", "512")
     bench.put("closed", x7.bytes_of([0]) + bench.get("image")[4:].ljust(SIZE - 4, b"\xff"))
     bench.put("flash", bench.get("closed"))
     do_steps(bench, "no slot is open", "next")
-
-
-def header():
-    """A header of a .bit file for data of length 0."""
-    return x7.FIXED + b"a\0\0b\0\0c\0\0d\0\0e\0\0\0\0"
 
 
 def cuts(bench):
@@ -146,12 +146,11 @@ def allowed(bench):
     bench.tally.same("what it writes is the stream with 101", bench.get("allows"), bench.get("next"))
     bench.make("again", "allow_fallback", "next")
     bench.tally.same("a stream that falls back stays", bench.get("again"), bench.get("next"))
-    bench.put("headed", header() + bench.get("forbids"))
-    bench.put("headed", header()[:-4] + len(bench.get("forbids")).to_bytes(4, "big") + bench.get("forbids"))
+    bench.put("headed", header(len(bench.get("forbids")), *NO_TEXTS) + bench.get("forbids"))
     bench.make("still", "allow_fallback", "headed")
-    bench.tally.same("a header stays", bench.get("still")[len(header()) :], bench.get("next"))
+    bench.tally.same("a header stays", bench.get("still")[len(EMPTY_HEADER) :], bench.get("next"))
     data = bench.get("forbids")
-    for name, bad, what in (("cut", data[:-80], "DESYNC"), ("bit", data[:500] + bytes([data[500] ^ 4]) + data[501:], "check fails"), ("empty", b"", "no sync word"), ("headed", header() + data, "header tells")):
+    for name, bad, what in (("cut", data[:-80], "DESYNC"), ("bit", data[:500] + bytes([data[500] ^ 4]) + data[501:], "check fails"), ("empty", b"", "no sync word"), ("headed", EMPTY_HEADER + data, "header tells")):
         bench.put("bad", bad)
         bench.refuses("allow_fallback", "bad", what=what)
     bench.refuses("allow_fallback")
