@@ -1,7 +1,7 @@
 //! The running check by tables (this project's choice): a word at once, and four words at once.
 ghost use Rattle.std.specs.Prelude.{◌≡◌, ◌<◌, ◌+◌, ◌*◌, IsTrue, [], ◌∷◌, ℕ};
 ghost use Rattle.x7_regs.specs.Register.{reg_number_count};
-ghost use Rattle.x7_crc.specs.Table.{all_have_advances, has_advances};
+ghost use Rattle.x7_crc.specs.Table.{all_have_advances, check_of_zeros, has_advances};
 ghost use Rattle.x7_crc.specs.Check.{bits_per_write, check_after, check_after_one, writes_to};
 ghost use Rattle.x7_crc.specs.ShiftRegister.{advanced};
 
@@ -18,7 +18,7 @@ pub(crate) fn fold_by_tables(before: u32, register: u8, word: u32) -> u32
 /// The check, from 0 on, of four writes of 0 to the register with this number.
 pub(crate) fn check_of_zeros(register: u8) -> u32
     requires { register < reg_number_count }
-    ensures { result ≡ check_after 0 (writes_to register (0 ∷ 0 ∷ 0 ∷ 0 ∷ [])) }
+    ensures { result ≡ check_of_zeros register }
 {
     let two = fold_by_tables(fold_by_tables(0, register, 0), register, 0);
     fold_by_tables(fold_by_tables(two, register, 0), register, 0)
@@ -33,7 +33,7 @@ pub(crate) fn fold_four(
     third: u32,
     last: u32,
 ) -> u32
-    ensures { (register : ℕ) → register < reg_number_count → zeros ≡ check_after 0 (writes_to register (0 ∷ 0 ∷ 0 ∷ 0 ∷ [])) → result ≡ check_after before (writes_to register (first ∷ second ∷ third ∷ last ∷ [])) }
+    ensures { (register : ℕ) → register < reg_number_count → zeros ≡ check_of_zeros register → result ≡ check_after before (writes_to register (first ∷ second ∷ third ∷ last ∷ [])) }
 {
     // What doesn't wait for the check before comes first.
     let late = advance_second(second) ^ advance_third(third) ^ advance_last(last) ^ zeros;
