@@ -10,7 +10,6 @@ use Rattle.x7_engine.specs.Standing.{DeviceState, DeviceStandsFor, NoWordDue, re
 use Rattle.x7_engine.specs.State.{reads_of, stop_in}
 use Rattle.x7_forms.specs.Known.{reads_limit, StreamRead}
 use Rattle.x7_forms.specs.Step.{ReadsStreams}
-use Rattle.x7_forms.specs.Turn.{ReadsRest}
 use Rattle.x7_words.specs.Input.{InputsState}
 use Rattle.x7_forms.specs.Event.{Event}
 use Rattle.x7_playing.specs.declared.player.Player.{Player}
@@ -90,9 +89,10 @@ MayPlayBy over s count = (part : PartData) × ((bytes : List ℕ) × (HasPlayedB
 abbrev pub MayPlay : Player → ℕ → Type 0
 MayPlay p count = MayPlayBy p.is_over (play_state p.device p.buffer p.reads.items) count
 
--- the rest of the open stream was read to its end and played, with `left` of `limit` bytes left
-abbrev pub PlaysRest : Player → Player → InputsState → InputsState → ℕ → ℕ → Type 0
-PlaysRest before after old new limit left = (more : List ℕ) × (length more + left ≡ limit) × PlaysOn before after more × ReadsRest old new more
+-- The rest of the open stream was played, as `WasPlayed` says, with `left` of `limit` bytes left, and is what was read
+-- to its end, as `IsRest` says.
+abbrev pub PlaysRest : ℕ → ℕ → (List ℕ → Type 0) → (List ℕ → Type 0) → Type 0
+PlaysRest limit left WasPlayed IsRest = (more : List ℕ) × (length more + left ≡ limit) × WasPlayed more × IsRest more
 
 -- the player was given the data of the streams of these names, as a step reads them
 abbrev pub PlaysStreams : PartData → Player → InputsState → InputsState → List (List ℕ) → Type 0

@@ -4,7 +4,7 @@ ghost use Rattle.x7_words.specs.Input.{AsksAtMost, AtEnd, InputsStay};
 ghost use Rattle.x7_forms.specs.Event.{event_of, no_memory};
 ghost use Rattle.x7_forms.specs.Known.{stream_limit};
 ghost use Rattle.x7_playing.specs.Playing.{MayPlay, PlaysOn, PlaysRest, PlaysStream, PlaysStreams};
-ghost use Rattle.x7_forms.specs.Turn.{GivesFew, IsLastAsked, UnreadRest, play_turn_size};
+ghost use Rattle.x7_forms.specs.Turn.{GivesFew, IsLastAsked, ReadsRest, UnreadRest, play_turn_size};
 ghost use Rattle.x7_forms.specs.ReadingStops.{StopsAmong, limited_together};
 ghost use Rattle.x7_forms.specs.Step.{IsOneUnplayed, IsUnplayed, ReadsStream, ReadsStreams};
 
@@ -32,7 +32,7 @@ fn play_rest<'w, I: Inputs>(
     requires buffer { length piece.old ≡ play_turn_size }
     requires end { last ≡ true → AtEnd (I.state inputs.old).rest }
     requires may_play { MayPlay player.old limit }
-    ensures played { IfOk result (λ left. PlaysRest player.old player.new (I.state inputs.old) (I.state inputs.new) limit left) }
+    ensures played { IfOk result (λ left. PlaysRest limit left (PlaysOn player.old player.new) (ReadsRest (I.state inputs.old) (I.state inputs.new))) }
     ensures refused { IfErr result (λ r. (event_of r ≡ no_memory) ⊎ UnreadRest (I.state inputs.old) name.now (I.state inputs.new) limit (event_of r)) }
     ensures length { length piece.new ≡ length piece.old }
     ensures gives_few { GivesFew (I.state inputs.old) limit (I.state inputs.new) }
