@@ -67,7 +67,7 @@ CausedBy Wording form old new event = ⊥
 CausedBy Want form old new event = event ≡ no_memory
 -- it reports a fault that came, and is the first event over known contents with that fault
 CausedBy Fault form old new event = ReportsMishap form old new event
--- the same of a name that was missing by the count of absences; or by known contents the name isn't there
+-- it reports a name that was missing, by the count of absences; or by known contents the name isn't there
 CausedBy Absence form old new event = ReportsMishap form old new event ⊎ IsKnownToGive (known_in old) form (Err event)
 -- the output failed, or the flash at a write once all else was done
 CausedBy Break form old new event = (event ≡ writing_failed) × (SinkFails old.out new.out ⊎ WritesLast form old new)
