@@ -61,7 +61,7 @@ fn slot_count(part: &Part) -> u64
     ensures most { result ≤ most_slots }
     ensures most_words { frame_words part.now * result ≤ most_words }
 {
-    part.slots_from(first_address(part))
+    part.slot_count_from(first_address(part))
 }
 
 /// Writes the settings of startup, and where the frame data begins.
