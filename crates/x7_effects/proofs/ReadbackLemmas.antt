@@ -11,7 +11,7 @@ use Rattle.x7_part.specs.AddressOrder.{addresses_in}
 use Rattle.x7_part.specs.Part.{PartData, frame_words}
 use Rattle.x7_startup.specs.Startup.{StartupProgress}
 use Rattle.x7_part.specs.Ranges.{IsPart}
-use Rattle.x7_part.specs.Slot.{slots_in}
+use Rattle.x7_part.specs.Slot.{slots_in, slots_from}
 use Rattle.x7_part.specs.declared.slot.Slot.{Slot}
 use Rattle.x7_part.specs.declared.slot.Slot.TheVariants.{Frame, Pad, End}
 use Rattle.x7_part.proofs.SlotLemmas.{slots_number, slots_split}
@@ -19,7 +19,6 @@ use Rattle.x7_memory.specs.FrameMap.{AreSame, FrameMap}
 use Rattle.x7_pipeline.specs.declared.fault.RunFault.{RunFault}
 use Rattle.x7_pipeline.specs.FarAsRead.{has_frame_at}
 use Rattle.x7_pipeline.specs.Fault.{address_fault}
-use Rattle.x7_pipeline.specs.Runs.{slots_from}
 use Rattle.x7_flow.specs.Asking.{Other, Reads}
 use Rattle.x7_regs.specs.Control.{forbids_reading}
 use Rattle.x7_flow.specs.Controls.{ctl0_held}

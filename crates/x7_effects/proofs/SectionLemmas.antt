@@ -8,6 +8,7 @@ use Rattle.x7_packets.specs.History as access
 use Rattle.x7_packets.specs.History.{History, command_held, entry}
 use Rattle.x7_startup.specs.Startup.{StartupProgress}
 use Rattle.x7_part.specs.Part.{PartData, frame_words}
+use Rattle.x7_part.specs.Slot.{slots_from}
 use Rattle.x7_memory.specs.FrameMap.{AreSame, FrameMap}
 use Rattle.x7_memory.specs.Plan.{PlanRow, planned_addresses}
 use Rattle.x7_regs.specs.Command.{command_with}
@@ -15,7 +16,7 @@ use Rattle.x7_regs.specs.declared.command.Command.{Command}
 use Rattle.x7_pipeline.specs.Copies.{is_mfw}
 use Rattle.x7_pipeline.specs.FarAsRead.{has_frame_at, loaded_base}
 use Rattle.x7_pipeline.specs.Fault.{address_fault, copy_fault}
-use Rattle.x7_pipeline.specs.Runs.{written_frames, onto, put_over, slots_from}
+use Rattle.x7_pipeline.specs.Runs.{written_frames, onto, put_over}
 use Rattle.x7_pipeline.proofs.LawLemmas.{put_twice}
 use Rattle.x7_flow.specs.Asking.{Copies, Other}
 use Rattle.x7_flow.specs.Controls.{ctl0_held}

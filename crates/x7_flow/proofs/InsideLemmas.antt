@@ -9,6 +9,7 @@ use Rattle.std.specs.Option.{option_or}
 use Rattle.x7_packets.specs.History.{History, command_held, writes}
 use Rattle.x7_part.specs.AddressOrder.{addresses_in}
 use Rattle.x7_part.specs.Part.{PartData, frame_words}
+use Rattle.x7_part.specs.Slot.{slots_from}
 use Rattle.x7_part.specs.declared.slot.Slot.{Slot}
 use Rattle.x7_part.specs.declared.slot.Slot.TheVariants.{Frame, Pad, End}
 use Rattle.x7_memory.specs.FrameMap.{FrameMap}
@@ -20,7 +21,7 @@ use Rattle.x7_memory.proofs.PlanLemmas.{planned_after, planned_here}
 use Rattle.x7_pipeline.specs.Copies.{copied, is_mfw, newest_of}
 use Rattle.x7_pipeline.specs.FarAsRead.{has_frame_at}
 use Rattle.x7_pipeline.specs.Fault.{completes}
-use Rattle.x7_pipeline.specs.Runs.{at_slot, frames_of, put_over, slots_from}
+use Rattle.x7_pipeline.specs.Runs.{at_slot, frames_of, put_over}
 use Rattle.x7_pipeline.proofs.LawLemmas.{cut}
 use Rattle.x7_pipeline.proofs.SlotLemmas.{has_address, slot_address}
 use Rattle.x7_flow.specs.Asking.{Asked, Copies, Load, Commands, Other, Reads, Word}

@@ -6,12 +6,13 @@ use Rattle.x7_packets.specs.History.{Write, History, command_held, entered_all, 
 use Rattle.x7_packets.specs.Packet.{payload_steps}
 use Rattle.x7_packets.proofs.HistoryLemmas.{kept_all}
 use Rattle.x7_part.specs.Part.{PartData, frame_words}
+use Rattle.x7_part.specs.Slot.{slots_from}
 use Rattle.x7_memory.specs.FrameMap.{FrameMap, AreSame}
 use Rattle.x7_memory.specs.Plan.{PlanRow, planned}
 use Rattle.x7_memory.proofs.MapLemmas.{override_again, override_same}
 use Rattle.x7_regs.specs.Command.{command_with}
 use Rattle.x7_pipeline.specs.RunsInWords.{pair_of}
-use Rattle.x7_pipeline.specs.Runs.{but_newest, frames_of, written_frames, onto, put_over, rest_of, slots_from, Lands}
+use Rattle.x7_pipeline.specs.Runs.{but_newest, frames_of, written_frames, onto, put_over, rest_of, Lands}
 use Rattle.x7_pipeline.specs.FarAsRead.{has_frame_at, loaded_base}
 use Rattle.x7_pipeline.specs.Copies.{copied, is_mfw}
 use Rattle.x7_pipeline.proofs.LawLemmas.{landed_empty, landed_in_order, reverse_cons}

@@ -3,11 +3,12 @@
 use Rattle.std.specs.Prelude.{ℕ, ◌&&◌, if◌then◌else◌, List, [], ◌∷◌, length, slice_index_or}
 use Rattle.x7_packets.specs.History.{History}
 use Rattle.x7_part.specs.Part.{PartData, frame_words}
+use Rattle.x7_part.specs.Slot.{slots_from}
 use Rattle.x7_part.specs.declared.slot.Slot.TheVariants.{End}
 use Rattle.x7_memory.specs.FrameMap.{FrameMap}
 use Rattle.x7_memory.specs.PartFrames.{zeros}
 use Rattle.x7_memory.specs.Plan.{PlanRow}
-use Rattle.x7_pipeline.specs.Runs.{at_slot, frames_of, put_over, slots_from}
+use Rattle.x7_pipeline.specs.Runs.{at_slot, frames_of, put_over}
 use Rattle.x7_pipeline.specs.FarAsRead.{has_frame_at}
 use Rattle.x7_pipeline.specs.Copies.{copied, is_mfw}
 use Rattle.x7_pipeline.specs.Fault.{completes}

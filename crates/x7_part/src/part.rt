@@ -8,7 +8,7 @@ ghost use Rattle.x7_part.specs.Part.{PartData, frame_words};
 ghost use Rattle.x7_part.specs.Values.{part_data};
 ghost use Rattle.x7_part.specs.Row.{same_row_fault, sorted_rows};
 ghost use Rattle.x7_part.specs.Ranges.{IsPart};
-ghost use Rattle.x7_part.specs.Slot.{HasFrameOf, slots_in, from};
+ghost use Rattle.x7_part.specs.Slot.{HasFrameOf, slots_in, slots_from, slot_after};
 ghost use Rattle.x7_part.specs.declared.slot.Slot.{Slot};
 
 use crate::column::{self, Column};
@@ -200,7 +200,7 @@ impl Part {
     /// Slot n, from 0, of the slots from an address on, `End` where there are no more than n.
     pub fn slot_after(&self, far: u32, n: u64) -> Slot
         requires address { Contains (addresses_in self.now) far }
-        ensures { result ≡ slice_index_or (from far (slots_in self.now)) n Slot.End }
+        ensures { result ≡ slot_after self.now far n }
     {
         column::slot_after(self.table(), far, n)
     }
@@ -209,7 +209,7 @@ impl Part {
     pub fn place_of(&self, far: u32) -> u64
         requires address { Contains (addresses_in self.now) far }
         ensures within { result < length (slots_in self.now) }
-        ensures slots { (n : ℕ) → slice_index_or (slots_in self.now) (result + n) Slot.End ≡ slice_index_or (from far (slots_in self.now)) n Slot.End }
+        ensures slots { (n : ℕ) → slice_index_or (slots_in self.now) (result + n) Slot.End ≡ slot_after self.now far n }
         ensures few_slots { length (slots_in self.now) < 2 ^ 63 }
     {
         column::place_of(self.table(), far)
@@ -227,7 +227,7 @@ impl Part {
     /// The number of slots from an address on.
     pub fn slot_count_from(&self, far: u32) -> u64
         requires address { Contains (addresses_in self.now) far }
-        ensures { result ≡ length (from far (slots_in self.now)) }
+        ensures { result ≡ length (slots_from self.now far) }
     {
         column::slot_count_from(self.table(), far)
     }

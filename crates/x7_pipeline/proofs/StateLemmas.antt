@@ -6,6 +6,7 @@ use Rattle.x7_part.specs.Part.{PartData, frame_words}
 use Rattle.std.proofs.Math.Nat.{mul-le-mul_right}
 use Rattle.x7_part.specs.Address.{far_width}
 use Rattle.x7_part.specs.Ranges.{IsPart}
+use Rattle.x7_part.specs.Slot.{slots_from}
 use Rattle.x7_part.specs.declared.slot.Slot.{Slot}
 use Rattle.x7_part.specs.declared.slot.Slot.TheVariants.{Frame, Pad, End}
 use Rattle.x7_memory.specs.FrameMap.{FrameMap, AreSame}
@@ -13,7 +14,7 @@ use Rattle.x7_memory.specs.Plan.{PlanRow, planned}
 use Rattle.x7_memory.proofs.MapLemmas.{override_one}
 use Rattle.x7_regs.specs.declared.command.Command.{Command}
 use Rattle.x7_pipeline.specs.declared.fault.RunFault.TheVariants.{Address, Overrun, Multi}
-use Rattle.x7_pipeline.specs.Runs.{rest_of, frames_of, slots_from, at_slot, in_slots, but_newest, written_frames, put_over, Lands}
+use Rattle.x7_pipeline.specs.Runs.{rest_of, frames_of, at_slot, in_slots, but_newest, written_frames, put_over, Lands}
 use Rattle.x7_pipeline.specs.FarAsRead.{has_frame_at, far_at, far_of}
 use Rattle.x7_pipeline.specs.Copies.{is_mfw, newest_of, source_with, source_after, copied}
 use Rattle.x7_pipeline.specs.Readback.{word_at, read_slot, readback_at, read_limit, given_stored}

@@ -6,7 +6,7 @@ use Rattle.x7_part.specs.declared.slot.Slot.{Slot}
 use Rattle.x7_part.specs.declared.slot.Slot.TheVariants.{End, Pad}
 use Rattle.x7_memory.specs.PartFrames.{AreFramesOf}
 use Rattle.x7_regs.specs.declared.command.Command.{Command}
-use Rattle.x7_pipeline.specs.Runs.{slots_from}
+use Rattle.x7_part.specs.Slot.{slots_from}
 
 -- what a pipeline stores
 pub record PipelineData : Type 0 where

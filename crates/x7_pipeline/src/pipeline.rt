@@ -3,11 +3,12 @@ ghost use Rattle.std.specs.Prelude.{◌≡◌, ◌+◌, ◌-◌, ◌*◌, ◌/�
 ghost use Rattle.std.specs.Result.{result_err};
 ghost use Rattle.x7_words.specs.Word.{AreWholeWords, words_of_bytes};
 ghost use Rattle.x7_part.specs.Part.{PartData};
+ghost use Rattle.x7_part.specs.Slot.{slots_from};
 ghost use Rattle.x7_memory.specs.FrameMap.{AreSame};
 ghost use Rattle.x7_memory.specs.PartFrames.{frame_at, AreFramesOf};
 ghost use Rattle.x7_part.specs.declared.slot.Slot.{Slot};
 ghost use Rattle.x7_regs.specs.declared.command.Command.{Command};
-ghost use Rattle.x7_pipeline.specs.Runs.{put_over, slots_from};
+ghost use Rattle.x7_pipeline.specs.Runs.{put_over};
 ghost use Rattle.x7_pipeline.specs.FarAsRead.{far_of, loaded_base, has_frame_at};
 ghost use Rattle.x7_pipeline.specs.Copies.{is_wcfg, is_mfw, source_with};
 ghost use Rattle.x7_pipeline.specs.Readback.{readback_at, word_at};

@@ -1,7 +1,7 @@
 //! The slots from any base on, and the address at which a run stands.
 ghost use Rattle.std.specs.Prelude.{◌≡◌, ◌^◌, ◌<◌, ◌∷◌, length, slice_index_or};
 ghost use Rattle.x7_part.specs.declared.slot.Slot.{Slot};
-ghost use Rattle.x7_pipeline.specs.Runs.{slots_from};
+ghost use Rattle.x7_part.specs.Slot.{slots_from};
 ghost use Rattle.x7_pipeline.specs.FarAsRead.{far_at as address_at, last_address as greatest_address, has_frame_at};
 
 use x7_part::{Part, Slot};

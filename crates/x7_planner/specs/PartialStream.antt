@@ -3,7 +3,7 @@
 use Rattle.std.specs.Prelude.{◌≡◌, ℕ, ◌+◌, ◌-◌, ◌*◌, ◌<◌, ◌≤◌, ◌==◌, ◌&&◌, nat_le, Bool, true, false, if◌then◌else◌, List, [], ◌∷◌, ◌++◌, length, map, replicate, slice_index, slice_index_or, All, Contains, Some}
 use Rattle.std.specs.List.{flat_map}
 use Rattle.x7_part.specs.Part.{PartData, frame_words}
-use Rattle.x7_part.specs.Slot.{from, slots_in}
+use Rattle.x7_part.specs.Slot.{slot_after}
 use Rattle.x7_part.specs.declared.slot.Slot.{Slot}
 use Rattle.x7_part.specs.declared.slot.Slot.TheVariants.{Frame, Pad, End}
 use Rattle.x7_memory.specs.Plan.{AreApart, PlanRow, planned, planned_addresses}
@@ -70,7 +70,7 @@ is_frame address End = false
 
 -- the second address is the next of the first, in the same row
 abbrev pub follows : PartData → ℕ → ℕ → Bool
-follows part a b = is_frame b (slice_index_or (from a (slots_in part)) 1 End)
+follows part a b = is_frame b (slot_after part a 1)
 
 -- runs with a row more before them, which joins the first of them where that follows it
 abbrev pub with_row : PartData → PlanRow → List (List PlanRow) → List (List PlanRow)
