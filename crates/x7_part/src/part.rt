@@ -13,7 +13,7 @@ ghost use Rattle.x7_part.specs.declared.slot.Slot.{Slot};
 
 use crate::column::{self, Column};
 use crate::row::{self, Row};
-use crate::settings::Settings;
+use crate::settings::PartSettings;
 use crate::slot::Slot;
 use crate::table::table_of;
 use std::alloc::{AllocError, Global};
@@ -24,7 +24,7 @@ use x7_words::NoMemory;
 #[derive(Drop)]
 pub struct Part {
     name: String,
-    settings: Settings,
+    settings: PartSettings,
     rows: Vec<Row>,
     columns: Vec<Column>,
 }
@@ -42,7 +42,7 @@ impl Part {
     pub(crate) fn of(
         alloc: Global,
         name: String,
-        settings: Settings,
+        settings: PartSettings,
         rows: Vec<Row>,
     ) -> Result<Part, AllocError>
         requires rows { All IsRow rows.items }
