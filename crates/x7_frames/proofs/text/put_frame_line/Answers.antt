@@ -2,7 +2,7 @@ use Rattle.std.proofs.Common.{ℕ, List, [], ◌∷◌, codes, ◌++◌, ap, ◌
 use Rattle.std.specs.List.{flat_map}
 use Rattle.x7_text.specs.Digits.{hex_word}
 use Rattle.x7_frames.proofs.TextLemmas.{line_put}
-use Rattle.x7_frames.proofs.text.put_line.Goals as goal
+use Rattle.x7_frames.proofs.text.put_frame_line.Goals as goal
 
 pub returns : goal.returns
 returns c =
