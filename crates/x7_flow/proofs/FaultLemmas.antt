@@ -10,7 +10,7 @@ use Rattle.x7_pipeline.specs.declared.fault.RunFault.{RunFault}
 use Rattle.x7_pipeline.specs.declared.fault.RunFault.TheVariants.{Address, Overrun, Multi}
 use Rattle.x7_pipeline.specs.Runs.{frames_of, written_frames, rest_of}
 use Rattle.x7_pipeline.specs.FarAsRead.{has_frame_at}
-use Rattle.x7_pipeline.specs.Copies.{copied, is_mfw}
+use Rattle.x7_pipeline.specs.Copies.{copied_pairs, is_mfw}
 use Rattle.x7_pipeline.specs.Fault.{address_fault, completes, copy_fault, has_filled, write_fault}
 use Rattle.x7_pipeline.proofs.LawLemmas.{copy_no_overrun, overrun_is, refused_far, refused_landed, write_no_multi}
 use Rattle.std.proofs.lemmas.Bool.{ltb-true}
@@ -26,7 +26,7 @@ no_copy : (part : PartData) (f : Flow) (fault : RunFault) → copy_fault part f.
 unfolding copy_fault address_fault
 no_copy part f fault e = by (is_mfw f.command) f.source (has_frame_at part f.base) e
   where
-    by : (m : Bool) (source : Option (List ℕ)) (b : Bool) → (if m && is_some source then (if b then None else Some (Address f.base)) else Some Multi) ≡ Some fault → (if m && b then copied f.base source else []) ≡ []
+    by : (m : Bool) (source : Option (List ℕ)) (b : Bool) → (if m && is_some source then (if b then None else Some (Address f.base)) else Some Multi) ≡ Some fault → (if m && b then copied_pairs f.base source else []) ≡ []
     by true (Some frame) true e = absurd (none-some fault e)
     by true (Some frame) false e = refl
     by true None true e = refl

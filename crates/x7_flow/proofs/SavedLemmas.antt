@@ -9,7 +9,7 @@ use Rattle.x7_memory.proofs.MapLemmas.{override_same, same_memory}
 use Rattle.x7_regs.specs.Command.{command_with}
 use Rattle.x7_pipeline.specs.Runs.{put_over}
 use Rattle.x7_pipeline.specs.FarAsRead.{has_frame_at}
-use Rattle.x7_pipeline.specs.Copies.{copied, is_mfw}
+use Rattle.x7_pipeline.specs.Copies.{copied_pairs, is_mfw}
 use Rattle.x7_pipeline.specs.Pipeline.{PipelineData}
 use Rattle.x7_pipeline.specs.Saved.{ChangesAt, SavedState, next_put}
 use Rattle.x7_pipeline.proofs.SavedLemmas.{changes_copy, changes_none, taken_back, word_changes as one_word}
@@ -31,7 +31,7 @@ word_changes part p f w old new h words same =
     one_word part p f.command f.base f.run f.source f.given w old new h.stands words (record { added = written_frames_more part f.base f.run; grows = landed_grows part f.base w f.run; memory = same })
 
 copy_by : (part : PartData) (p : PipelineData) (base : ℕ) (source : Option (List ℕ)) (old new : FrameMap) (m b : Bool) → p.base ≡ base → p.source ≡ source → is_mfw p.command ≡ m → has_frame_at part p.base ≡ b
-    → AreSame new (put_over (if m && b then copied base source else []) old) → ChangesAt (next_put part p) old new
+    → AreSame new (put_over (if m && b then copied_pairs base source else []) old) → ChangesAt (next_put part p) old new
 copy_by part p base (Some frame) old new true true e g h i s = rw (h, g, i, e) (changes_copy base (Some frame) old new s)
 copy_by part p base None old new true true e g h i s = changes_none (next_put part p) old new (λ far. s far ∙ put_none [] old refl far)
 copy_by part p base source old new true false e g h i s = changes_none (next_put part p) old new (λ far. s far ∙ put_none [] old refl far)

@@ -20,9 +20,9 @@ use Rattle.x7_pipeline.specs.declared.fault.RunFault.{RunFault}
 use Rattle.x7_pipeline.specs.declared.fault.RunFault.TheVariants.{Address, Multi}
 use Rattle.x7_pipeline.specs.Runs.{written_frames, put_over, Lands}
 use Rattle.x7_pipeline.specs.FarAsRead.{has_frame_at, loaded_base}
-use Rattle.x7_pipeline.specs.Copies.{copied, is_mfw}
+use Rattle.x7_pipeline.specs.Copies.{copied_pairs, is_mfw}
 use Rattle.x7_pipeline.specs.Fault.{address_fault, copy_fault, drop_fault, readback_fault}
-use Rattle.x7_pipeline.specs.Flow.{FlowGoesOn, HoldsFlow, LandsAt, OfFlow, after_reads, after_words, begun_at, begun_by, copied_by, fault_of_copy}
+use Rattle.x7_pipeline.specs.Flow.{FlowGoesOn, HoldsFlow, LandsAt, OfFlow, after_reads, after_words, begun_at, begun_by, pairs_copied_by, fault_of_copy}
 use Rattle.x7_pipeline.specs.Pipeline.{AreOfPart, PipelineData}
 use Rattle.x7_pipeline.specs.Readback.{readback_at, read_slot, word_at, word_in_frame}
 use Rattle.x7_flow.specs.Asking.{Asked, Load, Commands, Word, Copies, Reads, Other}
@@ -67,18 +67,18 @@ did_word part p q old new w stands lands = record {
   memory = λ f h. word_memory part f.base w f.run (frame_at part old) (frame_at part new) (lands f h.stands);
 }
 
-copy_allowed : (part : PartData) (f : Flow) → None ≡ copy_fault part f.command f.base f.source → copied f.base f.source ≡ copy_pairs part f
+copy_allowed : (part : PartData) (f : Flow) → None ≡ copy_fault part f.command f.base f.source → copied_pairs f.base f.source ≡ copy_pairs part f
 unfolding copy_fault address_fault
 copy_allowed part f e = by (is_mfw f.command) (is_some f.source) (has_frame_at part f.base) e
   where
-    by : (m s b : Bool) → None ≡ (if m && s then (if b then None else Some (Address f.base)) else Some Multi) → copied f.base f.source ≡ (if m && b then copied f.base f.source else [])
+    by : (m s b : Bool) → None ≡ (if m && s then (if b then None else Some (Address f.base)) else Some Multi) → copied_pairs f.base f.source ≡ (if m && b then copied_pairs f.base f.source else [])
     by true true true e = refl
     by true true false e = absurd (none-some _ e)
     by true false b e = absurd (none-some _ e)
     by false s b e = absurd (none-some _ e)
 
 pub did_copy : (part : PartData) (p q : PipelineData) (old new : List (List ℕ)) → q ≡ p →
-    OfFlow part p (λ f. AreSame (frame_at part new) (put_over (copied_by f) (frame_at part old))) →
+    OfFlow part p (λ f. AreSame (frame_at part new) (put_over (pairs_copied_by f) (frame_at part old))) →
     OfFlow part p (λ f. None ≡ fault_of_copy part f) →
     HaveDone part Copies (frames_state p old) (frames_state q new)
 did_copy part p q old new same put allowed = record {

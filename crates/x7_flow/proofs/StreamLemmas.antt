@@ -14,7 +14,7 @@ use Rattle.x7_regs.specs.Command.{command_with}
 use Rattle.x7_pipeline.specs.RunsInWords.{pair_of}
 use Rattle.x7_pipeline.specs.Runs.{but_newest, frames_of, written_frames, onto, put_over, rest_of, Lands}
 use Rattle.x7_pipeline.specs.FarAsRead.{has_frame_at, loaded_base}
-use Rattle.x7_pipeline.specs.Copies.{copied, is_mfw}
+use Rattle.x7_pipeline.specs.Copies.{copied_pairs, is_mfw}
 use Rattle.x7_pipeline.proofs.LawLemmas.{landed_empty, landed_in_order, reverse_cons}
 use Rattle.x7_pipeline.proofs.RunLemmas.{frames_completes, frames_goes_on, rest_completes, rest_goes_on}
 use Rattle.x7_flow.specs.Asking.{Asked, Copies, Other}
@@ -168,9 +168,9 @@ unfolding flow_of
 copies_here part w place earlier frame m s a =
     let i = flow_sound part earlier in
     let mfw : is_mfw (flow_of part earlier).command ≡ true = ap is_mfw i.command_is ∙ m in
-    ap (λ (b : Bool). if b && has_frame_at part (loaded_base part w) then copied (loaded_base part w) (source_of part earlier) else []) mfw
-    ∙ ap (λ (b : Bool). if b then copied (loaded_base part w) (source_of part earlier) else []) a
-    ∙ ap (copied (loaded_base part w)) s
+    ap (λ (b : Bool). if b && has_frame_at part (loaded_base part w) then copied_pairs (loaded_base part w) (source_of part earlier) else []) mfw
+    ∙ ap (λ (b : Bool). if b then copied_pairs (loaded_base part w) (source_of part earlier) else []) a
+    ∙ ap (copied_pairs (loaded_base part w)) s
 
 -- words of MFWR, one at least, put the source at the base
 pub copies_put : (part : PartData) (earlier : History) (w place n word : ℕ) (ws frame : List ℕ) → takes_copies (settings_of part.idcode earlier) ≡ true →

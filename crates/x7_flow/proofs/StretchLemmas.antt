@@ -9,7 +9,7 @@ use Rattle.x7_memory.proofs.MapLemmas.{override_same}
 use Rattle.x7_regs.specs.Command.{command_by}
 use Rattle.x7_pipeline.specs.Runs.{written_frames, put_over}
 use Rattle.x7_pipeline.specs.FarAsRead.{has_frame_at}
-use Rattle.x7_pipeline.specs.Copies.{copied, is_mfw, is_wcfg}
+use Rattle.x7_pipeline.specs.Copies.{copied_pairs, is_mfw, is_wcfg}
 use Rattle.x7_pipeline.proofs.LawLemmas.{landed_empty, put_twice}
 use Rattle.x7_flow.specs.FrameAccess.{copies_frame}
 use Rattle.x7_regs.specs.declared.command.Command.{Command}
@@ -18,7 +18,7 @@ use Rattle.x7_flow.specs.Asking.{Asked, Load, Commands, Word, Copies, Reads, Oth
 use Rattle.x7_flow.specs.Settings.{Settings, settings_of, takes_frames, takes_copies, gives_frames}
 use Rattle.x7_flow.specs.HistoryFlow.{Flow, asked_under, asks, begins_stretch, is_copy, flow_by, flow_of}
 use Rattle.x7_flow.specs.FrameMemory.{copy_pairs, written_frames_more, memory_of, puts}
-use Rattle.x7_flow.specs.Stretches.{access_begins_stretch, copies_of, ends_of, overridden, stretch_pairs}
+use Rattle.x7_flow.specs.Stretches.{access_begins_stretch, copies_of, ends_of, memory_by_stretches, stretch_pairs}
 use Rattle.x7_flow.proofs.FlowLemmas.{flow_sound, landed_grows, put_none}
 
 -- ---- boundaries and copies, by what is asked
@@ -84,7 +84,7 @@ copy_last : (part : PartData) (f : Flow) (old : List PlanRow) → (is_wcfg f.com
     written_frames part f.base f.run ++ (copy_pairs part f ++ old) ≡ copy_pairs part f ++ (written_frames part f.base f.run ++ old)
 copy_last part f old idle = by (is_mfw f.command) refl
   where
-    by : (b : Bool) → is_mfw f.command ≡ b → written_frames part f.base f.run ++ ((if b && has_frame_at part f.base then copied f.base f.source else []) ++ old) ≡ (if b && has_frame_at part f.base then copied f.base f.source else []) ++ (written_frames part f.base f.run ++ old)
+    by : (b : Bool) → is_mfw f.command ≡ b → written_frames part f.base f.run ++ ((if b && has_frame_at part f.base then copied_pairs f.base f.source else []) ++ old) ≡ (if b && has_frame_at part f.base then copied_pairs f.base f.source else []) ++ (written_frames part f.base f.run ++ old)
     by true e = rw (no_landing part f.base f.run (idle (mfw_not_wcfg f.command e))) refl
     by false e = refl
 
@@ -128,14 +128,14 @@ ends_stay : (e : Entry) (h : History) → access_begins_stretch e.access ≡ fal
 unfolding ends_of
 ends_stay e h b = rw b refl
 
-pub by_stretches : (part : PartData) (h : History) → AreSame (memory_of part h) (overridden part (h ∷ ends_of h))
-unfolding memory_of flow_of overridden copies_of ends_of
-by_stretches part [] far = sym (put_none (written_frames part 0 [] ++ []) (overridden part []) (ap (λ ps. ps ++ []) (landed_empty part 0)) far)
+pub by_stretches : (part : PartData) (h : History) → AreSame (memory_of part h) (memory_by_stretches part (h ∷ ends_of h))
+unfolding memory_of flow_of memory_by_stretches copies_of ends_of
+by_stretches part [] far = sym (put_none (written_frames part 0 [] ++ []) (memory_by_stretches part []) (ap (λ ps. ps ++ []) (landed_empty part 0)) far)
 by_stretches part (e ∷ h) far =
     let a : Asked = asks part.idcode h e.access in
     let f : Flow = flow_of part h in
     let old : List PlanRow = copies_of part h in
-    let ih : AreSame (memory_of part h) (overridden part (h ∷ ends_of h)) = by_stretches part h in
+    let ih : AreSame (memory_of part h) (memory_by_stretches part (h ∷ ends_of h)) = by_stretches part h in
     let pairs : stretch_pairs part (e ∷ h) ≡ written_frames part (flow_by part a f).base (flow_by part a f).run ++ copies_by part a f old =
     ap (λ ps. written_frames part (flow_by part a f).base (flow_by part a f).run ++ ps) (copies_more part e h) in
     elim (true_or_false (begins_stretch a)) [
@@ -143,13 +143,13 @@ by_stretches part (e ∷ h) far =
           let step = begin_step part a f old t in
           let b : access_begins_stretch e.access ≡ true = asked_begins_stretch (settings_of part.idcode h) e.access ∙ t in
           put_none (puts part a f) (memory_of part h) step.1 far ∙ ih far
-          ∙ sym (put_none (stretch_pairs part (e ∷ h)) (overridden part (h ∷ ends_of h)) (pairs ∙ step.0) far)
-          ∙ ap (λ (hs : List History). put_over (stretch_pairs part (e ∷ h)) (overridden part hs) far) (ends_at e h b)
+          ∙ sym (put_none (stretch_pairs part (e ∷ h)) (memory_by_stretches part (h ∷ ends_of h)) (pairs ∙ step.0) far)
+          ∙ ap (λ (hs : List History). put_over (stretch_pairs part (e ∷ h)) (memory_by_stretches part hs) far) (ends_at e h b)
       | inr n ↦
           let b : access_begins_stretch e.access ≡ false = asked_begins_stretch (settings_of part.idcode h) e.access ∙ n in
           let i = flow_sound part h in
-          put_same (puts part a f) (memory_of part h) (overridden part (h ∷ ends_of h)) ih far
-          ∙ sym (put_joined (puts part a f) (stretch_pairs part h) (overridden part (ends_of h)) far)
-          ∙ ap (λ (ps : List PlanRow). put_over ps (overridden part (ends_of h)) far) (sym (pairs ∙ stretch_step part a f old n i.idle))
-          ∙ ap (λ (hs : List History). put_over (stretch_pairs part (e ∷ h)) (overridden part hs) far) (ends_stay e h b)
+          put_same (puts part a f) (memory_of part h) (memory_by_stretches part (h ∷ ends_of h)) ih far
+          ∙ sym (put_joined (puts part a f) (stretch_pairs part h) (memory_by_stretches part (ends_of h)) far)
+          ∙ ap (λ (ps : List PlanRow). put_over ps (memory_by_stretches part (ends_of h)) far) (sym (pairs ∙ stretch_step part a f old n i.idle))
+          ∙ ap (λ (hs : List History). put_over (stretch_pairs part (e ∷ h)) (memory_by_stretches part hs) far) (ends_stay e h b)
     ]

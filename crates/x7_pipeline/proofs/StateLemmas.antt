@@ -16,7 +16,7 @@ use Rattle.x7_regs.specs.declared.command.Command.{Command}
 use Rattle.x7_pipeline.specs.declared.fault.RunFault.TheVariants.{Address, Overrun, Multi}
 use Rattle.x7_pipeline.specs.Runs.{rest_of, frames_of, at_slot, in_slots, but_newest, written_frames, put_over, Lands}
 use Rattle.x7_pipeline.specs.FarAsRead.{has_frame_at, far_at, far_of}
-use Rattle.x7_pipeline.specs.Copies.{is_mfw, newest_of, source_with, source_after, copied}
+use Rattle.x7_pipeline.specs.Copies.{is_mfw, newest_of, source_with, source_after, copied_pairs}
 use Rattle.x7_pipeline.specs.Readback.{word_at, read_slot, readback_at, read_limit, given_stored}
 use Rattle.x7_pipeline.specs.Fault.{address_fault, completes, has_filled, write_fault, copy_fault, readback_fault, drop_fault}
 use Rattle.x7_pipeline.specs.Pipeline.{PipelineData}
@@ -180,7 +180,7 @@ put_no_frame Pad frame old new none same = put_nothing old new same
 put_no_frame End frame old new none same = put_nothing old new same
 
 -- a copy
-pub put_copy : (base at : ℕ) (source : Option (List ℕ)) (frame : List ℕ) (old new : FrameMap) → at ≡ base → source ≡ Some frame → ((a : ℕ) → new a ≡ (if a == at then Some frame else old a)) → AreSame new (put_over (copied base source) old)
+pub put_copy : (base at : ℕ) (source : Option (List ℕ)) (frame : List ℕ) (old new : FrameMap) → at ≡ base → source ≡ Some frame → ((a : ℕ) → new a ≡ (if a == at then Some frame else old a)) → AreSame new (put_over (copied_pairs base source) old)
 unfolding planned
 put_copy base at source frame old new b e put = rw (e, ← b) (override_one old new at frame put)
 

@@ -11,7 +11,7 @@ use Rattle.x7_pipeline.specs.FarAsRead.{far_of}
 use Rattle.x7_memory.specs.PartFrames.{frame_at}
 use Rattle.x7_memory.specs.Plan.{PlanRow}
 use Rattle.x7_pipeline.specs.declared.fault.RunFault.{RunFault}
-use Rattle.x7_pipeline.specs.Copies.{copied, newest_of, source_after}
+use Rattle.x7_pipeline.specs.Copies.{copied_pairs, newest_of, source_after}
 use Rattle.x7_pipeline.specs.Fault.{copy_fault}
 use Rattle.x7_pipeline.specs.Readback.{given_stored, read_slot}
 use Rattle.x7_pipeline.specs.Pipeline.{PipelineData}
@@ -85,8 +85,8 @@ begun_by part command f = record {
 -- ---- a copy
 
 -- what a copy puts
-abbrev pub copied_by : Flow → List PlanRow
-copied_by f = copied f.base f.source
+abbrev pub pairs_copied_by : Flow → List PlanRow
+pairs_copied_by f = copied_pairs f.base f.source
 
 -- why a copy is refused, where it is
 abbrev pub fault_of_copy : PartData → Flow → Option RunFault

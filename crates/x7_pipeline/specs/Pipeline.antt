@@ -44,5 +44,5 @@ abbrev pub slot_given : PartData → PipelineData → ℕ → Slot
 slot_given part p given = slice_index_or (Pad ∷ slots_from part p.base) (given / p.width) End
 
 -- the pipeline after a readback gave `n` words more
-abbrev pub passed : PartData → PipelineData → ℕ → PipelineData
-passed part p n = record p { given = given_after part p n; slot = slot_given part p (given_after part p n) }
+abbrev pub with_words_passed : PartData → PipelineData → ℕ → PipelineData
+with_words_passed part p n = record p { given = given_after part p n; slot = slot_given part p (given_after part p n) }

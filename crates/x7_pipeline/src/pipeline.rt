@@ -14,8 +14,8 @@ ghost use Rattle.x7_pipeline.specs.Copies.{is_wcfg, is_mfw, source_with};
 ghost use Rattle.x7_pipeline.specs.Readback.{readback_at, word_at};
 ghost use Rattle.x7_pipeline.specs.Fault.{write_fault, readback_fault, drop_fault};
 ghost use Rattle.x7_pipeline.specs.Place.{StartsAt};
-ghost use Rattle.x7_pipeline.specs.Pipeline.{AreOfPart, PipelineData, IsPipelineOf, passed};
-ghost use Rattle.x7_pipeline.specs.Flow.{copied_by, fault_of_copy, FlowGoesOn, FramesLand, FramesLandUpToFault, HoldsFlow, OfFlow, PutsNewest, after_reads, after_words, begun_at, begun_by, first_flow, with_run, flow_written};
+ghost use Rattle.x7_pipeline.specs.Pipeline.{AreOfPart, PipelineData, IsPipelineOf, with_words_passed};
+ghost use Rattle.x7_pipeline.specs.Flow.{pairs_copied_by, fault_of_copy, FlowGoesOn, FramesLand, FramesLandUpToFault, HoldsFlow, OfFlow, PutsNewest, after_reads, after_words, begun_at, begun_by, first_flow, with_run, flow_written};
 
 mod saved;
 
@@ -333,7 +333,7 @@ impl Pipeline {
     /// A word written to MFWR, which is a copy: the source is put at the base.
     pub fn copy(&mut self, part: &Part, memory: &mut Memory) -> Result<(), RunFault>
         requires part { AreOfPart part.now self.old memory.old }
-        ensures put { OnOk result (OfFlow part.now self.old (λ f. AreSame (frame_at part.now memory.new) (put_over (copied_by f) (frame_at part.now memory.old)))) }
+        ensures put { OnOk result (OfFlow part.now self.old (λ f. AreSame (frame_at part.now memory.new) (put_over (pairs_copied_by f) (frame_at part.now memory.old)))) }
         ensures fault { OfFlow part.now self.old (λ f. result_err result ≡ fault_of_copy part.now f) }
 
         // Whatever the answer.
@@ -455,7 +455,7 @@ impl Pipeline {
 
     /// Counts `n` words more that a readback gave.
     fn pass_words(&mut self, n: u32, part: &Part)
-        ensures { self.new ≡ passed part.now self.old n }
+        ensures { self.new ≡ with_words_passed part.now self.old n }
     {
         let limit = u64::from(self.width) * (1 + slot_count(part, self.base));
         self.given = self.given.saturating_add(u64::from(n)).min(limit);
