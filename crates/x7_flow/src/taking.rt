@@ -17,7 +17,7 @@ use x7_pipeline::{Pipeline, RunFault};
 use x7_regs::{Reg, command_of};
 
 /// Does what a word written to a register asks, and says why it can't.
-pub(crate) fn take(
+pub(crate) fn take_written_word(
     settings: FrameSettings,
     reg: Reg,
     word: u32,

@@ -20,34 +20,34 @@ pub data Section : Type 0 where
   Rows : (rows : List PlanRow) → Section
 
 -- the two lists have the same words
-abbrev pub same_words : List ℕ → List ℕ → Bool
-same_words [] [] = true
-same_words [] (y ∷ ys) = false
-same_words (x ∷ xs) [] = false
-same_words (x ∷ xs) (y ∷ ys) = (x == y) && same_words xs ys
+abbrev pub have_same_words : List ℕ → List ℕ → Bool
+have_same_words [] [] = true
+have_same_words [] (y ∷ ys) = false
+have_same_words (x ∷ xs) [] = false
+have_same_words (x ∷ xs) (y ∷ ys) = (x == y) && have_same_words xs ys
 
 -- the rows that have a content
 abbrev pub with_content : List ℕ → List PlanRow → List PlanRow
 with_content words [] = []
-with_content words (r ∷ rows) = if same_words r.words words then r ∷ with_content words rows else with_content words rows
+with_content words (r ∷ rows) = if have_same_words r.words words then r ∷ with_content words rows else with_content words rows
 
 -- the addresses that have a content, in the order of the rows
 abbrev pub addresses_with : List ℕ → List PlanRow → List ℕ
 addresses_with words rows = planned_addresses (with_content words rows)
 
--- how many addresses a content has at least that is written once and copied
-abbrev pub group_least : ℕ
-group_least = 3
+-- the fewest addresses at which a content stands that is written once and copied
+abbrev pub least_group_size : ℕ
+least_group_size = 3
 
--- words are the content of `group_least` addresses or more
+-- words are the content of `least_group_size` addresses or more
 abbrev pub are_shared : List PlanRow → List ℕ → Bool
-are_shared all words = nat_le group_least (length (with_content words all))
+are_shared all words = nat_le least_group_size (length (with_content words all))
 
--- a row's content stands at `group_least` addresses or more
+-- a row's content stands at `least_group_size` addresses or more
 abbrev pub is_shared : List PlanRow → PlanRow → Bool
 is_shared all r = are_shared all r.words
 
--- a row's content stands at `group_least` addresses or more, and the row is the first of them
+-- a row's content stands at `least_group_size` addresses or more, and the row is the first of them
 abbrev pub leads_group : List PlanRow → PlanRow → Bool
 leads_group all r = is_shared all r && (slice_index (addresses_with r.words all) 0 == r.far)
 
@@ -57,7 +57,7 @@ groups_led all [] = []
 groups_led all (r ∷ rows) =
     if leads_group all r then Copies r.words (addresses_with r.words all) ∷ groups_led all rows else groups_led all rows
 
--- the rows whose content stands at fewer than `group_least` addresses
+-- the rows whose content stands at fewer than `least_group_size` addresses
 abbrev pub rows_not_shared : List PlanRow → List PlanRow → List PlanRow
 rows_not_shared all [] = []
 rows_not_shared all (r ∷ rows) = if is_shared all r then rows_not_shared all rows else r ∷ rows_not_shared all rows

@@ -230,7 +230,7 @@ impl<'p> FullStream<'p> {
             return Ok(false);
         }
         let start = out.len();
-        let Ok(next) = self.put(out) else {
+        let Ok(next) = self.append_piece(out) else {
             out.truncate(start);
             return Err(NoMemory);
         };
@@ -240,7 +240,7 @@ impl<'p> FullStream<'p> {
     }
 
     /// Appends what is next, and answers what comes after it.
-    fn put(&self, out: &mut Vec<u8>) -> Result<NextPiece, NoMemory>
+    fn append_piece(&self, out: &mut Vec<u8>) -> Result<NextPiece, NoMemory>
         ensures writes { IfOk result (WritesPiece self.now out.old.items out.new.items) }
         ensures within { AppendsWithin out.old out.new result piece_limit }
     {
