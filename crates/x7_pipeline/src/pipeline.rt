@@ -432,10 +432,10 @@ impl Pipeline {
         self.slot = readback_slot(part, self.base, self.given / u64::from(self.width));
     }
 
-    /// Passes over `n` words of a readback, as `n` calls of `read_word` would.
-    pub fn drop_words(&mut self, n: u32, part: &Part) -> Result<(), RunFault>
-        ensures stands { OnOk result (FlowGoesOn part.now self.old self.new (after_reads n)) }
-        ensures fault { OfFlow part.now self.old (λ f. result_err result ≡ drop_fault part.now f.base f.given n) }
+    /// Passes over `count` words of a readback, as `count` calls of `read_word` would.
+    pub fn drop_words(&mut self, count: u32, part: &Part) -> Result<(), RunFault>
+        ensures stands { OnOk result (FlowGoesOn part.now self.old self.new (after_reads count)) }
+        ensures fault { OfFlow part.now self.old (λ f. result_err result ≡ drop_fault part.now f.base f.given count) }
 
         // Whatever the answer.
         ensures part { IsPipelineOf part.now self.old → IsPipelineOf part.now self.new }
@@ -443,22 +443,22 @@ impl Pipeline {
         // After a fault.
         ensures unchanged { OnErr result (self.new ≡ self.old) }
     {
-        if n == 0 {
+        if count == 0 {
             return Ok(());
         }
         if self.reads_nowhere(part) {
             return Err(RunFault::Address(self.base));
         }
-        self.pass_words(n, part);
+        self.pass_words(count, part);
         Ok(())
     }
 
-    /// Counts `n` words more that a readback gave.
-    fn pass_words(&mut self, n: u32, part: &Part)
-        ensures { self.new ≡ with_words_passed part.now self.old n }
+    /// Counts `count` words more that a readback gave.
+    fn pass_words(&mut self, count: u32, part: &Part)
+        ensures { self.new ≡ with_words_passed part.now self.old count }
     {
         let limit = u64::from(self.width) * (1 + slot_count(part, self.base));
-        self.given = self.given.saturating_add(u64::from(n)).min(limit);
+        self.given = self.given.saturating_add(u64::from(count)).min(limit);
         self.slot = readback_slot(part, self.base, self.given / u64::from(self.width));
     }
 
