@@ -4,6 +4,7 @@ use Rattle.std.specs.Prelude.{All, Result, Ok, Err, MatchResult}
 use Rattle.std.specs.List.{flat_map, AllByRecursion}
 use Rattle.std.proofs.lemmas.List.Elements.{All-head, All-tail}
 use Rattle.std.proofs.lemmas.List.Sorted.{IsPermutation-refl}
+use Rattle.x7_words.specs.Characters.{space_byte}
 use Rattle.x7_words.specs.Word.{bytes_of_word, words_of_bytes}
 use Rattle.x7_text.specs.Digits.{hex_word}
 use Rattle.x7_text.specs.EitherCase.{bytes_of_pairs}
@@ -27,7 +28,7 @@ words_free [] = refl
 words_free (w ∷ ws) = free_both (hex_word w) (flat_map hex_word ws) (word_free w) (words_free ws)
 
 head_free : (far : ℕ) → has_no_end (frame_head far) ≡ true
-head_free far = free_both (codes "frame ") (hex_word far ++ 32 ∷ []) refl (free_both (hex_word far) (32 ∷ []) (word_free far) refl)
+head_free far = free_both (codes "frame ") (hex_word far ++ space_byte ∷ []) refl (free_both (hex_word far) (space_byte ∷ []) (word_free far) refl)
 
 -- ---- the digits of words
 

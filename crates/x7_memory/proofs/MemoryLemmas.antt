@@ -6,6 +6,7 @@ use Rattle.std.proofs.lemmas.List.{length-take-le, length-drop, length-append, l
 use Rattle.std.proofs.lemmas.List.Sums.{sum_by-le, sum_by-set}
 use Rattle.std.specs.List.{sum_by}
 use Rattle.std.specs.Prelude.{vec_capacity}
+use Rattle.x7_part.specs.Limits.{most_frame_words, most_frames}
 use Rattle.x7_memory.specs.declared.memory.Memory.TheInside.{Inside}
 use Rattle.x7_memory.specs.Flat.{words_with_frame}
 use Rattle.x7_memory.specs.MemoryFields.{frames_seen, stored_frame, own_frame_count, AreDistinct, HasRoom}
@@ -109,7 +110,7 @@ is_rank m rank is h =
     let low : get_or m.numbers.items rank 0 < m.stored_count = is.below rank (omega arith) in
     let few = stored_few m is in
     let limit = is.ranks in
-    let all : m.width * m.stored_count ≤ 255 * 131073 = mul-le-mul is.narrow (let s : m.stored_count ≤ 131073 = omega arith in s) in
+    let all : m.width * m.stored_count ≤ most_frame_words * (most_frames + 1) = mul-le-mul is.narrow (let s : m.stored_count ≤ most_frames + 1 = omega arith in s) in
     record { inside = omega arith; below = low; end = frame_end m.width m.stored_count (get_or m.numbers.items rank 0) low; small = omega arith }
 
 pub own_number : {n k : ℕ} → n ≡ k → (n ≡ 0 → ⊥) → 0 < k

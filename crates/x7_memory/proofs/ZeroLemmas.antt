@@ -11,6 +11,7 @@ use Rattle.std.specs.Prelude.{vec_capacity}
 use Rattle.x7_words.specs.Word.{AreWords}
 use Rattle.x7_part.specs.Part.{PartData, frame_words}
 use Rattle.x7_part.specs.AddressOrder.{addresses_in, Rises}
+use Rattle.x7_part.specs.Limits.{most_frame_words, most_frames}
 use Rattle.x7_memory.specs.declared.memory.Memory.TheInside.{Inside}
 use Rattle.x7_memory.specs.PartFrames.{zero_frames, are_zeros, AreFramesOf}
 use Rattle.x7_memory.specs.MemoryFields.{frames_seen, stored_frame, own_frame_count, HasRoom}
@@ -85,7 +86,7 @@ none_seen width count words numbers e f =
     rw (mul-zero width) (take_all width (replicate width 0) (let n = length-replicate {A = ℕ} width 0 in omega arith)) in
     rw (e, f) (map_alike (stored_frame width (replicate width 0)) count 0 ∙ ap (replicate count) first)
 
-pub none_room : (p : Inside) (width count : ℕ) → 0 < width → width ≤ 255 → count ≤ 131072 → p.width ≡ width → p.stored_count ≡ 1 →
+pub none_room : (p : Inside) (width count : ℕ) → 0 < width → width ≤ most_frame_words → count ≤ most_frames → p.width ≡ width → p.stored_count ≡ 1 →
     p.words.items ≡ replicate width 0 → p.numbers.items ≡ replicate count 0 → width * (count + 1) ≤ vec_capacity p.words → HasRoom p
 none_room p width count some narrow few ew es e f room =
     let n : length p.numbers.items ≡ count = ap length f ∙ length-replicate count 0 in

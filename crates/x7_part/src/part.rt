@@ -8,7 +8,7 @@ ghost use Rattle.x7_part.specs.Part.{PartData, frame_words};
 ghost use Rattle.x7_part.specs.Values.{part_data};
 ghost use Rattle.x7_part.specs.Row.{same_row_fault, sorted_rows};
 ghost use Rattle.x7_part.specs.Ranges.{IsPart};
-ghost use Rattle.x7_part.specs.Slot.{HasFrameOf, slots_in, slots_from, slot_after};
+ghost use Rattle.x7_part.specs.Slot.{HasFrameOf, pads_after_row, slots_in, slots_from, slot_after};
 ghost use Rattle.x7_part.specs.declared.slot.Slot.{Slot};
 
 use crate::column::{self, Column};
@@ -157,7 +157,7 @@ impl Part {
         ensures positive { 0 < result }
         ensures most { result ≤ most_frames }
         ensures part { IsPart self.now }
-        ensures words { frame_words self.now * (result + 2 * length self.now.rows) ≤ most_words }
+        ensures words { frame_words self.now * (result + pads_after_row * length self.now.rows) ≤ most_words }
         ensures order { Rises 0 (addresses_in self.now) }
     {
         column::frame_count(self.table())

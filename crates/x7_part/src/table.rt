@@ -9,10 +9,8 @@ ghost use Rattle.x7_part.specs.Slot.{pads_after_row};
 use crate::address::Widths;
 use crate::column::Column;
 use crate::row::Row;
+use crate::slot::PADS_AFTER_ROW;
 use std::alloc::{AllocError, Global};
-
-/// The number of pads after the last frame of a row (this project's choice).
-const PADS_AFTER_ROW: u32 = 2;
 
 /// The number of pads after a column of a row that has `column_count` columns: the row's after the last one, else none.
 /// Columns count from 0.

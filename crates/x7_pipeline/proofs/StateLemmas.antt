@@ -5,6 +5,7 @@ use Rattle.std.proofs.lemmas.Option.{none-some, same_Some}
 use Rattle.x7_part.specs.Part.{PartData, frame_words}
 use Rattle.std.proofs.Math.Nat.{mul-le-mul_right}
 use Rattle.x7_part.specs.Address.{far_width}
+use Rattle.x7_part.specs.Limits.{most_frame_words}
 use Rattle.x7_part.specs.Ranges.{IsPart}
 use Rattle.x7_part.specs.Slot.{slots_from}
 use Rattle.x7_part.specs.declared.slot.Slot.{Slot}
@@ -356,7 +357,7 @@ pub few_given : (part : PartData) (p : PipelineData) (command : Command) (base :
 unfolding read_limit
 few_given part p command base run source given s is =
     let few = few_slots part base is in let g = s.given_is in
-    let most : frame_words part * (1 + length (slots_from part base)) ≤ 255 * (1 + length (slots_from part base)) = mul-le-mul_right (1 + length (slots_from part base)) is.words.1 in
+    let most : frame_words part * (1 + length (slots_from part base)) ≤ most_frame_words * (1 + length (slots_from part base)) = mul-le-mul_right (1 + length (slots_from part base)) is.words.1 in
     omega arith
 
 pub same_given : (part : PartData) (p : PipelineData) (n : ℕ) (command : Command) (base : ℕ) (run : List ℕ) (source : Option (List ℕ)) (given : ℕ) → n ≡ 0 → StandsFor part p command base run source given →

@@ -8,6 +8,7 @@ use Rattle.std.specs.List.{flat_map}
 use Rattle.x7_words.proofs.ListLemmas.{flat_map_last}
 use Rattle.x7_words.specs.Word.{bytes_of_word}
 use Rattle.x7_part.specs.AddressOrder.{addresses_in}
+use Rattle.x7_part.specs.Limits.{most_frame_words, most_words}
 use Rattle.x7_part.specs.Part.{PartData, frame_words}
 use Rattle.x7_part.specs.Ranges.{IsPart}
 use Rattle.x7_part.specs.Slot.{slots_in, from_address}
@@ -55,7 +56,7 @@ slots_none part plan old start =
 
 -- how many words the slots have
 pub record IsFew (part : PartData) (w n : ℕ) : Type 0 where
-  pub words : w * n ≤ 13277056
+  pub words : w * n ≤ most_words
   pub count : n ≡ length (slots_in part)
   pub most : n ≤ most_slots
 
@@ -66,11 +67,11 @@ few_slots part first w n is f e g =
     record { words = omega (arith, same, is.slots); count = count; most = omega (arith, count, slots_number part, is.frames, is.few) }
 
 -- how many words a readback has
-pub read_fits : (part : PartData) (address w n : ℕ) → IsPart part → Contains (addresses_in part) address → w ≤ 255 → n ≤ length (from_address address (slots_in part)) → (n ≤ most_slots) × (w * (n + 1) < 2 ^ 27)
+pub read_fits : (part : PartData) (address w n : ℕ) → IsPart part → Contains (addresses_in part) address → w ≤ most_frame_words → n ≤ length (from_address address (slots_in part)) → (n ≤ most_slots) × (w * (n + 1) < 2 ^ 27)
 read_fits part address w n is has narrow within =
     let split = slots_split part address has in
     let long : length (slots_in part) ≡ length split.0 + length (from_address address (slots_in part)) = ap length split.1 ∙ length-append split.0 (from_address address (slots_in part)) in
     let few : n ≤ most_slots = omega (arith, long, slots_number part, is.frames, is.few, within) in
-    let turned : (n + 1) * w ≤ (n + 1) * 255 = mul-le-mul_left (n + 1) narrow in
-    let most : w * (n + 1) ≤ 255 * (n + 1) = omega (arith, turned) in
+    let turned : (n + 1) * w ≤ (n + 1) * most_frame_words = mul-le-mul_left (n + 1) narrow in
+    let most : w * (n + 1) ≤ most_frame_words * (n + 1) = omega (arith, turned) in
     (few, omega (arith, most, few))
