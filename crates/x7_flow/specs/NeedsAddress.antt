@@ -22,11 +22,13 @@ needs_address _ f = false
 
 -- an access after a history needs an address, and the base, `far`, is none
 abbrev pub LacksAddress : PartData → History → Access → ℕ → Type 0
-LacksAddress part h access far = (needs_address (asks part.idcode h access) (flow_of part h) ≡ true) × (has_frame_at part (base_of part h) ≡ false) × (far ≡ base_of part h)
+LacksAddress part h access far =
+    (needs_address (asks part.idcode h access) (flow_of part h) ≡ true) × (has_frame_at part (base_of part h) ≡ false) × (far ≡ base_of part h)
 
 -- an access after a history is a copy, and there is no frame to copy: the command isn't MFW, or MFW took none
 abbrev pub LacksSource : PartData → History → Access → Type 0
-LacksSource part h access = (is_copy (asks part.idcode h access) ≡ true) × ((is_mfw (flow_of part h).command && is_some (flow_of part h).source) ≡ false)
+LacksSource part h access =
+    (is_copy (asks part.idcode h access) ≡ true) × ((is_mfw (flow_of part h).command && is_some (flow_of part h).source) ≡ false)
 
 -- an access after a history writes this word of frame data, and the base is an address
 pub record WritesWord (part : PartData) (h : History) (access : Access) (w : ℕ) : Type 0 where

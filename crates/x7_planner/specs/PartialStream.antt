@@ -108,7 +108,8 @@ abbrev pub section_words : PartData → Section → List ℕ
 section_words part (Copies words fars) =
     command Wcfg ++ (write_one Far (slice_index fars 0) ++ (frame_data_headers (frame_words part) ++ (words ++ (command Mfw ++ flat_map copy_words fars))))
 section_words part (Rows rows) =
-    command Wcfg ++ (write_one Far (slice_index (planned_addresses rows) 0) ++ (frame_data_headers (frame_words part * (length rows + 1)) ++ (frames_words rows ++ zero_frame part)))
+    command Wcfg ++ (write_one Far (slice_index (planned_addresses rows) 0)
+    ++ (frame_data_headers (frame_words part * (length rows + 1)) ++ (frames_words rows ++ zero_frame part)))
 
 -- what a partial stream begins with, before the groups
 abbrev pub partial_opening : PartData → List ℕ
