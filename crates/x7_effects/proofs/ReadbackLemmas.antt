@@ -19,7 +19,7 @@ use Rattle.x7_memory.specs.FrameMap.{AreSame, FrameMap}
 use Rattle.x7_pipeline.specs.declared.fault.RunFault.{RunFault}
 use Rattle.x7_pipeline.specs.FarAsRead.{has_frame_at}
 use Rattle.x7_pipeline.specs.Fault.{address_fault}
-use Rattle.x7_flow.specs.Asking.{Other, Reads}
+use Rattle.x7_flow.specs.Asking.{NothingAsked, Reads}
 use Rattle.x7_regs.specs.Control.{forbids_reading}
 use Rattle.x7_flow.specs.Controls.{ctl0_held}
 use Rattle.x7_flow.specs.HistoryFlow.{Flow, base_of, fault_by, flow_of, frame_fault, count_given}
@@ -78,7 +78,7 @@ pub gives : (part : PartData) (h : History) (count : ℕ) → 0 < count → acce
 gives part h count some e f = let none : (count == 0) ≡ false = grind (arith, nat_tests, some) in rw (none, e, f) refl
 
 read_none : (part : PartData) (h : History) (count : ℕ) → reads_frame_data h (access.Read 3 count) ≡ true → has_frame_at part (base_of part h) ≡ true → frame_fault part h (access.Read 3 count) ≡ None
-read_none part h count t a = ap (λ (b : Bool). fault_by part (if b then Reads count else Other) (flow_of part h)) t ∙ no_fault part (base_of part h) count a
+read_none part h count t a = ap (λ (b : Bool). fault_by part (if b then Reads count else NothingAsked) (flow_of part h)) t ∙ no_fault part (base_of part h) count a
 
 read_answer : (part : PartData) (kept : Kept) (h : History) (count place : ℕ) → reads_frame_data h (access.Read 3 count) ≡ true → why_at part kept h (access.Read 3 count) ≡ None → words_read_by part kept h (access.Read 3 count) place ≡ frames_read part h count
 read_answer part kept h count place t e =

@@ -14,7 +14,7 @@ use Rattle.x7_pipeline.specs.FarAsRead.{has_frame_at}
 use Rattle.x7_pipeline.specs.Copies.{is_wcfg}
 use Rattle.x7_pipeline.proofs.LawLemmas.{put_twice, no_source}
 use Rattle.x7_pipeline.proofs.RunLemmas.{frames_completes, frames_goes_on}
-use Rattle.x7_flow.specs.Asking.{Asked, Load, Commands, Word, Copies, Reads, Other}
+use Rattle.x7_flow.specs.Asking.{Asked, LoadsFar, Commands, AddsWord, CopiesSource, Reads, NothingAsked}
 use Rattle.x7_flow.specs.Settings.{Settings, settings_of, settings_after, settings_from}
 use Rattle.x7_flow.specs.HistoryFlow.{Flow, asked_under, asks, flow_by, flow_of, source_of}
 use Rattle.x7_flow.specs.FrameMemory.{written_frames_more, memory_of, newest_put, puts}
@@ -49,15 +49,15 @@ given_nowhere true given count p e = absurd cc
 given_nowhere false given count p e = p e
 
 sound_by : (part : PartData) (s t : Settings) (a : Asked) (f : Flow) → Means s a t.command_code → IsSound part s f → IsSound part t (flow_by part a f)
-sound_by part s t (Load w) f m i = record { command_is = i.command_is ∙ ap command_with (sym m); idle = λ e. refl; sourceless = i.sourceless; nowhere = λ e. refl }
+sound_by part s t (LoadsFar w) f m i = record { command_is = i.command_is ∙ ap command_with (sym m); idle = λ e. refl; sourceless = i.sourceless; nowhere = λ e. refl }
 sound_by part s t (Commands c) f m i = record { command_is = m; idle = λ e. refl; sourceless = no_source part f.command c f.run; nowhere = λ e. refl }
-sound_by part s t (Word w) f m i =
+sound_by part s t (AddsWord w) f m i =
     let wcfg : is_wcfg f.command ≡ true = ap is_wcfg (i.command_is ∙ ap command_with m.1) in
     record { command_is = i.command_is ∙ ap command_with (sym m.0); idle = λ e. absurd cc; sourceless = i.sourceless; nowhere = i.nowhere }
-sound_by part s t Copies f m i = record { command_is = i.command_is ∙ ap command_with (sym m); idle = i.idle; sourceless = i.sourceless; nowhere = i.nowhere }
+sound_by part s t CopiesSource f m i = record { command_is = i.command_is ∙ ap command_with (sym m); idle = i.idle; sourceless = i.sourceless; nowhere = i.nowhere }
 sound_by part s t (Reads count) f m i =
     record { command_is = i.command_is ∙ ap command_with (sym m); idle = i.idle; sourceless = i.sourceless; nowhere = given_nowhere (has_frame_at part f.base) f.given count i.nowhere }
-sound_by part s t Other f m i = record { command_is = i.command_is ∙ ap command_with (sym m); idle = i.idle; sourceless = i.sourceless; nowhere = i.nowhere }
+sound_by part s t NothingAsked f m i = record { command_is = i.command_is ∙ ap command_with (sym m); idle = i.idle; sourceless = i.sourceless; nowhere = i.nowhere }
 
 pub flow_sound : (part : PartData) (h : History) → IsSound part (settings_of part.idcode h) (flow_of part h)
 unfolding flow_of

@@ -24,7 +24,7 @@ use Rattle.x7_pipeline.specs.Fault.{completes}
 use Rattle.x7_pipeline.specs.Runs.{at_slot, frames_of, put_over}
 use Rattle.x7_pipeline.proofs.LawLemmas.{cut}
 use Rattle.x7_pipeline.proofs.SlotLemmas.{has_address, slot_address}
-use Rattle.x7_flow.specs.Asking.{Asked, Copies, Load, Commands, Other, Reads, Word}
+use Rattle.x7_flow.specs.Asking.{Asked, CopiesSource, LoadsFar, Commands, NothingAsked, Reads, AddsWord}
 use Rattle.x7_flow.specs.HistoryFlow.{asks, flow_of, source_of}
 use Rattle.x7_flow.specs.FrameMemory.{copy_pairs, written_frames_more, memory_of, newest_put, puts}
 use Rattle.x7_flow.specs.HasFrames.{HasFrames}
@@ -108,12 +108,12 @@ copies_frames part h some = by (is_mfw (flow_of part h).command) (has_frame_at p
     by false b e = tt
 
 puts_frames : (part : PartData) (a : Asked) (h : History) → 0 < frame_words part → AreFrames part (puts part a (flow_of part h))
-puts_frames part (Load w) h some = tt
+puts_frames part (LoadsFar w) h some = tt
 puts_frames part (Commands c) h some = tt
-puts_frames part (Word w) h some = more_frames part (flow_of part h).base (flow_of part h).run some
-puts_frames part Copies h some = copies_frames part h some
+puts_frames part (AddsWord w) h some = more_frames part (flow_of part h).base (flow_of part h).run some
+puts_frames part CopiesSource h some = copies_frames part h some
 puts_frames part (Reads n) h some = tt
-puts_frames part Other h some = tt
+puts_frames part NothingAsked h some = tt
 
 -- ---- the memory
 

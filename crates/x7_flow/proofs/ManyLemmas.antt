@@ -9,7 +9,7 @@ use Rattle.x7_pipeline.specs.Runs.{written_frames, onto, put_over, Lands}
 use Rattle.x7_pipeline.specs.Copies.{is_mfw}
 use Rattle.x7_pipeline.proofs.LawLemmas.{landed_empty, lands_more, lands_none}
 use Rattle.x7_regs.specs.Command.{command_with}
-use Rattle.x7_flow.specs.Asking.{Asked, Word, Other}
+use Rattle.x7_flow.specs.Asking.{Asked, AddsWord, NothingAsked}
 use Rattle.x7_flow.specs.Settings.{Settings, settings_of, settings_after, settings_from, takes_frames}
 use Rattle.x7_flow.specs.HistoryFlow.{Flow, asked_under, base_of, flow_by, flow_of, run_of}
 use Rattle.x7_flow.specs.FrameMemory.{written_frames_more, memory_of, puts}
@@ -22,8 +22,8 @@ pub words_settings : (idcode n : ℕ) (ws : List ℕ) (h : History) → settings
 words_settings idcode n [] h = refl
 words_settings idcode n (w ∷ ws) h = words_settings idcode (n + 4) ws (entry (Write 2 w) (n + 4) ∷ h)
 
-pub word_asked : (s : Settings) (w : ℕ) → takes_frames s ≡ true → asked_under s (Write 2 w) ≡ Word w
-word_asked s w t = ap (λ (b : Bool). if b then Word w else Other) t
+pub word_asked : (s : Settings) (w : ℕ) → takes_frames s ≡ true → asked_under s (Write 2 w) ≡ AddsWord w
+word_asked s w t = ap (λ (b : Bool). if b then AddsWord w else NothingAsked) t
 
 pub word_flow : (part : PartData) (w place : ℕ) (h : History) → takes_frames (settings_of part.idcode h) ≡ true → flow_of part (entry (Write 2 w) place ∷ h) ≡ record (flow_of part h) { run = w ∷ run_of part h }
 word_flow part w place h t = flow_more part (entry (Write 2 w) place) h ∙ ap (λ (a : Asked). flow_by part a (flow_of part h)) (word_asked (settings_of part.idcode h) w t)

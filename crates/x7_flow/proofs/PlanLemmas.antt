@@ -22,7 +22,7 @@ use Rattle.x7_pipeline.specs.Copies.{newest_of}
 use Rattle.x7_pipeline.specs.FarAsRead.{loaded_base}
 use Rattle.x7_pipeline.proofs.SlotLemmas.{addresses_among_slots}
 use Rattle.x7_flow.specs.Settings.{settings_of, takes_copies, takes_frames}
-use Rattle.x7_flow.specs.Asking.{Copies, Other}
+use Rattle.x7_flow.specs.Asking.{CopiesSource, NothingAsked}
 use Rattle.x7_flow.specs.HistoryFlow.{Flow, flow_by, flow_of, run_of, source_of}
 use Rattle.x7_flow.specs.FlowInWords.{frame_taken, words_written}
 use Rattle.x7_flow.proofs.FlowLemmas.{flow_more}
@@ -116,7 +116,7 @@ source_left part h c place frames last some held now run all =
 copy_word_flow : (part : PartData) (h : History) (w place : ℕ) → flow_of part (entry (Write 10 w) place ∷ h) ≡ flow_of part h
 copy_word_flow part h w place = flow_more part (entry (Write 10 w) place) h ∙ by (takes_copies (settings_of part.idcode h))
   where
-    by : (b : Bool) → flow_by part (if b then Copies else Other) (flow_of part h) ≡ flow_of part h
+    by : (b : Bool) → flow_by part (if b then CopiesSource else NothingAsked) (flow_of part h) ≡ flow_of part h
     by true = refl
     by false = refl
 

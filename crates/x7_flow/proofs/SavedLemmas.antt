@@ -13,7 +13,7 @@ use Rattle.x7_pipeline.specs.Copies.{copied_pairs, is_mfw}
 use Rattle.x7_pipeline.specs.Pipeline.{PipelineData}
 use Rattle.x7_pipeline.specs.Saved.{ChangesAt, SavedState, next_put}
 use Rattle.x7_pipeline.proofs.SavedLemmas.{changes_copy, changes_none, taken_back, word_changes as one_word}
-use Rattle.x7_flow.specs.Asking.{Asked, Load, Commands, Word, Copies, Reads, Other}
+use Rattle.x7_flow.specs.Asking.{Asked, LoadsFar, Commands, AddsWord, CopiesSource, Reads, NothingAsked}
 use Rattle.x7_flow.specs.Settings.{Settings, settings_after, settings_of}
 use Rattle.x7_flow.specs.HistoryFlow.{Flow, asks, flow_of}
 use Rattle.x7_flow.specs.FrameMemory.{written_frames_more, memory_of, puts}
@@ -38,14 +38,14 @@ copy_by part p base source old new true false e g h i s = changes_none (next_put
 copy_by part p base source old new false b e g h i s = changes_none (next_put part p) old new (λ far. s far ∙ put_none [] old refl far)
 
 access_changes : (part : PartData) (s : Settings) (a : Asked) (t : ℕ) (p : PipelineData) (f : Flow) (old new : FrameMap) → Means s a t → IsSound part s f → HasFlow part p f → AreSame new (put_over (puts part a f) old) → ChangesAt (next_put part p) old new
-access_changes part s (Load w) t p f old new m i h same = changes_none (next_put part p) old new (λ far. same far ∙ put_none [] old refl far)
+access_changes part s (LoadsFar w) t p f old new m i h same = changes_none (next_put part p) old new (λ far. same far ∙ put_none [] old refl far)
 access_changes part s (Commands c) t p f old new m i h same = changes_none (next_put part p) old new (λ far. same far ∙ put_none [] old refl far)
-access_changes part s (Word w) t p f old new m i h same =
+access_changes part s (AddsWord w) t p f old new m i h same =
     word_changes part p f w old new h (ap is_mfw (i.command_is ∙ ap command_with m.1)) same
-access_changes part s Copies t p f old new m i h same =
+access_changes part s CopiesSource t p f old new m i h same =
     copy_by part p f.base f.source old new (is_mfw f.command) (has_frame_at part f.base) h.stands.base_is h.stands.source_is (ap is_mfw h.stands.command_is) (ap (has_frame_at part) h.stands.base_is) same
 access_changes part s (Reads count) t p f old new m i h same = changes_none (next_put part p) old new (λ far. same far ∙ put_none [] old refl far)
-access_changes part s Other t p f old new m i h same = changes_none (next_put part p) old new (λ far. same far ∙ put_none [] old refl far)
+access_changes part s NothingAsked t p f old new m i h same = changes_none (next_put part p) old new (λ far. same far ∙ put_none [] old refl far)
 
 -- ---- back
 

@@ -25,7 +25,7 @@ use Rattle.x7_pipeline.specs.Fault.{address_fault, copy_fault, drop_fault, readb
 use Rattle.x7_pipeline.specs.Flow.{FlowGoesOn, HoldsFlow, LandsAt, OfFlow, after_reads, after_words, begun_at, begun_by, pairs_copied_by, fault_of_copy}
 use Rattle.x7_pipeline.specs.Pipeline.{AreOfPart, PipelineData}
 use Rattle.x7_pipeline.specs.Readback.{readback_at, read_slot, word_at, word_in_frame}
-use Rattle.x7_flow.specs.Asking.{Asked, Load, Commands, Word, Copies, Reads, Other}
+use Rattle.x7_flow.specs.Asking.{Asked, LoadsFar, Commands, AddsWord, CopiesSource, Reads, NothingAsked}
 use Rattle.x7_flow.specs.HistoryFlow.{Flow, asked_under, asks, base_of, fault_by, first_flow, flow_by, flow_of, frame_fault, count_given}
 use Rattle.x7_flow.specs.FrameMemory.{copy_pairs, written_frames_more, memory_of, puts}
 use Rattle.x7_flow.specs.FrameAccess.{reads_frame_data}
@@ -39,7 +39,7 @@ given_so f n = record f { given = n }
 
 pub did_load : (part : PartData) (p q : PipelineData) (frames : List (List ℕ)) (w : ℕ) →
     ((part : PartData) → FlowGoesOn part p q (begun_at (loaded_base part w))) →
-    HaveDone part (Load w) (frames_state p frames) (frames_state q frames)
+    HaveDone part (LoadsFar w) (frames_state p frames) (frames_state q frames)
 did_load part p q frames w stands = record {
   flow = λ f h. record { stands = stands part f h.stands; nowhere = λ e. refl };
   memory = λ f h far. sym (put_none [] (frame_at part frames) refl far);
@@ -61,7 +61,7 @@ word_memory part base w run old new l =
 pub did_word : (part : PartData) (p q : PipelineData) (old new : List (List ℕ)) (w : ℕ) →
     FlowGoesOn part p q (after_words (w ∷ [])) →
     OfFlow part p (λ f. LandsAt part f (w ∷ []) (frame_at part old) (frame_at part new)) →
-    HaveDone part (Word w) (frames_state p old) (frames_state q new)
+    HaveDone part (AddsWord w) (frames_state p old) (frames_state q new)
 did_word part p q old new w stands lands = record {
   flow = λ f h. record { stands = stands f h.stands; nowhere = h.nowhere };
   memory = λ f h. word_memory part f.base w f.run (frame_at part old) (frame_at part new) (lands f h.stands);
@@ -80,7 +80,7 @@ copy_allowed part f e = by (is_mfw f.command) (is_some f.source) (has_frame_at p
 pub did_copy : (part : PartData) (p q : PipelineData) (old new : List (List ℕ)) → q ≡ p →
     OfFlow part p (λ f. AreSame (frame_at part new) (put_over (pairs_copied_by f) (frame_at part old))) →
     OfFlow part p (λ f. None ≡ fault_of_copy part f) →
-    HaveDone part Copies (frames_state p old) (frames_state q new)
+    HaveDone part CopiesSource (frames_state p old) (frames_state q new)
 did_copy part p q old new same put allowed = record {
   flow = λ f h. rw same h;
   memory = λ f h. rw (← copy_allowed part f (allowed f h.stands)) (put f h.stands);
@@ -96,7 +96,7 @@ read_is part base given nowhere = by (given == 0) (has_frame_at part base) (λ e
     by false true p = refl
     by false false p = let e = p refl in absurd cc
 
-pub did_other : (part : PartData) (f : FramesState) → HaveDone part Other f f
+pub did_other : (part : PartData) (f : FramesState) → HaveDone part NothingAsked f f
 did_other part f = record { flow = λ g h. h; memory = λ g h far. sym (put_none [] (frame_at part f.memory) refl far) }
 
 -- ---- one access more
@@ -239,15 +239,15 @@ refused_read part p f count h n = read_is part f.base f.given h.nowhere ∙ sym 
 
 -- ---- a read
 
-read_asked : (s : Settings) (r count : ℕ) (b : Bool) → (r == 3 && (not (count == 0) && gives_frames s)) ≡ b → asked_under s (Read r count) ≡ (if b then Reads count else Other)
-read_asked s r count b e = ap (λ (x : Bool). if x then Reads count else Other) e
+read_asked : (s : Settings) (r count : ℕ) (b : Bool) → (r == 3 && (not (count == 0) && gives_frames s)) ≡ b → asked_under s (Read r count) ≡ (if b then Reads count else NothingAsked)
+read_asked s r count b e = ap (λ (x : Bool). if x then Reads count else NothingAsked) e
 
 -- a read of other words is none of the pipeline's
 pub other_read : (part : PartData) (p : PipelineData) (frames : List (List ℕ)) (h : History) (r count place : ℕ) → (r == 3 && (not (count == 0) && gives_frames (settings_of part.idcode h))) ≡ false →
     AreFramesAfter part p frames h 0 →
     (frame_fault part h (Read r count) ≡ None) × AreFramesAfter part p frames (entry (Read r count) place ∷ h) 0 × (words_due part (entry (Read r count) place ∷ h) 0 ≡ frames_read part h 0)
 other_read part p frames h r count place b are =
-    let a : asks part.idcode h (Read r count) ≡ Other = read_asked (settings_of part.idcode h) r count false b in (
+    let a : asks part.idcode h (Read r count) ≡ NothingAsked = read_asked (settings_of part.idcode h) r count false b in (
       ap (λ (x : Asked). fault_by part x (flow_of part h)) a,
       one_more part (frames_state p frames) (frames_state p frames) (entry (Read r count) place) h (subst (λ (x : Asked). HaveDone part x (frames_state p frames) (frames_state p frames)) (sym a) (did_other part (frames_state p frames))) are,
       refl,
@@ -291,14 +291,14 @@ read_answered part f h r count place (Some fault) b refused are = frame_read_ref
 -- ---- a written word
 
 -- what a word written to FDRI or MFWR asks, where the settings let it and where they don't
-pub word_asked : (idcode : ℕ) (h : History) (reg : Reg) (w : ℕ) (takes : Bool) → reg ≡ Fdri → takes_frames (settings_of idcode h) ≡ takes → asks idcode h (word_to reg w) ≡ (if takes then Word w else Other)
+pub word_asked : (idcode : ℕ) (h : History) (reg : Reg) (w : ℕ) (takes : Bool) → reg ≡ Fdri → takes_frames (settings_of idcode h) ≡ takes → asks idcode h (word_to reg w) ≡ (if takes then AddsWord w else NothingAsked)
 word_asked idcode h reg w takes e t = rw (e, t) refl
 
-pub copies_asked : (idcode : ℕ) (h : History) (reg : Reg) (w : ℕ) (takes : Bool) → reg ≡ Mfwr → takes_copies (settings_of idcode h) ≡ takes → asks idcode h (word_to reg w) ≡ (if takes then Copies else Other)
+pub copies_asked : (idcode : ℕ) (h : History) (reg : Reg) (w : ℕ) (takes : Bool) → reg ≡ Mfwr → takes_copies (settings_of idcode h) ≡ takes → asks idcode h (word_to reg w) ≡ (if takes then CopiesSource else NothingAsked)
 copies_asked idcode h reg w takes e t = rw (e, t) refl
 
 -- a word written to another register asks nothing
-pub nothing_asked : (idcode : ℕ) (h : History) (reg : Reg) (w : ℕ) → (reg ≡ Far → ⊥) → (reg ≡ Cmd → ⊥) → (reg ≡ Fdri → ⊥) → (reg ≡ Mfwr → ⊥) → asks idcode h (word_to reg w) ≡ Other
+pub nothing_asked : (idcode : ℕ) (h : History) (reg : Reg) (w : ℕ) → (reg ≡ Far → ⊥) → (reg ≡ Cmd → ⊥) → (reg ≡ Fdri → ⊥) → (reg ≡ Mfwr → ⊥) → asks idcode h (word_to reg w) ≡ NothingAsked
 nothing_asked idcode h Crc w far cmd fdri mfwr = refl
 nothing_asked idcode h Far w far cmd fdri mfwr = absurd (far refl)
 nothing_asked idcode h Fdri w far cmd fdri mfwr = absurd (fdri refl)

@@ -17,7 +17,7 @@ use Rattle.x7_pipeline.specs.FarAsRead.{has_frame_at, loaded_base}
 use Rattle.x7_pipeline.specs.Copies.{copied_pairs, is_mfw}
 use Rattle.x7_pipeline.proofs.LawLemmas.{landed_empty, landed_in_order, reverse_cons}
 use Rattle.x7_pipeline.proofs.RunLemmas.{frames_completes, frames_goes_on, rest_completes, rest_goes_on}
-use Rattle.x7_flow.specs.Asking.{Asked, Copies, Other}
+use Rattle.x7_flow.specs.Asking.{Asked, CopiesSource, NothingAsked}
 use Rattle.x7_flow.specs.Settings.{Settings, settings_of, takes_copies, takes_frames}
 use Rattle.x7_flow.specs.HistoryFlow.{Flow, asked_under, base_of, flow_by, flow_of, run_of, source_of}
 use Rattle.x7_flow.specs.FrameMemory.{copy_pairs, memory_of, puts}
@@ -128,8 +128,8 @@ pub record IsCopied (part : PartData) (f : Flow) (s : Settings) (memory : FrameM
   pub settings_are : settings_of part.idcode h ≡ s
   pub memory_is : AreSame (memory_of part h) (put_over pairs memory)
 
-pub copy_asked : (s : Settings) (w : ℕ) → takes_copies s ≡ true → asked_under s (Write 10 w) ≡ Copies
-copy_asked s w t = ap (λ (b : Bool). if b then Copies else Other) t
+pub copy_asked : (s : Settings) (w : ℕ) → takes_copies s ≡ true → asked_under s (Write 10 w) ≡ CopiesSource
+copy_asked s w t = ap (λ (b : Bool). if b then CopiesSource else NothingAsked) t
 
 copy_memory : (part : PartData) (h : History) (w place : ℕ) → takes_copies (settings_of part.idcode h) ≡ true → AreSame (memory_of part (entry (Write 10 w) place ∷ h)) (put_over (copy_pairs part (flow_of part h)) (memory_of part h))
 copy_memory part h w place t far = memory_more part (entry (Write 10 w) place) h far ∙ ap (λ (a : Asked). put_over (puts part a (flow_of part h)) (memory_of part h) far) (copy_asked (settings_of part.idcode h) w t)

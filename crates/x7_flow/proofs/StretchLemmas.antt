@@ -14,7 +14,7 @@ use Rattle.x7_pipeline.proofs.LawLemmas.{landed_empty, put_twice}
 use Rattle.x7_flow.specs.FrameAccess.{copies_frame}
 use Rattle.x7_regs.specs.declared.command.Command.{Command}
 use Rattle.x7_regs.specs.declared.command.Command.TheVariants as command
-use Rattle.x7_flow.specs.Asking.{Asked, Load, Commands, Word, Copies, Reads, Other}
+use Rattle.x7_flow.specs.Asking.{Asked, LoadsFar, Commands, AddsWord, CopiesSource, Reads, NothingAsked}
 use Rattle.x7_flow.specs.Settings.{Settings, settings_of, takes_frames, takes_copies, gives_frames}
 use Rattle.x7_flow.specs.HistoryFlow.{Flow, asked_under, asks, begins_stretch, is_copy, flow_by, flow_of}
 use Rattle.x7_flow.specs.FrameMemory.{copy_pairs, written_frames_more, memory_of, puts}
@@ -26,7 +26,7 @@ use Rattle.x7_flow.proofs.FlowLemmas.{flow_sound, landed_grows, put_none}
 pub asked_begins_stretch : (s : Settings) (access : Access) → access_begins_stretch access ≡ begins_stretch (asked_under s access)
 asked_begins_stretch s (Write r w) = by (r == 1) (r == 4) (r == 2 && takes_frames s) (r == 10 && takes_copies s)
   where
-    by : (far cmd fdri mfwr : Bool) → (cmd || far) ≡ begins_stretch (if far then Load w else if cmd then Commands (command_by w) else if fdri then Word w else if mfwr then Copies else Other)
+    by : (far cmd fdri mfwr : Bool) → (cmd || far) ≡ begins_stretch (if far then LoadsFar w else if cmd then Commands (command_by w) else if fdri then AddsWord w else if mfwr then CopiesSource else NothingAsked)
     by true true fdri mfwr = refl
     by true false fdri mfwr = refl
     by false true fdri mfwr = refl
@@ -35,7 +35,7 @@ asked_begins_stretch s (Write r w) = by (r == 1) (r == 4) (r == 2 && takes_frame
     by false false false false = refl
 asked_begins_stretch s (Read r count) = by (r == 3 && (not (count == 0) && gives_frames s))
   where
-    by : (b : Bool) → false ≡ begins_stretch (if b then Reads count else Other)
+    by : (b : Bool) → false ≡ begins_stretch (if b then Reads count else NothingAsked)
     by true = refl
     by false = refl
 asked_begins_stretch s (Bad w) = refl
@@ -47,7 +47,7 @@ pub asked_copy : (idcode : ℕ) (h : History) (access : Access) → copies_frame
 asked_copy idcode h (Write r w) = by (r == 1) (r == 4) (r == 2 && takes_frames (settings_of idcode h)) (r == 10 && takes_copies (settings_of idcode h)) (copy_alone r (takes_copies (settings_of idcode h)) (takes_frames (settings_of idcode h)))
   where
     by : (far cmd fdri mfwr : Bool) → (mfwr ≡ true → (far ≡ false) × (cmd ≡ false) × (fdri ≡ false)) →
-        mfwr ≡ is_copy (if far then Load w else if cmd then Commands (command_by w) else if fdri then Word w else if mfwr then Copies else Other)
+        mfwr ≡ is_copy (if far then LoadsFar w else if cmd then Commands (command_by w) else if fdri then AddsWord w else if mfwr then CopiesSource else NothingAsked)
     by true cmd fdri true p = let e = p refl in absurd (cc e.0)
     by true cmd fdri false p = refl
     by false true fdri true p = let e = p refl in absurd (cc e.1)
@@ -58,7 +58,7 @@ asked_copy idcode h (Write r w) = by (r == 1) (r == 4) (r == 2 && takes_frames (
     by false false false false p = refl
 asked_copy idcode h (Read r count) = by (r == 3 && (not (count == 0) && gives_frames (settings_of idcode h)))
   where
-    by : (b : Bool) → false ≡ is_copy (if b then Reads count else Other)
+    by : (b : Bool) → false ≡ is_copy (if b then Reads count else NothingAsked)
     by true = refl
     by false = refl
 asked_copy idcode h (Bad w) = refl
@@ -91,22 +91,22 @@ copy_last part f old idle = by (is_mfw f.command) refl
 stretch_step : (part : PartData) (a : Asked) (f : Flow) (old : List PlanRow) → begins_stretch a ≡ false → (is_wcfg f.command ≡ false → f.run ≡ []) →
     written_frames part (flow_by part a f).base (flow_by part a f).run ++ copies_by part a f old ≡ puts part a f ++ (written_frames part f.base f.run ++ old)
 unfolding copies_by
-stretch_step part (Load w) f old e idle = absurd cc
+stretch_step part (LoadsFar w) f old e idle = absurd cc
 stretch_step part (Commands c) f old e idle = absurd cc
-stretch_step part (Word w) f old e idle = ap (λ ps. ps ++ old) (landed_grows part f.base w f.run) ∙ append_assoc (written_frames_more part f.base f.run) (written_frames part f.base f.run) old
-stretch_step part Copies f old e idle = copy_last part f old idle
+stretch_step part (AddsWord w) f old e idle = ap (λ ps. ps ++ old) (landed_grows part f.base w f.run) ∙ append_assoc (written_frames_more part f.base f.run) (written_frames part f.base f.run) old
+stretch_step part CopiesSource f old e idle = copy_last part f old idle
 stretch_step part (Reads count) f old e idle = refl
-stretch_step part Other f old e idle = refl
+stretch_step part NothingAsked f old e idle = refl
 
 begin_step : (part : PartData) (a : Asked) (f : Flow) (old : List PlanRow) → begins_stretch a ≡ true →
     (written_frames part (flow_by part a f).base (flow_by part a f).run ++ copies_by part a f old ≡ []) × (puts part a f ≡ [])
 unfolding copies_by
-begin_step part (Load w) f old e = (ap (λ ps. ps ++ []) (landed_empty part _), refl)
+begin_step part (LoadsFar w) f old e = (ap (λ ps. ps ++ []) (landed_empty part _), refl)
 begin_step part (Commands c) f old e = (ap (λ ps. ps ++ []) (landed_empty part _), refl)
-begin_step part (Word w) f old e = absurd cc
-begin_step part Copies f old e = absurd cc
+begin_step part (AddsWord w) f old e = absurd cc
+begin_step part CopiesSource f old e = absurd cc
 begin_step part (Reads count) f old e = absurd cc
-begin_step part Other f old e = absurd cc
+begin_step part NothingAsked f old e = absurd cc
 
 -- ---- all stretches
 

@@ -12,7 +12,7 @@ use Rattle.x7_pipeline.specs.Runs.{at_slot, frames_of, put_over}
 use Rattle.x7_pipeline.specs.FarAsRead.{has_frame_at}
 use Rattle.x7_pipeline.specs.Copies.{copied_pairs, is_mfw}
 use Rattle.x7_pipeline.specs.Fault.{completes}
-use Rattle.x7_flow.specs.Asking.{Asked, Word, Copies}
+use Rattle.x7_flow.specs.Asking.{Asked, AddsWord, CopiesSource}
 use Rattle.x7_flow.specs.HistoryFlow.{Flow, asks, flow_of}
 
 -- the newest of frames at its slot
@@ -31,8 +31,8 @@ copy_pairs part f = if is_mfw f.command && has_frame_at part f.base then copied_
 
 -- the pairs that the memory gets by what an access asks
 abbrev pub puts : PartData → Asked → Flow → List PlanRow
-puts part (Word w) f = written_frames_more part f.base f.run
-puts part Copies f = copy_pairs part f
+puts part (AddsWord w) f = written_frames_more part f.base f.run
+puts part CopiesSource f = copy_pairs part f
 puts part _ f = []
 
 -- the memory of a history

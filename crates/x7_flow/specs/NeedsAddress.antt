@@ -5,7 +5,7 @@ use Rattle.x7_part.specs.Part.{PartData}
 use Rattle.x7_pipeline.specs.Copies.{is_mfw}
 use Rattle.x7_pipeline.specs.FarAsRead.{has_frame_at}
 use Rattle.x7_pipeline.specs.RunsInWords.{Overruns}
-use Rattle.x7_flow.specs.Asking.{Asked, Word, Copies, Reads}
+use Rattle.x7_flow.specs.Asking.{Asked, AddsWord, CopiesSource, Reads}
 use Rattle.x7_flow.specs.HistoryFlow.{Flow, asks, base_of, flow_of, is_copy, run_of}
 
 -- a run has no word
@@ -15,8 +15,8 @@ is_empty (w ∷ run) = false
 
 -- what is asked needs an address: the first word of a run, a copy for which there is a source, or a read of some words
 abbrev pub needs_address : Asked → Flow → Bool
-needs_address (Word w) f = is_empty f.run
-needs_address Copies f = is_mfw f.command && is_some f.source
+needs_address (AddsWord w) f = is_empty f.run
+needs_address CopiesSource f = is_mfw f.command && is_some f.source
 needs_address (Reads count) f = not (count == 0)
 needs_address _ f = false
 
@@ -32,7 +32,7 @@ LacksSource part h access =
 
 -- an access after a history writes this word of frame data, and the base is an address
 pub record WritesWord (part : PartData) (h : History) (access : Access) (w : ℕ) : Type 0 where
-  pub word : asks part.idcode h access ≡ Word w
+  pub word : asks part.idcode h access ≡ AddsWord w
   pub address : has_frame_at part (base_of part h) ≡ true
 
 -- the slots from the base are used up by the frames of the run, and this word completes one more
