@@ -15,8 +15,8 @@ use Rattle.x7_pipeline.specs.Fault.{address_fault, completes, copy_fault, has_fi
 use Rattle.x7_pipeline.proofs.LawLemmas.{copy_no_overrun, overrun_is, refused_far, refused_landed, write_no_multi}
 use Rattle.std.proofs.lemmas.Bool.{ltb-true}
 use Rattle.x7_flow.specs.Asking.{Asked, LoadsFar, Commands, AddsWord, CopiesSource, Reads, NothingAsked}
-use Rattle.x7_flow.specs.HistoryFlow.{Flow, asks, base_of, far_in, far_read, fault_by, flow_by, flow_of, frame_fault, is_copy, is_word, run_of}
-use Rattle.x7_flow.specs.FrameMemory.{copy_pairs, written_frames_more, memory_of, puts}
+use Rattle.x7_flow.specs.HistoryFlow.{Flow, asked_after, base_of, far_in, far_read, fault_by, flow_by, flow_of, frame_fault, is_copy, is_word, run_of}
+use Rattle.x7_flow.specs.FrameMemory.{copy_pairs, written_frames_more, memory_of, pairs_put}
 use Rattle.x7_flow.specs.NeedsAddress.{needs_address}
 use Rattle.x7_flow.proofs.FlowLemmas.{flow_more, landed_grows, memory_more, put_none}
 
@@ -42,7 +42,7 @@ no_read part f count fault e = by (count == 0) (has_frame_at part f.base) e
     by false true e = absurd (none-some fault e)
     by false false e = refl
 
-refused_by : (part : PartData) (a : Asked) (f : Flow) (fault : RunFault) → fault_by part a f ≡ Some fault → (puts part a f ≡ []) × (far_in part (flow_by part a f) ≡ far_in part f)
+refused_by : (part : PartData) (a : Asked) (f : Flow) (fault : RunFault) → fault_by part a f ≡ Some fault → (pairs_put part a f ≡ []) × (far_in part (flow_by part a f) ≡ far_in part f)
 refused_by part (LoadsFar w) f fault e = absurd (none-some fault e)
 refused_by part (Commands c) f fault e = absurd (none-some fault e)
 refused_by part (AddsWord w) f fault e = (
@@ -55,10 +55,10 @@ refused_by part NothingAsked f fault e = absurd (none-some fault e)
 
 pub refused_memory : (part : PartData) (e : Entry) (h : History) (fault : RunFault) → frame_fault part h e.access ≡ Some fault → AreSame (memory_of part (e ∷ h)) (memory_of part h)
 refused_memory part e h fault r far =
-    memory_more part e h far ∙ put_none (puts part (asks part.idcode h e.access) (flow_of part h)) (memory_of part h) (refused_by part (asks part.idcode h e.access) (flow_of part h) fault r).0 far
+    memory_more part e h far ∙ put_none (pairs_put part (asked_after part.idcode h e.access) (flow_of part h)) (memory_of part h) (refused_by part (asked_after part.idcode h e.access) (flow_of part h) fault r).0 far
 
 pub refused_far_read : (part : PartData) (e : Entry) (h : History) (fault : RunFault) → frame_fault part h e.access ≡ Some fault → far_read part (e ∷ h) ≡ far_read part h
-refused_far_read part e h fault r = ap (far_in part) (flow_more part e h) ∙ (refused_by part (asks part.idcode h e.access) (flow_of part h) fault r).1
+refused_far_read part e h fault r = ap (far_in part) (flow_more part e h) ∙ (refused_by part (asked_after part.idcode h e.access) (flow_of part h) fault r).1
 
 -- ---- each line
 
@@ -96,8 +96,8 @@ address_by part (Reads count) f far = by (count == 0)
 address_by part NothingAsked f far = (λ e. absurd (none-some _ e), λ p. absurd (cc (p.0)))
 
 pub address_line : (part : PartData) (h : History) (access : Access) (far : ℕ) →
-    (frame_fault part h access ≡ Some (Address far)) ↔ ((needs_address (asks part.idcode h access) (flow_of part h) ≡ true) × (has_frame_at part (base_of part h) ≡ false) × (far ≡ base_of part h))
-address_line part h access far = address_by part (asks part.idcode h access) (flow_of part h) far
+    (frame_fault part h access ≡ Some (Address far)) ↔ ((needs_address (asked_after part.idcode h access) (flow_of part h) ≡ true) × (has_frame_at part (base_of part h) ≡ false) × (far ≡ base_of part h))
+address_line part h access far = address_by part (asked_after part.idcode h access) (flow_of part h) far
 
 multi_by : (part : PartData) (a : Asked) (f : Flow) → (fault_by part a f ≡ Some Multi) ↔ ((is_copy a ≡ true) × ((is_mfw f.command && is_some f.source) ≡ false))
 unfolding copy_fault address_fault
@@ -119,8 +119,8 @@ multi_by part (Reads count) f = by (count == 0) (has_frame_at part f.base)
 multi_by part NothingAsked f = (λ e. absurd (none-some _ e), λ p. absurd (cc (p.0)))
 
 pub multi_line : (part : PartData) (h : History) (access : Access) →
-    (frame_fault part h access ≡ Some Multi) ↔ ((is_copy (asks part.idcode h access) ≡ true) × ((is_mfw (flow_of part h).command && is_some (flow_of part h).source) ≡ false))
-multi_line part h access = multi_by part (asks part.idcode h access) (flow_of part h)
+    (frame_fault part h access ≡ Some Multi) ↔ ((is_copy (asked_after part.idcode h access) ≡ true) × ((is_mfw (flow_of part h).command && is_some (flow_of part h).source) ≡ false))
+multi_line part h access = multi_by part (asked_after part.idcode h access) (flow_of part h)
 
 -- ---- Overrun
 
@@ -139,8 +139,8 @@ overrun_by part (Reads count) f e = absurd (by (count == 0) (has_frame_at part f
     by false false e = let s = same_Some _ _ e in cc
 overrun_by part NothingAsked f e = absurd (none-some _ e)
 
-pub overrun_word : (part : PartData) (h : History) (access : Access) → frame_fault part h access ≡ Some Overrun → is_word (asks part.idcode h access) ≡ true
-overrun_word part h access e = overrun_by part (asks part.idcode h access) (flow_of part h) e
+pub overrun_word : (part : PartData) (h : History) (access : Access) → frame_fault part h access ≡ Some Overrun → is_word (asked_after part.idcode h access) ≡ true
+overrun_word part h access e = overrun_by part (asked_after part.idcode h access) (flow_of part h) e
 
 no_first_overrun : (part : PartData) (base : ℕ) (b : Bool) → has_frame_at part base ≡ b → b ≡ true → write_fault part base [] ≡ Some Overrun → ⊥
 unfolding write_fault address_fault
@@ -162,7 +162,7 @@ unfolding rest_of
 overrun_at part base w [] t = (λ e. absurd (no_first_overrun part base (has_frame_at part base) refl t e), λ p. absurd (one_slot part base w t p.1))
 overrun_at part base w (v ∷ run) t = overrun_is part base w v run
 
-pub overrun_line : (part : PartData) (h : History) (access : Access) (w : ℕ) → asks part.idcode h access ≡ AddsWord w → has_frame_at part (base_of part h) ≡ true →
+pub overrun_line : (part : PartData) (h : History) (access : Access) (w : ℕ) → asked_after part.idcode h access ≡ AddsWord w → has_frame_at part (base_of part h) ≡ true →
     (frame_fault part h access ≡ Some Overrun) ↔ ((rest_of (frame_words part) (w ∷ run_of part h) ≡ []) × (length (slots_from part (base_of part h)) < length (frames_of (frame_words part) (w ∷ run_of part h))))
 overrun_line part h access w a t =
     let same : frame_fault part h access ≡ write_fault part (base_of part h) (run_of part h) = ap (λ (x : Asked). fault_by part x (flow_of part h)) a in
@@ -189,4 +189,4 @@ runs_by part NothingAsked f idle none e = idle e
 pub runs_somewhere : (part : PartData) (e : Entry) (h : History) → (has_frame_at part (base_of part h) ≡ false → run_of part h ≡ []) → frame_fault part h e.access ≡ None →
     has_frame_at part (base_of part (e ∷ h)) ≡ false → run_of part (e ∷ h) ≡ []
 unfolding flow_of
-runs_somewhere part e h idle none f = runs_by part (asks part.idcode h e.access) (flow_of part h) idle none f
+runs_somewhere part e h idle none f = runs_by part (asked_after part.idcode h e.access) (flow_of part h) idle none f

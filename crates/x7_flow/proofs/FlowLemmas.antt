@@ -16,8 +16,8 @@ use Rattle.x7_pipeline.proofs.LawLemmas.{put_twice, no_source}
 use Rattle.x7_pipeline.proofs.RunLemmas.{frames_completes, frames_goes_on}
 use Rattle.x7_flow.specs.Asking.{Asked, LoadsFar, Commands, AddsWord, CopiesSource, Reads, NothingAsked}
 use Rattle.x7_flow.specs.Settings.{Settings, settings_of, settings_after, settings_from}
-use Rattle.x7_flow.specs.HistoryFlow.{Flow, asked_under, asks, flow_by, flow_of, source_of}
-use Rattle.x7_flow.specs.FrameMemory.{written_frames_more, memory_of, newest_put, puts}
+use Rattle.x7_flow.specs.HistoryFlow.{Flow, asked_under, asked_after, flow_by, flow_of, source_of}
+use Rattle.x7_flow.specs.FrameMemory.{written_frames_more, memory_of, newest_put, pairs_put}
 use Rattle.x7_flow.specs.Sound.{IsSound}
 use Rattle.x7_flow.specs.Later.{flow_from, pairs_from, flow_loaded, pairs_loaded}
 use Rattle.x7_flow.proofs.SettingsLemmas.{Means, asked_means, settings_joined, settings_more}
@@ -64,17 +64,17 @@ unfolding flow_of
 flow_sound part [] = record { command_is = refl; idle = λ e. refl; sourceless = λ e. refl; nowhere = λ e. refl }
 flow_sound part (e ∷ h) =
     let s : Settings = settings_of part.idcode h in
-    let now : IsSound part (settings_after part.idcode e.access s) (flow_by part (asks part.idcode h e.access) (flow_of part h)) =
-    sound_by part s (settings_after part.idcode e.access s) (asks part.idcode h e.access) (flow_of part h) (asked_means s e.access) (flow_sound part h) in
+    let now : IsSound part (settings_after part.idcode e.access s) (flow_by part (asked_after part.idcode h e.access) (flow_of part h)) =
+    sound_by part s (settings_after part.idcode e.access s) (asked_after part.idcode h e.access) (flow_of part h) (asked_means s e.access) (flow_sound part h) in
     rw (settings_more part.idcode e h) now
 
 -- ---- one access more
 
-pub flow_more : (part : PartData) (e : Entry) (h : History) → flow_of part (e ∷ h) ≡ flow_by part (asks part.idcode h e.access) (flow_of part h)
+pub flow_more : (part : PartData) (e : Entry) (h : History) → flow_of part (e ∷ h) ≡ flow_by part (asked_after part.idcode h e.access) (flow_of part h)
 unfolding flow_of
 flow_more part e h = refl
 
-pub memory_more : (part : PartData) (e : Entry) (h : History) → AreSame (memory_of part (e ∷ h)) (put_over (puts part (asks part.idcode h e.access) (flow_of part h)) (memory_of part h))
+pub memory_more : (part : PartData) (e : Entry) (h : History) → AreSame (memory_of part (e ∷ h)) (put_over (pairs_put part (asked_after part.idcode h e.access) (flow_of part h)) (memory_of part h))
 unfolding memory_of
 memory_more part e h far = refl
 
@@ -88,8 +88,8 @@ flow_joined part (e ∷ later) earlier =
     ap (λ (x : Settings). flow_by part (asked_under x e.access) (flow_of part (later ++ earlier))) (settings_joined part.idcode later earlier)
     ∙ ap (flow_by part (asked_under s e.access)) (flow_joined part later earlier)
 
-pairs_same : (part : PartData) (access : Access) (s t : Settings) (f g : Flow) → s ≡ t → f ≡ g → puts part (asked_under s access) f ≡ puts part (asked_under t access) g
-pairs_same part access s t f g e d = ap (λ (x : Settings). puts part (asked_under x access) f) e ∙ ap (puts part (asked_under t access)) d
+pairs_same : (part : PartData) (access : Access) (s t : Settings) (f g : Flow) → s ≡ t → f ≡ g → pairs_put part (asked_under s access) f ≡ pairs_put part (asked_under t access) g
+pairs_same part access s t f g e d = ap (λ (x : Settings). pairs_put part (asked_under x access) f) e ∙ ap (pairs_put part (asked_under t access)) d
 
 pub memory_joined : (part : PartData) (later earlier : History) →
     AreSame (memory_of part (later ++ earlier)) (put_over (pairs_from part (settings_of part.idcode earlier) (flow_of part earlier) later) (memory_of part earlier))
@@ -98,8 +98,8 @@ memory_joined part [] earlier = λ far. refl
 memory_joined part (e ∷ later) earlier =
     let s : Settings = settings_of part.idcode earlier in
     let f : Flow = flow_of part earlier in
-    let second : List PlanRow = puts part (asked_under (settings_from part.idcode s later) e.access) (flow_from part s f later) in
-    let same : puts part (asks part.idcode (later ++ earlier) e.access) (flow_of part (later ++ earlier)) ≡ second =
+    let second : List PlanRow = pairs_put part (asked_under (settings_from part.idcode s later) e.access) (flow_from part s f later) in
+    let same : pairs_put part (asked_after part.idcode (later ++ earlier) e.access) (flow_of part (later ++ earlier)) ≡ second =
     pairs_same part e.access _ _ _ _ (settings_joined part.idcode later earlier) (flow_joined part later earlier) in
     put_twice (pairs_from part s f later) second (memory_of part earlier) (memory_of part (later ++ earlier)) (memory_of part (e ∷ later ++ earlier))
     (memory_joined part later earlier) (λ far. ap (λ (ps : List PlanRow). put_over ps (memory_of part (later ++ earlier)) far) same)

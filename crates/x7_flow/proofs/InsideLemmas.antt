@@ -25,8 +25,8 @@ use Rattle.x7_pipeline.specs.Runs.{at_slot, frames_of, put_over}
 use Rattle.x7_pipeline.proofs.LawLemmas.{cut}
 use Rattle.x7_pipeline.proofs.SlotLemmas.{has_address, slot_address}
 use Rattle.x7_flow.specs.Asking.{Asked, CopiesSource, LoadsFar, Commands, NothingAsked, Reads, AddsWord}
-use Rattle.x7_flow.specs.HistoryFlow.{asks, flow_of, source_of}
-use Rattle.x7_flow.specs.FrameMemory.{copy_pairs, written_frames_more, memory_of, newest_put, puts}
+use Rattle.x7_flow.specs.HistoryFlow.{asked_after, flow_of, source_of}
+use Rattle.x7_flow.specs.FrameMemory.{copy_pairs, written_frames_more, memory_of, newest_put, pairs_put}
 use Rattle.x7_flow.specs.HasFrames.{HasFrames}
 use Rattle.x7_flow.specs.FlowInWords.{frame_taken, words_written}
 use Rattle.x7_flow.proofs.WordLemmas.{source_is}
@@ -107,7 +107,7 @@ copies_frames part h some = by (is_mfw (flow_of part h).command) (has_frame_at p
     by true false e = tt
     by false b e = tt
 
-puts_frames : (part : PartData) (a : Asked) (h : History) → 0 < frame_words part → AreFrames part (puts part a (flow_of part h))
+puts_frames : (part : PartData) (a : Asked) (h : History) → 0 < frame_words part → AreFrames part (pairs_put part a (flow_of part h))
 puts_frames part (LoadsFar w) h some = tt
 puts_frames part (Commands c) h some = tt
 puts_frames part (AddsWord w) h some = more_frames part (flow_of part h).base (flow_of part h).run some
@@ -153,4 +153,4 @@ zeros_memory part = record {
 pub memory_has : (part : PartData) (h : History) → 0 < frame_words part → HasFrames part (memory_of part h)
 unfolding memory_of
 memory_has part [] some = zeros_memory part
-memory_has part (e ∷ h) some = put_memory part (puts part (asks part.idcode h e.access) (flow_of part h)) (memory_of part h) (puts_frames part (asks part.idcode h e.access) h some) (memory_has part h some)
+memory_has part (e ∷ h) some = put_memory part (pairs_put part (asked_after part.idcode h e.access) (flow_of part h)) (memory_of part h) (puts_frames part (asked_after part.idcode h e.access) h some) (memory_has part h some)

@@ -26,8 +26,8 @@ use Rattle.x7_pipeline.specs.Flow.{FlowGoesOn, HoldsFlow, LandsAt, OfFlow, after
 use Rattle.x7_pipeline.specs.Pipeline.{AreOfPart, PipelineData}
 use Rattle.x7_pipeline.specs.Readback.{readback_at, read_slot, word_at, word_in_frame}
 use Rattle.x7_flow.specs.Asking.{Asked, LoadsFar, Commands, AddsWord, CopiesSource, Reads, NothingAsked}
-use Rattle.x7_flow.specs.HistoryFlow.{Flow, asked_under, asks, base_of, fault_by, first_flow, flow_by, flow_of, frame_fault, count_given}
-use Rattle.x7_flow.specs.FrameMemory.{copy_pairs, written_frames_more, memory_of, puts}
+use Rattle.x7_flow.specs.HistoryFlow.{Flow, asked_under, asked_after, base_of, fault_by, first_flow, flow_by, flow_of, frame_fault, count_given}
+use Rattle.x7_flow.specs.FrameMemory.{copy_pairs, written_frames_more, memory_of, pairs_put}
 use Rattle.x7_flow.specs.FrameAccess.{reads_frame_data}
 use Rattle.x7_flow.specs.Standing.{AfterAccess, AfterRead, AreFramesAfter, FramesFit, FramesStandFor, FramesState, HaveDone, FramesHaveDone, HasFlow, frames_state, without_due, word_to, readback_words, words_due, frames_read}
 use Rattle.x7_flow.proofs.FlowLemmas.{flow_more, flow_sound, landed_grows, memory_more, put_none}
@@ -111,9 +111,9 @@ pub one_more : (part : PartData) (old new : FramesState) (e : Entry) (h : Histor
 one_more part old new e h did are =
     let f : Flow = flow_of part h in
     let has : HasFlow part old.pipeline f = same_flow part old.pipeline (without_due 0 f) f (sym (no_less f)) are.flow in
-    let pairs : List PlanRow = puts part (asks part.idcode h e.access) f in
+    let pairs : List PlanRow = pairs_put part (asked_after part.idcode h e.access) f in
     record {
-      flow = same_flow part new.pipeline (flow_by part (asks part.idcode h e.access) f) (without_due 0 (flow_of part (e ∷ h))) (sym (flow_more part e h) ∙ no_less (flow_of part (e ∷ h))) (did.flow f has);
+      flow = same_flow part new.pipeline (flow_by part (asked_after part.idcode h e.access) f) (without_due 0 (flow_of part (e ∷ h))) (sym (flow_more part e h) ∙ no_less (flow_of part (e ∷ h))) (did.flow f has);
       memory = λ far. did.memory f has far ∙ override_same (frame_at part old.memory) (memory_of part h) (planned pairs) (planned pairs) are.memory (λ a. refl) far ∙ sym (memory_more part e h far);
       due_given = omega arith;
     }
@@ -140,7 +140,7 @@ read_flow : (part : PartData) (f : Flow) (count : ℕ) → has_frame_at part f.b
 read_flow part f count t = ap (λ (b : Bool). record f { given = if b then f.given + count else f.given }) t
 
 pub read_begins : (part : PartData) (p : PipelineData) (frames : List (List ℕ)) (e : Entry) (h : History) (count : ℕ) →
-    asks part.idcode h e.access ≡ Reads count → has_frame_at part (base_of part h) ≡ true → AreFramesAfter part p frames h 0 →
+    asked_after part.idcode h e.access ≡ Reads count → has_frame_at part (base_of part h) ≡ true → AreFramesAfter part p frames h 0 →
     AreFramesAfter part p frames (e ∷ h) count × (words_due part (e ∷ h) count ≡ frames_read part h count)
 read_begins part p frames e h count a t are =
     let f : Flow = flow_of part h in
@@ -148,7 +148,7 @@ read_begins part p frames e h count a t are =
     let back : without_due 0 f ≡ without_due count (flow_of part (e ∷ h)) =
     ap (λ (n : ℕ). record f { given = n }) (omega arith) ∙ ap (without_due count) (sym now) in
     let same : AreSame (memory_of part (e ∷ h)) (memory_of part h) = λ far.
-    memory_more part e h far ∙ ap (λ (x : Asked). put_over (puts part x f) (memory_of part h) far) a ∙ put_none [] (memory_of part h) refl far in
+    memory_more part e h far ∙ ap (λ (x : Asked). put_over (pairs_put part x f) (memory_of part h) far) a ∙ put_none [] (memory_of part h) refl far in
     let sum : count_given part (e ∷ h) ≡ f.given + count = ap (λ (g : Flow). g.given) now in
     let place : count_given part (e ∷ h) - count ≡ f.given = omega arith in (
       record {
@@ -247,7 +247,7 @@ pub other_read : (part : PartData) (p : PipelineData) (frames : List (List ℕ))
     AreFramesAfter part p frames h 0 →
     (frame_fault part h (Read r count) ≡ None) × AreFramesAfter part p frames (entry (Read r count) place ∷ h) 0 × (words_due part (entry (Read r count) place ∷ h) 0 ≡ frames_read part h 0)
 other_read part p frames h r count place b are =
-    let a : asks part.idcode h (Read r count) ≡ NothingAsked = read_asked (settings_of part.idcode h) r count false b in (
+    let a : asked_after part.idcode h (Read r count) ≡ NothingAsked = read_asked (settings_of part.idcode h) r count false b in (
       ap (λ (x : Asked). fault_by part x (flow_of part h)) a,
       one_more part (frames_state p frames) (frames_state p frames) (entry (Read r count) place) h (subst (λ (x : Asked). HaveDone part x (frames_state p frames) (frames_state p frames)) (sym a) (did_other part (frames_state p frames))) are,
       refl,
@@ -271,7 +271,7 @@ pub frame_read : (part : PartData) (p : PipelineData) (frames : List (List ℕ))
     (frame_fault part h (Read r count) ≡ None) × AreFramesAfter part p frames (entry (Read r count) place ∷ h) count × (words_due part (entry (Read r count) place ∷ h) count ≡ frames_read part h count)
 frame_read part p frames h r count place b allowed are =
     let f : Flow = flow_of part h in
-    let a : asks part.idcode h (Read r count) ≡ Reads count = read_asked (settings_of part.idcode h) r count true b in
+    let a : asked_after part.idcode h (Read r count) ≡ Reads count = read_asked (settings_of part.idcode h) r count true b in
     let none : None ≡ fault_by part (Reads count) f = allowed f (same_flow part p (without_due 0 f) f (sym (no_less f)) are.flow) in
     let t : has_frame_at part f.base ≡ true = from_address part f.base count (some_read r count (gives_frames (settings_of part.idcode h)) b) none in
     let begun = read_begins part p frames (entry (Read r count) place) h count a t are in
@@ -291,14 +291,14 @@ read_answered part f h r count place (Some fault) b refused are = frame_read_ref
 -- ---- a written word
 
 -- what a word written to FDRI or MFWR asks, where the settings let it and where they don't
-pub word_asked : (idcode : ℕ) (h : History) (reg : Reg) (w : ℕ) (takes : Bool) → reg ≡ Fdri → takes_frames (settings_of idcode h) ≡ takes → asks idcode h (word_to reg w) ≡ (if takes then AddsWord w else NothingAsked)
+pub word_asked : (idcode : ℕ) (h : History) (reg : Reg) (w : ℕ) (takes : Bool) → reg ≡ Fdri → takes_frames (settings_of idcode h) ≡ takes → asked_after idcode h (word_to reg w) ≡ (if takes then AddsWord w else NothingAsked)
 word_asked idcode h reg w takes e t = rw (e, t) refl
 
-pub copies_asked : (idcode : ℕ) (h : History) (reg : Reg) (w : ℕ) (takes : Bool) → reg ≡ Mfwr → takes_copies (settings_of idcode h) ≡ takes → asks idcode h (word_to reg w) ≡ (if takes then CopiesSource else NothingAsked)
+pub copies_asked : (idcode : ℕ) (h : History) (reg : Reg) (w : ℕ) (takes : Bool) → reg ≡ Mfwr → takes_copies (settings_of idcode h) ≡ takes → asked_after idcode h (word_to reg w) ≡ (if takes then CopiesSource else NothingAsked)
 copies_asked idcode h reg w takes e t = rw (e, t) refl
 
 -- a word written to another register asks nothing
-pub nothing_asked : (idcode : ℕ) (h : History) (reg : Reg) (w : ℕ) → (reg ≡ Far → ⊥) → (reg ≡ Cmd → ⊥) → (reg ≡ Fdri → ⊥) → (reg ≡ Mfwr → ⊥) → asks idcode h (word_to reg w) ≡ NothingAsked
+pub nothing_asked : (idcode : ℕ) (h : History) (reg : Reg) (w : ℕ) → (reg ≡ Far → ⊥) → (reg ≡ Cmd → ⊥) → (reg ≡ Fdri → ⊥) → (reg ≡ Mfwr → ⊥) → asked_after idcode h (word_to reg w) ≡ NothingAsked
 nothing_asked idcode h Crc w far cmd fdri mfwr = refl
 nothing_asked idcode h Far w far cmd fdri mfwr = absurd (far refl)
 nothing_asked idcode h Fdri w far cmd fdri mfwr = absurd (fdri refl)
@@ -320,20 +320,20 @@ nothing_asked idcode h Bootsts w far cmd fdri mfwr = refl
 nothing_asked idcode h Ctl1 w far cmd fdri mfwr = refl
 nothing_asked idcode h Bspi w far cmd fdri mfwr = refl
 
-pub did_as : (part : PartData) (h : History) (reg : Reg) (w : ℕ) (a : Asked) (old new : FramesState) → asks part.idcode h (word_to reg w) ≡ a → HaveDone part a old new → HaveDone part (asks part.idcode h (word_to reg w)) old new
+pub did_as : (part : PartData) (h : History) (reg : Reg) (w : ℕ) (a : Asked) (old new : FramesState) → asked_after part.idcode h (word_to reg w) ≡ a → HaveDone part a old new → HaveDone part (asked_after part.idcode h (word_to reg w)) old new
 did_as part h reg w a old new e did = subst (λ (x : Asked). HaveDone part x old new) (sym e) did
 
-pub fault_as : (part : PartData) (h : History) (reg : Reg) (w : ℕ) (a : Asked) (f : Flow) → asks part.idcode h (word_to reg w) ≡ a → fault_by part a f ≡ fault_by part (asks part.idcode h (word_to reg w)) f
+pub fault_as : (part : PartData) (h : History) (reg : Reg) (w : ℕ) (a : Asked) (f : Flow) → asked_after part.idcode h (word_to reg w) ≡ a → fault_by part a f ≡ fault_by part (asked_after part.idcode h (word_to reg w)) f
 fault_as part h reg w a f e = ap (λ (x : Asked). fault_by part x f) (sym e)
 
 pub word_fault_is : (part : PartData) (p : PipelineData) (frames : List (List ℕ)) (h : History) (access : Access) (result : Option RunFault) →
-    ((f : Flow) → HasFlow part p f → result ≡ fault_by part (asks part.idcode h access) f) → AreFramesAfter part p frames h 0 → result ≡ frame_fault part h access
+    ((f : Flow) → HasFlow part p f → result ≡ fault_by part (asked_after part.idcode h access) f) → AreFramesAfter part p frames h 0 → result ≡ frame_fault part h access
 word_fault_is part p frames h access result fault are =
     let f : Flow = flow_of part h in
     fault f (same_flow part p (without_due 0 f) f (sym (no_less f)) are.flow)
 
 pub access_taken : (part : PartData) (old new : FramesState) (h : History) (e : Entry) (result : Option RunFault) →
-    IfNone result (HaveDone part (asks part.idcode h e.access) old new) → OnSome result (new.pipeline ≡ old.pipeline) → OnSome result (new.memory ≡ old.memory) → FramesStandFor part old h 0 → AfterAccess part new h e result
+    IfNone result (HaveDone part (asked_after part.idcode h e.access) old new) → OnSome result (new.pipeline ≡ old.pipeline) → OnSome result (new.memory ≡ old.memory) → FramesStandFor part old h 0 → AfterAccess part new h e result
 access_taken part old new h e None did refused unchanged are = one_more part old new e h did are
 access_taken part old new h e (Some fault) did refused unchanged are = rw (refused, unchanged) are
 

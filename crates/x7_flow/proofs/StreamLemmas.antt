@@ -20,7 +20,7 @@ use Rattle.x7_pipeline.proofs.RunLemmas.{frames_completes, frames_goes_on, rest_
 use Rattle.x7_flow.specs.Asking.{Asked, CopiesSource, NothingAsked}
 use Rattle.x7_flow.specs.Settings.{Settings, settings_of, takes_copies, takes_frames}
 use Rattle.x7_flow.specs.HistoryFlow.{Flow, asked_under, base_of, flow_by, flow_of, run_of, source_of}
-use Rattle.x7_flow.specs.FrameMemory.{copy_pairs, memory_of, puts}
+use Rattle.x7_flow.specs.FrameMemory.{copy_pairs, memory_of, pairs_put}
 use Rattle.x7_flow.proofs.FlowLemmas.{flow_more, flow_sound, memory_more, put_none}
 use Rattle.x7_flow.proofs.ManyLemmas.{words_land}
 
@@ -132,7 +132,7 @@ pub copy_asked : (s : Settings) (w : ℕ) → takes_copies s ≡ true → asked_
 copy_asked s w t = ap (λ (b : Bool). if b then CopiesSource else NothingAsked) t
 
 copy_memory : (part : PartData) (h : History) (w place : ℕ) → takes_copies (settings_of part.idcode h) ≡ true → AreSame (memory_of part (entry (Write 10 w) place ∷ h)) (put_over (copy_pairs part (flow_of part h)) (memory_of part h))
-copy_memory part h w place t far = memory_more part (entry (Write 10 w) place) h far ∙ ap (λ (a : Asked). put_over (puts part a (flow_of part h)) (memory_of part h) far) (copy_asked (settings_of part.idcode h) w t)
+copy_memory part h w place t far = memory_more part (entry (Write 10 w) place) h far ∙ ap (λ (a : Asked). put_over (pairs_put part a (flow_of part h)) (memory_of part h) far) (copy_asked (settings_of part.idcode h) w t)
 
 pub copy_flow : (part : PartData) (h : History) (w place : ℕ) → takes_copies (settings_of part.idcode h) ≡ true → flow_of part (entry (Write 10 w) place ∷ h) ≡ flow_of part h
 copy_flow part h w place t = flow_more part (entry (Write 10 w) place) h ∙ ap (λ (a : Asked). flow_by part a (flow_of part h)) (copy_asked (settings_of part.idcode h) w t)

@@ -16,8 +16,8 @@ use Rattle.x7_regs.specs.declared.command.Command.{Command}
 use Rattle.x7_regs.specs.declared.command.Command.TheVariants as command
 use Rattle.x7_flow.specs.Asking.{Asked, LoadsFar, Commands, AddsWord, CopiesSource, Reads, NothingAsked}
 use Rattle.x7_flow.specs.Settings.{Settings, settings_of, takes_frames, takes_copies, gives_frames}
-use Rattle.x7_flow.specs.HistoryFlow.{Flow, asked_under, asks, begins_stretch, is_copy, flow_by, flow_of}
-use Rattle.x7_flow.specs.FrameMemory.{copy_pairs, written_frames_more, memory_of, puts}
+use Rattle.x7_flow.specs.HistoryFlow.{Flow, asked_under, asked_after, begins_stretch, is_copy, flow_by, flow_of}
+use Rattle.x7_flow.specs.FrameMemory.{copy_pairs, written_frames_more, memory_of, pairs_put}
 use Rattle.x7_flow.specs.Stretches.{access_begins_stretch, copies_of, ends_of, memory_by_stretches, stretch_pairs}
 use Rattle.x7_flow.proofs.FlowLemmas.{flow_sound, landed_grows, put_none}
 
@@ -43,7 +43,7 @@ asked_begins_stretch s (Bad w) = refl
 copy_alone : (r : ℕ) (b c : Bool) → (r == 10 && b) ≡ true → ((r == 1) ≡ false) × ((r == 4) ≡ false) × ((r == 2 && c) ≡ false)
 copy_alone r b c t = (grind (arith, nat_tests), grind (arith, nat_tests), grind (arith, nat_tests))
 
-pub asked_copy : (idcode : ℕ) (h : History) (access : Access) → copies_frame idcode h access ≡ is_copy (asks idcode h access)
+pub asked_copy : (idcode : ℕ) (h : History) (access : Access) → copies_frame idcode h access ≡ is_copy (asked_after idcode h access)
 asked_copy idcode h (Write r w) = by (r == 1) (r == 4) (r == 2 && takes_frames (settings_of idcode h)) (r == 10 && takes_copies (settings_of idcode h)) (copy_alone r (takes_copies (settings_of idcode h)) (takes_frames (settings_of idcode h)))
   where
     by : (far cmd fdri mfwr : Bool) → (mfwr ≡ true → (far ≡ false) × (cmd ≡ false) × (fdri ≡ false)) →
@@ -68,7 +68,7 @@ asked_copy idcode h (Bad w) = refl
 copies_by : PartData → Asked → Flow → List PlanRow → List PlanRow
 copies_by part a f old = if begins_stretch a then [] else if is_copy a then copy_pairs part f ++ old else old
 
-copies_more : (part : PartData) (e : Entry) (h : History) → copies_of part (e ∷ h) ≡ copies_by part (asks part.idcode h e.access) (flow_of part h) (copies_of part h)
+copies_more : (part : PartData) (e : Entry) (h : History) → copies_of part (e ∷ h) ≡ copies_by part (asked_after part.idcode h e.access) (flow_of part h) (copies_of part h)
 unfolding copies_of copies_by
 copies_more part e h = rw (asked_begins_stretch (settings_of part.idcode h) e.access, asked_copy part.idcode h e.access) refl
 
@@ -89,7 +89,7 @@ copy_last part f old idle = by (is_mfw f.command) refl
     by false e = refl
 
 stretch_step : (part : PartData) (a : Asked) (f : Flow) (old : List PlanRow) → begins_stretch a ≡ false → (is_wcfg f.command ≡ false → f.run ≡ []) →
-    written_frames part (flow_by part a f).base (flow_by part a f).run ++ copies_by part a f old ≡ puts part a f ++ (written_frames part f.base f.run ++ old)
+    written_frames part (flow_by part a f).base (flow_by part a f).run ++ copies_by part a f old ≡ pairs_put part a f ++ (written_frames part f.base f.run ++ old)
 unfolding copies_by
 stretch_step part (LoadsFar w) f old e idle = absurd cc
 stretch_step part (Commands c) f old e idle = absurd cc
@@ -99,7 +99,7 @@ stretch_step part (Reads count) f old e idle = refl
 stretch_step part NothingAsked f old e idle = refl
 
 begin_step : (part : PartData) (a : Asked) (f : Flow) (old : List PlanRow) → begins_stretch a ≡ true →
-    (written_frames part (flow_by part a f).base (flow_by part a f).run ++ copies_by part a f old ≡ []) × (puts part a f ≡ [])
+    (written_frames part (flow_by part a f).base (flow_by part a f).run ++ copies_by part a f old ≡ []) × (pairs_put part a f ≡ [])
 unfolding copies_by
 begin_step part (LoadsFar w) f old e = (ap (λ ps. ps ++ []) (landed_empty part _), refl)
 begin_step part (Commands c) f old e = (ap (λ ps. ps ++ []) (landed_empty part _), refl)
@@ -132,7 +132,7 @@ pub by_stretches : (part : PartData) (h : History) → AreSame (memory_of part h
 unfolding memory_of flow_of memory_by_stretches copies_of ends_of
 by_stretches part [] far = sym (put_none (written_frames part 0 [] ++ []) (memory_by_stretches part []) (ap (λ ps. ps ++ []) (landed_empty part 0)) far)
 by_stretches part (e ∷ h) far =
-    let a : Asked = asks part.idcode h e.access in
+    let a : Asked = asked_after part.idcode h e.access in
     let f : Flow = flow_of part h in
     let old : List PlanRow = copies_of part h in
     let ih : AreSame (memory_of part h) (memory_by_stretches part (h ∷ ends_of h)) = by_stretches part h in
@@ -142,14 +142,14 @@ by_stretches part (e ∷ h) far =
       | inl t ↦
           let step = begin_step part a f old t in
           let b : access_begins_stretch e.access ≡ true = asked_begins_stretch (settings_of part.idcode h) e.access ∙ t in
-          put_none (puts part a f) (memory_of part h) step.1 far ∙ ih far
+          put_none (pairs_put part a f) (memory_of part h) step.1 far ∙ ih far
           ∙ sym (put_none (stretch_pairs part (e ∷ h)) (memory_by_stretches part (h ∷ ends_of h)) (pairs ∙ step.0) far)
           ∙ ap (λ (hs : List History). put_over (stretch_pairs part (e ∷ h)) (memory_by_stretches part hs) far) (ends_at e h b)
       | inr n ↦
           let b : access_begins_stretch e.access ≡ false = asked_begins_stretch (settings_of part.idcode h) e.access ∙ n in
           let i = flow_sound part h in
-          put_same (puts part a f) (memory_of part h) (memory_by_stretches part (h ∷ ends_of h)) ih far
-          ∙ sym (put_joined (puts part a f) (stretch_pairs part h) (memory_by_stretches part (ends_of h)) far)
+          put_same (pairs_put part a f) (memory_of part h) (memory_by_stretches part (h ∷ ends_of h)) ih far
+          ∙ sym (put_joined (pairs_put part a f) (stretch_pairs part h) (memory_by_stretches part (ends_of h)) far)
           ∙ ap (λ (ps : List PlanRow). put_over ps (memory_by_stretches part (ends_of h)) far) (sym (pairs ∙ stretch_step part a f old n i.idle))
           ∙ ap (λ (hs : List History). put_over (stretch_pairs part (e ∷ h)) (memory_by_stretches part hs) far) (ends_stay e h b)
     ]

@@ -18,7 +18,7 @@ use Rattle.x7_pipeline.specs.Pipeline.{PipelineData}
 use Rattle.x7_pipeline.specs.RunWritten.{RunWritten, with_later_words, run_written}
 use Rattle.x7_flow.specs.Asking.{Asked, CopiesSource, NothingAsked, AddsWord}
 use Rattle.x7_flow.specs.Settings.{settings_of, takes_copies, takes_frames}
-use Rattle.x7_flow.specs.HistoryFlow.{Flow, asks, base_of, fault_by, flow_of, frame_fault, run_of}
+use Rattle.x7_flow.specs.HistoryFlow.{Flow, asked_after, base_of, fault_by, flow_of, frame_fault, run_of}
 use Rattle.x7_flow.specs.FrameMemory.{copy_pairs, memory_of}
 use Rattle.x7_flow.specs.Standing.{AreFramesAfter, HaveDone, FramesStandFor, FramesState, HasFlow, frames_state, without_due}
 use Rattle.x7_words.specs.Word.{words_of_bytes}
@@ -183,10 +183,10 @@ none_given part f n (w ∷ ws) h e are = absurd (omega (arith, e))
 
 -- words of a register after a history ask nothing
 record AsksNothing (part : PartData) (r : Reg) (P : History → Type 0) : Type 1 where
-  asks_other : (h : History) (w : ℕ) → P h → asks part.idcode h (Write (number_of r) w) ≡ NothingAsked
+  asks_other : (h : History) (w : ℕ) → P h → asked_after part.idcode h (Write (number_of r) w) ≡ NothingAsked
   keeps : (h : History) (w place : ℕ) → P h → P (entry (Write (number_of r) w) place ∷ h)
 
-pub other_access : (part : PartData) (f : FramesState) (h : History) (e : Entry) → asks part.idcode h e.access ≡ NothingAsked → FramesStandFor part f h 0 → FramesStandFor part f (e ∷ h) 0
+pub other_access : (part : PartData) (f : FramesState) (h : History) (e : Entry) → asked_after part.idcode h e.access ≡ NothingAsked → FramesStandFor part f h 0 → FramesStandFor part f (e ∷ h) 0
 other_access part f h e a s = one_more part f f e h (subst (λ (x : Asked). HaveDone part x f f) (sym a) (did_other part f)) s
 
 none_refused : (part : PartData) (r : Reg) (P : History → Type 0) (n : ℕ) (ws : List ℕ) (h : History) → AsksNothing part r P → P h → NoneRefused part r n ws h

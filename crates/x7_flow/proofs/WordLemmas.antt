@@ -12,7 +12,7 @@ use Rattle.x7_pipeline.specs.Copies.{is_mfw, is_wcfg, newest_of, source_after}
 use Rattle.x7_flow.specs.FrameAccess.{reads_frame_data, writes_frame_data}
 use Rattle.x7_flow.specs.Asking.{LoadsFar, Commands, AddsWord, CopiesSource, Reads, NothingAsked}
 use Rattle.x7_flow.specs.Settings.{Settings, command_code_after, settings_of, takes_frames, takes_copies, gives_frames}
-use Rattle.x7_flow.specs.HistoryFlow.{Flow, asked_under, asks, is_read, is_word, far_in, far_read, flow_by, flow_of, base_of, run_of, source_of, count_given}
+use Rattle.x7_flow.specs.HistoryFlow.{Flow, asked_under, asked_after, is_read, is_word, far_in, far_read, flow_by, flow_of, base_of, run_of, source_of, count_given}
 use Rattle.x7_flow.specs.Stretches.{access_begins_stretch}
 use Rattle.x7_flow.specs.FlowInWords.{base_after, count_asked, frame_taken, run_with_word, sum_of_reads, words_written}
 use Rattle.x7_flow.proofs.SettingsLemmas.{settings_more}
@@ -23,7 +23,7 @@ use Rattle.x7_flow.proofs.FlowLemmas.{flow_sound}
 fdri_alone : (r : ℕ) (b : Bool) → (r == 2 && b) ≡ true → ((r == 1) ≡ false) × ((r == 4) ≡ false)
 fdri_alone r b t = (grind (arith, nat_tests), grind (arith, nat_tests))
 
-pub asked_word : (idcode : ℕ) (h : History) (access : Access) → writes_frame_data idcode h access ≡ is_word (asks idcode h access)
+pub asked_word : (idcode : ℕ) (h : History) (access : Access) → writes_frame_data idcode h access ≡ is_word (asked_after idcode h access)
 asked_word idcode h (Write r w) = by (r == 1) (r == 4) (r == 2 && takes_frames (settings_of idcode h)) (r == 10 && takes_copies (settings_of idcode h)) (fdri_alone r (takes_frames (settings_of idcode h)))
   where
     by : (far cmd fdri mfwr : Bool) → (fdri ≡ true → (far ≡ false) × (cmd ≡ false)) →
@@ -42,7 +42,7 @@ asked_word idcode h (Read r count) = by (r == 3 && (not (count == 0) && gives_fr
     by false = refl
 asked_word idcode h (Bad w) = refl
 
-pub asked_read : (idcode : ℕ) (h : History) (access : Access) → reads_frame_data h access ≡ is_read (asks idcode h access)
+pub asked_read : (idcode : ℕ) (h : History) (access : Access) → reads_frame_data h access ≡ is_read (asked_after idcode h access)
 asked_read idcode h (Write r w) = by (r == 1) (r == 4) (r == 2 && takes_frames (settings_of idcode h)) (r == 10 && takes_copies (settings_of idcode h))
   where
     by : (far cmd fdri mfwr : Bool) → false ≡ is_read (if far then LoadsFar w else if cmd then Commands (command_by w) else if fdri then AddsWord w else if mfwr then CopiesSource else NothingAsked)
@@ -117,7 +117,7 @@ base_is part e h = base_step part (settings_of part.idcode h) e.access (flow_of 
 -- ---- the count given
 
 given_step : (part : PartData) (idcode : ℕ) (h : History) (access : Access) (f : Flow) →
-    (flow_by part (asks idcode h access) f).given ≡ (if access_begins_stretch access then 0 else if reads_frame_data h access && has_frame_at part f.base then f.given + count_asked access else f.given)
+    (flow_by part (asked_after idcode h access) f).given ≡ (if access_begins_stretch access then 0 else if reads_frame_data h access && has_frame_at part f.base then f.given + count_asked access else f.given)
 given_step part idcode h (Write r w) f = by (r == 1) (r == 4) (r == 2 && takes_frames (settings_of idcode h)) (r == 10 && takes_copies (settings_of idcode h))
   where
     by : (far cmd word mfwr : Bool) → (flow_by part (if far then LoadsFar w else if cmd then Commands (command_by w) else if word then AddsWord w else if mfwr then CopiesSource else NothingAsked) f).given

@@ -13,7 +13,7 @@ use Rattle.x7_pipeline.specs.FarAsRead.{has_frame_at}
 use Rattle.x7_pipeline.specs.Copies.{copied_pairs, is_mfw}
 use Rattle.x7_pipeline.specs.Fault.{completes}
 use Rattle.x7_flow.specs.Asking.{Asked, AddsWord, CopiesSource}
-use Rattle.x7_flow.specs.HistoryFlow.{Flow, asks, flow_of}
+use Rattle.x7_flow.specs.HistoryFlow.{Flow, asked_after, flow_of}
 
 -- the newest of frames at its slot
 abbrev pub newest_put : PartData → ℕ → List (List ℕ) → List PlanRow
@@ -30,12 +30,12 @@ abbrev pub copy_pairs : PartData → Flow → List PlanRow
 copy_pairs part f = if is_mfw f.command && has_frame_at part f.base then copied_pairs f.base f.source else []
 
 -- the pairs that the memory gets by what an access asks
-abbrev pub puts : PartData → Asked → Flow → List PlanRow
-puts part (AddsWord w) f = written_frames_more part f.base f.run
-puts part CopiesSource f = copy_pairs part f
-puts part _ f = []
+abbrev pub pairs_put : PartData → Asked → Flow → List PlanRow
+pairs_put part (AddsWord w) f = written_frames_more part f.base f.run
+pairs_put part CopiesSource f = copy_pairs part f
+pairs_put part _ f = []
 
 -- the memory of a history
 unfoldable pub memory_of : PartData → History → FrameMap
 memory_of part [] = zeros part
-memory_of part (e ∷ h) = put_over (puts part (asks part.idcode h e.access) (flow_of part h)) (memory_of part h)
+memory_of part (e ∷ h) = put_over (pairs_put part (asked_after part.idcode h e.access) (flow_of part h)) (memory_of part h)

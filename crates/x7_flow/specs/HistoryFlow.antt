@@ -31,8 +31,8 @@ asked_under s (Read register count) = if register == number_of reg.Fdro && (not 
 asked_under s (Bad w) = NothingAsked
 
 -- what an access asks after a history
-abbrev pub asks : ℕ → History → Access → Asked
-asks idcode h access = asked_under (settings_of idcode h) access
+abbrev pub asked_after : ℕ → History → Access → Asked
+asked_after idcode h access = asked_under (settings_of idcode h) access
 
 -- what is asked comes from a write to CMD or FAR, after which a stretch begins
 abbrev pub begins_stretch : Asked → Bool
@@ -72,7 +72,7 @@ flow_by part _ f = f
 -- the flow of a history
 unfoldable pub flow_of : PartData → History → Flow
 flow_of part [] = first_flow
-flow_of part (e ∷ h) = flow_by part (asks part.idcode h e.access) (flow_of part h)
+flow_of part (e ∷ h) = flow_by part (asked_after part.idcode h e.access) (flow_of part h)
 
 -- where the run or readback of a history began
 abbrev pub base_of : PartData → History → ℕ
@@ -109,4 +109,4 @@ fault_by part _ f = None
 
 -- the fault of an access after a history
 abbrev pub frame_fault : PartData → History → Access → Option RunFault
-frame_fault part h access = fault_by part (asks part.idcode h access) (flow_of part h)
+frame_fault part h access = fault_by part (asked_after part.idcode h access) (flow_of part h)

@@ -11,7 +11,7 @@ ghost use Rattle.x7_pipeline.specs.Runs.{written_frames, onto};
 ghost use Rattle.x7_pipeline.specs.Saved.{SavedState};
 ghost use Rattle.x7_pipeline.specs.declared.fault.RunFault.{RunFault};
 ghost use Rattle.x7_flow.specs.Alike.{AreSameButForMask, WritesMaskBeforeCtl0};
-ghost use Rattle.x7_flow.specs.HistoryFlow.{Flow, HasAddress, asks, base_of, begins_stretch, far_read, flow_of, frame_fault, count_given, is_copy, is_read, is_word, run_of, source_of};
+ghost use Rattle.x7_flow.specs.HistoryFlow.{Flow, HasAddress, asked_after, base_of, begins_stretch, far_read, flow_of, frame_fault, count_given, is_copy, is_read, is_word, run_of, source_of};
 ghost use Rattle.x7_flow.specs.FrameAccess.{copies_frame, reads_frame_data, writes_frame_data};
 ghost use Rattle.x7_flow.specs.FrameMemory.{written_frames_more, memory_of};
 ghost use Rattle.x7_flow.specs.FrameWrites.{FrameCopies, FrameWrite, MfwAfter, TakesCopies, TakesWrite, pair_copied, pairs_placed, with_frame_copies, with_frames};
@@ -53,10 +53,10 @@ pub fn stretches_override_in_order()
 
 /// What an access asks is what it does: frame data written, a copy, frame data read.
 pub fn accesses_do_what_they_ask()
-    ensures begins { (idcode : ℕ) (h : History) (access : Access) → access_begins_stretch access ≡ begins_stretch (asks idcode h access) }
-    ensures word { (idcode : ℕ) (h : History) (access : Access) → writes_frame_data idcode h access ≡ is_word (asks idcode h access) }
-    ensures copy { (idcode : ℕ) (h : History) (access : Access) → copies_frame idcode h access ≡ is_copy (asks idcode h access) }
-    ensures read { (idcode : ℕ) (h : History) (access : Access) → reads_frame_data h access ≡ is_read (asks idcode h access) }
+    ensures begins { (idcode : ℕ) (h : History) (access : Access) → access_begins_stretch access ≡ begins_stretch (asked_after idcode h access) }
+    ensures word { (idcode : ℕ) (h : History) (access : Access) → writes_frame_data idcode h access ≡ is_word (asked_after idcode h access) }
+    ensures copy { (idcode : ℕ) (h : History) (access : Access) → copies_frame idcode h access ≡ is_copy (asked_after idcode h access) }
+    ensures read { (idcode : ℕ) (h : History) (access : Access) → reads_frame_data h access ≡ is_read (asked_after idcode h access) }
 {}
 
 /// The base, the run, the count given and the source of a history, each by a recursion of its own.
@@ -89,7 +89,7 @@ pub fn refusals_have_causes()
     ensures no_slot { (part : PartData) (h : History) (access : Access) (w : ℕ) → WritesWord part h access w →
         (frame_fault part h access ≡ Some RunFault.Overrun) ↔ LacksSlot part h w }
     ensures only_words_overrun { (part : PartData) (h : History) (access : Access) → frame_fault part h access ≡ Some RunFault.Overrun →
-        is_word (asks part.idcode h access) ≡ true }
+        is_word (asked_after part.idcode h access) ≡ true }
     ensures runs_at_address { (part : PartData) (e : Entry) (h : History) → RunsAtAddress part h → frame_fault part h e.access ≡ None → RunsAtAddress part (e ∷ h) }
     ensures memory { (part : PartData) (e : Entry) (h : History) (fault : RunFault) → frame_fault part h e.access ≡ Some fault →
         AreSame (memory_of part (e ∷ h)) (memory_of part h) }
