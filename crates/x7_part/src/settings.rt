@@ -10,9 +10,7 @@ use crate::limits::{
     GREATEST_BUS_WIDTH, GREATEST_MODE, LEAST_FRAME_WORDS, MOST_FRAME_WORDS, MOST_ROWS,
     MOST_WAIT_TICKS,
 };
-use crate::ranges::{
-    is_length_in, is_name, odd_number, require, start_unit_in, widths_in, within,
-};
+use crate::ranges::{is_length_in, is_name, odd_number, require, start_unit_in, widths_in, within};
 use crate::values::Values;
 
 /// The numbers of a part, each in its range.
