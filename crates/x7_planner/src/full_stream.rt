@@ -249,7 +249,7 @@ impl<'p> FullStream<'p> {
                 put_opening(out, self.part)?;
                 Ok(NextPiece::Slot(0))
             }
-            NextPiece::Slot(n) => self.put_frames(out, n),
+            NextPiece::Slot(slot_number) => self.append_frames(out, slot_number),
             NextPiece::Check => {
                 put_words(out, &write_one(Reg::Crc, self.checker.check()))?;
                 Ok(NextPiece::Start)
@@ -271,15 +271,15 @@ impl<'p> FullStream<'p> {
         }
     }
 
-    /// Appends the frames of the slots from one on, and answers what comes after them.
-    fn put_frames(&self, out: &mut Vec<u8>, n: u64) -> Result<NextPiece, NoMemory>
-        requires { self.now.next ≡ NextPiece.Slot n }
+    /// Appends the frames of the slots from this number on, a piece of them, and answers what comes after them.
+    fn append_frames(&self, out: &mut Vec<u8>, slot_number: u64) -> Result<NextPiece, NoMemory>
+        requires { self.now.next ≡ NextPiece.Slot slot_number }
         ensures writes { IfOk result (WritesPiece self.now out.old.items out.new.items) }
         ensures within { AppendsWithin out.old out.new result piece_limit }
     {
         let count = slot_count(self.part);
-        let end = count.min(n + PIECE_SLOTS);
-        put_slots(out, self.part, self.plan, n, end)?;
+        let end = count.min(slot_number + PIECE_SLOTS);
+        put_slots(out, self.part, self.plan, slot_number, end)?;
         if end == count {
             Ok(NextPiece::Check)
         } else {
