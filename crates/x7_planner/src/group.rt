@@ -56,7 +56,7 @@ fn put_copies(
         if by_content.firsts[k] != start {
             return Ok(());
         }
-        writer.packets(&[
+        writer.write_packets(&[
             write_one(Reg::Far, by_content.frames[k].far),
             write_one(Reg::Mfwr, 0),
         ])?;
@@ -76,13 +76,13 @@ fn put_group(
     ensures { OnOk result (writer.new ≡ with_piece writer.old (Words (section_words part.now (Copies words.now (addresses_with words.now (rows_by_content by_content.now)))))) }
 {
     let far = by_content.frames[start].far;
-    writer.packets(&[
+    writer.write_packets(&[
         command(Command::Wcfg),
         write_one(Reg::Far, far),
         frame_data_headers(part.words()),
     ])?;
-    writer.words(words)?;
-    writer.words(&command(Command::Mfw))?;
+    writer.write_words(words)?;
+    writer.write_words(&command(Command::Mfw))?;
     put_copies(writer, by_content, start, words)?;
     Ok(())
 }
