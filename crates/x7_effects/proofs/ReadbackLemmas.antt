@@ -11,7 +11,7 @@ use Rattle.x7_part.specs.AddressOrder.{addresses_in}
 use Rattle.x7_part.specs.Part.{PartData, frame_words}
 use Rattle.x7_startup.specs.Startup.{StartupProgress}
 use Rattle.x7_part.specs.Ranges.{IsPart}
-use Rattle.x7_part.specs.Slot.{slots_in, slots_from}
+use Rattle.x7_part.specs.Slot.{slots_in, slots_from, pads_after_row}
 use Rattle.x7_part.specs.declared.slot.Slot.{Slot}
 use Rattle.x7_part.specs.declared.slot.Slot.TheVariants.{Frame, Pad, End}
 use Rattle.x7_part.proofs.SlotLemmas.{slots_number, slots_split}
@@ -91,8 +91,8 @@ read_room : (part : PartData) (far n : ℕ) → IsPart part → Contains (addres
 read_room part far n is h l =
     let split = slots_split part far h in
     let count : length (slots_in part) ≡ length split.0 + length (slots_from part far) = ap length split.1 ∙ length-append split.0 (slots_from part far) in
-    let within : n ≤ length (addresses_in part) + 2 * length part.rows = omega (arith, count, l, slots_number part) in
-    let most : frame_words part * n ≤ frame_words part * (length (addresses_in part) + 2 * length part.rows) = mul-le-mul_left (frame_words part) within in
+    let within : n ≤ length (addresses_in part) + pads_after_row * length part.rows = omega (arith, count, l, slots_number part) in
+    let most : frame_words part * n ≤ frame_words part * (length (addresses_in part) + pads_after_row * length part.rows) = mul-le-mul_left (frame_words part) within in
     let product : frame_words part * (n + 1) ≡ frame_words part * n + frame_words part = grind arith in
     omega (arith, most, product, is.slots, is.words)
 

@@ -9,7 +9,7 @@ use Rattle.x7_part.specs.Part.{FieldWidths, RowData, PartData}
 use Rattle.x7_part.specs.Ranges.{IsPart}
 use Rattle.x7_part.specs.Address.{AreRows, no_row, row, row_address, column_low}
 use Rattle.x7_part.specs.AddressOrder.{addresses_of, addresses, addresses_in, Rises, risen, rise, IsFollowedBy}
-use Rattle.x7_part.specs.Slot.{slots, slots_in, from_address, addresses_among, AreInOneRow}
+use Rattle.x7_part.specs.Slot.{slots, slots_in, from_address, addresses_among, AreInOneRow, pads_after_row}
 use Rattle.x7_part.specs.declared.slot.Slot.{Slot}
 use Rattle.x7_part.specs.declared.slot.Slot.TheVariants.{Frame, Pad, End}
 use Rattle.x7_part.proofs.RowLemmas.{part_rises, later_larger}
@@ -73,7 +73,7 @@ from_first far (End ∷ places) has = from_first far places has
 pub slots_first : (part : PartData) (far : ℕ) → Contains (addresses_in part) far → get_or (from_address far (slots_in part)) 0 End ≡ Frame far
 slots_first part far has = from_first far (slots_in part) (rw (among_slots part.field_widths part.rows) has)
 
-pub slots_number : (part : PartData) → length (slots_in part) ≡ length (addresses_in part) + 2 * length part.rows
+pub slots_number : (part : PartData) → length (slots_in part) ≡ length (addresses_in part) + pads_after_row * length part.rows
 slots_number part = slots_count part.field_widths part.rows
 
 -- the slots from the first address on are all slots

@@ -11,7 +11,7 @@ use Rattle.x7_part.specs.AddressOrder.{addresses_in}
 use Rattle.x7_part.specs.Limits.{most_frame_words, most_words}
 use Rattle.x7_part.specs.Part.{PartData, frame_words}
 use Rattle.x7_part.specs.Ranges.{IsPart}
-use Rattle.x7_part.specs.Slot.{slots_in, from_address}
+use Rattle.x7_part.specs.Slot.{slots_in, from_address, pads_after_row}
 use Rattle.x7_part.specs.declared.slot.Slot.{Slot}
 use Rattle.x7_part.specs.declared.slot.Slot.TheVariants.{End}
 use Rattle.std.specs.Prelude.{Contains}
@@ -63,7 +63,7 @@ pub record IsFew (part : PartData) (w n : ℕ) : Type 0 where
 pub few_slots : (part : PartData) (first w n : ℕ) → IsPart part → get_or (addresses_in part) 0 0 ≡ first → w ≡ frame_words part → n ≡ length (from_address first (slots_in part)) → IsFew part w n
 few_slots part first w n is f e g =
     let count : n ≡ length (slots_in part) = g ∙ ap length (all_slots part first n is (sym f)) in
-    let same : w * n ≡ frame_words part * (length (addresses_in part) + 2 * length part.rows) = ap (λ (k : ℕ). k * n) e ∙ ap (λ (k : ℕ). frame_words part * k) (count ∙ slots_number part) in
+    let same : w * n ≡ frame_words part * (length (addresses_in part) + pads_after_row * length part.rows) = ap (λ (k : ℕ). k * n) e ∙ ap (λ (k : ℕ). frame_words part * k) (count ∙ slots_number part) in
     record { words = omega (arith, same, is.slots); count = count; most = omega (arith, count, slots_number part, is.frames, is.few) }
 
 -- how many words a readback has
