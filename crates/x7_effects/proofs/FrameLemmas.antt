@@ -18,7 +18,7 @@ use Rattle.x7_part.proofs.SlotLemmas.{slots_all}
 use Rattle.x7_part.proofs.WidthLemmas.{columns_fit, pitch_least, row_within}
 use Rattle.x7_part.specs.AddressOrder.{addresses_of, addresses, addresses_in, row_addresses, count_from}
 use Rattle.x7_words.proofs.ListLemmas.{all_append}
-use Rattle.x7_part.specs.Slot.{addresses_among, slots, slots_in}
+use Rattle.x7_part.specs.Slot.{addresses_among, slots, slots_in, slots_from}
 use Rattle.x7_part.specs.declared.slot.Slot.{Slot}
 use Rattle.x7_part.specs.declared.slot.Slot.TheVariants.{Frame, Pad, End}
 use Rattle.x7_memory.specs.FrameMap.{FrameMap, AreSame}
@@ -27,7 +27,7 @@ use Rattle.x7_memory.specs.Plan.{PlanRow, PlanData, planned, planned_addresses, 
 use Rattle.x7_memory.proofs.FrameLemmas.{among_none}
 use Rattle.x7_memory.proofs.MapLemmas.{zeros_at, unnamed_none}
 use Rattle.x7_memory.proofs.PlanLemmas.{planned_here, planned_after}
-use Rattle.x7_pipeline.specs.Runs.{onto, slots_from, written_frames, put_over}
+use Rattle.x7_pipeline.specs.Runs.{onto, written_frames, put_over}
 use Rattle.x7_pipeline.specs.RunsInWords.{pair_of}
 use Rattle.x7_pipeline.proofs.SlotLemmas.{addresses_among_slots}
 use Rattle.x7_flow.proofs.InsideLemmas.{contains_or_not}

@@ -11,12 +11,12 @@ use Rattle.x7_crc.specs.RunningCheck.{running_check}
 use Rattle.x7_part.specs.AddressOrder.{addresses_in}
 use Rattle.x7_part.specs.Part.{PartData, frame_words}
 use Rattle.x7_part.specs.Ranges.{IsPart}
-use Rattle.x7_part.specs.Slot.{slots_in}
+use Rattle.x7_part.specs.Slot.{slots_in, slots_from}
 use Rattle.x7_part.proofs.PartLemmas.{some_address}
 use Rattle.x7_part.proofs.SlotLemmas.{slots_all}
 use Rattle.x7_memory.specs.FrameMap.{AreSame, FrameMap}
 use Rattle.x7_memory.specs.Plan.{IsPlan, PlanData, planned_addresses}
-use Rattle.x7_pipeline.specs.Runs.{written_frames, onto, put_over, slots_from}
+use Rattle.x7_pipeline.specs.Runs.{written_frames, onto, put_over}
 use Rattle.x7_startup.specs.Startup.{Begun, NotBegun, StartupProgress, cor0_of}
 use Rattle.x7_startup.proofs.CallLemmas.{further}
 use Rattle.x7_regs.specs.Control.{forbids_reading, has_dec}

@@ -13,7 +13,7 @@ use Rattle.x7_memory.proofs.MapLemmas.{override_same}
 use Rattle.x7_pipeline.specs.Runs.{put_over}
 use Rattle.x7_pipeline.proofs.LawLemmas.{put_twice}
 use Rattle.x7_planner.specs.PartialStream.{Section, Copies, Rows}
-use Rattle.x7_planner.specs.PartialStream.{same_words, with_content, is_shared, leads_group, groups_led, rows_not_shared, follows, with_row, runs_of, sections_of}
+use Rattle.x7_planner.specs.PartialStream.{have_same_words, with_content, is_shared, leads_group, groups_led, rows_not_shared, follows, with_row, runs_of, sections_of}
 use Rattle.x7_planner.specs.PartialStream.{joined_runs, IsRunOfRows, AreLongest, pairs_of}
 use Rattle.x7_planner.proofs.ContentLemmas.{same_words_true, same_words_own}
 use Rattle.x7_effects.proofs.Groups.{put_sections}
@@ -154,9 +154,9 @@ Pairs words rows = map (λ far. record { far = far; words = words }) (planned_ad
 
 pub content_agrees : (rows qs : List PlanRow) (words : List ℕ) → Agree rows qs → Agree rows (Pairs words (with_content words qs))
 content_agrees rows [] words a = tt
-content_agrees rows (q ∷ qs) words a = by_test (same_words q.words words) refl (content_agrees rows qs words a.1)
+content_agrees rows (q ∷ qs) words a = by_test (have_same_words q.words words) refl (content_agrees rows qs words a.1)
   where
-    by_test : (b : Bool) → same_words q.words words ≡ b → Agree rows (Pairs words (with_content words qs)) → Agree rows (Pairs words (if b then q ∷ with_content words qs else with_content words qs))
+    by_test : (b : Bool) → have_same_words q.words words ≡ b → Agree rows (Pairs words (with_content words qs)) → Agree rows (Pairs words (if b then q ∷ with_content words qs else with_content words qs))
     by_test true t ih = (a.0 ∙ ap (λ x. Some x) (same_words_true q.words words t), ih)
     by_test false t ih = ih
 
@@ -212,12 +212,12 @@ IsIn r (q ∷ qs) = (q ≡ r) ⊎ IsIn r qs
 
 content_names : (words : List ℕ) (q : PlanRow) (qs : List PlanRow) → IsIn q qs → q.words ≡ words → Names q.far (Pairs words (with_content words qs))
 content_names words q [] i e = absurd i
-content_names words q (r ∷ qs) i e = by_test (same_words r.words words) refl i (λ j. content_names words q qs j e)
+content_names words q (r ∷ qs) i e = by_test (have_same_words r.words words) refl i (λ j. content_names words q qs j e)
   where
-    by_test : (b : Bool) → same_words r.words words ≡ b → (r ≡ q) ⊎ IsIn q qs → (IsIn q qs → Names q.far (Pairs words (with_content words qs))) → Names q.far (Pairs words (if b then r ∷ with_content words qs else with_content words qs))
+    by_test : (b : Bool) → have_same_words r.words words ≡ b → (r ≡ q) ⊎ IsIn q qs → (IsIn q qs → Names q.far (Pairs words (with_content words qs))) → Names q.far (Pairs words (if b then r ∷ with_content words qs else with_content words qs))
     by_test true t (inl h) ih = inl (ap (λ (x : PlanRow). x.far) h)
     by_test true t (inr i) ih = inr (ih i)
-    by_test false t (inl h) ih = absurd (let y : same_words words words ≡ true = same_words_own words in let z : r.words ≡ words = ap (λ (x : PlanRow). x.words) h ∙ e in let u : same_words r.words words ≡ true = rw z y in cc)
+    by_test false t (inl h) ih = absurd (let y : have_same_words words words ≡ true = same_words_own words in let z : r.words ≡ words = ap (λ (x : PlanRow). x.words) h ∙ e in let u : have_same_words r.words words ≡ true = rw z y in cc)
     by_test false t (inr i) ih = ih i
 
 -- the first row of a content
@@ -229,9 +229,9 @@ record LeadsContent (words : List ℕ) (qs : List PlanRow) : Type 0 where
 
 content_led : (words : List ℕ) (qs : List PlanRow) → 0 < length (with_content words qs) → LeadsContent words qs
 content_led words [] h = absurd (omega arith)
-content_led words (r ∷ qs) h = by_test (same_words r.words words) refl h (content_led words qs)
+content_led words (r ∷ qs) h = by_test (have_same_words r.words words) refl h (content_led words qs)
   where
-    by_test : (b : Bool) → same_words r.words words ≡ b → 0 < length (if b then r ∷ with_content words qs else with_content words qs) → (0 < length (with_content words qs) → LeadsContent words qs) → LeadsContent words (r ∷ qs)
+    by_test : (b : Bool) → have_same_words r.words words ≡ b → 0 < length (if b then r ∷ with_content words qs else with_content words qs) → (0 < length (with_content words qs) → LeadsContent words qs) → LeadsContent words (r ∷ qs)
     by_test true t h ih = record { row = r; there = inl refl; has = same_words_true r.words words t; first = rw t refl }
     by_test false t h ih = let l : LeadsContent words qs = ih h in record { row = l.row; there = inr l.there; has = l.has; first = rw t l.first }
 

@@ -1,10 +1,11 @@
 -- What the groups and runs of a plan put, and how they land.
 use Rattle.std.specs.Prelude.{◌≡◌, List, [], ◌∷◌, ◌++◌, reverse, slice_index, Some}
 use Rattle.x7_part.specs.Part.{PartData, frame_words}
+use Rattle.x7_part.specs.Slot.{slots_from}
 use Rattle.x7_part.specs.declared.slot.Slot.{Slot}
 use Rattle.x7_memory.specs.FrameMap.{FrameMap}
 use Rattle.x7_memory.specs.Plan.{PlanRow, planned_addresses}
-use Rattle.x7_pipeline.specs.Runs.{slots_from, put_over, written_frames, onto, frames_of}
+use Rattle.x7_pipeline.specs.Runs.{put_over, written_frames, onto, frames_of}
 use Rattle.x7_pipeline.specs.Copies.{newest_of}
 use Rattle.x7_effects.proofs.Frames.{joined, row_frames, row_slots}
 use Rattle.x7_planner.specs.FullStream.{zero_frame}

@@ -7,7 +7,7 @@ use Rattle.x7_memory.proofs.PlanLemmas.{order_tail}
 use Rattle.x7_planner.proofs.RunLemmas.{all_rows}
 use Rattle.x7_part.specs.Part.{PartData}
 use Rattle.x7_memory.specs.Plan.{AreApart, AreInOrder, PlanRow, planned, planned_addresses}
-use Rattle.x7_planner.specs.PartialStream.{Copies, WritesOnce, groups_led, is_shared, leads_group, rows_not_shared, pairs_in, same_words, sections_of, with_content}
+use Rattle.x7_planner.specs.PartialStream.{Copies, WritesOnce, groups_led, is_shared, leads_group, rows_not_shared, pairs_in, have_same_words, sections_of, with_content}
 use Rattle.x7_effects.proofs.GroupLemmas.{Agree, Names, Pairs, content_agrees, later, names_either, own, sections_agree, sections_cover, sections_pairs}
 
 -- no address comes twice
@@ -27,7 +27,7 @@ apart_rows (r ∷ rows) o = ((λ n. let above : r.far < r.far = later r.far r ro
 
 content_some : (words : List ℕ) (qs : List PlanRow) (far : ℕ) → Names far (Pairs words (with_content words qs)) → Names far qs
 content_some words [] far n = n
-content_some words (q ∷ qs) far n = by (same_words q.words words) (λ m. content_some words qs far m) n
+content_some words (q ∷ qs) far n = by (have_same_words q.words words) (λ m. content_some words qs far m) n
   where
     by : (b : Bool) → (Names far (Pairs words (with_content words qs)) → Names far qs) → Names far (Pairs words (if b then q ∷ with_content words qs else with_content words qs)) → (q.far ≡ far) ⊎ Names far qs
     by true ih (inl e) = inl e
@@ -36,7 +36,7 @@ content_some words (q ∷ qs) far n = by (same_words q.words words) (λ m. conte
 
 content_apart : (words : List ℕ) (qs : List PlanRow) → Apart qs → Apart (Pairs words (with_content words qs))
 content_apart words [] a = tt
-content_apart words (q ∷ qs) a = by (same_words q.words words) (content_apart words qs a.1)
+content_apart words (q ∷ qs) a = by (have_same_words q.words words) (content_apart words qs a.1)
   where
     by : (b : Bool) → Apart (Pairs words (with_content words qs)) → Apart (Pairs words (if b then q ∷ with_content words qs else with_content words qs))
     by true ih = ((λ n. a.0 (content_some words qs q.far n)), ih)

@@ -13,6 +13,7 @@ use Rattle.x7_part.specs.AddressOrder.{addresses_in}
 use Rattle.x7_part.specs.Part.{PartData, frame_words}
 use Rattle.x7_startup.specs.Startup.{StartupProgress}
 use Rattle.x7_part.specs.Ranges.{IsPart}
+use Rattle.x7_part.specs.Slot.{pads_after_row}
 use Rattle.x7_memory.specs.FrameMap.{FrameMap, override}
 use Rattle.x7_memory.specs.Plan.{AreInOrder, IsPlan, IsPlanRow, PlanData, PlanRow, planned}
 use Rattle.x7_flow.specs.FrameMemory.{memory_of}
@@ -46,7 +47,7 @@ use Rattle.x7_effects.proofs.WalkLemmas.{IsReady}
 rows_few : (part : PartData) (rows : List PlanRow) → IsPart part → AreInOrder rows → All (λ row. Contains (addresses_in part) row.far) rows → frame_words part * (length rows + 1) < 2 ^ 27
 rows_few part rows is o h =
     let named : length rows ≤ length (addresses_in part) = few.rows_few part rows is o h in
-    let more : frame_words part * (length rows + 1) ≤ frame_words part * (length (addresses_in part) + 2 * length part.rows) = mul-le-mul_left (frame_words part) (omega (arith, named, is.some)) in
+    let more : frame_words part * (length rows + 1) ≤ frame_words part * (length (addresses_in part) + pads_after_row * length part.rows) = mul-le-mul_left (frame_words part) (omega (arith, named, is.some)) in
     omega (arith, more, is.slots)
 
 -- ---- played

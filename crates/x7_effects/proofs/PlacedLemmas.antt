@@ -11,12 +11,12 @@ use Rattle.x7_words.proofs.ListLemmas.{all_append, all_prefix, all_back}
 use Rattle.x7_part.specs.AddressOrder.{addresses_in, Rises}
 use Rattle.x7_part.specs.Part.{PartData, frame_words}
 use Rattle.x7_part.specs.Ranges.{IsPart}
-use Rattle.x7_part.specs.Slot.{addresses_among, slots_in, from}
+use Rattle.x7_part.specs.Slot.{addresses_among, slots_in, from_address, slots_from}
 use Rattle.x7_part.specs.declared.slot.Slot.{Slot}
 use Rattle.x7_part.specs.declared.slot.Slot.TheVariants.{Frame, Pad, End}
 use Rattle.x7_part.proofs.RowLemmas.{part_rises}
 use Rattle.x7_memory.specs.Plan.{PlanRow, planned_addresses}
-use Rattle.x7_pipeline.specs.Runs.{frames_of, slots_from, in_slots, written_frames, onto, but_newest}
+use Rattle.x7_pipeline.specs.Runs.{frames_of, in_slots, written_frames, onto, but_newest}
 use Rattle.x7_pipeline.specs.Copies.{newest_of}
 use Rattle.x7_pipeline.proofs.SlotLemmas.{addresses_among_slots, slot_among}
 use Rattle.x7_planner.proofs.FewLemmas.{rises_in, rises_rest, by_rows}
@@ -24,7 +24,7 @@ use Rattle.x7_effects.proofs.Frames.{joined, AreWide, row_frames}
 use Rattle.x7_planner.specs.FullStream.{zero_frame}
 use Rattle.x7_planner.specs.PartialStream.{Copies, Rows}
 use Rattle.x7_effects.proofs.Streams.{HaveWords, IsSection, AreSections}
-use Rattle.x7_planner.specs.PartialStream.{with_content, leads_group, groups_led, rows_not_shared, is_frame, follows, with_row, runs_of, sections_of, same_words}
+use Rattle.x7_planner.specs.PartialStream.{with_content, leads_group, groups_led, rows_not_shared, is_frame, follows, with_row, runs_of, sections_of, have_same_words}
 use Rattle.x7_effects.proofs.Groups.{IsPlaced, LandsAs, plan_pieces}
 use Rattle.x7_flow.proofs.StreamLemmas.{whole_cut}
 use Rattle.x7_effects.proofs.FrameLemmas.{rows_land}
@@ -39,7 +39,7 @@ record Begins (far : ℕ) (places : List Slot) : Type 0 where
   rest : List Slot
   is : places ≡ Frame far ∷ rest
 
-from_begins : (far : ℕ) (places : List Slot) → Contains (addresses_among places) far → Begins far (from far places)
+from_begins : (far : ℕ) (places : List Slot) → Contains (addresses_among places) far → Begins far (from_address far places)
 from_begins far [] (k, low, e) = absurd (omega arith)
 from_begins far (Frame a ∷ places) (k, low, e) =
     elim (cases_eq a far) [
@@ -53,7 +53,7 @@ from_begins far (Frame a ∷ places) (k, low, e) =
 from_begins far (Pad ∷ places) has = from_begins far places has
 from_begins far (End ∷ places) has = from_begins far places has
 
-from_next : (l a b : ℕ) (places rest : List Slot) → Rises l (addresses_among places) → from a places ≡ Frame a ∷ Frame b ∷ rest → from b places ≡ Frame b ∷ rest
+from_next : (l a b : ℕ) (places rest : List Slot) → Rises l (addresses_among places) → from_address a places ≡ Frame a ∷ Frame b ∷ rest → from_address b places ≡ Frame b ∷ rest
 from_next l a b [] rest r e = absurd (cc)
 from_next l a b (Frame x ∷ places) rest r e =
     elim (cases_eq x a) [
@@ -61,8 +61,8 @@ from_next l a b (Frame x ∷ places) rest r e =
           let rest_is : places ≡ Frame b ∷ rest = cc in
           let risen_there : Rises (x + 1) (b ∷ addresses_among rest) = subst (λ t. Rises (x + 1) (addresses_among t)) rest_is (rises_rest l x (addresses_among places) r) in
           let above : x + 1 ≤ b = rises_in (x + 1) (b ∷ addresses_among rest) b risen_there (0, omega arith, refl) in
-          rw (ne_eqb x b (λ h. omega (arith, h))) (ap (from b) rest_is ∙ rw (eq-eqb b b refl) refl))
-      | inr n ↦ (let whole : from a places ≡ Frame a ∷ Frame b ∷ rest = rw (ne_eqb x a n) at e in
+          rw (ne_eqb x b (λ h. omega (arith, h))) (ap (from_address b) rest_is ∙ rw (eq-eqb b b refl) refl))
+      | inr n ↦ (let whole : from_address a places ≡ Frame a ∷ Frame b ∷ rest = rw (ne_eqb x a n) at e in
           let there : Contains (addresses_among places) b = slot_among a 1 b places (ap (λ t. get_or t 1 End) whole) in
           let above : x + 1 ≤ b = rises_in (x + 1) (addresses_among places) b (rises_rest l x (addresses_among places) r) there in
           rw (ne_eqb x b (λ h. omega (arith, h))) (from_next (x + 1) a b places rest (rises_rest l x (addresses_among places) r) whole))
@@ -115,7 +115,7 @@ each_run P (run ∷ runs) a = (all_prefix P run (run_rows runs) a, each_run P ru
 
 pub of_content : (P : PlanRow → Type 0) (words : List ℕ) (qs : List PlanRow) → AllByRecursion P qs → AllByRecursion P (with_content words qs)
 of_content P words [] a = tt
-of_content P words (r ∷ qs) a = by_test (same_words r.words words) (of_content P words qs a.1)
+of_content P words (r ∷ qs) a = by_test (have_same_words r.words words) (of_content P words qs a.1)
   where
     by_test : (b : Bool) → AllByRecursion P (with_content words qs) → AllByRecursion P (if b then r ∷ with_content words qs else with_content words qs)
     by_test true ih = (a.0, ih)

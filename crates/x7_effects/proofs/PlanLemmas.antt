@@ -11,12 +11,11 @@ use Rattle.x7_words.proofs.ListLemmas.{all_append}
 use Rattle.x7_part.specs.AddressOrder.{addresses_in}
 use Rattle.x7_part.specs.Part.{PartData, frame_words}
 use Rattle.x7_part.specs.Ranges.{IsPart}
-use Rattle.x7_part.specs.Slot.{from, slots_in}
+use Rattle.x7_part.specs.Slot.{from_address, slots_in, slots_from}
 use Rattle.x7_part.specs.declared.slot.Slot.{Slot}
 use Rattle.x7_part.specs.declared.slot.Slot.TheVariants.{Frame, Pad, End}
 use Rattle.x7_memory.specs.Plan.{PlanRow, planned_addresses}
 use Rattle.x7_pipeline.specs.FarAsRead.{has_frame_at}
-use Rattle.x7_pipeline.specs.Runs.{slots_from}
 use Rattle.x7_pipeline.proofs.SlotLemmas.{address_has}
 use Rattle.x7_effects.proofs.Frames.{joined, row_frames, row_slots}
 use Rattle.x7_planner.specs.FullStream.{zero_frame}
@@ -41,7 +40,7 @@ targets part (r ∷ rows) is a = (target part r.far is a.0, targets part rows is
 -- ---- slots after a run
 
 -- from an address on the slots end in a pad
-from_pad : (far : ℕ) (places : List Slot) → 0 < length (from far (places ++ Pad ∷ [])) → EndsInPad (from far (places ++ Pad ∷ []))
+from_pad : (far : ℕ) (places : List Slot) → 0 < length (from_address far (places ++ Pad ∷ [])) → EndsInPad (from_address far (places ++ Pad ∷ []))
 from_pad far [] l = absurd (omega arith)
 from_pad far (Frame a ∷ places) l =
     elim (cases_eq a far) [
@@ -62,8 +61,8 @@ one_more : (part : PartData) (far : ℕ) (rows : List PlanRow) (more : List Slot
 one_more part far rows [] is a e =
     let some : 0 < length (slots_from part far) = grind (arith, nat_tests, a) in
     let pads : EndsInPad (slots_in part) = slots_end part.field_widths part.rows is.some in
-    let whole : slots_from part far ≡ from far (pads.prefix ++ Pad ∷ []) = ap (from far) pads.split in
-    let ends : EndsInPad (from far (pads.prefix ++ Pad ∷ [])) = from_pad far pads.prefix (subst (λ (t : List Slot). 0 < length t) whole some) in
+    let whole : slots_from part far ≡ from_address far (pads.prefix ++ Pad ∷ []) = ap (from_address far) pads.split in
+    let ends : EndsInPad (from_address far (pads.prefix ++ Pad ∷ [])) = from_pad far pads.prefix (subst (λ (t : List Slot). 0 < length t) whole some) in
     absurd (no_pad rows ends.prefix (sym (append-nil (row_slots rows)) ∙ sym e ∙ whole ∙ ends.split))
 one_more part far rows (s ∷ more) is a e =
     let count : length (slots_from part far) ≡ length (row_slots rows) + length (s ∷ more) = ap length e ∙ length-append (row_slots rows) (s ∷ more) in

@@ -6,7 +6,7 @@ use Rattle.x7_part.specs.declared.slot.Slot.{Slot}
 use Rattle.x7_part.specs.declared.slot.Slot.TheVariants.{Frame, Pad, End}
 use Rattle.x7_memory.specs.FrameMap.{FrameMap}
 use Rattle.x7_pipeline.specs.Readback.{readback_at, word_at, word_in_frame}
-use Rattle.x7_pipeline.specs.Runs.{slots_from}
+use Rattle.x7_part.specs.Slot.{slots_from}
 use Rattle.x7_pipeline.proofs.LawLemmas.{read_frames, read_pad_frame}
 use Rattle.x7_flow.specs.Standing.{readback_words}
 use Rattle.x7_effects.specs.Played.{slot_words, words_along}

@@ -11,7 +11,7 @@ use Rattle.x7_part.specs.AddressOrder.{addresses_in}
 use Rattle.x7_part.specs.Part.{PartData, frame_words}
 use Rattle.x7_startup.specs.Startup.{StartupProgress}
 use Rattle.x7_part.specs.Ranges.{IsPart}
-use Rattle.x7_part.specs.Slot.{slots_in}
+use Rattle.x7_part.specs.Slot.{slots_in, slots_from, pads_after_row}
 use Rattle.x7_part.specs.declared.slot.Slot.{Slot}
 use Rattle.x7_part.specs.declared.slot.Slot.TheVariants.{Frame, Pad, End}
 use Rattle.x7_part.proofs.SlotLemmas.{slots_number, slots_split}
@@ -19,8 +19,7 @@ use Rattle.x7_memory.specs.FrameMap.{AreSame, FrameMap}
 use Rattle.x7_pipeline.specs.declared.fault.RunFault.{RunFault}
 use Rattle.x7_pipeline.specs.FarAsRead.{has_frame_at}
 use Rattle.x7_pipeline.specs.Fault.{address_fault}
-use Rattle.x7_pipeline.specs.Runs.{slots_from}
-use Rattle.x7_flow.specs.Asking.{Other, Reads}
+use Rattle.x7_flow.specs.Asking.{NothingAsked, Reads}
 use Rattle.x7_regs.specs.Control.{forbids_reading}
 use Rattle.x7_flow.specs.Controls.{ctl0_held}
 use Rattle.x7_flow.specs.HistoryFlow.{Flow, base_of, fault_by, flow_of, frame_fault, count_given}
@@ -79,7 +78,7 @@ pub gives : (part : PartData) (h : History) (count : ℕ) → 0 < count → acce
 gives part h count some e f = let none : (count == 0) ≡ false = grind (arith, nat_tests, some) in rw (none, e, f) refl
 
 read_none : (part : PartData) (h : History) (count : ℕ) → reads_frame_data h (access.Read 3 count) ≡ true → has_frame_at part (base_of part h) ≡ true → frame_fault part h (access.Read 3 count) ≡ None
-read_none part h count t a = ap (λ (b : Bool). fault_by part (if b then Reads count else Other) (flow_of part h)) t ∙ no_fault part (base_of part h) count a
+read_none part h count t a = ap (λ (b : Bool). fault_by part (if b then Reads count else NothingAsked) (flow_of part h)) t ∙ no_fault part (base_of part h) count a
 
 read_answer : (part : PartData) (kept : Kept) (h : History) (count place : ℕ) → reads_frame_data h (access.Read 3 count) ≡ true → why_at part kept h (access.Read 3 count) ≡ None → words_read_by part kept h (access.Read 3 count) place ≡ frames_read part h count
 read_answer part kept h count place t e =
@@ -92,8 +91,8 @@ read_room : (part : PartData) (far n : ℕ) → IsPart part → Contains (addres
 read_room part far n is h l =
     let split = slots_split part far h in
     let count : length (slots_in part) ≡ length split.0 + length (slots_from part far) = ap length split.1 ∙ length-append split.0 (slots_from part far) in
-    let within : n ≤ length (addresses_in part) + 2 * length part.rows = omega (arith, count, l, slots_number part) in
-    let most : frame_words part * n ≤ frame_words part * (length (addresses_in part) + 2 * length part.rows) = mul-le-mul_left (frame_words part) within in
+    let within : n ≤ length (addresses_in part) + pads_after_row * length part.rows = omega (arith, count, l, slots_number part) in
+    let most : frame_words part * n ≤ frame_words part * (length (addresses_in part) + pads_after_row * length part.rows) = mul-le-mul_left (frame_words part) within in
     let product : frame_words part * (n + 1) ≡ frame_words part * n + frame_words part = grind arith in
     omega (arith, most, product, is.slots, is.words)
 

@@ -8,6 +8,7 @@ use Rattle.x7_packets.specs.History as access
 use Rattle.x7_packets.specs.History.{History, command_held, entry}
 use Rattle.x7_startup.specs.Startup.{StartupProgress}
 use Rattle.x7_part.specs.Part.{PartData, frame_words}
+use Rattle.x7_part.specs.Slot.{slots_from}
 use Rattle.x7_memory.specs.FrameMap.{AreSame, FrameMap}
 use Rattle.x7_memory.specs.Plan.{PlanRow, planned_addresses}
 use Rattle.x7_regs.specs.Command.{command_with}
@@ -15,9 +16,9 @@ use Rattle.x7_regs.specs.declared.command.Command.{Command}
 use Rattle.x7_pipeline.specs.Copies.{is_mfw}
 use Rattle.x7_pipeline.specs.FarAsRead.{has_frame_at, loaded_base}
 use Rattle.x7_pipeline.specs.Fault.{address_fault, copy_fault}
-use Rattle.x7_pipeline.specs.Runs.{written_frames, onto, put_over, slots_from}
+use Rattle.x7_pipeline.specs.Runs.{written_frames, onto, put_over}
 use Rattle.x7_pipeline.proofs.LawLemmas.{put_twice}
-use Rattle.x7_flow.specs.Asking.{Copies, Other}
+use Rattle.x7_flow.specs.Asking.{CopiesSource, NothingAsked}
 use Rattle.x7_flow.specs.Controls.{ctl0_held}
 use Rattle.x7_flow.specs.HistoryFlow.{Flow, base_of, fault_by, flow_of, frame_fault, run_of, source_of}
 use Rattle.x7_flow.specs.FrameMemory.{memory_of}
@@ -86,7 +87,7 @@ copy_one part kept startup far words h n m c t =
     let held : (flow_of part g).command ≡ command_with 2 = (flow_sound part g).command_is ∙ ap command_with c.held_is in
     let mfw : is_mfw (flow_of part g).command ≡ true = ap is_mfw held ∙ mfw_with 2 in
     let fault : frame_fault part g (access.Write 10 0) ≡ None =
-    ap (λ (b : Bool). fault_by part (if b then Copies else Other) (flow_of part g)) allowed
+    ap (λ (b : Bool). fault_by part (if b then CopiesSource else NothingAsked) (flow_of part g)) allowed
     ∙ copy_none part (flow_of part g).command (base_of part g) words (source_of part g) mfw source (ap (has_frame_at part) base ∙ t.1) in
     let second : IsGoing part kept startup (item_entered (n + 8) (Write 10 (0 ∷ [])) g) (n + 8 + 8) =
     going_one part kept startup g (n + 8) 10 0 (record { start = refl; shutdown = refl; desync = refl }) (copy_passes part kept g 0 c.ready.matched) fault first.calm.off first in

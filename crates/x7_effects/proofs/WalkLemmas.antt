@@ -8,11 +8,12 @@ use Rattle.x7_packets.specs.History.{History, command_held, entered_all, entry, 
 use Rattle.x7_packets.specs.Packet.{payload_steps}
 use Rattle.x7_startup.specs.Startup.{StartupProgress}
 use Rattle.x7_part.specs.Part.{PartData, frame_words}
+use Rattle.x7_part.specs.Slot.{slots_from}
 use Rattle.x7_memory.specs.FrameMap.{AreSame, FrameMap}
 use Rattle.x7_memory.specs.Plan.{PlanRow, planned}
 use Rattle.x7_memory.proofs.MapLemmas.{override_same}
 use Rattle.x7_pipeline.specs.FarAsRead.{has_frame_at, loaded_base}
-use Rattle.x7_pipeline.specs.Runs.{written_frames, onto, put_over, slots_from}
+use Rattle.x7_pipeline.specs.Runs.{written_frames, onto, put_over}
 use Rattle.x7_words.specs.Word.{field_of}
 use Rattle.x7_regs.specs.Control.{forbids_reading, forbids_writing}
 use Rattle.x7_flow.specs.Controls.{ctl0_held, has_idcode}

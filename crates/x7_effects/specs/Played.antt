@@ -8,7 +8,7 @@ use Rattle.x7_part.specs.declared.slot.Slot.{Slot}
 use Rattle.x7_part.specs.declared.slot.Slot.TheVariants.{Frame, Pad, End}
 use Rattle.x7_memory.specs.FrameMap.{AreSame, FrameMap, override}
 use Rattle.x7_memory.specs.Plan.{IsPlanFor, PlanData, planned, total}
-use Rattle.x7_pipeline.specs.Runs.{slots_from}
+use Rattle.x7_part.specs.Slot.{slots_from}
 use Rattle.x7_startup.specs.Phases.{last_phase}
 use Rattle.x7_startup.specs.declared.lines.Lines.{Lines}
 use Rattle.x7_engine.specs.declared.kept.Kept.{Kept}

@@ -14,7 +14,7 @@ use Rattle.x7_regs.specs.declared.register.Reg.TheVariants as reg
 use Rattle.x7_regs.specs.Command.{command_by}
 use Rattle.x7_pipeline.specs.declared.fault.RunFault.{RunFault}
 use Rattle.x7_pipeline.specs.declared.fault.RunFault.TheVariants.{Address, Multi, Overrun}
-use Rattle.x7_flow.specs.Asking.{Copies, Load, Commands, Other, Word}
+use Rattle.x7_flow.specs.Asking.{CopiesSource, LoadsFar, Commands, NothingAsked, AddsWord}
 use Rattle.x7_flow.specs.Controls.{has_idcode, same_idcode}
 use Rattle.x7_flow.specs.FrameAccess.{reads_frame_data}
 use Rattle.x7_flow.specs.Settings.{settings_of, takes_copies, takes_frames}
@@ -142,7 +142,7 @@ one_why part kept h (Write r w) fault e = by (r == 1) (r == 4) (r == 2 && takes_
         let m = and_parts (has_idcode part.idcode h) _ p.1 in
         subst (λ (n : ℕ). why_by_write part kept h n w ≡ None) (sym (eqb-true r 10 p.0)) (why_mfwr part kept h w m.0)
 
-    by : (far cmd fdri mfwr : Bool) → fault_by part (if far then Load w else if cmd then Commands (command_by w) else if fdri then Word w else if mfwr then Copies else Other) (flow_of part h) ≡ Some fault →
+    by : (far cmd fdri mfwr : Bool) → fault_by part (if far then LoadsFar w else if cmd then Commands (command_by w) else if fdri then AddsWord w else if mfwr then CopiesSource else NothingAsked) (flow_of part h) ≡ Some fault →
         (fdri ≡ true → why_by_write part kept h r w ≡ None) → (mfwr ≡ true → why_by_write part kept h r w ≡ None) → why_by_write part kept h r w ≡ None
     by true cmd fdri mfwr e p q = absurd (none-some _ e)
     by false true fdri mfwr e p q = absurd (none-some _ e)

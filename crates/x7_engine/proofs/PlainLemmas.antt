@@ -15,8 +15,8 @@ use Rattle.x7_part.specs.Part.{PartData}
 use Rattle.x7_startup.specs.Startup.{StandsForCalls, progress_of}
 use Rattle.x7_startup.specs.Startup as call
 use Rattle.x7_startup.specs.Watchdog.{Watched, WatchesFor, watched_count, is_on, timer_value_of}
-use Rattle.x7_flow.specs.Asking.{Asked, Other}
-use Rattle.x7_flow.specs.HistoryFlow.{asks, fault_by, flow_of, frame_fault}
+use Rattle.x7_flow.specs.Asking.{Asked, NothingAsked}
+use Rattle.x7_flow.specs.HistoryFlow.{asked_after, fault_by, flow_of, frame_fault}
 use Rattle.x7_engine.specs.declared.fault.Fault.TheVariants as fault
 use Rattle.x7_engine.specs.declared.kept.Kept.{Kept}
 use Rattle.x7_engine.specs.declared.stop.StopCause.{StopCause}
@@ -102,7 +102,7 @@ pub clears_none : (h : History) (register w : ℕ) → IsQuiet register → clea
 clears_none h register w p = rw (executes_none (command_held h) register w p, p.crc) refl
 
 -- a word written to a plain register asks nothing of the frames
-pub plain_asks : (idcode : ℕ) (h : History) (register w : ℕ) → IsPlain register → asks idcode h (Write register w) ≡ Other
+pub plain_asks : (idcode : ℕ) (h : History) (register w : ℕ) → IsPlain register → asked_after idcode h (Write register w) ≡ NothingAsked
 plain_asks idcode h register w p = let q = p.quiet in rw (q.far, q.cmd, p.fdri, p.mfwr) refl
 
 own_none : (part : PartData) (kept : Kept) (h : History) (register w : ℕ) → IsPlain register → why_by_access part kept h (Write register w) ≡ None

@@ -15,8 +15,8 @@ use Rattle.x7_startup.specs.Startup.{Call, NotBegun, StartupProgress, is_armed, 
 use Rattle.x7_startup.specs.Startup as call
 use Rattle.x7_startup.proofs.CallLemmas.{first_place, further, is_armed_arm, is_armed_bytes, is_armed_desync, is_armed_drop, progress_arm, progress_bytes, progress_desync, progress_drop}
 use Rattle.x7_flow.specs.Controls.{ctl0_held, has_idcode, mask_held, masked_word, names_part}
-use Rattle.x7_flow.specs.HistoryFlow.{Flow, asked_under, asks, fault_by, flow_by, flow_of, frame_fault}
-use Rattle.x7_flow.specs.FrameMemory.{memory_of, puts}
+use Rattle.x7_flow.specs.HistoryFlow.{Flow, asked_under, asked_after, fault_by, flow_by, flow_of, frame_fault}
+use Rattle.x7_flow.specs.FrameMemory.{memory_of, pairs_put}
 use Rattle.x7_flow.specs.Settings.{Settings, settings_of}
 use Rattle.x7_engine.specs.Registers.{clears_check_by, clears_check, is_pending, is_pending_after, takes_shutdown}
 use Rattle.x7_engine.specs.Startup.{startup_call, startup_calls}
@@ -95,18 +95,18 @@ module _ (part : PartData) (low : ℕ) (g h : History) (s : IsSame part low g h)
       ∙ ap (λ (w : ℕ). if executes 5 h a then call.Arm ∷ [] else if takes_shutdown h a then call.DropBack ∷ [] else if executes 13 h a then call.Desync w ∷ [] else []) (s.words 9 0 refl)
 
   pub faults : (a : Access) → frame_fault part g a ≡ frame_fault part h a
-  faults a = ap (λ (x : Settings). fault_by part (asked_under x a) (flow_of part g)) settings ∙ ap (fault_by part (asks part.idcode h a)) s.flow
+  faults a = ap (λ (x : Settings). fault_by part (asked_under x a) (flow_of part g)) settings ∙ ap (fault_by part (asked_after part.idcode h a)) s.flow
 
   flows : (e : Entry) → flow_of part (e ∷ g) ≡ flow_of part (e ∷ h)
   unfolding flow_of
-  flows e = ap (λ (x : Settings). flow_by part (asked_under x e.access) (flow_of part g)) settings ∙ ap (flow_by part (asks part.idcode h e.access)) s.flow
+  flows e = ap (λ (x : Settings). flow_by part (asked_under x e.access) (flow_of part g)) settings ∙ ap (flow_by part (asked_after part.idcode h e.access)) s.flow
 
   memories : (e : Entry) → memory_of part (e ∷ g) ≡ memory_of part (e ∷ h)
   unfolding memory_of
   memories e =
-      ap (λ (x : Settings). put_over (puts part (asked_under x e.access) (flow_of part g)) (memory_of part g)) settings
-      ∙ ap (λ (f : Flow). put_over (puts part (asks part.idcode h e.access) f) (memory_of part g)) s.flow
-      ∙ ap (put_over (puts part (asks part.idcode h e.access) (flow_of part h))) s.memory
+      ap (λ (x : Settings). put_over (pairs_put part (asked_under x e.access) (flow_of part g)) (memory_of part g)) settings
+      ∙ ap (λ (f : Flow). put_over (pairs_put part (asked_after part.idcode h e.access) f) (memory_of part g)) s.flow
+      ∙ ap (put_over (pairs_put part (asked_after part.idcode h e.access) (flow_of part h))) s.memory
 
   -- two histories that are the same to the device stay so with an access more
   pub same_more : (e : Entry) → low ≤ e.place → IsSame part low (e ∷ g) (e ∷ h)

@@ -9,7 +9,7 @@ use Rattle.x7_regs.specs.Command.{command_with}
 use Rattle.x7_flow.specs.Asking.{Asked}
 use Rattle.x7_flow.specs.Settings.{Settings, command_code_after, settings_from}
 use Rattle.x7_flow.specs.HistoryFlow.{Flow, asked_under, flow_by, write_asked}
-use Rattle.x7_flow.specs.FrameMemory.{puts}
+use Rattle.x7_flow.specs.FrameMemory.{pairs_put}
 use Rattle.x7_flow.specs.Later.{flow_from, flow_loaded, pairs_from, pairs_loaded}
 use Rattle.x7_flow.specs.Alike.{AreSameButForMask, WritesMaskBeforeCtl0, sets_mask}
 
@@ -76,9 +76,9 @@ pairs_alike part s t f [] a m = refl
 pairs_alike part s t f (e ∷ later) a m =
     let x : Settings = settings_from part.idcode s later in
     let y : Settings = settings_from part.idcode t later in
-    ap (λ (q : Asked). puts part q (flow_from part s f later) ++ pairs_from part s f later) (asked_alike x y e.access (settings_alike part.idcode s t later a m.1).0)
-    ∙ ap (λ (g : Flow). puts part (asked_under y e.access) g ++ pairs_from part s f later) (flow_alike part s t f later a m.1)
-    ∙ ap (λ (ps : List PlanRow). puts part (asked_under y e.access) (flow_from part t f later) ++ ps) (pairs_alike part s t f later a m.1)
+    ap (λ (q : Asked). pairs_put part q (flow_from part s f later) ++ pairs_from part s f later) (asked_alike x y e.access (settings_alike part.idcode s t later a m.1).0)
+    ∙ ap (λ (g : Flow). pairs_put part (asked_under y e.access) g ++ pairs_from part s f later) (flow_alike part s t f later a m.1)
+    ∙ ap (λ (ps : List PlanRow). pairs_put part (asked_under y e.access) (flow_from part t f later) ++ ps) (pairs_alike part s t f later a m.1)
 
 pub loaded_alike : (part : PartData) (s t : Settings) (source : Option (List ℕ)) (w : ℕ) (later : History) → AreSameButForMask s t → WritesMaskBeforeCtl0 later → pairs_loaded part s source w later ≡ pairs_loaded part t source w later
 loaded_alike part s t source w later a m =

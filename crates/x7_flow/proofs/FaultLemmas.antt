@@ -4,18 +4,19 @@ use Rattle.std.proofs.lemmas.Option.{none-some, same_Some}
 use Rattle.std.proofs.lemmas.List.{append_cancel_right}
 use Rattle.x7_packets.specs.History.{Access, Entry, History}
 use Rattle.x7_part.specs.Part.{PartData, frame_words}
+use Rattle.x7_part.specs.Slot.{slots_from}
 use Rattle.x7_memory.specs.FrameMap.{AreSame}
 use Rattle.x7_pipeline.specs.declared.fault.RunFault.{RunFault}
 use Rattle.x7_pipeline.specs.declared.fault.RunFault.TheVariants.{Address, Overrun, Multi}
-use Rattle.x7_pipeline.specs.Runs.{frames_of, written_frames, rest_of, slots_from}
+use Rattle.x7_pipeline.specs.Runs.{frames_of, written_frames, rest_of}
 use Rattle.x7_pipeline.specs.FarAsRead.{has_frame_at}
-use Rattle.x7_pipeline.specs.Copies.{copied, is_mfw}
+use Rattle.x7_pipeline.specs.Copies.{copied_pairs, is_mfw}
 use Rattle.x7_pipeline.specs.Fault.{address_fault, completes, copy_fault, has_filled, write_fault}
 use Rattle.x7_pipeline.proofs.LawLemmas.{copy_no_overrun, overrun_is, refused_far, refused_landed, write_no_multi}
 use Rattle.std.proofs.lemmas.Bool.{ltb-true}
-use Rattle.x7_flow.specs.Asking.{Asked, Load, Commands, Word, Copies, Reads, Other}
-use Rattle.x7_flow.specs.HistoryFlow.{Flow, asks, base_of, far_in, far_read, fault_by, flow_by, flow_of, frame_fault, is_copy, is_word, run_of}
-use Rattle.x7_flow.specs.FrameMemory.{copy_pairs, written_frames_more, memory_of, puts}
+use Rattle.x7_flow.specs.Asking.{Asked, LoadsFar, Commands, AddsWord, CopiesSource, Reads, NothingAsked}
+use Rattle.x7_flow.specs.HistoryFlow.{Flow, asked_after, base_of, far_in, far_read, fault_by, flow_by, flow_of, frame_fault, is_copy, is_word, run_of}
+use Rattle.x7_flow.specs.FrameMemory.{copy_pairs, written_frames_more, memory_of, pairs_put}
 use Rattle.x7_flow.specs.NeedsAddress.{needs_address}
 use Rattle.x7_flow.proofs.FlowLemmas.{flow_more, landed_grows, memory_more, put_none}
 
@@ -25,7 +26,7 @@ no_copy : (part : PartData) (f : Flow) (fault : RunFault) → copy_fault part f.
 unfolding copy_fault address_fault
 no_copy part f fault e = by (is_mfw f.command) f.source (has_frame_at part f.base) e
   where
-    by : (m : Bool) (source : Option (List ℕ)) (b : Bool) → (if m && is_some source then (if b then None else Some (Address f.base)) else Some Multi) ≡ Some fault → (if m && b then copied f.base source else []) ≡ []
+    by : (m : Bool) (source : Option (List ℕ)) (b : Bool) → (if m && is_some source then (if b then None else Some (Address f.base)) else Some Multi) ≡ Some fault → (if m && b then copied_pairs f.base source else []) ≡ []
     by true (Some frame) true e = absurd (none-some fault e)
     by true (Some frame) false e = refl
     by true None true e = refl
@@ -41,23 +42,23 @@ no_read part f count fault e = by (count == 0) (has_frame_at part f.base) e
     by false true e = absurd (none-some fault e)
     by false false e = refl
 
-refused_by : (part : PartData) (a : Asked) (f : Flow) (fault : RunFault) → fault_by part a f ≡ Some fault → (puts part a f ≡ []) × (far_in part (flow_by part a f) ≡ far_in part f)
-refused_by part (Load w) f fault e = absurd (none-some fault e)
+refused_by : (part : PartData) (a : Asked) (f : Flow) (fault : RunFault) → fault_by part a f ≡ Some fault → (pairs_put part a f ≡ []) × (far_in part (flow_by part a f) ≡ far_in part f)
+refused_by part (LoadsFar w) f fault e = absurd (none-some fault e)
 refused_by part (Commands c) f fault e = absurd (none-some fault e)
-refused_by part (Word w) f fault e = (
+refused_by part (AddsWord w) f fault e = (
   append_cancel_right (written_frames_more part f.base f.run) [] (written_frames part f.base f.run) (sym (landed_grows part f.base w f.run) ∙ refused_landed part f.base f.run w fault e),
   refused_far part f.base f.run w f.given fault e,
 )
-refused_by part Copies f fault e = (no_copy part f fault e, refl)
+refused_by part CopiesSource f fault e = (no_copy part f fault e, refl)
 refused_by part (Reads count) f fault e = (refl, ap (far_in part) (no_read part f count fault e))
-refused_by part Other f fault e = absurd (none-some fault e)
+refused_by part NothingAsked f fault e = absurd (none-some fault e)
 
 pub refused_memory : (part : PartData) (e : Entry) (h : History) (fault : RunFault) → frame_fault part h e.access ≡ Some fault → AreSame (memory_of part (e ∷ h)) (memory_of part h)
 refused_memory part e h fault r far =
-    memory_more part e h far ∙ put_none (puts part (asks part.idcode h e.access) (flow_of part h)) (memory_of part h) (refused_by part (asks part.idcode h e.access) (flow_of part h) fault r).0 far
+    memory_more part e h far ∙ put_none (pairs_put part (asked_after part.idcode h e.access) (flow_of part h)) (memory_of part h) (refused_by part (asked_after part.idcode h e.access) (flow_of part h) fault r).0 far
 
 pub refused_far_read : (part : PartData) (e : Entry) (h : History) (fault : RunFault) → frame_fault part h e.access ≡ Some fault → far_read part (e ∷ h) ≡ far_read part h
-refused_far_read part e h fault r = ap (far_in part) (flow_more part e h) ∙ (refused_by part (asks part.idcode h e.access) (flow_of part h) fault r).1
+refused_far_read part e h fault r = ap (far_in part) (flow_more part e h) ∙ (refused_by part (asked_after part.idcode h e.access) (flow_of part h) fault r).1
 
 -- ---- each line
 
@@ -75,14 +76,14 @@ no_overrun false far e = none-some _ e
 
 address_by : (part : PartData) (a : Asked) (f : Flow) (far : ℕ) → (fault_by part a f ≡ Some (Address far)) ↔ ((needs_address a f ≡ true) × (has_frame_at part f.base ≡ false) × (far ≡ f.base))
 unfolding write_fault copy_fault
-address_by part (Load w) f far = (λ e. absurd (none-some _ e), λ p. absurd (cc (p.0)))
+address_by part (LoadsFar w) f far = (λ e. absurd (none-some _ e), λ p. absurd (cc (p.0)))
 address_by part (Commands c) f far = (λ e. absurd (none-some _ e), λ p. absurd (cc (p.0)))
-address_by part (Word w) f far = by f.run
+address_by part (AddsWord w) f far = by f.run
   where
-    by : (run : List ℕ) → (write_fault part f.base run ≡ Some (Address far)) ↔ ((needs_address (Word w) (record f { run = run }) ≡ true) × (has_frame_at part f.base ≡ false) × (far ≡ f.base))
+    by : (run : List ℕ) → (write_fault part f.base run ≡ Some (Address far)) ↔ ((needs_address (AddsWord w) (record f { run = run }) ≡ true) × (has_frame_at part f.base ≡ false) × (far ≡ f.base))
     by [] = (λ e. let p = (address_of part f.base far).0 e in (refl, p.0, p.1), λ p. (address_of part f.base far).1 (p.1, p.2))
     by (v ∷ run) = (λ e. absurd (no_overrun (completes part (v ∷ run) && has_filled part f.base (v ∷ run)) far e), λ p. absurd (cc (p.0)))
-address_by part Copies f far = by (is_mfw f.command && is_some f.source)
+address_by part CopiesSource f far = by (is_mfw f.command && is_some f.source)
   where
     by : (b : Bool) → ((if b then address_fault part f.base else Some Multi) ≡ Some (Address far)) ↔ ((b ≡ true) × (has_frame_at part f.base ≡ false) × (far ≡ f.base))
     by true = (λ e. let p = (address_of part f.base far).0 e in (refl, p.0, p.1), λ p. (address_of part f.base far).1 (p.1, p.2))
@@ -92,18 +93,18 @@ address_by part (Reads count) f far = by (count == 0)
     by : (z : Bool) → ((if z then None else address_fault part f.base) ≡ Some (Address far)) ↔ ((not z ≡ true) × (has_frame_at part f.base ≡ false) × (far ≡ f.base))
     by true = (λ e. absurd (none-some _ e), λ p. absurd (cc (p.0)))
     by false = (λ e. let p = (address_of part f.base far).0 e in (refl, p.0, p.1), λ p. (address_of part f.base far).1 (p.1, p.2))
-address_by part Other f far = (λ e. absurd (none-some _ e), λ p. absurd (cc (p.0)))
+address_by part NothingAsked f far = (λ e. absurd (none-some _ e), λ p. absurd (cc (p.0)))
 
 pub address_line : (part : PartData) (h : History) (access : Access) (far : ℕ) →
-    (frame_fault part h access ≡ Some (Address far)) ↔ ((needs_address (asks part.idcode h access) (flow_of part h) ≡ true) × (has_frame_at part (base_of part h) ≡ false) × (far ≡ base_of part h))
-address_line part h access far = address_by part (asks part.idcode h access) (flow_of part h) far
+    (frame_fault part h access ≡ Some (Address far)) ↔ ((needs_address (asked_after part.idcode h access) (flow_of part h) ≡ true) × (has_frame_at part (base_of part h) ≡ false) × (far ≡ base_of part h))
+address_line part h access far = address_by part (asked_after part.idcode h access) (flow_of part h) far
 
 multi_by : (part : PartData) (a : Asked) (f : Flow) → (fault_by part a f ≡ Some Multi) ↔ ((is_copy a ≡ true) × ((is_mfw f.command && is_some f.source) ≡ false))
 unfolding copy_fault address_fault
-multi_by part (Load w) f = (λ e. absurd (none-some _ e), λ p. absurd (cc (p.0)))
+multi_by part (LoadsFar w) f = (λ e. absurd (none-some _ e), λ p. absurd (cc (p.0)))
 multi_by part (Commands c) f = (λ e. absurd (none-some _ e), λ p. absurd (cc (p.0)))
-multi_by part (Word w) f = (λ e. absurd (write_no_multi part f.base f.run e), λ p. absurd (cc (p.0)))
-multi_by part Copies f = by (is_mfw f.command && is_some f.source) (has_frame_at part f.base)
+multi_by part (AddsWord w) f = (λ e. absurd (write_no_multi part f.base f.run e), λ p. absurd (cc (p.0)))
+multi_by part CopiesSource f = by (is_mfw f.command && is_some f.source) (has_frame_at part f.base)
   where
     by : (b c : Bool) → ((if b then (if c then None else Some (Address f.base)) else Some Multi) ≡ Some Multi) ↔ ((true ≡ true) × (b ≡ false))
     by true true = (λ e. absurd (none-some _ e), λ p. absurd (cc (p.1)))
@@ -115,31 +116,31 @@ multi_by part (Reads count) f = by (count == 0) (has_frame_at part f.base)
     by true c = (λ e. absurd (none-some _ e), λ p. absurd (cc (p.0)))
     by false true = (λ e. absurd (none-some _ e), λ p. absurd (cc (p.0)))
     by false false = (λ e. let s = same_Some _ _ e in absurd cc, λ p. absurd (cc (p.0)))
-multi_by part Other f = (λ e. absurd (none-some _ e), λ p. absurd (cc (p.0)))
+multi_by part NothingAsked f = (λ e. absurd (none-some _ e), λ p. absurd (cc (p.0)))
 
 pub multi_line : (part : PartData) (h : History) (access : Access) →
-    (frame_fault part h access ≡ Some Multi) ↔ ((is_copy (asks part.idcode h access) ≡ true) × ((is_mfw (flow_of part h).command && is_some (flow_of part h).source) ≡ false))
-multi_line part h access = multi_by part (asks part.idcode h access) (flow_of part h)
+    (frame_fault part h access ≡ Some Multi) ↔ ((is_copy (asked_after part.idcode h access) ≡ true) × ((is_mfw (flow_of part h).command && is_some (flow_of part h).source) ≡ false))
+multi_line part h access = multi_by part (asked_after part.idcode h access) (flow_of part h)
 
 -- ---- Overrun
 
 -- only a word of frame data overruns
 overrun_by : (part : PartData) (a : Asked) (f : Flow) → fault_by part a f ≡ Some Overrun → is_word a ≡ true
 unfolding copy_fault address_fault
-overrun_by part (Load w) f e = absurd (none-some _ e)
+overrun_by part (LoadsFar w) f e = absurd (none-some _ e)
 overrun_by part (Commands c) f e = absurd (none-some _ e)
-overrun_by part (Word w) f e = refl
-overrun_by part Copies f e = absurd (copy_no_overrun part f.command f.base f.source e)
+overrun_by part (AddsWord w) f e = refl
+overrun_by part CopiesSource f e = absurd (copy_no_overrun part f.command f.base f.source e)
 overrun_by part (Reads count) f e = absurd (by (count == 0) (has_frame_at part f.base) e)
   where
     by : (z c : Bool) → (if z then None else if c then None else Some (Address f.base)) ≡ Some Overrun → ⊥
     by true c e = none-some _ e
     by false true e = none-some _ e
     by false false e = let s = same_Some _ _ e in cc
-overrun_by part Other f e = absurd (none-some _ e)
+overrun_by part NothingAsked f e = absurd (none-some _ e)
 
-pub overrun_word : (part : PartData) (h : History) (access : Access) → frame_fault part h access ≡ Some Overrun → is_word (asks part.idcode h access) ≡ true
-overrun_word part h access e = overrun_by part (asks part.idcode h access) (flow_of part h) e
+pub overrun_word : (part : PartData) (h : History) (access : Access) → frame_fault part h access ≡ Some Overrun → is_word (asked_after part.idcode h access) ≡ true
+overrun_word part h access e = overrun_by part (asked_after part.idcode h access) (flow_of part h) e
 
 no_first_overrun : (part : PartData) (base : ℕ) (b : Bool) → has_frame_at part base ≡ b → b ≡ true → write_fault part base [] ≡ Some Overrun → ⊥
 unfolding write_fault address_fault
@@ -161,7 +162,7 @@ unfolding rest_of
 overrun_at part base w [] t = (λ e. absurd (no_first_overrun part base (has_frame_at part base) refl t e), λ p. absurd (one_slot part base w t p.1))
 overrun_at part base w (v ∷ run) t = overrun_is part base w v run
 
-pub overrun_line : (part : PartData) (h : History) (access : Access) (w : ℕ) → asks part.idcode h access ≡ Word w → has_frame_at part (base_of part h) ≡ true →
+pub overrun_line : (part : PartData) (h : History) (access : Access) (w : ℕ) → asked_after part.idcode h access ≡ AddsWord w → has_frame_at part (base_of part h) ≡ true →
     (frame_fault part h access ≡ Some Overrun) ↔ ((rest_of (frame_words part) (w ∷ run_of part h) ≡ []) × (length (slots_from part (base_of part h)) < length (frames_of (frame_words part) (w ∷ run_of part h))))
 overrun_line part h access w a t =
     let same : frame_fault part h access ≡ write_fault part (base_of part h) (run_of part h) = ap (λ (x : Asked). fault_by part x (flow_of part h)) a in
@@ -178,14 +179,14 @@ none_written part base w run idle none f =
     absurd (none-some _ (sym some))
 
 runs_by : (part : PartData) (a : Asked) (f : Flow) → (has_frame_at part f.base ≡ false → f.run ≡ []) → fault_by part a f ≡ None → has_frame_at part (flow_by part a f).base ≡ false → (flow_by part a f).run ≡ []
-runs_by part (Load w) f idle none e = refl
+runs_by part (LoadsFar w) f idle none e = refl
 runs_by part (Commands c) f idle none e = refl
-runs_by part (Word w) f idle none e = none_written part f.base w f.run idle none e
-runs_by part Copies f idle none e = idle e
+runs_by part (AddsWord w) f idle none e = none_written part f.base w f.run idle none e
+runs_by part CopiesSource f idle none e = idle e
 runs_by part (Reads count) f idle none e = idle e
-runs_by part Other f idle none e = idle e
+runs_by part NothingAsked f idle none e = idle e
 
 pub runs_somewhere : (part : PartData) (e : Entry) (h : History) → (has_frame_at part (base_of part h) ≡ false → run_of part h ≡ []) → frame_fault part h e.access ≡ None →
     has_frame_at part (base_of part (e ∷ h)) ≡ false → run_of part (e ∷ h) ≡ []
 unfolding flow_of
-runs_somewhere part e h idle none f = runs_by part (asks part.idcode h e.access) (flow_of part h) idle none f
+runs_somewhere part e h idle none f = runs_by part (asked_after part.idcode h e.access) (flow_of part h) idle none f

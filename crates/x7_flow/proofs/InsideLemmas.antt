@@ -9,6 +9,7 @@ use Rattle.std.specs.Option.{option_or}
 use Rattle.x7_packets.specs.History.{History, command_held, writes}
 use Rattle.x7_part.specs.AddressOrder.{addresses_in}
 use Rattle.x7_part.specs.Part.{PartData, frame_words}
+use Rattle.x7_part.specs.Slot.{slots_from}
 use Rattle.x7_part.specs.declared.slot.Slot.{Slot}
 use Rattle.x7_part.specs.declared.slot.Slot.TheVariants.{Frame, Pad, End}
 use Rattle.x7_memory.specs.FrameMap.{FrameMap}
@@ -17,15 +18,15 @@ use Rattle.x7_memory.specs.Plan.{PlanRow, planned}
 use Rattle.x7_memory.proofs.FrameLemmas.{among_none}
 use Rattle.x7_memory.proofs.MapLemmas.{zeros_at}
 use Rattle.x7_memory.proofs.PlanLemmas.{planned_after, planned_here}
-use Rattle.x7_pipeline.specs.Copies.{copied, is_mfw, newest_of}
+use Rattle.x7_pipeline.specs.Copies.{copied_pairs, is_mfw, newest_of}
 use Rattle.x7_pipeline.specs.FarAsRead.{has_frame_at}
 use Rattle.x7_pipeline.specs.Fault.{completes}
-use Rattle.x7_pipeline.specs.Runs.{at_slot, frames_of, put_over, slots_from}
+use Rattle.x7_pipeline.specs.Runs.{at_slot, frames_of, put_over}
 use Rattle.x7_pipeline.proofs.LawLemmas.{cut}
 use Rattle.x7_pipeline.proofs.SlotLemmas.{has_address, slot_address}
-use Rattle.x7_flow.specs.Asking.{Asked, Copies, Load, Commands, Other, Reads, Word}
-use Rattle.x7_flow.specs.HistoryFlow.{asks, flow_of, source_of}
-use Rattle.x7_flow.specs.FrameMemory.{copy_pairs, written_frames_more, memory_of, newest_put, puts}
+use Rattle.x7_flow.specs.Asking.{Asked, CopiesSource, LoadsFar, Commands, NothingAsked, Reads, AddsWord}
+use Rattle.x7_flow.specs.HistoryFlow.{asked_after, flow_of, source_of}
+use Rattle.x7_flow.specs.FrameMemory.{copy_pairs, written_frames_more, memory_of, newest_put, pairs_put}
 use Rattle.x7_flow.specs.HasFrames.{HasFrames}
 use Rattle.x7_flow.specs.FlowInWords.{frame_taken, words_written}
 use Rattle.x7_flow.proofs.WordLemmas.{source_is}
@@ -94,25 +95,25 @@ taken_wide part (e ∷ h) some = by (writes 4 e.access) (command_held (e ∷ h) 
     by true false w = tt
     by false b w = w
 
-copied_frames : (part : PartData) (base : ℕ) (source : Option (List ℕ)) → Contains (addresses_in part) base → IsWide part source → AreFrames part (copied base source)
+copied_frames : (part : PartData) (base : ℕ) (source : Option (List ℕ)) → Contains (addresses_in part) base → IsWide part source → AreFrames part (copied_pairs base source)
 copied_frames part base None h w = tt
 copied_frames part base (Some words) h w = ((h, w), tt)
 
 copies_frames : (part : PartData) (h : History) → 0 < frame_words part → AreFrames part (copy_pairs part (flow_of part h))
 copies_frames part h some = by (is_mfw (flow_of part h).command) (has_frame_at part (flow_of part h).base) refl
   where
-    by : (a b : Bool) → has_frame_at part (flow_of part h).base ≡ b → AreFrames part (if a && b then copied (flow_of part h).base (source_of part h) else [])
+    by : (a b : Bool) → has_frame_at part (flow_of part h).base ≡ b → AreFrames part (if a && b then copied_pairs (flow_of part h).base (source_of part h) else [])
     by true true e = copied_frames part (flow_of part h).base (source_of part h) (has_address part (flow_of part h).base e) (subst (IsWide part) (sym (source_is part h)) (taken_wide part h some))
     by true false e = tt
     by false b e = tt
 
-puts_frames : (part : PartData) (a : Asked) (h : History) → 0 < frame_words part → AreFrames part (puts part a (flow_of part h))
-puts_frames part (Load w) h some = tt
+puts_frames : (part : PartData) (a : Asked) (h : History) → 0 < frame_words part → AreFrames part (pairs_put part a (flow_of part h))
+puts_frames part (LoadsFar w) h some = tt
 puts_frames part (Commands c) h some = tt
-puts_frames part (Word w) h some = more_frames part (flow_of part h).base (flow_of part h).run some
-puts_frames part Copies h some = copies_frames part h some
+puts_frames part (AddsWord w) h some = more_frames part (flow_of part h).base (flow_of part h).run some
+puts_frames part CopiesSource h some = copies_frames part h some
 puts_frames part (Reads n) h some = tt
-puts_frames part Other h some = tt
+puts_frames part NothingAsked h some = tt
 
 -- ---- the memory
 
@@ -152,4 +153,4 @@ zeros_memory part = record {
 pub memory_has : (part : PartData) (h : History) → 0 < frame_words part → HasFrames part (memory_of part h)
 unfolding memory_of
 memory_has part [] some = zeros_memory part
-memory_has part (e ∷ h) some = put_memory part (puts part (asks part.idcode h e.access) (flow_of part h)) (memory_of part h) (puts_frames part (asks part.idcode h e.access) h some) (memory_has part h some)
+memory_has part (e ∷ h) some = put_memory part (pairs_put part (asked_after part.idcode h e.access) (flow_of part h)) (memory_of part h) (puts_frames part (asked_after part.idcode h e.access) h some) (memory_has part h some)

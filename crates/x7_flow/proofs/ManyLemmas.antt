@@ -9,10 +9,10 @@ use Rattle.x7_pipeline.specs.Runs.{written_frames, onto, put_over, Lands}
 use Rattle.x7_pipeline.specs.Copies.{is_mfw}
 use Rattle.x7_pipeline.proofs.LawLemmas.{landed_empty, lands_more, lands_none}
 use Rattle.x7_regs.specs.Command.{command_with}
-use Rattle.x7_flow.specs.Asking.{Asked, Word, Other}
+use Rattle.x7_flow.specs.Asking.{Asked, AddsWord, NothingAsked}
 use Rattle.x7_flow.specs.Settings.{Settings, settings_of, settings_after, settings_from, takes_frames}
 use Rattle.x7_flow.specs.HistoryFlow.{Flow, asked_under, base_of, flow_by, flow_of, run_of}
-use Rattle.x7_flow.specs.FrameMemory.{written_frames_more, memory_of, puts}
+use Rattle.x7_flow.specs.FrameMemory.{written_frames_more, memory_of, pairs_put}
 use Rattle.x7_flow.specs.Later.{flow_from, pairs_from, pairs_loaded}
 use Rattle.x7_flow.proofs.FlowLemmas.{flow_more, flow_sound, landed_grows, memory_after_load, memory_more}
 
@@ -22,8 +22,8 @@ pub words_settings : (idcode n : ℕ) (ws : List ℕ) (h : History) → settings
 words_settings idcode n [] h = refl
 words_settings idcode n (w ∷ ws) h = words_settings idcode (n + 4) ws (entry (Write 2 w) (n + 4) ∷ h)
 
-pub word_asked : (s : Settings) (w : ℕ) → takes_frames s ≡ true → asked_under s (Write 2 w) ≡ Word w
-word_asked s w t = ap (λ (b : Bool). if b then Word w else Other) t
+pub word_asked : (s : Settings) (w : ℕ) → takes_frames s ≡ true → asked_under s (Write 2 w) ≡ AddsWord w
+word_asked s w t = ap (λ (b : Bool). if b then AddsWord w else NothingAsked) t
 
 pub word_flow : (part : PartData) (w place : ℕ) (h : History) → takes_frames (settings_of part.idcode h) ≡ true → flow_of part (entry (Write 2 w) place ∷ h) ≡ record (flow_of part h) { run = w ∷ run_of part h }
 word_flow part w place h t = flow_more part (entry (Write 2 w) place) h ∙ ap (λ (a : Asked). flow_by part a (flow_of part h)) (word_asked (settings_of part.idcode h) w t)
@@ -41,7 +41,7 @@ word_lands part w place h t = record {
   grows = landed_grows part (base_of part h) w (run_of part h);
   memory = λ far.
       memory_more part (entry (Write 2 w) place) h far
-      ∙ ap (λ (a : Asked). put_over (puts part a (flow_of part h)) (memory_of part h) far) (word_asked (settings_of part.idcode h) w t);
+      ∙ ap (λ (a : Asked). put_over (pairs_put part a (flow_of part h)) (memory_of part h) far) (word_asked (settings_of part.idcode h) w t);
 }
 
 pub words_land : (part : PartData) (n : ℕ) (ws : List ℕ) (h : History) → takes_frames (settings_of part.idcode h) ≡ true →
@@ -64,8 +64,8 @@ settings_twice idcode s (e ∷ later) middle = ap (settings_after idcode e.acces
 step_same : (part : PartData) (access : Access) (s t : Settings) (f g : Flow) → s ≡ t → f ≡ g → flow_by part (asked_under s access) f ≡ flow_by part (asked_under t access) g
 step_same part access s t f g e d = ap (λ (x : Settings). flow_by part (asked_under x access) f) e ∙ ap (flow_by part (asked_under t access)) d
 
-puts_same : (part : PartData) (access : Access) (s t : Settings) (f g : Flow) → s ≡ t → f ≡ g → puts part (asked_under s access) f ≡ puts part (asked_under t access) g
-puts_same part access s t f g e d = ap (λ (x : Settings). puts part (asked_under x access) f) e ∙ ap (puts part (asked_under t access)) d
+puts_same : (part : PartData) (access : Access) (s t : Settings) (f g : Flow) → s ≡ t → f ≡ g → pairs_put part (asked_under s access) f ≡ pairs_put part (asked_under t access) g
+puts_same part access s t f g e d = ap (λ (x : Settings). pairs_put part (asked_under x access) f) e ∙ ap (pairs_put part (asked_under t access)) d
 
 pub flow_twice : (part : PartData) (s : Settings) (f : Flow) (later middle : History) →
     flow_from part s f (later ++ middle) ≡ flow_from part (settings_from part.idcode s middle) (flow_from part s f middle) later
@@ -80,8 +80,8 @@ pairs_twice part s f [] middle = refl
 pairs_twice part s f (e ∷ later) middle =
     let t : Settings = settings_from part.idcode s middle in
     let g : Flow = flow_from part s f middle in
-    let first : List PlanRow = puts part (asked_under (settings_from part.idcode t later) e.access) (flow_from part t g later) in
-    let same : puts part (asked_under (settings_from part.idcode s (later ++ middle)) e.access) (flow_from part s f (later ++ middle)) ≡ first =
+    let first : List PlanRow = pairs_put part (asked_under (settings_from part.idcode t later) e.access) (flow_from part t g later) in
+    let same : pairs_put part (asked_under (settings_from part.idcode s (later ++ middle)) e.access) (flow_from part s f (later ++ middle)) ≡ first =
     puts_same part e.access _ _ _ _ (settings_twice part.idcode s later middle) (flow_twice part s f later middle) in
     ap (λ (ps : List PlanRow). ps ++ pairs_from part s f (later ++ middle)) same
     ∙ ap (λ (ps : List PlanRow). first ++ ps) (pairs_twice part s f later middle)
@@ -96,7 +96,7 @@ word_pairs : (part : PartData) (s : Settings) (f : Flow) (w place : ℕ) (later 
 unfolding flow_from pairs_from
 word_pairs part s f w place later t = (
   ap (λ (a : Asked). flow_by part a (flow_from part s f later)) (word_asked (settings_from part.idcode s later) w t),
-  ap (λ (a : Asked). puts part a (flow_from part s f later) ++ pairs_from part s f later) (word_asked (settings_from part.idcode s later) w t),
+  ap (λ (a : Asked). pairs_put part a (flow_from part s f later) ++ pairs_from part s f later) (word_asked (settings_from part.idcode s later) w t),
 )
 
 -- pairs put by words of frame data, and the pairs by which the written frames grow

@@ -9,7 +9,7 @@ use Rattle.x7_packets.specs.History.{Write, History, command_held, entered_all, 
 use Rattle.x7_packets.specs.Packet.{payload_steps}
 use Rattle.x7_part.specs.AddressOrder.{addresses_in, Rises, risen, rise}
 use Rattle.x7_part.specs.Part.{PartData, frame_words}
-use Rattle.x7_part.specs.Slot.{addresses_among, from, slots_in}
+use Rattle.x7_part.specs.Slot.{addresses_among, from_address, slots_in, slots_from}
 use Rattle.x7_part.specs.declared.slot.Slot.{Slot}
 use Rattle.x7_part.specs.declared.slot.Slot.TheVariants.{Frame, Pad, End}
 use Rattle.x7_memory.specs.FrameMap.{AreSame, override}
@@ -17,12 +17,12 @@ use Rattle.x7_memory.specs.Plan.{PlanRow, planned, planned_addresses}
 use Rattle.x7_memory.proofs.MapLemmas.{override_same, planned_joined}
 use Rattle.x7_memory.proofs.PlanLemmas.{planned_after, planned_here}
 use Rattle.x7_pipeline.specs.RunsInWords.{pair_of}
-use Rattle.x7_pipeline.specs.Runs.{frames_of, onto, slots_from}
+use Rattle.x7_pipeline.specs.Runs.{frames_of, onto}
 use Rattle.x7_pipeline.specs.Copies.{newest_of}
 use Rattle.x7_pipeline.specs.FarAsRead.{loaded_base}
 use Rattle.x7_pipeline.proofs.SlotLemmas.{addresses_among_slots}
 use Rattle.x7_flow.specs.Settings.{settings_of, takes_copies, takes_frames}
-use Rattle.x7_flow.specs.Asking.{Copies, Other}
+use Rattle.x7_flow.specs.Asking.{CopiesSource, NothingAsked}
 use Rattle.x7_flow.specs.HistoryFlow.{Flow, flow_by, flow_of, run_of, source_of}
 use Rattle.x7_flow.specs.FlowInWords.{frame_taken, words_written}
 use Rattle.x7_flow.proofs.FlowLemmas.{flow_more}
@@ -39,7 +39,7 @@ lower a b (y ∷ ys) h (rise least x xs l r) = rise a y ys (omega arith) r
 after_first : (least x : ℕ) (xs : List ℕ) → Rises least (x ∷ xs) → (least ≤ x) × Rises (x + 1) xs
 after_first least x xs (rise a y ys l r) = (l, r)
 
-rises_from : (least base : ℕ) (places : List Slot) → Rises least (addresses_among places) → Rises least (addresses_among (from base places))
+rises_from : (least base : ℕ) (places : List Slot) → Rises least (addresses_among places) → Rises least (addresses_among (from_address base places))
 rises_from least base [] r = r
 rises_from least base (Frame a ∷ places) r =
     elim (cases_eq a base) [
@@ -116,7 +116,7 @@ source_left part h c place frames last some held now run all =
 copy_word_flow : (part : PartData) (h : History) (w place : ℕ) → flow_of part (entry (Write 10 w) place ∷ h) ≡ flow_of part h
 copy_word_flow part h w place = flow_more part (entry (Write 10 w) place) h ∙ by (takes_copies (settings_of part.idcode h))
   where
-    by : (b : Bool) → flow_by part (if b then Copies else Other) (flow_of part h) ≡ flow_of part h
+    by : (b : Bool) → flow_by part (if b then CopiesSource else NothingAsked) (flow_of part h) ≡ flow_of part h
     by true = refl
     by false = refl
 

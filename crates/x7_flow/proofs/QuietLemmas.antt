@@ -6,19 +6,19 @@ use Rattle.x7_memory.specs.FrameMap.{AreSame}
 use Rattle.x7_memory.specs.Plan.{PlanRow}
 use Rattle.x7_regs.specs.Command.{command_by}
 use Rattle.x7_pipeline.specs.FarAsRead.{has_frame_at}
-use Rattle.x7_flow.specs.Asking.{Asked, Load, Commands, Word, Copies, Reads, Other}
+use Rattle.x7_flow.specs.Asking.{Asked, LoadsFar, Commands, AddsWord, CopiesSource, Reads, NothingAsked}
 use Rattle.x7_flow.specs.Settings.{Settings, gives_frames, settings_from, settings_of, takes_copies, takes_frames}
-use Rattle.x7_flow.specs.HistoryFlow.{Flow, asked_under, asks, flow_by, flow_of}
-use Rattle.x7_flow.specs.FrameMemory.{memory_of, puts}
+use Rattle.x7_flow.specs.HistoryFlow.{Flow, asked_under, asked_after, flow_by, flow_of}
+use Rattle.x7_flow.specs.FrameMemory.{memory_of, pairs_put}
 use Rattle.x7_flow.specs.Later.{flow_from, pairs_from}
 use Rattle.x7_flow.specs.Quiet.{AreQuiet}
 use Rattle.x7_flow.specs.Standing.{without_due}
 use Rattle.x7_flow.proofs.FlowLemmas.{flow_more, flow_sound, memory_joined, put_none}
 
-quiet_puts : (part : PartData) (s : Settings) (access : Access) (f : Flow) → (writes 2 access || writes 10 access) ≡ false → puts part (asked_under s access) f ≡ []
+quiet_puts : (part : PartData) (s : Settings) (access : Access) (f : Flow) → (writes 2 access || writes 10 access) ≡ false → pairs_put part (asked_under s access) f ≡ []
 quiet_puts part s (Write r w) f e = by (r == 1) (r == 4) (r == 2) (r == 10) (takes_frames s) (takes_copies s) e
   where
-    by : (far cmd fdri mfwr t c : Bool) → (fdri || mfwr) ≡ false → puts part (if far then Load w else if cmd then Commands (command_by w) else if fdri && t then Word w else if mfwr && c then Copies else Other) f ≡ []
+    by : (far cmd fdri mfwr t c : Bool) → (fdri || mfwr) ≡ false → pairs_put part (if far then LoadsFar w else if cmd then Commands (command_by w) else if fdri && t then AddsWord w else if mfwr && c then CopiesSource else NothingAsked) f ≡ []
     by true cmd fdri mfwr t c e = refl
     by false true fdri mfwr t c e = refl
     by false false true mfwr t c e = absurd cc
@@ -26,7 +26,7 @@ quiet_puts part s (Write r w) f e = by (r == 1) (r == 4) (r == 2) (r == 10) (tak
     by false false false false t c e = refl
 quiet_puts part s (Read r count) f e = by (r == 3 && (not (count == 0) && gives_frames s))
   where
-    by : (b : Bool) → puts part (if b then Reads count else Other) f ≡ []
+    by : (b : Bool) → pairs_put part (if b then Reads count else NothingAsked) f ≡ []
     by true = refl
     by false = refl
 quiet_puts part s (Bad w) f e = refl
@@ -43,7 +43,7 @@ quiet_memory part later earlier q far =
     ∙ put_none (pairs_from part (settings_of part.idcode earlier) (flow_of part earlier) later) (memory_of part earlier) (quiet_pairs part (settings_of part.idcode earlier) (flow_of part earlier) later q) far
 
 -- a read of which words are due has the flow of a read without them
-pub less_is : (part : PartData) (h : History) (r count due place : ℕ) → asks part.idcode h (Read r count) ≡ Reads count → due < count → asks part.idcode h (Read r (count - due)) ≡ Reads (count - due) →
+pub less_is : (part : PartData) (h : History) (r count due place : ℕ) → asked_after part.idcode h (Read r count) ≡ Reads count → due < count → asked_after part.idcode h (Read r (count - due)) ≡ Reads (count - due) →
     without_due due (flow_of part (entry (Read r count) place ∷ h)) ≡ flow_of part (entry (Read r (count - due)) place ∷ h)
 less_is part h r count due place a l b =
     ap (without_due due) (flow_more part (entry (Read r count) place) h ∙ ap (λ (x : Asked). flow_by part x (flow_of part h)) a)
@@ -67,14 +67,14 @@ read_test g r count t due l =
 pub due_is : (part : PartData) (h : History) (r count due place : ℕ) → (r == 3 && (not (count == 0) && gives_frames (settings_of part.idcode h))) ≡ true → due < count →
     without_due due (flow_of part (entry (Read r count) place ∷ h)) ≡ flow_of part (entry (Read r (count - due)) place ∷ h)
 due_is part h r count due place t l =
-    less_is part h r count due place (ap (λ (b : Bool). if b then Reads count else Other) t) l
-    (ap (λ (b : Bool). if b then Reads (count - due) else Other) (read_test (gives_frames (settings_of part.idcode h)) r count t due l))
+    less_is part h r count due place (ap (λ (b : Bool). if b then Reads count else NothingAsked) t) l
+    (ap (λ (b : Bool). if b then Reads (count - due) else NothingAsked) (read_test (gives_frames (settings_of part.idcode h)) r count t due l))
 
 -- a read of which all words are due has the flow of the history before it
 pub all_due_is : (part : PartData) (h : History) (r count place : ℕ) → (r == 3 && (not (count == 0) && gives_frames (settings_of part.idcode h))) ≡ true →
     without_due count (flow_of part (entry (Read r count) place ∷ h)) ≡ flow_of part h
 all_due_is part h r count place t =
-    ap (without_due count) (flow_more part (entry (Read r count) place) h ∙ ap (λ (b : Bool). flow_by part (if b then Reads count else Other) f) t) ∙ by (has_frame_at part f.base) refl
+    ap (without_due count) (flow_more part (entry (Read r count) place) h ∙ ap (λ (b : Bool). flow_by part (if b then Reads count else NothingAsked) f) t) ∙ by (has_frame_at part f.base) refl
   where
     f : Flow
     f = flow_of part h

@@ -5,11 +5,12 @@ use Rattle.std.proofs.Math.Nat.{mul-le-mul_left}
 use Rattle.x7_packets.specs.History.{History, Write, entered_all, entry}
 use Rattle.x7_packets.specs.Packet.{payload_steps}
 use Rattle.x7_part.specs.Part.{PartData, frame_words}
+use Rattle.x7_part.specs.Slot.{slots_from}
 use Rattle.x7_memory.specs.FrameMap.{AreSame}
 use Rattle.x7_pipeline.specs.declared.fault.RunFault.TheVariants.{Overrun}
 use Rattle.x7_pipeline.specs.FarAsRead.{has_frame_at}
 use Rattle.x7_pipeline.specs.Fault.{address_fault, completes, has_filled, write_fault}
-use Rattle.x7_pipeline.specs.Runs.{frames_of, written_frames, onto, put_over, slots_from}
+use Rattle.x7_pipeline.specs.Runs.{frames_of, written_frames, onto, put_over}
 use Rattle.x7_pipeline.proofs.LawLemmas.{landed_empty, lands_over}
 use Rattle.x7_pipeline.proofs.RunLemmas.{length_run}
 use Rattle.x7_flow.specs.HistoryFlow.{Flow, base_of, fault_by, flow_of, frame_fault, run_of}

@@ -9,14 +9,14 @@ use Rattle.x7_memory.proofs.MapLemmas.{override_same, same_memory}
 use Rattle.x7_regs.specs.Command.{command_with}
 use Rattle.x7_pipeline.specs.Runs.{put_over}
 use Rattle.x7_pipeline.specs.FarAsRead.{has_frame_at}
-use Rattle.x7_pipeline.specs.Copies.{copied, is_mfw}
+use Rattle.x7_pipeline.specs.Copies.{copied_pairs, is_mfw}
 use Rattle.x7_pipeline.specs.Pipeline.{PipelineData}
 use Rattle.x7_pipeline.specs.Saved.{ChangesAt, SavedState, next_put}
 use Rattle.x7_pipeline.proofs.SavedLemmas.{changes_copy, changes_none, taken_back, word_changes as one_word}
-use Rattle.x7_flow.specs.Asking.{Asked, Load, Commands, Word, Copies, Reads, Other}
+use Rattle.x7_flow.specs.Asking.{Asked, LoadsFar, Commands, AddsWord, CopiesSource, Reads, NothingAsked}
 use Rattle.x7_flow.specs.Settings.{Settings, settings_after, settings_of}
-use Rattle.x7_flow.specs.HistoryFlow.{Flow, asks, flow_of}
-use Rattle.x7_flow.specs.FrameMemory.{written_frames_more, memory_of, puts}
+use Rattle.x7_flow.specs.HistoryFlow.{Flow, asked_after, flow_of}
+use Rattle.x7_flow.specs.FrameMemory.{written_frames_more, memory_of, pairs_put}
 use Rattle.x7_flow.specs.Saved.{FramesBack, SavesFrames}
 use Rattle.x7_flow.specs.Sound.{IsSound}
 use Rattle.x7_flow.specs.Standing.{FramesFit, FramesStandFor, FramesState, HasFlow}
@@ -31,21 +31,21 @@ word_changes part p f w old new h words same =
     one_word part p f.command f.base f.run f.source f.given w old new h.stands words (record { added = written_frames_more part f.base f.run; grows = landed_grows part f.base w f.run; memory = same })
 
 copy_by : (part : PartData) (p : PipelineData) (base : ℕ) (source : Option (List ℕ)) (old new : FrameMap) (m b : Bool) → p.base ≡ base → p.source ≡ source → is_mfw p.command ≡ m → has_frame_at part p.base ≡ b
-    → AreSame new (put_over (if m && b then copied base source else []) old) → ChangesAt (next_put part p) old new
+    → AreSame new (put_over (if m && b then copied_pairs base source else []) old) → ChangesAt (next_put part p) old new
 copy_by part p base (Some frame) old new true true e g h i s = rw (h, g, i, e) (changes_copy base (Some frame) old new s)
 copy_by part p base None old new true true e g h i s = changes_none (next_put part p) old new (λ far. s far ∙ put_none [] old refl far)
 copy_by part p base source old new true false e g h i s = changes_none (next_put part p) old new (λ far. s far ∙ put_none [] old refl far)
 copy_by part p base source old new false b e g h i s = changes_none (next_put part p) old new (λ far. s far ∙ put_none [] old refl far)
 
-access_changes : (part : PartData) (s : Settings) (a : Asked) (t : ℕ) (p : PipelineData) (f : Flow) (old new : FrameMap) → Means s a t → IsSound part s f → HasFlow part p f → AreSame new (put_over (puts part a f) old) → ChangesAt (next_put part p) old new
-access_changes part s (Load w) t p f old new m i h same = changes_none (next_put part p) old new (λ far. same far ∙ put_none [] old refl far)
+access_changes : (part : PartData) (s : Settings) (a : Asked) (t : ℕ) (p : PipelineData) (f : Flow) (old new : FrameMap) → Means s a t → IsSound part s f → HasFlow part p f → AreSame new (put_over (pairs_put part a f) old) → ChangesAt (next_put part p) old new
+access_changes part s (LoadsFar w) t p f old new m i h same = changes_none (next_put part p) old new (λ far. same far ∙ put_none [] old refl far)
 access_changes part s (Commands c) t p f old new m i h same = changes_none (next_put part p) old new (λ far. same far ∙ put_none [] old refl far)
-access_changes part s (Word w) t p f old new m i h same =
+access_changes part s (AddsWord w) t p f old new m i h same =
     word_changes part p f w old new h (ap is_mfw (i.command_is ∙ ap command_with m.1)) same
-access_changes part s Copies t p f old new m i h same =
+access_changes part s CopiesSource t p f old new m i h same =
     copy_by part p f.base f.source old new (is_mfw f.command) (has_frame_at part f.base) h.stands.base_is h.stands.source_is (ap is_mfw h.stands.command_is) (ap (has_frame_at part) h.stands.base_is) same
 access_changes part s (Reads count) t p f old new m i h same = changes_none (next_put part p) old new (λ far. same far ∙ put_none [] old refl far)
-access_changes part s Other t p f old new m i h same = changes_none (next_put part p) old new (λ far. same far ∙ put_none [] old refl far)
+access_changes part s NothingAsked t p f old new m i h same = changes_none (next_put part p) old new (λ far. same far ∙ put_none [] old refl far)
 
 -- ---- back
 
@@ -65,10 +65,10 @@ back_one part s old new h e k o n stands same =
     let f : Flow = flow_of part h in
     let all : f.given - 0 ≡ f.given = omega arith in
     let flow : HasFlow part old.pipeline f = subst (λ (g : ℕ). HasFlow part old.pipeline (record f { given = g })) all stands.flow in
-    let pairs : List PlanRow = puts part (asks part.idcode h e.access) f in
+    let pairs : List PlanRow = pairs_put part (asked_after part.idcode h e.access) f in
     let put : AreSame (frame_at part new.memory) (put_over pairs (frame_at part old.memory)) =
     λ far. same far ∙ memory_more part e h far ∙ sym (override_same (frame_at part old.memory) (memory_of part h) (planned pairs) (planned pairs) stands.memory (λ a. refl) far) in
-    back_over part s old new k o n (access_changes part (settings_of part.idcode h) (asks part.idcode h e.access) (settings_after part.idcode e.access (settings_of part.idcode h)).command_code old.pipeline f (frame_at part old.memory) (frame_at part new.memory)
+    back_over part s old new k o n (access_changes part (settings_of part.idcode h) (asked_after part.idcode h e.access) (settings_after part.idcode e.access (settings_of part.idcode h)).command_code old.pipeline f (frame_at part old.memory) (frame_at part new.memory)
     (asked_means (settings_of part.idcode h) e.access) (flow_sound part h) flow put)
 
 -- the frames to which the kept ones lead back are just these

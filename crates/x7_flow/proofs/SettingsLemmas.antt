@@ -4,7 +4,7 @@ use Rattle.std.proofs.lemmas.Bool.Decides.{nat_tests}
 use Rattle.x7_packets.specs.History.{Access, Write, Read, Bad, Entry, History, last_word, written}
 use Rattle.x7_flow.specs.Controls.{ctl0_held, has_idcode, mask_held}
 use Rattle.x7_regs.specs.Command.{command_by, command_with}
-use Rattle.x7_flow.specs.Asking.{Asked, Load, Commands, Word, Copies, Reads, Other}
+use Rattle.x7_flow.specs.Asking.{Asked, LoadsFar, Commands, AddsWord, CopiesSource, Reads, NothingAsked}
 use Rattle.x7_flow.specs.Settings.{Settings, settings_of, settings_after, settings_from, command_code_after, takes_frames, takes_copies, gives_frames}
 use Rattle.x7_flow.specs.HistoryFlow.{asked_under}
 
@@ -31,12 +31,12 @@ settings_joined idcode (e ∷ later) earlier = settings_more idcode e (later ++ 
 
 -- the command is the one held before, but for an order; frame data comes under WCFG alone
 abbrev pub Means : Settings → Asked → ℕ → Type 0
-Means s (Load w) held = held ≡ s.command_code
+Means s (LoadsFar w) held = held ≡ s.command_code
 Means s (Commands c) held = c ≡ command_with held
-Means s (Word w) held = (held ≡ s.command_code) × (s.command_code ≡ 1)
-Means s Copies held = held ≡ s.command_code
+Means s (AddsWord w) held = (held ≡ s.command_code) × (s.command_code ≡ 1)
+Means s CopiesSource held = held ≡ s.command_code
 Means s (Reads count) held = held ≡ s.command_code
-Means s Other held = held ≡ s.command_code
+Means s NothingAsked held = held ≡ s.command_code
 
 far_no_cmd : (r : ℕ) → (r == 1) ≡ true → (r == 4) ≡ false
 far_no_cmd r t = grind (arith, nat_tests)
@@ -48,7 +48,7 @@ pub asked_means : (s : Settings) (access : Access) → Means s (asked_under s ac
 asked_means s (Write r w) = by (r == 1) (r == 4) (r == 2 && takes_frames s) (r == 10 && takes_copies s) (far_no_cmd r) (held_wcfg r s.command_code s.has_idcode _)
   where
     by : (far cmd fdri mfwr : Bool) → (far ≡ true → cmd ≡ false) → (fdri ≡ true → s.command_code ≡ 1) →
-        Means s (if far then Load w else if cmd then Commands (command_by w) else if fdri then Word w else if mfwr then Copies else Other) (if cmd then w % 2 ^ 5 else s.command_code)
+        Means s (if far then LoadsFar w else if cmd then Commands (command_by w) else if fdri then AddsWord w else if mfwr then CopiesSource else NothingAsked) (if cmd then w % 2 ^ 5 else s.command_code)
     by true true fdri mfwr p q = let e = p refl in absurd cc
     by true false fdri mfwr p q = refl
     by false true fdri mfwr p q = refl
@@ -57,7 +57,7 @@ asked_means s (Write r w) = by (r == 1) (r == 4) (r == 2 && takes_frames s) (r =
     by false false false false p q = refl
 asked_means s (Read r count) = by (r == 3 && (not (count == 0) && gives_frames s))
   where
-    by : (b : Bool) → Means s (if b then Reads count else Other) s.command_code
+    by : (b : Bool) → Means s (if b then Reads count else NothingAsked) s.command_code
     by true = refl
     by false = refl
 asked_means s (Bad w) = refl

@@ -20,14 +20,14 @@ use Rattle.x7_pipeline.specs.declared.fault.RunFault.{RunFault}
 use Rattle.x7_pipeline.specs.declared.fault.RunFault.TheVariants.{Address, Multi}
 use Rattle.x7_pipeline.specs.Runs.{written_frames, put_over, Lands}
 use Rattle.x7_pipeline.specs.FarAsRead.{has_frame_at, loaded_base}
-use Rattle.x7_pipeline.specs.Copies.{copied, is_mfw}
+use Rattle.x7_pipeline.specs.Copies.{copied_pairs, is_mfw}
 use Rattle.x7_pipeline.specs.Fault.{address_fault, copy_fault, drop_fault, readback_fault}
-use Rattle.x7_pipeline.specs.Flow.{FlowGoesOn, HoldsFlow, LandsAt, OfFlow, after_reads, after_words, begun_at, begun_by, copied_by, fault_of_copy}
+use Rattle.x7_pipeline.specs.Flow.{FlowGoesOn, HoldsFlow, LandsAt, OfFlow, after_reads, after_words, begun_at, begun_by, pairs_copied_by, fault_of_copy}
 use Rattle.x7_pipeline.specs.Pipeline.{AreOfPart, PipelineData}
 use Rattle.x7_pipeline.specs.Readback.{readback_at, read_slot, word_at, word_in_frame}
-use Rattle.x7_flow.specs.Asking.{Asked, Load, Commands, Word, Copies, Reads, Other}
-use Rattle.x7_flow.specs.HistoryFlow.{Flow, asked_under, asks, base_of, fault_by, first_flow, flow_by, flow_of, frame_fault, count_given}
-use Rattle.x7_flow.specs.FrameMemory.{copy_pairs, written_frames_more, memory_of, puts}
+use Rattle.x7_flow.specs.Asking.{Asked, LoadsFar, Commands, AddsWord, CopiesSource, Reads, NothingAsked}
+use Rattle.x7_flow.specs.HistoryFlow.{Flow, asked_under, asked_after, base_of, fault_by, first_flow, flow_by, flow_of, frame_fault, count_given}
+use Rattle.x7_flow.specs.FrameMemory.{copy_pairs, written_frames_more, memory_of, pairs_put}
 use Rattle.x7_flow.specs.FrameAccess.{reads_frame_data}
 use Rattle.x7_flow.specs.Standing.{AfterAccess, AfterRead, AreFramesAfter, FramesFit, FramesStandFor, FramesState, HaveDone, FramesHaveDone, HasFlow, frames_state, without_due, word_to, readback_words, words_due, frames_read}
 use Rattle.x7_flow.proofs.FlowLemmas.{flow_more, flow_sound, landed_grows, memory_more, put_none}
@@ -39,7 +39,7 @@ given_so f n = record f { given = n }
 
 pub did_load : (part : PartData) (p q : PipelineData) (frames : List (List ℕ)) (w : ℕ) →
     ((part : PartData) → FlowGoesOn part p q (begun_at (loaded_base part w))) →
-    HaveDone part (Load w) (frames_state p frames) (frames_state q frames)
+    HaveDone part (LoadsFar w) (frames_state p frames) (frames_state q frames)
 did_load part p q frames w stands = record {
   flow = λ f h. record { stands = stands part f h.stands; nowhere = λ e. refl };
   memory = λ f h far. sym (put_none [] (frame_at part frames) refl far);
@@ -61,26 +61,26 @@ word_memory part base w run old new l =
 pub did_word : (part : PartData) (p q : PipelineData) (old new : List (List ℕ)) (w : ℕ) →
     FlowGoesOn part p q (after_words (w ∷ [])) →
     OfFlow part p (λ f. LandsAt part f (w ∷ []) (frame_at part old) (frame_at part new)) →
-    HaveDone part (Word w) (frames_state p old) (frames_state q new)
+    HaveDone part (AddsWord w) (frames_state p old) (frames_state q new)
 did_word part p q old new w stands lands = record {
   flow = λ f h. record { stands = stands f h.stands; nowhere = h.nowhere };
   memory = λ f h. word_memory part f.base w f.run (frame_at part old) (frame_at part new) (lands f h.stands);
 }
 
-copy_allowed : (part : PartData) (f : Flow) → None ≡ copy_fault part f.command f.base f.source → copied f.base f.source ≡ copy_pairs part f
+copy_allowed : (part : PartData) (f : Flow) → None ≡ copy_fault part f.command f.base f.source → copied_pairs f.base f.source ≡ copy_pairs part f
 unfolding copy_fault address_fault
 copy_allowed part f e = by (is_mfw f.command) (is_some f.source) (has_frame_at part f.base) e
   where
-    by : (m s b : Bool) → None ≡ (if m && s then (if b then None else Some (Address f.base)) else Some Multi) → copied f.base f.source ≡ (if m && b then copied f.base f.source else [])
+    by : (m s b : Bool) → None ≡ (if m && s then (if b then None else Some (Address f.base)) else Some Multi) → copied_pairs f.base f.source ≡ (if m && b then copied_pairs f.base f.source else [])
     by true true true e = refl
     by true true false e = absurd (none-some _ e)
     by true false b e = absurd (none-some _ e)
     by false s b e = absurd (none-some _ e)
 
 pub did_copy : (part : PartData) (p q : PipelineData) (old new : List (List ℕ)) → q ≡ p →
-    OfFlow part p (λ f. AreSame (frame_at part new) (put_over (copied_by f) (frame_at part old))) →
+    OfFlow part p (λ f. AreSame (frame_at part new) (put_over (pairs_copied_by f) (frame_at part old))) →
     OfFlow part p (λ f. None ≡ fault_of_copy part f) →
-    HaveDone part Copies (frames_state p old) (frames_state q new)
+    HaveDone part CopiesSource (frames_state p old) (frames_state q new)
 did_copy part p q old new same put allowed = record {
   flow = λ f h. rw same h;
   memory = λ f h. rw (← copy_allowed part f (allowed f h.stands)) (put f h.stands);
@@ -96,7 +96,7 @@ read_is part base given nowhere = by (given == 0) (has_frame_at part base) (λ e
     by false true p = refl
     by false false p = let e = p refl in absurd cc
 
-pub did_other : (part : PartData) (f : FramesState) → HaveDone part Other f f
+pub did_other : (part : PartData) (f : FramesState) → HaveDone part NothingAsked f f
 did_other part f = record { flow = λ g h. h; memory = λ g h far. sym (put_none [] (frame_at part f.memory) refl far) }
 
 -- ---- one access more
@@ -111,9 +111,9 @@ pub one_more : (part : PartData) (old new : FramesState) (e : Entry) (h : Histor
 one_more part old new e h did are =
     let f : Flow = flow_of part h in
     let has : HasFlow part old.pipeline f = same_flow part old.pipeline (without_due 0 f) f (sym (no_less f)) are.flow in
-    let pairs : List PlanRow = puts part (asks part.idcode h e.access) f in
+    let pairs : List PlanRow = pairs_put part (asked_after part.idcode h e.access) f in
     record {
-      flow = same_flow part new.pipeline (flow_by part (asks part.idcode h e.access) f) (without_due 0 (flow_of part (e ∷ h))) (sym (flow_more part e h) ∙ no_less (flow_of part (e ∷ h))) (did.flow f has);
+      flow = same_flow part new.pipeline (flow_by part (asked_after part.idcode h e.access) f) (without_due 0 (flow_of part (e ∷ h))) (sym (flow_more part e h) ∙ no_less (flow_of part (e ∷ h))) (did.flow f has);
       memory = λ far. did.memory f has far ∙ override_same (frame_at part old.memory) (memory_of part h) (planned pairs) (planned pairs) are.memory (λ a. refl) far ∙ sym (memory_more part e h far);
       due_given = omega arith;
     }
@@ -140,7 +140,7 @@ read_flow : (part : PartData) (f : Flow) (count : ℕ) → has_frame_at part f.b
 read_flow part f count t = ap (λ (b : Bool). record f { given = if b then f.given + count else f.given }) t
 
 pub read_begins : (part : PartData) (p : PipelineData) (frames : List (List ℕ)) (e : Entry) (h : History) (count : ℕ) →
-    asks part.idcode h e.access ≡ Reads count → has_frame_at part (base_of part h) ≡ true → AreFramesAfter part p frames h 0 →
+    asked_after part.idcode h e.access ≡ Reads count → has_frame_at part (base_of part h) ≡ true → AreFramesAfter part p frames h 0 →
     AreFramesAfter part p frames (e ∷ h) count × (words_due part (e ∷ h) count ≡ frames_read part h count)
 read_begins part p frames e h count a t are =
     let f : Flow = flow_of part h in
@@ -148,7 +148,7 @@ read_begins part p frames e h count a t are =
     let back : without_due 0 f ≡ without_due count (flow_of part (e ∷ h)) =
     ap (λ (n : ℕ). record f { given = n }) (omega arith) ∙ ap (without_due count) (sym now) in
     let same : AreSame (memory_of part (e ∷ h)) (memory_of part h) = λ far.
-    memory_more part e h far ∙ ap (λ (x : Asked). put_over (puts part x f) (memory_of part h) far) a ∙ put_none [] (memory_of part h) refl far in
+    memory_more part e h far ∙ ap (λ (x : Asked). put_over (pairs_put part x f) (memory_of part h) far) a ∙ put_none [] (memory_of part h) refl far in
     let sum : count_given part (e ∷ h) ≡ f.given + count = ap (λ (g : Flow). g.given) now in
     let place : count_given part (e ∷ h) - count ≡ f.given = omega arith in (
       record {
@@ -239,15 +239,15 @@ refused_read part p f count h n = read_is part f.base f.given h.nowhere ∙ sym 
 
 -- ---- a read
 
-read_asked : (s : Settings) (r count : ℕ) (b : Bool) → (r == 3 && (not (count == 0) && gives_frames s)) ≡ b → asked_under s (Read r count) ≡ (if b then Reads count else Other)
-read_asked s r count b e = ap (λ (x : Bool). if x then Reads count else Other) e
+read_asked : (s : Settings) (r count : ℕ) (b : Bool) → (r == 3 && (not (count == 0) && gives_frames s)) ≡ b → asked_under s (Read r count) ≡ (if b then Reads count else NothingAsked)
+read_asked s r count b e = ap (λ (x : Bool). if x then Reads count else NothingAsked) e
 
 -- a read of other words is none of the pipeline's
 pub other_read : (part : PartData) (p : PipelineData) (frames : List (List ℕ)) (h : History) (r count place : ℕ) → (r == 3 && (not (count == 0) && gives_frames (settings_of part.idcode h))) ≡ false →
     AreFramesAfter part p frames h 0 →
     (frame_fault part h (Read r count) ≡ None) × AreFramesAfter part p frames (entry (Read r count) place ∷ h) 0 × (words_due part (entry (Read r count) place ∷ h) 0 ≡ frames_read part h 0)
 other_read part p frames h r count place b are =
-    let a : asks part.idcode h (Read r count) ≡ Other = read_asked (settings_of part.idcode h) r count false b in (
+    let a : asked_after part.idcode h (Read r count) ≡ NothingAsked = read_asked (settings_of part.idcode h) r count false b in (
       ap (λ (x : Asked). fault_by part x (flow_of part h)) a,
       one_more part (frames_state p frames) (frames_state p frames) (entry (Read r count) place) h (subst (λ (x : Asked). HaveDone part x (frames_state p frames) (frames_state p frames)) (sym a) (did_other part (frames_state p frames))) are,
       refl,
@@ -271,7 +271,7 @@ pub frame_read : (part : PartData) (p : PipelineData) (frames : List (List ℕ))
     (frame_fault part h (Read r count) ≡ None) × AreFramesAfter part p frames (entry (Read r count) place ∷ h) count × (words_due part (entry (Read r count) place ∷ h) count ≡ frames_read part h count)
 frame_read part p frames h r count place b allowed are =
     let f : Flow = flow_of part h in
-    let a : asks part.idcode h (Read r count) ≡ Reads count = read_asked (settings_of part.idcode h) r count true b in
+    let a : asked_after part.idcode h (Read r count) ≡ Reads count = read_asked (settings_of part.idcode h) r count true b in
     let none : None ≡ fault_by part (Reads count) f = allowed f (same_flow part p (without_due 0 f) f (sym (no_less f)) are.flow) in
     let t : has_frame_at part f.base ≡ true = from_address part f.base count (some_read r count (gives_frames (settings_of part.idcode h)) b) none in
     let begun = read_begins part p frames (entry (Read r count) place) h count a t are in
@@ -291,14 +291,14 @@ read_answered part f h r count place (Some fault) b refused are = frame_read_ref
 -- ---- a written word
 
 -- what a word written to FDRI or MFWR asks, where the settings let it and where they don't
-pub word_asked : (idcode : ℕ) (h : History) (reg : Reg) (w : ℕ) (takes : Bool) → reg ≡ Fdri → takes_frames (settings_of idcode h) ≡ takes → asks idcode h (word_to reg w) ≡ (if takes then Word w else Other)
+pub word_asked : (idcode : ℕ) (h : History) (reg : Reg) (w : ℕ) (takes : Bool) → reg ≡ Fdri → takes_frames (settings_of idcode h) ≡ takes → asked_after idcode h (word_to reg w) ≡ (if takes then AddsWord w else NothingAsked)
 word_asked idcode h reg w takes e t = rw (e, t) refl
 
-pub copies_asked : (idcode : ℕ) (h : History) (reg : Reg) (w : ℕ) (takes : Bool) → reg ≡ Mfwr → takes_copies (settings_of idcode h) ≡ takes → asks idcode h (word_to reg w) ≡ (if takes then Copies else Other)
+pub copies_asked : (idcode : ℕ) (h : History) (reg : Reg) (w : ℕ) (takes : Bool) → reg ≡ Mfwr → takes_copies (settings_of idcode h) ≡ takes → asked_after idcode h (word_to reg w) ≡ (if takes then CopiesSource else NothingAsked)
 copies_asked idcode h reg w takes e t = rw (e, t) refl
 
 -- a word written to another register asks nothing
-pub nothing_asked : (idcode : ℕ) (h : History) (reg : Reg) (w : ℕ) → (reg ≡ Far → ⊥) → (reg ≡ Cmd → ⊥) → (reg ≡ Fdri → ⊥) → (reg ≡ Mfwr → ⊥) → asks idcode h (word_to reg w) ≡ Other
+pub nothing_asked : (idcode : ℕ) (h : History) (reg : Reg) (w : ℕ) → (reg ≡ Far → ⊥) → (reg ≡ Cmd → ⊥) → (reg ≡ Fdri → ⊥) → (reg ≡ Mfwr → ⊥) → asked_after idcode h (word_to reg w) ≡ NothingAsked
 nothing_asked idcode h Crc w far cmd fdri mfwr = refl
 nothing_asked idcode h Far w far cmd fdri mfwr = absurd (far refl)
 nothing_asked idcode h Fdri w far cmd fdri mfwr = absurd (fdri refl)
@@ -320,20 +320,20 @@ nothing_asked idcode h Bootsts w far cmd fdri mfwr = refl
 nothing_asked idcode h Ctl1 w far cmd fdri mfwr = refl
 nothing_asked idcode h Bspi w far cmd fdri mfwr = refl
 
-pub did_as : (part : PartData) (h : History) (reg : Reg) (w : ℕ) (a : Asked) (old new : FramesState) → asks part.idcode h (word_to reg w) ≡ a → HaveDone part a old new → HaveDone part (asks part.idcode h (word_to reg w)) old new
+pub did_as : (part : PartData) (h : History) (reg : Reg) (w : ℕ) (a : Asked) (old new : FramesState) → asked_after part.idcode h (word_to reg w) ≡ a → HaveDone part a old new → HaveDone part (asked_after part.idcode h (word_to reg w)) old new
 did_as part h reg w a old new e did = subst (λ (x : Asked). HaveDone part x old new) (sym e) did
 
-pub fault_as : (part : PartData) (h : History) (reg : Reg) (w : ℕ) (a : Asked) (f : Flow) → asks part.idcode h (word_to reg w) ≡ a → fault_by part a f ≡ fault_by part (asks part.idcode h (word_to reg w)) f
+pub fault_as : (part : PartData) (h : History) (reg : Reg) (w : ℕ) (a : Asked) (f : Flow) → asked_after part.idcode h (word_to reg w) ≡ a → fault_by part a f ≡ fault_by part (asked_after part.idcode h (word_to reg w)) f
 fault_as part h reg w a f e = ap (λ (x : Asked). fault_by part x f) (sym e)
 
 pub word_fault_is : (part : PartData) (p : PipelineData) (frames : List (List ℕ)) (h : History) (access : Access) (result : Option RunFault) →
-    ((f : Flow) → HasFlow part p f → result ≡ fault_by part (asks part.idcode h access) f) → AreFramesAfter part p frames h 0 → result ≡ frame_fault part h access
+    ((f : Flow) → HasFlow part p f → result ≡ fault_by part (asked_after part.idcode h access) f) → AreFramesAfter part p frames h 0 → result ≡ frame_fault part h access
 word_fault_is part p frames h access result fault are =
     let f : Flow = flow_of part h in
     fault f (same_flow part p (without_due 0 f) f (sym (no_less f)) are.flow)
 
 pub access_taken : (part : PartData) (old new : FramesState) (h : History) (e : Entry) (result : Option RunFault) →
-    IfNone result (HaveDone part (asks part.idcode h e.access) old new) → OnSome result (new.pipeline ≡ old.pipeline) → OnSome result (new.memory ≡ old.memory) → FramesStandFor part old h 0 → AfterAccess part new h e result
+    IfNone result (HaveDone part (asked_after part.idcode h e.access) old new) → OnSome result (new.pipeline ≡ old.pipeline) → OnSome result (new.memory ≡ old.memory) → FramesStandFor part old h 0 → AfterAccess part new h e result
 access_taken part old new h e None did refused unchanged are = one_more part old new e h did are
 access_taken part old new h e (Some fault) did refused unchanged are = rw (refused, unchanged) are
 

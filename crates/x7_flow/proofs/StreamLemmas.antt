@@ -6,20 +6,21 @@ use Rattle.x7_packets.specs.History.{Write, History, command_held, entered_all, 
 use Rattle.x7_packets.specs.Packet.{payload_steps}
 use Rattle.x7_packets.proofs.HistoryLemmas.{kept_all}
 use Rattle.x7_part.specs.Part.{PartData, frame_words}
+use Rattle.x7_part.specs.Slot.{slots_from}
 use Rattle.x7_memory.specs.FrameMap.{FrameMap, AreSame}
 use Rattle.x7_memory.specs.Plan.{PlanRow, planned}
 use Rattle.x7_memory.proofs.MapLemmas.{override_again, override_same}
 use Rattle.x7_regs.specs.Command.{command_with}
 use Rattle.x7_pipeline.specs.RunsInWords.{pair_of}
-use Rattle.x7_pipeline.specs.Runs.{but_newest, frames_of, written_frames, onto, put_over, rest_of, slots_from, Lands}
+use Rattle.x7_pipeline.specs.Runs.{but_newest, frames_of, written_frames, onto, put_over, rest_of, Lands}
 use Rattle.x7_pipeline.specs.FarAsRead.{has_frame_at, loaded_base}
-use Rattle.x7_pipeline.specs.Copies.{copied, is_mfw}
+use Rattle.x7_pipeline.specs.Copies.{copied_pairs, is_mfw}
 use Rattle.x7_pipeline.proofs.LawLemmas.{landed_empty, landed_in_order, reverse_cons}
 use Rattle.x7_pipeline.proofs.RunLemmas.{frames_completes, frames_goes_on, rest_completes, rest_goes_on}
-use Rattle.x7_flow.specs.Asking.{Asked, Copies, Other}
+use Rattle.x7_flow.specs.Asking.{Asked, CopiesSource, NothingAsked}
 use Rattle.x7_flow.specs.Settings.{Settings, settings_of, takes_copies, takes_frames}
 use Rattle.x7_flow.specs.HistoryFlow.{Flow, asked_under, base_of, flow_by, flow_of, run_of, source_of}
-use Rattle.x7_flow.specs.FrameMemory.{copy_pairs, memory_of, puts}
+use Rattle.x7_flow.specs.FrameMemory.{copy_pairs, memory_of, pairs_put}
 use Rattle.x7_flow.proofs.FlowLemmas.{flow_more, flow_sound, memory_more, put_none}
 use Rattle.x7_flow.proofs.ManyLemmas.{words_land}
 
@@ -127,11 +128,11 @@ pub record IsCopied (part : PartData) (f : Flow) (s : Settings) (memory : FrameM
   pub settings_are : settings_of part.idcode h ≡ s
   pub memory_is : AreSame (memory_of part h) (put_over pairs memory)
 
-pub copy_asked : (s : Settings) (w : ℕ) → takes_copies s ≡ true → asked_under s (Write 10 w) ≡ Copies
-copy_asked s w t = ap (λ (b : Bool). if b then Copies else Other) t
+pub copy_asked : (s : Settings) (w : ℕ) → takes_copies s ≡ true → asked_under s (Write 10 w) ≡ CopiesSource
+copy_asked s w t = ap (λ (b : Bool). if b then CopiesSource else NothingAsked) t
 
 copy_memory : (part : PartData) (h : History) (w place : ℕ) → takes_copies (settings_of part.idcode h) ≡ true → AreSame (memory_of part (entry (Write 10 w) place ∷ h)) (put_over (copy_pairs part (flow_of part h)) (memory_of part h))
-copy_memory part h w place t far = memory_more part (entry (Write 10 w) place) h far ∙ ap (λ (a : Asked). put_over (puts part a (flow_of part h)) (memory_of part h) far) (copy_asked (settings_of part.idcode h) w t)
+copy_memory part h w place t far = memory_more part (entry (Write 10 w) place) h far ∙ ap (λ (a : Asked). put_over (pairs_put part a (flow_of part h)) (memory_of part h) far) (copy_asked (settings_of part.idcode h) w t)
 
 pub copy_flow : (part : PartData) (h : History) (w place : ℕ) → takes_copies (settings_of part.idcode h) ≡ true → flow_of part (entry (Write 10 w) place ∷ h) ≡ flow_of part h
 copy_flow part h w place t = flow_more part (entry (Write 10 w) place) h ∙ ap (λ (a : Asked). flow_by part a (flow_of part h)) (copy_asked (settings_of part.idcode h) w t)
@@ -167,9 +168,9 @@ unfolding flow_of
 copies_here part w place earlier frame m s a =
     let i = flow_sound part earlier in
     let mfw : is_mfw (flow_of part earlier).command ≡ true = ap is_mfw i.command_is ∙ m in
-    ap (λ (b : Bool). if b && has_frame_at part (loaded_base part w) then copied (loaded_base part w) (source_of part earlier) else []) mfw
-    ∙ ap (λ (b : Bool). if b then copied (loaded_base part w) (source_of part earlier) else []) a
-    ∙ ap (copied (loaded_base part w)) s
+    ap (λ (b : Bool). if b && has_frame_at part (loaded_base part w) then copied_pairs (loaded_base part w) (source_of part earlier) else []) mfw
+    ∙ ap (λ (b : Bool). if b then copied_pairs (loaded_base part w) (source_of part earlier) else []) a
+    ∙ ap (copied_pairs (loaded_base part w)) s
 
 -- words of MFWR, one at least, put the source at the base
 pub copies_put : (part : PartData) (earlier : History) (w place n word : ℕ) (ws frame : List ℕ) → takes_copies (settings_of part.idcode earlier) ≡ true →

@@ -16,9 +16,9 @@ use Rattle.x7_pipeline.specs.Fault.{write_fault}
 use Rattle.x7_pipeline.specs.Flow.{HoldsFlow, OfFlow, after_words, with_run, flow_written}
 use Rattle.x7_pipeline.specs.Pipeline.{PipelineData}
 use Rattle.x7_pipeline.specs.RunWritten.{RunWritten, with_later_words, run_written}
-use Rattle.x7_flow.specs.Asking.{Asked, Copies, Other, Word}
+use Rattle.x7_flow.specs.Asking.{Asked, CopiesSource, NothingAsked, AddsWord}
 use Rattle.x7_flow.specs.Settings.{settings_of, takes_copies, takes_frames}
-use Rattle.x7_flow.specs.HistoryFlow.{Flow, asks, base_of, fault_by, flow_of, frame_fault, run_of}
+use Rattle.x7_flow.specs.HistoryFlow.{Flow, asked_after, base_of, fault_by, flow_of, frame_fault, run_of}
 use Rattle.x7_flow.specs.FrameMemory.{copy_pairs, memory_of}
 use Rattle.x7_flow.specs.Standing.{AreFramesAfter, HaveDone, FramesStandFor, FramesState, HasFlow, frames_state, without_due}
 use Rattle.x7_words.specs.Word.{words_of_bytes}
@@ -121,16 +121,16 @@ words_taken part p q old new bytes n seen h stands lands counted faulty t are =
 
 -- ---- copies
 
-copies_none : (part : PartData) (n : ℕ) (ws : List ℕ) (h : History) → takes_copies (settings_of part.idcode h) ≡ true → fault_by part Copies (flow_of part h) ≡ None → NoneRefused part reg.Mfwr n ws h
+copies_none : (part : PartData) (n : ℕ) (ws : List ℕ) (h : History) → takes_copies (settings_of part.idcode h) ≡ true → fault_by part CopiesSource (flow_of part h) ≡ None → NoneRefused part reg.Mfwr n ws h
 unfolding NoneRefused
 copies_none part n [] h t e = tt
 copies_none part n (w ∷ ws) h t e = (
   ap (λ (a : Asked). fault_by part a (flow_of part h)) (copy_asked (settings_of part.idcode h) w t) ∙ e,
-  copies_none part (n + 4) ws (entry (Write 10 w) (n + 4) ∷ h) t (ap (fault_by part Copies) (copy_flow part h w (n + 4) t) ∙ e),
+  copies_none part (n + 4) ws (entry (Write 10 w) (n + 4) ∷ h) t (ap (fault_by part CopiesSource) (copy_flow part h w (n + 4) t) ∙ e),
 )
 
 -- one copy is all of them
-copies_stand : (part : PartData) (old new : FramesState) (n w : ℕ) (ws : List ℕ) (h : History) → takes_copies (settings_of part.idcode h) ≡ true → HaveDone part Copies old new → FramesStandFor part old h 0
+copies_stand : (part : PartData) (old new : FramesState) (n w : ℕ) (ws : List ℕ) (h : History) → takes_copies (settings_of part.idcode h) ≡ true → HaveDone part CopiesSource old new → FramesStandFor part old h 0
     → FramesStandFor part new (with_copies n (w ∷ ws) h) 0
 copies_stand part old new n w ws h t did are =
     let f : Flow = flow_of part h in
@@ -145,7 +145,7 @@ copies_stand part old new n w ws h t did are =
     }
 
 pub copies_taken : (part : PartData) (old new : FramesState) (n count : ℕ) (ws : List ℕ) (h : History) → takes_copies (settings_of part.idcode h) ≡ true → 0 < length ws → count ≡ length ws
-    → None ≡ fault_by part Copies (flow_of part h) → HaveDone part Copies old new → FramesStandFor part old h 0
+    → None ≡ fault_by part CopiesSource (flow_of part h) → HaveDone part CopiesSource old new → FramesStandFor part old h 0
     → WordsTaken part new h (record { register = reg.Mfwr; place = n; words = ws }) (count, None)
 copies_taken part old new n count [] h t some c none did are = absurd (omega (arith, some))
 copies_taken part old new n count (w ∷ ws) h t some c none did are = record {
@@ -159,7 +159,7 @@ copies_taken part old new n count (w ∷ ws) h t some c none did are = record {
 }
 
 pub copies_refused : (part : PartData) (f : FramesState) (n : ℕ) (ws : List ℕ) (fault : RunFault) (h : History) → takes_copies (settings_of part.idcode h) ≡ true → 0 < length ws
-    → Some fault ≡ fault_by part Copies (flow_of part h) → FramesStandFor part f h 0
+    → Some fault ≡ fault_by part CopiesSource (flow_of part h) → FramesStandFor part f h 0
     → WordsTaken part f h (record { register = reg.Mfwr; place = n; words = ws }) (1, Some fault)
 unfolding NoneRefused
 copies_refused part f n [] fault h t some e are = absurd (omega (arith, some))
@@ -183,10 +183,10 @@ none_given part f n (w ∷ ws) h e are = absurd (omega (arith, e))
 
 -- words of a register after a history ask nothing
 record AsksNothing (part : PartData) (r : Reg) (P : History → Type 0) : Type 1 where
-  asks_other : (h : History) (w : ℕ) → P h → asks part.idcode h (Write (number_of r) w) ≡ Other
+  asks_other : (h : History) (w : ℕ) → P h → asked_after part.idcode h (Write (number_of r) w) ≡ NothingAsked
   keeps : (h : History) (w place : ℕ) → P h → P (entry (Write (number_of r) w) place ∷ h)
 
-pub other_access : (part : PartData) (f : FramesState) (h : History) (e : Entry) → asks part.idcode h e.access ≡ Other → FramesStandFor part f h 0 → FramesStandFor part f (e ∷ h) 0
+pub other_access : (part : PartData) (f : FramesState) (h : History) (e : Entry) → asked_after part.idcode h e.access ≡ NothingAsked → FramesStandFor part f h 0 → FramesStandFor part f (e ∷ h) 0
 other_access part f h e a s = one_more part f f e h (subst (λ (x : Asked). HaveDone part x f f) (sym a) (did_other part f)) s
 
 none_refused : (part : PartData) (r : Reg) (P : History → Type 0) (n : ℕ) (ws : List ℕ) (h : History) → AsksNothing part r P → P h → NoneRefused part r n ws h
@@ -216,10 +216,10 @@ pub data_folded : (part : PartData) (f : FramesState) (n count : ℕ) (ws : List
     → WordsTaken part f h (record { register = reg.Fdri; place = n; words = ws }) (count, None)
 data_folded part f n count ws h t c s =
     words_folded part reg.Fdri (λ g. takes_frames (settings_of part.idcode g) ≡ false) f n count ws h
-    (record { asks_other = λ g w e. ap (λ (b : Bool). if b then Word w else Other) e; keeps = λ g w place e. e }) t c s
+    (record { asks_other = λ g w e. ap (λ (b : Bool). if b then AddsWord w else NothingAsked) e; keeps = λ g w place e. e }) t c s
 
 pub copies_folded : (part : PartData) (f : FramesState) (n count : ℕ) (ws : List ℕ) (h : History) → takes_copies (settings_of part.idcode h) ≡ false → count ≡ length ws → FramesStandFor part f h 0
     → WordsTaken part f h (record { register = reg.Mfwr; place = n; words = ws }) (count, None)
 copies_folded part f n count ws h t c s =
     words_folded part reg.Mfwr (λ g. takes_copies (settings_of part.idcode g) ≡ false) f n count ws h
-    (record { asks_other = λ g w e. ap (λ (b : Bool). if b then Copies else Other) e; keeps = λ g w place e. e }) t c s
+    (record { asks_other = λ g w e. ap (λ (b : Bool). if b then CopiesSource else NothingAsked) e; keeps = λ g w place e. e }) t c s

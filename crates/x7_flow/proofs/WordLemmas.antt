@@ -10,9 +10,9 @@ use Rattle.x7_pipeline.specs.Runs.{frames_of}
 use Rattle.x7_pipeline.specs.FarAsRead.{has_frame_at, loaded_base}
 use Rattle.x7_pipeline.specs.Copies.{is_mfw, is_wcfg, newest_of, source_after}
 use Rattle.x7_flow.specs.FrameAccess.{reads_frame_data, writes_frame_data}
-use Rattle.x7_flow.specs.Asking.{Load, Commands, Word, Copies, Reads, Other}
+use Rattle.x7_flow.specs.Asking.{LoadsFar, Commands, AddsWord, CopiesSource, Reads, NothingAsked}
 use Rattle.x7_flow.specs.Settings.{Settings, command_code_after, settings_of, takes_frames, takes_copies, gives_frames}
-use Rattle.x7_flow.specs.HistoryFlow.{Flow, asked_under, asks, is_read, is_word, far_in, far_read, flow_by, flow_of, base_of, run_of, source_of, count_given}
+use Rattle.x7_flow.specs.HistoryFlow.{Flow, asked_under, asked_after, is_read, is_word, far_in, far_read, flow_by, flow_of, base_of, run_of, source_of, count_given}
 use Rattle.x7_flow.specs.Stretches.{access_begins_stretch}
 use Rattle.x7_flow.specs.FlowInWords.{base_after, count_asked, frame_taken, run_with_word, sum_of_reads, words_written}
 use Rattle.x7_flow.proofs.SettingsLemmas.{settings_more}
@@ -23,11 +23,11 @@ use Rattle.x7_flow.proofs.FlowLemmas.{flow_sound}
 fdri_alone : (r : ℕ) (b : Bool) → (r == 2 && b) ≡ true → ((r == 1) ≡ false) × ((r == 4) ≡ false)
 fdri_alone r b t = (grind (arith, nat_tests), grind (arith, nat_tests))
 
-pub asked_word : (idcode : ℕ) (h : History) (access : Access) → writes_frame_data idcode h access ≡ is_word (asks idcode h access)
+pub asked_word : (idcode : ℕ) (h : History) (access : Access) → writes_frame_data idcode h access ≡ is_word (asked_after idcode h access)
 asked_word idcode h (Write r w) = by (r == 1) (r == 4) (r == 2 && takes_frames (settings_of idcode h)) (r == 10 && takes_copies (settings_of idcode h)) (fdri_alone r (takes_frames (settings_of idcode h)))
   where
     by : (far cmd fdri mfwr : Bool) → (fdri ≡ true → (far ≡ false) × (cmd ≡ false)) →
-        fdri ≡ is_word (if far then Load w else if cmd then Commands (command_by w) else if fdri then Word w else if mfwr then Copies else Other)
+        fdri ≡ is_word (if far then LoadsFar w else if cmd then Commands (command_by w) else if fdri then AddsWord w else if mfwr then CopiesSource else NothingAsked)
     by true cmd true mfwr p = let e = p refl in absurd (cc e.0)
     by true cmd false mfwr p = refl
     by false true true mfwr p = let e = p refl in absurd (cc e.1)
@@ -37,15 +37,15 @@ asked_word idcode h (Write r w) = by (r == 1) (r == 4) (r == 2 && takes_frames (
     by false false false false p = refl
 asked_word idcode h (Read r count) = by (r == 3 && (not (count == 0) && gives_frames (settings_of idcode h)))
   where
-    by : (b : Bool) → false ≡ is_word (if b then Reads count else Other)
+    by : (b : Bool) → false ≡ is_word (if b then Reads count else NothingAsked)
     by true = refl
     by false = refl
 asked_word idcode h (Bad w) = refl
 
-pub asked_read : (idcode : ℕ) (h : History) (access : Access) → reads_frame_data h access ≡ is_read (asks idcode h access)
+pub asked_read : (idcode : ℕ) (h : History) (access : Access) → reads_frame_data h access ≡ is_read (asked_after idcode h access)
 asked_read idcode h (Write r w) = by (r == 1) (r == 4) (r == 2 && takes_frames (settings_of idcode h)) (r == 10 && takes_copies (settings_of idcode h))
   where
-    by : (far cmd fdri mfwr : Bool) → false ≡ is_read (if far then Load w else if cmd then Commands (command_by w) else if fdri then Word w else if mfwr then Copies else Other)
+    by : (far cmd fdri mfwr : Bool) → false ≡ is_read (if far then LoadsFar w else if cmd then Commands (command_by w) else if fdri then AddsWord w else if mfwr then CopiesSource else NothingAsked)
     by true cmd fdri mfwr = refl
     by false true fdri mfwr = refl
     by false false true mfwr = refl
@@ -53,7 +53,7 @@ asked_read idcode h (Write r w) = by (r == 1) (r == 4) (r == 2 && takes_frames (
     by false false false false = refl
 asked_read idcode h (Read r count) = by (r == 3 && (not (count == 0) && gives_frames (settings_of idcode h)))
   where
-    by : (b : Bool) → b ≡ is_read (if b then Reads count else Other)
+    by : (b : Bool) → b ≡ is_read (if b then Reads count else NothingAsked)
     by true = refl
     by false = refl
 asked_read idcode h (Bad w) = refl
@@ -64,8 +64,8 @@ run_step : (part : PartData) (s : Settings) (access : Access) (f : Flow) (fdri :
     (flow_by part (asked_under s access) f).run ≡ (if access_begins_stretch access then [] else if fdri then run_with_word access f.run else f.run)
 run_step part s (Write r w) f fdri e = rw e (by (r == 1) (r == 4) (r == 2 && takes_frames s) (r == 10 && takes_copies s))
   where
-    by : (far cmd word mfwr : Bool) → (flow_by part (if far then Load w else if cmd then Commands (command_by w) else if word then Word w else if mfwr then Copies else Other) f).run
-        ≡ (if cmd || far then [] else if is_word (if far then Load w else if cmd then Commands (command_by w) else if word then Word w else if mfwr then Copies else Other) then w ∷ f.run else f.run)
+    by : (far cmd word mfwr : Bool) → (flow_by part (if far then LoadsFar w else if cmd then Commands (command_by w) else if word then AddsWord w else if mfwr then CopiesSource else NothingAsked) f).run
+        ≡ (if cmd || far then [] else if is_word (if far then LoadsFar w else if cmd then Commands (command_by w) else if word then AddsWord w else if mfwr then CopiesSource else NothingAsked) then w ∷ f.run else f.run)
     by true true word mfwr = refl
     by true false word mfwr = refl
     by false true word mfwr = refl
@@ -74,7 +74,7 @@ run_step part s (Write r w) f fdri e = rw e (by (r == 1) (r == 4) (r == 2 && tak
     by false false false false = refl
 run_step part s (Read r count) f fdri e = rw e (by (r == 3 && (not (count == 0) && gives_frames s)))
   where
-    by : (b : Bool) → (flow_by part (if b then Reads count else Other) f).run ≡ (if is_word (if b then Reads count else Other) then f.run else f.run)
+    by : (b : Bool) → (flow_by part (if b then Reads count else NothingAsked) f).run ≡ (if is_word (if b then Reads count else NothingAsked) then f.run else f.run)
     by true = refl
     by false = refl
 run_step part s (Bad w) f fdri e = rw e refl
@@ -95,7 +95,7 @@ base_step : (part : PartData) (s : Settings) (access : Access) (f : Flow) → (f
 base_step part s (Write r w) f = by (r == 1) (r == 4) (r == 2 && takes_frames s) (r == 10 && takes_copies s) (far_no_cmd r)
   where
     by : (far cmd word mfwr : Bool) → (far ≡ true → cmd ≡ false) →
-        (flow_by part (if far then Load w else if cmd then Commands (command_by w) else if word then Word w else if mfwr then Copies else Other) f).base
+        (flow_by part (if far then LoadsFar w else if cmd then Commands (command_by w) else if word then AddsWord w else if mfwr then CopiesSource else NothingAsked) f).base
         ≡ (if cmd then far_in part f else if far then loaded_base part w else f.base)
     by true true word mfwr p = let e = p refl in absurd cc
     by true false word mfwr p = refl
@@ -105,7 +105,7 @@ base_step part s (Write r w) f = by (r == 1) (r == 4) (r == 2 && takes_frames s)
     by false false false false p = refl
 base_step part s (Read r count) f = by (r == 3 && (not (count == 0) && gives_frames s))
   where
-    by : (b : Bool) → (flow_by part (if b then Reads count else Other) f).base ≡ f.base
+    by : (b : Bool) → (flow_by part (if b then Reads count else NothingAsked) f).base ≡ f.base
     by true = refl
     by false = refl
 base_step part s (Bad w) f = refl
@@ -117,10 +117,10 @@ base_is part e h = base_step part (settings_of part.idcode h) e.access (flow_of 
 -- ---- the count given
 
 given_step : (part : PartData) (idcode : ℕ) (h : History) (access : Access) (f : Flow) →
-    (flow_by part (asks idcode h access) f).given ≡ (if access_begins_stretch access then 0 else if reads_frame_data h access && has_frame_at part f.base then f.given + count_asked access else f.given)
+    (flow_by part (asked_after idcode h access) f).given ≡ (if access_begins_stretch access then 0 else if reads_frame_data h access && has_frame_at part f.base then f.given + count_asked access else f.given)
 given_step part idcode h (Write r w) f = by (r == 1) (r == 4) (r == 2 && takes_frames (settings_of idcode h)) (r == 10 && takes_copies (settings_of idcode h))
   where
-    by : (far cmd word mfwr : Bool) → (flow_by part (if far then Load w else if cmd then Commands (command_by w) else if word then Word w else if mfwr then Copies else Other) f).given
+    by : (far cmd word mfwr : Bool) → (flow_by part (if far then LoadsFar w else if cmd then Commands (command_by w) else if word then AddsWord w else if mfwr then CopiesSource else NothingAsked) f).given
         ≡ (if cmd || far then 0 else f.given)
     by true true word mfwr = refl
     by true false word mfwr = refl
@@ -130,7 +130,7 @@ given_step part idcode h (Write r w) f = by (r == 1) (r == 4) (r == 2 && takes_f
     by false false false false = refl
 given_step part idcode h (Read r count) f = by (r == 3 && (not (count == 0) && gives_frames (settings_of idcode h)))
   where
-    by : (b : Bool) → (flow_by part (if b then Reads count else Other) f).given ≡ (if b && has_frame_at part f.base then f.given + count else f.given)
+    by : (b : Bool) → (flow_by part (if b then Reads count else NothingAsked) f).given ≡ (if b && has_frame_at part f.base then f.given + count else f.given)
     by true = refl
     by false = refl
 given_step part idcode h (Bad w) f = refl
@@ -198,7 +198,7 @@ source_step part s (Write r w) f c = by (r == 1) (r == 4) (r == 2 && takes_frame
 
     by : (far cmd word mfwr : Bool) → (far ≡ true → cmd ≡ false) →
         source_after part f.command (command_by w) f.run ≡ (if w % 2 ^ 5 == 2 && s.command_code == 1 then newest_of (frames_of (frame_words part) f.run) else None) →
-        (flow_by part (if far then Load w else if cmd then Commands (command_by w) else if word then Word w else if mfwr then Copies else Other) f).source
+        (flow_by part (if far then LoadsFar w else if cmd then Commands (command_by w) else if word then AddsWord w else if mfwr then CopiesSource else NothingAsked) f).source
         ≡ (if cmd then (if (if cmd then w % 2 ^ 5 else s.command_code) == 2 && s.command_code == 1 then newest_of (frames_of (frame_words part) f.run) else None) else f.source)
     by true true word mfwr p q = let e = p refl in absurd cc
     by true false word mfwr p q = refl
@@ -208,7 +208,7 @@ source_step part s (Write r w) f c = by (r == 1) (r == 4) (r == 2 && takes_frame
     by false false false false p q = refl
 source_step part s (Read r count) f c = by (r == 3 && (not (count == 0) && gives_frames s))
   where
-    by : (b : Bool) → (flow_by part (if b then Reads count else Other) f).source ≡ f.source
+    by : (b : Bool) → (flow_by part (if b then Reads count else NothingAsked) f).source ≡ f.source
     by true = refl
     by false = refl
 source_step part s (Bad w) f c = refl

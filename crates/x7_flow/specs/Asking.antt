@@ -2,12 +2,12 @@
 use Rattle.std.specs.Prelude.{ℕ}
 use Rattle.x7_regs.specs.declared.command.Command.{Command}
 
--- an access loads FAR with a word, commands by a write to CMD, writes a word of frame data, copies the source, reads
--- `count` words of frame data, or asks nothing of the pipeline
+-- an access loads FAR with a word, commands by a write to CMD, adds a word of frame data to the run, copies the source,
+-- reads `count` words of frame data, or asks nothing of the pipeline
 pub data Asked : Type 0 where
-  Load : (word : ℕ) → Asked
+  LoadsFar : (word : ℕ) → Asked
   Commands : (command : Command) → Asked
-  Word : (word : ℕ) → Asked
-  Copies : Asked
+  AddsWord : (word : ℕ) → Asked
+  CopiesSource : Asked
   Reads : (count : ℕ) → Asked
-  Other : Asked
+  NothingAsked : Asked

@@ -48,5 +48,6 @@ unfoldable pub frame_taken : PartData → History → Option (List ℕ)
 frame_taken part [] = None
 frame_taken part (e ∷ h) =
     if writes (number_of reg.Cmd) e.access then
-    (if command_held (e ∷ h) == code_of command.Mfw && command_held h == code_of command.Wcfg then newest_of (frames_of (frame_words part) (words_written part.idcode h)) else None)
+    (if command_held (e ∷ h) == code_of command.Mfw && command_held h == code_of command.Wcfg
+    then newest_of (frames_of (frame_words part) (words_written part.idcode h)) else None)
     else frame_taken part h

@@ -11,13 +11,16 @@ use Rattle.x7_flow.specs.Controls.{ctl0_held, has_idcode}
 -- a word of frame data for the memory: written to FDRI on a device whose IDCODE was written, under WCFG, where SBITS
 -- allow writing
 abbrev pub writes_frame_data : ℕ → History → Access → Bool
-writes_frame_data idcode h access = writes (number_of reg.Fdri) access && (has_idcode idcode h && (command_held h == code_of command.Wcfg && not (forbids_writing (ctl0_held h))))
+writes_frame_data idcode h access =
+    writes (number_of reg.Fdri) access && (has_idcode idcode h && (command_held h == code_of command.Wcfg && not (forbids_writing (ctl0_held h))))
 
 -- a read of frame data from the memory: some words of FDRO, under RCFG, where SBITS allow reading
 abbrev pub reads_frame_data : History → Access → Bool
-reads_frame_data h (Read register count) = register == number_of reg.Fdro && (not (count == 0) && (command_held h == code_of command.Rcfg && not (forbids_reading (ctl0_held h))))
+reads_frame_data h (Read register count) =
+    register == number_of reg.Fdro && (not (count == 0) && (command_held h == code_of command.Rcfg && not (forbids_reading (ctl0_held h))))
 reads_frame_data h _ = false
 
 -- a copy of a frame: a word written to MFWR on a device whose IDCODE was written, where SBITS allow writing
 abbrev pub copies_frame : ℕ → History → Access → Bool
-copies_frame idcode h access = writes (number_of reg.Mfwr) access && (has_idcode idcode h && not (forbids_writing (ctl0_held h)))
+copies_frame idcode h access =
+    writes (number_of reg.Mfwr) access && (has_idcode idcode h && not (forbids_writing (ctl0_held h)))

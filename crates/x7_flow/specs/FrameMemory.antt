@@ -3,16 +3,17 @@
 use Rattle.std.specs.Prelude.{ℕ, ◌&&◌, if◌then◌else◌, List, [], ◌∷◌, length, slice_index_or}
 use Rattle.x7_packets.specs.History.{History}
 use Rattle.x7_part.specs.Part.{PartData, frame_words}
+use Rattle.x7_part.specs.Slot.{slots_from}
 use Rattle.x7_part.specs.declared.slot.Slot.TheVariants.{End}
 use Rattle.x7_memory.specs.FrameMap.{FrameMap}
 use Rattle.x7_memory.specs.PartFrames.{zeros}
 use Rattle.x7_memory.specs.Plan.{PlanRow}
-use Rattle.x7_pipeline.specs.Runs.{at_slot, frames_of, put_over, slots_from}
+use Rattle.x7_pipeline.specs.Runs.{at_slot, frames_of, put_over}
 use Rattle.x7_pipeline.specs.FarAsRead.{has_frame_at}
-use Rattle.x7_pipeline.specs.Copies.{copied, is_mfw}
+use Rattle.x7_pipeline.specs.Copies.{copied_pairs, is_mfw}
 use Rattle.x7_pipeline.specs.Fault.{completes}
-use Rattle.x7_flow.specs.Asking.{Asked, Word, Copies}
-use Rattle.x7_flow.specs.HistoryFlow.{Flow, asks, flow_of}
+use Rattle.x7_flow.specs.Asking.{Asked, AddsWord, CopiesSource}
+use Rattle.x7_flow.specs.HistoryFlow.{Flow, asked_after, flow_of}
 
 -- the newest of frames at its slot
 abbrev pub newest_put : PartData → ℕ → List (List ℕ) → List PlanRow
@@ -26,15 +27,15 @@ written_frames_more part base run = if completes part run then newest_put part b
 
 -- the pair of a copy, under MFW and at an address
 abbrev pub copy_pairs : PartData → Flow → List PlanRow
-copy_pairs part f = if is_mfw f.command && has_frame_at part f.base then copied f.base f.source else []
+copy_pairs part f = if is_mfw f.command && has_frame_at part f.base then copied_pairs f.base f.source else []
 
 -- the pairs that the memory gets by what an access asks
-abbrev pub puts : PartData → Asked → Flow → List PlanRow
-puts part (Word w) f = written_frames_more part f.base f.run
-puts part Copies f = copy_pairs part f
-puts part _ f = []
+abbrev pub pairs_put : PartData → Asked → Flow → List PlanRow
+pairs_put part (AddsWord w) f = written_frames_more part f.base f.run
+pairs_put part CopiesSource f = copy_pairs part f
+pairs_put part _ f = []
 
 -- the memory of a history
 unfoldable pub memory_of : PartData → History → FrameMap
 memory_of part [] = zeros part
-memory_of part (e ∷ h) = put_over (puts part (asks part.idcode h e.access) (flow_of part h)) (memory_of part h)
+memory_of part (e ∷ h) = put_over (pairs_put part (asked_after part.idcode h e.access) (flow_of part h)) (memory_of part h)

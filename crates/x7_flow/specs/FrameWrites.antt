@@ -6,7 +6,7 @@ use Rattle.x7_regs.specs.declared.command.Command.TheVariants as command
 use Rattle.x7_regs.specs.Command.{code_of, command_code_of}
 use Rattle.x7_part.specs.Part.{PartData, frame_words}
 use Rattle.x7_memory.specs.Plan.{PlanRow}
-use Rattle.x7_pipeline.specs.Copies.{copied}
+use Rattle.x7_pipeline.specs.Copies.{copied_pairs}
 use Rattle.x7_pipeline.specs.FarAsRead.{has_frame_at, loaded_base}
 use Rattle.x7_pipeline.specs.RunsInWords.{placed_from}
 use Rattle.x7_pipeline.specs.Runs.{onto}
@@ -41,8 +41,8 @@ abbrev pub with_frames : FrameWrite → History → History
 with_frames x h = with_frame_data x.place (words_of_frames (all_frames x)) (after_load x.far x.far_place h)
 
 -- where the frames of a write land: at the slots from its address on, all but the last
-abbrev pub placed : PartData → FrameWrite → List PlanRow
-placed part x = placed_from part (loaded_base part x.far) x.frames
+abbrev pub pairs_placed : PartData → FrameWrite → List PlanRow
+pairs_placed part x = placed_from part (loaded_base part x.far) x.frames
 
 -- a device takes the write after a history: the frames are whole, and they go to the memory
 pub record TakesWrite (part : PartData) (h : History) (x : FrameWrite) : Type 0 where
@@ -78,7 +78,7 @@ with_frame_copies x h = with_copies x.place (x.first ∷ x.words) (after_load x.
 
 -- the pair that the words of MFWR put
 abbrev pub pair_copied : PartData → FrameCopies → List PlanRow
-pair_copied part x = copied (loaded_base part x.far) (Some x.frame)
+pair_copied part x = copied_pairs (loaded_base part x.far) (Some x.frame)
 
 -- a device takes the words of MFWR after a history: it takes copies, the frame is the source, and the word of FAR an
 -- address

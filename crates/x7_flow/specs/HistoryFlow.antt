@@ -12,42 +12,42 @@ pub use Rattle.x7_pipeline.specs.Flow.{Flow, first_flow}
 use Rattle.x7_pipeline.specs.Flow.{begun_at, begun_by}
 use Rattle.x7_pipeline.specs.Fault.{address_fault, copy_fault, write_fault}
 use Rattle.x7_flow.specs.Settings.{Settings, settings_of, takes_frames, takes_copies, gives_frames}
-use Rattle.x7_flow.specs.Asking.{Asked, Load, Commands, Word, Copies, Reads, Other}
+use Rattle.x7_flow.specs.Asking.{Asked, LoadsFar, Commands, AddsWord, CopiesSource, Reads, NothingAsked}
 
 -- ---- what an access asks
 
 -- what a word written to a register asks, under these settings
 abbrev pub write_asked : Settings → ℕ → ℕ → Asked
 write_asked s register w =
-    if register == number_of reg.Far then Load w else
+    if register == number_of reg.Far then LoadsFar w else
     if register == number_of reg.Cmd then Commands (command_by w) else
-    if register == number_of reg.Fdri && takes_frames s then Word w else
-    if register == number_of reg.Mfwr && takes_copies s then Copies else Other
+    if register == number_of reg.Fdri && takes_frames s then AddsWord w else
+    if register == number_of reg.Mfwr && takes_copies s then CopiesSource else NothingAsked
 
 -- what an access asks, under these settings
 abbrev pub asked_under : Settings → Access → Asked
 asked_under s (Write register w) = write_asked s register w
-asked_under s (Read register count) = if register == number_of reg.Fdro && (not (count == 0) && gives_frames s) then Reads count else Other
-asked_under s (Bad w) = Other
+asked_under s (Read register count) = if register == number_of reg.Fdro && (not (count == 0) && gives_frames s) then Reads count else NothingAsked
+asked_under s (Bad w) = NothingAsked
 
 -- what an access asks after a history
-abbrev pub asks : ℕ → History → Access → Asked
-asks idcode h access = asked_under (settings_of idcode h) access
+abbrev pub asked_after : ℕ → History → Access → Asked
+asked_after idcode h access = asked_under (settings_of idcode h) access
 
 -- what is asked comes from a write to CMD or FAR, after which a stretch begins
 abbrev pub begins_stretch : Asked → Bool
-begins_stretch (Load w) = true
+begins_stretch (LoadsFar w) = true
 begins_stretch (Commands c) = true
 begins_stretch _ = false
 
 -- a word of frame data is written
 abbrev pub is_word : Asked → Bool
-is_word (Word w) = true
+is_word (AddsWord w) = true
 is_word _ = false
 
 -- a copy is asked
 abbrev pub is_copy : Asked → Bool
-is_copy Copies = true
+is_copy CopiesSource = true
 is_copy _ = false
 
 -- frame data is read
@@ -63,16 +63,16 @@ far_in part f = far_of part f.base f.run f.given
 
 -- the flow after what an access asks; words are given only from an address
 abbrev pub flow_by : PartData → Asked → Flow → Flow
-flow_by part (Load w) f = begun_at (loaded_base part w) f
+flow_by part (LoadsFar w) f = begun_at (loaded_base part w) f
 flow_by part (Commands c) f = begun_by part c f
-flow_by part (Word w) f = record f { run = w ∷ f.run }
+flow_by part (AddsWord w) f = record f { run = w ∷ f.run }
 flow_by part (Reads count) f = record f { given = if has_frame_at part f.base then f.given + count else f.given }
 flow_by part _ f = f
 
 -- the flow of a history
 unfoldable pub flow_of : PartData → History → Flow
 flow_of part [] = first_flow
-flow_of part (e ∷ h) = flow_by part (asks part.idcode h e.access) (flow_of part h)
+flow_of part (e ∷ h) = flow_by part (asked_after part.idcode h e.access) (flow_of part h)
 
 -- where the run or readback of a history began
 abbrev pub base_of : PartData → History → ℕ
@@ -102,11 +102,11 @@ far_read part h = far_in part (flow_of part h)
 
 -- the fault by which what is asked is refused, where it is; a read of no words never is
 abbrev pub fault_by : PartData → Asked → Flow → Option RunFault
-fault_by part (Word w) f = write_fault part f.base f.run
-fault_by part Copies f = copy_fault part f.command f.base f.source
+fault_by part (AddsWord w) f = write_fault part f.base f.run
+fault_by part CopiesSource f = copy_fault part f.command f.base f.source
 fault_by part (Reads count) f = if count == 0 then None else address_fault part f.base
 fault_by part _ f = None
 
 -- the fault of an access after a history
 abbrev pub frame_fault : PartData → History → Access → Option RunFault
-frame_fault part h access = fault_by part (asks part.idcode h access) (flow_of part h)
+frame_fault part h access = fault_by part (asked_after part.idcode h access) (flow_of part h)

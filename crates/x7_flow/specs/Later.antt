@@ -13,7 +13,7 @@ use Rattle.x7_pipeline.specs.FarAsRead.{loaded_base}
 use Rattle.x7_pipeline.specs.Runs.{put_over}
 use Rattle.x7_flow.specs.Settings.{Settings, settings_from, settings_of, takes_frames}
 use Rattle.x7_flow.specs.HistoryFlow.{Flow, asked_under, flow_by, flow_of, source_of}
-use Rattle.x7_flow.specs.FrameMemory.{memory_of, puts}
+use Rattle.x7_flow.specs.FrameMemory.{memory_of, pairs_put}
 
 -- the flow of a history that goes on
 unfoldable pub flow_from : PartData → Settings → Flow → History → Flow
@@ -23,7 +23,7 @@ flow_from part s f (e ∷ h) = flow_by part (asked_under (settings_from part.idc
 -- the pairs that a history that goes on puts, the newest first
 unfoldable pub pairs_from : PartData → Settings → Flow → History → List PlanRow
 pairs_from part s f [] = []
-pairs_from part s f (e ∷ h) = puts part (asked_under (settings_from part.idcode s h) e.access) (flow_from part s f h) ++ pairs_from part s f h
+pairs_from part s f (e ∷ h) = pairs_put part (asked_under (settings_from part.idcode s h) e.access) (flow_from part s f h) ++ pairs_from part s f h
 
 -- the flow right after a FAR load: its command is the one that CMD holds, its base the word's, and only the source is
 -- older

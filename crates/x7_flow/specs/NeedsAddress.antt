@@ -5,8 +5,8 @@ use Rattle.x7_part.specs.Part.{PartData}
 use Rattle.x7_pipeline.specs.Copies.{is_mfw}
 use Rattle.x7_pipeline.specs.FarAsRead.{has_frame_at}
 use Rattle.x7_pipeline.specs.RunsInWords.{Overruns}
-use Rattle.x7_flow.specs.Asking.{Asked, Word, Copies, Reads}
-use Rattle.x7_flow.specs.HistoryFlow.{Flow, asks, base_of, flow_of, is_copy, run_of}
+use Rattle.x7_flow.specs.Asking.{Asked, AddsWord, CopiesSource, Reads}
+use Rattle.x7_flow.specs.HistoryFlow.{Flow, asked_after, base_of, flow_of, is_copy, run_of}
 
 -- a run has no word
 abbrev pub is_empty : List ℕ → Bool
@@ -15,22 +15,24 @@ is_empty (w ∷ run) = false
 
 -- what is asked needs an address: the first word of a run, a copy for which there is a source, or a read of some words
 abbrev pub needs_address : Asked → Flow → Bool
-needs_address (Word w) f = is_empty f.run
-needs_address Copies f = is_mfw f.command && is_some f.source
+needs_address (AddsWord w) f = is_empty f.run
+needs_address CopiesSource f = is_mfw f.command && is_some f.source
 needs_address (Reads count) f = not (count == 0)
 needs_address _ f = false
 
 -- an access after a history needs an address, and the base, `far`, is none
 abbrev pub LacksAddress : PartData → History → Access → ℕ → Type 0
-LacksAddress part h access far = (needs_address (asks part.idcode h access) (flow_of part h) ≡ true) × (has_frame_at part (base_of part h) ≡ false) × (far ≡ base_of part h)
+LacksAddress part h access far =
+    (needs_address (asked_after part.idcode h access) (flow_of part h) ≡ true) × (has_frame_at part (base_of part h) ≡ false) × (far ≡ base_of part h)
 
 -- an access after a history is a copy, and there is no frame to copy: the command isn't MFW, or MFW took none
 abbrev pub LacksSource : PartData → History → Access → Type 0
-LacksSource part h access = (is_copy (asks part.idcode h access) ≡ true) × ((is_mfw (flow_of part h).command && is_some (flow_of part h).source) ≡ false)
+LacksSource part h access =
+    (is_copy (asked_after part.idcode h access) ≡ true) × ((is_mfw (flow_of part h).command && is_some (flow_of part h).source) ≡ false)
 
 -- an access after a history writes this word of frame data, and the base is an address
 pub record WritesWord (part : PartData) (h : History) (access : Access) (w : ℕ) : Type 0 where
-  pub word : asks part.idcode h access ≡ Word w
+  pub word : asked_after part.idcode h access ≡ AddsWord w
   pub address : has_frame_at part (base_of part h) ≡ true
 
 -- the slots from the base are used up by the frames of the run, and this word completes one more

@@ -15,9 +15,9 @@ use Rattle.x7_pipeline.specs.Readback.{readback_at}
 use Rattle.x7_pipeline.specs.Runs.{put_over}
 use Rattle.x7_flow.specs.Asking.{Asked, Reads}
 use Rattle.x7_flow.specs.declared.settings.FrameSettings.{FrameSettings}
-use Rattle.x7_flow.specs.HistoryFlow.{Flow, HasAddress, asks, base_of, flow_by, flow_of, frame_fault, count_given}
+use Rattle.x7_flow.specs.HistoryFlow.{Flow, HasAddress, asked_after, base_of, flow_by, flow_of, frame_fault, count_given}
 use Rattle.x7_flow.specs.FrameAccess.{reads_frame_data}
-use Rattle.x7_flow.specs.FrameMemory.{memory_of, puts}
+use Rattle.x7_flow.specs.FrameMemory.{memory_of, pairs_put}
 use Rattle.x7_flow.specs.FlowInWords.{count_asked}
 use Rattle.x7_flow.specs.Settings.{AreSettingsAfter}
 
@@ -49,7 +49,7 @@ frames_state pipeline memory = record { pipeline = pipeline; memory = memory }
 -- frames, old before and new after they did what an access asks
 pub record HaveDone (part : PartData) (a : Asked) (old new : FramesState) : Type 0 where
   pub flow : (f : Flow) → HasFlow part old.pipeline f → HasFlow part new.pipeline (flow_by part a f)
-  pub memory : (f : Flow) → HasFlow part old.pipeline f → AreSame (frame_at part new.memory) (put_over (puts part a f) (frame_at part old.memory))
+  pub memory : (f : Flow) → HasFlow part old.pipeline f → AreSame (frame_at part new.memory) (put_over (pairs_put part a f) (frame_at part old.memory))
 
 -- `count` words of a readback from a place on
 abbrev pub readback_words : PartData → ℕ → FrameMap → ℕ → ℕ → List ℕ
@@ -93,12 +93,12 @@ OfFrames part settings f Fact = (h : History) → AreSettingsAfter part.idcode s
 
 -- frames before and after they did what an access after a history asks
 abbrev pub FramesHaveDone : PartData → FramesState → FramesState → History → Entry → Type 0
-FramesHaveDone part old new h e = HaveDone part (asks part.idcode h e.access) old new
+FramesHaveDone part old new h e = HaveDone part (asked_after part.idcode h e.access) old new
 
 -- an access after a history reads `count` words of frame data, from an address; the frames stand for that history, with
 -- no word due
 pub record ReadsFrames (part : PartData) (f : FramesState) (h : History) (access : Access) (count : ℕ) : Type 0 where
-  pub reads : asks part.idcode h access ≡ Reads count
+  pub reads : asked_after part.idcode h access ≡ Reads count
   pub address : HasAddress part h
   pub stands : FramesStandFor part f h 0
 

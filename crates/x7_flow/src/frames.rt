@@ -13,7 +13,7 @@ mod saved;
 
 use crate::asking::{takes_copies, takes_frames};
 use crate::settings::FrameSettings;
-use crate::taking::{take, take_copies};
+use crate::taking::{take_copies, take_written_word};
 use std::alloc::Global;
 use std::marker::Model;
 use x7_memory::Memory;
@@ -78,7 +78,7 @@ impl Frames {
         ensures fault { OfFrames part.now settings self.old (λ h. result ≡ frame_fault part.now h (Write (number_of reg) word)) }
         ensures part { FramesFit part.now self.new }
     {
-        take(
+        take_written_word(
             settings,
             reg,
             word,

@@ -11,10 +11,10 @@ ghost use Rattle.x7_pipeline.specs.Runs.{written_frames, onto};
 ghost use Rattle.x7_pipeline.specs.Saved.{SavedState};
 ghost use Rattle.x7_pipeline.specs.declared.fault.RunFault.{RunFault};
 ghost use Rattle.x7_flow.specs.Alike.{AreSameButForMask, WritesMaskBeforeCtl0};
-ghost use Rattle.x7_flow.specs.HistoryFlow.{Flow, HasAddress, asks, base_of, begins_stretch, far_read, flow_of, frame_fault, count_given, is_copy, is_read, is_word, run_of, source_of};
+ghost use Rattle.x7_flow.specs.HistoryFlow.{Flow, HasAddress, asked_after, base_of, begins_stretch, far_read, flow_of, frame_fault, count_given, is_copy, is_read, is_word, run_of, source_of};
 ghost use Rattle.x7_flow.specs.FrameAccess.{copies_frame, reads_frame_data, writes_frame_data};
 ghost use Rattle.x7_flow.specs.FrameMemory.{written_frames_more, memory_of};
-ghost use Rattle.x7_flow.specs.FrameWrites.{FrameCopies, FrameWrite, MfwAfter, TakesCopies, TakesWrite, pair_copied, placed, with_frame_copies, with_frames};
+ghost use Rattle.x7_flow.specs.FrameWrites.{FrameCopies, FrameWrite, MfwAfter, TakesCopies, TakesWrite, pair_copied, pairs_placed, with_frame_copies, with_frames};
 ghost use Rattle.x7_flow.specs.FlowInWords.{base_after, frame_taken, sum_of_reads, words_written};
 ghost use Rattle.x7_flow.specs.HasFrames.{HasFrames};
 ghost use Rattle.x7_flow.specs.Later.{BeginsRun, MemoryGets, Start, after_load, flow_from, flow_on, has_mfw, pairs_after, pairs_alone, pairs_after_load, pairs_from, pairs_loaded, pairs_on, start_on};
@@ -24,7 +24,7 @@ ghost use Rattle.x7_flow.specs.Saved.{FramesAreSaved, FramesBack, HaveOneAccessM
 ghost use Rattle.x7_flow.specs.Settings.{Settings, TakesFrames, settings_after, settings_from, settings_of};
 ghost use Rattle.x7_flow.specs.Sound.{IsSound};
 ghost use Rattle.x7_flow.specs.Standing.{FramesHaveDone, FramesFit, FramesStandFor, FramesState, ReadsData, ReadsFrames, ReadsMoreThanDue, flow_read, frames_map, frames_read, without_due, words_due, written_to};
-ghost use Rattle.x7_flow.specs.Stretches.{ends_of, access_begins_stretch, overridden};
+ghost use Rattle.x7_flow.specs.Stretches.{ends_of, access_begins_stretch, memory_by_stretches};
 ghost use Rattle.x7_flow.specs.WordsTaken.{HasRoomFor, NoneRefused, with_copies, with_frame_data};
 
 /// A flow is sound under its settings; a word more makes its written frames grow, and an access more its settings, as
@@ -48,15 +48,15 @@ pub fn later_histories_override()
 
 /// The memory is the zero map overridden, stretch by stretch in order, by the stretch's written frames and its copies.
 pub fn stretches_override_in_order()
-    ensures memory { (part : PartData) (h : History) → AreSame (memory_of part h) (overridden part (h ∷ ends_of h)) }
+    ensures memory { (part : PartData) (h : History) → AreSame (memory_of part h) (memory_by_stretches part (h ∷ ends_of h)) }
 {}
 
 /// What an access asks is what it does: frame data written, a copy, frame data read.
 pub fn accesses_do_what_they_ask()
-    ensures begins { (idcode : ℕ) (h : History) (access : Access) → access_begins_stretch access ≡ begins_stretch (asks idcode h access) }
-    ensures word { (idcode : ℕ) (h : History) (access : Access) → writes_frame_data idcode h access ≡ is_word (asks idcode h access) }
-    ensures copy { (idcode : ℕ) (h : History) (access : Access) → copies_frame idcode h access ≡ is_copy (asks idcode h access) }
-    ensures read { (idcode : ℕ) (h : History) (access : Access) → reads_frame_data h access ≡ is_read (asks idcode h access) }
+    ensures begins { (idcode : ℕ) (h : History) (access : Access) → access_begins_stretch access ≡ begins_stretch (asked_after idcode h access) }
+    ensures word { (idcode : ℕ) (h : History) (access : Access) → writes_frame_data idcode h access ≡ is_word (asked_after idcode h access) }
+    ensures copy { (idcode : ℕ) (h : History) (access : Access) → copies_frame idcode h access ≡ is_copy (asked_after idcode h access) }
+    ensures read { (idcode : ℕ) (h : History) (access : Access) → reads_frame_data h access ≡ is_read (asked_after idcode h access) }
 {}
 
 /// The base, the run, the count given and the source of a history, each by a recursion of its own.
@@ -89,7 +89,7 @@ pub fn refusals_have_causes()
     ensures no_slot { (part : PartData) (h : History) (access : Access) (w : ℕ) → WritesWord part h access w →
         (frame_fault part h access ≡ Some RunFault.Overrun) ↔ LacksSlot part h w }
     ensures only_words_overrun { (part : PartData) (h : History) (access : Access) → frame_fault part h access ≡ Some RunFault.Overrun →
-        is_word (asks part.idcode h access) ≡ true }
+        is_word (asked_after part.idcode h access) ≡ true }
     ensures runs_at_address { (part : PartData) (e : Entry) (h : History) → RunsAtAddress part h → frame_fault part h e.access ≡ None → RunsAtAddress part (e ∷ h) }
     ensures memory { (part : PartData) (e : Entry) (h : History) (fault : RunFault) → frame_fault part h e.access ≡ Some fault →
         AreSame (memory_of part (e ∷ h)) (memory_of part h) }
@@ -129,7 +129,7 @@ pub fn later_histories_join()
 /// it takes words of MFWR after a FAR load, they put the source at the address.
 pub fn written_frames_land_in_order()
     ensures write { (part : PartData) (earlier : History) (x : FrameWrite) → TakesWrite part earlier x →
-        MemoryGets part (with_frames x earlier) earlier (reverse (placed part x)) }
+        MemoryGets part (with_frames x earlier) earlier (reverse (pairs_placed part x)) }
     ensures copies { (part : PartData) (earlier : History) (x : FrameCopies) → TakesCopies part earlier x →
         MemoryGets part (with_frame_copies x earlier) earlier (pair_copied part x) }
 {}
@@ -150,7 +150,7 @@ pub fn quiet_accesses_move_no_frame()
 /// of MFWR after it leave the source and the settings.
 pub fn written_frames_are_a_plan()
     ensures write { (part : PartData) (earlier : History) (x : FrameWrite) → TakesWrite part earlier x → Rises 0 (addresses_in part) →
-        MemoryGets part (with_frames x earlier) earlier (placed part x) }
+        MemoryGets part (with_frames x earlier) earlier (pairs_placed part x) }
     ensures source { (part : PartData) (h : History) (c place : ℕ) (frames : List (List ℕ)) (last : List ℕ) → MfwAfter part h c frames last →
         source_of part (written_to reg.Cmd c place ∷ h) ≡ Some last }
     ensures source_stays { (part : PartData) (earlier : History) (w place n : ℕ) (ws : List ℕ) →

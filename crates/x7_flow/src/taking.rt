@@ -6,7 +6,7 @@ ghost use Rattle.x7_flow.specs.Settings.{AreSettingsAfter, takes_copies as takes
 ghost use Rattle.x7_flow.specs.WordsTaken.{OfTaking, WordsTaken, words_to};
 ghost use Rattle.x7_packets.specs.History.{History};
 ghost use Rattle.x7_pipeline.specs.Pipeline.{AreOfPart};
-ghost use Rattle.x7_flow.specs.HistoryFlow.{Flow, asks, fault_by};
+ghost use Rattle.x7_flow.specs.HistoryFlow.{Flow, asked_after, fault_by};
 ghost use Rattle.x7_flow.specs.Standing.{HaveDone, HasFlow, frames_state, word_to};
 
 use crate::asking::{takes_copies, takes_frames};
@@ -17,7 +17,7 @@ use x7_pipeline::{Pipeline, RunFault};
 use x7_regs::{Reg, command_of};
 
 /// Does what a word written to a register asks, and says why it can't.
-pub(crate) fn take(
+pub(crate) fn take_written_word(
     settings: FrameSettings,
     reg: Reg,
     word: u32,
@@ -27,9 +27,9 @@ pub(crate) fn take(
 ) -> Option<RunFault>
     requires part { AreOfPart part.now pipeline.old memory.old }
     ensures done { (h : History) → AreSettingsAfter part.now.idcode settings h →
-        IfNone result (HaveDone part.now (asks part.now.idcode h (word_to reg word)) (frames_state pipeline.old memory.old) (frames_state pipeline.new memory.new)) }
+        IfNone result (HaveDone part.now (asked_after part.now.idcode h (word_to reg word)) (frames_state pipeline.old memory.old) (frames_state pipeline.new memory.new)) }
     ensures fault { (h : History) (f : Flow) → AreSettingsAfter part.now.idcode settings h → HasFlow part.now pipeline.old f →
-        result ≡ fault_by part.now (asks part.now.idcode h (word_to reg word)) f }
+        result ≡ fault_by part.now (asked_after part.now.idcode h (word_to reg word)) f }
 
     // Whatever the answer.
     ensures part { AreOfPart part.now pipeline.new memory.new }

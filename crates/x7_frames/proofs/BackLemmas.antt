@@ -4,6 +4,7 @@ use Rattle.std.specs.Prelude.{All, Result, Ok, Err, MatchResult}
 use Rattle.std.specs.List.{flat_map, AllByRecursion}
 use Rattle.std.proofs.lemmas.List.Elements.{All-head, All-tail}
 use Rattle.std.proofs.lemmas.List.Sorted.{IsPermutation-refl}
+use Rattle.x7_words.specs.Characters.{space_byte}
 use Rattle.x7_words.specs.Word.{bytes_of_word, words_of_bytes}
 use Rattle.x7_text.specs.Digits.{hex_word}
 use Rattle.x7_text.specs.EitherCase.{bytes_of_pairs}
@@ -15,7 +16,7 @@ use Rattle.x7_text.proofs.ReadRowLemmas.{hex_words}
 use Rattle.x7_text.proofs.SplitLemmas.{split_ended}
 use Rattle.x7_part.specs.Part.{PartData, frame_words}
 use Rattle.x7_memory.specs.Plan.{PlanRow, PlanData, IsPlanFor, IsPlanRow, AreApart, AreInOrder}
-use Rattle.x7_frames.specs.FramesText.{frame_head, frame_line, plan_text, AreLinesOfRows, no_line, no_frame, frame, IsFrameLine, IsPlanOf, Plans}
+use Rattle.x7_frames.specs.FramesText.{frame_head, frame_line, plan_text, AreLinesOfRows, no_line, no_frame, frame, IsFrameLine, IsPlanOf, HasPlan}
 use Rattle.x7_frames.specs.declared.fault.FramesFault.{FramesFault}
 use Rattle.x7_frames.specs.declared.fault.FramesFault.TheVariants as fault
 use Rattle.x7_frames.proofs.OneLemmas.{no_fault, one_plan}
@@ -27,7 +28,7 @@ words_free [] = refl
 words_free (w ∷ ws) = free_both (hex_word w) (flat_map hex_word ws) (word_free w) (words_free ws)
 
 head_free : (far : ℕ) → has_no_end (frame_head far) ≡ true
-head_free far = free_both (codes "frame ") (hex_word far ++ 32 ∷ []) refl (free_both (hex_word far) (32 ∷ []) (word_free far) refl)
+head_free far = free_both (codes "frame ") (hex_word far ++ space_byte ∷ []) refl (free_both (hex_word far) (space_byte ∷ []) (word_free far) refl)
 
 -- ---- the digits of words
 
@@ -76,7 +77,7 @@ in_order_apart rows order i j d lt h e = let low = order i j d lt h in absurd (o
 
 -- ---- the plan again
 
-pub back : (part : PartData) (plan : PlanData) → IsPlanFor part plan → Plans part (plan_text plan) plan
+pub back : (part : PartData) (plan : PlanData) → IsPlanFor part plan → HasPlan part (plan_text plan) plan
 back part plan fits = record {
   rows = plan.rows;
   good = record {
@@ -90,8 +91,8 @@ back part plan fits = record {
 }
 
 -- what the reading of a plan's text came to
-pub read_back : {P : Type 0} (value : P → PlanData) (part : PartData) (text : List ℕ) (r : Result P FramesFault) → MatchResult r (λ p. Plans part text (value p)) (λ f. (f ≡ fault.NoMemory) ⊎ IsPlanOf part text (Err f))
+pub read_back : {P : Type 0} (value : P → PlanData) (part : PartData) (text : List ℕ) (r : Result P FramesFault) → MatchResult r (λ p. HasPlan part text (value p)) (λ f. (f ≡ fault.NoMemory) ⊎ IsPlanOf part text (Err f))
     → (plan : PlanData) → IsPlanFor part plan → text ≡ plan_text plan → MatchResult r (λ p. value p ≡ plan) (λ f. f ≡ fault.NoMemory)
-read_back value part text (Ok p) h plan fits e = one_plan part text (value p) plan h (subst (λ t. Plans part t plan) (sym e) (back part plan fits))
+read_back value part text (Ok p) h plan fits e = one_plan part text (value p) plan h (subst (λ t. HasPlan part t plan) (sym e) (back part plan fits))
 read_back value part text (Err f) (inl h) plan fits e = h
-read_back value part text (Err f) (inr h) plan fits e = absurd (no_fault part text plan f (subst (λ t. Plans part t plan) (sym e) (back part plan fits)) h)
+read_back value part text (Err f) (inr h) plan fits e = absurd (no_fault part text plan f (subst (λ t. HasPlan part t plan) (sym e) (back part plan fits)) h)

@@ -3,7 +3,7 @@ use Rattle.std.proofs.Common.{◌≡◌, ◌⊎◌, inl, inr, ℕ, ◌+◌, List
 use Rattle.x7_text.specs.Lines.{split}
 use Rattle.x7_part.specs.Part.{PartData}
 use Rattle.x7_memory.specs.Plan.{PlanData}
-use Rattle.x7_frames.specs.FrameLines.{AreGoodWith, AreRefused, ComeTo, HasRows, RowsRead}
+use Rattle.x7_frames.specs.FrameLines.{StayGoodWith, AreRefused, ComeTo, HasRows, RowsRead}
 use Rattle.x7_frames.specs.FramesText.{IsPlanOf}
 use Rattle.x7_frames.specs.LineTaken.{IsFaultAt, IsGoodLine, TakesLine}
 use Rattle.x7_frames.specs.declared.fault.FramesFault.{FramesFault}
@@ -30,10 +30,10 @@ module _ (part : PartData) (a : RowsRead) (lines : List (List ℕ)) (line : List
   line_read (Err f) b same takes fails = λ more. line_refused f fails (split more)
 
   -- memory is wanting at a good line
-  pub line_wants : IsGoodLine a.part a.rows line → AreGoodWith part lines line
+  pub line_wants : IsGoodLine a.part a.rows line → StayGoodWith part lines line
   line_wants good = (good.0, good_next part lines line a.rows good.0 t.1 (subst (λ (p : PartData). TakesLine p line a.rows good.0) t.0 good.1))
 
-  pub line_wanted : {A : Type 0} (r : Result A FramesFault) → IfErr r (λ f. f ≡ fault.NoMemory → IsGoodLine a.part a.rows line) → IfErr r (λ f. f ≡ fault.NoMemory → AreGoodWith part lines line)
+  pub line_wanted : {A : Type 0} (r : Result A FramesFault) → IfErr r (λ f. f ≡ fault.NoMemory → IsGoodLine a.part a.rows line) → IfErr r (λ f. f ≡ fault.NoMemory → StayGoodWith part lines line)
   line_wanted (Ok _) good = tt
   line_wanted (Err f) good = λ want. line_wants (good want)
 

@@ -16,7 +16,7 @@ use Rattle.x7_text.proofs.ValueLemmas.{word_back}
 use Rattle.x7_part.specs.AddressOrder.{addresses_in}
 use Rattle.x7_part.specs.Part.{PartData, frame_words}
 use Rattle.x7_memory.specs.Plan.{PlanRow, PlanData, AreApart, AreInOrder}
-use Rattle.x7_frames.specs.FramesText.{frame_head, AreGood, AreLinesOfRows, no_line, no_frame, frame, IsFrameLine, IsNoLine, IsForeign, IsRepeated, IsPlanOf, Plans}
+use Rattle.x7_frames.specs.FramesText.{frame_head, AreGood, AreLinesOfRows, no_line, no_frame, frame, IsFrameLine, IsNoLine, IsForeign, IsRepeated, IsPlanOf, HasPlan}
 use Rattle.x7_frames.specs.declared.fault.FramesFault.{FramesFault}
 use Rattle.x7_frames.specs.declared.fault.FramesFault.TheVariants as fault
 
@@ -169,7 +169,7 @@ same_order (x ∷ xs) (y ∷ ys) a b f g =
     (λ k d h. after (get_or ys k d) x xs (g (suc k) d (omega arith)) (λ e. let low = head_low y ys k d b h in absurd (omega arith))) in
     ap₂ (λ (r : PlanRow) (rs : List PlanRow). r ∷ rs) head tails
 
-pub one_plan : (part : PartData) (text : List ℕ) (p q : PlanData) → Plans part text p → Plans part text q → p ≡ q
+pub one_plan : (part : PartData) (text : List ℕ) (p q : PlanData) → HasPlan part text p → HasPlan part text q → p ≡ q
 one_plan part text p q a b =
     let rows : a.rows ≡ b.rows = one_rows (frame_words part) (split text) (split text) a.rows b.rows refl a.good.read b.good.read in
     let same : IsPermutation p.rows q.rows = IsPermutation-trans p.rows a.rows q.rows (IsPermutation-sym a.rows p.rows a.same) (subst (λ r. IsPermutation r q.rows) (sym rows) b.same) in
@@ -179,7 +179,7 @@ one_plan part text p q a b =
     ap₂ (λ (w : ℕ) (r : List PlanRow). let plan : PlanData = record { width = w; rows = r } in plan) (a.width ∙ sym b.width) e
 
 -- a text that has a plan has no fault
-pub no_fault : (part : PartData) (text : List ℕ) (p : PlanData) (f : FramesFault) → Plans part text p → IsPlanOf part text (Err f) → ⊥
+pub no_fault : (part : PartData) (text : List ℕ) (p : PlanData) (f : FramesFault) → HasPlan part text p → IsPlanOf part text (Err f) → ⊥
 no_fault part text p (fault.Line n) a (line, rows, r, bad) = no_line_there part r.before r.after line rows a.rows r.good (subst (λ t. AreGood part t a.rows) r.texts a.good) bad
 no_fault part text p (fault.Address n) a (line, rows, r, bad) = foreign_there part r.before r.after line rows a.rows r.good (subst (λ t. AreGood part t a.rows) r.texts a.good) bad
 no_fault part text p (fault.Twice n) a (line, rows, r, bad) = repeated_there part r.before r.after line rows a.rows r.good (subst (λ t. AreGood part t a.rows) r.texts a.good) bad

@@ -5,7 +5,7 @@ use Rattle.x7_text.specs.LineReader.{ReaderState, StandsFor, WantsIn}
 use Rattle.x7_text.proofs.SplitLemmas.{split_some}
 use Rattle.x7_part.specs.Part.{PartData}
 use Rattle.x7_memory.specs.Plan.{PlanRow}
-use Rattle.x7_frames.specs.FrameLines.{AreGoodWith, HasRows, RowsRead}
+use Rattle.x7_frames.specs.FrameLines.{StayGoodWith, HasRows, RowsRead}
 use Rattle.x7_frames.specs.FramesText.{AreGood, IsGoodText}
 use Rattle.x7_frames.specs.LineTaken.{IsGoodLine}
 use Rattle.x7_frames.specs.declared.fault.FramesFault.TheVariants as fault
@@ -31,7 +31,7 @@ up_to (b ∷ before) after more last line e = let head : b ≡ line = cc in (bef
 
 module _ (part : PartData) (r : ReaderState RowsRead) (text : List ℕ) (s : StandsFor (HasRows part) r text) where
   -- the first line that ends in a piece is good
-  pub first_good : (piece line after : List ℕ) → WantsIn (HasRows part) (AreGoodWith part) s.lines piece → split piece ≡ line ∷ split after → IsGoodLine part r.taker.rows line
+  pub first_good : (piece line after : List ℕ) → WantsIn (HasRows part) (StayGoodWith part) s.lines piece → split piece ≡ line ∷ split after → IsGoodLine part r.taker.rows line
   first_good piece line after (inl w) e =
       let u = up_to w.before w.after (split after) w.line line (sym w.texts ∙ e) in
       let all : (s.lines ++ w.before) ++ w.line ∷ [] ≡ s.lines ++ line ∷ u.0 = append_assoc s.lines w.before (w.line ∷ []) ∙ ap (λ (ls : List (List ℕ)). s.lines ++ ls) u.1 in
@@ -45,5 +45,5 @@ module _ (part : PartData) (r : ReaderState RowsRead) (text : List ℕ) (s : Sta
           good_there part s.lines more line r.taker.rows h.taker.rows s.took.1 (subst (λ (l : List ℕ). AreGood part (s.lines ++ l ∷ more) h.taker.rows) head good)
 
   -- the whole text has a plan
-  pub text_good : AreGoodWith part s.lines r.held → IsGoodText part text
+  pub text_good : StayGoodWith part s.lines r.held → IsGoodText part text
   text_good w = good_text part text w.0 (subst (λ (ls : List (List ℕ)). AreGood part ls w.0) (sym s.cut) w.1)

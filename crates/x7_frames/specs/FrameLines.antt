@@ -24,9 +24,9 @@ pub record RowsRead : Type 0 where
 abbrev pub HasRows : PartData → RowsRead → List (List ℕ) → Type 0
 HasRows part r lines = (r.part ≡ part) × AreGood part lines r.rows
 
--- good lines, with one line more after them: only at such a line may memory be wanting
-abbrev pub AreGoodWith : PartData → List (List ℕ) → List ℕ → Type 0
-AreGoodWith part lines line = (rows : List PlanRow) × AreGood part (lines ++ line ∷ []) rows
+-- lines that stay good with one line more after them: only at such a line may memory be wanting
+abbrev pub StayGoodWith : PartData → List (List ℕ) → List ℕ → Type 0
+StayGoodWith part lines line = (rows : List PlanRow) × AreGood part (lines ++ line ∷ []) rows
 
 -- a text of these lines comes to this plan or this fault
 abbrev pub ComeTo : PartData → Result PlanData FramesFault → List (List ℕ) → Type 0

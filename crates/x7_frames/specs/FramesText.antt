@@ -45,7 +45,7 @@ pub record AreGood (part : PartData) (lines : List (List ℕ)) (rows : List Plan
   pub apart : AreApart rows
 
 -- all lines of a text are good, and the plan has their frames, in number order of the addresses
-pub record Plans (part : PartData) (text : List ℕ) (plan : PlanData) : Type 0 where
+pub record HasPlan (part : PartData) (text : List ℕ) (plan : PlanData) : Type 0 where
   pub rows : List PlanRow
   pub good : AreGood part (split text) rows
   pub same : IsPermutation rows plan.rows
@@ -80,7 +80,7 @@ pub record IsRepeated (part : PartData) (rows : List PlanRow) (line : List ℕ) 
 
 -- what a text comes to: its plan, or its first line at fault; want of memory is never the text's
 abbrev pub IsPlanOf : PartData → List ℕ → Result PlanData FramesFault → Type 0
-IsPlanOf part text (Ok plan) = Plans part text plan
+IsPlanOf part text (Ok plan) = HasPlan part text plan
 IsPlanOf part text (Err (fault.Line n)) = (line : List ℕ) × (rows : List PlanRow) × ReachesLine part text n line rows × IsNoLine (frame_words part) line
 IsPlanOf part text (Err (fault.Address n)) = (line : List ℕ) × (rows : List PlanRow) × ReachesLine part text n line rows × IsForeign part line
 IsPlanOf part text (Err (fault.Twice n)) = (line : List ℕ) × (rows : List PlanRow) × ReachesLine part text n line rows × IsRepeated part rows line
@@ -88,7 +88,7 @@ IsPlanOf part text (Err fault.NoMemory) = ⊥
 
 -- a text has a plan
 abbrev pub IsGoodText : PartData → List ℕ → Type 0
-IsGoodText part text = (plan : PlanData) × Plans part text plan
+IsGoodText part text = (plan : PlanData) × HasPlan part text plan
 
 -- a text has a plan or a fault
 abbrev pub HasPlanOrFault : PartData → List ℕ → Type 0

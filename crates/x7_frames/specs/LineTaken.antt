@@ -1,4 +1,4 @@
--- The reading of a frames text: one line more, and the marks of addresses (this project's choice).
+-- One line more of a frames text, and the marks of addresses (this project's choice).
 use Rattle.std.specs.Prelude.{◌≡◌, ◌↔◌, ℕ, ◌<◌, ◌⊎◌, Bool, true, false, List, [], ◌∷◌, ◌++◌, length, slice_index, slice_index_or, Contains}
 use Rattle.x7_text.specs.Lines.{means_nothing}
 use Rattle.x7_part.specs.AddressOrder.{addresses_in, Rises}

@@ -2,12 +2,12 @@
 ghost use Rattle.std.specs.Prelude.{◌≡◌, ◌⊎◌, ℕ, List, [], Ok, IfErr, IfOk, OnOk, IsPermutation};
 ghost use Rattle.x7_part.specs.Part.{frame_words};
 ghost use Rattle.x7_memory.specs.Plan.{IsPlan};
-ghost use Rattle.x7_frames.specs.FrameLines.{AreGoodWith, AreRefused, ComeTo, HasRows, RowsRead};
+ghost use Rattle.x7_frames.specs.FrameLines.{StayGoodWith, AreRefused, ComeTo, HasRows, RowsRead};
 ghost use Rattle.x7_frames.specs.LineTaken.{IsFaultAt, IsGoodLine, TakesLine};
 ghost use Rattle.x7_frames.specs.declared.fault.FramesFault.{FramesFault};
 
 use crate::fault::FramesFault;
-use crate::frames_text::Reading;
+use crate::frames_text::MarkedDraft;
 use std::alloc::Global;
 use std::marker::Model;
 use x7_memory::Plan;
@@ -19,7 +19,7 @@ use x7_words::NoMemory;
 #[derive(Drop)]
 pub struct FrameLines<'p> {
     part: &'p Part,
-    reading: Reading,
+    marked: MarkedDraft,
 }
 
 impl<'p> Model for FrameLines<'p> {
@@ -28,9 +28,9 @@ impl<'p> Model for FrameLines<'p> {
 
     ghost Value = { RowsRead };
 
-    ghost view = { λ l. record { part = l.part.now; rows = l.reading.draft.rows } };
+    ghost view = { λ l. record { part = l.part.now; rows = l.marked.draft.rows } };
 
-    ghost invariant = { λ l. AreSoundRows l.part.now l.reading.draft.rows l.reading.draft.width l.reading.marks.items (vec_capacity l.reading.frame) };
+    ghost invariant = { λ l. AreSoundRows l.part.now l.marked.draft.rows l.marked.draft.width l.marked.marks.items (vec_capacity l.marked.frame) };
 }
 
 impl<'p> FrameLines<'p> {
@@ -39,8 +39,8 @@ impl<'p> FrameLines<'p> {
         ensures begun { IfOk result (λ lines. HasRows lines.part lines []) }
         ensures part { IfOk result (λ lines. lines.part ≡ part.now) }
     {
-        let reading = Reading::new(alloc, part)?;
-        Ok(FrameLines { part, reading })
+        let marked = MarkedDraft::new(alloc, part)?;
+        Ok(FrameLines { part, marked })
     }
 
     /// Takes a line, whose number `n` counts from 1. After an error the lines are of no more use. Memory is wanting
@@ -51,7 +51,7 @@ impl<'p> FrameLines<'p> {
         ensures fault { IfErr result (λ fault. (fault ≡ FramesFault.NoMemory) ⊎ IsFaultAt self.old.part self.old.rows n line.now fault) }
         ensures memory { IfErr result (λ fault. fault ≡ FramesFault.NoMemory → IsGoodLine self.old.part self.old.rows line.now) }
     {
-        self.reading.take(self.part, n, line)
+        self.marked.take(self.part, n, line)
     }
 
     /// The plan of the lines.
@@ -60,8 +60,8 @@ impl<'p> FrameLines<'p> {
         ensures plan { IsPlan result }
         ensures width { result.width ≡ frame_words self.entry.part }
     {
-        let FrameLines { part, reading } = self;
-        reading.draft.finish()
+        let FrameLines { part, marked } = self;
+        marked.draft.finish()
     }
 }
 
@@ -78,7 +78,7 @@ impl<'p> TakesLines for FrameLines<'p> {
 
     ghost is_want = { λ fault. fault ≡ FramesFault.NoMemory };
 
-    ghost wants = { λ first. AreGoodWith first.part };
+    ghost wants = { λ first. StayGoodWith first.part };
 
     fn no_memory() -> FramesFault
         ensures { (first : RowsRead) (lines : List (List ℕ)) → AreRefused first.part result lines }

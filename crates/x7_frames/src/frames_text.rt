@@ -15,9 +15,9 @@ use x7_part::Part;
 use x7_text::{means_nothing, read_lines};
 use x7_words::NoMemory;
 
-/// The frames that were read so far, in the order of their lines.
+/// The frames of the lines so far, in the order of the lines, and a mark for each address that one of them has.
 #[derive(Drop)]
-pub(crate) struct Reading {
+pub(crate) struct MarkedDraft {
     pub(crate) draft: Draft,
     /// Of each frame of the part, by its rank, whether a line has its address.
     pub(crate) marks: Vec<bool>,
@@ -25,19 +25,19 @@ pub(crate) struct Reading {
     pub(crate) frame: Vec<u32>,
 }
 
-impl Reading {
-    /// A reading of no line. There is room for all frames of the part.
-    pub(crate) fn new(alloc: Global, part: &Part) -> Result<Reading, NoMemory>
-        ensures empty { IfOk result (λ reading. reading.draft.rows ≡ []) }
-        ensures width { IfOk result (λ reading. reading.draft.width ≡ frame_words part.now) }
-        ensures marks { IfOk result (λ reading. HasMarks part.now [] reading.marks.items) }
-        ensures room { IfOk result (λ reading. frame_words part.now ≤ vec_capacity reading.frame) }
+impl MarkedDraft {
+    /// The frames of no line, and no address is marked. There is room for all frames of the part.
+    pub(crate) fn new(alloc: Global, part: &Part) -> Result<MarkedDraft, NoMemory>
+        ensures empty { IfOk result (λ marked. marked.draft.rows ≡ []) }
+        ensures width { IfOk result (λ marked. marked.draft.width ≡ frame_words part.now) }
+        ensures marks { IfOk result (λ marked. HasMarks part.now [] marked.marks.items) }
+        ensures room { IfOk result (λ marked. frame_words part.now ≤ vec_capacity marked.frame) }
     {
         let width = part.words() as usize;
         let draft = Draft::with_room(alloc, part.words(), part.frames() as usize)?;
         let marks = vec![in alloc; false; part.frames() as usize]?;
         let frame = Vec::with_capacity(alloc, width)?;
-        Ok(Reading {
+        Ok(MarkedDraft {
             draft,
             marks,
             frame,

@@ -4,7 +4,7 @@ ghost use Rattle.x7_text.specs.Lines.{split};
 ghost use Rattle.x7_text.specs.LineReader.{ReaderState, StandsFor, WantsIn};
 ghost use Rattle.x7_part.specs.Part.{PartData};
 ghost use Rattle.x7_memory.specs.Plan.{IsPlanFor, PlanData};
-ghost use Rattle.x7_frames.specs.FrameLines.{AreGoodWith, HasRows, RowsRead};
+ghost use Rattle.x7_frames.specs.FrameLines.{StayGoodWith, HasRows, RowsRead};
 ghost use Rattle.x7_frames.specs.FramesText.{HasPlanOrFault, IsGoodText, IsPlanOf, plan_text};
 ghost use Rattle.x7_frames.specs.LineTaken.{IsGoodLine};
 ghost use Rattle.x7_frames.specs.declared.fault.FramesFault.{FramesFault};
@@ -25,9 +25,9 @@ pub fn every_text_is_read()
 /// line was held, the first line that ends in it is good; at the end of the text, the text has a plan.
 pub fn memory_wants_for_good_lines()
     ensures piece { (part : PartData) (r : ReaderState RowsRead) (text piece line after : List ℕ) (s : StandsFor (HasRows part) r text)
-        → WantsIn (HasRows part) (AreGoodWith part) s.lines piece → split piece ≡ line ∷ split after → IsGoodLine part r.taker.rows line }
+        → WantsIn (HasRows part) (StayGoodWith part) s.lines piece → split piece ≡ line ∷ split after → IsGoodLine part r.taker.rows line }
     ensures end { (part : PartData) (r : ReaderState RowsRead) (text : List ℕ) (s : StandsFor (HasRows part) r text)
-        → AreGoodWith part s.lines r.held → IsGoodText part text }
+        → StayGoodWith part s.lines r.held → IsGoodText part text }
 {}
 
 /// The text of a plan for the part is that of the plan.

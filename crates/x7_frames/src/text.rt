@@ -22,7 +22,7 @@ fn put_words(text: &mut Vec<u8>, words: &[u32])
 }
 
 /// Appends the line of a frame, with its end.
-fn put_line(text: &mut Vec<u8>, far: u32, words: &[u32]) -> Result<(), AllocError>
+fn put_frame_line(text: &mut Vec<u8>, far: u32, words: &[u32]) -> Result<(), AllocError>
     ensures { OnOk result (text.new.items ≡ text.old.items ++ frame_line record { far = far; words = words.now }) }
 {
     text.reserve(HEAD_SIZE)?;
@@ -44,7 +44,7 @@ pub fn plan_text(alloc: Global, plan: &Plan) -> Result<Vec<u8>, NoMemory>
         let Some((far, words)) = plan.row(i) else {
             unreachable!()
         };
-        put_line(&mut text, far, words)?;
+        put_frame_line(&mut text, far, words)?;
     }
     Ok(text)
 }

@@ -7,7 +7,7 @@ use Rattle.std.proofs.lemmas.Option.{none-some, same_Some}
 use Rattle.std.specs.Option.{option_or}
 use Rattle.x7_part.specs.AddressOrder.{addresses_in}
 use Rattle.x7_part.specs.Part.{PartData, frame_words}
-use Rattle.x7_memory.specs.FrameMap.{FrameMap, override, only, AreDisjoint, AreSame}
+use Rattle.x7_memory.specs.FrameMap.{FrameMap, override, single_frame, AreDisjoint, AreSame}
 use Rattle.x7_memory.specs.PartFrames.{frame_among, frame_at, zeros, AreFramesOf}
 use Rattle.x7_memory.specs.Plan.{PlanRow, PlanData, AreInOrder, planned, planned_addresses, total}
 use Rattle.x7_memory.proofs.FrameLemmas.{among_here, among_after, among_found, among_none}
@@ -45,7 +45,7 @@ override_again m p far = or_else_same (p far) (m far)
 pub override_same : (m n p q : FrameMap) → AreSame m n → AreSame p q → AreSame (override m p) (override n q)
 override_same m n p q e f far = ap (λ o. option_or o (m far)) (f far) ∙ ap (λ o. option_or (q far) o) (e far)
 
-pub override_one : (m n : FrameMap) (far : ℕ) (words : List ℕ) → ((a : ℕ) → n a ≡ (if a == far then Some words else m a)) → AreSame n (override m (only far words))
+pub override_one : (m n : FrameMap) (far : ℕ) (words : List ℕ) → ((a : ℕ) → n a ≡ (if a == far then Some words else m a)) → AreSame n (override m (single_frame far words))
 override_one m n far words e a = e a ∙ or_else_if (a == far) words (m a)
 
 -- ---- memories

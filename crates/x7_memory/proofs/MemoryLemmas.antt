@@ -6,9 +6,10 @@ use Rattle.std.proofs.lemmas.List.{length-take-le, length-drop, length-append, l
 use Rattle.std.proofs.lemmas.List.Sums.{sum_by-le, sum_by-set}
 use Rattle.std.specs.List.{sum_by}
 use Rattle.std.specs.Prelude.{vec_capacity}
+use Rattle.x7_part.specs.Limits.{most_frame_words, most_frames}
 use Rattle.x7_memory.specs.declared.memory.Memory.TheInside.{Inside}
 use Rattle.x7_memory.specs.Flat.{words_with_frame}
-use Rattle.x7_memory.specs.MemoryFields.{frames_seen, stored_frame, own_frame_count, AreDistinct, HasRoom}
+use Rattle.x7_memory.specs.MemoryFields.{frames_seen, stored_frame, own_frame_count, AreDistinct, StoresFrames}
 use Rattle.x7_memory.proofs.FlatLemmas.{cut_in_frames, cut_length, cut_at, cut_set, frame_end}
 
 -- ---- frames that are stored one after another
@@ -97,19 +98,19 @@ own_some (suc n) h = refl
 pub ones_most : (numbers : List ℕ) → sum_by own_frame_count numbers ≤ length numbers
 ones_most numbers = let ones = sum_by-le own_frame_count 1 numbers (λ i d h. own_most (get_or numbers i d)) in omega arith
 
-pub stored_few : (m : Inside) → HasRoom m → m.stored_count ≤ length m.numbers.items + 1
+pub stored_few : (m : Inside) → StoresFrames m → m.stored_count ≤ length m.numbers.items + 1
 stored_few m is =
     let ones = ones_most m.numbers.items in
     let used = is.used in
     omega arith
 
-pub is_rank : (m : Inside) (rank : ℕ) → HasRoom m → rank < length (frames_seen m) → IsRank m rank
+pub is_rank : (m : Inside) (rank : ℕ) → StoresFrames m → rank < length (frames_seen m) → IsRank m rank
 is_rank m rank is h =
     let n : length (frames_seen m) ≡ length m.numbers.items = length-map m.numbers.items (stored_frame m.width m.words.items) in
     let low : get_or m.numbers.items rank 0 < m.stored_count = is.below rank (omega arith) in
     let few = stored_few m is in
     let limit = is.ranks in
-    let all : m.width * m.stored_count ≤ 255 * 131073 = mul-le-mul is.narrow (let s : m.stored_count ≤ 131073 = omega arith in s) in
+    let all : m.width * m.stored_count ≤ most_frame_words * (most_frames + 1) = mul-le-mul is.narrow (let s : m.stored_count ≤ most_frames + 1 = omega arith in s) in
     record { inside = omega arith; below = low; end = frame_end m.width m.stored_count (get_or m.numbers.items rank 0) low; small = omega arith }
 
 pub own_number : {n k : ℕ} → n ≡ k → (n ≡ 0 → ⊥) → 0 < k
@@ -119,7 +120,7 @@ own_number {n} {k} e own = elim (cases_lt 0 k) [
 ]
 
 -- there is room for the first frame of its own at a rank
-pub next_room : (m : Inside) → HasRoom m → m.stored_count ≤ length m.numbers.items → m.width * m.stored_count + m.width ≤ vec_capacity m.words
+pub next_room : (m : Inside) → StoresFrames m → m.stored_count ≤ length m.numbers.items → m.width * m.stored_count + m.width ≤ vec_capacity m.words
 next_room m is h =
     let next : m.width * suc m.stored_count ≡ m.width * m.stored_count + m.width = mul-suc m.width m.stored_count in
     let most : m.width * suc m.stored_count ≤ m.width * (length m.numbers.items + 1) = mul-le-mul_left m.width (omega arith) in
@@ -127,7 +128,7 @@ next_room m is h =
     omega arith
 
 -- a frame as long as the one that stands at a rank
-pub new_width : (m : Inside) (rank : ℕ) (new : List ℕ) (frames : List (List ℕ)) → HasRoom m → IsRank m rank → frames_seen m ≡ frames →
+pub new_width : (m : Inside) (rank : ℕ) (new : List ℕ) (frames : List (List ℕ)) → StoresFrames m → IsRank m rank → frames_seen m ≡ frames →
     length new ≡ length (get_or frames rank []) → length new ≡ m.width
 new_width m rank new frames is r e f =
     f ∙ ap (λ l. length (get_or l rank [])) (sym e)
@@ -136,7 +137,7 @@ new_width m rank new frames is r e f =
 
 -- ---- a frame written over the one of its rank
 
-pub over_seen : (m : Inside) (rank : ℕ) (us new : List ℕ) → HasRoom m → IsRank m rank → 0 < get_or m.numbers.items rank 0 → length new ≡ m.width →
+pub over_seen : (m : Inside) (rank : ℕ) (us new : List ℕ) → StoresFrames m → IsRank m rank → 0 < get_or m.numbers.items rank 0 → length new ≡ m.width →
     us ≡ words_with_frame (m.width * get_or m.numbers.items rank 0) new m.words.items → map (stored_frame m.width us) m.numbers.items ≡ set (frames_seen m) rank new
 over_seen m rank us new is r own e f =
     let number = get_or m.numbers.items rank 0 in
@@ -145,9 +146,9 @@ over_seen m rank us new is r own e f =
     (λ i h ne. ap (λ ws. stored_frame m.width ws (get_or m.numbers.items i 0)) f
     ∙ over_other m.width m.stored_count number (get_or m.numbers.items i 0) m.words.items new r.below (is.below i h) (λ same. ne (sym (is.apart rank i r.inside h own (sym same)))) is.whole e)
 
-pub over_room : (m p : Inside) (rank : ℕ) (new : List ℕ) → HasRoom m → IsRank m rank → 0 < get_or m.numbers.items rank 0 → length new ≡ m.width →
+pub over_room : (m p : Inside) (rank : ℕ) (new : List ℕ) → StoresFrames m → IsRank m rank → 0 < get_or m.numbers.items rank 0 → length new ≡ m.width →
     p.width ≡ m.width → p.stored_count ≡ m.stored_count → p.numbers.items ≡ m.numbers.items → vec_capacity m.words ≤ vec_capacity p.words →
-    p.words.items ≡ words_with_frame (m.width * get_or m.numbers.items rank 0) new m.words.items → HasRoom p
+    p.words.items ≡ words_with_frame (m.width * get_or m.numbers.items rank 0) new m.words.items → StoresFrames p
 over_room m p rank new is r own e ew es en cap f =
     let number = get_or m.numbers.items rank 0 in
     let some = is.some in let narrow = is.narrow in let few = is.ranks in let room = is.room in let whole = is.whole in let end = r.end in
@@ -167,7 +168,7 @@ over_room m p rank new is r own e ew es en cap f =
 
 -- ---- zeros at a rank of zeros
 
-pub none_seen : (m : Inside) (rank : ℕ) (new : List ℕ) → HasRoom m → IsRank m rank → get_or m.numbers.items rank 0 ≡ 0 → length new ≡ m.width →
+pub none_seen : (m : Inside) (rank : ℕ) (new : List ℕ) → StoresFrames m → IsRank m rank → get_or m.numbers.items rank 0 ≡ 0 → length new ≡ m.width →
     new ≡ replicate (length new) 0 → frames_seen m ≡ set (frames_seen m) rank new
 none_seen m rank new is r none e z =
     seen_set m.width m.words.items m.words.items m.numbers.items m.numbers.items rank new refl r.inside
@@ -175,7 +176,7 @@ none_seen m rank new is r none e z =
 
 -- ---- the first frame of its own at a rank
 
-pub first_room : (m : Inside) (rank : ℕ) → HasRoom m → IsRank m rank → get_or m.numbers.items rank 0 ≡ 0 → m.stored_count ≤ length m.numbers.items
+pub first_room : (m : Inside) (rank : ℕ) → StoresFrames m → IsRank m rank → get_or m.numbers.items rank 0 ≡ 0 → m.stored_count ≤ length m.numbers.items
 first_room m rank is r none =
     let set_one = sum_by-set own_frame_count m.numbers.items rank 1 0 r.inside in
     let ones = ones_most (set m.numbers.items rank 1) in
@@ -194,14 +195,14 @@ number_after numbers rank number i h =
       | inr ne ↦ inr (ne, get_or-set_other numbers rank i number 0 ne)
     ]
 
-first_below : (m : Inside) (rank : ℕ) → HasRoom m → IsRank m rank → (i : ℕ) → i < length m.numbers.items → get_or (set m.numbers.items rank m.stored_count) i 0 < m.stored_count + 1
+first_below : (m : Inside) (rank : ℕ) → StoresFrames m → IsRank m rank → (i : ℕ) → i < length m.numbers.items → get_or (set m.numbers.items rank m.stored_count) i 0 < m.stored_count + 1
 first_below m rank is r i h =
     elim (number_after m.numbers.items rank m.stored_count i r.inside) [
       | inl (e, n) ↦ omega arith
       | inr (ne, n) ↦ let low = is.below i h in omega arith
     ]
 
-first_apart : (m : Inside) (rank : ℕ) → HasRoom m → IsRank m rank → AreDistinct (set m.numbers.items rank m.stored_count)
+first_apart : (m : Inside) (rank : ℕ) → StoresFrames m → IsRank m rank → AreDistinct (set m.numbers.items rank m.stored_count)
 first_apart m rank is r i j h k some same =
     let long = length-set m.numbers.items rank m.stored_count in
     elim (number_after m.numbers.items rank m.stored_count i r.inside) [
@@ -215,7 +216,7 @@ first_apart m rank is r i j h k some same =
       ]
     ]
 
-pub first_seen : (m : Inside) (rank : ℕ) (us others new : List ℕ) → HasRoom m → IsRank m rank → length new ≡ m.width →
+pub first_seen : (m : Inside) (rank : ℕ) (us others new : List ℕ) → StoresFrames m → IsRank m rank → length new ≡ m.width →
     us ≡ m.words.items ++ new → others ≡ set m.numbers.items rank m.stored_count → map (stored_frame m.width us) others ≡ set (frames_seen m) rank new
 first_seen m rank us others new is r e f g =
     rw (f, g) (seen_set m.width m.words.items (m.words.items ++ new) m.numbers.items (set m.numbers.items rank m.stored_count) rank new (length-set m.numbers.items rank m.stored_count) r.inside
@@ -223,9 +224,9 @@ first_seen m rank us others new is r e f g =
     (λ i h ne. ap (stored_frame m.width (m.words.items ++ new)) (get_or-set_other m.numbers.items rank i m.stored_count 0 ne)
     ∙ frame_before m.width m.stored_count (get_or m.numbers.items i 0) m.words.items new (is.below i h) is.whole))
 
-pub first_fields : (m p : Inside) (rank : ℕ) (new : List ℕ) → HasRoom m → IsRank m rank → get_or m.numbers.items rank 0 ≡ 0 → length new ≡ m.width →
+pub first_fields : (m p : Inside) (rank : ℕ) (new : List ℕ) → StoresFrames m → IsRank m rank → get_or m.numbers.items rank 0 ≡ 0 → length new ≡ m.width →
     p.width ≡ m.width → p.stored_count ≡ m.stored_count + 1 → p.numbers.items ≡ set m.numbers.items rank m.stored_count → vec_capacity m.words ≤ vec_capacity p.words →
-    p.words.items ≡ m.words.items ++ new → HasRoom p
+    p.words.items ≡ m.words.items ++ new → StoresFrames p
 first_fields m p rank new is r none e ew es en cap f =
     let some = is.some in let narrow = is.narrow in let few = is.ranks in let room = is.room in let whole = is.whole in let used = is.used in
     let long = length-set m.numbers.items rank m.stored_count in

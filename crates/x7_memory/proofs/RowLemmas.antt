@@ -10,12 +10,12 @@ use Rattle.std.proofs.lemmas.List.{get_or-map, length-map, length-append, take-a
 use Rattle.std.proofs.Math.Seq.{drop-append_seam}
 use Rattle.std.proofs.lemmas.List.Sorted.{All-permutation, IsNonDecreasingBy-from_default, IsPermutation-map}
 use Rattle.std.proofs.lemmas.List.Elements.{All-nil, All-cons, All-head, All-tail}
-use Rattle.x7_memory.specs.declared.rows.Row.{Row}
+use Rattle.x7_memory.specs.declared.rows.StoredRow.{StoredRow}
 use Rattle.x7_memory.specs.Plan.{PlanRow, AreInOrder, IsDraft, IsPlanRow}
 use Rattle.x7_memory.specs.Places.{IsRowPlace, IsInsertPlace}
 use Rattle.x7_memory.specs.Rows.{AreKept, row_in, rows_in}
 
-pub no_place : Row
+pub no_place : StoredRow
 no_place = record { far = 0; start = 0 }
 
 -- what holds anyway
@@ -25,7 +25,7 @@ on_err (Err e) p = p
 
 -- ---- words that come after
 
-pub more_words : (width : ℕ) (words more : List ℕ) (rows : List Row) → All (λ row. row.start + width ≤ length words) rows → rows_in width (words ++ more) rows ≡ rows_in width words rows
+pub more_words : (width : ℕ) (words more : List ℕ) (rows : List StoredRow) → All (λ row. row.start + width ≤ length words) rows → rows_in width (words ++ more) rows ≡ rows_in width words rows
 more_words width words more [] inside = refl
 more_words width words more (row ∷ rows) inside =
     let fits : row.start + width ≤ length words = All-head (λ r. r.start + width ≤ length words) row rows inside in
@@ -42,7 +42,7 @@ last_words width words new e = ap (take width) (drop-append_seam words new) ∙ 
     whole [] = refl
     whole (w ∷ ws) = ap (λ t. w ∷ t) (whole ws)
 
-pub more_inside : (width : ℕ) (words new : List ℕ) (rows : List Row) → All (λ row. row.start + width ≤ length words) rows → All (λ row. row.start + width ≤ length (words ++ new)) rows
+pub more_inside : (width : ℕ) (words new : List ℕ) (rows : List StoredRow) → All (λ row. row.start + width ≤ length words) rows → All (λ row. row.start + width ≤ length (words ++ new)) rows
 more_inside width words new rows inside i d h =
     let long = length-append words new in let fits = inside i d h in omega arith
 
@@ -64,17 +64,17 @@ draft_insert width rows i row is e fits = record {
   each = all_insert IsPlanRow rows i row is.each fits;
 }
 
-module _ (width : ℕ) (words new now : List ℕ) (rows : List Row) (is : AreKept width words rows) (grown : now ≡ words ++ new) where
-  pub rows_stay : (others : List Row) → others ≡ rows → rows_in width now others ≡ rows_in width words rows
+module _ (width : ℕ) (words new now : List ℕ) (rows : List StoredRow) (is : AreKept width words rows) (grown : now ≡ words ++ new) where
+  pub rows_stay : (others : List StoredRow) → others ≡ rows → rows_in width now others ≡ rows_in width words rows
   rows_stay others e = ap (rows_in width now) e ∙ ap (λ t. rows_in width t rows) grown ∙ more_words width words new rows is.inside
 
-  pub kept_still : (others : List Row) → others ≡ rows → AreKept width now others
+  pub kept_still : (others : List StoredRow) → others ≡ rows → AreKept width now others
   kept_still others e = record {
     inside = rw (e, grown) (more_inside width words new rows is.inside);
     draft = rw (rows_stay others e) is.draft;
   }
 
-  module _ (i far start : ℕ) (others : List Row) (long : length new ≡ width) (last : start ≡ length words) (added : others ≡ insert rows i record { far = far; start = start }) where
+  module _ (i far start : ℕ) (others : List StoredRow) (long : length new ≡ width) (last : start ≡ length words) (added : others ≡ insert rows i record { far = far; start = start }) where
     pub rows_insert : rows_in width now others ≡ insert (rows_in width words rows) i record { far = far; words = new }
     rows_insert =
         ap (rows_in width now) added ∙ map_insert (row_in width now) rows i record { far = far; start = start }
@@ -93,8 +93,8 @@ module _ (width : ℕ) (words new now : List ℕ) (rows : List Row) (is : AreKep
 
 -- ---- a search by halves
 
-module _ (width : ℕ) (words : List ℕ) (rows : List Row) (order : AreInOrder (rows_in width words rows)) (far : ℕ) where
-  far_at : (i : ℕ) (e : Row) (d : PlanRow) → i < length rows → (get_or (rows_in width words rows) i d).far ≡ (get_or rows i e).far
+module _ (width : ℕ) (words : List ℕ) (rows : List StoredRow) (order : AreInOrder (rows_in width words rows)) (far : ℕ) where
+  far_at : (i : ℕ) (e : StoredRow) (d : PlanRow) → i < length rows → (get_or (rows_in width words rows) i d).far ≡ (get_or rows i e).far
   far_at i e d h = ap (λ r. r.far) (get_or-map (row_in width words) rows i e d h)
 
   long : length (rows_in width words rows) ≡ length rows
@@ -127,14 +127,14 @@ module _ (width : ℕ) (words : List ℕ) (rows : List Row) (order : AreInOrder 
 
 -- ---- rows sorted
 
-pub sorted_rows : (width : ℕ) (words : List ℕ) (rows : List Row) → IsNonDecreasingBy (λ row. row.far) rows → IsNonDecreasingBy (λ row. row.far) (rows_in width words rows)
+pub sorted_rows : (width : ℕ) (words : List ℕ) (rows : List StoredRow) → IsNonDecreasingBy (λ row. row.far) rows → IsNonDecreasingBy (λ row. row.far) (rows_in width words rows)
 sorted_rows width words rows rise i j d le h =
     let all = length-map rows (row_in width words) in
     let first = ap (λ r. r.far) (get_or-map (row_in width words) rows i no_place d (omega arith)) in
     let second = ap (λ r. r.far) (get_or-map (row_in width words) rows j no_place d (omega arith)) in
     let low : (get_or rows i no_place).far ≤ (get_or rows j no_place).far = rise i j no_place le (omega arith) in omega arith
 
-pub kept_sorted : (width : ℕ) (words : List ℕ) (rows sorted : List Row) → AreKept width words rows → IsPermutation rows sorted → AreKept width words sorted
+pub kept_sorted : (width : ℕ) (words : List ℕ) (rows sorted : List StoredRow) → AreKept width words rows → IsPermutation rows sorted → AreKept width words sorted
 kept_sorted width words rows sorted is same = record {
   inside = All-permutation (λ row. row.start + width ≤ length words) rows sorted same is.inside;
   draft = record {

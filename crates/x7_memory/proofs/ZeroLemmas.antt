@@ -11,9 +11,10 @@ use Rattle.std.specs.Prelude.{vec_capacity}
 use Rattle.x7_words.specs.Word.{AreWords}
 use Rattle.x7_part.specs.Part.{PartData, frame_words}
 use Rattle.x7_part.specs.AddressOrder.{addresses_in, Rises}
+use Rattle.x7_part.specs.Limits.{most_frame_words, most_frames}
 use Rattle.x7_memory.specs.declared.memory.Memory.TheInside.{Inside}
 use Rattle.x7_memory.specs.PartFrames.{zero_frames, are_zeros, AreFramesOf}
-use Rattle.x7_memory.specs.MemoryFields.{frames_seen, stored_frame, own_frame_count, HasRoom}
+use Rattle.x7_memory.specs.MemoryFields.{frames_seen, stored_frame, own_frame_count, StoresFrames}
 use Rattle.x7_memory.proofs.MemoryLemmas.{is_rank, stored_width}
 
 -- ---- words of which none has a bit
@@ -69,7 +70,7 @@ zeros_are part rises = record {
 }
 
 -- the first frame that is stored
-pub first_zeros : (m : Inside) → HasRoom m → take m.width m.words.items ≡ replicate m.width 0
+pub first_zeros : (m : Inside) → StoresFrames m → take m.width m.words.items ≡ replicate m.width 0
 first_zeros m is = ap (λ k. take m.width (drop k m.words.items)) (sym (mul-zero m.width)) ∙ is.zeros
 
 -- ---- fields of which no rank has a frame of its own
@@ -85,8 +86,8 @@ none_seen width count words numbers e f =
     rw (mul-zero width) (take_all width (replicate width 0) (let n = length-replicate {A = ℕ} width 0 in omega arith)) in
     rw (e, f) (map_alike (stored_frame width (replicate width 0)) count 0 ∙ ap (replicate count) first)
 
-pub none_room : (p : Inside) (width count : ℕ) → 0 < width → width ≤ 255 → count ≤ 131072 → p.width ≡ width → p.stored_count ≡ 1 →
-    p.words.items ≡ replicate width 0 → p.numbers.items ≡ replicate count 0 → width * (count + 1) ≤ vec_capacity p.words → HasRoom p
+pub none_room : (p : Inside) (width count : ℕ) → 0 < width → width ≤ most_frame_words → count ≤ most_frames → p.width ≡ width → p.stored_count ≡ 1 →
+    p.words.items ≡ replicate width 0 → p.numbers.items ≡ replicate count 0 → width * (count + 1) ≤ vec_capacity p.words → StoresFrames p
 none_room p width count some narrow few ew es e f room =
     let n : length p.numbers.items ≡ count = ap length f ∙ length-replicate count 0 in
     let l : length p.words.items ≡ width = ap length e ∙ length-replicate width 0 in
@@ -110,7 +111,7 @@ pub new_zeros : (part : PartData) (width count : ℕ) → width ≡ frame_words 
 new_zeros part width count w n = rw (w, n) refl
 
 -- fields that are a memory of the part, when no rank has a frame of its own any more
-pub cleared : (part : PartData) (m : Inside) (frames : List (List ℕ)) (words numbers : List ℕ) → HasRoom m → frames_seen m ≡ frames → AreFramesOf part frames →
+pub cleared : (part : PartData) (m : Inside) (frames : List (List ℕ)) (words numbers : List ℕ) → StoresFrames m → frames_seen m ≡ frames → AreFramesOf part frames →
     words ≡ take m.width m.words.items → numbers ≡ replicate (length m.numbers.items) 0 → map (stored_frame m.width words) numbers ≡ zero_frames part
 cleared part m frames words numbers is e are f g =
     let long : length (frames_seen m) ≡ length m.numbers.items = length-map m.numbers.items (stored_frame m.width m.words.items) in

@@ -11,12 +11,12 @@ abbrev pub override : FrameMap → FrameMap → FrameMap
 override m p far = option_or (p far) (m far)
 
 -- the map without a frame
-abbrev pub nothing : FrameMap
-nothing far = None
+abbrev pub no_frames : FrameMap
+no_frames far = None
 
 -- the map with one frame, at the address `at`
-abbrev pub only : ℕ → List ℕ → FrameMap
-only at words far = if far == at then Some words else None
+abbrev pub single_frame : ℕ → List ℕ → FrameMap
+single_frame at words far = if far == at then Some words else None
 
 -- no address has a frame in both maps
 abbrev pub AreDisjoint : FrameMap → FrameMap → Type 0

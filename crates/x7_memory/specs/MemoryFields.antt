@@ -23,7 +23,7 @@ AreDistinct numbers =
     (i j : ℕ) → i < length numbers → j < length numbers → 0 < slice_index_or numbers i 0 → slice_index_or numbers i 0 ≡ slice_index_or numbers j 0 → i ≡ j
 
 -- there is room for a frame of each rank and for the zeros, which stand first; each rank has a frame that is stored
-pub record HasRoom (m : Inside) : Type 0 where
+pub record StoresFrames (m : Inside) : Type 0 where
   pub some : 0 < m.width
   pub narrow : m.width ≤ most_frame_words
   pub ranks : length m.numbers.items ≤ most_frames

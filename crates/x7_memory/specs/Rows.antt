@@ -1,16 +1,16 @@
 -- Rows as their fields hold them: the words of all frames in one list, and each row's address and the number of its
 -- first word there (this project's choice).
 use Rattle.std.specs.Prelude.{ℕ, ◌+◌, ◌≤◌, List, length, map, take, drop, All}
-use Rattle.x7_memory.specs.declared.rows.Row.{Row}
+use Rattle.x7_memory.specs.declared.rows.StoredRow.{StoredRow}
 use Rattle.x7_memory.specs.declared.rows.Rows.TheInside.{Inside}
 use Rattle.x7_memory.specs.Plan.{PlanRow, PlanData, IsDraft}
 
 -- a row with its words, which begin at number `start`
-abbrev pub row_in : ℕ → List ℕ → Row → PlanRow
+abbrev pub row_in : ℕ → List ℕ → StoredRow → PlanRow
 row_in width words row = record { far = row.far; words = take width (drop row.start words) }
 
 -- all rows, each with its words
-abbrev pub rows_in : ℕ → List ℕ → List Row → List PlanRow
+abbrev pub rows_in : ℕ → List ℕ → List StoredRow → List PlanRow
 rows_in width words rows = map (row_in width words) rows
 
 -- rows as what is kept of them shows: their width, and each with its words
@@ -18,6 +18,6 @@ abbrev pub rows_seen : Inside → PlanData
 rows_seen kept = record { width = kept.width; rows = rows_in kept.width kept.words.items kept.rows.items }
 
 -- each row's words are there, and have 32 bits
-pub record AreKept (width : ℕ) (words : List ℕ) (rows : List Row) : Type 0 where
+pub record AreKept (width : ℕ) (words : List ℕ) (rows : List StoredRow) : Type 0 where
   pub inside : All (λ row. row.start + width ≤ length words) rows
   pub draft : IsDraft record { width = width; rows = rows_in width words rows }

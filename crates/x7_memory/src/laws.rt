@@ -3,7 +3,7 @@
 ghost use Rattle.std.specs.Prelude.{◌≡◌, ℕ, ◌<◌, ◌++◌, ◌==◌, ◌↔◌, if◌then◌else◌, List, length, replicate, slice_index_or, Contains, IsPermutation, Some, None};
 ghost use Rattle.x7_part.specs.AddressOrder.{addresses_in};
 ghost use Rattle.x7_part.specs.Part.{PartData, frame_words};
-ghost use Rattle.x7_memory.specs.FrameMap.{FrameMap, override, nothing, only, AreDisjoint, AreSame};
+ghost use Rattle.x7_memory.specs.FrameMap.{FrameMap, override, no_frames, single_frame, AreDisjoint, AreSame};
 ghost use Rattle.x7_memory.specs.PartFrames.{frame_at, zeros, AreFramesOf};
 ghost use Rattle.x7_memory.specs.Plan.{PlanRow, PlanData, PlansEach, IsPlan, AreInOrder, AreApart, planned, planned_addresses, total};
 
@@ -14,9 +14,9 @@ pub fn maps_override_by_address()
     ensures twice { (m p q : FrameMap) → AreSame (override (override m p) q) (override m (override p q)) }
     ensures disjoint { (m p q : FrameMap) → AreDisjoint p q → AreSame (override (override m p) q) (override (override m q) p) }
     ensures again { (m p : FrameMap) → AreSame (override (override m p) p) (override m p) }
-    ensures nothing { (m : FrameMap) → AreSame (override m nothing) m }
+    ensures nothing { (m : FrameMap) → AreSame (override m no_frames) m }
     ensures same { (m n p q : FrameMap) → AreSame m n → AreSame p q → AreSame (override m p) (override n q) }
-    ensures one_frame { (m n : FrameMap) (far : ℕ) (words : List ℕ) → ((a : ℕ) → n a ≡ (if a == far then Some words else m a)) → AreSame n (override m (only far words)) }
+    ensures one_frame { (m n : FrameMap) (far : ℕ) (words : List ℕ) → ((a : ℕ) → n a ≡ (if a == far then Some words else m a)) → AreSame n (override m (single_frame far words)) }
 {}
 
 /// A memory as a map: the part's addresses alone have frames, zeros are zeros, and equal maps are equal memories.

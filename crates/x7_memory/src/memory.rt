@@ -27,13 +27,13 @@ pub struct Memory {
 
 impl Model for Memory {
     ghost use Rattle.std.specs.Prelude.{ℕ, List};
-    ghost use Rattle.x7_memory.specs.MemoryFields.{frames_seen, HasRoom};
+    ghost use Rattle.x7_memory.specs.MemoryFields.{frames_seen, StoresFrames};
 
     ghost Value = { List (List ℕ) };
 
     ghost view = { frames_seen };
 
-    ghost invariant = { HasRoom };
+    ghost invariant = { StoresFrames };
 }
 
 impl Memory {

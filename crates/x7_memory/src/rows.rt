@@ -11,7 +11,7 @@ use x7_words::NoMemory;
 
 /// The address of a frame, and the number of the words of other frames before its own.
 #[derive(Clone, Copy)]
-struct Row {
+struct StoredRow {
     far: u32,
     start: usize,
 }
@@ -23,7 +23,7 @@ pub(crate) struct Rows {
     width: u32,
     /// The words of all frames, in the order in which they came.
     words: Vec<u32>,
-    rows: Vec<Row>,
+    rows: Vec<StoredRow>,
 }
 
 impl Model for Rows {
@@ -83,7 +83,7 @@ impl Rows {
     {
         let start = self.words.len();
         self.words.extend_from_slice(words)?;
-        Ok(self.rows.insert(place, Row { far, start })?)
+        Ok(self.rows.insert(place, StoredRow { far, start })?)
     }
 
     /// The place, from 0, of the row with the address among rows in order, or the place where such a row would go.

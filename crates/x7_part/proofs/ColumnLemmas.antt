@@ -15,7 +15,7 @@ use Rattle.x7_part.specs.declared.slot.Slot.{Slot}
 use Rattle.x7_part.specs.declared.slot.Slot.TheVariants.{Frame, Pad, End}
 use Rattle.x7_part.specs.AddressOrder.{count_from, IsFollowedBy, IsLastIn}
 use Rattle.x7_part.specs.Column.{addresses_of_column, slots_of, column_addresses, column_slots, IsTable, no_column, column}
-use Rattle.x7_part.specs.Slot.{from}
+use Rattle.x7_part.specs.Slot.{from_address}
 
 -- ---- numbers in a row
 
@@ -387,18 +387,18 @@ no_frame cs r n far t le some before after past e =
 
 -- ---- the slots from an address
 
-skip_pads : (far n : ℕ) (rest : List Slot) → from far (replicate n Pad ++ rest) ≡ from far rest
+skip_pads : (far n : ℕ) (rest : List Slot) → from_address far (replicate n Pad ++ rest) ≡ from_address far rest
 skip_pads far zero rest = refl
 skip_pads far (suc n) rest = skip_pads far n rest
 
-skip_frames : (far a n : ℕ) (rest : List Slot) → a + n ≤ far → from far (map Frame (count_from a n) ++ rest) ≡ from far rest
+skip_frames : (far a n : ℕ) (rest : List Slot) → a + n ≤ far → from_address far (map Frame (count_from a n) ++ rest) ≡ from_address far rest
 skip_frames far a zero rest h = refl
 skip_frames far a (suc n) rest h =
     let e : eqb a far ≡ false = ne_eqb a far (λ same. omega arith) in
     rw e (skip_frames far (a + 1) n rest (omega arith))
 
 stop_here : (far a n : ℕ) (rest : List Slot) → a ≤ far → far < a + n →
-    from far (map Frame (count_from a n) ++ rest) ≡ drop (far - a) (map Frame (count_from a n) ++ rest)
+    from_address far (map Frame (count_from a n) ++ rest) ≡ drop (far - a) (map Frame (count_from a n) ++ rest)
 stop_here far a zero rest h k = absurd (omega arith)
 stop_here far a (suc n) rest h k =
     elim (eqb_tells a far) [
@@ -410,7 +410,7 @@ stop_here far a (suc n) rest h k =
 
 pub from_at : (r s l : ℕ) (cs : List Column) → IsTable r s l cs → (i far : ℕ) (d : Column) → i < length cs →
     (get_or cs i d).first ≤ far → far < (get_or cs i d).first + (get_or cs i d).count →
-    from far (column_slots cs) ≡ drop ((get_or cs i d).place + (far - (get_or cs i d).first) - s) (column_slots cs)
+    from_address far (column_slots cs) ≡ drop ((get_or cs i d).place + (far - (get_or cs i d).first) - s) (column_slots cs)
 unfolding column_slots
 from_at _ _ _ _ (no_column r s l) i far d h low high = absurd (omega arith)
 from_at _ _ _ _ (column r s l c cs er es le pos top rest) zero far d h low high =
@@ -422,10 +422,10 @@ from_at _ _ _ _ (column r s l c cs er es le pos top rest) (suc i) far d h low hi
     let x = get_or cs i d in
     let len : length (slots_of c) ≡ c.count + c.pad_count = slots_length c in
     let z : x.place + (far - x.first) - s ≡ length (slots_of c) + (x.place + (far - x.first) - (s + c.count + c.pad_count)) = omega arith in
-    let ih : from far (column_slots cs) ≡ drop (x.place + (far - x.first) - (s + c.count + c.pad_count)) (column_slots cs) =
+    let ih : from_address far (column_slots cs) ≡ drop (x.place + (far - x.first) - (s + c.count + c.pad_count)) (column_slots cs) =
     from_at (r + c.count) (s + c.count + c.pad_count) (c.first + c.count) cs rest i far d (omega arith) low high in
-    let l : from far (slots_of c ++ column_slots cs) ≡ from far (column_slots cs) =
-    ap (from far) (append_assoc (map Frame (addresses_of_column c)) (replicate c.pad_count Pad) (column_slots cs))
+    let l : from_address far (slots_of c ++ column_slots cs) ≡ from_address far (column_slots cs) =
+    ap (from_address far) (append_assoc (map Frame (addresses_of_column c)) (replicate c.pad_count Pad) (column_slots cs))
     ∙ skip_frames far c.first c.count (replicate c.pad_count Pad ++ column_slots cs) (omega arith) ∙ skip_pads far c.pad_count (column_slots cs) in
     l ∙ ih ∙ sym (ap (λ n. drop n (slots_of c ++ column_slots cs)) z ∙ drop-append-add (slots_of c) (column_slots cs) (x.place + (far - x.first) - (s + c.count + c.pad_count)))
 
@@ -471,7 +471,7 @@ next_none cs t i x d h low last =
 
 pub slot_after_is : (cs : List Column) → IsTable 0 0 0 cs → (i far n : ℕ) (d : Column) → i < length cs →
     (get_or cs i d).first ≤ far → far < (get_or cs i d).first + (get_or cs i d).count →
-    get_or (column_slots cs) ((get_or cs i d).place + (far - (get_or cs i d).first) + n) End ≡ get_or (from far (column_slots cs)) n End
+    get_or (column_slots cs) ((get_or cs i d).place + (far - (get_or cs i d).first) + n) End ≡ get_or (from_address far (column_slots cs)) n End
 slot_after_is cs t i far n d h low high =
     rw (from_at 0 0 0 cs t i far d h low high)
     (sym (get_or-drop ((get_or cs i d).place + (far - (get_or cs i d).first) - 0) (column_slots cs) n End
@@ -479,7 +479,7 @@ slot_after_is cs t i far n d h low high =
 
 pub slots_from_is : (cs : List Column) → IsTable 0 0 0 cs → (i far : ℕ) (d : Column) → i < length cs →
     (get_or cs i d).first ≤ far → far < (get_or cs i d).first + (get_or cs i d).count →
-    length (column_slots cs) - ((get_or cs i d).place + (far - (get_or cs i d).first)) ≡ length (from far (column_slots cs))
+    length (column_slots cs) - ((get_or cs i d).place + (far - (get_or cs i d).first)) ≡ length (from_address far (column_slots cs))
 slots_from_is cs t i far d h low high =
     rw (from_at 0 0 0 cs t i far d h low high)
     (sym (length-drop ((get_or cs i d).place + (far - (get_or cs i d).first) - 0) (column_slots cs)

@@ -11,12 +11,12 @@ use Rattle.x7_part.specs.Part.{FieldWidths, RowData, PartData}
 use Rattle.x7_part.specs.Ranges.{IsPart}
 use Rattle.x7_part.specs.Address.{AreRows, no_row, row}
 use Rattle.x7_part.specs.AddressOrder.{addresses_of, addresses, addresses_in}
-use Rattle.x7_part.specs.Slot.{slots, slots_in}
+use Rattle.x7_part.specs.Slot.{slots, slots_in, pads_after_row}
 use Rattle.x7_part.specs.Column.{AreColumns, AreColumnsOf, column_addresses, column_slots, table_of}
 use Rattle.x7_part.proofs.RowLemmas.{part_table, part_addresses, part_slots}
 use Rattle.x7_part.proofs.TableLemmas.{frames_cons}
 
-pub slots_count : (widths : FieldWidths) (rows : List RowData) → length (slots widths rows) ≡ length (addresses widths rows) + 2 * length rows
+pub slots_count : (widths : FieldWidths) (rows : List RowData) → length (slots widths rows) ≡ length (addresses widths rows) + pads_after_row * length rows
 unfolding slots addresses
 slots_count widths [] = refl
 slots_count widths (r ∷ rows) =

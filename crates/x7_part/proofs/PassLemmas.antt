@@ -17,7 +17,7 @@ use Rattle.x7_part.specs.Limits.{greatest_bus_width, greatest_mode, most_name_si
 use Rattle.x7_part.specs.Part.{RowData, PartData}
 use Rattle.x7_part.specs.Ranges.{IsPart}
 use Rattle.x7_part.specs.Address.{IsRow}
-use Rattle.x7_part.specs.declared.settings.Settings.{Settings}
+use Rattle.x7_part.specs.declared.settings.PartSettings.{PartSettings}
 use Rattle.x7_part.specs.AddressOrder.{addresses}
 use Rattle.x7_part.specs.Values.{RowValues, TopValues, top_values, settings_by_values, row_by_values, rows_in_file, part_data, part_with}
 use Rattle.x7_part.specs.PartChecks.{fault_of_call, AnswersDue, unless, first_of, rows_fault, is_in, is_length_in, is_name, is_odd, is_start_unit, are_widths_or_none, row_range_fault, type_fault, other_fault, number_range_fault, top_range_fault, range_fault}
@@ -176,7 +176,7 @@ rows_reported text t v fault h others before (inl e) = inl e
 rows_reported text t v fault h others before (inr e) = inr (range_reported text t v fault h others (rw (← before, e) refl))
 
 -- what the checks of keys and values leave
-pub record Passed (text : List ℕ) (t : Members) (v : TopValues) (s : Settings) (rows : List RowData) : Type 0 where
+pub record Passed (text : List ℕ) (t : Members) (v : TopValues) (s : PartSettings) (rows : List RowData) : Type 0 where
   pub typed : Typed text t v
   pub others : None ≡ other_fault v
   pub before : None ≡ top_range_fault v
@@ -184,16 +184,16 @@ pub record Passed (text : List ℕ) (t : Members) (v : TopValues) (s : Settings)
   pub settings : s ≡ settings_by_values v
   pub made : rows ≡ map row_by_values v.rows
 
-pub passed : (text : List ℕ) (t : Members) (v : TopValues) (s : Settings) (rows : List RowData) (values : List RowValues) → Typed text t v → None ≡ other_fault v →
+pub passed : (text : List ℕ) (t : Members) (v : TopValues) (s : PartSettings) (rows : List RowData) (values : List RowValues) → Typed text t v → None ≡ other_fault v →
     None ≡ top_range_fault v → values ≡ v.rows → rows_fault row_range_fault 1 values ≡ None → s ≡ settings_by_values v → rows ≡ map row_by_values values → Passed text t v s rows
 passed text t v s rows values typed others before same each settings made =
     record { typed = typed; others = others; before = before; each = rw (← same) each; settings = settings; made = made ∙ ap (map row_by_values) same }
 
-ranges_none : (text : List ℕ) (t : Members) (v : TopValues) (s : Settings) (rows : List RowData) → Passed text t v s rows → range_fault v ≡ None
+ranges_none : (text : List ℕ) (t : Members) (v : TopValues) (s : PartSettings) (rows : List RowData) → Passed text t v s rows → range_fault v ≡ None
 unfolding range_fault
 ranges_none text t v s rows h = rw (← h.before, h.each) refl
 
-pub few_rows : (text : List ℕ) (t : Members) (v : TopValues) (s : Settings) (rows : List RowData) → Passed text t v s rows → length rows ≤ most_rows
+pub few_rows : (text : List ℕ) (t : Members) (v : TopValues) (s : PartSettings) (rows : List RowData) → Passed text t v s rows → length rows ≤ most_rows
 unfolding top_range_fault
 few_rows text t v s rows h =
     let all = nones (unless (is_name v.name) (Range (top key.Name)) ∷ number_range_fault v ∷ unless (is_length_in 1 most_rows (length v.rows)) (Range (top key.Row)) ∷ []) (sym h.before) in
@@ -202,7 +202,7 @@ few_rows text t v s rows h =
     omega arith
 
 -- what the checks of rows find is the first fault of the table
-rest_is : (text : List ℕ) (t : Members) (v : TopValues) (s : Settings) (rows : List RowData) → Passed text t v s rows →
+rest_is : (text : List ℕ) (t : Members) (v : TopValues) (s : PartSettings) (rows : List RowData) → Passed text t v s rows →
     first_fault t ≡ first_of (same_row_fault [] rows ∷ frames_fault (part_data v.name s rows) ∷ [])
 unfolding first_fault
 rest_is text t v s rows h =
@@ -212,18 +212,18 @@ rest_is text t v s rows h =
     rw (h.typed.types, ap other_fault values ∙ sym h.others, ap range_fault values ∙ ranges_none text t v s rows h)
     (ap (λ x. first_of (same_row_fault [] (map row_by_values x.rows) ∷ frames_fault (part_with x (map row_by_values x.rows)) ∷ [])) values ∙ found)
 
-pub last_reported : (text : List ℕ) (t : Members) (v : TopValues) (s : Settings) (rows : List RowData) (fault : PartFault) → Passed text t v s rows →
+pub last_reported : (text : List ℕ) (t : Members) (v : TopValues) (s : PartSettings) (rows : List RowData) (fault : PartFault) → Passed text t v s rows →
     Some fault ≡ first_of (same_row_fault [] rows ∷ frames_fault (part_data v.name s rows) ∷ []) → part_in text ≡ Err fault
 last_reported text t v s rows fault h e = reported_is text t fault h.typed.is (rest_is text t v s rows h ∙ sym e)
 
 -- a part in which no check has found a fault
-pub record Whole (text name : List ℕ) (s : Settings) (rows : List RowData) : Type 0 where
+pub record Whole (text name : List ℕ) (s : PartSettings) (rows : List RowData) : Type 0 where
   pub all : All IsRow rows
   pub apart : same_row_fault [] rows ≡ None
   pub part : IsPart (part_data name s (sorted_rows s.field_widths rows))
   pub is : part_in text ≡ Ok (part_data name s (sorted_rows s.field_widths rows))
 
-pub whole : (text : List ℕ) (t : Members) (v : TopValues) (s : Settings) (rows : List RowData) (name : List ℕ) → name ≡ v.name → Passed text t v s rows →
+pub whole : (text : List ℕ) (t : Members) (v : TopValues) (s : PartSettings) (rows : List RowData) (name : List ℕ) → name ≡ v.name → Passed text t v s rows →
     None ≡ first_of (same_row_fault [] rows ∷ frames_fault (part_data v.name s rows) ∷ []) → Whole text name s rows
 unfolding part_from
 whole text t v s rows name named h e =

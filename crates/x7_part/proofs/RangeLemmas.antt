@@ -10,7 +10,7 @@ use Rattle.x7_part.specs.declared.fault.PartFault.{PartFault}
 use Rattle.x7_part.specs.declared.fault.PartFault.TheVariants.{Range}
 use Rattle.x7_part.specs.declared.fault.PartKey.TheVariants as key
 use Rattle.x7_part.specs.Keys.{in_row}
-use Rattle.x7_part.specs.Limits.{first_printed, greatest_block, greatest_half, greatest_row, last_printed, most_columns, most_minors, most_name_size, IsStartUnit}
+use Rattle.x7_part.specs.Limits.{first_printed, greatest_block, greatest_half, greatest_idcode, greatest_row, half_width, last_printed, least_block_width, least_column_width, least_minor_width, least_row_width, most_address_width, most_block_width, most_column_width, most_columns, most_minor_width, most_minors, most_name_size, most_row_width, IsStartUnit}
 use Rattle.x7_part.specs.Address.{IsRow, AreWidths}
 use Rattle.x7_part.specs.Values.{RowValues, natural, row_by_values, widths_of}
 use Rattle.x7_part.specs.PartChecks.{unless, first_of, rows_fault, next_row_number, is_in, is_length_in, are_printed, is_name, is_odd, is_start_unit, are_in, are_minors, are_widths, are_widths_or_none, row_range_fault}
@@ -47,10 +47,10 @@ printed (b ∷ bs) e =
 is_one : (n : ℕ) → (n == 1) ≡ true → n ≡ 1
 is_one n e = elim (eqb_tells n 1) [ inl y ↦ y.1 | inr n' ↦ absurd (false≢true (sym n'.0 ∙ e)) ]
 
-pub odd_in : (z : ℤ) → is_odd z ≡ true → (natural z ≤ 4294967295) × (natural z % 2 ≡ 1)
+pub odd_in : (z : ℤ) → is_odd z ≡ true → (natural z ≤ greatest_idcode) × (natural z % 2 ≡ 1)
 unfolding is_odd
 odd_in z h =
-    let p = and_parts (is_in 1 4294967295 z) (natural z % 2 == 1) h in ((in_range 1 4294967295 z p.0).1, is_one (natural z % 2) p.1)
+    let p = and_parts (is_in 1 greatest_idcode z) (natural z % 2 == 1) h in ((in_range 1 greatest_idcode z p.0).1, is_one (natural z % 2) p.1)
 
 or_cases : (a b : Bool) → (a || b) ≡ true → (a ≡ true) ⊎ (b ≡ true)
 or_cases true b h = inl refl
@@ -71,18 +71,19 @@ widths_are (a ∷ b ∷ c ∷ []) h = absurd (false≢true h)
 widths_are (a ∷ b ∷ c ∷ d ∷ []) h = absurd (false≢true h)
 widths_are (a ∷ b ∷ c ∷ d ∷ e ∷ f ∷ zs) h = absurd (false≢true h)
 widths_are (a ∷ b ∷ c ∷ d ∷ e ∷ []) h =
-    let p = and_parts ((is_in 7 12 a && is_in 10 12 b) && (is_in 5 8 c && is_in 1 1 d)) (is_in 2 3 e && nat_le (natural a + natural b + natural c + natural d + natural e) 32) h in
-    let q = and_parts (is_in 7 12 a && is_in 10 12 b) (is_in 5 8 c && is_in 1 1 d) p.0 in
-    let r = and_parts (is_in 7 12 a) (is_in 10 12 b) q.0 in
-    let s = and_parts (is_in 5 8 c) (is_in 1 1 d) q.1 in
-    let t = and_parts (is_in 2 3 e) (nat_le (natural a + natural b + natural c + natural d + natural e) 32) p.1 in
+    let p = and_parts ((is_in least_minor_width most_minor_width a && is_in least_column_width most_column_width b) && (is_in least_row_width most_row_width c && is_in half_width half_width d))
+    (is_in least_block_width most_block_width e && nat_le (natural a + natural b + natural c + natural d + natural e) most_address_width) h in
+    let q = and_parts (is_in least_minor_width most_minor_width a && is_in least_column_width most_column_width b) (is_in least_row_width most_row_width c && is_in half_width half_width d) p.0 in
+    let r = and_parts (is_in least_minor_width most_minor_width a) (is_in least_column_width most_column_width b) q.0 in
+    let s = and_parts (is_in least_row_width most_row_width c) (is_in half_width half_width d) q.1 in
+    let t = and_parts (is_in least_block_width most_block_width e) (nat_le (natural a + natural b + natural c + natural d + natural e) most_address_width) p.1 in
     record {
-      minor = in_range 7 12 a r.0;
-      column = in_range 10 12 b r.1;
-      row = in_range 5 8 c s.0;
-      half = one_number 1 d s.1;
-      block = in_range 2 3 e t.0;
-      sum = leb-true (natural a + natural b + natural c + natural d + natural e) 32 t.1;
+      minor = in_range least_minor_width most_minor_width a r.0;
+      column = in_range least_column_width most_column_width b r.1;
+      row = in_range least_row_width most_row_width c s.0;
+      half = one_number half_width d s.1;
+      block = in_range least_block_width most_block_width e t.0;
+      sum = leb-true (natural a + natural b + natural c + natural d + natural e) most_address_width t.1;
     }
 
 -- widths in range, or the usual ones

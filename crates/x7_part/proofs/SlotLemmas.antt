@@ -9,7 +9,7 @@ use Rattle.x7_part.specs.Part.{FieldWidths, RowData, PartData}
 use Rattle.x7_part.specs.Ranges.{IsPart}
 use Rattle.x7_part.specs.Address.{AreRows, no_row, row, row_address, column_low}
 use Rattle.x7_part.specs.AddressOrder.{addresses_of, addresses, addresses_in, Rises, risen, rise, IsFollowedBy}
-use Rattle.x7_part.specs.Slot.{slots, slots_in, from, addresses_among, AreInOneRow}
+use Rattle.x7_part.specs.Slot.{slots, slots_in, from_address, addresses_among, AreInOneRow, pads_after_row}
 use Rattle.x7_part.specs.declared.slot.Slot.{Slot}
 use Rattle.x7_part.specs.declared.slot.Slot.TheVariants.{Frame, Pad, End}
 use Rattle.x7_part.proofs.RowLemmas.{part_rises, later_larger}
@@ -42,7 +42,7 @@ among_slots far (r ∷ rows) =
 -- ---- the slots from an address
 
 -- the slots from an address on are an end of all slots
-from_end : (far : ℕ) (places : List Slot) → (before : List Slot) × (places ≡ before ++ from far places)
+from_end : (far : ℕ) (places : List Slot) → (before : List Slot) × (places ≡ before ++ from_address far places)
 from_end far [] = ([], refl)
 from_end far (Frame a ∷ places) =
     elim (cases_eq a far) [
@@ -52,7 +52,7 @@ from_end far (Frame a ∷ places) =
 from_end far (Pad ∷ places) = let more = from_end far places in (Pad ∷ more.0, ap (λ rest. Pad ∷ rest) more.1)
 from_end far (End ∷ places) = let more = from_end far places in (End ∷ more.0, ap (λ rest. End ∷ rest) more.1)
 
-pub slots_split : (part : PartData) (far : ℕ) → Contains (addresses_in part) far → (before : List Slot) × (slots_in part ≡ before ++ from far (slots_in part))
+pub slots_split : (part : PartData) (far : ℕ) → Contains (addresses_in part) far → (before : List Slot) × (slots_in part ≡ before ++ from_address far (slots_in part))
 slots_split part far has = from_end far (slots_in part)
 
 later : (a far : ℕ) (fars : List ℕ) → (a ≡ far → ⊥) → Contains (a ∷ fars) far → Contains fars far
@@ -60,7 +60,7 @@ later a far fars n (zero, low, e) = absurd (n e)
 later a far fars n (suc k, low, e) = (k, omega arith, e)
 
 -- and begin with it
-from_first : (far : ℕ) (places : List Slot) → Contains (addresses_among places) far → get_or (from far places) 0 End ≡ Frame far
+from_first : (far : ℕ) (places : List Slot) → Contains (addresses_among places) far → get_or (from_address far places) 0 End ≡ Frame far
 from_first far [] (k, low, e) = absurd (omega arith)
 from_first far (Frame a ∷ places) has =
     elim (cases_eq a far) [
@@ -70,14 +70,14 @@ from_first far (Frame a ∷ places) has =
 from_first far (Pad ∷ places) has = from_first far places has
 from_first far (End ∷ places) has = from_first far places has
 
-pub slots_first : (part : PartData) (far : ℕ) → Contains (addresses_in part) far → get_or (from far (slots_in part)) 0 End ≡ Frame far
+pub slots_first : (part : PartData) (far : ℕ) → Contains (addresses_in part) far → get_or (from_address far (slots_in part)) 0 End ≡ Frame far
 slots_first part far has = from_first far (slots_in part) (rw (among_slots part.field_widths part.rows) has)
 
-pub slots_number : (part : PartData) → length (slots_in part) ≡ length (addresses_in part) + 2 * length part.rows
+pub slots_number : (part : PartData) → length (slots_in part) ≡ length (addresses_in part) + pads_after_row * length part.rows
 slots_number part = slots_count part.field_widths part.rows
 
 -- the slots from the first address on are all slots
-from_head : (places : List Slot) (a : ℕ) (rest : List Slot) → places ≡ Frame a ∷ rest → from a places ≡ places
+from_head : (places : List Slot) (a : ℕ) (rest : List Slot) → places ≡ Frame a ∷ rest → from_address a places ≡ places
 from_head places a rest e = rw (e, eq-eqb a a refl) refl
 
 -- rows in sequence
@@ -105,7 +105,7 @@ rows_start far _ _ (row f least r rows le is rest) h =
     let some = first_minors r.minors is.some is.minors in
     starts_with (addresses_of far r) (addresses far rows) (slots far rows) (omega arith)
 
-pub slots_all : (part : PartData) → IsPart part → from (slice_index (addresses_in part) 0) (slots_in part) ≡ slots_in part
+pub slots_all : (part : PartData) → IsPart part → from_address (slice_index (addresses_in part) 0) (slots_in part) ≡ slots_in part
 slots_all part is =
     let h = rows_start part.field_widths 0 part.rows is.rows is.some in
     from_head (slots_in part) (get_or (addresses_in part) 0 0) h.0 h.1
@@ -129,7 +129,7 @@ pad_is_no_frame far e = cc
 
 -- inside the frames of a row, and at their end
 inside : (l x k : ℕ) (xs : List ℕ) (rest : List Slot) → Rises l xs → k + 1 < length xs → get_or xs k 0 ≡ x →
-    get_or (from x (map Frame xs ++ rest)) 1 End ≡ Frame (get_or xs (k + 1) 0)
+    get_or (from_address x (map Frame xs ++ rest)) 1 End ≡ Frame (get_or xs (k + 1) 0)
 inside l x k [] rest rises h e = absurd (omega arith)
 inside l x zero (a ∷ []) rest rises h e = absurd (omega arith)
 inside l x zero (a ∷ b ∷ xs) rest rises h e = rw (eq-eqb a x e) refl
@@ -139,7 +139,7 @@ inside l x (suc k) (a ∷ xs) rest (rise _ _ _ le more) h e =
     rw (ne_eqb a x (λ same. omega arith), next) (inside (a + 1) x k xs rest more (omega arith) e)
 
 at_end : (l x k : ℕ) (xs : List ℕ) (rest : List Slot) → Rises l xs → k + 1 ≡ length xs → get_or xs k 0 ≡ x →
-    get_or (from x (map Frame xs ++ (Pad ∷ rest))) 1 End ≡ Pad
+    get_or (from_address x (map Frame xs ++ (Pad ∷ rest))) 1 End ≡ Pad
 at_end l x k [] rest rises h e = absurd (omega arith)
 at_end l x zero (a ∷ []) rest rises h e = rw (eq-eqb a x e) refl
 at_end l x zero (a ∷ b ∷ xs) rest rises h e = absurd (omega arith)
@@ -147,7 +147,7 @@ at_end l x (suc k) (a ∷ xs) rest (rise _ _ _ le more) h e =
     let low = later_larger (a + 1) k xs more (omega arith) in
     rw (ne_eqb a x (λ same. omega arith)) (at_end (a + 1) x k xs rest more (omega arith) e)
 
-skips : (x : ℕ) (xs : List ℕ) (rest : List Slot) → (Contains xs x → ⊥) → from x (map Frame xs ++ rest) ≡ from x rest
+skips : (x : ℕ) (xs : List ℕ) (rest : List Slot) → (Contains xs x → ⊥) → from_address x (map Frame xs ++ rest) ≡ from_address x rest
 skips x [] rest n = refl
 skips x (a ∷ xs) rest n =
     rw (ne_eqb a x (λ e. n (0, omega arith, e))) (skips x xs rest (λ has. n (suc has.0, (let h = has.1 in omega arith), has.2)))
@@ -189,7 +189,7 @@ module _ (far : FieldWidths) (r : RowData) (rows : List RowData) (l x y : ℕ) (
       omega (arith, s, h)
 
   -- x in this row
-  here_next : Contains A x → get_or (from x (map Frame A ++ (Pad ∷ Pad ∷ slots far rows))) 1 End ≡ Frame y → IsFollowedBy (A ++ B) x y × InOne far (r ∷ rows) x y
+  here_next : Contains A x → get_or (from_address x (map Frame A ++ (Pad ∷ Pad ∷ slots far rows))) 1 End ≡ Frame y → IsFollowedBy (A ++ B) x y × InOne far (r ∷ rows) x y
   unfolding InOne
   here_next (k, h, e) s =
       let at : get_or A k 0 ≡ x = sym (get_or_default A k x 0 h) ∙ e in
@@ -200,7 +200,7 @@ module _ (far : FieldWidths) (r : RowData) (rows : List RowData) (l x y : ℕ) (
         | inr high ↦ absurd (pad_is_no_frame y (sym (at_end l x k A (Pad ∷ slots far rows) (rises_prefix l A B rises) (omega (arith, h, high)) at) ∙ s))
       ]
 
-  here_frame : Contains A x → IsFollowedBy (A ++ B) x y → InOne far (r ∷ rows) x y → get_or (from x (map Frame A ++ (Pad ∷ Pad ∷ slots far rows))) 1 End ≡ Frame y
+  here_frame : Contains A x → IsFollowedBy (A ++ B) x y → InOne far (r ∷ rows) x y → get_or (from_address x (map Frame A ++ (Pad ∷ Pad ∷ slots far rows))) 1 End ≡ Frame y
   unfolding InOne
   here_frame (k, h, e) (i, low, f, g) (s, (zero, jl, je), ax, (m, ml, me)) =
       let at : get_or A k 0 ≡ x = sym (get_or_default A k x 0 h) ∙ e in
@@ -235,11 +235,11 @@ module _ (far : FieldWidths) (r : RowData) (rows : List RowData) (l x y : ℕ) (
   unfolding InOne
   more_row (s, (j, jl, je), ax, ay) = (s, (suc j, omega arith, je), ax, ay)
 
-  flat : from x (map Frame A ++ Pad ∷ Pad ∷ [] ++ slots far rows) ≡ from x (map Frame A ++ (Pad ∷ Pad ∷ slots far rows))
-  flat = ap (from x) (append_assoc (map Frame A) (Pad ∷ Pad ∷ []) (slots far rows))
+  flat : from_address x (map Frame A ++ Pad ∷ Pad ∷ [] ++ slots far rows) ≡ from_address x (map Frame A ++ (Pad ∷ Pad ∷ slots far rows))
+  flat = ap (from_address x) (append_assoc (map Frame A) (Pad ∷ Pad ∷ []) (slots far rows))
 
 next_is : (far : FieldWidths) (l : ℕ) (rows : List RowData) (x y : ℕ) → Rises l (addresses far rows) → Contains (addresses far rows) x →
-    (get_or (from x (slots far rows)) 1 End ≡ Frame y) ↔ (IsFollowedBy (addresses far rows) x y × InOne far rows x y)
+    (get_or (from_address x (slots far rows)) 1 End ≡ Frame y) ↔ (IsFollowedBy (addresses far rows) x y × InOne far rows x y)
 unfolding addresses slots
 next_is far l [] x y rises (k, low, e) = absurd (omega arith)
 next_is far l (r ∷ rows) x y rises has =
@@ -257,6 +257,6 @@ next_is far l (r ∷ rows) x y rises has =
     ]
 
 pub slots_next : (part : PartData) (far next : ℕ) → IsPart part → Contains (addresses_in part) far →
-    (get_or (from far (slots_in part)) 1 End ≡ Frame next) ↔ (IsFollowedBy (addresses_in part) far next × AreInOneRow part far next)
+    (get_or (from_address far (slots_in part)) 1 End ≡ Frame next) ↔ (IsFollowedBy (addresses_in part) far next × AreInOneRow part far next)
 unfolding InOne
 slots_next part far next is has = next_is part.field_widths 0 part.rows far next (part_rises part.field_widths part.rows is.field_widths is.rows) has

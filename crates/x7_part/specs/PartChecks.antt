@@ -71,38 +71,38 @@ abbrev pub is_list_of_tables : Data → Bool
 is_list_of_tables (array ds) = are_tables ds
 is_list_of_tables _ = false
 
--- a key is there, and what stands under it is of the type
-abbrev pub has : (Data → Bool) → Option Data → Bool
-has type None = false
-has type (Some d) = type d
+-- a key has a value, which is of the type
+abbrev pub has_value : (Data → Bool) → Option Data → Bool
+has_value type None = false
+has_value type (Some d) = type d
 
--- a key is left out, or what stands under it is of the type
-abbrev pub may_have : (Data → Bool) → Option Data → Bool
-may_have type None = true
-may_have type (Some d) = type d
+-- a key is left out, or has a value of the type
+abbrev pub may_have_value : (Data → Bool) → Option Data → Bool
+may_have_value type None = true
+may_have_value type (Some d) = type d
 
 -- the first key of a row that is missing or has a value of another type
 abbrev pub row_type_fault : ℕ → Members → Option PartFault
 row_type_fault n t = first_of (
-    unless (has is_whole (under key.Block t)) (Key (in_row n key.Block))
-    ∷ unless (has is_whole (under key.Half t)) (Key (in_row n key.Half))
-    ∷ unless (has is_whole (under key.Row t)) (Key (in_row n key.Row))
-    ∷ unless (has is_list_of_wholes (under key.Minors t)) (Key (in_row n key.Minors))
+    unless (has_value is_whole (under key.Block t)) (Key (in_row n key.Block))
+    ∷ unless (has_value is_whole (under key.Half t)) (Key (in_row n key.Half))
+    ∷ unless (has_value is_whole (under key.Row t)) (Key (in_row n key.Row))
+    ∷ unless (has_value is_list_of_wholes (under key.Minors t)) (Key (in_row n key.Minors))
     ∷ [])
 
 -- the first key of a part file that is missing or has a value of another type, at the top and then row by row
 unfoldable pub type_fault : Members → Option PartFault
 type_fault t = first_of (
-    unless (has is_text (under key.Name t)) (Key (top key.Name))
-    ∷ unless (has is_whole (under key.Idcode t)) (Key (top key.Idcode))
-    ∷ unless (may_have is_whole (under key.Mode t)) (Key (top key.Mode))
-    ∷ unless (may_have is_whole (under key.BusWidth t)) (Key (top key.BusWidth))
-    ∷ unless (may_have is_whole (under key.Lock t)) (Key (top key.Lock))
-    ∷ unless (may_have is_whole (under key.Match t)) (Key (top key.Match))
-    ∷ unless (may_have is_whole (under key.FrameWords t)) (Key (top key.FrameWords))
-    ∷ unless (may_have is_list_of_wholes (under key.Far t)) (Key (top key.Far))
-    ∷ unless (may_have is_whole (under key.StartUnit t)) (Key (top key.StartUnit))
-    ∷ unless (has is_list_of_tables (under key.Row t)) (Key (top key.Row))
+    unless (has_value is_text (under key.Name t)) (Key (top key.Name))
+    ∷ unless (has_value is_whole (under key.Idcode t)) (Key (top key.Idcode))
+    ∷ unless (may_have_value is_whole (under key.Mode t)) (Key (top key.Mode))
+    ∷ unless (may_have_value is_whole (under key.BusWidth t)) (Key (top key.BusWidth))
+    ∷ unless (may_have_value is_whole (under key.Lock t)) (Key (top key.Lock))
+    ∷ unless (may_have_value is_whole (under key.Match t)) (Key (top key.Match))
+    ∷ unless (may_have_value is_whole (under key.FrameWords t)) (Key (top key.FrameWords))
+    ∷ unless (may_have_value is_list_of_wholes (under key.Far t)) (Key (top key.Far))
+    ∷ unless (may_have_value is_whole (under key.StartUnit t)) (Key (top key.StartUnit))
+    ∷ unless (has_value is_list_of_tables (under key.Row t)) (Key (top key.Row))
     ∷ rows_fault row_type_fault 1 (row_tables t)
     ∷ [])
 

@@ -4,6 +4,7 @@ use Rattle.x7_part.specs.Limits.{first_printed, greatest_bus_width, greatest_mod
 use Rattle.x7_part.specs.Part.{PartData, frame_words}
 use Rattle.x7_part.specs.Address.{AreRows, AreWidths}
 use Rattle.x7_part.specs.AddressOrder.{addresses_in}
+use Rattle.x7_part.specs.Slot.{pads_after_row}
 
 -- a name of 1 to 64 printed bytes, an odd idcode of 32 bits, numbers in range, and no more rows, frames and words than
 -- a part may have
@@ -24,4 +25,4 @@ pub record IsPart (part : PartData) : Type 0 where
   pub few : length part.rows ≤ most_rows
   pub rows : AreRows part.field_widths 0 part.rows
   pub frames : length (addresses_in part) ≤ most_frames
-  pub slots : frame_words part * (length (addresses_in part) + 2 * length part.rows) ≤ most_words
+  pub slots : frame_words part * (length (addresses_in part) + pads_after_row * length part.rows) ≤ most_words

@@ -6,6 +6,7 @@ use Rattle.x7_part.specs.Limits.{most_frames, most_words}
 use Rattle.x7_part.specs.Part.{FieldWidths, RowData, PartData, frame_words}
 use Rattle.x7_part.specs.Address.{row_address}
 use Rattle.x7_part.specs.AddressOrder.{addresses_in}
+use Rattle.x7_part.specs.Slot.{pads_after_row}
 use Rattle.x7_part.specs.PartChecks.{unless, first_of}
 
 -- two rows are of one block type, half and row
@@ -27,7 +28,7 @@ same_row_fault earlier (r ∷ rows) =
 -- `count` frames of `width` words in `row_count` rows are no more than a part may have, and neither are their words and
 -- those of the two pads after each row
 abbrev pub has_few_frames : ℕ → ℕ → ℕ → Bool
-has_few_frames width count row_count = nat_le count most_frames && nat_le (width * (count + 2 * row_count)) most_words
+has_few_frames width count row_count = nat_le count most_frames && nat_le (width * (count + pads_after_row * row_count)) most_words
 
 -- too many frames, with how many there are
 abbrev pub frames_fault : PartData → Option PartFault

@@ -23,16 +23,20 @@ row_slots widths r later = map Frame (addresses_of widths r) ++ (Pad ∷ Pad ∷
 abbrev pub slots_in : PartData → List Slot
 slots_in part = slots part.field_widths part.rows
 
--- the slots from an address on
-abbrev pub from : ℕ → List Slot → List Slot
-from address [] = []
-from address (Frame a ∷ later) = if a == address then Frame a ∷ later else from address later
-from address (Pad ∷ later) = from address later
-from address (End ∷ later) = from address later
+-- the end of a list of slots that begins with the frame at an address, empty where there is none
+abbrev pub from_address : ℕ → List Slot → List Slot
+from_address address [] = []
+from_address address (Frame a ∷ later) = if a == address then Frame a ∷ later else from_address address later
+from_address address (Pad ∷ later) = from_address address later
+from_address address (End ∷ later) = from_address address later
+
+-- the slots from an address of a part on, none where it is no address
+abbrev pub slots_from : PartData → ℕ → List Slot
+slots_from part far = from_address far (slots_in part)
 
 -- slot n of the slots from an address on, `End` where there are no more than n
 abbrev pub slot_after : PartData → ℕ → ℕ → Slot
-slot_after part address n = slice_index_or (from address (slots_in part)) n End
+slot_after part far n = slice_index_or (slots_from part far) n End
 
 -- the slot at a place is the frame at the address of this rank
 abbrev pub HasFrameOf : List ℕ → List Slot → ℕ → ℕ → Type 0

@@ -3,7 +3,7 @@ use Rattle.std.specs.Prelude.{ℕ, ℤ, pos, List, [], ◌∷◌, map, Bool, Opt
 use Rattle.toml.specs.Data.{Data, table, Items, no_items, item, Members, get_member, as_str, as_integer, as_array}
 use Rattle.x7_part.specs.declared.fault.PartKey.{PartKey}
 use Rattle.x7_part.specs.declared.fault.PartKey.TheVariants as key
-use Rattle.x7_part.specs.declared.settings.Settings.{Settings}
+use Rattle.x7_part.specs.declared.settings.PartSettings.{PartSettings}
 use Rattle.x7_part.specs.Keys.{name_of, has_only, top_keys, row_keys}
 use Rattle.x7_part.specs.Limits.{usual_frame_words}
 use Rattle.x7_part.specs.Part.{FieldWidths, RowData, PartData, usual_widths}
@@ -108,7 +108,7 @@ abbrev pub row_by_values : RowValues → RowData
 row_by_values v = record { block = natural v.block; half = natural v.half; row = natural v.row; minors = map natural v.minors }
 
 -- the settings with the values of a top table
-abbrev pub settings_by_values : TopValues → Settings
+abbrev pub settings_by_values : TopValues → PartSettings
 settings_by_values v = record {
   idcode = natural v.idcode;
   mode = natural v.mode;
@@ -121,7 +121,7 @@ settings_by_values v = record {
 }
 
 -- a part of this name, with these settings and rows
-abbrev pub part_data : List ℕ → Settings → List RowData → PartData
+abbrev pub part_data : List ℕ → PartSettings → List RowData → PartData
 part_data name s rows = record {
   name = name;
   idcode = s.idcode;

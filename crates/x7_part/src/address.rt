@@ -1,4 +1,4 @@
-//! The fields of a frame address (UG470, frame address register).
+//! The widths of the fields of a frame address (UG470, frame address register).
 ghost use Rattle.std.specs.Prelude.{◌≡◌, ◌≤◌, ◌+◌, ◌^◌, nat_le, is_some, IfSome};
 ghost use Rattle.x7_part.specs.Address.{AreWidths, address_width, column_low, row_low, half_low, block_low};
 ghost use Rattle.x7_part.specs.Limits.{half_width, least_address_width, least_block_width, least_column_width, least_minor_width, least_row_width, most_address_width, most_block_width, most_column_width, most_minor_width, most_row_width};
@@ -9,7 +9,7 @@ use std::marker::Model;
 
 /// The widths in bits of the fields of an address, each field right above the one before it, from bit 0.
 #[derive(Clone, Copy, Drop)]
-pub(crate) struct Fields {
+pub(crate) struct Widths {
     pub(crate) minor: u8,
     pub(crate) column: u8,
     pub(crate) row: u8,
@@ -17,7 +17,7 @@ pub(crate) struct Fields {
     pub(crate) block: u8,
 }
 
-impl Model for Fields {
+impl Model for Widths {
     ghost Value = { FieldWidths };
 
     ghost view = { λ f. record { minor = f.minor; column = f.column; row = f.row; half = f.half; block = f.block } };
@@ -27,12 +27,12 @@ impl Model for Fields {
     ghost invariant = { λ f. AreWidths record { minor = f.minor; column = f.column; row = f.row; half = f.half; block = f.block } };
 }
 
-impl Fields {
-    /// The fields of an address in the 7 series.
-    pub(crate) fn usual() -> Fields
+impl Widths {
+    /// The widths of the fields of an address in the 7 series.
+    pub(crate) fn usual() -> Widths
         ensures { result ≡ usual_widths }
     {
-        Fields {
+        Widths {
             minor: 7,
             column: 10,
             row: 5,
@@ -41,20 +41,20 @@ impl Fields {
         }
     }
 
-    /// Fields of these widths, none where they have more than 32 bits together.
-    pub(crate) fn of(minor: u8, column: u8, row: u8, half: u8, block: u8) -> Option<Fields>
+    /// The widths of the five fields, none where they have more than 32 bits together.
+    pub(crate) fn of(minor: u8, column: u8, row: u8, half: u8, block: u8) -> Option<Widths>
         requires minor { (least_minor_width ≤ minor) × (minor ≤ most_minor_width) }
         requires column { (least_column_width ≤ column) × (column ≤ most_column_width) }
         requires row { (least_row_width ≤ row) × (row ≤ most_row_width) }
         requires half { half ≡ half_width }
         requires block { (least_block_width ≤ block) × (block ≤ most_block_width) }
-        ensures found { IfSome result (λ fields. fields ≡ record { minor = minor; column = column; row = row; half = half; block = block }) }
+        ensures found { IfSome result (λ widths. widths ≡ record { minor = minor; column = column; row = row; half = half; block = block }) }
         ensures exactly_where { is_some result ≡ nat_le (minor + column + row + half + block) most_address_width }
     {
         if minor + column + row + half + block > MOST_ADDRESS_WIDTH {
             return None;
         }
-        Some(Fields {
+        Some(Widths {
             minor,
             column,
             row,

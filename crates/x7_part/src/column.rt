@@ -2,7 +2,7 @@
 ghost use Rattle.std.specs.Prelude.{◌≡◌, ◌<◌, ◌≤◌, ◌+◌, ◌-◌, ◌⊎◌, ℕ, length, slice_index_or, Contains, IfSome, IfNone};
 ghost use Rattle.x7_part.specs.AddressOrder.{HasRank, IsFollowedBy, IsLastIn};
 ghost use Rattle.x7_part.specs.Column.{HasFrameAt, IsInColumn, column_addresses, column_slots, AreColumns};
-ghost use Rattle.x7_part.specs.Slot.{HasFrameOf, from};
+ghost use Rattle.x7_part.specs.Slot.{HasFrameOf, from_address};
 ghost use Rattle.x7_part.specs.declared.column.Column.{Column};
 ghost use Rattle.x7_part.specs.declared.slot.Slot.{Slot};
 
@@ -183,8 +183,8 @@ pub(crate) fn place_of(columns: &[Column], far: u32) -> u64
     requires columns { AreColumns columns.now }
     requires address { Contains (column_addresses columns.now) far }
     ensures within { result < length (column_slots columns.now) }
-    ensures slots { (n : ℕ) → slice_index_or (column_slots columns.now) (result + n) Slot.End ≡ slice_index_or (from far (column_slots columns.now)) n Slot.End }
-    ensures slots_left { length (column_slots columns.now) - result ≡ length (from far (column_slots columns.now)) }
+    ensures slots { (n : ℕ) → slice_index_or (column_slots columns.now) (result + n) Slot.End ≡ slice_index_or (from_address far (column_slots columns.now)) n Slot.End }
+    ensures slots_left { length (column_slots columns.now) - result ≡ length (from_address far (column_slots columns.now)) }
 {
     let Some(index) = column_index(columns, far) else {
         unreachable!()
@@ -197,7 +197,7 @@ pub(crate) fn place_of(columns: &[Column], far: u32) -> u64
 pub(crate) fn slot_after(columns: &[Column], far: u32, n: u64) -> Slot
     requires columns { AreColumns columns.now }
     requires address { Contains (column_addresses columns.now) far }
-    ensures { result ≡ slice_index_or (from far (column_slots columns.now)) n Slot.End }
+    ensures { result ≡ slice_index_or (from_address far (column_slots columns.now)) n Slot.End }
 {
     match place_of(columns, far).checked_add(n) {
         Some(slot_number) => slot_at(columns, slot_number),
@@ -228,10 +228,10 @@ fn slot_count(columns: &[Column]) -> u64
 }
 
 /// The number of slots from an address on.
-pub(crate) fn slots_from(columns: &[Column], far: u32) -> u64
+pub(crate) fn slot_count_from(columns: &[Column], far: u32) -> u64
     requires columns { AreColumns columns.now }
     requires address { Contains (column_addresses columns.now) far }
-    ensures { result ≡ length (from far (column_slots columns.now)) }
+    ensures { result ≡ length (from_address far (column_slots columns.now)) }
 {
     slot_count(columns) - place_of(columns, far)
 }

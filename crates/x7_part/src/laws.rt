@@ -10,7 +10,7 @@ ghost use Rattle.x7_part.specs.Ranges.{IsPart};
 ghost use Rattle.x7_part.specs.Row.{sorted_rows, RowsRise};
 ghost use Rattle.x7_part.specs.Values.{rows_in_file};
 ghost use Rattle.x7_part.specs.AddressOrder.{addresses_in, IsFollowedBy};
-ghost use Rattle.x7_part.specs.Slot.{slots, slots_in, from, row_slots, slot_after, addresses_among, AreInOneRow};
+ghost use Rattle.x7_part.specs.Slot.{pads_after_row, slots, slots_in, slots_from, row_slots, slot_after, addresses_among, AreInOneRow};
 ghost use Rattle.x7_part.specs.declared.slot.Slot.{Slot};
 ghost use Rattle.x7_part.specs.declared.slot.Slot.TheVariants.{Frame};
 
@@ -19,10 +19,10 @@ ghost use Rattle.x7_part.specs.declared.slot.Slot.TheVariants.{Frame};
 /// so there are two slots more for each row than addresses. The slots of frames are the addresses in order, and a frame
 /// stands right after another in one row alone.
 pub fn slots_follow_the_addresses()
-    ensures split { (part : PartData) (far : ℕ) → Contains (addresses_in part) far → (before : List Slot) × (slots_in part ≡ before ++ from far (slots_in part)) }
+    ensures split { (part : PartData) (far : ℕ) → Contains (addresses_in part) far → (before : List Slot) × (slots_in part ≡ before ++ slots_from part far) }
     ensures first { (part : PartData) (far : ℕ) → Contains (addresses_in part) far → slot_after part far 0 ≡ Frame far }
-    ensures length { (part : PartData) → length (slots_in part) ≡ length (addresses_in part) + 2 * length part.rows }
-    ensures all_from_first { (part : PartData) → IsPart part → from (slice_index (addresses_in part) 0) (slots_in part) ≡ slots_in part }
+    ensures length { (part : PartData) → length (slots_in part) ≡ length (addresses_in part) + pads_after_row * length part.rows }
+    ensures all_from_first { (part : PartData) → IsPart part → slots_from part (slice_index (addresses_in part) 0) ≡ slots_in part }
     ensures rows { (part : PartData) (before after : List RowData) (r : RowData) → part.rows ≡ before ++ r ∷ after →
         slots_in part ≡ slots part.field_widths before ++ row_slots part.field_widths r (slots part.field_widths after) }
     ensures frames { (part : PartData) → addresses_among (slots_in part) ≡ addresses_in part }

@@ -8,12 +8,12 @@ ghost use Rattle.x7_part.specs.Part.{PartData, frame_words};
 ghost use Rattle.x7_part.specs.Values.{part_data};
 ghost use Rattle.x7_part.specs.Row.{same_row_fault, sorted_rows};
 ghost use Rattle.x7_part.specs.Ranges.{IsPart};
-ghost use Rattle.x7_part.specs.Slot.{HasFrameOf, slots_in, from};
+ghost use Rattle.x7_part.specs.Slot.{HasFrameOf, pads_after_row, slots_in, slots_from, slot_after};
 ghost use Rattle.x7_part.specs.declared.slot.Slot.{Slot};
 
 use crate::column::{self, Column};
 use crate::row::{self, Row};
-use crate::settings::Settings;
+use crate::settings::PartSettings;
 use crate::slot::Slot;
 use crate::table::table_of;
 use std::alloc::{AllocError, Global};
@@ -24,7 +24,7 @@ use x7_words::NoMemory;
 #[derive(Drop)]
 pub struct Part {
     name: String,
-    settings: Settings,
+    settings: PartSettings,
     rows: Vec<Row>,
     columns: Vec<Column>,
 }
@@ -42,7 +42,7 @@ impl Part {
     pub(crate) fn of(
         alloc: Global,
         name: String,
-        settings: Settings,
+        settings: PartSettings,
         rows: Vec<Row>,
     ) -> Result<Part, AllocError>
         requires rows { All IsRow rows.items }
@@ -157,7 +157,7 @@ impl Part {
         ensures positive { 0 < result }
         ensures most { result ≤ most_frames }
         ensures part { IsPart self.now }
-        ensures words { frame_words self.now * (result + 2 * length self.now.rows) ≤ most_words }
+        ensures words { frame_words self.now * (result + pads_after_row * length self.now.rows) ≤ most_words }
         ensures order { Rises 0 (addresses_in self.now) }
     {
         column::frame_count(self.table())
@@ -200,7 +200,7 @@ impl Part {
     /// Slot n, from 0, of the slots from an address on, `End` where there are no more than n.
     pub fn slot_after(&self, far: u32, n: u64) -> Slot
         requires address { Contains (addresses_in self.now) far }
-        ensures { result ≡ slice_index_or (from far (slots_in self.now)) n Slot.End }
+        ensures { result ≡ slot_after self.now far n }
     {
         column::slot_after(self.table(), far, n)
     }
@@ -209,7 +209,7 @@ impl Part {
     pub fn place_of(&self, far: u32) -> u64
         requires address { Contains (addresses_in self.now) far }
         ensures within { result < length (slots_in self.now) }
-        ensures slots { (n : ℕ) → slice_index_or (slots_in self.now) (result + n) Slot.End ≡ slice_index_or (from far (slots_in self.now)) n Slot.End }
+        ensures slots { (n : ℕ) → slice_index_or (slots_in self.now) (result + n) Slot.End ≡ slot_after self.now far n }
         ensures few_slots { length (slots_in self.now) < 2 ^ 63 }
     {
         column::place_of(self.table(), far)
@@ -225,10 +225,10 @@ impl Part {
     }
 
     /// The number of slots from an address on.
-    pub fn slots_from(&self, far: u32) -> u64
+    pub fn slot_count_from(&self, far: u32) -> u64
         requires address { Contains (addresses_in self.now) far }
-        ensures { result ≡ length (from far (slots_in self.now)) }
+        ensures { result ≡ length (slots_from self.now far) }
     {
-        column::slots_from(self.table(), far)
+        column::slot_count_from(self.table(), far)
     }
 }

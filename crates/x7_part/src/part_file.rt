@@ -17,6 +17,7 @@ use crate::part::Part;
 use crate::ranges::require;
 use crate::row::{Row, check_same_rows, frame_count, rows_in};
 use crate::settings::settings_in;
+use crate::slot::PADS_AFTER_ROW;
 use crate::values::{check_known, values_of};
 use std::alloc::Global;
 use toml::Table;
@@ -65,7 +66,7 @@ fn has_few_frames(width: u32, count: u32, row_count: u32) -> bool
     requires rows { row_count ≤ most_rows }
     ensures { result ≡ has_few_frames width count row_count }
 {
-    count <= MOST_FRAMES && width * (count + 2 * row_count) <= MOST_WORDS
+    count <= MOST_FRAMES && width * (count + PADS_AFTER_ROW * row_count) <= MOST_WORDS
 }
 
 /// The part of a part file, or the first fault of the file.

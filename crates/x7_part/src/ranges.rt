@@ -4,8 +4,8 @@ ghost use Rattle.x7_part.specs.Values.{natural, widths_of};
 ghost use Rattle.x7_part.specs.PartChecks.{fault_of_call, AnswersDue, unless, is_in, is_length_in, are_printed, is_name, is_odd, is_start_unit, are_widths, are_minors};
 ghost use Rattle.x7_part.specs.declared.fault.PartFault.TheVariants.{Range};
 
-use crate::address::Fields;
-use crate::fault::{PartFault, Which};
+use crate::address::Widths;
+use crate::fault::{KeyPlace, PartFault};
 use crate::limits::{
     FIRST_PRINTED, GREATEST_IDCODE, HALF_WIDTH, LAST_PRINTED, LEAST_BLOCK_WIDTH,
     LEAST_COLUMN_WIDTH, LEAST_MINOR_WIDTH, LEAST_ROW_WIDTH, MOST_BLOCK_WIDTH, MOST_COLUMN_WIDTH,
@@ -49,7 +49,7 @@ pub(crate) fn is_name(text: &str) -> bool
 
 /// The number, where it lies from `low` to `high`; else the fault `Range`.
 #[tactic(auto, unfolding(crate::specs::PartChecks::is_in))]
-pub(crate) fn within(number: i64, low: u32, high: u32, at: Which) -> Result<u32, PartFault>
+pub(crate) fn within(number: i64, low: u32, high: u32, at: KeyPlace) -> Result<u32, PartFault>
     ensures fault { fault_of_call result ≡ unless (is_in low high number) (Range at) }
     ensures value { IfOk result (λ n. n ≡ natural number) }
     ensures within { IfOk result (λ n. (low ≤ n) × (n ≤ high)) }
@@ -63,7 +63,7 @@ pub(crate) fn within(number: i64, low: u32, high: u32, at: Which) -> Result<u32,
 
 /// The number, where it is odd, positive and below 2^32; else the fault `Range`.
 #[tactic(auto, unfolding(crate::specs::PartChecks::is_odd))]
-pub(crate) fn odd_number(number: i64, at: Which) -> Result<u32, PartFault>
+pub(crate) fn odd_number(number: i64, at: KeyPlace) -> Result<u32, PartFault>
     ensures fault { fault_of_call result ≡ unless (is_odd number) (Range at) }
     ensures value { IfOk result (λ n. n ≡ natural number) }
 {
@@ -74,7 +74,7 @@ pub(crate) fn odd_number(number: i64, at: Which) -> Result<u32, PartFault>
 
 /// The start unit, where the number is 1 or 256; else the fault `Range`.
 #[tactic(auto, unfolding(crate::specs::PartChecks::is_start_unit, crate::specs::PartChecks::is_in))]
-pub(crate) fn start_unit_in(number: i64, at: Which) -> Result<u16, PartFault>
+pub(crate) fn start_unit_in(number: i64, at: KeyPlace) -> Result<u16, PartFault>
     ensures fault { fault_of_call result ≡ unless (is_start_unit number) (Range at) }
     ensures value { IfOk result (λ n. n ≡ natural number) }
 {
@@ -99,31 +99,31 @@ fn width_in(number: i64, low: u8, high: u8) -> Option<u8>
     }
 }
 
-/// The fields of these widths, none where one of them is out of its range, or where they have more than 32 bits
-/// together.
-fn fields_of(minor: i64, column: i64, row: i64, half: i64, block: i64) -> Option<Fields>
+/// The widths of the fields of an address, none where one of them is out of its range, or where they have more than 32
+/// bits together.
+fn widths_of_fields(minor: i64, column: i64, row: i64, half: i64, block: i64) -> Option<Widths>
     ensures exactly_where { is_some result ≡ are_widths (minor ∷ column ∷ row ∷ half ∷ block ∷ []) }
-    ensures value { IfSome result (λ fields. fields ≡ widths_of (minor ∷ column ∷ row ∷ half ∷ block ∷ [])) }
+    ensures value { IfSome result (λ widths. widths ≡ widths_of (minor ∷ column ∷ row ∷ half ∷ block ∷ [])) }
 {
     let minor = width_in(minor, LEAST_MINOR_WIDTH, MOST_MINOR_WIDTH)?;
     let column = width_in(column, LEAST_COLUMN_WIDTH, MOST_COLUMN_WIDTH)?;
     let row = width_in(row, LEAST_ROW_WIDTH, MOST_ROW_WIDTH)?;
     let half = width_in(half, HALF_WIDTH, HALF_WIDTH)?;
     let block = width_in(block, LEAST_BLOCK_WIDTH, MOST_BLOCK_WIDTH)?;
-    Fields::of(minor, column, row, half, block)
+    Widths::of(minor, column, row, half, block)
 }
 
-/// The fields of an address of these widths in bits; the fault `Range` where there aren't five of them, where one is
-/// out of its range, or where they have more than 32 bits together.
-pub(crate) fn fields_by_widths(numbers: &[i64], at: Which) -> Result<Fields, PartFault>
+/// The widths of the fields of an address; the fault `Range` where there aren't five of them, where one is out of its
+/// range, or where they have more than 32 bits together.
+pub(crate) fn widths_in(numbers: &[i64], at: KeyPlace) -> Result<Widths, PartFault>
     ensures fault { fault_of_call result ≡ unless (are_widths numbers.now) (Range at) }
-    ensures value { IfOk result (λ fields. fields ≡ widths_of numbers.now) }
+    ensures value { IfOk result (λ widths. widths ≡ widths_of numbers.now) }
 {
     let [minor, column, row, half, block] = numbers else {
         return Err(PartFault::Range(at));
     };
-    match fields_of(*minor, *column, *row, *half, *block) {
-        Some(fields) => Ok(fields),
+    match widths_of_fields(*minor, *column, *row, *half, *block) {
+        Some(widths) => Ok(widths),
         None => Err(PartFault::Range(at)),
     }
 }
@@ -131,7 +131,7 @@ pub(crate) fn fields_by_widths(numbers: &[i64], at: Which) -> Result<Fields, Par
 /// The numbers of minors of a row's columns; the fault `Range` where there are too few or too many columns, or where a
 /// number is out of range.
 #[tactic(auto, unfolding(crate::specs::PartChecks::is_in))]
-pub(crate) fn minors_in(alloc: Global, numbers: &[i64], at: Which) -> Result<Vec<u8>, PartFault>
+pub(crate) fn minors_in(alloc: Global, numbers: &[i64], at: KeyPlace) -> Result<Vec<u8>, PartFault>
     ensures fault { AnswersDue (unless (are_minors numbers.now) (Range at)) result }
     ensures value { IfOk result (λ minors. minors.items ≡ map natural numbers.now) }
 {

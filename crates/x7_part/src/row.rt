@@ -8,8 +8,8 @@ ghost use Rattle.x7_part.specs.Row.{is_same_row, has_same_row, same_row_fault, s
 ghost use Rattle.x7_part.specs.Values.{row_by_values};
 ghost use Rattle.x7_part.specs.Part.{RowData};
 
-use crate::address::Fields;
-use crate::fault::{PartFault, PartKey, Which, in_row};
+use crate::address::Widths;
+use crate::fault::{KeyPlace, PartFault, PartKey, in_row};
 use crate::limits::{GREATEST_BLOCK, GREATEST_HALF, GREATEST_ROW};
 use crate::ranges::{minors_in, require, within};
 use crate::values::RowValues;
@@ -55,12 +55,12 @@ impl Row {
     }
 
     /// The address of the row's column 0, minor 0.
-    pub(crate) fn address(&self, fields: Fields) -> u32
-        ensures { result ≡ row_address fields self.now }
+    pub(crate) fn address(&self, widths: Widths) -> u32
+        ensures { result ≡ row_address widths self.now }
     {
-        u32::from(self.block) * fields.block_weight()
-            + u32::from(self.half) * fields.half_weight()
-            + u32::from(self.row) * fields.row_weight()
+        u32::from(self.block) * widths.block_weight()
+            + u32::from(self.half) * widths.half_weight()
+            + u32::from(self.row) * widths.row_weight()
     }
 
     /// The number of the row's frames.
@@ -140,13 +140,13 @@ pub(crate) fn frame_count(rows: &[Row]) -> u32
 }
 
 /// Puts rows, no two of which are the same, in rising order of their addresses.
-pub(crate) fn sort_rows(rows: &mut Vec<Row>, fields: Fields)
-    requires widths { AreWidths fields }
+pub(crate) fn sort_rows(rows: &mut Vec<Row>, widths: Widths)
+    requires widths { AreWidths widths }
     requires rows { All IsRow rows.old.items }
     requires apart { same_row_fault [] rows.old.items ≡ None }
-    ensures { rows.new.items ≡ sorted_rows fields rows.old.items }
+    ensures { rows.new.items ≡ sorted_rows widths rows.old.items }
 {
-    rows.sort_unstable_by_key(|row| row.address(fields));
+    rows.sort_unstable_by_key(|row| row.address(widths));
 }
 
 /// Gives equal rows, in the order of the given ones.

@@ -1,5 +1,8 @@
 //! Slots of frame data.
 
+/// The number of pads after the last frame of a row (this project's choice).
+pub(crate) const PADS_AFTER_ROW: u32 = 2;
+
 /// A place in write order: of a frame, of a pad frame, or past the last one.
 #[derive(Clone, Copy, Drop, PartialEq, Eq)]
 pub enum Slot {

@@ -6,13 +6,11 @@ ghost use Rattle.x7_part.specs.Address.{AreRows};
 ghost use Rattle.x7_part.specs.Limits.{most_columns, most_frames, most_rows};
 ghost use Rattle.x7_part.specs.Slot.{pads_after_row};
 
-use crate::address::Fields;
+use crate::address::Widths;
 use crate::column::Column;
 use crate::row::Row;
+use crate::slot::PADS_AFTER_ROW;
 use std::alloc::{AllocError, Global};
-
-/// The number of pads after the last frame of a row (this project's choice).
-const PADS_AFTER_ROW: u32 = 2;
 
 /// The number of pads after a column of a row that has `column_count` columns: the row's after the last one, else none.
 /// Columns count from 0.
@@ -63,22 +61,22 @@ fn add_row(
 /// The table of rows that stand in number order.
 pub(crate) fn table_of(
     alloc: Global,
-    fields: Fields,
+    widths: Widths,
     rows: &[Row],
 ) -> Result<Vec<Column>, AllocError>
-    requires rows { AreRows fields 0 rows.now }
+    requires rows { AreRows widths 0 rows.now }
     requires count { length rows.now ≤ most_rows }
-    requires frames { length (addresses fields rows.now) ≤ most_frames }
-    ensures { IfOk result (λ columns. columns.items ≡ columns_of fields 0 0 rows.now) }
+    requires frames { length (addresses widths rows.now) ≤ most_frames }
+    ensures { IfOk result (λ columns. columns.items ≡ columns_of widths 0 0 rows.now) }
 {
     let mut columns = Vec::new(alloc);
     let mut rank = 0;
     let mut place = 0;
     for row in rows {
-        let base = row.address(fields);
+        let base = row.address(widths);
         add_row(
             &mut columns,
-            fields.column_weight(),
+            widths.column_weight(),
             base,
             &row.minors,
             rank,

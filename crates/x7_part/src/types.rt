@@ -3,12 +3,12 @@ ghost use Rattle.std.specs.Prelude.{◌≡◌, false, None, Some, Ok, option_map
 ghost use Rattle.toml.specs.Data.{Data};
 ghost use Rattle.toml.specs.View.{view, table_view, items_view};
 ghost use Rattle.x7_part.specs.Values.{under, text, number_or, numbers, numbers_under, tables, row_tables};
-ghost use Rattle.x7_part.specs.PartChecks.{fault_of_call, AnswersDue, unless, has, may_have, are_wholes, are_tables, is_text, is_whole, is_list_of_wholes, is_list_of_tables};
+ghost use Rattle.x7_part.specs.PartChecks.{fault_of_call, AnswersDue, unless, has_value, may_have_value, are_wholes, are_tables, is_text, is_whole, is_list_of_wholes, is_list_of_tables};
 ghost use Rattle.x7_part.specs.declared.fault.PartFault.TheVariants.{Key};
 ghost use Rattle.x7_part.specs.declared.fault.PartKey.TheVariants as key;
 ghost use Rattle.x7_part.specs.Keys.{top};
 
-use crate::fault::{PartFault, PartKey, Which, top};
+use crate::fault::{KeyPlace, PartFault, PartKey, top};
 use std::alloc::{AllocError, Global};
 use toml::{Table, Value};
 
@@ -20,8 +20,8 @@ fn value_under(table: &Table, key: PartKey) -> Option<&Value>
 }
 
 /// The text under a key; the fault `Key` where the key is missing or its value is no text.
-pub(crate) fn text(alloc: Global, table: &Table, at: Which) -> Result<String, PartFault>
-    ensures fault { AnswersDue (unless (has is_text (under at.key (table_view table.now))) (Key at)) result }
+pub(crate) fn text(alloc: Global, table: &Table, at: KeyPlace) -> Result<String, PartFault>
+    ensures fault { AnswersDue (unless (has_value is_text (under at.key (table_view table.now))) (Key at)) result }
     ensures missing { under at.key (table_view table.now) ≡ None → IsErrOf result (Key at) }
     ensures mistyped { (d : Data) → under at.key (table_view table.now) ≡ Some d → is_text d ≡ false → IsErrOf result (Key at) }
     ensures value { IfOk result (λ made. string_bytes made ≡ text at.key (table_view table.now)) }
@@ -36,8 +36,8 @@ pub(crate) fn text(alloc: Global, table: &Table, at: Which) -> Result<String, Pa
 }
 
 /// The whole number under a key; the fault `Key` where the key is missing or its value is no whole number.
-pub(crate) fn number(table: &Table, at: Which) -> Result<i64, PartFault>
-    ensures fault { fault_of_call result ≡ unless (has is_whole (under at.key (table_view table.now))) (Key at) }
+pub(crate) fn number(table: &Table, at: KeyPlace) -> Result<i64, PartFault>
+    ensures fault { fault_of_call result ≡ unless (has_value is_whole (under at.key (table_view table.now))) (Key at) }
     ensures value { IfOk result (λ z. z ≡ number_or 0 at.key (table_view table.now)) }
 {
     match value_under(table, at.key) {
@@ -50,8 +50,8 @@ pub(crate) fn number(table: &Table, at: Which) -> Result<i64, PartFault>
 }
 
 /// The whole number under a key, `usual` where the key is left out; the fault `Key` where its value is no whole number.
-pub(crate) fn number_or(usual: u32, table: &Table, at: Which) -> Result<i64, PartFault>
-    ensures fault { fault_of_call result ≡ unless (may_have is_whole (under at.key (table_view table.now))) (Key at) }
+pub(crate) fn number_or(usual: u32, table: &Table, at: KeyPlace) -> Result<i64, PartFault>
+    ensures fault { fault_of_call result ≡ unless (may_have_value is_whole (under at.key (table_view table.now))) (Key at) }
     ensures value { IfOk result (λ z. z ≡ number_or usual at.key (table_view table.now)) }
 {
     match value_under(table, at.key) {
@@ -83,9 +83,9 @@ fn wholes(alloc: Global, items: &[Value]) -> Result<Option<Vec<i64>>, AllocError
 pub(crate) fn numbers_under(
     alloc: Global,
     table: &Table,
-    at: Which,
+    at: KeyPlace,
 ) -> Result<Option<Vec<i64>>, PartFault>
-    ensures fault { AnswersDue (unless (may_have is_list_of_wholes (under at.key (table_view table.now))) (Key at)) result }
+    ensures fault { AnswersDue (unless (may_have_value is_list_of_wholes (under at.key (table_view table.now))) (Key at)) result }
     ensures left_out { under at.key (table_view table.now) ≡ None → IsOk result }
     ensures value { IfOk result (λ made. option_map (λ zs. zs.items) made ≡ numbers_under at.key (table_view table.now)) }
 {
@@ -118,7 +118,7 @@ fn tables_among<'t>(alloc: Global, items: &'t [Value]) -> Result<Option<Vec<&'t 
 
 /// The tables of the rows; the fault `Key` where the key `row` is missing or its value is no list of tables.
 pub(crate) fn row_tables<'t>(alloc: Global, table: &'t Table) -> Result<Vec<&'t Table>, PartFault>
-    ensures fault { AnswersDue (unless (has is_list_of_tables (under key.Row (table_view table.now))) (Key (top key.Row))) result }
+    ensures fault { AnswersDue (unless (has_value is_list_of_tables (under key.Row (table_view table.now))) (Key (top key.Row))) result }
     ensures missing { under key.Row (table_view table.now) ≡ None → IsErrOf result (Key (top key.Row)) }
     ensures value { IfOk result (λ rows. map (λ t. table_view t.now) rows.items ≡ row_tables (table_view table.now)) }
 {

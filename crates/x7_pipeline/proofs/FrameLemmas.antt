@@ -5,12 +5,13 @@ use Rattle.std.proofs.lemmas.Option.{none-some}
 use Rattle.x7_words.specs.Word.{word_of_bytes, words_of_bytes}
 use Rattle.x7_words.proofs.WordLemmas.{words_apart, words_count, words_of_bytes_append}
 use Rattle.x7_part.specs.Part.{PartData}
+use Rattle.x7_part.specs.Slot.{slots_from}
 use Rattle.x7_part.specs.declared.slot.Slot.TheVariants.{End}
 use Rattle.x7_memory.specs.FrameMap.{FrameMap, AreSame}
 use Rattle.x7_regs.specs.declared.command.Command.{Command}
 use Rattle.x7_pipeline.specs.declared.fault.RunFault.{RunFault}
 use Rattle.x7_pipeline.specs.FarAsRead.{has_frame_at}
-use Rattle.x7_pipeline.specs.Runs.{at_slot, onto, put_over, slots_from, Lands}
+use Rattle.x7_pipeline.specs.Runs.{at_slot, onto, put_over, Lands}
 use Rattle.x7_pipeline.specs.Fault.{write_fault}
 use Rattle.x7_pipeline.specs.RunWritten.{RunWritten, with_later_words, run_written}
 use Rattle.x7_pipeline.specs.Flow.{Flow, HoldsFlow, with_run}

@@ -11,7 +11,7 @@ use Rattle.std.proofs.lemmas.Nat.{div-mul-add, mod-mul-add}
 use Rattle.x7_words.proofs.ListLemmas.{flat_map_last}
 use Rattle.x7_part.specs.Part.{FieldWidths, RowData, PartData, frame_words}
 use Rattle.x7_part.specs.AddressOrder.{addresses_of}
-use Rattle.x7_part.specs.Slot.{slots, slots_in, from}
+use Rattle.x7_part.specs.Slot.{slots, slots_in, from_address, slots_from}
 use Rattle.x7_part.specs.declared.slot.Slot.{Slot}
 use Rattle.x7_part.specs.declared.slot.Slot.TheVariants.{Frame, Pad, End}
 use Rattle.x7_memory.specs.FrameMap.{FrameMap, AreSame, override}
@@ -20,7 +20,7 @@ use Rattle.x7_memory.proofs.MapLemmas.{override_twice, override_same, planned_jo
 use Rattle.x7_regs.specs.declared.command.Command.{Command}
 use Rattle.x7_pipeline.specs.declared.fault.RunFault.{RunFault}
 use Rattle.x7_pipeline.specs.declared.fault.RunFault.TheVariants.{Address, Overrun, Multi}
-use Rattle.x7_pipeline.specs.Runs.{rest_of, frames_of, slots_from, at_slot, in_slots, but_newest, written_frames, put_over, Lands}
+use Rattle.x7_pipeline.specs.Runs.{rest_of, frames_of, at_slot, in_slots, but_newest, written_frames, put_over, Lands}
 use Rattle.x7_pipeline.specs.RunsInWords.{AreCutFrom, FarStandsAt, pair_of, place_in}
 use Rattle.x7_pipeline.specs.FarAsRead.{has_frame_at, first_address, last_address, far_at, far_of}
 use Rattle.x7_regs.specs.declared.command.Command.TheVariants.{Wcfg, Mfw}
@@ -135,7 +135,7 @@ lands_over part base run longer under old new l m = rw l.grows (put_twice (writt
 
 -- ---- FAR as read
 
-first_from : (far : ℕ) (places : List Slot) → 0 < length (from far places) → first_address (from far places) ≡ Some far
+first_from : (far : ℕ) (places : List Slot) → 0 < length (from_address far places) → first_address (from_address far places) ≡ Some far
 first_from far [] h = absurd (omega arith)
 first_from far (Frame a ∷ places) h =
     elim (cases_eq a far) [
@@ -266,7 +266,7 @@ slots_end widths (r ∷ rows) i far h e =
     let same : map Frame (addresses_of widths r) ++ (Pad ∷ Pad ∷ tail) ≡ slots widths (r ∷ rows) = sym (append_assoc (map Frame (addresses_of widths r)) (Pad ∷ Pad ∷ []) tail) in
     ends_appended (map Frame (addresses_of widths r)) (Pad ∷ Pad ∷ tail) (omega arith) (two_pads tail (slots_end widths rows)) i far (rw same h) (rw same e)
 
-from_end : (base : ℕ) (places : List Slot) → EndsInPad places → EndsInPad (from base places)
+from_end : (base : ℕ) (places : List Slot) → EndsInPad places → EndsInPad (from_address base places)
 unfolding EndsInPad
 from_end base [] ends = ends
 from_end base (Frame a ∷ places) ends =

@@ -6,11 +6,10 @@ use Rattle.std.proofs.lemmas.Nat.{div-mul-add, div-add-mod'}
 use Rattle.std.proofs.Math.Nat.{le-div_iff_mul-le, div-eq_of_lt, mod-lt, mul-pos}
 use Rattle.x7_part.specs.Part.{FieldWidths, RowData, PartData, frame_words}
 use Rattle.x7_part.specs.AddressOrder.{addresses_of}
-use Rattle.x7_part.specs.Slot.{slots, slots_in, from}
+use Rattle.x7_part.specs.Slot.{slots, slots_in, from_address, slots_from}
 use Rattle.x7_part.specs.declared.slot.Slot.{Slot}
 use Rattle.x7_part.specs.declared.slot.Slot.TheVariants.{Frame, Pad, End}
 use Rattle.x7_memory.specs.FrameMap.{FrameMap}
-use Rattle.x7_pipeline.specs.Runs.{slots_from}
 use Rattle.x7_pipeline.specs.Readback.{word_at, read_slot, readback_at, read_limit, given_stored}
 
 -- ---- a slot among those of a readback
@@ -56,7 +55,7 @@ unfolding NoEnds slots
 ends_slots far [] = tt
 ends_slots far (r ∷ rows) = ends_append (map Frame (addresses_of far r) ++ Pad ∷ Pad ∷ []) (slots far rows) (ends_append (map Frame (addresses_of far r)) (Pad ∷ Pad ∷ []) (ends_frames (addresses_of far r)) tt) (ends_slots far rows)
 
-ends_from : (far : ℕ) (places : List Slot) → NoEnds places → NoEnds (from far places)
+ends_from : (far : ℕ) (places : List Slot) → NoEnds places → NoEnds (from_address far places)
 unfolding NoEnds
 ends_from far [] n = n
 ends_from far (Frame a ∷ places) n =

@@ -6,20 +6,21 @@ use Rattle.std.proofs.lemmas.Option.{none-some}
 use Rattle.std.specs.Option.{option_or}
 use Rattle.x7_part.specs.Part.{PartData, frame_words}
 use Rattle.x7_part.specs.AddressOrder.{addresses_in}
+use Rattle.x7_part.specs.Slot.{slots_from}
 use Rattle.x7_part.specs.declared.slot.Slot.{Slot}
 use Rattle.x7_part.specs.declared.slot.Slot.TheVariants.{Frame, Pad, End}
 use Rattle.x7_memory.specs.FrameMap.{FrameMap, AreSame}
 use Rattle.x7_memory.specs.PartFrames.{AreFramesOf, frame_among, frame_at}
 use Rattle.x7_memory.specs.Plan.{PlanRow, planned}
 use Rattle.x7_memory.proofs.MapLemmas.{override_one}
-use Rattle.x7_pipeline.specs.Runs.{at_slot, but_newest, frames_of, in_slots, written_frames, put_over, rest_of, slots_from, Lands}
+use Rattle.x7_pipeline.specs.Runs.{at_slot, but_newest, frames_of, in_slots, written_frames, put_over, rest_of, Lands}
 use Rattle.x7_regs.specs.declared.command.Command.{Command}
 use Rattle.x7_pipeline.specs.declared.fault.RunFault.TheVariants.{Address, Multi}
 use Rattle.x7_pipeline.specs.FarAsRead.{has_frame_at}
 use Rattle.x7_pipeline.specs.Fault.{address_fault, copy_fault}
 use Rattle.x7_pipeline.specs.Pipeline.{PipelineData}
 use Rattle.x7_pipeline.proofs.FlowLemmas.{StandsFor}
-use Rattle.x7_pipeline.specs.Copies.{copied, is_mfw}
+use Rattle.x7_pipeline.specs.Copies.{copied_pairs, is_mfw}
 use Rattle.x7_pipeline.specs.Saved.{ChangesAt, address_at_slot, next_put, pair_at, pair_seen, pair_of_frame, may_copy}
 use Rattle.x7_pipeline.proofs.SlotLemmas.{slot_address}
 use Rattle.x7_pipeline.proofs.RunLemmas.{frames_completes, frames_goes_on}
@@ -53,7 +54,7 @@ changes_slot (Frame at) frame old new s = λ far apart. s far ∙ ap (λ (b : Bo
 changes_slot Pad frame old new s = λ far apart. s far
 changes_slot End frame old new s = λ far apart. s far
 
-pub changes_copy : (base : ℕ) (source : Option (List ℕ)) (old new : FrameMap) → AreSame new (put_over (copied base source) old) → ChangesAt (Some base) old new
+pub changes_copy : (base : ℕ) (source : Option (List ℕ)) (old new : FrameMap) → AreSame new (put_over (copied_pairs base source) old) → ChangesAt (Some base) old new
 unfolding planned
 changes_copy base None old new s = λ far apart. s far
 changes_copy base (Some frame) old new s = λ far apart. s far ∙ ap (λ (b : Bool). option_or (if b then Some frame else None) (old far)) (ne_eqb far base (λ e. apart (ap Some (sym e))))
@@ -102,7 +103,7 @@ copy_at part p true false b e f g q = absurd (none-some _ (sym q))
 copy_at part p false s b e f g q = absurd (none-some _ (sym q))
 
 pub copy_changes : (part : PartData) (p : PipelineData) (command : Command) (base : ℕ) (run : List ℕ) (source : Option (List ℕ)) (given : ℕ) (old new : FrameMap) → StandsFor part p command base run source given
-    → copy_fault part command base source ≡ None → AreSame new (put_over (copied base source) old) → ChangesAt (next_put part p) old new
+    → copy_fault part command base source ≡ None → AreSame new (put_over (copied_pairs base source) old) → ChangesAt (next_put part p) old new
 unfolding copy_fault address_fault
 copy_changes part p command base run source given old new s f same =
     let at : next_put part p ≡ Some base = copy_at part p (is_mfw command) (is_some source) (has_frame_at part base) (ap is_mfw s.command_is) (ap is_some s.source_is) (ap (has_frame_at part) s.base_is) (rw s.base_is f) ∙ ap Some s.base_is in

@@ -7,11 +7,10 @@ use Rattle.std.proofs.lemmas.List.{get_or_past}
 use Rattle.x7_part.specs.Part.{FieldWidths, RowData, PartData}
 use Rattle.x7_part.specs.Ranges.{IsPart}
 use Rattle.x7_part.specs.AddressOrder.{addresses_of, addresses, addresses_in}
-use Rattle.x7_part.specs.Slot.{slots, slots_in, from}
+use Rattle.x7_part.specs.Slot.{slots, slots_in, from_address, slots_from}
 use Rattle.x7_part.specs.declared.slot.Slot.{Slot}
 use Rattle.x7_part.specs.declared.slot.Slot.TheVariants.{Frame, Pad, End}
 use Rattle.x7_part.proofs.PartLemmas.{slots_count}
-use Rattle.x7_pipeline.specs.Runs.{slots_from}
 use Rattle.x7_pipeline.specs.FarAsRead.{has_frame_at}
 
 -- ---- the addresses among slots
@@ -49,7 +48,7 @@ contains_later : (far a : ℕ) (fars : List ℕ) → Contains fars far → Conta
 contains_later far a fars has = (suc has.0, (let h = has.1 in omega arith), has.2)
 
 -- what stands among the slots from a place on stands among all
-pub slot_among : (base n far : ℕ) (places : List Slot) → get_or (from base places) n End ≡ Frame far → Contains (addresses_among places) far
+pub slot_among : (base n far : ℕ) (places : List Slot) → get_or (from_address base places) n End ≡ Frame far → Contains (addresses_among places) far
 slot_among base n far [] e = absurd (cc)
 slot_among base n far (Frame a ∷ places) e =
     elim (cases_eq a base) [
@@ -71,7 +70,7 @@ slot_among base n far (Frame a ∷ places) e =
 slot_among base n far (Pad ∷ places) e = slot_among base n far places e
 slot_among base n far (End ∷ places) e = slot_among base n far places e
 
-pub from_some : (far : ℕ) (places : List Slot) → Contains (addresses_among places) far → 0 < length (from far places)
+pub from_some : (far : ℕ) (places : List Slot) → Contains (addresses_among places) far → 0 < length (from_address far places)
 from_some far [] (k, low, e) = absurd (omega arith)
 from_some far (Frame a ∷ places) (k, low, e) =
     elim (cases_eq a far) [
@@ -85,7 +84,7 @@ from_some far (Frame a ∷ places) (k, low, e) =
 from_some far (Pad ∷ places) has = from_some far places has
 from_some far (End ∷ places) has = from_some far places has
 
-pub some_from : (far : ℕ) (places : List Slot) → 0 < length (from far places) → Contains (addresses_among places) far
+pub some_from : (far : ℕ) (places : List Slot) → 0 < length (from_address far places) → Contains (addresses_among places) far
 some_from far [] h = absurd (omega arith)
 some_from far (Frame a ∷ places) h =
     elim (cases_eq a far) [
@@ -95,7 +94,7 @@ some_from far (Frame a ∷ places) h =
 some_from far (Pad ∷ places) h = some_from far places h
 some_from far (End ∷ places) h = some_from far places h
 
-length_from : (far : ℕ) (places : List Slot) → length (from far places) ≤ length places
+length_from : (far : ℕ) (places : List Slot) → length (from_address far places) ≤ length places
 length_from far [] = omega arith
 length_from far (Frame a ∷ places) =
     elim (cases_eq a far) [

@@ -5,7 +5,9 @@ use Rattle.std.proofs.lemmas.Option.{none-some, same_Some}
 use Rattle.x7_part.specs.Part.{PartData, frame_words}
 use Rattle.std.proofs.Math.Nat.{mul-le-mul_right}
 use Rattle.x7_part.specs.Address.{far_width}
+use Rattle.x7_part.specs.Limits.{most_frame_words}
 use Rattle.x7_part.specs.Ranges.{IsPart}
+use Rattle.x7_part.specs.Slot.{slots_from}
 use Rattle.x7_part.specs.declared.slot.Slot.{Slot}
 use Rattle.x7_part.specs.declared.slot.Slot.TheVariants.{Frame, Pad, End}
 use Rattle.x7_memory.specs.FrameMap.{FrameMap, AreSame}
@@ -13,9 +15,9 @@ use Rattle.x7_memory.specs.Plan.{PlanRow, planned}
 use Rattle.x7_memory.proofs.MapLemmas.{override_one}
 use Rattle.x7_regs.specs.declared.command.Command.{Command}
 use Rattle.x7_pipeline.specs.declared.fault.RunFault.TheVariants.{Address, Overrun, Multi}
-use Rattle.x7_pipeline.specs.Runs.{rest_of, frames_of, slots_from, at_slot, in_slots, but_newest, written_frames, put_over, Lands}
+use Rattle.x7_pipeline.specs.Runs.{rest_of, frames_of, at_slot, in_slots, but_newest, written_frames, put_over, Lands}
 use Rattle.x7_pipeline.specs.FarAsRead.{has_frame_at, far_at, far_of}
-use Rattle.x7_pipeline.specs.Copies.{is_mfw, newest_of, source_with, source_after, copied}
+use Rattle.x7_pipeline.specs.Copies.{is_mfw, newest_of, source_with, source_after, copied_pairs}
 use Rattle.x7_pipeline.specs.Readback.{word_at, read_slot, readback_at, read_limit, given_stored}
 use Rattle.x7_pipeline.specs.Fault.{address_fault, completes, has_filled, write_fault, copy_fault, readback_fault, drop_fault}
 use Rattle.x7_pipeline.specs.Pipeline.{PipelineData}
@@ -179,7 +181,7 @@ put_no_frame Pad frame old new none same = put_nothing old new same
 put_no_frame End frame old new none same = put_nothing old new same
 
 -- a copy
-pub put_copy : (base at : ℕ) (source : Option (List ℕ)) (frame : List ℕ) (old new : FrameMap) → at ≡ base → source ≡ Some frame → ((a : ℕ) → new a ≡ (if a == at then Some frame else old a)) → AreSame new (put_over (copied base source) old)
+pub put_copy : (base at : ℕ) (source : Option (List ℕ)) (frame : List ℕ) (old new : FrameMap) → at ≡ base → source ≡ Some frame → ((a : ℕ) → new a ≡ (if a == at then Some frame else old a)) → AreSame new (put_over (copied_pairs base source) old)
 unfolding planned
 put_copy base at source frame old new b e put = rw (e, ← b) (override_one old new at frame put)
 
@@ -355,7 +357,7 @@ pub few_given : (part : PartData) (p : PipelineData) (command : Command) (base :
 unfolding read_limit
 few_given part p command base run source given s is =
     let few = few_slots part base is in let g = s.given_is in
-    let most : frame_words part * (1 + length (slots_from part base)) ≤ 255 * (1 + length (slots_from part base)) = mul-le-mul_right (1 + length (slots_from part base)) is.words.1 in
+    let most : frame_words part * (1 + length (slots_from part base)) ≤ most_frame_words * (1 + length (slots_from part base)) = mul-le-mul_right (1 + length (slots_from part base)) is.words.1 in
     omega arith
 
 pub same_given : (part : PartData) (p : PipelineData) (n : ℕ) (command : Command) (base : ℕ) (run : List ℕ) (source : Option (List ℕ)) (given : ℕ) → n ≡ 0 → StandsFor part p command base run source given →

@@ -7,7 +7,7 @@ use Rattle.x7_regs.specs.declared.command.Command.{Command}
 use Rattle.x7_pipeline.specs.declared.fault.RunFault.{RunFault}
 use Rattle.x7_pipeline.specs.Runs.{onto, Lands}
 use Rattle.x7_pipeline.specs.Fault.{write_fault}
-use Rattle.x7_pipeline.specs.RunWritten.{RunWritten, with_later_words, run_written, Refused}
+use Rattle.x7_pipeline.specs.RunWritten.{RunWritten, with_later_words, run_written, HasFirstRefused}
 use Rattle.x7_pipeline.specs.Pipeline.{PipelineData}
 use Rattle.x7_pipeline.proofs.FlowLemmas.{StandsFor}
 use Rattle.x7_pipeline.proofs.LawLemmas.{lands_none}
@@ -78,13 +78,13 @@ all_written part base run (w ∷ words) e = by (write_fault part base run) e (al
     by (Some fault) e later = absurd (none-some fault (sym e))
     by None e later = ap (after 1) (later e) ∙ ap (λ n. record { run = onto words (w ∷ run); count = n; fault = None }) (omega arith)
 
-pub some_refused : (part : PartData) (base : ℕ) (run words : List ℕ) (fault : RunFault) → (run_written part base run words).fault ≡ Some fault → Refused part base run words fault
+pub some_refused : (part : PartData) (base : ℕ) (run words : List ℕ) (fault : RunFault) → (run_written part base run words).fault ≡ Some fault → HasFirstRefused part base run words fault
 unfolding run_written
 some_refused part base run [] fault e = absurd (none-some fault e)
 some_refused part base run (w ∷ words) fault e = by (write_fault part base run) refl e (some_refused part base (w ∷ run) words fault)
   where
     by : (o : Option RunFault) → write_fault part base run ≡ o → (with_later_words o run (run_written part base (w ∷ run) words)).fault ≡ Some fault →
-        ((run_written part base (w ∷ run) words).fault ≡ Some fault → Refused part base (w ∷ run) words fault) → Refused part base run (w ∷ words) fault
+        ((run_written part base (w ∷ run) words).fault ≡ Some fault → HasFirstRefused part base (w ∷ run) words fault) → HasFirstRefused part base run (w ∷ words) fault
     by (Some f) is e later = record {
       before = [];
       word = w;
@@ -94,7 +94,7 @@ some_refused part base run (w ∷ words) fault e = by (write_fault part base run
       refused = is ∙ e;
     }
     by None is e later =
-        let r : Refused part base (w ∷ run) words fault = later e in
+        let r : HasFirstRefused part base (w ∷ run) words fault = later e in
         record {
           before = w ∷ r.before;
           word = r.word;

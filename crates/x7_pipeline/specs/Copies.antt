@@ -31,6 +31,6 @@ unfoldable pub source_after : PartData → Command → Command → List ℕ → 
 source_after part old new run = source_with old new (newest_of (frames_of (frame_words part) run))
 
 -- what a copy puts: the source at the base
-abbrev pub copied : ℕ → Option (List ℕ) → List PlanRow
-copied base None = []
-copied base (Some frame) = record { far = base; words = frame } ∷ []
+abbrev pub copied_pairs : ℕ → Option (List ℕ) → List PlanRow
+copied_pairs base None = []
+copied_pairs base (Some frame) = record { far = base; words = frame } ∷ []

@@ -4,9 +4,10 @@ use Rattle.std.specs.Prelude.{◌≡◌, ℕ, ◌-◌, ◌/◌, ◌%◌, ◌^◌
 use Rattle.x7_part.specs.Part.{PartData, frame_words}
 use Rattle.x7_part.specs.Address.{far_width}
 use Rattle.x7_part.specs.AddressOrder.{addresses_in}
+use Rattle.x7_part.specs.Slot.{slots_from}
 use Rattle.x7_part.specs.declared.slot.Slot.{Slot}
 use Rattle.x7_part.specs.declared.slot.Slot.TheVariants.{Frame, Pad, End}
-use Rattle.x7_pipeline.specs.Runs.{frames_of, slots_from}
+use Rattle.x7_pipeline.specs.Runs.{frames_of}
 
 -- the part has a frame at the address: there are slots from the address on
 abbrev pub has_frame_at : PartData → ℕ → Bool

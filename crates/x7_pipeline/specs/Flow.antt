@@ -2,6 +2,7 @@
 use Rattle.std.specs.Prelude.{◌≡◌, ℕ, ◌+◌, ◌-◌, ◌<◌, ◌≤◌, List, [], length, slice_index_or, Option, None, Some}
 use Rattle.x7_part.specs.Part.{PartData, frame_words}
 use Rattle.x7_part.specs.Address.{far_width}
+use Rattle.x7_part.specs.Slot.{slots_from}
 use Rattle.x7_part.specs.declared.slot.Slot.TheVariants.{End}
 use Rattle.x7_memory.specs.FrameMap.{FrameMap, AreSame}
 use Rattle.x7_regs.specs.declared.command.Command.{Command}
@@ -10,11 +11,11 @@ use Rattle.x7_pipeline.specs.FarAsRead.{far_of}
 use Rattle.x7_memory.specs.PartFrames.{frame_at}
 use Rattle.x7_memory.specs.Plan.{PlanRow}
 use Rattle.x7_pipeline.specs.declared.fault.RunFault.{RunFault}
-use Rattle.x7_pipeline.specs.Copies.{copied, newest_of, source_after}
+use Rattle.x7_pipeline.specs.Copies.{copied_pairs, newest_of, source_after}
 use Rattle.x7_pipeline.specs.Fault.{copy_fault}
 use Rattle.x7_pipeline.specs.Readback.{given_stored, read_slot}
 use Rattle.x7_pipeline.specs.Pipeline.{PipelineData}
-use Rattle.x7_pipeline.specs.Runs.{Lands, at_slot, frames_of, onto, put_over, rest_of, slots_from}
+use Rattle.x7_pipeline.specs.Runs.{Lands, at_slot, frames_of, onto, put_over, rest_of}
 use Rattle.x7_pipeline.specs.RunWritten.{RunWritten, run_written}
 
 -- the command, the address that the run or readback began at, the words of the run (the newest first), the frame that
@@ -84,8 +85,8 @@ begun_by part command f = record {
 -- ---- a copy
 
 -- what a copy puts
-abbrev pub copied_by : Flow → List PlanRow
-copied_by f = copied f.base f.source
+abbrev pub pairs_copied_by : Flow → List PlanRow
+pairs_copied_by f = copied_pairs f.base f.source
 
 -- why a copy is refused, where it is
 abbrev pub fault_of_copy : PartData → Flow → Option RunFault

@@ -6,7 +6,7 @@ use Rattle.x7_part.specs.declared.slot.Slot.{Slot}
 use Rattle.x7_part.specs.declared.slot.Slot.TheVariants.{End, Pad}
 use Rattle.x7_memory.specs.PartFrames.{AreFramesOf}
 use Rattle.x7_regs.specs.declared.command.Command.{Command}
-use Rattle.x7_pipeline.specs.Runs.{slots_from}
+use Rattle.x7_part.specs.Slot.{slots_from}
 
 -- what a pipeline stores
 pub record PipelineData : Type 0 where
@@ -44,5 +44,5 @@ abbrev pub slot_given : PartData → PipelineData → ℕ → Slot
 slot_given part p given = slice_index_or (Pad ∷ slots_from part p.base) (given / p.width) End
 
 -- the pipeline after a readback gave `n` words more
-abbrev pub passed : PartData → PipelineData → ℕ → PipelineData
-passed part p n = record p { given = given_after part p n; slot = slot_given part p (given_after part p n) }
+abbrev pub with_words_passed : PartData → PipelineData → ℕ → PipelineData
+with_words_passed part p n = record p { given = given_after part p n; slot = slot_given part p (given_after part p n) }

@@ -1,5 +1,6 @@
 -- A pipeline as its fields hold it (this project's choice).
 use Rattle.std.specs.Prelude.{◌≡◌, ℕ, ◌<◌, ◌≤◌, ◌==◌, true, if◌then◌else◌, List, Option, Some, None, vec_len, vec_capacity}
+use Rattle.x7_part.specs.Limits.{most_address_width}
 use Rattle.x7_pipeline.specs.declared.pipeline.Pipeline.TheInside.{Inside}
 use Rattle.x7_pipeline.specs.Pipeline.{PipelineData}
 
@@ -30,7 +31,7 @@ pipeline_seen p = record {
 -- frame, and what stands in the other two is a whole frame
 pub record HasFrameRoom (p : Inside) : Type 0 where
   pub some : 0 < p.width
-  pub narrow : p.far_width ≤ 32
+  pub narrow : p.far_width ≤ most_address_width
   pub short : vec_len p.rest < p.width
   pub rest_room : p.width ≤ vec_capacity p.rest
   pub newest_room : p.width ≤ vec_capacity p.newest

@@ -23,7 +23,7 @@ run_written part base run [] = record { run = run; count = 0; fault = None }
 run_written part base run (w ∷ words) = with_later_words (write_fault part base run) run (run_written part base (w ∷ run) words)
 
 -- the first refused word, and the words before it, with which the run was left
-pub record Refused (part : PartData) (base : ℕ) (run words : List ℕ) (fault : RunFault) : Type 0 where
+pub record HasFirstRefused (part : PartData) (base : ℕ) (run words : List ℕ) (fault : RunFault) : Type 0 where
   pub before : List ℕ
   pub word : ℕ
   pub later : List ℕ

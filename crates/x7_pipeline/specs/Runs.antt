@@ -2,7 +2,7 @@
 -- (UG470, frame data input register; that the newest whole frame is held back is the frame buffer of the guide).
 use Rattle.std.specs.Prelude.{◌≡◌, ℕ, ◌+◌, ◌==◌, if◌then◌else◌, List, [], ◌∷◌, ◌++◌, length, slice_index_or}
 use Rattle.x7_part.specs.Part.{PartData, frame_words}
-use Rattle.x7_part.specs.Slot.{slots_in, from}
+use Rattle.x7_part.specs.Slot.{slots_from}
 use Rattle.x7_part.specs.declared.slot.Slot.{Slot}
 use Rattle.x7_part.specs.declared.slot.Slot.TheVariants.{Frame, Pad, End}
 use Rattle.x7_memory.specs.FrameMap.{FrameMap, override, AreSame}
@@ -27,10 +27,6 @@ onto [] run = run
 onto (w ∷ words) run = onto words (w ∷ run)
 
 -- ---- where frames land
-
--- the slots from an address of a part on, none where it is no address
-abbrev pub slots_from : PartData → ℕ → List Slot
-slots_from part far = from far (slots_in part)
 
 -- pairs, with that of a frame before them where its slot is an address: at a pad and past the last slot it lands
 -- nowhere

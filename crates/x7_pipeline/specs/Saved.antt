@@ -8,7 +8,7 @@ use Rattle.x7_part.specs.declared.slot.Slot.TheVariants.{Frame, Pad, End}
 use Rattle.x7_memory.specs.FrameMap.{FrameMap}
 use Rattle.x7_memory.specs.PartFrames.{AreFramesOf, frame_at}
 use Rattle.x7_memory.specs.Plan.{PlanRow}
-use Rattle.x7_pipeline.specs.Runs.{slots_from}
+use Rattle.x7_part.specs.Slot.{slots_from}
 use Rattle.x7_pipeline.specs.FarAsRead.{has_frame_at}
 use Rattle.x7_pipeline.specs.Copies.{is_mfw}
 use Rattle.x7_pipeline.specs.Pipeline.{IsPipelineOf, PipelineData}

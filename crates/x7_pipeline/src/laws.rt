@@ -14,10 +14,10 @@ ghost use Rattle.x7_pipeline.specs.FarAsRead.{IsBase, has_frame_at, far_of, last
 ghost use Rattle.x7_pipeline.specs.Copies.{is_wcfg, is_mfw, newest_of, source_after};
 ghost use Rattle.x7_pipeline.specs.Readback.{word_at, readback_at, read_limit, given_stored};
 ghost use Rattle.x7_pipeline.specs.Fault.{write_fault, copy_fault, readback_fault};
-ghost use Rattle.x7_pipeline.specs.RunWritten.{run_written, Refused};
+ghost use Rattle.x7_pipeline.specs.RunWritten.{run_written, HasFirstRefused};
 ghost use Rattle.x7_pipeline.specs.Pipeline.{PipelineData};
 ghost use Rattle.x7_pipeline.specs.Saved.{ChangesNext, HaveChangedAt, pair_at};
-ghost use Rattle.x7_pipeline.specs.Flow.{HoldsFlow, LandsAt, OfFlow, copied_by, fault_of_copy};
+ghost use Rattle.x7_pipeline.specs.Flow.{HoldsFlow, LandsAt, OfFlow, pairs_copied_by, fault_of_copy};
 
 /// A run is its whole frames and a rest. Its frames but the newest land at the slots in order, those at pads nowhere; a
 /// run without words, and one whose base is no address, writes no frame. A memory that stays the same got what no word
@@ -44,7 +44,7 @@ pub fn words_go_up_to_the_first_refused()
     ensures whole { (part : PartData) (base : ℕ) (run words : List ℕ) → (run_written part base run words).fault ≡ None →
         run_written part base run words ≡ all_written words run }
     ensures refused { (part : PartData) (base : ℕ) (run words : List ℕ) (fault : RunFault) → (run_written part base run words).fault ≡ Some fault →
-        Refused part base run words fault }
+        HasFirstRefused part base run words fault }
 {}
 
 /// MFW right after WCFG takes the newest whole frame, and there is no other source.
@@ -110,7 +110,7 @@ pub fn a_saved_frame_leads_back()
     ensures back { (part : PartData) (at : Option ℕ) (old new : List (List ℕ)) → HaveChangedAt part at old new →
         AreSame (put_over (pair_at (frame_at part old) at) (frame_at part new)) (frame_at part old) }
     ensures copy { (part : PartData) (p : PipelineData) → OfFlow part p (λ f. (old new : FrameMap) → fault_of_copy part f ≡ None
-        → AreSame new (put_over (copied_by f) old) → ChangesNext part p old new) }
+        → AreSame new (put_over (pairs_copied_by f) old) → ChangesNext part p old new) }
     ensures word { (part : PartData) (p : PipelineData) → OfFlow part p (λ f. (w : ℕ) (old new : FrameMap) → is_mfw f.command ≡ false
         → LandsAt part f (w ∷ []) old new → ChangesNext part p old new) }
 {}

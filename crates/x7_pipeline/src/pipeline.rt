@@ -3,18 +3,19 @@ ghost use Rattle.std.specs.Prelude.{◌≡◌, ◌+◌, ◌-◌, ◌*◌, ◌/�
 ghost use Rattle.std.specs.Result.{result_err};
 ghost use Rattle.x7_words.specs.Word.{AreWholeWords, words_of_bytes};
 ghost use Rattle.x7_part.specs.Part.{PartData};
+ghost use Rattle.x7_part.specs.Slot.{slots_from};
 ghost use Rattle.x7_memory.specs.FrameMap.{AreSame};
 ghost use Rattle.x7_memory.specs.PartFrames.{frame_at, AreFramesOf};
 ghost use Rattle.x7_part.specs.declared.slot.Slot.{Slot};
 ghost use Rattle.x7_regs.specs.declared.command.Command.{Command};
-ghost use Rattle.x7_pipeline.specs.Runs.{put_over, slots_from};
+ghost use Rattle.x7_pipeline.specs.Runs.{put_over};
 ghost use Rattle.x7_pipeline.specs.FarAsRead.{far_of, loaded_base, has_frame_at};
 ghost use Rattle.x7_pipeline.specs.Copies.{is_wcfg, is_mfw, source_with};
 ghost use Rattle.x7_pipeline.specs.Readback.{readback_at, word_at};
 ghost use Rattle.x7_pipeline.specs.Fault.{write_fault, readback_fault, drop_fault};
 ghost use Rattle.x7_pipeline.specs.Place.{StartsAt};
-ghost use Rattle.x7_pipeline.specs.Pipeline.{AreOfPart, PipelineData, IsPipelineOf, passed};
-ghost use Rattle.x7_pipeline.specs.Flow.{copied_by, fault_of_copy, FlowGoesOn, FramesLand, FramesLandUpToFault, HoldsFlow, OfFlow, PutsNewest, after_reads, after_words, begun_at, begun_by, first_flow, with_run, flow_written};
+ghost use Rattle.x7_pipeline.specs.Pipeline.{AreOfPart, PipelineData, IsPipelineOf, with_words_passed};
+ghost use Rattle.x7_pipeline.specs.Flow.{pairs_copied_by, fault_of_copy, FlowGoesOn, FramesLand, FramesLandUpToFault, HoldsFlow, OfFlow, PutsNewest, after_reads, after_words, begun_at, begun_by, first_flow, with_run, flow_written};
 
 mod saved;
 
@@ -332,7 +333,7 @@ impl Pipeline {
     /// A word written to MFWR, which is a copy: the source is put at the base.
     pub fn copy(&mut self, part: &Part, memory: &mut Memory) -> Result<(), RunFault>
         requires part { AreOfPart part.now self.old memory.old }
-        ensures put { OnOk result (OfFlow part.now self.old (λ f. AreSame (frame_at part.now memory.new) (put_over (copied_by f) (frame_at part.now memory.old)))) }
+        ensures put { OnOk result (OfFlow part.now self.old (λ f. AreSame (frame_at part.now memory.new) (put_over (pairs_copied_by f) (frame_at part.now memory.old)))) }
         ensures fault { OfFlow part.now self.old (λ f. result_err result ≡ fault_of_copy part.now f) }
 
         // Whatever the answer.
@@ -431,10 +432,10 @@ impl Pipeline {
         self.slot = readback_slot(part, self.base, self.given / u64::from(self.width));
     }
 
-    /// Passes over `n` words of a readback, as `n` calls of `read_word` would.
-    pub fn drop_words(&mut self, n: u32, part: &Part) -> Result<(), RunFault>
-        ensures stands { OnOk result (FlowGoesOn part.now self.old self.new (after_reads n)) }
-        ensures fault { OfFlow part.now self.old (λ f. result_err result ≡ drop_fault part.now f.base f.given n) }
+    /// Passes over `count` words of a readback, as `count` calls of `read_word` would.
+    pub fn drop_words(&mut self, count: u32, part: &Part) -> Result<(), RunFault>
+        ensures stands { OnOk result (FlowGoesOn part.now self.old self.new (after_reads count)) }
+        ensures fault { OfFlow part.now self.old (λ f. result_err result ≡ drop_fault part.now f.base f.given count) }
 
         // Whatever the answer.
         ensures part { IsPipelineOf part.now self.old → IsPipelineOf part.now self.new }
@@ -442,22 +443,22 @@ impl Pipeline {
         // After a fault.
         ensures unchanged { OnErr result (self.new ≡ self.old) }
     {
-        if n == 0 {
+        if count == 0 {
             return Ok(());
         }
         if self.reads_nowhere(part) {
             return Err(RunFault::Address(self.base));
         }
-        self.pass_words(n, part);
+        self.pass_words(count, part);
         Ok(())
     }
 
-    /// Counts `n` words more that a readback gave.
-    fn pass_words(&mut self, n: u32, part: &Part)
-        ensures { self.new ≡ passed part.now self.old n }
+    /// Counts `count` words more that a readback gave.
+    fn pass_words(&mut self, count: u32, part: &Part)
+        ensures { self.new ≡ with_words_passed part.now self.old count }
     {
         let limit = u64::from(self.width) * (1 + slot_count(part, self.base));
-        self.given = self.given.saturating_add(u64::from(n)).min(limit);
+        self.given = self.given.saturating_add(u64::from(count)).min(limit);
         self.slot = readback_slot(part, self.base, self.given / u64::from(self.width));
     }
 

@@ -5,6 +5,7 @@ use Rattle.std.specs.List.{AllByRecursion, flat_map}
 use Rattle.std.proofs.lemmas.List.Elements.{All-cons, All-drop, All-nil}
 use Rattle.x7_words.specs.Word.{bytes_of_word}
 use Rattle.x7_part.specs.AddressOrder.{addresses_in}
+use Rattle.x7_part.specs.Limits.{most_frames}
 use Rattle.x7_part.specs.Ranges.{IsPart}
 use Rattle.x7_planner.proofs.FewLemmas.{by_rows, rows_few}
 use Rattle.std.proofs.lemmas.Bool.{cases_eq}
@@ -171,7 +172,7 @@ alone_addressed part rows alone a e =
     subst (All (λ (row : PlanRow). Contains (addresses_in part) row.far)) (sym e)
     (all_rows (λ (row : PlanRow). Contains (addresses_in part) row.far) (rows_not_shared rows rows) (not_shared_all (λ (row : PlanRow). Contains (addresses_in part) row.far) rows rows (by_rows (λ (row : PlanRow). Contains (addresses_in part) row.far) rows a)))
 
-pub alone_few : (part : PartData) (rows : List PlanRow) (alone : List PlannedFrame) → IsPart part → AreInOrder rows → All (λ row. Contains (addresses_in part) row.far) rows → planned_rows alone ≡ rows_not_shared rows rows → length alone ≤ 131072
+pub alone_few : (part : PartData) (rows : List PlanRow) (alone : List PlannedFrame) → IsPart part → AreInOrder rows → All (λ row. Contains (addresses_in part) row.far) rows → planned_rows alone ≡ rows_not_shared rows rows → length alone ≤ most_frames
 alone_few part rows alone is o a e = omega (arith, rows_few part rows is o a, is.few, not_shared_fewer rows rows, ap length e, length-map alone planned_row)
 
 pub sections_written : (part : PartData) (rows : List PlanRow) (alone : List PlannedFrame) (old mid new : List ℕ) → planned_rows alone ≡ rows_not_shared rows rows → mid ≡ old ++ bytes_of_words (flat_map (section_words part) (groups_led rows rows))

@@ -8,9 +8,10 @@ use Rattle.std.specs.List.{flat_map}
 use Rattle.x7_words.proofs.ListLemmas.{flat_map_last}
 use Rattle.x7_words.specs.Word.{bytes_of_word}
 use Rattle.x7_part.specs.AddressOrder.{addresses_in}
+use Rattle.x7_part.specs.Limits.{most_frame_words, most_words}
 use Rattle.x7_part.specs.Part.{PartData, frame_words}
 use Rattle.x7_part.specs.Ranges.{IsPart}
-use Rattle.x7_part.specs.Slot.{slots_in, from}
+use Rattle.x7_part.specs.Slot.{slots_in, from_address, pads_after_row}
 use Rattle.x7_part.specs.declared.slot.Slot.{Slot}
 use Rattle.x7_part.specs.declared.slot.Slot.TheVariants.{End}
 use Rattle.std.specs.Prelude.{Contains}
@@ -34,8 +35,8 @@ and_packet e f = ap₂ (λ (p : List ℕ) (ps : List (List ℕ)). p ∷ ps) e f
 pub packets_written : (old new : List ℕ) {packets named : List (List ℕ)} → packets ≡ named → new ≡ old ++ bytes_of_words (flat_map (λ packet. packet) packets) → new ≡ old ++ bytes_of_words (flat_map (λ packet. packet) named)
 packets_written old new e h = h ∙ ap (λ (t : List (List ℕ)). old ++ bytes_of_words (flat_map (λ packet. packet) t)) e
 
-pub all_slots : (part : PartData) (first n : ℕ) → IsPart part → first ≡ get_or (addresses_in part) 0 0 → from first (slots_in part) ≡ slots_in part
-all_slots part first n is e = ap (λ (a : ℕ). from a (slots_in part)) e ∙ slots_all part is
+pub all_slots : (part : PartData) (first n : ℕ) → IsPart part → first ≡ get_or (addresses_in part) 0 0 → from_address first (slots_in part) ≡ slots_in part
+all_slots part first n is e = ap (λ (a : ℕ). from_address a (slots_in part)) e ∙ slots_all part is
 
 pub slot_more : (part : PartData) (plan : PlanData) (old mid new : List ℕ) (start n : ℕ) (s : Slot) → start ≤ n → n < length (slots_in part) → s ≡ get_or (slots_in part) n End
     → mid ≡ old ++ bytes_of_words (words_of_slots part plan (drop start (take n (slots_in part)))) → new ≡ mid ++ bytes_of_words (frame_at_slot part plan s)
@@ -55,22 +56,22 @@ slots_none part plan old start =
 
 -- how many words the slots have
 pub record IsFew (part : PartData) (w n : ℕ) : Type 0 where
-  pub words : w * n ≤ 13277056
+  pub words : w * n ≤ most_words
   pub count : n ≡ length (slots_in part)
   pub most : n ≤ most_slots
 
-pub few_slots : (part : PartData) (first w n : ℕ) → IsPart part → get_or (addresses_in part) 0 0 ≡ first → w ≡ frame_words part → n ≡ length (from first (slots_in part)) → IsFew part w n
+pub few_slots : (part : PartData) (first w n : ℕ) → IsPart part → get_or (addresses_in part) 0 0 ≡ first → w ≡ frame_words part → n ≡ length (from_address first (slots_in part)) → IsFew part w n
 few_slots part first w n is f e g =
     let count : n ≡ length (slots_in part) = g ∙ ap length (all_slots part first n is (sym f)) in
-    let same : w * n ≡ frame_words part * (length (addresses_in part) + 2 * length part.rows) = ap (λ (k : ℕ). k * n) e ∙ ap (λ (k : ℕ). frame_words part * k) (count ∙ slots_number part) in
+    let same : w * n ≡ frame_words part * (length (addresses_in part) + pads_after_row * length part.rows) = ap (λ (k : ℕ). k * n) e ∙ ap (λ (k : ℕ). frame_words part * k) (count ∙ slots_number part) in
     record { words = omega (arith, same, is.slots); count = count; most = omega (arith, count, slots_number part, is.frames, is.few) }
 
 -- how many words a readback has
-pub read_fits : (part : PartData) (address w n : ℕ) → IsPart part → Contains (addresses_in part) address → w ≤ 255 → n ≤ length (from address (slots_in part)) → (n ≤ most_slots) × (w * (n + 1) < 2 ^ 27)
+pub read_fits : (part : PartData) (address w n : ℕ) → IsPart part → Contains (addresses_in part) address → w ≤ most_frame_words → n ≤ length (from_address address (slots_in part)) → (n ≤ most_slots) × (w * (n + 1) < 2 ^ 27)
 read_fits part address w n is has narrow within =
     let split = slots_split part address has in
-    let long : length (slots_in part) ≡ length split.0 + length (from address (slots_in part)) = ap length split.1 ∙ length-append split.0 (from address (slots_in part)) in
+    let long : length (slots_in part) ≡ length split.0 + length (from_address address (slots_in part)) = ap length split.1 ∙ length-append split.0 (from_address address (slots_in part)) in
     let few : n ≤ most_slots = omega (arith, long, slots_number part, is.frames, is.few, within) in
-    let turned : (n + 1) * w ≤ (n + 1) * 255 = mul-le-mul_left (n + 1) narrow in
-    let most : w * (n + 1) ≤ 255 * (n + 1) = omega (arith, turned) in
+    let turned : (n + 1) * w ≤ (n + 1) * most_frame_words = mul-le-mul_left (n + 1) narrow in
+    let most : w * (n + 1) ≤ most_frame_words * (n + 1) = omega (arith, turned) in
     (few, omega (arith, most, few))

@@ -2,7 +2,7 @@
 use Rattle.std.specs.Prelude.{◌≡◌, ◌⊎◌, ℕ, ◌<◌, ◌≤◌, List, [], ◌∷◌, ◌++◌, length, Contains}
 use Rattle.x7_part.specs.AddressOrder.{addresses_in}
 use Rattle.x7_part.specs.Part.{PartData}
-use Rattle.x7_part.specs.Slot.{slots_in, from}
+use Rattle.x7_part.specs.Slot.{slots_from}
 use Rattle.x7_memory.specs.Plan.{AreAddressed, PlanRow, PlanData}
 use Rattle.x7_planner.specs.declared.fault.PlanFault.{PlanFault}
 use Rattle.x7_planner.specs.declared.fault.PlanFault.TheVariants as fault
@@ -21,11 +21,11 @@ pub record IsFirstForeign (part : PartData) (rows : List PlanRow) (address : ℕ
 pub record CanRead (part : PartData) (address n : ℕ) : Type 0 where
   pub has : Contains (addresses_in part) address
   pub at_least_one : 0 < n
-  pub within : n ≤ length (from address (slots_in part))
+  pub within : n ≤ length (slots_from part address)
 
 -- n slots can't be read from an address of the part: n is 0, or more than there are
 abbrev pub IsOutOfRange : PartData → ℕ → ℕ → Type 0
-IsOutOfRange part address n = (n ≡ 0) ⊎ (length (from address (slots_in part)) < n)
+IsOutOfRange part address n = (n ≡ 0) ⊎ (length (slots_from part address) < n)
 
 -- the faults of a full stream
 abbrev pub IsFullFault : PartData → PlanData → PlanFault → Type 0

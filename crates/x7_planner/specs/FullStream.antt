@@ -4,7 +4,7 @@ use Rattle.std.specs.List.{flat_map}
 use Rattle.x7_part.specs.AddressOrder.{addresses_in}
 use Rattle.x7_part.specs.Limits.{most_frames, most_rows}
 use Rattle.x7_part.specs.Part.{PartData, frame_words}
-use Rattle.x7_part.specs.Slot.{slots_in}
+use Rattle.x7_part.specs.Slot.{pads_after_row, slots_in}
 use Rattle.x7_part.specs.declared.slot.Slot.{Slot}
 use Rattle.x7_part.specs.declared.slot.Slot.TheVariants.{Frame, Pad, End}
 use Rattle.x7_memory.specs.Plan.{PlanData, planned}
@@ -26,7 +26,7 @@ frame_at_slot part plan End = zero_frame part
 
 -- the most slots of a part: its frames, and two pads after each row
 abbrev pub most_slots : ℕ
-most_slots = most_frames + 2 * most_rows
+most_slots = most_frames + pads_after_row * most_rows
 
 -- the words of all slots in order
 abbrev pub words_of_slots : PartData → PlanData → List Slot → List ℕ

@@ -3,7 +3,7 @@
 use Rattle.std.specs.Prelude.{◌≡◌, ℕ, ◌+◌, ◌-◌, ◌*◌, ◌<◌, ◌≤◌, ◌==◌, ◌&&◌, nat_le, Bool, true, false, if◌then◌else◌, List, [], ◌∷◌, ◌++◌, length, map, replicate, slice_index, slice_index_or, All, Contains, Some}
 use Rattle.std.specs.List.{flat_map}
 use Rattle.x7_part.specs.Part.{PartData, frame_words}
-use Rattle.x7_part.specs.Slot.{from, slots_in}
+use Rattle.x7_part.specs.Slot.{slot_after}
 use Rattle.x7_part.specs.declared.slot.Slot.{Slot}
 use Rattle.x7_part.specs.declared.slot.Slot.TheVariants.{Frame, Pad, End}
 use Rattle.x7_memory.specs.Plan.{AreApart, PlanRow, planned, planned_addresses}
@@ -20,34 +20,34 @@ pub data Section : Type 0 where
   Rows : (rows : List PlanRow) → Section
 
 -- the two lists have the same words
-abbrev pub same_words : List ℕ → List ℕ → Bool
-same_words [] [] = true
-same_words [] (y ∷ ys) = false
-same_words (x ∷ xs) [] = false
-same_words (x ∷ xs) (y ∷ ys) = (x == y) && same_words xs ys
+abbrev pub have_same_words : List ℕ → List ℕ → Bool
+have_same_words [] [] = true
+have_same_words [] (y ∷ ys) = false
+have_same_words (x ∷ xs) [] = false
+have_same_words (x ∷ xs) (y ∷ ys) = (x == y) && have_same_words xs ys
 
 -- the rows that have a content
 abbrev pub with_content : List ℕ → List PlanRow → List PlanRow
 with_content words [] = []
-with_content words (r ∷ rows) = if same_words r.words words then r ∷ with_content words rows else with_content words rows
+with_content words (r ∷ rows) = if have_same_words r.words words then r ∷ with_content words rows else with_content words rows
 
 -- the addresses that have a content, in the order of the rows
 abbrev pub addresses_with : List ℕ → List PlanRow → List ℕ
 addresses_with words rows = planned_addresses (with_content words rows)
 
--- how many addresses a content has at least that is written once and copied
-abbrev pub group_least : ℕ
-group_least = 3
+-- the fewest addresses at which a content stands that is written once and copied
+abbrev pub least_group_size : ℕ
+least_group_size = 3
 
--- words are the content of `group_least` addresses or more
+-- words are the content of `least_group_size` addresses or more
 abbrev pub are_shared : List PlanRow → List ℕ → Bool
-are_shared all words = nat_le group_least (length (with_content words all))
+are_shared all words = nat_le least_group_size (length (with_content words all))
 
--- a row's content stands at `group_least` addresses or more
+-- a row's content stands at `least_group_size` addresses or more
 abbrev pub is_shared : List PlanRow → PlanRow → Bool
 is_shared all r = are_shared all r.words
 
--- a row's content stands at `group_least` addresses or more, and the row is the first of them
+-- a row's content stands at `least_group_size` addresses or more, and the row is the first of them
 abbrev pub leads_group : List PlanRow → PlanRow → Bool
 leads_group all r = is_shared all r && (slice_index (addresses_with r.words all) 0 == r.far)
 
@@ -57,7 +57,7 @@ groups_led all [] = []
 groups_led all (r ∷ rows) =
     if leads_group all r then Copies r.words (addresses_with r.words all) ∷ groups_led all rows else groups_led all rows
 
--- the rows whose content stands at fewer than `group_least` addresses
+-- the rows whose content stands at fewer than `least_group_size` addresses
 abbrev pub rows_not_shared : List PlanRow → List PlanRow → List PlanRow
 rows_not_shared all [] = []
 rows_not_shared all (r ∷ rows) = if is_shared all r then rows_not_shared all rows else r ∷ rows_not_shared all rows
@@ -70,7 +70,7 @@ is_frame address End = false
 
 -- the second address is the next of the first, in the same row
 abbrev pub follows : PartData → ℕ → ℕ → Bool
-follows part a b = is_frame b (slice_index_or (from a (slots_in part)) 1 End)
+follows part a b = is_frame b (slot_after part a 1)
 
 -- runs with a row more before them, which joins the first of them where that follows it
 abbrev pub with_row : PartData → PlanRow → List (List PlanRow) → List (List PlanRow)
@@ -108,7 +108,8 @@ abbrev pub section_words : PartData → Section → List ℕ
 section_words part (Copies words fars) =
     command Wcfg ++ (write_one Far (slice_index fars 0) ++ (frame_data_headers (frame_words part) ++ (words ++ (command Mfw ++ flat_map copy_words fars))))
 section_words part (Rows rows) =
-    command Wcfg ++ (write_one Far (slice_index (planned_addresses rows) 0) ++ (frame_data_headers (frame_words part * (length rows + 1)) ++ (frames_words rows ++ zero_frame part)))
+    command Wcfg ++ (write_one Far (slice_index (planned_addresses rows) 0)
+    ++ (frame_data_headers (frame_words part * (length rows + 1)) ++ (frames_words rows ++ zero_frame part)))
 
 -- what a partial stream begins with, before the groups
 abbrev pub partial_opening : PartData → List ℕ

@@ -10,7 +10,8 @@ use Rattle.x7_planner.specs.Writer.{Words, ending_no_ops, opening_words, stream_
 -- a read of this many words from an address on
 abbrev pub read_of_words : ℕ → ℕ → List ℕ
 read_of_words address count =
-    stream_of (Words (opening_words ++ (command Rcrc ++ (no_op ∷ (command Rcfg ++ (write_one Far address ++ (frame_read_headers count ++ (command Desync ++ replicate ending_no_ops no_op))))))) ∷ [])
+    stream_of (Words (opening_words ++ (command Rcrc ++ (no_op ∷ (command Rcfg ++ (write_one Far address
+    ++ (frame_read_headers count ++ (command Desync ++ replicate ending_no_ops no_op))))))) ∷ [])
 
 -- the read stream of n slots from an address on
 abbrev pub read_stream : PartData → ℕ → ℕ → List ℕ

@@ -61,7 +61,7 @@ fn slot_count(part: &Part) -> u64
     ensures most { result ≤ most_slots }
     ensures most_words { frame_words part.now * result ≤ most_words }
 {
-    part.slots_from(first_address(part))
+    part.slot_count_from(first_address(part))
 }
 
 /// Writes the settings of startup, and where the frame data begins.
@@ -230,7 +230,7 @@ impl<'p> FullStream<'p> {
             return Ok(false);
         }
         let start = out.len();
-        let Ok(next) = self.put(out) else {
+        let Ok(next) = self.append_piece(out) else {
             out.truncate(start);
             return Err(NoMemory);
         };
@@ -240,7 +240,7 @@ impl<'p> FullStream<'p> {
     }
 
     /// Appends what is next, and answers what comes after it.
-    fn put(&self, out: &mut Vec<u8>) -> Result<NextPiece, NoMemory>
+    fn append_piece(&self, out: &mut Vec<u8>) -> Result<NextPiece, NoMemory>
         ensures writes { IfOk result (WritesPiece self.now out.old.items out.new.items) }
         ensures within { AppendsWithin out.old out.new result piece_limit }
     {
@@ -249,7 +249,7 @@ impl<'p> FullStream<'p> {
                 put_opening(out, self.part)?;
                 Ok(NextPiece::Slot(0))
             }
-            NextPiece::Slot(n) => self.put_frames(out, n),
+            NextPiece::Slot(slot_number) => self.append_frames(out, slot_number),
             NextPiece::Check => {
                 put_words(out, &write_one(Reg::Crc, self.checker.check()))?;
                 Ok(NextPiece::Start)
@@ -271,15 +271,15 @@ impl<'p> FullStream<'p> {
         }
     }
 
-    /// Appends the frames of the slots from one on, and answers what comes after them.
-    fn put_frames(&self, out: &mut Vec<u8>, n: u64) -> Result<NextPiece, NoMemory>
-        requires { self.now.next ≡ NextPiece.Slot n }
+    /// Appends the frames of the slots from this number on, a piece of them, and answers what comes after them.
+    fn append_frames(&self, out: &mut Vec<u8>, slot_number: u64) -> Result<NextPiece, NoMemory>
+        requires { self.now.next ≡ NextPiece.Slot slot_number }
         ensures writes { IfOk result (WritesPiece self.now out.old.items out.new.items) }
         ensures within { AppendsWithin out.old out.new result piece_limit }
     {
         let count = slot_count(self.part);
-        let end = count.min(n + PIECE_SLOTS);
-        put_slots(out, self.part, self.plan, n, end)?;
+        let end = count.min(slot_number + PIECE_SLOTS);
+        put_slots(out, self.part, self.plan, slot_number, end)?;
         if end == count {
             Ok(NextPiece::Check)
         } else {

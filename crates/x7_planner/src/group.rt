@@ -14,8 +14,8 @@ use x7_part::Part;
 use x7_regs::{Command, Reg};
 use x7_words::NoMemory;
 
-/// How many addresses a content has at least that is written once and copied.
-const GROUP_LEAST: usize = 3;
+/// The fewest addresses at which a content stands that is written once and copied.
+const LEAST_GROUP_SIZE: usize = 3;
 
 /// Whether the content that begins at `start` stands at three addresses or more. `_words` is for the contract
 /// alone.
@@ -23,10 +23,10 @@ fn are_shared(by_content: &ByContent<'_>, start: usize, _words: &[u32]) -> bool
     requires { BeginsAt by_content.now _words.now start }
     ensures { result ≡ are_shared (rows_by_content by_content.now) _words.now }
 {
-    if by_content.frames.len() - start < GROUP_LEAST {
+    if by_content.frames.len() - start < LEAST_GROUP_SIZE {
         return false;
     }
-    by_content.firsts[start + (GROUP_LEAST - 1)] == start
+    by_content.firsts[start + (LEAST_GROUP_SIZE - 1)] == start
 }
 
 /// Whether the row at an address is the first of three or more with its content, which begins at `start`. `_words` is
@@ -56,7 +56,7 @@ fn put_copies(
         if by_content.firsts[k] != start {
             return Ok(());
         }
-        writer.packets(&[
+        writer.write_packets(&[
             write_one(Reg::Far, by_content.frames[k].far),
             write_one(Reg::Mfwr, 0),
         ])?;
@@ -76,13 +76,13 @@ fn put_group(
     ensures { OnOk result (writer.new ≡ with_piece writer.old (Words (section_words part.now (Copies words.now (addresses_with words.now (rows_by_content by_content.now)))))) }
 {
     let far = by_content.frames[start].far;
-    writer.packets(&[
+    writer.write_packets(&[
         command(Command::Wcfg),
         write_one(Reg::Far, far),
         frame_data_headers(part.words()),
     ])?;
-    writer.words(words)?;
-    writer.words(&command(Command::Mfw))?;
+    writer.write_words(words)?;
+    writer.write_words(&command(Command::Mfw))?;
     put_copies(writer, by_content, start, words)?;
     Ok(())
 }

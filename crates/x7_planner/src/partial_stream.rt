@@ -60,10 +60,10 @@ fn grouping_of(alloc: Global, plan: &Plan) -> Result<Grouping<'_>, AllocError>
 fn put_opening(writer: &mut Writer, part: &Part) -> Result<(), NoMemory>
     ensures { OnOk result (writer.new ≡ with_piece writer.old (Words (partial_opening part.now))) }
 {
-    writer.words(&OPENING_WORDS)?;
-    writer.words(&command(Command::Rcrc))?;
-    writer.words(&[NO_OP])?;
-    writer.words(&write_one(Reg::Idcode, part.idcode()))?;
+    writer.write_words(&OPENING_WORDS)?;
+    writer.write_words(&command(Command::Rcrc))?;
+    writer.write_words(&[NO_OP])?;
+    writer.write_words(&write_one(Reg::Idcode, part.idcode()))?;
     Ok(())
 }
 
@@ -102,9 +102,9 @@ fn partial_of(alloc: Global, part: &Part, plan: &Plan) -> Result<Vec<u8>, NoMemo
     let mut writer = Writer::new(alloc, SMALL_STREAM_WORDS)?;
     put_opening(&mut writer, part)?;
     put_sections(&mut writer, part, plan, &grouping)?;
-    writer.check()?;
-    writer.words(&command(Command::Desync))?;
-    writer.words(&[NO_OP; ENDING_NO_OPS])?;
+    writer.write_check()?;
+    writer.write_words(&command(Command::Desync))?;
+    writer.write_words(&[NO_OP; ENDING_NO_OPS])?;
     Ok(writer.finish())
 }
 

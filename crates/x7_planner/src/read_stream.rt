@@ -21,16 +21,16 @@ fn read_of(alloc: Global, far: u32, word_count: u32) -> Result<Vec<u8>, NoMemory
     ensures { IfOk result (λ bytes. bytes.items ≡ read_of_words far word_count) }
 {
     let mut writer = Writer::new(alloc, READ_STREAM_WORDS)?;
-    writer.words(&OPENING_WORDS)?;
-    writer.words(&command(Command::Rcrc))?;
-    writer.words(&[NO_OP])?;
-    writer.packets(&[
+    writer.write_words(&OPENING_WORDS)?;
+    writer.write_words(&command(Command::Rcrc))?;
+    writer.write_words(&[NO_OP])?;
+    writer.write_packets(&[
         command(Command::Rcfg),
         write_one(Reg::Far, far),
         frame_read_headers(word_count),
         command(Command::Desync),
     ])?;
-    writer.words(&[NO_OP; ENDING_NO_OPS])?;
+    writer.write_words(&[NO_OP; ENDING_NO_OPS])?;
     Ok(writer.finish())
 }
 
@@ -45,7 +45,7 @@ pub fn readback(alloc: Global, part: &Part, far: u32, slot_count: u32) -> Result
     if !part.is_address(far) {
         return Err(PlanFault::Foreign(far));
     }
-    if slot_count == 0 || u64::from(slot_count) > part.slots_from(far) {
+    if slot_count == 0 || u64::from(slot_count) > part.slot_count_from(far) {
         return Err(PlanFault::Range(slot_count));
     }
     // For the proof alone: the part is in range, and so the counts are.

@@ -44,7 +44,7 @@ fn put_frames(writer: &mut Writer, frames: &[PlannedFrame]) -> Result<(), NoMemo
     ensures { OnOk result (writer.new ≡ with_piece writer.old (Words (frames_words (planned_rows frames.now)))) }
 {
     for frame in frames {
-        writer.words(frame.words)?;
+        writer.write_words(frame.words)?;
     }
     Ok(())
 }
@@ -56,13 +56,13 @@ fn put_run(writer: &mut Writer, part: &Part, run: &[PlannedFrame]) -> Result<(),
     ensures { OnOk result (writer.new ≡ with_piece writer.old (Words (section_words part.now (Rows (planned_rows run.now))))) }
 {
     let word_count = part.words() * (run.len() as u32 + 1);
-    writer.packets(&[
+    writer.write_packets(&[
         command(Command::Wcfg),
         write_one(Reg::Far, run[0].far),
         frame_data_headers(word_count),
     ])?;
     put_frames(writer, run)?;
-    writer.words(zeros(part.words()))?;
+    writer.write_words(zeros(part.words()))?;
     Ok(())
 }
 

@@ -53,25 +53,25 @@ impl Writer {
     }
 
     /// Writes words.
-    pub(crate) fn words(&mut self, words: &[u32]) -> Result<(), NoMemory>
+    pub(crate) fn write_words(&mut self, words: &[u32]) -> Result<(), NoMemory>
         ensures { OnOk result (self.new ≡ with_piece self.old (Words words.now)) }
     {
         put_words(&mut self.out, words)
     }
 
     /// Writes packets of two words each.
-    pub(crate) fn packets(&mut self, packets: &[[u32; 2]]) -> Result<(), NoMemory>
+    pub(crate) fn write_packets(&mut self, packets: &[[u32; 2]]) -> Result<(), NoMemory>
         ensures { OnOk result (self.new ≡ with_piece self.old (Words (flat_map (λ packet. packet) packets.now))) }
     {
         put_packets(&mut self.out, packets)
     }
 
     /// Writes the running check to CRC.
-    pub(crate) fn check(&mut self) -> Result<(), NoMemory>
+    pub(crate) fn write_check(&mut self) -> Result<(), NoMemory>
         ensures { OnOk result (self.new ≡ with_piece self.old Check) }
     {
         let check = self.checker.check_of(&self.out);
-        self.words(&write_one(Reg::Crc, check))
+        self.write_words(&write_one(Reg::Crc, check))
     }
 
     /// The bytes.

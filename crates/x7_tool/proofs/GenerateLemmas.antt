@@ -18,7 +18,7 @@ use Rattle.std.proofs.lemmas.List.Elements.{All-cons, All-contains_itself, All-h
 use Rattle.std.proofs.lemmas.List.Sorted.{All-permutation, IsPermutation-sym}
 use Rattle.x7_memory.specs.PartFrames.{frame_at}
 use Rattle.x7_part.specs.Ranges.{IsPart}
-use Rattle.x7_part.specs.Slot.{slots_in}
+use Rattle.x7_part.specs.Slot.{slots_in, pads_after_row}
 use Rattle.x7_part.proofs.SlotLemmas.{slots_number}
 use Rattle.x7_planner.specs.FullStream.{full_stream}
 use Rattle.x7_planner.specs.FullStreamPieces.{FullStreamState, HasGiven, AppendsNext}
@@ -232,7 +232,7 @@ known_few : (part : PartData) (plan : PlanData) (stream : FullStreamState) (know
 known_few part plan stream known is p e a b h =
     let whole : known ++ h.left ≡ full_stream part plan = h.whole ∙ ap (λ (x : PartData). full_stream x stream.plan) a ∙ ap (full_stream part) b in
     let size : length known + length h.left ≡ 4 * (55 + frame_words part * length (slots_in part)) = sym (length-append known h.left) ∙ ap length (whole ∙ full_same part plan is p e) ∙ full_length part plan p e in
-    let slots : frame_words part * length (slots_in part) ≡ frame_words part * (length (addresses_in part) + 2 * length part.rows) = ap (λ (k : ℕ). frame_words part * k) (slots_number part) in
+    let slots : frame_words part * length (slots_in part) ≡ frame_words part * (length (addresses_in part) + pads_after_row * length part.rows) = ap (λ (k : ℕ). frame_words part * k) (slots_number part) in
     omega (arith, size, slots, is.slots)
 
 module _ (part : PartData) (plan : PlanData) (stream later : FullStreamState) (player : Player) (size : ℕ) (block new : List ℕ) (v : PlaysAlong part plan stream player size block) (m : AppendsNext later v.known block new) where

@@ -7,7 +7,7 @@ use Rattle.x7_part.proofs.row.sort_rows.Goals as goal
 
 pub returns : goal.returns
 returns c =
-    let widths = c.args.fields in
+    let widths = c.args.widths in
     let rows = c.args.rows.now.items in
     let sorted = c.sort_unstable_by_key.new.self.items in
     let same = c.sort_unstable_by_key.ensures.permutation in

@@ -1,5 +1,5 @@
 use Rattle.std.proofs.Common.{◌≡◌, drop}
-use Rattle.x7_pipeline.specs.Runs.{slots_from}
+use Rattle.x7_part.specs.Slot.{slots_from}
 use Rattle.x7_pipeline.specs.FarAsRead.{first_address}
 use Rattle.x7_pipeline.proofs.place.far_at.Given as goal
 

@@ -14,6 +14,6 @@ returns-then-by_content-k c =
 pub loop-k-preserved : goal.loop-k-preserved
 loop-k-preserved c = (
   (let h = c.loop-k.invariant.0 in omega (arith, h)),
-  copies_more c.args.by_content.now.frames.now c.args._words.now c.args.by_content.now.firsts.now c.args.writer.now c.loop-k.writer c.packets.new.self c.args.start c.loop-k.k _ _ c.requires.firsts c.requires.first c.loop-k-test.true c.if-by_content-k.false c.loop-k.invariant.1
-      (packets_written c.loop-k.writer c.packets.new.self (and_packet c.write_one.ensures (last_packet c.write_one-in-loop-k.ensures)) c.in_ok-packets.ensures),
+  copies_more c.args.by_content.now.frames.now c.args._words.now c.args.by_content.now.firsts.now c.args.writer.now c.loop-k.writer c.write_packets.new.self c.args.start c.loop-k.k _ _ c.requires.firsts c.requires.first c.loop-k-test.true c.if-by_content-k.false c.loop-k.invariant.1
+      (packets_written c.loop-k.writer c.write_packets.new.self (and_packet c.write_one.ensures (last_packet c.write_one-in-loop-k.ensures)) c.in_ok-write_packets.ensures),
 )

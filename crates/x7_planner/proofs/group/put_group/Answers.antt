@@ -9,8 +9,8 @@ use Rattle.x7_planner.proofs.group.put_group.Goals as goal
 
 pub returns : goal.returns
 returns c =
-    group_written c.args.part.now c.args.writer.now c.packets.new.self c.words-2.new.self c.words-3.new.self c.put_copies.new.writer c.args.words.now
+    group_written c.args.part.now c.args.writer.now c.write_packets.new.self c.write_words.new.self c.write_words-2.new.self c.put_copies.new.writer c.args.words.now
     (planned_addresses (with_content c.args.words.now (planned_rows c.args.by_content.now.frames.now))) _ c.words.result c.words.ensures.value
     (first_far c.args.by_content.now.frames.now c.args.words.now c.args.start _ c.requires.together c.requires.first)
-    (packets_written c.args.writer.now c.packets.new.self (and_packet c.command.ensures (and_packet c.write_one.ensures (last_packet c.frame_data_headers.ensures))) c.in_ok-packets.ensures) c.in_ok-words.ensures
-    (c.in_ok-words-2.ensures ∙ ap (λ t. c.words-2.new.self ++ bytes_of_words t) c.command-2.ensures) c.in_ok-put_copies.ensures
+    (packets_written c.args.writer.now c.write_packets.new.self (and_packet c.command.ensures (and_packet c.write_one.ensures (last_packet c.frame_data_headers.ensures))) c.in_ok-write_packets.ensures) c.in_ok-write_words.ensures
+    (c.in_ok-write_words-2.ensures ∙ ap (λ t. c.write_words.new.self ++ bytes_of_words t) c.command-2.ensures) c.in_ok-put_copies.ensures

@@ -7,12 +7,12 @@ use Rattle.x7_flow.proofs.frames.Frames.write.Goals as goal
 
 pub returns-clause-stands : goal.returns-clause-stands
 returns-clause-stands c = λ h settings are place.
-    access_taken c.args.part.now (frames_state c.self.inside.pipeline c.self.inside.memory) (frames_state c.take.new.pipeline c.take.new.memory) h (entry (Write (number_of c.args.reg) c.args.word) place) c.take.result
-    (c.take.ensures.done h settings) c.take.ensures.unchanged c.take.ensures.same_memory
+    access_taken c.args.part.now (frames_state c.self.inside.pipeline c.self.inside.memory) (frames_state c.take_written_word.new.pipeline c.take_written_word.new.memory) h (entry (Write (number_of c.args.reg) c.args.word) place) c.take_written_word.result
+    (c.take_written_word.ensures.done h settings) c.take_written_word.ensures.unchanged c.take_written_word.ensures.same_memory
     (subst (λ (f : FramesState). FramesStandFor c.args.part.now f h 0) (sym c.self.view_is) are)
 
 pub returns-clause-fault : goal.returns-clause-fault
 returns-clause-fault c = λ h settings are.
-    word_fault_is c.args.part.now c.self.inside.pipeline c.self.inside.memory h (Write (number_of c.args.reg) c.args.word) c.take.result
-    (λ f. c.take.ensures.fault h f settings)
+    word_fault_is c.args.part.now c.self.inside.pipeline c.self.inside.memory h (Write (number_of c.args.reg) c.args.word) c.take_written_word.result
+    (λ f. c.take_written_word.ensures.fault h f settings)
     (subst (λ (f : FramesState). FramesStandFor c.args.part.now f h 0) (sym c.self.view_is) are)

@@ -4,4 +4,4 @@ use Rattle.x7_frames.proofs.GoodLemmas.{no_rows_good}
 use Rattle.x7_frames.proofs.frame_lines.FrameLines.new.Goals as goal
 
 pub returns-clause-begun : goal.returns-clause-begun
-returns-clause-begun c = (refl, subst (λ rows. AreGood c.args.part.now [] rows) (sym c.in_ok-reading.ensures.empty) (no_rows_good c.args.part.now))
+returns-clause-begun c = (refl, subst (λ rows. AreGood c.args.part.now [] rows) (sym c.in_ok-marked.ensures.empty) (no_rows_good c.args.part.now))

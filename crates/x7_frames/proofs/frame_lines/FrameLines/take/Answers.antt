@@ -6,5 +6,5 @@ invariant_of-self c = record {
   wide = c.take.ensures.width;
   marked = c.take.ensures.marks;
   roomy = c.take.ensures.room;
-  apart = apart_taken c.take.result c.self.inside.part.now c.args.line.now c.self.inside.reading.draft.rows c.take.new.self.draft.rows c.self.invariant.apart c.take.ensures.taken c.take.ensures.unchanged;
+  apart = apart_taken c.take.result c.self.inside.part.now c.args.line.now c.self.inside.marked.draft.rows c.take.new.self.draft.rows c.self.invariant.apart c.take.ensures.taken c.take.ensures.unchanged;
 }

@@ -1,7 +1,7 @@
 use Rattle.std.proofs.Common.{◌≡◌, ◌-◌, ◌∙◌, ap, refl, sym, get_or}
 use Rattle.x7_memory.specs.PartFrames.{frame_at}
 use Rattle.x7_part.specs.declared.slot.Slot.TheVariants.{End}
-use Rattle.x7_pipeline.specs.Runs.{slots_from}
+use Rattle.x7_part.specs.Slot.{slots_from}
 use Rattle.x7_pipeline.specs.Pipeline.{PipelineData}
 use Rattle.x7_pipeline.proofs.StateLemmas.{put_frame, put_no_frame, kept_is, kept_none}
 use Rattle.x7_pipeline.proofs.pipeline.Pipeline.put_newest.Goals as goal

@@ -2,7 +2,7 @@ use Rattle.std.proofs.Common.{◌+◌, ◌∙◌, [], length, ap, refl, sym, ari
 use Rattle.std.proofs.lemmas.Bool.{eqb-true, lt-ltb}
 use Rattle.x7_memory.specs.PartFrames.{frame_at}
 use Rattle.x7_pipeline.specs.FarAsRead.{has_frame_at}
-use Rattle.x7_pipeline.specs.Runs.{slots_from}
+use Rattle.x7_part.specs.Slot.{slots_from}
 use Rattle.x7_pipeline.specs.PipelineFields.{pipeline_seen}
 use Rattle.x7_pipeline.specs.Pipeline.{PipelineData}
 use Rattle.x7_pipeline.proofs.SlotLemmas.{has_address}

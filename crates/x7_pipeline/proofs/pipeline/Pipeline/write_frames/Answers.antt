@@ -2,7 +2,7 @@ use Rattle.std.proofs.Common.{◌≡◌, ◌+◌, ◌-◌, ◌*◌, ◌∙◌, a
 use Rattle.std.proofs.lemmas.List.{length-drop}
 use Rattle.x7_words.specs.Word.{words_of_bytes}
 use Rattle.x7_memory.specs.PartFrames.{frame_at}
-use Rattle.x7_pipeline.specs.Runs.{slots_from}
+use Rattle.x7_part.specs.Slot.{slots_from}
 use Rattle.x7_pipeline.specs.Pipeline.{PipelineData}
 use Rattle.x7_pipeline.proofs.FrameLemmas.{frame_wide, went_more, whole, words_taken}
 use Rattle.std.proofs.lemmas.Bool.{lt-ltb}

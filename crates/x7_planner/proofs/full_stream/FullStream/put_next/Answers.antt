@@ -9,10 +9,10 @@ pub returns : goal.returns
 returns c =
     let s : FullStreamState = record { part = c.self.inside.part.now; plan = c.self.inside.plan.now; next = c.self.inside.next; check = c.self.inside.checker } in
     let t : FullStreamState = record { part = c.self.inside.part.now; plan = c.self.inside.plan.now; next = c.in-Ok.next; check = c.take.new.self } in
-    let wrote : WritesPiece s c.args.out.now.items c.put.new.out.items c.in-Ok.next = subst (λ x. WritesPiece x c.args.out.now.items c.put.new.out.items c.in-Ok.next) (sym c.self.view_is) c.in-Ok.ensures.writes in
+    let wrote : WritesPiece s c.args.out.now.items c.append_piece.new.out.items c.in-Ok.next = subst (λ x. WritesPiece x c.args.out.now.items c.append_piece.new.out.items c.in-Ok.next) (sym c.self.view_is) c.in-Ok.ensures.writes in
     let less : puts_left t < puts_left s = wrote.fewer c.in_default.not-Nothing in
     record {
-      more = λ given h _. given_more s t given c.args.out.now.items c.put.new.out.items c.len-start.result refl refl (omega (arith, c.len-start.ensures, c.args.out.now.ok.0)) wrote
+      more = λ given h _. given_more s t given c.args.out.now.items c.append_piece.new.out.items c.len-start.result refl refl (omega (arith, c.len-start.ensures, c.args.out.now.ok.0)) wrote
           (λ bytes k. subst (λ (x : List ℕ). HasTaken c.take.new.self (bytes ++ take (length x - c.len-start.result) (drop c.len-start.result x))) c.deref.ensures.value (c.take.ensures bytes k)) (subst (λ x. HasGiven x given) (sym c.self.view_is) h);
       fewer = λ _. subst (λ x. puts_left t < puts_left x) c.self.view_is less;
       end = λ given h e. absurd (false≢true (sym e));
@@ -23,6 +23,6 @@ returns c =
       most = omega (arith, c.in-Ok.ensures.within.within);
       same_piece_next = tt;
       unchanged = tt;
-      room = omega (arith, c.put.ensures.within.room);
+      room = omega (arith, c.append_piece.ensures.within.room);
       full = tt;
     }

@@ -3,7 +3,7 @@ use Rattle.x7_regs.specs.declared.command.Command.{Command}
 use Rattle.x7_flow.specs.Asking.{Commands}
 use Rattle.x7_flow.specs.Standing.{HaveDone, frames_state}
 use Rattle.x7_flow.proofs.StandingLemmas.{copies_asked, did_as, did_copy, did_load, did_order, did_other, did_word, fault_as, nothing_asked, word_asked}
-use Rattle.x7_flow.proofs.taking.take.Goals as goal
+use Rattle.x7_flow.proofs.taking.take_written_word.Goals as goal
 
 pub returns-in-Far-clause-done : goal.returns-in-Far-clause-done
 returns-in-Far-clause-done c = λ h s. rw c.in-Far.is (did_load c.args.part.now c.args.pipeline.now c.load.new.self c.args.memory.now c.args.word c.load.ensures.stands)

@@ -11,7 +11,7 @@ use Rattle.x7_frames.specs.declared.fault.FramesFault.TheVariants as fault
 use Rattle.x7_frames.proofs.LineLemmas.{frame_long}
 use Rattle.x7_frames.proofs.GoodLemmas.{marks_more}
 use Rattle.x7_frames.proofs.FrameLinesLemmas.{all_err}
-use Rattle.x7_frames.proofs.frames_text.Reading.take.Goals as goal
+use Rattle.x7_frames.proofs.frames_text.MarkedDraft.take.Goals as goal
 
 pub returns-in_default-clause-fault : goal.returns-in_default-clause-fault
 returns-in_default-clause-fault c =
