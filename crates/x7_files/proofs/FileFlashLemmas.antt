@@ -4,7 +4,7 @@ use Rattle.std.proofs.lemmas.List.{append-nil, length-append}
 use Rattle.std.proofs.lemmas.List.Folds.{concat-append}
 use Rattle.std.specs.List.{concat}
 use Rattle.x7_words.specs.Count.{HasRisen, raised}
-use Rattle.x7_words.specs.Flash.{Elapses, OnlyReads, OnlyWrites, FlashRefuses, Unwritten}
+use Rattle.x7_words.specs.Flash.{TimeElapses, OnlyReads, OnlyWrites, FlashRefuses, Unwritten}
 use Rattle.x7_words.proofs.CountLemmas.{raised_risen}
 use Rattle.x7_files.specs.Files.{Clears, ClearsAt, ClearsPieces, IsExtent, RealFlash, KnowsOfFile, after_attach, known_flash}
 use Rattle.x7_words.specs.declared.input.Failed.{Failed as FailedCall}
@@ -138,5 +138,5 @@ unknown_torn (Ok _) = tt
 unknown_torn (Err _) = tt
 
 -- anything may be found of what isn't known, at any time
-pub unknown_passes : Elapses 0 0 (λ moment found. Unit {0}) (λ moment found. Unit {0}) (λ found. Unit {0})
+pub unknown_passes : TimeElapses 0 0 (λ moment found. Unit {0}) (λ moment found. Unit {0}) (λ found. Unit {0})
 unknown_passes = record { later = omega arith; nothing_else = λ moment found le since. inl tt; keeps = λ moment found le since. tt }

@@ -1,7 +1,7 @@
 -- Inputs that are read turn by turn (this project's choice). A turn reads as many bytes as a buffer holds, and what it
 -- read is used before the next turn.
 use Rattle.std.specs.Prelude.{◌≡◌, ◌≢◌, ◌<◌, ◌≤◌, ◌⊎◌, ◌++◌, ℕ, Bool, true, false, List, [], Some, Ok, Err, IfSome, drop, length, ◌+◌}
-use Rattle.x7_words.specs.Input.{InputsState, AtEnd, InputsFail, Misses, InputsStay, TakesInput, preceded}
+use Rattle.x7_words.specs.Input.{InputsState, AtEnd, InputsFail, MissesInput, InputsStay, TakesInput, preceded}
 use Rattle.x7_header.specs.Header.{Contents, EndsInHeader, HasOtherLetterAt, FitHeader, fixed_bytes, fixed_size, header_bytes, longest_header}
 use Rattle.x7_forms.specs.Event.{Event, bad_input, missing, no_memory, reading_failed, too_large}
 use Rattle.x7_forms.specs.declared.bad_input.InputFault.TheVariants as input
@@ -24,7 +24,7 @@ play_turn_size = 266240
 
 -- an input was not opened: its name isn't there, or the inputs failed
 abbrev pub Unopened : InputsState → List ℕ → InputsState → Event → Type 0
-Unopened old name new event = (((event ≡ missing name) × Misses old name new) ⊎ ((event ≡ reading_failed name) × InputsFail old new)) × (new.selected ≡ false)
+Unopened old name new event = (((event ≡ missing name) × MissesInput old name new) ⊎ ((event ≡ reading_failed name) × InputsFail old new)) × (new.selected ≡ false)
 
 -- the selected input failed after fewer than `most` bytes more, and no input is selected any more
 pub record Breaks (old : InputsState) (most : ℕ) (new : InputsState) : Type 0 where
