@@ -11,7 +11,7 @@ use Rattle.x7_words.specs.Input.{MapLacks}
 use Rattle.x7_words.specs.Word.{AreBytes}
 use Rattle.x7_words.proofs.CountLemmas.{risen_from}
 use Rattle.x7_words.proofs.InputLemmas.{preceded_preceded, stays_at, stays_on, takes_none, takes_on}
-use Rattle.x7_header.specs.Header.{Contents, longest_header}
+use Rattle.x7_header.specs.Header.{HeaderContents, longest_header}
 use Rattle.x7_header.specs.Reading.{header_at}
 use Rattle.x7_header.specs.declared.fault.HeaderFault.{HeaderFault}
 use Rattle.x7_header.specs.declared.fault.HeaderFault.TheVariants as header
@@ -323,7 +323,7 @@ unread_by {A} {B} (Some t) C due event Next keeps (inr h) = inr (h.0, subst (λ 
 -- ---- the header of a stream
 
 -- a header that is refused is a matter of the contents
-head_by : (A : Type 0) (name bytes : List ℕ) (read : Result (Contents × ℕ) HeaderFault) (event : Event) → data_by name bytes read ≡ Err event → IsPossible {A = A} (Err event) × IsDecided {A = A} (Err event)
+head_by : (A : Type 0) (name bytes : List ℕ) (read : Result (HeaderContents × ℕ) HeaderFault) (event : Event) → data_by name bytes read ≡ Err event → IsPossible {A = A} (Err event) × IsDecided {A = A} (Err event)
 head_by A name bytes (Ok head) event e = absurd (cc)
 head_by A name bytes (Err header.Raw) event e = absurd (cc)
 head_by A name bytes (Err (header.Cut place)) event e =
@@ -618,7 +618,7 @@ want_unread old new name limit event (inl e) = inl e
 want_unread old new name limit event (inr h) = turn_unread old new name limit event h.0
 
 -- a header that is refused
-refused_by : (name bytes : List ℕ) (read : Result (Contents × ℕ) HeaderFault) (event : Event) → Err event ≡ data_by name bytes read → (place : ℕ) × (event ≡ bad_input name (input.Byte place))
+refused_by : (name bytes : List ℕ) (read : Result (HeaderContents × ℕ) HeaderFault) (event : Event) → Err event ≡ data_by name bytes read → (place : ℕ) × (event ≡ bad_input name (input.Byte place))
 refused_by name bytes (Ok head) event e = absurd (cc)
 refused_by name bytes (Err header.Raw) event e = absurd (cc)
 refused_by name bytes (Err (header.Cut place)) event e = (place, cc)

@@ -8,7 +8,7 @@ use Rattle.std.proofs.Math.Seq.{drop-nil}
 use Rattle.std.specs.List.{flat_map}
 use Rattle.x7_crc.specs.Checker.{CheckerState, KeepsCheckOf}
 use Rattle.x7_crc.proofs.CheckerLemmas.{still_keeps}
-use Rattle.x7_header.specs.Header.{Contents, longest_header}
+use Rattle.x7_header.specs.Header.{HeaderContents, longest_header}
 use Rattle.x7_text.specs.Lines.{split}
 use Rattle.x7_text.proofs.LineReaderLemmas.{HasTaken, each_fault}
 use Rattle.x7_listing.specs.Assembly.{AreHeadedAsm}
@@ -41,7 +41,7 @@ goes_header all left held out header start len c n checker fresh h short size up
 first_is : (s t : List ℕ) (ss ts : List (List ℕ)) → s ∷ ss ≡ t ∷ ts → s ≡ t
 first_is s t ss ts e = cc
 
-pub goes_plain : (all left : List (List ℕ)) (held out : List ℕ) (start n : ℕ) (checker : CheckerState) → ((x : Contents) → FitsHeader x → held ≡ bit_text x → ⊥) → Unbegun all (held ∷ left) (asm_state out start checker n) → TextsAreRead all (held ∷ left) (asm_state out start checker n)
+pub goes_plain : (all left : List (List ℕ)) (held out : List ℕ) (start n : ℕ) (checker : CheckerState) → ((x : HeaderContents) → FitsHeader x → held ≡ bit_text x → ⊥) → Unbegun all (held ∷ left) (asm_state out start checker n) → TextsAreRead all (held ∷ left) (asm_state out start checker n)
 goes_plain all left held out start n checker none u =
     let empty : drop start out ≡ [] = ap (drop start) u.out_is ∙ drop-nil start in
     record {
