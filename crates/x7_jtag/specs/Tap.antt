@@ -14,7 +14,7 @@ use Rattle.x7_jtag.specs.declared.state.State.{State}
 use Rattle.x7_jtag.specs.declared.state.State.TheVariants as state
 use Rattle.x7_jtag.specs.Port.{Port, port_after, words_read_out}
 use Rattle.x7_jtag.specs.Queue.{Queue, most_bytes_held}
-use Rattle.x7_jtag.specs.State.{Clock}
+use Rattle.x7_jtag.specs.State.{PortClock}
 
 -- the stored values of a queue: the bytes held, the latest word taken of the device, and how many of its bits are still
 -- to go out
@@ -105,16 +105,16 @@ abbrev pub PortBecomes : TapState → DeviceState → TapState → DeviceState �
 PortBecomes t d u e after = (part : PartData) (p : Port) → StandsForPort part t d p → StandsForPort part u e (after part p)
 
 -- a tap and its device were new before these clocks
-abbrev pub TapStandsFor : PartData → TapState → DeviceState → List Clock → Type 0
+abbrev pub TapStandsFor : PartData → TapState → DeviceState → List PortClock → Type 0
 TapStandsFor part t d cs = StandsForPort part t d (port_after part cs)
 
 -- a step on a tap and its device makes these clocks, by the port before them
-abbrev pub MakesClocks : TapState → DeviceState → TapState → DeviceState → (Port → List Clock) → Type 0
-MakesClocks t d u e made = (part : PartData) (cs : List Clock) → TapStandsFor part t d cs → TapStandsFor part u e (cs ++ made (port_after part cs))
+abbrev pub MakesClocks : TapState → DeviceState → TapState → DeviceState → (Port → List PortClock) → Type 0
+MakesClocks t d u e made = (part : PartData) (cs : List PortClock) → TapStandsFor part t d cs → TapStandsFor part u e (cs ++ made (port_after part cs))
 
 -- what holds of each device and of the port that it and a tap stand for
 abbrev pub OfEachPort : (PartData → DeviceState → Port → Type 0) → Type 0
-OfEachPort Fact = (part : PartData) (t : TapState) (d : DeviceState) (cs : List Clock) → TapStandsFor part t d cs → Fact part d (port_after part cs)
+OfEachPort Fact = (part : PartData) (t : TapState) (d : DeviceState) (cs : List PortClock) → TapStandsFor part t d cs → Fact part d (port_after part cs)
 
 -- the next bit is the first of a byte for the device
 pub record TakesBytes (t : TapState) : Type 0 where
