@@ -49,11 +49,11 @@ impl Svf {
         self.statements.len()
     }
 
-    /// Statement i, from 0, and none exactly past the last.
-    pub fn statement(&self, i: usize) -> Option<Statement<'_>>
-        ensures { result ≡ slice_get self.now i }
+    /// Statement `index`, from 0, and none exactly past the last.
+    pub fn statement(&self, index: usize) -> Option<Statement<'_>>
+        ensures { result ≡ slice_get self.now index }
     {
-        match self.statements.get(i) {
+        match self.statements.get(index) {
             Some(stored) => Some(statement_of(stored, &self.digits)),
             None => None,
         }
