@@ -23,7 +23,7 @@ pub use laws::{
 };
 pub use line_reader::{LineReader, TakesLines, read_lines};
 pub use lines::{after, first_line, means_nothing};
-pub use read_row::{put_byte_row, put_word_row};
+pub use read_row::{read_byte_row, read_word_row};
 pub use reading::{
     HexPrefix, block_of_hex, decimal_below, number_of_decimal, prefix_of_hex, word_of_hex,
 };

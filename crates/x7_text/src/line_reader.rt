@@ -1,6 +1,6 @@
 //! A text that comes in pieces, line by line.
 ghost use Rattle.std.specs.Prelude.{◌≡◌, ◌+◌, ◌<◌, ◌++◌, ◌∷◌, [], List, ℕ, length, IfErr, MatchOption, MatchResult};
-ghost use Rattle.x7_text.specs.LineReader.{CompletesLine, StandsFor, TakesEndedLine, TakesEndedLines, TakesPiece, WantsAt, WantsOnlyIn};
+ghost use Rattle.x7_text.specs.LineReader.{CompletesLine, StandsFor, TakesEndedLine, TakesEndedLines, TakesTextPiece, WantsAt, WantsOnlyIn};
 ghost use Rattle.x7_text.specs.Lines.{split};
 ghost use Rattle.x7_words.specs.Input.{taken_bytes_limit};
 
@@ -131,7 +131,7 @@ impl<T: TakesLines> LineReader<T> {
 
     /// Takes the next piece of a text, where no beginning of a line is held.
     fn take_lines(&mut self, piece: &[u8]) -> Result<(), T::Fault>
-        ensures read { (first : T) → self.old.held ≡ [] → TakesPiece (T.took first) (T.fails first) self.old piece.now result (λ _. self.new) }
+        ensures read { (first : T) → self.old.held ≡ [] → TakesTextPiece (T.took first) (T.fails first) self.old piece.now result (λ _. self.new) }
         ensures memory { (first : T) → WantsOnlyIn (T.took first) (T.wants first) T.is_want self.old piece.now result }
     {
         let (rest, count) = self.taker.put_lines(self.count, piece)?;
@@ -147,7 +147,7 @@ impl<T: TakesLines> LineReader<T> {
 
     /// Takes the next piece of a text.
     fn take(&mut self, piece: &[u8]) -> Result<(), T::Fault>
-        ensures read { (first : T) → TakesPiece (T.took first) (T.fails first) self.old piece.now result (λ _. self.new) }
+        ensures read { (first : T) → TakesTextPiece (T.took first) (T.fails first) self.old piece.now result (λ _. self.new) }
         ensures memory { (first : T) → WantsOnlyIn (T.took first) (T.wants first) T.is_want self.old piece.now result }
     {
         if self.held.is_empty() {
@@ -163,7 +163,7 @@ impl<T: TakesLines> LineReader<T> {
     /// whole text, whatever follows. Where no beginning of a line is held, memory is wanting only at a line of the
     /// piece, or to hold the beginning of a line after them.
     pub fn feed(self, piece: &[u8]) -> Result<LineReader<T>, T::Fault>
-        ensures read { (first : T) → TakesPiece (T.took first) (T.fails first) self piece.now result (λ reader. reader) }
+        ensures read { (first : T) → TakesTextPiece (T.took first) (T.fails first) self piece.now result (λ reader. reader) }
         ensures memory { (first : T) → WantsOnlyIn (T.took first) (T.wants first) T.is_want self piece.now result }
     {
         let mut reader = self;

@@ -10,7 +10,7 @@ ghost use Rattle.x7_words.specs.Characters.{space_byte};
 use memchr::memchr;
 use std::alloc::Global;
 use x7_header::{Head, LONGEST_TEXT, write_header};
-use x7_text::{after, make_room, number_of_decimal, put_byte_row};
+use x7_text::{after, make_room, number_of_decimal, read_byte_row};
 use x7_words::{NoMemory, is_same};
 
 /// The bytes of a text of pairs of hexadecimal digits; `None` for any other text.
@@ -23,7 +23,7 @@ fn bytes_of_pairs(alloc: Global, digits: &[u8]) -> Result<Option<Vec<u8>>, NoMem
     while !rest.is_empty() {
         let (row, more) = rest.split_at(rest.len().min(64));
         make_room(&mut bytes, 32)?;
-        if !put_byte_row(&mut bytes, row) {
+        if !read_byte_row(&mut bytes, row) {
             return Ok(None);
         }
         rest = more;

@@ -1,6 +1,6 @@
 //! The bytes of a text's lines, as the lines come.
 ghost use Rattle.std.specs.Prelude.{◌≡◌, ℕ, List, [], ◌∷◌, ◌++◌, ◌+◌, ◌≤◌, drop, length, vec_len, vec_capacity, Ok, IfErr, OnOk, MatchResult};
-ghost use Rattle.x7_text.specs.Reads.{Reads};
+ghost use Rattle.x7_text.specs.Reads.{AppendsIfRead};
 ghost use Rattle.x7_crc.specs.Checker.{check_of_bytes, KeepsCheckOf};
 ghost use Rattle.x7_listing.specs.Assembly.{AreHeadedAsm};
 ghost use Rattle.x7_listing.specs.Assembling.{HasReadWithRoom, FailsFirst, FailsNext, HasAsmFault, HasLineRoom, HasRoomForLine, IsFirstOrGood, Output, ReadsFirst, ReadsNext, AppendsLines};
@@ -23,7 +23,7 @@ fn put_checked(out: &mut Vec<u8>, start: usize, checker: &mut Checker, line: &[u
     requires room { HasRoomForLine out.old }
     requires start { start ≤ length out.old.items }
     requires keeps { KeepsCheckOf checker.old (drop start out.old.items) }
-    ensures reads { Reads FitsLine text_of (line_bytes (check_of_bytes (drop start out.old.items))) result line.now out.old.items out.new.items }
+    ensures reads { AppendsIfRead FitsLine text_of (line_bytes (check_of_bytes (drop start out.old.items))) result line.now out.old.items out.new.items }
     ensures start { start ≤ length out.new.items }
     ensures keeps { KeepsCheckOf checker.new (drop start out.new.items) }
 {

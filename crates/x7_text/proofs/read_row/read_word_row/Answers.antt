@@ -1,7 +1,7 @@
 use Rattle.std.proofs.Common.{◌+◌, ◌-◌, ◌/◌, length, drop, arith, ap, refl}
 use Rattle.x7_text.proofs.ReadRowLemmas.{no_word_length, no_word_row, yes_word_row}
-use Rattle.x7_text.proofs.read_row.put_word_row.Goals as goal
-use Rattle.x7_text.proofs.read_row.put_word_row.Goals.{then-count-eq0-via-then-count-eq0, then-count-eq0-via-else-count-eq0+then-text-gt72, then-count-eq0-via-else-count-eq0+else-text-gt72+then-text-count}
+use Rattle.x7_text.proofs.read_row.read_word_row.Goals as goal
+use Rattle.x7_text.proofs.read_row.read_word_row.Goals.{then-count-eq0-via-then-count-eq0, then-count-eq0-via-else-count-eq0+then-text-gt72, then-count-eq0-via-else-count-eq0+else-text-gt72+then-text-count}
 
 pub returns-then-count-eq0-clause-reads : goal.returns-then-count-eq0-clause-reads
 returns-then-count-eq0-clause-reads c = (

@@ -1,7 +1,7 @@
 use Rattle.std.proofs.Common.{◌/◌, length, arith, refl}
 use Rattle.x7_text.proofs.ReadRowLemmas.{no_byte_length, no_byte_row, yes_byte_row}
-use Rattle.x7_text.proofs.read_row.put_byte_row.Goals as goal
-use Rattle.x7_text.proofs.read_row.put_byte_row.Goals.{then-count-eq0-via-then-count-eq0, then-count-eq0-via-else-count-eq0+then-digits-gt64, then-count-eq0-via-else-count-eq0+else-digits-gt64+then-digits-count}
+use Rattle.x7_text.proofs.read_row.read_byte_row.Goals as goal
+use Rattle.x7_text.proofs.read_row.read_byte_row.Goals.{then-count-eq0-via-then-count-eq0, then-count-eq0-via-else-count-eq0+then-digits-gt64, then-count-eq0-via-else-count-eq0+else-digits-gt64+then-digits-count}
 
 pub returns-then-count-eq0-clause-reads : goal.returns-then-count-eq0-clause-reads
 returns-then-count-eq0-clause-reads c = (

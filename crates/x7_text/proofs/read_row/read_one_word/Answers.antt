@@ -1,6 +1,6 @@
 use Rattle.std.proofs.Common.{refl, arith}
 use Rattle.x7_text.proofs.ReadRowLemmas.{no_one_word, no_space_first, yes_one_word}
-use Rattle.x7_text.proofs.read_row.put_one_word.Goals as goal
+use Rattle.x7_text.proofs.read_row.read_one_word.Goals as goal
 
 pub returns-then-text-ne32-clause-reads : goal.returns-then-text-ne32-clause-reads
 returns-then-text-ne32-clause-reads c = (no_space_first c.args.text.now c.requires.length c.if-text-ne32.true, refl)
