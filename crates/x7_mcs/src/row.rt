@@ -114,7 +114,7 @@ fn sixteen_in(line: &[u8; ROW_LINE_SIZE], at: usize) -> [u8; 16]
 
 /// A data record of sixteen bytes.
 #[derive(Clone, Copy)]
-pub(crate) struct Row {
+pub(crate) struct RowRecord {
     pub(crate) address: u16,
     pub(crate) content: [u8; 16],
 }
@@ -151,12 +151,12 @@ fn guess_number(digit: u8) -> u16
 
 /// The row that a line would show.
 #[inline(always)]
-fn guess_row(line: &[u8; ROW_LINE_SIZE]) -> Row {
+fn guess_row(line: &[u8; ROW_LINE_SIZE]) -> RowRecord {
     let address = 4096 * guess_number(line[3])
         + 256 * guess_number(line[4])
         + 16 * guess_number(line[5])
         + guess_number(line[6]);
-    Row {
+    RowRecord {
         address,
         content: guess_bytes(sixteen_in(line, 9), sixteen_in(line, 25)),
     }
@@ -186,7 +186,7 @@ fn is_row_line(line: &[u8; ROW_LINE_SIZE], address: u16, content: &[u8; 16]) -> 
 /// The row whose line a text begins with, in the form in which one is written here, and the text after that line. None
 /// says nothing of the text.
 #[inline(always)]
-pub(crate) fn first_row(text: &[u8]) -> Option<(Row, &[u8])>
+pub(crate) fn first_row(text: &[u8]) -> Option<(RowRecord, &[u8])>
     ensures line { MatchOption result (Unit {0}) (λ r. text.now ≡ data_line r.0.address r.0.content ++ r.1.now) }
     ensures content { MatchOption result (Unit {0}) (λ r. length r.0.content ≡ row_size) }
     ensures bytes { MatchOption result (Unit {0}) (λ r. AreBytes r.0.content) }

@@ -153,13 +153,13 @@ impl TakesLines for AsmLines {
         AsmFault::NoMemory
     }
 
-    fn put_line(&mut self, n: u64, line: &[u8]) -> Result<(), AsmFault> {
-        self.put_next(n, line)
+    fn take_line(&mut self, line_number: u64, line: &[u8]) -> Result<(), AsmFault> {
+        self.put_next(line_number, line)
     }
 
-    fn put_lines<'t>(&mut self, n: u64, text: &'t [u8]) -> Result<(&'t [u8], u64), AsmFault> {
+    fn take_lines<'t>(&mut self, line_count: u64, text: &'t [u8]) -> Result<(&'t [u8], u64), AsmFault> {
         let mut rest = text;
-        let mut count = n;
+        let mut count = line_count;
         loop {
             let quick = self.put_at_once(count, rest);
             count = count.saturating_add(quick.count);
@@ -173,9 +173,9 @@ impl TakesLines for AsmLines {
         }
     }
 
-    fn put_last(self, n: u64, line: &[u8]) -> Result<Vec<u8>, AsmFault> {
+    fn take_last(self, line_number: u64, line: &[u8]) -> Result<Vec<u8>, AsmFault> {
         let mut last = self;
-        last.put_next(n, line)?;
+        last.put_next(line_number, line)?;
         Ok(last.out)
     }
 }

@@ -2,7 +2,7 @@ use Rattle.std.proofs.Common.{◌≡◌, ◌++◌, ◌∙◌, inl, inr, length, 
 use Rattle.x7_text.specs.LineReader.{ReaderState, StandsFor, TakesWhole}
 use Rattle.x7_text.proofs.LineReaderLemmas.{few_lines, lines_fail, lines_taken, none_left, view_count, view_took}
 use Rattle.std.proofs.lemmas.Result.{err_from_is_err_and}
-use Rattle.x7_text.proofs.line_reader.LineReader.take_lines.Goals as goal
+use Rattle.x7_text.proofs.line_reader.LineReader.take_at_line_start.Goals as goal
 
 pub returns-in_err-rest-clause-read : goal.returns-in_err-rest-clause-read
 returns-in_err-rest-clause-read g c =
@@ -43,9 +43,9 @@ returns-in_default-clause-memory g c = λ first text fits clear s want.
     let rest = c.in_ok-rest.rest.now in
     let r : ReaderState g.row.T.Denot = record { taker = c.self.inside.taker; held = c.self.inside.held.items; count = c.self.inside.count } in
     let count : r.count ≡ length s.lines = view_count taken r c.args.self.now (length s.lines) c.self.view_is s.count in
-    let w : TakesWhole taken s.lines piece c.put_lines.new.self rest c.in_ok-rest.count =
+    let w : TakesWhole taken s.lines piece c.take_lines.new.self rest c.in_ok-rest.count =
     c.in_ok-rest.ensures.read first s.lines count (omega (arith, count, few_lines taken c.args.self.now text s, s.count, fits, length-append text piece)) (view_took taken r c.args.self.now s.lines c.self.view_is s.took) in
-    inr (record { taker = c.put_lines.new.self; more = w.more; rest = rest; cut = w.cut; took = w.took; begun = λ e. absurd (grind (arith, ap length e, c.is_empty.ensures, c.if-is_empty.false)) })
+    inr (record { taker = c.take_lines.new.self; more = w.more; rest = rest; cut = w.cut; took = w.took; begun = λ e. absurd (grind (arith, ap length e, c.is_empty.ensures, c.if-is_empty.false)) })
 
 pub returns-clause-read : goal.returns-clause-read
 returns-clause-read g c = λ first clear text fits now.
