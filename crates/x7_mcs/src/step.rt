@@ -20,7 +20,8 @@ pub(crate) struct Context {
     pub(crate) has_ended: bool,
 }
 
-/// Takes the data of line `line_number`'s record into the image, and gives the base and the end that stand after it.
+/// Takes the data of line `line_number`'s record into the image, and gives the base and the end that stand after
+/// it.
 #[inline(always)]
 pub(crate) fn take_data(
     image: &mut Image,

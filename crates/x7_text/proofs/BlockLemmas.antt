@@ -76,7 +76,7 @@ low_half b = and_high b 4 0 ∙ omega arith
 abbrev pub halves : List ℕ → List ℕ
 halves bs = flat_map (λ b. b / 2 ^ 4 ∷ b % 2 ^ 4 ∷ []) bs
 
-masked_are : (bs : List ℕ) → flat_map (λ b. b / 2 ^ 4 ∷ bit_and b 15 ∷ []) bs ≡ halves bs
+pub masked_are : (bs : List ℕ) → flat_map (λ b. b / 2 ^ 4 ∷ bit_and b 15 ∷ []) bs ≡ halves bs
 masked_are [] = refl
 masked_are (b ∷ bs) = ap₂ (λ (x : ℕ) (t : List ℕ). b / 2 ^ 4 ∷ x ∷ t) (low_half b) (masked_are bs)
 

@@ -13,7 +13,7 @@ mod reading;
 mod room;
 mod row;
 
-pub use block::{bytes_line, data_line, hex_of_block};
+pub use block::{bytes_line, data_line, hex_of_block, hex_of_sixteen};
 pub use digits::{hex_of_byte, hex_of_word, put_decimal};
 pub use either_case::read_pairs;
 pub use growing::{put_number, put_text};
