@@ -20,7 +20,9 @@ pub(crate) struct Record {
     ranges: Vec<WriteRange>,
     before: Vec<u8>,
     target: Vec<u8>,
+    // how many writes more can be recorded
     writes_left: usize,
+    // how many bytes the ranges of further writes may have in all
     bytes_left: usize,
 }
 

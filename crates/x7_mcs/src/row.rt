@@ -83,7 +83,7 @@ fn sixteen_in(line: &[u8; ROW_LINE_SIZE], at: usize) -> [u8; 16]
     u8x16::from_slice(&line[at..]).to_array()
 }
 
-/// A data record of sixteen bytes.
+/// A data record of sixteen bytes, at an address within its block.
 #[derive(Clone, Copy)]
 pub(crate) struct RowRecord {
     pub(crate) address: u16,

@@ -13,7 +13,7 @@ use x7_text::read_pairs;
 /// The bytes of the longest record: 255 of data, and those beside them.
 const MOST_RECORD_SIZE: usize = 255 + BYTES_BESIDE;
 
-/// The base that stands, and whether a record 01 stood.
+/// The base that stands, a place in bytes, and whether a record 01 stood.
 #[derive(Clone, Copy)]
 pub(crate) struct Context {
     pub(crate) base: u32,

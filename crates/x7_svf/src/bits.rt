@@ -13,7 +13,9 @@ const MOST_BYTES_AT_ONCE: usize = 1024;
 /// Some bits, lowest first, lent as the hexadecimal digits that a text gives for them.
 #[derive(Drop)]
 pub struct Bits<'t> {
+    // how many bits there are
     count: u32,
+    // the digits, the first the highest
     digits: &'t [u8],
 }
 

@@ -86,8 +86,11 @@ pub fn read_lines<T: TakesLines>(taker: T, text: &[u8]) -> Result<T::Out, T::Fau
 /// Reads a text that comes in pieces, line by line.
 #[derive(Drop)]
 pub struct LineReader<T> {
+    // what takes the lines
     taker: T,
+    // the beginning of the line that comes
     held: Vec<u8>,
+    // how many lines were taken
     count: u64,
 }
 
