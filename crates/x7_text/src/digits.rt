@@ -46,7 +46,7 @@ pub fn hex_of_byte(byte: u8) -> [u8; 2]
 }
 
 /// The most decimal digits that a number of 64 bits has.
-pub(crate) const MOST_DIGITS: usize = 20;
+pub const MOST_DIGITS: usize = 20;
 
 /// Appends the decimal digits of a number, without leading zeros. It takes no memory.
 pub fn put_decimal(text: &mut Vec<u8>, number: u64)

@@ -14,7 +14,7 @@ mod room;
 mod row;
 
 pub use block::{bytes_line, data_line, hex_of_block, hex_of_sixteen};
-pub use digits::{hex_of_byte, hex_of_word, put_decimal};
+pub use digits::{MOST_DIGITS, hex_of_byte, hex_of_word, put_decimal};
 pub use either_case::read_pairs;
 pub use growing::{put_number, put_text};
 pub use laws::{
@@ -28,4 +28,4 @@ pub use reading::{
     HexPrefix, block_of_hex, decimal_below, number_of_decimal, prefix_of_hex, word_of_hex,
 };
 pub use room::{make_room, put};
-pub use row::{put_bytes, put_close, put_word, put_words};
+pub use row::{BYTES_ROW_SIZE, put_bytes, put_close, put_word, put_words};

@@ -15,7 +15,7 @@ use x7_words::word_of;
 const ROW_WORDS: usize = 8;
 
 /// How many bytes a full `bytes` line has.
-const BYTES_ROW_SIZE: usize = 32;
+pub const BYTES_ROW_SIZE: usize = 32;
 
 /// Appends the keyword that a line begins with, where no line is open.
 fn put_line_start(text: &mut Vec<u8>, keyword: &[u8], in_line: usize)

@@ -19,11 +19,11 @@ use x7_packets::{
     NO_OP, SYNC_WORD, type1_read_header, type1_write_header, type2_read_header, type2_write_header,
 };
 use x7_regs::{Reg, command_named, reg_named};
-use x7_text::{after, decimal_below, put, read_byte_row, read_word_row, word_of_hex};
+use x7_text::{BYTES_ROW_SIZE, after, decimal_below, put, read_byte_row, read_word_row, word_of_hex};
 use x7_words::{bytes_of, is_same};
 
-/// How many bytes the row of a line has at most; a line of another kind stands for fewer.
-pub(crate) const MOST_ROW_SIZE: usize = 32;
+/// The most bytes that a line stands for: those of a full `bytes` line, as many as a full `data` line's words have.
+pub(crate) const MOST_ROW_SIZE: usize = BYTES_ROW_SIZE;
 
 /// How many word counts a type 1 header can say: each is below this (UG470, packet types).
 const TYPE1_COUNTS: u32 = 1 << 11;
