@@ -56,7 +56,9 @@ read_ok old new buf (Ok n) s h e = record {
 read_ok old new buf (Err _) s h e = tt
 
 -- a read asks for no input
-pub read_selects : (old new : RealInputs) (answer : Result ℕ FailedRead) → IfOk answer (λ n. new ≡ record old { rest = new.rest; ends = ends_counted n old.ends; given = added old.given n }) → OnErr answer (new ≡ record old { selected = false; rest = None; faults = raised old.faults }) → new.selects ≡ old.selects
+pub read_selects : (old new : RealInputs) (answer : Result ℕ FailedRead)
+    → IfOk answer (λ n. new ≡ record old { rest = new.rest; ends = ends_counted n old.ends; given = added old.given n })
+    → OnErr answer (new ≡ record old { selected = false; rest = None; faults = raised old.faults }) → new.selects ≡ old.selects
 read_selects old new (Ok _) o e = ap (λ f. f.selects) o
 read_selects old new (Err _) o e = ap (λ f. f.selects) e
 

@@ -74,7 +74,9 @@ yes_byte_row ds r known old new n long fit text same some two few appended =
     let all : AreBytes r = all_from_places (λ b. b < 256) r (λ k l. fit k) in
     (take n r, (all_take (λ b. b < 256) n r all, omega (arith, count), omega (arith, count)), is, appended)
 
-pub no_word_row : (ds p r known : List ℕ) (m : ℕ) (b : Bool) → m ≡ length ds → take (8 * (length ds / 9)) p ≡ flat_map (λ (word : List ℕ). drop 1 word) (first_chunks 9 (length ds / 9) ds) → length p ≡ 64 → r ≡ bytes_value p → known ≡ flat_map spaced (words_of_bytes r) ++ 10 ∷ [] → b ≡ false → (take m known ≡ ds → IsTrue b)
+pub no_word_row : (ds p r known : List ℕ) (m : ℕ) (b : Bool) → m ≡ length ds
+    → take (8 * (length ds / 9)) p ≡ flat_map (λ (word : List ℕ). drop 1 word) (first_chunks 9 (length ds / 9) ds) → length p ≡ 64 → r ≡ bytes_value p
+    → known ≡ flat_map spaced (words_of_bytes r) ++ 10 ∷ [] → b ≡ false → (take m known ≡ ds → IsTrue b)
     → (ws : List ℕ) → IsWordRow ws → ds ≡ flat_map spaced ws → ⊥
 no_word_row ds p r known m b same prefix long value text off is ws row e =
     let nine : length ds ≡ 9 * length ws = ap length e ∙ length_spaced ws in
@@ -97,7 +99,9 @@ yes_word_row ds r known old new m n eq long fit text same some nine few appended
     let all : AreBytes (take (4 * n) r) = all_take (λ b. b < 256) (4 * n) r (all_from_places (λ b. b < 256) r (λ k l. fit k)) in
     let words : length (words_of_bytes (take (4 * n) r)) ≡ n = length_words (take (4 * n) r) n count in
     let eight : length (words_of_bytes r) ≡ 8 = length_words r 8 long in
-    let is : ds ≡ flat_map spaced (words_of_bytes (take (4 * n) r)) = sym same ∙ ap (λ (j : ℕ). take j known) eq ∙ ap (take (length ds)) text ∙ ap (λ (j : ℕ). take j (flat_map spaced (words_of_bytes r) ++ 10 ∷ [])) nine ∙ take_spaced n (words_of_bytes r) (10 ∷ []) (omega arith) ∙ ap (flat_map spaced) (sym (words_taken n r (omega arith))) in
+    let is : ds ≡ flat_map spaced (words_of_bytes (take (4 * n) r)) =
+        sym same ∙ ap (λ (j : ℕ). take j known) eq ∙ ap (take (length ds)) text ∙ ap (λ (j : ℕ). take j (flat_map spaced (words_of_bytes r) ++ 10 ∷ [])) nine
+        ∙ take_spaced n (words_of_bytes r) (10 ∷ []) (omega arith) ∙ ap (flat_map spaced) (sym (words_taken n r (omega arith))) in
     (words_of_bytes (take (4 * n) r), (words_fit (take (4 * n) r) all, omega (arith, words), omega (arith, words)), is, appended ∙ ap (λ t. old ++ t) (sym (bytes_words (take (4 * n) r) n all count)))
 
 -- a row of one word
