@@ -277,9 +277,17 @@ of_statement part u e cs s x y is t = subst (λ (z : Statement). TapStandsFor pa
 
 pub short_scan : (s : State) (x : Scan) (y : Statement) → y ≡ statement.Scan x → length x.tdi < 2 ^ 32 → length (clocks_of s y) ≤ 2 ^ 33
 short_scan s x y is few =
-    omega (arith, ap (λ (z : Statement). length (clocks_of s z)) is, few, length-append (from_reset s) (to_shift x.register), leave_length s,
-        length-append (from_reset s ++ to_shift x.register) (shift_clocks x.tdi), to_shift_length x.register,
-        length-append (from_reset s ++ to_shift x.register ++ shift_clocks x.tdi) from_exit, shift_length x.tdi)
+    omega (
+      arith,
+      ap (λ (z : Statement). length (clocks_of s z)) is,
+      few,
+      length-append (from_reset s) (to_shift x.register),
+      leave_length s,
+      length-append (from_reset s ++ to_shift x.register) (shift_clocks x.tdi),
+      to_shift_length x.register,
+      length-append (from_reset s ++ to_shift x.register ++ shift_clocks x.tdi) from_exit,
+      shift_length x.tdi,
+    )
 
 -- ---- statements
 

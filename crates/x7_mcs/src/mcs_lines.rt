@@ -51,7 +51,13 @@ impl McsLines {
             → LinesComeTo result (after_data line_number (flash_reading_at self.old.context xs) row.now.address row.now.content) self.new }
     {
         let address = u32::from(row.address);
-        self.context = take_data(&mut self.image, line_number, self.context, address, &row.content)?;
+        self.context = take_data(
+            &mut self.image,
+            line_number,
+            self.context,
+            address,
+            &row.content,
+        )?;
         Ok(())
     }
 
@@ -65,7 +71,11 @@ impl McsLines {
 
     /// Takes the first line of a text, line `line_number`, if it has its end. Answers the text after it.
     #[inline(always)]
-    fn take_first_line<'t>(&mut self, line_number: u64, text: &'t [u8]) -> Result<Option<&'t [u8]>, McsFault>
+    fn take_first_line<'t>(
+        &mut self,
+        line_number: u64,
+        text: &'t [u8],
+    ) -> Result<Option<&'t [u8]>, McsFault>
         ensures read { (lines : List (List ℕ)) → line_number ≡ length lines + 1 → HasReadRecords (mcs_lines_state self.old) lines
             → MatchResult result (λ found. TakesIfEnded (λ rest. rest.now) lines text.now found self.new) (λ f. FailsAfter (HasMcsFault f) lines text.now) }
         ensures memory { (lines : List (List ℕ)) → line_number ≡ length lines + 1 → HasReadRecords (mcs_lines_state self.old) lines
@@ -113,7 +123,11 @@ impl TakesLines for McsLines {
         self.take_bare_line(line_number, without_return(line))
     }
 
-    fn take_lines<'t>(&mut self, line_count: u64, text: &'t [u8]) -> Result<(&'t [u8], u64), McsFault> {
+    fn take_lines<'t>(
+        &mut self,
+        line_count: u64,
+        text: &'t [u8],
+    ) -> Result<(&'t [u8], u64), McsFault> {
         let mut rest = text;
         let mut count = line_count;
         loop {

@@ -89,7 +89,11 @@ fn meaning_by_type(line_number: u64, bytes: &[u8]) -> Result<Meaning, McsFault>
 }
 
 /// What the bytes of line `line_number` say, where a record 01 stood before or not.
-pub(crate) fn meaning_of(line_number: u64, has_ended: bool, bytes: &[u8]) -> Result<Meaning, McsFault>
+pub(crate) fn meaning_of(
+    line_number: u64,
+    has_ended: bool,
+    bytes: &[u8],
+) -> Result<Meaning, McsFault>
     ensures meaning { SaysMeaning result (meaning_of line_number has_ended bytes.now) }
     ensures counted { MatchResult result (λ _. IsOfItsCount bytes.now) (λ _. Unit {0}) }
 {
@@ -99,7 +103,11 @@ pub(crate) fn meaning_of(line_number: u64, has_ended: bool, bytes: &[u8]) -> Res
     let last = bytes.len() - 1;
     let (want, got) = (sum_byte(&bytes[..last], &[]), bytes[last]);
     if want != got {
-        return Err(McsFault::Sum { line: line_number, want, got });
+        return Err(McsFault::Sum {
+            line: line_number,
+            want,
+            got,
+        });
     }
     if has_ended {
         return Err(McsFault::Line(line_number));

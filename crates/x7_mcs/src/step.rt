@@ -34,7 +34,12 @@ pub(crate) fn take_data(
     requires address { address < 2 ^ 16 }
     ensures { (xs : List DataRecord) → ImageHolds image.old xs → CallComesTo result (after_data line_number (flash_reading_at context xs) address content.now) image.new }
 {
-    take_content(image, line_number, context.base as usize + address as usize, content)?;
+    take_content(
+        image,
+        line_number,
+        context.base as usize + address as usize,
+        content,
+    )?;
     Ok(context)
 }
 
@@ -58,7 +63,13 @@ fn take_record(
             base,
             has_ended: context.has_ended,
         }),
-        Meaning::Data(address) => take_data(image, line_number, context, address, record_data(bytes)),
+        Meaning::Data(address) => take_data(
+            image,
+            line_number,
+            context,
+            address,
+            record_data(bytes),
+        ),
     }
 }
 

@@ -114,7 +114,12 @@ fn with_field(spans: FieldSpans, field: ScanField, digits: Span) -> Option<Field
 }
 
 /// The fields with the one whose digits were kept from `from` on; none where it has no digit, or is among them.
-fn closed_field(source: &Source, spans: FieldSpans, field: ScanField, from: usize) -> Option<FieldSpans>
+fn closed_field(
+    source: &Source,
+    spans: FieldSpans,
+    field: ScanField,
+    from: usize,
+) -> Option<FieldSpans>
     requires from { from ≤ length source.now.kept }
     ensures fields { fields_if source.now.kept result ≡ closed_field (fields_of source.now.kept spans) field (drop from source.now.kept) }
     ensures within { AreWithin (length source.now.kept) spans → IfSome result (AreWithin (length source.now.kept)) }

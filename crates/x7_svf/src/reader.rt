@@ -18,9 +18,11 @@ use crate::fields::{FieldSpans, fields};
 use crate::source::Source;
 use crate::span::Span;
 use crate::statement::ScannedRegister;
-use crate::stored::{StoredStatement, StoredScan};
+use crate::stored::{StoredScan, StoredStatement};
 use crate::token::{NextToken, next_within, pass_end};
-use crate::words::{KeptWords, is_free_word, is_keyword, number_within, statement_of_kept, with_word};
+use crate::words::{
+    KeptWords, is_free_word, is_keyword, number_within, statement_of_kept, with_word,
+};
 
 /// The most bits of a scan.
 const MOST_BITS: u32 = 1 << 29;

@@ -50,12 +50,12 @@ closing_by : (n : ℕ) (keyword : List ℕ) (text : ℕ → List ℕ) (open_row 
     → Closes n keyword text [] 0 xs → Closes n keyword text (open_row ++ x ∷ []) (length open_row + 1) xs → Closes n keyword text open_row k (x ∷ xs)
 closing_by n keyword text open_row k x xs true same e full more =
     rw (same, e)
-        (full_glue (opened keyword text open_row) (line_start keyword (length open_row)) (text x) (open_text n keyword text 0 xs) (close (in_line_after n 0 xs)) (opened keyword text (open_row ++ x ∷ [])) (flat_map (line keyword text) (rows_from n [] xs)) (opened_snoc keyword text open_row x) full
+    (full_glue (opened keyword text open_row) (line_start keyword (length open_row)) (text x) (open_text n keyword text 0 xs) (close (in_line_after n 0 xs)) (opened keyword text (open_row ++ x ∷ [])) (flat_map (line keyword text) (rows_from n [] xs)) (opened_snoc keyword text open_row x) full
     ∙ ap (λ t. t ++ flat_map (line keyword text) (rows_from n [] xs)) (sym (line_opened keyword text open_row x)))
 closing_by n keyword text open_row k x xs false same e full more =
     rw (same, e) (more_glue (opened keyword text open_row) (line_start keyword (length open_row)) (text x) (open_text n keyword text (length open_row + 1) xs)
-        (close (in_line_after n (length open_row + 1) xs)) (opened keyword text (open_row ++ x ∷ [])) (flat_map (line keyword text) (rows_from n (open_row ++ x ∷ []) xs))
-        (opened_snoc keyword text open_row x) more)
+    (close (in_line_after n (length open_row + 1) xs)) (opened keyword text (open_row ++ x ∷ [])) (flat_map (line keyword text) (rows_from n (open_row ++ x ∷ []) xs))
+    (opened_snoc keyword text open_row x) more)
 
 pub closing : (n : ℕ) (keyword : List ℕ) (text : ℕ → List ℕ) (open_row : List ℕ) (k : ℕ) (xs : List ℕ) → k ≡ length open_row → Closes n keyword text open_row k xs
 closing n keyword text [] k [] same = rw same refl

@@ -100,8 +100,8 @@ yes_word_row ds r known old new m n eq long fit text same some nine few appended
     let words : length (words_of_bytes (take (4 * n) r)) ≡ n = length_words (take (4 * n) r) n count in
     let eight : length (words_of_bytes r) ≡ 8 = length_words r 8 long in
     let is : ds ≡ flat_map spaced (words_of_bytes (take (4 * n) r)) =
-        sym same ∙ ap (λ (j : ℕ). take j known) eq ∙ ap (take (length ds)) text ∙ ap (λ (j : ℕ). take j (flat_map spaced (words_of_bytes r) ++ 10 ∷ [])) nine
-        ∙ take_spaced n (words_of_bytes r) (10 ∷ []) (omega arith) ∙ ap (flat_map spaced) (sym (words_taken n r (omega arith))) in
+    sym same ∙ ap (λ (j : ℕ). take j known) eq ∙ ap (take (length ds)) text ∙ ap (λ (j : ℕ). take j (flat_map spaced (words_of_bytes r) ++ 10 ∷ [])) nine
+    ∙ take_spaced n (words_of_bytes r) (10 ∷ []) (omega arith) ∙ ap (flat_map spaced) (sym (words_taken n r (omega arith))) in
     (words_of_bytes (take (4 * n) r), (words_fit (take (4 * n) r) all, omega (arith, words), omega (arith, words)), is, appended ∙ ap (λ t. old ++ t) (sym (bytes_words (take (4 * n) r) n all count)))
 
 -- a row of one word

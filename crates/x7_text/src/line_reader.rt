@@ -46,7 +46,11 @@ pub trait TakesLines: Drop {
 
     /// Takes the lines of a text that have their end, after `line_count` lines. Answers what is left of the text, and
     /// how many lines were taken in all. After an error nothing more may be taken.
-    fn take_lines<'t>(&mut self, line_count: u64, text: &'t [u8]) -> Result<(&'t [u8], u64), Self::Fault>
+    fn take_lines<'t>(
+        &mut self,
+        line_count: u64,
+        text: &'t [u8],
+    ) -> Result<(&'t [u8], u64), Self::Fault>
         ensures read { (first : Self) (lines : List (List ℕ)) → line_count ≡ length lines → line_count + length text.now < taken_bytes_limit → took first self.old lines
             → TakesEndedLines (took first) (fails first) lines text.now result self.new }
         ensures memory { (first : Self) (lines : List (List ℕ)) → line_count ≡ length lines → line_count + length text.now < taken_bytes_limit → took first self.old lines

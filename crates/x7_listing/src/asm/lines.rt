@@ -157,7 +157,11 @@ impl TakesLines for AsmLines {
         self.put_next(line_number, line)
     }
 
-    fn take_lines<'t>(&mut self, line_count: u64, text: &'t [u8]) -> Result<(&'t [u8], u64), AsmFault> {
+    fn take_lines<'t>(
+        &mut self,
+        line_count: u64,
+        text: &'t [u8],
+    ) -> Result<(&'t [u8], u64), AsmFault> {
         let mut rest = text;
         let mut count = line_count;
         loop {

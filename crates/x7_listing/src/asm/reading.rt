@@ -19,7 +19,9 @@ use x7_packets::{
     NO_OP, SYNC_WORD, type1_read_header, type1_write_header, type2_read_header, type2_write_header,
 };
 use x7_regs::{Reg, command_named, reg_named};
-use x7_text::{BYTES_ROW_SIZE, after, decimal_below, put, read_byte_row, read_word_row, word_of_hex};
+use x7_text::{
+    BYTES_ROW_SIZE, after, decimal_below, put, read_byte_row, read_word_row, word_of_hex,
+};
 use x7_words::{bytes_of, is_same};
 
 /// The most bytes that a line stands for: those of a full `bytes` line, as many as a full `data` line's words have.

@@ -20,5 +20,5 @@ returns-then-not-is_same-clause-reads c =
 pub returns-clause-reads : goal.returns-clause-reads
 returns-clause-reads c =
     yes_byte_row c.args.digits.now c.bytes_of_digits-bytes.result c.hex_of_block.result c.args.out.now.items c.put.new.text.items
-        (length c.args.digits.now / 2) c.bytes_of_digits-bytes.ensures.length c.bytes_of_digits-bytes.ensures.bytes c.hex_of_block.ensures
-        (c.is_same.ensures.0 c.if-not-is_same.false) (omega arith) (omega arith) (omega arith) c.put.ensures.appends.items
+    (length c.args.digits.now / 2) c.bytes_of_digits-bytes.ensures.length c.bytes_of_digits-bytes.ensures.bytes c.hex_of_block.ensures
+    (c.is_same.ensures.0 c.if-not-is_same.false) (omega arith) (omega arith) (omega arith) c.put.ensures.appends.items

@@ -15,8 +15,8 @@ loop-after-preserved c = λ lines same few t.
     let n : c.saturating_add-next.result ≡ c.loop-after.count + 1 = omega (arith, c.saturating_add-next.ensures, few_taken (λ (b : McsLines). HasReadRecords (mcs_lines_state b)) lines text rest c.loop-after.self c.loop-after.count c.args.line_count same h, few) in
     let f : TakesFirstLine (lines ++ h.more) rest after c.take_first_line.new.self =
     subst
-        (λ found. MatchOption found (HasReadRecords (mcs_lines_state c.take_first_line.new.self) (lines ++ h.more)) (λ left. TakesFirstLine (lines ++ h.more) rest left.now c.take_first_line.new.self)) c.in-Some.is
-        (c.in_ok-after.ensures.read (lines ++ h.more) (omega (arith, n, h.counts)) h.took) in
+    (λ found. MatchOption found (HasReadRecords (mcs_lines_state c.take_first_line.new.self) (lines ++ h.more)) (λ left. TakesFirstLine (lines ++ h.more) rest left.now c.take_first_line.new.self)) c.in-Some.is
+    (c.in_ok-after.ensures.read (lines ++ h.more) (omega (arith, n, h.counts)) h.took) in
     one_taken (λ (b : McsLines). HasReadRecords (mcs_lines_state b)) lines text rest f.line after c.loop-after.self c.take_first_line.new.self c.loop-after.count c.saturating_add-next.result f.cut h n f.read
 
 pub returns-in_default-clause-read : goal.returns-in_default-clause-read
@@ -27,8 +27,8 @@ returns-in_default-clause-read c = λ first lines same few t.
     let n : c.saturating_add-next.result ≡ c.loop-after.count + 1 = omega (arith, c.saturating_add-next.ensures, few_taken (λ (b : McsLines). HasReadRecords (mcs_lines_state b)) lines text rest c.loop-after.self c.loop-after.count c.args.line_count same h, few) in
     let read : HasReadRecords (mcs_lines_state c.take_first_line.new.self) (lines ++ h.more) =
     subst
-        (λ found. MatchOption found (HasReadRecords (mcs_lines_state c.take_first_line.new.self) (lines ++ h.more)) (λ left. TakesFirstLine (lines ++ h.more) rest left.now c.take_first_line.new.self)) c.in_default.is
-        (c.in_ok-after.ensures.read (lines ++ h.more) (omega (arith, n, h.counts)) h.took) in
+    (λ found. MatchOption found (HasReadRecords (mcs_lines_state c.take_first_line.new.self) (lines ++ h.more)) (λ left. TakesFirstLine (lines ++ h.more) rest left.now c.take_first_line.new.self)) c.in_default.is
+    (c.in_ok-after.ensures.read (lines ++ h.more) (omega (arith, n, h.counts)) h.took) in
     let alone : split rest ≡ rest ∷ [] = subst (λ found. MatchOption found (split rest ≡ rest ∷ []) (λ left. length left.now < length rest)) c.in_default.is c.in_ok-after.ensures.left in
     all_taken (λ (b : McsLines). HasReadRecords (mcs_lines_state b)) lines text rest c.take_first_line.new.self rest c.loop-after.count alone (record { more = h.more; texts = h.texts; took = read; counts = h.counts })
 
