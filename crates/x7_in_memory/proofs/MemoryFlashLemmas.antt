@@ -5,7 +5,7 @@ use Rattle.std.proofs.lemmas.Bool.Decides.{nat_tests}
 use Rattle.std.specs.Cmp.Lexicographic.{bytes_decides}
 use Rattle.std.specs.Str.{bytes_eq}
 use Rattle.x7_words.specs.Count.{HasRisen}
-use Rattle.x7_words.specs.Flash.{replaced, AsksFor, IsTorn, TimeElapses, FlashStays, OnlyReads, SeesBytes, Unwritten}
+use Rattle.x7_words.specs.Flash.{replaced, FlashIsAskedFor, IsTorn, TimeElapses, FlashStays, OnlyReads, SeesBytes, Unwritten}
 use Rattle.x7_in_memory.specs.Memory.{FlashInMemory, PastWrite, WriteRecord, left_by, write_refused, next_tear, latest_tear, flash_write_fails, known_flash, names_asked, seen_in, after_memory_attach, after_read_at, flash_fails, begun, after_refusal, after_tear, after_begun_write, after_flash_write, recorded, has_room}
 use Rattle.x7_in_memory.specs.FoundSince.{FoundSince}
 use Rattle.x7_words.proofs.CountLemmas.{raised_risen}
@@ -202,8 +202,8 @@ asked_other false true true Same f h = inr (f refl refl)
 asked_other false false true Same f h = inl h
 asked_other a own false Same f h = inl refl
 
-pub attach_asks : (old new : FlashInMemory) (name : List ℕ) → new ≡ after_memory_attach old name → AsksFor (known_flash old) name (known_flash new)
-attach_asks old new name e = subst (λ (n : FlashInMemory). AsksFor (known_flash old) name (known_flash n)) (sym e) (record {
+pub attach_asks : (old new : FlashInMemory) (name : List ℕ) → new ≡ after_memory_attach old name → FlashIsAskedFor (known_flash old) name (known_flash new)
+attach_asks old new name e = subst (λ (n : FlashInMemory). FlashIsAskedFor (known_flash old) name (known_flash n)) (sym e) (record {
   asked = asked_now old.asked (bytes_eq old.name name);
   no_other = λ other h. asked_other old.asked (bytes_eq old.name name) (bytes_eq old.name other) (other ≡ name)
       (λ own is. sym ((bytes_decides old.name other).0 is) ∙ (bytes_decides old.name name).0 own) h;

@@ -103,18 +103,20 @@ walk_clocks path = map (λ tms. clock tms false) path
 
 -- the bit that a step found is `sought` of the port before the step
 abbrev pub FindsBit : TapState → DeviceState → (PartData → Port → Option ℕ) → Option ℕ → Type 0
-FindsBit t d sought found = (part : PartData) (cs : List PortClock) → TapStandsFor part t d cs → found ≡ sought part (port_after part cs)
+FindsBit tap device sought found =
+    (part : PartData) (cs : List PortClock) → TapStandsFor part tap device cs → found ≡ sought part (port_after part cs)
 
 -- what holds of the clocks before `made`, for each list of clocks that a tap and its device may have made and that ends
 -- with `made`
 abbrev pub AfterClocks : TapState → DeviceState → List PortClock → (PartData → List PortClock → Type 0) → Type 0
-AfterClocks t d made Fact = (part : PartData) (cs : List PortClock) → TapStandsFor part t d (cs ++ made) → Fact part cs
+AfterClocks tap device made Fact =
+    (part : PartData) (cs : List PortClock) → TapStandsFor part tap device (cs ++ made) → Fact part cs
 
 -- ---- what a tap and a device are ready for
 
 -- a new tap and a new device
 abbrev pub AreNew : TapState → DeviceState → Type 0
-AreNew t d = (part : PartData) × TapStandsFor part t d []
+AreNew tap device = (part : PartData) × TapStandsFor part tap device []
 
 -- the most clocks of a run, and the most bits of a scan: a count of 32 bits
 abbrev pub count_limit : ℕ
@@ -126,8 +128,8 @@ statement_limit = 2 ^ 33
 
 -- a tap and its device, which were new before some clocks, may make this many more: a device takes at most a byte a
 -- clock, and so never more bytes than it can count
-pub record MayClock (t : TapState) (d : DeviceState) (more : ℕ) : Type 0 where
+pub record MayClock (tap : TapState) (device : DeviceState) (more : ℕ) : Type 0 where
   pub part : PartData
   pub before : List PortClock
-  pub stands : TapStandsFor part t d before
+  pub stands : TapStandsFor part tap device before
   pub few : length before + more ≤ 2 ^ 62

@@ -95,7 +95,7 @@ pub record OnlyReads (old new : FlashState) (found_before found_after : ℕ → 
   pub unwritten : Unwritten old new found_before found_after
 
 -- the flash was asked for this name, and for no other one since
-pub record AsksFor (old : FlashState) (name : List ℕ) (new : FlashState) : Type 0 where
+pub record FlashIsAskedFor (old : FlashState) (name : List ℕ) (new : FlashState) : Type 0 where
   pub asked : IsTrue (new.names name)
   pub no_other : (other : List ℕ) → IsTrue (new.names other) → IsTrue (old.names other) ⊎ (other ≡ name)
 

@@ -1,6 +1,6 @@
 //! A flash that is read, erased and programmed at places.
 ghost use Rattle.std.specs.Prelude.{◌≡◌, ℕ, List, ◌+◌, ◌<◌, ◌≤◌, ◌^◌, length, Some, true, false, IfErr, OnOk, OnErr, slice_range, option_map};
-ghost use Rattle.x7_words.specs.Flash.{AsksFor, TimeElapses, FlashFails, FlashCountsFit, FlashState, FlashStays, IsSized, KnowsBytes, OnlyReads, OnlyWrites, SeesBytes, TornFrom, FlashRefuses, IfKnown, WithinWrite, WriteFails, cleared, erased, erased_sector, programmed, sector_size, sector_place};
+ghost use Rattle.x7_words.specs.Flash.{FlashIsAskedFor, TimeElapses, FlashFails, FlashCountsFit, FlashState, FlashStays, IsSized, KnowsBytes, OnlyReads, OnlyWrites, SeesBytes, TornFrom, FlashRefuses, IfKnown, WithinWrite, WriteFails, cleared, erased, erased_sector, programmed, sector_size, sector_place};
 
 use crate::input::{Failed, SelectFault};
 
@@ -34,7 +34,7 @@ pub trait Flash {
         ensures attached { OnOk result ((state self.new).attached ≡ true) }
         ensures refused { IfErr result (FlashRefuses (state self.old) (state self.new)) }
         ensures not_attached { OnErr result ((state self.new).attached ≡ false) }
-        ensures asks { AsksFor (state self.old) name.now (state self.new) }
+        ensures asks { FlashIsAskedFor (state self.old) name.now (state self.new) }
         ensures stays { FlashStays (state self.old) (state self.new) (found_since self.old) (found_since self.new) }
         ensures known_length { IsSized (state self.new) }
         ensures bytes { KnowsBytes (state self.new) }
