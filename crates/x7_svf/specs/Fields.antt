@@ -102,12 +102,13 @@ abbrev pub hex_value : List ℕ → ℕ
 hex_value [] = 0
 hex_value (c ∷ cs) = digit_number c * 2 ^ (4 * length cs) + hex_value cs
 
--- how many bits the value of a digit has
+-- how many bits the value of a digit has: the least count whose power of two is above the value
 abbrev pub digit_width : ℕ → ℕ
 digit_width c =
     if nat_lt (digit_number c) 1 then 0 else (if nat_lt (digit_number c) 2 then 1 else (if nat_lt (digit_number c) 4 then 2 else (if nat_lt (digit_number c) 8 then 3 else 4)))
 
--- how many bits the value of digits has
+-- how many bits the value of digits has: four for each digit after the first that isn't 0, and the bits of that one;
+-- by `values_fit_their_width` the least count whose power of two is above the value
 abbrev pub width : List ℕ → ℕ
 width [] = 0
 width (c ∷ cs) = if digit_width c == 0 then width cs else 4 * length cs + digit_width c
