@@ -17,7 +17,7 @@ pub(crate) struct WriteRange {
 /// The room for further ones is made ahead.
 #[derive(Drop)]
 pub(crate) struct Record {
-    ranges: Vec<WriteRange>,
+    write_ranges: Vec<WriteRange>,
     before: Vec<u8>,
     target: Vec<u8>,
     // how many writes more can be recorded
@@ -34,15 +34,15 @@ impl Model for Record {
     ghost Value = { WriteRecord };
 
     ghost view = { λ r. record {
-      past = writes_of r.ranges.items r.before.items r.target.items;
+      past = writes_of r.write_ranges.items r.before.items r.target.items;
       writes_left = r.writes_left;
       bytes_left = r.bytes_left;
     } };
 
     ghost invariant = { λ r.
-        (length r.before.items ≡ ranges_size r.ranges.items)
-        × (length r.target.items ≡ ranges_size r.ranges.items)
-        × (vec_len r.ranges + r.writes_left ≤ vec_capacity r.ranges)
+        (length r.before.items ≡ ranges_size r.write_ranges.items)
+        × (length r.target.items ≡ ranges_size r.write_ranges.items)
+        × (vec_len r.write_ranges + r.writes_left ≤ vec_capacity r.write_ranges)
         × (vec_len r.before + r.bytes_left ≤ vec_capacity r.before)
         × (vec_len r.target + r.bytes_left ≤ vec_capacity r.target) };
 }
@@ -53,7 +53,7 @@ impl Record {
         ensures { result ≡ no_writes }
     {
         Record {
-            ranges: Vec::new(alloc),
+            write_ranges: Vec::new(alloc),
             before: Vec::new(alloc),
             target: Vec::new(alloc),
             writes_left: 0,
@@ -70,7 +70,7 @@ impl Record {
             .checked_add(writes)
             .ok_or(NoMemory)? as usize;
         let bytes = (self.bytes_left as u64).checked_add(bytes).ok_or(NoMemory)? as usize;
-        self.ranges.reserve(writes)?;
+        self.write_ranges.reserve(writes)?;
         self.before.reserve(bytes)?;
         self.target.reserve(bytes)?;
         self.writes_left = writes;
@@ -105,7 +105,7 @@ impl Record {
         let Ok(()) = self.target.extend_from_slice(target) else {
             unreachable!()
         };
-        let Ok(()) = self.ranges.push(WriteRange { place, count }) else {
+        let Ok(()) = self.write_ranges.push(WriteRange { place, count }) else {
             unreachable!()
         };
         self.writes_left -= 1;
