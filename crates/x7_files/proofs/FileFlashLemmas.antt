@@ -4,9 +4,9 @@ use Rattle.std.proofs.lemmas.List.{append-nil, length-append}
 use Rattle.std.proofs.lemmas.List.Folds.{concat-append}
 use Rattle.std.specs.List.{concat}
 use Rattle.x7_words.specs.Count.{HasRisen, raised}
-use Rattle.x7_words.specs.Flash.{Elapses, OnlyReads, OnlyWrites, FlashRefuses, Unwritten}
+use Rattle.x7_words.specs.Flash.{TimeElapses, OnlyReads, OnlyWrites, FlashRefuses, Unwritten}
 use Rattle.x7_words.proofs.CountLemmas.{raised_risen}
-use Rattle.x7_files.specs.Files.{Clears, ClearsAt, ClearsPieces, IsExtent, RealFlash, KnowsOfFile, after_attach, known_flash}
+use Rattle.x7_files.specs.Files.{ClearsBits, ClearsAt, ClearsPieces, IsExtent, RealFlash, KnowsOfFile, after_attach, known_flash}
 use Rattle.x7_words.specs.declared.input.Failed.{Failed as FailedCall}
 use Rattle.x7_words.specs.declared.input.SelectFault.{SelectFault}
 use Rattle.x7_words.specs.declared.input.SelectFault.TheVariants.{Missing, Failed}
@@ -97,8 +97,8 @@ pieces_more {F} reads writes place (first ∷ pieces) piece old between new (the
     let there : place + length (first ++ concat pieces) ≡ place + length first + length (concat pieces) = omega (arith, length-append first (concat pieces)) in
     (then, cleared, pieces_more reads writes (place + length first) pieces piece then between new others (subst (λ at. ClearsAt reads writes at piece between new) there one))
 
-pub clears_more : {F : Type 0} → (reads writes : KnowsOfFile F) (place at : ℕ) (prefix piece given : List ℕ) (old between new : F) → Clears reads writes place prefix old between → at ≡ place + length prefix → ClearsAt reads writes at piece between new
-    → given ≡ prefix ++ piece → Clears reads writes place given old new
+pub clears_more : {F : Type 0} → (reads writes : KnowsOfFile F) (place at : ℕ) (prefix piece given : List ℕ) (old between new : F) → ClearsBits reads writes place prefix old between → at ≡ place + length prefix → ClearsAt reads writes at piece between new
+    → given ≡ prefix ++ piece → ClearsBits reads writes place given old new
 clears_more {F} reads writes place at prefix piece given old between new c is one both = record {
   pieces = c.pieces ++ piece ∷ [];
   are = concat-append c.pieces (piece ∷ []) ∙ ap (λ s. concat c.pieces ++ s) (append-nil piece) ∙ ap (λ s. s ++ piece) c.are ∙ sym both;
@@ -138,5 +138,5 @@ unknown_torn (Ok _) = tt
 unknown_torn (Err _) = tt
 
 -- anything may be found of what isn't known, at any time
-pub unknown_passes : Elapses 0 0 (λ moment found. Unit {0}) (λ moment found. Unit {0}) (λ found. Unit {0})
+pub unknown_passes : TimeElapses 0 0 (λ moment found. Unit {0}) (λ moment found. Unit {0}) (λ found. Unit {0})
 unknown_passes = record { later = omega arith; nothing_else = λ moment found le since. inl tt; keeps = λ moment found le since. tt }

@@ -4,7 +4,7 @@ use Rattle.std.proofs.lemmas.Bool.Decides.{nat_tests}
 use Rattle.std.proofs.lemmas.List.{length-take-le}
 use Rattle.std.specs.declared.io.ErrorKind.{ErrorKind}
 use Rattle.x7_words.specs.Count.{added, ends_counted, raised}
-use Rattle.x7_words.specs.Input.{Asks, Opens, ReadFails, InputsRefuse, TakesInput}
+use Rattle.x7_words.specs.Input.{AsksForName, OpensInput, ReadFails, InputsRefuse, TakesInput}
 use Rattle.x7_words.proofs.CountLemmas.{raised_risen}
 use Rattle.x7_files.specs.Files.{RealInputs, after_select, known_inputs}
 use Rattle.x7_words.specs.declared.input.Failed.{Failed as FailedRead}
@@ -12,7 +12,7 @@ use Rattle.x7_words.specs.declared.input.SelectFault.{SelectFault}
 use Rattle.x7_words.specs.declared.input.SelectFault.TheVariants.{Missing, Failed}
 
 -- an open that is Ok selects, and of a rest that is never known nothing is said
-pub opened_ok : (old new : RealInputs) (rest : Option (List ℕ)) (refusal : Option ErrorKind) (name : List ℕ) (answer : Result (Unit {0}) SelectFault) → new ≡ after_select old rest refusal answer → OnOk answer (Opens (known_inputs old) name (known_inputs new))
+pub opened_ok : (old new : RealInputs) (rest : Option (List ℕ)) (refusal : Option ErrorKind) (name : List ℕ) (answer : Result (Unit {0}) SelectFault) → new ≡ after_select old rest refusal answer → OnOk answer (OpensInput (known_inputs old) name (known_inputs new))
 opened_ok old new rest refusal name (Ok _) e = record { selected = ap (λ f. f.selected) e; found = tt }
 opened_ok old new rest refusal name (Err fault) e = tt
 
@@ -39,7 +39,7 @@ failed_read old new (Err _) e = record {
 }
 
 -- whatever an open answers, nothing was given since
-pub opened_asks : (old new : RealInputs) (rest : Option (List ℕ)) (refusal : Option ErrorKind) (name : List ℕ) (answer : Result (Unit {0}) SelectFault) → new ≡ after_select old rest refusal answer → Asks name (known_inputs new)
+pub opened_asks : (old new : RealInputs) (rest : Option (List ℕ)) (refusal : Option ErrorKind) (name : List ℕ) (answer : Result (Unit {0}) SelectFault) → new ≡ after_select old rest refusal answer → AsksForName name (known_inputs new)
 opened_asks old new rest refusal name (Ok _) e = record { asked = tt; given = ap (λ f. f.given) e }
 opened_asks old new rest refusal name (Err Missing) e = record { asked = tt; given = ap (λ f. f.given) e }
 opened_asks old new rest refusal name (Err Failed) e = record { asked = tt; given = ap (λ f. f.given) e }
@@ -56,7 +56,9 @@ read_ok old new buf (Ok n) s h e = record {
 read_ok old new buf (Err _) s h e = tt
 
 -- a read asks for no input
-pub read_selects : (old new : RealInputs) (answer : Result ℕ FailedRead) → IfOk answer (λ n. new ≡ record old { rest = new.rest; ends = ends_counted n old.ends; given = added old.given n }) → OnErr answer (new ≡ record old { selected = false; rest = None; faults = raised old.faults }) → new.selects ≡ old.selects
+pub read_selects : (old new : RealInputs) (answer : Result ℕ FailedRead)
+    → IfOk answer (λ n. new ≡ record old { rest = new.rest; ends = ends_counted n old.ends; given = added old.given n })
+    → OnErr answer (new ≡ record old { selected = false; rest = None; faults = raised old.faults }) → new.selects ≡ old.selects
 read_selects old new (Ok _) o e = ap (λ f. f.selects) o
 read_selects old new (Err _) o e = ap (λ f. f.selects) e
 

@@ -139,7 +139,7 @@ module _ {F : Type 0} (reads writes : KnowsOfFile F) where
       (between : F) × ClearsAt place piece old between × ClearsPieces (place + length piece) pieces between new
 
   -- each byte from the place on was made the old one AND the given one, in pieces
-  pub record Clears (place : ℕ) (given : List ℕ) (old new : F) : Type 0 where
+  pub record ClearsBits (place : ℕ) (given : List ℕ) (old new : F) : Type 0 where
     pub pieces : List (List ℕ)
     pub are : concat pieces ≡ given
     pub each : ClearsPieces place pieces old new

@@ -67,6 +67,7 @@ pub struct FileInputs<'r, R: Files> {
     ends: u64,
     // how many bytes were given since the last select
     given: u64,
+    // how many selects and reads failed
     faults: u64,
     // how many selects found no file
     absences: u64,
@@ -172,6 +173,7 @@ impl<'r, R: Files> Inputs for FileInputs<'r, R> {
 #[derive(Drop)]
 pub struct StdSink<W: Write + Drop> {
     writer: W,
+    // how many writes failed
     faults: u64,
 }
 

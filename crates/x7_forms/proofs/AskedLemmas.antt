@@ -1,7 +1,7 @@
 -- Lemmas on the last input that was asked for, and on how few bytes of it are given.
 use Rattle.std.proofs.Common.{◌≡◌, ◌<◌, ◌≤◌, ◌+◌, ◌-◌, ℕ, Bool, true, false, if◌then◌else◌, List, [], ◌∷◌, ◌++◌, Option, None, Some, Result, Ok, Err, append_assoc, drop, length, length-append, map, suc, add-one, get_or, inl, inr, refl, subst, sym, ap, ◌∙◌, arith}
 use Rattle.std.specs.Prelude.{IfSome, nat_lt}
-use Rattle.x7_words.specs.Input.{Asks, AsksAtMost, AsksOnce, InputsState}
+use Rattle.x7_words.specs.Input.{AsksForName, AsksAtMost, AsksOnce, InputsState}
 use Rattle.x7_forms.specs.declared.bad_input.InputFault.TheVariants as input
 use Rattle.x7_forms.specs.Event.{Event, bad_input, bad_part, missing, reading_failed, too_large}
 use Rattle.x7_forms.specs.Known.{Absent, Broken, Found, Held, Mishap, StreamRead, and_so, bytes_found, data_in, input_found, stream_known, taken_whole, with_inputs, if_within}
@@ -15,11 +15,11 @@ pub gives_on : (old mid new : InputsState) (taken : List ℕ) (limit left : ℕ)
 gives_on old mid new taken limit left r n e g = record { asked = g.asked ∙ r.asked; selects = g.selects ∙ r.takes.selects; ends = omega (arith, e, g.ends); given = omega (arith, n, r.takes.given, g.given) }
 
 -- an input of which nothing was read
-pub last_asked_opened : (name : List ℕ) (limit : ℕ) (now : InputsState) → Asks name now → IsLastAsked name limit now
+pub last_asked_opened : (name : List ℕ) (limit : ℕ) (now : InputsState) → AsksForName name now → IsLastAsked name limit now
 last_asked_opened name limit now a = record { asked = a.asked; given = omega (arith, a.given) }
 
 -- an input that was read
-pub last_asked_read : (name : List ℕ) (limit : ℕ) (opened now : InputsState) → Asks name opened → GivesFew opened limit now → IsLastAsked name limit now
+pub last_asked_read : (name : List ℕ) (limit : ℕ) (opened now : InputsState) → AsksForName name opened → GivesFew opened limit now → IsLastAsked name limit now
 last_asked_read name limit opened now a g = record { asked = asked_on name opened now a g.asked; given = omega (arith, a.given, g.given) }
 
 -- a turn after what was read of it
@@ -27,7 +27,7 @@ pub last_asked_turn : (name taken : List ℕ) (limit left : ℕ) (mid new : Inpu
 last_asked_turn name taken limit left mid new a n g = record { asked = subst (λ k. IfSome k (λ kept. kept ≡ name)) (sym g.asked) a.asked; given = omega (arith, n, a.given, g.given) }
 
 -- a first turn and what was read after it
-pub last_asked_rest : (name taken : List ℕ) (limit left : ℕ) (opened mid new : InputsState) → Asks name opened → Reads opened taken mid → length taken + left ≡ limit → GivesFew mid left new → IsLastAsked name limit new
+pub last_asked_rest : (name taken : List ℕ) (limit left : ℕ) (opened mid new : InputsState) → AsksForName name opened → Reads opened taken mid → length taken + left ≡ limit → GivesFew mid left new → IsLastAsked name limit new
 last_asked_rest name taken limit left opened mid new a r n g = record { asked = asked_on name opened new a (g.asked ∙ r.asked); given = omega (arith, n, a.given, r.takes.given, g.given) }
 
 -- an input that was asked for once, and its end read once at most

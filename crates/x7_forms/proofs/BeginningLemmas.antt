@@ -9,7 +9,7 @@ use Rattle.x7_words.specs.Word.{AreBytes}
 use Rattle.x7_words.proofs.CountLemmas.{risen_from}
 use Rattle.x7_words.proofs.InputLemmas.{preceded_preceded}
 use Rattle.x7_words.proofs.ListLemmas.{shorter_prefix}
-use Rattle.x7_header.specs.Header.{Contents, EndsInHeader, contents_in_order, fixed_bytes, HasOtherLetter, HasOtherLetterAt, FitHeader, fields_bytes, header_bytes, header_fields, longest_header}
+use Rattle.x7_header.specs.Header.{HeaderContents, EndsInHeader, contents_in_order, fixed_bytes, HasOtherLetter, HasOtherLetterAt, FitHeaderFields, fields_bytes, header_bytes, header_fields, longest_header}
 use Rattle.x7_header.specs.Reading.{HeaderWaits, header_at}
 use Rattle.x7_header.specs.declared.fault.HeaderFault.{HeaderFault}
 use Rattle.x7_header.specs.declared.fault.HeaderFault.TheVariants as header
@@ -30,7 +30,7 @@ pub raw_listed : (bytes : List ℕ) → header_at bytes ≡ Err header.Raw → s
 raw_listed bytes e = ap (listing_by bytes) e
 
 -- a header that was read, whatever follows
-pub headed : (bytes line : List ℕ) (x : Contents) (n : ℕ) (last : Bool) → FitHeader x → bytes ≡ header_bytes x ++ drop n bytes → n ≡ length (header_bytes x) → line ≡ bit_text x ++ 10 ∷ [] → IsBeginning bytes last line n
+pub headed : (bytes line : List ℕ) (x : HeaderContents) (n : ℕ) (last : Bool) → FitHeaderFields x → bytes ≡ header_bytes x ++ drop n bytes → n ≡ length (header_bytes x) → line ≡ bit_text x ++ 10 ∷ [] → IsBeginning bytes last line n
 headed bytes line x n last h e size is = λ rest more.
     let whole : bytes ++ rest ≡ header_bytes x ++ (drop n bytes ++ rest) = ap (λ b. b ++ rest) e ∙ append_assoc (header_bytes x) (drop n bytes) rest in
     let read : header_at (header_bytes x ++ (drop n bytes ++ rest)) ≡ Ok (x, length (header_bytes x)) = header_again x (drop n bytes ++ rest) h in
@@ -106,12 +106,12 @@ judged_before old piece prefix more n false l w p k e m j =
     let long : length s.0 < n = omega (arith, k, m, ap length e, ap length s.1, length-append old piece, length-append prefix more, length-append old s.0) in
     j [] (length (old ++ s.0)) (ap header_at (append-nil prefix ∙ s.1) ∙ w s.0 long)
 
-header_judges : (x : Contents) → FitHeader x → Judge (header_bytes x)
+header_judges : (x : HeaderContents) → FitHeaderFields x → Judge (header_bytes x)
 header_judges x h rest place e = ok_not_err (x, length (header_bytes x)) (header.Cut place) (sym (header_again x rest h) ∙ e)
 
 letter_judges : (bytes : List ℕ) (place : ℕ) → HasOtherLetterAt bytes place → Judge bytes
 letter_judges bytes place h rest at e =
-    let same : header.Field place ≡ header.Cut at = err_is (Contents × ℕ) (header.Field place) (header.Cut at) (sym (header_refused (bytes ++ rest) place (other_more bytes rest place h)) ∙ e) in
+    let same : header.Field place ≡ header.Cut at = err_is (HeaderContents × ℕ) (header.Field place) (header.Cut at) (sym (header_refused (bytes ++ rest) place (other_more bytes rest place h)) ∙ e) in
     absurd cc
 
 -- bytes that were read of a stream whose header was not judged yet, as many as it waited for at most
@@ -236,7 +236,7 @@ none_given old mid new bytes all n count some few e fixed waits waiting r g know
 pub letter_there : (bytes : List ℕ) (place : ℕ) → AreBytes bytes → stream_listing bytes ≡ Err place → place < length bytes → HasOtherLetterAt bytes place
 letter_there bytes place fits e l = by (header_at bytes) refl
   where
-    by : (r : Result (Contents × ℕ) HeaderFault) → header_at bytes ≡ r → HasOtherLetterAt bytes place
+    by : (r : Result (HeaderContents × ℕ) HeaderFault) → header_at bytes ≡ r → HasOtherLetterAt bytes place
     by (Ok head) h = let no : listing_by bytes (Ok head) ≡ Err place = sym (ap (listing_by bytes) h) ∙ e in absurd cc
     by (Err header.Raw) h = let no : listing_by bytes (Err header.Raw) ≡ Err place = sym (ap (listing_by bytes) h) ∙ e in absurd cc
     by (Err (header.Field at)) h =
@@ -246,7 +246,7 @@ letter_there bytes place fits e l = by (header_at bytes) refl
     by (Err (header.Cut at)) h =
         let same : listing_by bytes (Err (header.Cut at)) ≡ Err place = sym (ap (listing_by bytes) h) ∙ e in
         let there : at ≡ place = cc in
-        let end = ((is_cut (λ (x : Contents × ℕ). x) (header_at bytes) bytes fits (gives_self (header_at bytes)) at).0 h).0 in
+        let end = ((is_cut (λ (x : HeaderContents × ℕ). x) (header_at bytes) bytes fits (gives_self (header_at bytes)) at).0 h).0 in
         absurd (omega (arith, end, there, l))
 
 -- what a value that was found has

@@ -8,7 +8,7 @@ use Rattle.std.proofs.lemmas.List.{drop-append-le, take-append-le}
 use Rattle.std.proofs.lemmas.Slice.Eq.{starts_is}
 use Rattle.x7_words.specs.Word.{AreBytes}
 use Rattle.x7_words.proofs.ListLemmas.{all_append}
-use Rattle.x7_header.specs.Header.{Contents, EndsInHeader, HasOtherLetterAt, fields_bytes, fixed_bytes, header_bytes, longest_header}
+use Rattle.x7_header.specs.Header.{HeaderContents, EndsInHeader, HasOtherLetterAt, fields_bytes, fixed_bytes, header_bytes, longest_header}
 use Rattle.x7_header.specs.Reading.{ReturnsAs, header_at}
 use Rattle.x7_header.specs.declared.fault.HeaderFault.{HeaderFault}
 use Rattle.x7_header.specs.declared.fault.HeaderFault.TheVariants as header
@@ -18,7 +18,7 @@ use Rattle.x7_forms.specs.Event.{Event}
 use Rattle.x7_forms.specs.Known.{and_so, data_by, data_in}
 
 -- a header that was read, whatever follows
-read_more : (bytes more : List ℕ) (x : Contents × ℕ) → AreBytes bytes → header_at bytes ≡ Ok x → (header_at (bytes ++ more) ≡ Ok x) × (drop x.1 (bytes ++ more) ≡ drop x.1 bytes ++ more)
+read_more : (bytes more : List ℕ) (x : HeaderContents × ℕ) → AreBytes bytes → header_at bytes ≡ Ok x → (header_at (bytes ++ more) ≡ Ok x) × (drop x.1 (bytes ++ more) ≡ drop x.1 bytes ++ more)
 read_more bytes more x fits e =
     let p = header_takes bytes x fits e in
     let after = drop x.1 bytes in
@@ -76,18 +76,18 @@ gives_self (Err e) = refl
 -- a header that is cut has fewer bytes than the longest
 cut_short : (bytes : List ℕ) (place : ℕ) → AreBytes bytes → header_at bytes ≡ Err (header.Cut place) → length bytes < longest_header
 cut_short bytes place fits e =
-    let ends : EndsInHeader bytes = ((is_cut (λ (x : Contents × ℕ). x) (header_at bytes) bytes fits (gives_self (header_at bytes)) place).0 e).1 in
+    let ends : EndsInHeader bytes = ((is_cut (λ (x : HeaderContents × ℕ). x) (header_at bytes) bytes fits (gives_self (header_at bytes)) place).0 e).1 in
     let whole : header_bytes ends.header ++ [] ≡ bytes ++ ends.next ∷ ends.missing = append-nil (header_bytes ends.header) ∙ ends.goes_on in
     let all : AreBytes (header_bytes ends.header ++ []) = subst (λ b. AreBytes b) (sym whole) (all_append (λ b. b < 256) bytes (ends.next ∷ ends.missing) fits ends.missing_are) in
-    let again : ReturnsAs (λ (x : Contents × ℕ). x) (Ok (ends.header, length (header_bytes ends.header))) (header_at (header_bytes ends.header ++ [])) = header_again ends.header [] ends.fit_header in
-    let few = is_short (λ (x : Contents × ℕ). x) (Ok (ends.header, length (header_bytes ends.header))) (header_bytes ends.header ++ []) all again in
+    let again : ReturnsAs (λ (x : HeaderContents × ℕ). x) (Ok (ends.header, length (header_bytes ends.header))) (header_at (header_bytes ends.header ++ [])) = header_again ends.header [] ends.fit_header in
+    let few = is_short (λ (x : HeaderContents × ℕ). x) (Ok (ends.header, length (header_bytes ends.header))) (header_bytes ends.header ++ []) all again in
     omega (arith, few, ap length ends.goes_on, length-append bytes (ends.next ∷ ends.missing))
 
 with_none : (r : Result (List ℕ) Event) → r ≡ and_so r (λ after. Ok (after ++ []))
 with_none (Ok after) = ap Ok (sym (append-nil after))
 with_none (Err event) = refl
 
-data_long : (name bytes more : List ℕ) → AreBytes bytes → longest_header ≤ length bytes → (r : Result (Contents × ℕ) HeaderFault) → header_at bytes ≡ r → data_in name (bytes ++ more) ≡ and_so (data_by name bytes r) (λ after. Ok (after ++ more))
+data_long : (name bytes more : List ℕ) → AreBytes bytes → longest_header ≤ length bytes → (r : Result (HeaderContents × ℕ) HeaderFault) → header_at bytes ≡ r → data_in name (bytes ++ more) ≡ and_so (data_by name bytes r) (λ after. Ok (after ++ more))
 data_long name bytes more fits long (Ok x) e =
     let m = read_more bytes more x fits e in
     ap (data_by name (bytes ++ more)) m.0 ∙ ap Ok m.1

@@ -6,12 +6,12 @@ use Rattle.std.proofs.lemmas.Bool.Decides.{nat_tests}
 use Rattle.std.proofs.lemmas.List.{drop-take, length-take, length-take-le, take-take}
 use Rattle.std.proofs.lemmas.Slice.Eq.{bytes_eq-Decides}
 use Rattle.x7_words.specs.Count.{HasRisen}
-use Rattle.x7_words.specs.Input.{InputsState, Asks, AtEnd, Misses, RestIsWhole, InputsStay, TakesInput, preceded}
-use Rattle.x7_words.specs.Input.{Lacks as MapLacks}
+use Rattle.x7_words.specs.Input.{InputsState, AsksForName, AtEnd, MissesInput, RestIsWhole, InputsStay, TakesInput, preceded}
+use Rattle.x7_words.specs.Input.{MapLacks}
 use Rattle.x7_words.specs.Word.{AreBytes}
 use Rattle.x7_words.proofs.CountLemmas.{risen_from}
 use Rattle.x7_words.proofs.InputLemmas.{preceded_preceded, stays_at, stays_on, takes_none, takes_on}
-use Rattle.x7_header.specs.Header.{Contents, longest_header}
+use Rattle.x7_header.specs.Header.{HeaderContents, longest_header}
 use Rattle.x7_header.specs.Reading.{header_at}
 use Rattle.x7_header.specs.declared.fault.HeaderFault.{HeaderFault}
 use Rattle.x7_header.specs.declared.fault.HeaderFault.TheVariants as header
@@ -323,7 +323,7 @@ unread_by {A} {B} (Some t) C due event Next keeps (inr h) = inr (h.0, subst (λ 
 -- ---- the header of a stream
 
 -- a header that is refused is a matter of the contents
-head_by : (A : Type 0) (name bytes : List ℕ) (read : Result (Contents × ℕ) HeaderFault) (event : Event) → data_by name bytes read ≡ Err event → IsPossible {A = A} (Err event) × IsDecided {A = A} (Err event)
+head_by : (A : Type 0) (name bytes : List ℕ) (read : Result (HeaderContents × ℕ) HeaderFault) (event : Event) → data_by name bytes read ≡ Err event → IsPossible {A = A} (Err event) × IsDecided {A = A} (Err event)
 head_by A name bytes (Ok head) event e = absurd (cc)
 head_by A name bytes (Err header.Raw) event e = absurd (cc)
 head_by A name bytes (Err (header.Cut place)) event e =
@@ -438,7 +438,7 @@ absent_due None flash name limit = tt
 absent_due (Some inputs) flash name limit = let here = name_is name in rw here refl
 
 -- the name is that of the last select
-pub asked_on : (name : List ℕ) (opened now : InputsState) → Asks name opened → now.asked ≡ opened.asked → IfSome now.asked (λ kept. kept ≡ name)
+pub asked_on : (name : List ℕ) (opened now : InputsState) → AsksForName name opened → now.asked ≡ opened.asked → IfSome now.asked (λ kept. kept ≡ name)
 asked_on name opened now a e = subst (λ (k : Option (List ℕ)). IfSome k (λ kept. kept ≡ name)) (sym e) a.asked
 
 -- a fault of an input, or its absence, by its count
@@ -451,7 +451,7 @@ pub absence_from : (A : Type 0) (known : Option Known) (old new : InputsState) (
 absence_from A known old new name Due l d = inr (record { mishap = Lacking name; came = l; reports = refl; due = d })
 
 -- an input that was not opened
-unopened_free : (old new : InputsState) (flash : Option (List ℕ)) (name : List ℕ) (limit : ℕ) → Asks name new → new.selected ≡ false → Misses old name new
+unopened_free : (old new : InputsState) (flash : Option (List ℕ)) (name : List ℕ) (limit : ℕ) → AsksForName name new → new.selected ≡ false → MissesInput old name new
     → IsCaused (with_inputs old.contents flash) (CameIn (step_over (name ∷ []) old new)) (λ t. whole_known t limit name) (Err (missing name))
 unopened_free old new flash name limit a s m = by old.contents refl m
   where
@@ -461,7 +461,7 @@ unopened_free old new flash name limit a s m = by old.contents refl m
     by (Some inputs) e (inl h) = inr (tt, rw h refl)
     by contents e (inr h) = inl (absence_from (List ℕ) (with_inputs contents flash) old new name (λ t r. whole_known t limit name ≡ r) (record { among = inl refl; deselected = record { asked = a.asked; selected = s }; risen = h }) (absent_due contents flash name limit))
 
-pub open_refused : (old new : InputsState) (flash : Option (List ℕ)) (name : List ℕ) (limit : ℕ) (event : Event) → Unopened old name new event → Asks name new
+pub open_refused : (old new : InputsState) (flash : Option (List ℕ)) (name : List ℕ) (limit : ℕ) (event : Event) → Unopened old name new event → AsksForName name new
     → IsCaused (with_inputs old.contents flash) (CameIn (step_over (name ∷ []) old new)) (λ t. whole_known t limit name) (Err event)
 open_refused old new flash name limit event (inl h, s) a =
     caused_event (with_inputs old.contents flash) (CameIn (step_over (name ∷ []) old new)) (λ t. whole_known t limit name) event (missing name) h.0 (unopened_free old new flash name limit a s h.1)
@@ -479,7 +479,7 @@ over_whole (Some inputs) flash C name whole rest limit s h =
     inr (tt, rw (all.1.1, long) refl)
 
 -- an input that was opened and then not read to its end
-pub whole_refused : (old opened new : InputsState) (flash : Option (List ℕ)) (name : List ℕ) (limit : ℕ) (event : Event) → InputsStay old opened → RestIsWhole old.contents name opened.rest → Asks name opened → (event ≡ no_memory) ⊎ UnreadRest opened name new limit event
+pub whole_refused : (old opened new : InputsState) (flash : Option (List ℕ)) (name : List ℕ) (limit : ℕ) (event : Event) → InputsStay old opened → RestIsWhole old.contents name opened.rest → AsksForName name opened → (event ≡ no_memory) ⊎ UnreadRest opened name new limit event
     → IsCaused (with_inputs old.contents flash) (CameIn (step_over (name ∷ []) old new)) (λ t. whole_known t limit name) (Err event)
 whole_refused old opened new flash name limit event k s a (inl e) =
     caused_event (with_inputs old.contents flash) (CameIn (step_over (name ∷ []) old new)) (λ t. whole_known t limit name) event no_memory e (inl (inl refl))
@@ -500,7 +500,7 @@ pub record IsAt (name bytes : List ℕ) (now : InputsState) : Type 0 where
   pub given : now.given ≤ length bytes
 
 -- where an input is at, turn by turn
-pub at_open : (name : List ℕ) (s : InputsState) → Asks name s → IsAt name [] s
+pub at_open : (name : List ℕ) (s : InputsState) → AsksForName name s → IsAt name [] s
 at_open name s a = record { asked = a.asked; given = omega (arith, a.given) }
 
 pub at_on : (name taken piece : List ℕ) (mid new : InputsState) → IsAt name taken mid → TakesInput mid piece new → new.asked ≡ mid.asked → IsAt name (taken ++ piece) new
@@ -525,13 +525,13 @@ turn_refused old mid new flash name taken limit left event k s a n (inr h) q =
     (over_whole old.contents flash (CameIn (step_over (name ∷ []) old new)) name (taken ++ piece) new.rest limit all (omega (arith, n, h.1.1.1, length-append taken piece)))
 
 -- a stream whose data are read, and whose rest was not
-pub stream_unread : (old opened new : InputsState) (flash : Option (List ℕ)) (name : List ℕ) (limit : ℕ) (event : Event) → InputsStay old opened → RestIsWhole old.contents name opened.rest → Asks name opened → (event ≡ no_memory) ⊎ UnreadRest opened name new limit event
+pub stream_unread : (old opened new : InputsState) (flash : Option (List ℕ)) (name : List ℕ) (limit : ℕ) (event : Event) → InputsStay old opened → RestIsWhole old.contents name opened.rest → AsksForName name opened → (event ≡ no_memory) ⊎ UnreadRest opened name new limit event
     → IsCaused (with_inputs old.contents flash) (CameIn (step_over (name ∷ []) old new)) (λ t. stream_known t limit name) (Err event)
 stream_unread old opened new flash name limit event k s a h =
     stops (with_inputs old.contents flash) (CameIn (step_over (name ∷ []) old new)) (λ t. whole_known t limit name) (λ t whole. and_so (data_in name whole) (λ bytes. Ok (record { bytes = bytes; room = limit - length whole }))) event
     (whole_refused old opened new flash name limit event k s a h)
 
-pub stream_unopened : (old new : InputsState) (flash : Option (List ℕ)) (name : List ℕ) (limit : ℕ) (event : Event) → Unopened old name new event → Asks name new
+pub stream_unopened : (old new : InputsState) (flash : Option (List ℕ)) (name : List ℕ) (limit : ℕ) (event : Event) → Unopened old name new event → AsksForName name new
     → IsCaused (with_inputs old.contents flash) (CameIn (step_over (name ∷ []) old new)) (λ t. stream_known t limit name) (Err event)
 stream_unopened old new flash name limit event u a =
     stops (with_inputs old.contents flash) (CameIn (step_over (name ∷ []) old new)) (λ t. whole_known t limit name) (λ t whole. and_so (data_in name whole) (λ bytes. Ok (record { bytes = bytes; room = limit - length whole }))) event
@@ -618,7 +618,7 @@ want_unread old new name limit event (inl e) = inl e
 want_unread old new name limit event (inr h) = turn_unread old new name limit event h.0
 
 -- a header that is refused
-refused_by : (name bytes : List ℕ) (read : Result (Contents × ℕ) HeaderFault) (event : Event) → Err event ≡ data_by name bytes read → (place : ℕ) × (event ≡ bad_input name (input.Byte place))
+refused_by : (name bytes : List ℕ) (read : Result (HeaderContents × ℕ) HeaderFault) (event : Event) → Err event ≡ data_by name bytes read → (place : ℕ) × (event ≡ bad_input name (input.Byte place))
 refused_by name bytes (Ok head) event e = absurd (cc)
 refused_by name bytes (Err header.Raw) event e = absurd (cc)
 refused_by name bytes (Err (header.Cut place)) event e = (place, cc)

@@ -2,7 +2,7 @@
 -- or streams one after the other (this project's choice).
 use Rattle.std.specs.Prelude.{ℕ, List, [], ◌∷◌, ◌++◌, ◌-◌, Option, None, Some, Result, Ok, Err, Bool, if◌then◌else◌, drop, length, nat_lt, take}
 use Rattle.std.specs.Str.{bytes_eq}
-use Rattle.x7_header.specs.Header.{Contents}
+use Rattle.x7_header.specs.Header.{HeaderContents}
 use Rattle.x7_header.specs.Reading.{header_at}
 use Rattle.x7_header.specs.declared.fault.HeaderFault.{HeaderFault}
 use Rattle.x7_header.specs.declared.fault.HeaderFault.TheVariants as header
@@ -42,7 +42,7 @@ and_so (Ok a) next = next a
 and_so (Err event) next = Err event
 
 -- the data of a stream by what stands at its beginning: a header and its size, or why there is none
-abbrev pub data_by : List ℕ → List ℕ → Result (Contents × ℕ) HeaderFault → Result (List ℕ) Event
+abbrev pub data_by : List ℕ → List ℕ → Result (HeaderContents × ℕ) HeaderFault → Result (List ℕ) Event
 data_by name bytes (Ok head) = Ok (drop head.1 bytes)
 data_by name bytes (Err header.Raw) = Ok bytes
 data_by name bytes (Err (header.Cut place)) = Err (bad_input name (input.Byte place))

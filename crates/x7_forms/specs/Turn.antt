@@ -1,8 +1,8 @@
 -- Inputs that are read turn by turn (this project's choice). A turn reads as many bytes as a buffer holds, and what it
 -- read is used before the next turn.
 use Rattle.std.specs.Prelude.{◌≡◌, ◌≢◌, ◌<◌, ◌≤◌, ◌⊎◌, ◌++◌, ℕ, Bool, true, false, List, [], Some, Ok, Err, IfSome, drop, length, ◌+◌}
-use Rattle.x7_words.specs.Input.{InputsState, AtEnd, InputsFail, Misses, InputsStay, TakesInput, preceded}
-use Rattle.x7_header.specs.Header.{Contents, EndsInHeader, HasOtherLetterAt, FitHeader, fixed_bytes, fixed_size, header_bytes, longest_header}
+use Rattle.x7_words.specs.Input.{InputsState, AtEnd, InputsFail, MissesInput, InputsStay, TakesInput, preceded}
+use Rattle.x7_header.specs.Header.{HeaderContents, EndsInHeader, HasOtherLetterAt, FitHeaderFields, fixed_bytes, fixed_size, header_bytes, longest_header}
 use Rattle.x7_forms.specs.Event.{Event, bad_input, missing, no_memory, reading_failed, too_large}
 use Rattle.x7_forms.specs.declared.bad_input.InputFault.TheVariants as input
 use Rattle.x7_forms.specs.Known.{stream_limit}
@@ -24,7 +24,7 @@ play_turn_size = 266240
 
 -- an input was not opened: its name isn't there, or the inputs failed
 abbrev pub Unopened : InputsState → List ℕ → InputsState → Event → Type 0
-Unopened old name new event = (((event ≡ missing name) × Misses old name new) ⊎ ((event ≡ reading_failed name) × InputsFail old new)) × (new.selected ≡ false)
+Unopened old name new event = (((event ≡ missing name) × MissesInput old name new) ⊎ ((event ≡ reading_failed name) × InputsFail old new)) × (new.selected ≡ false)
 
 -- the selected input failed after fewer than `most` bytes more, and no input is selected any more
 pub record Breaks (old : InputsState) (most : ℕ) (new : InputsState) : Type 0 where
@@ -77,7 +77,7 @@ FollowsUnlessLast last rest = last ≡ true → rest ≡ []
 -- the data begin at this byte: after a header, or at the first byte where there is none
 abbrev pub DataBeginAt : List ℕ → ℕ → Type 0
 DataBeginAt bytes start =
-    ((x : Contents) × FitHeader x × (bytes ≡ header_bytes x ++ drop start bytes) × (start ≡ length (header_bytes x)))
+    ((x : HeaderContents) × FitHeaderFields x × (bytes ≡ header_bytes x ++ drop start bytes) × (start ≡ length (header_bytes x)))
     ⊎ ((start ≡ 0) × ((rest : List ℕ) → bytes ≢ fixed_bytes ++ rest))
 
 -- no byte after a header is held, and where there is none, no more than the fixed bytes, which show it

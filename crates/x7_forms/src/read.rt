@@ -1,6 +1,6 @@
 //! Reading an input in turns: each fills a buffer, which is used before the next turn.
 ghost use Rattle.std.specs.Prelude.{◌≡◌, ◌+◌, ◌-◌, ◌<◌, ◌≤◌, ◌++◌, ◌⊎◌, ℕ, List, drop, length, take, true, false, vec_len, IfErr, IfOk, OnOk};
-ghost use Rattle.x7_words.specs.Input.{Asks, AsksAtMost, AsksOnce, AtEnd, Opens, InputsStay, TakesInput};
+ghost use Rattle.x7_words.specs.Input.{AsksForName, AsksAtMost, AsksOnce, AtEnd, OpensInput, InputsStay, TakesInput};
 ghost use Rattle.x7_forms.specs.Event.{bad_input, event_of, no_memory, reading_failed, too_large};
 ghost use Rattle.x7_forms.specs.Known.{data_in};
 ghost use Rattle.x7_forms.specs.Turn.{AppendsRest, Breaks, GivesFew, ReadsRest, IsLastAsked, Unopened, Unread, UnreadRest};
@@ -74,9 +74,9 @@ fn fill<'w, I: Inputs>(
 
 /// Opens an input, of which nothing is read yet.
 pub fn open<'w, I: Inputs>(inputs: &mut I, name: &'w str) -> Result<(), Refusal<'w>>
-    ensures opened { OnOk result (Opens (I.state inputs.old) name.now (I.state inputs.new)) }
+    ensures opened { OnOk result (OpensInput (I.state inputs.old) name.now (I.state inputs.new)) }
     ensures refused { IfErr result (λ r. Unopened (I.state inputs.old) name.now (I.state inputs.new) (event_of r)) }
-    ensures asks { Asks name.now (I.state inputs.new) }
+    ensures asks { AsksForName name.now (I.state inputs.new) }
     ensures once { AsksOnce (I.state inputs.old) (I.state inputs.new) }
     ensures inputs { InputsStay (I.state inputs.old) (I.state inputs.new) }
 {

@@ -86,13 +86,13 @@ impl<'p> TakesLines for FrameLines<'p> {
         FramesFault::NoMemory
     }
 
-    fn put_line(&mut self, n: u64, line: &[u8]) -> Result<(), FramesFault> {
-        self.take(n, line)
+    fn take_line(&mut self, line_number: u64, line: &[u8]) -> Result<(), FramesFault> {
+        self.take(line_number, line)
     }
 
-    fn put_last(self, n: u64, line: &[u8]) -> Result<Plan, FramesFault> {
+    fn take_last(self, line_number: u64, line: &[u8]) -> Result<Plan, FramesFault> {
         let mut last = self;
-        last.take(n, line)?;
+        last.take(line_number, line)?;
         Ok(last.finish())
     }
 }

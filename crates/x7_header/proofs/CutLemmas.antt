@@ -6,7 +6,7 @@ use Rattle.std.proofs.lemmas.Slice.Eq.{starts_is}
 use Rattle.std.specs.List.{AllByRecursion, starts_with}
 use Rattle.x7_words.specs.Word.{AreBytes}
 use Rattle.x7_words.proofs.ListLemmas.{all_append, all_prefix, all_back}
-use Rattle.x7_header.specs.Header.{fixed_bytes, FieldKind, Field, header_fields, Holds, Hold, HasOtherLetterAt, EndsInHeader, bytes_of_count, field_bytes, fields_bytes, Contents, header_bytes}
+use Rattle.x7_header.specs.Header.{fixed_bytes, FieldKind, Field, header_fields, FitsFieldKind, FitFields, HasOtherLetterAt, EndsInHeader, bytes_of_count, field_bytes, fields_bytes, HeaderContents, header_bytes}
 use Rattle.x7_header.specs.Reading.{◌>>=◌, after_letter, content_at, field_at, fields_at, contents_from, header_fields_at, header_at, ReturnsAs}
 use Rattle.x7_header.specs.declared.fault.HeaderFault.{HeaderFault}
 use Rattle.x7_header.specs.declared.fault.HeaderFault.TheVariants as fault
@@ -40,7 +40,7 @@ record GoesOnAfterLetter (kind : FieldKind) (bytes : List ℕ) : Type 0 where
   pub content : List ℕ
   pub next : ℕ
   pub missing : List ℕ
-  pub holds : Holds kind content
+  pub holds : FitsFieldKind kind content
   pub content_are : AreBytes content
   pub goes_on : bytes_of_count kind content ++ content ≡ bytes ++ next ∷ missing
   pub missing_are : AreBytes (next ∷ missing)
@@ -95,7 +95,7 @@ record FieldGoesOn (field : Field) (bytes : List ℕ) : Type 0 where
   pub content : List ℕ
   pub next : ℕ
   pub missing : List ℕ
-  pub holds : Holds field.kind content
+  pub holds : FitsFieldKind field.kind content
   pub content_are : AreBytes content
   pub goes_on : field_bytes field content ≡ bytes ++ next ∷ missing
   pub missing_are : AreBytes (next ∷ missing)
@@ -104,7 +104,7 @@ record FieldsGoOn (fields : List Field) (bytes : List ℕ) : Type 0 where
   pub contents : List (List ℕ)
   pub next : ℕ
   pub missing : List ℕ
-  pub hold : Hold fields contents
+  pub hold : FitFields fields contents
   pub contents_are : AllByRecursion AreBytes contents
   pub goes_on : fields_bytes fields contents ≡ bytes ++ next ∷ missing
   pub missing_are : AreBytes (next ∷ missing)
@@ -114,7 +114,7 @@ abbrev blank : FieldKind → List ℕ
 blank FieldKind.Counted = []
 blank FieldKind.Four = 0 ∷ 0 ∷ 0 ∷ 0 ∷ []
 
-blank_holds : (kind : FieldKind) → Holds kind (blank kind) × AreBytes (blank kind) × AreBytes (bytes_of_count kind (blank kind) ++ blank kind)
+blank_holds : (kind : FieldKind) → FitsFieldKind kind (blank kind) × AreBytes (blank kind) × AreBytes (bytes_of_count kind (blank kind) ++ blank kind)
 blank_holds FieldKind.Counted = (omega arith, tt, (omega arith, (omega arith, tt)))
 blank_holds FieldKind.Four = let z : 0 < 256 = omega arith in (refl, (z, (z, (z, (z, tt)))), (z, (z, (z, (z, tt)))))
 
@@ -124,7 +124,7 @@ HaveLetters fields = AllByRecursion (λ (field : Field). field.letter < 256) fie
 -- what fields can hold, and that its bytes are bytes
 record CanHold (fields : List Field) : Type 0 where
   pub contents : List (List ℕ)
-  pub hold : Hold fields contents
+  pub hold : FitFields fields contents
   pub contents_are : AllByRecursion AreBytes contents
   pub bytes_are : AreBytes (fields_bytes fields contents)
 
@@ -238,7 +238,7 @@ cut_in_header bytes place true f s e =
     ]
 cut_in_header bytes place false f s e =
     let at : header_at bytes ≡ Err fault.Raw = rw s refl in
-    let same : fault.Raw ≡ fault.Cut place = err_is (Contents × ℕ) fault.Raw (fault.Cut place) (sym at ∙ e) in
+    let same : fault.Raw ≡ fault.Cut place = err_is (HeaderContents × ℕ) fault.Raw (fault.Cut place) (sym at ∙ e) in
     absurd cc
 
 -- ---- where some header goes on, the reading says Cut
@@ -266,7 +266,7 @@ other_more bytes more place (after, prefix, h, w) =
       },
     )
 
-pub header_cut : (bytes : List ℕ) (r : Result (Contents × ℕ) HeaderFault) → AreBytes bytes → EndsInHeader bytes → header_at bytes ≡ r → header_at bytes ≡ Err (fault.Cut (length bytes))
+pub header_cut : (bytes : List ℕ) (r : Result (HeaderContents × ℕ) HeaderFault) → AreBytes bytes → EndsInHeader bytes → header_at bytes ≡ r → header_at bytes ≡ Err (fault.Cut (length bytes))
 header_cut bytes (Ok x) f w e =
     let t = header_takes bytes x f e in
     let more = drop x.1 bytes in
@@ -280,7 +280,7 @@ header_cut bytes (Ok x) f w e =
 header_cut bytes (Err fault.Raw) f w e =
     absurd ((raw_at bytes (starts_with nat_eq bytes fixed_bytes) refl).0 e w.after w.fixed_are)
 header_cut bytes (Err (fault.Cut place)) f w e =
-    e ∙ ap (λ n. failed (Contents × ℕ) (fault.Cut n)) (cut_at bytes place (starts_with nat_eq bytes fixed_bytes) refl e)
+    e ∙ ap (λ n. failed (HeaderContents × ℕ) (fault.Cut n)) (cut_at bytes place (starts_with nat_eq bytes fixed_bytes) refl e)
 header_cut bytes (Err (fault.Field place)) f w e =
     let other = field_at_place bytes place (starts_with nat_eq bytes fixed_bytes) f refl e in
     let refused = header_refused (bytes ++ w.next ∷ w.missing) place (other_more bytes (w.next ∷ w.missing) place other) in
@@ -290,15 +290,15 @@ header_cut bytes (Err (fault.Field place)) f w e =
 
 -- ---- the clause
 
-pub is_cut : {X : Type 0} (view : X → Contents × ℕ) (result : Result X HeaderFault) (bytes : List ℕ) → AreBytes bytes → ReturnsAs view result (header_at bytes) → (place : ℕ) →
+pub is_cut : {X : Type 0} (view : X → HeaderContents × ℕ) (result : Result X HeaderFault) (bytes : List ℕ) → AreBytes bytes → ReturnsAs view result (header_at bytes) → (place : ℕ) →
     IsErrOf result (fault.Cut place) ↔ (place ≡ length bytes) × EndsInHeader bytes
 is_cut view (Ok x) bytes f g place =
     (λ i. absurd (ok_not_err x (fault.Cut place) i), λ w. absurd (ok_not_err (view x) (fault.Cut (length bytes)) (sym g ∙ header_cut bytes (header_at bytes) f w.1 refl)))
 is_cut {X = X} view (Err d) bytes f g place = (
   λ i.
-      let e : header_at bytes ≡ Err (fault.Cut place) = g ∙ ap (failed (Contents × ℕ)) (err_is X d (fault.Cut place) i) in
+      let e : header_at bytes ≡ Err (fault.Cut place) = g ∙ ap (failed (HeaderContents × ℕ)) (err_is X d (fault.Cut place) i) in
       (cut_at bytes place (starts_with nat_eq bytes fixed_bytes) refl e, cut_in_header bytes place (starts_with nat_eq bytes fixed_bytes) f refl e),
   λ w.
-      let same : d ≡ fault.Cut (length bytes) = err_is (Contents × ℕ) d (fault.Cut (length bytes)) (sym g ∙ header_cut bytes (header_at bytes) f w.1 refl) in
+      let same : d ≡ fault.Cut (length bytes) = err_is (HeaderContents × ℕ) d (fault.Cut (length bytes)) (sym g ∙ header_cut bytes (header_at bytes) f w.1 refl) in
       ap (failed X) (same ∙ ap (λ n. fault.Cut n) (sym w.0)),
 )

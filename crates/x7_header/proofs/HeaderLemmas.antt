@@ -10,7 +10,7 @@ use Rattle.x7_words.specs.Word.{AreBytes, bytes_of_word, word_of_bytes}
 use Rattle.x7_words.proofs.ListLemmas.{all_prefix, all_back}
 use Rattle.x7_words.proofs.WordLemmas.{bytes_words, words_fit}
 use Rattle.x7_words.proofs.WordLemmas.{word_whole}
-use Rattle.x7_header.specs.Header.{fixed_bytes, FieldKind, Field, header_fields, Holds, Hold, HasOtherLetter, HasOtherLetterAt, bytes_of_count, field_bytes, fields_bytes, Contents, contents_in_order, FitHeader, header_bytes}
+use Rattle.x7_header.specs.Header.{fixed_bytes, FieldKind, Field, header_fields, FitsFieldKind, FitFields, HasOtherLetter, HasOtherLetterAt, bytes_of_count, field_bytes, fields_bytes, HeaderContents, contents_in_order, FitHeaderFields, header_bytes}
 use Rattle.x7_header.specs.Reading.{◌>>=◌, after_letter, first_bytes, content_at, field_at, fields_at, contents_from, after_fixed_bytes, header_fields_at, header_at, ReturnsAs}
 use Rattle.x7_header.specs.declared.fault.HeaderFault.{HeaderFault}
 use Rattle.x7_header.specs.declared.fault.HeaderFault.TheVariants as fault
@@ -37,17 +37,17 @@ bytes_again total count content rest e =
     let fits : nat_le count (length (content ++ rest)) ≡ true = le-leb _ _ (omega (arith, e, length-append content rest)) in
     rw (fits, take_at content rest count e, drop_at content rest count e) refl
 
-content_again : (total : ℕ) (kind : FieldKind) (content rest : List ℕ) → Holds kind content → content_at total kind (bytes_of_count kind content ++ (content ++ rest)) ≡ Ok (content, rest)
+content_again : (total : ℕ) (kind : FieldKind) (content rest : List ℕ) → FitsFieldKind kind content → content_at total kind (bytes_of_count kind content ++ (content ++ rest)) ≡ Ok (content, rest)
 content_again total FieldKind.Counted content rest h =
     bytes_again total (length content / 256 * 256 + length content % 256) content rest (omega arith)
 content_again total FieldKind.Four content rest h = bytes_again total 4 content rest h
 
-pub field_again : (total : ℕ) (field : Field) (content rest : List ℕ) → Holds field.kind content → field_at total field (field_bytes field content ++ rest) ≡ Ok (content, rest)
+pub field_again : (total : ℕ) (field : Field) (content rest : List ℕ) → FitsFieldKind field.kind content → field_at total field (field_bytes field content ++ rest) ≡ Ok (content, rest)
 unfolding field_at
 field_again total field content rest h =
     rw (append_assoc (bytes_of_count field.kind content) content rest, letter_again total field.letter (bytes_of_count field.kind content ++ (content ++ rest))) (content_again total field.kind content rest h)
 
-pub fields_again : (total : ℕ) (fields : List Field) (contents : List (List ℕ)) (rest : List ℕ) → Hold fields contents → fields_at total fields (fields_bytes fields contents ++ rest) ≡ Ok (contents, rest)
+pub fields_again : (total : ℕ) (fields : List Field) (contents : List (List ℕ)) (rest : List ℕ) → FitFields fields contents → fields_at total fields (fields_bytes fields contents ++ rest) ≡ Ok (contents, rest)
 unfolding fields_at
 fields_again total [] [] rest h = refl
 fields_again total [] (content ∷ contents) rest h = absurd h
@@ -56,7 +56,7 @@ fields_again total (field ∷ fields) (content ∷ contents) rest h =
     rw (append_assoc (field_bytes field content) (fields_bytes fields contents) rest, field_again total field content (fields_bytes fields contents ++ rest) h.0, fields_again total fields contents rest h.1) refl
 
 -- a header that stands at the beginning is read, with its size
-pub header_again : (x : Contents) (rest : List ℕ) → FitHeader x → header_at (header_bytes x ++ rest) ≡ Ok (x, length (header_bytes x))
+pub header_again : (x : HeaderContents) (rest : List ℕ) → FitHeaderFields x → header_at (header_bytes x ++ rest) ≡ Ok (x, length (header_bytes x))
 unfolding header_at header_fields_at
 header_again x rest h =
     let size : length (header_bytes x ++ rest) - length rest ≡ length (header_bytes x) = omega (arith, length-append (header_bytes x) rest) in
@@ -78,11 +78,11 @@ pub ok_not_err : {A : Type 0} (x : A) (d : HeaderFault) → done x ≡ Err d →
 ok_not_err x d e = cc
 
 -- no two heads have the same bytes, whatever follows them
-pub header_tells : (x y : Contents) (more rest : List ℕ) → FitHeader x → FitHeader y → header_bytes x ++ more ≡ header_bytes y ++ rest → x ≡ y
+pub header_tells : (x y : HeaderContents) (more rest : List ℕ) → FitHeaderFields x → FitHeaderFields y → header_bytes x ++ more ≡ header_bytes y ++ rest → x ≡ y
 header_tells x y more rest p q e =
-    ap (λ (r : Contents × ℕ). r.0) (ok_is (x, length (header_bytes x)) (y, length (header_bytes y)) (sym (header_again x more p) ∙ ap header_at e ∙ header_again y rest q))
+    ap (λ (r : HeaderContents × ℕ). r.0) (ok_is (x, length (header_bytes x)) (y, length (header_bytes y)) (sym (header_again x more p) ∙ ap header_at e ∙ header_again y rest q))
 
-pub header_same : (x y : Contents) → FitHeader x → FitHeader y → header_bytes x ≡ header_bytes y → x ≡ y
+pub header_same : (x y : HeaderContents) → FitHeaderFields x → FitHeaderFields y → header_bytes x ≡ header_bytes y → x ≡ y
 header_same x y p q e = header_tells x y [] [] p q (ap (λ (r : List ℕ). r ++ []) e)
 
 -- ---- what is read is written so
@@ -101,7 +101,7 @@ bytes_take total count bytes x e =
 -- what a field held, and what follows it
 record Takes (kind : FieldKind) (bytes : List ℕ) (x : List ℕ × List ℕ) : Type 0 where
   pub parts : bytes ≡ bytes_of_count kind x.0 ++ (x.0 ++ x.1)
-  pub holds : Holds kind x.0
+  pub holds : FitsFieldKind kind x.0
 
 pub count_again : (high low count : ℕ) → high < 256 → low < 256 → count ≡ high * 256 + low → (high ≡ count / 256) × (low ≡ count % 256) × (count < 2 ^ 16)
 count_again high low count h l e = (omega arith, omega arith, omega arith)
@@ -119,7 +119,7 @@ content_takes total FieldKind.Counted (high ∷ low ∷ bytes) x f e =
     let n = count_again high low (length x.0) f.0 f.1.0 t.1 in
     record { parts = two_and high low _ _ bytes (x.0 ++ x.1) n.0 n.1 t.0; holds = n.2 }
 
-pub field_takes : (total : ℕ) (field : Field) (bytes : List ℕ) (x : List ℕ × List ℕ) → AreBytes bytes → field_at total field bytes ≡ Ok x → (bytes ≡ field_bytes field x.0 ++ x.1) × Holds field.kind x.0
+pub field_takes : (total : ℕ) (field : Field) (bytes : List ℕ) (x : List ℕ × List ℕ) → AreBytes bytes → field_at total field bytes ≡ Ok x → (bytes ≡ field_bytes field x.0 ++ x.1) × FitsFieldKind field.kind x.0
 unfolding field_at
 field_takes total field bytes x f e =
     let a = bind_ok (after_letter total field.letter bytes) (content_at total field.kind) x e in
@@ -131,7 +131,7 @@ field_takes total field bytes x f e =
 -- what the fields held, and what follows them
 record Take (fields : List Field) (bytes : List ℕ) (x : List (List ℕ) × List ℕ) : Type 0 where
   pub parts : bytes ≡ fields_bytes fields x.0 ++ x.1
-  pub hold : Hold fields x.0
+  pub hold : FitFields fields x.0
   pub fit : AllByRecursion AreBytes x.0
 
 fields_take : (total : ℕ) (fields : List Field) (bytes : List ℕ) (x : List (List ℕ) × List ℕ) → AreBytes bytes → fields_at total fields bytes ≡ Ok x → Take fields bytes x
@@ -164,9 +164,9 @@ four_again (a ∷ b ∷ c ∷ d ∷ []) f l = (bytes_words (a ∷ b ∷ c ∷ d 
 -- fields that hold what those of a header can are those of a head
 pub record FromHead (contents : List (List ℕ)) : Type 0 where
   pub listed_again : contents_in_order (contents_from contents) ≡ contents
-  pub fit_header : FitHeader (contents_from contents)
+  pub fit_header : FitHeaderFields (contents_from contents)
 
-pub from_header_fields : (contents : List (List ℕ)) → Hold header_fields contents → AllByRecursion AreBytes contents → FromHead contents
+pub from_header_fields : (contents : List (List ℕ)) → FitFields header_fields contents → AllByRecursion AreBytes contents → FromHead contents
 from_header_fields [] h f = absurd h
 from_header_fields (a ∷ []) h f = absurd h.1
 from_header_fields (a ∷ b ∷ []) h f = absurd h.1.1
@@ -181,8 +181,8 @@ from_header_fields (a ∷ b ∷ c ∷ d ∷ e ∷ []) h f =
     }
 
 -- what was read stands at the beginning, with its size
-pub record IsPrefix (bytes : List ℕ) (x : Contents × ℕ) : Type 0 where
-  pub fit_header : FitHeader x.0
+pub record IsPrefix (bytes : List ℕ) (x : HeaderContents × ℕ) : Type 0 where
+  pub fit_header : FitHeaderFields x.0
   pub prefix : bytes ≡ header_bytes x.0 ++ drop x.1 bytes
   pub size : x.1 ≡ length (header_bytes x.0)
 
@@ -196,7 +196,7 @@ fixed_takes bytes rest e =
     let t = test_ok (starts_with nat_eq bytes fixed_bytes) fault.Raw (drop 13 bytes) rest e in
     (starts_is Decides-eqb bytes fixed_bytes (starts_with nat_eq bytes fixed_bytes) refl).0 t.0 ∙ ap (λ (r : List ℕ). fixed_bytes ++ r) t.1
 
-pub header_takes : (bytes : List ℕ) (x : Contents × ℕ) → AreBytes bytes → header_at bytes ≡ Ok x → IsPrefix bytes x
+pub header_takes : (bytes : List ℕ) (x : HeaderContents × ℕ) → AreBytes bytes → header_at bytes ≡ Ok x → IsPrefix bytes x
 unfolding header_at header_fields_at
 header_takes bytes x f e =
     let a = bind_ok (after_fixed_bytes bytes) (header_fields_at (length bytes)) x e in
@@ -206,17 +206,17 @@ header_takes bytes x f e =
     let h = from_header_fields b.0.0 t.hold t.fit in
     let whole : bytes ≡ header_bytes (contents_from b.0.0) ++ b.0.1 = p ∙ ap (λ (r : List ℕ). fixed_bytes ++ r) (t.parts ∙ ap (λ (c : List (List ℕ)). fields_bytes header_fields c ++ b.0.1) (sym h.listed_again)) in
     let n = prefix_of bytes (header_bytes (contents_from b.0.0)) b.0.1 whole in
-    let made : Contents × ℕ = (contents_from b.0.0, length bytes - length b.0.1) in
+    let made : HeaderContents × ℕ = (contents_from b.0.0, length bytes - length b.0.1) in
     subst (IsPrefix bytes) (ok_is made x b.2) (record { fit_header = h.fit_header; prefix = n.1; size = n.0 })
 
 -- ---- the clauses of what reads a header
 
-pub is_found : {X : Type 0} (view : X → Contents × ℕ) (result : Result X HeaderFault) (bytes : List ℕ) → AreBytes bytes → ReturnsAs view result (header_at bytes) →
-    IfOk result (λ x. FitHeader (view x).0 × (bytes ≡ header_bytes (view x).0 ++ drop (view x).1 bytes) × ((view x).1 ≡ length (header_bytes (view x).0)))
+pub is_found : {X : Type 0} (view : X → HeaderContents × ℕ) (result : Result X HeaderFault) (bytes : List ℕ) → AreBytes bytes → ReturnsAs view result (header_at bytes) →
+    IfOk result (λ x. FitHeaderFields (view x).0 × (bytes ≡ header_bytes (view x).0 ++ drop (view x).1 bytes) × ((view x).1 ≡ length (header_bytes (view x).0)))
 is_found view (Ok x) bytes f g = let t = header_takes bytes (view x) f g in (t.fit_header, t.prefix, t.size)
 is_found view (Err e) bytes f g = tt
 
-header_size : (x : Contents) → length (header_bytes x) ≡ 13 + (3 + length x.a + (3 + length x.b + (3 + length x.c + (3 + length x.d + 5))))
+header_size : (x : HeaderContents) → length (header_bytes x) ≡ 13 + (3 + length x.a + (3 + length x.b + (3 + length x.c + (3 + length x.d + 5))))
 header_size x =
     let d = length-append x.d (0x65 ∷ (bytes_of_word x.data_length ++ [])) in
     let c = length-append x.c (0x64 ∷ (length x.d / 256 ∷ length x.d % 256 ∷ (x.d ++ (0x65 ∷ (bytes_of_word x.data_length ++ []))))) in
@@ -224,7 +224,7 @@ header_size x =
     let a = length-append x.a (0x62 ∷ (length x.b / 256 ∷ length x.b % 256 ∷ (x.b ++ (0x63 ∷ (length x.c / 256 ∷ length x.c % 256 ∷ (x.c ++ (0x64 ∷ (length x.d / 256 ∷ length x.d % 256 ∷ (x.d ++ (0x65 ∷ (bytes_of_word x.data_length ++ []))))))))))) in
     omega (arith, a, b, c, d)
 
-pub is_short : {X : Type 0} (view : X → Contents × ℕ) (result : Result X HeaderFault) (bytes : List ℕ) → AreBytes bytes → ReturnsAs view result (header_at bytes) →
+pub is_short : {X : Type 0} (view : X → HeaderContents × ℕ) (result : Result X HeaderFault) (bytes : List ℕ) → AreBytes bytes → ReturnsAs view result (header_at bytes) →
     IfOk result (λ x. (view x).1 ≤ 262170)
 is_short view (Ok x) bytes f g =
     let t = header_takes bytes (view x) f g in
@@ -233,10 +233,10 @@ is_short view (Ok x) bytes f g =
     omega (arith, a, b, c, d, n, header_size (view x).0)
 is_short view (Err e) bytes f g = tt
 
-pub is_only : {X : Type 0} (view : X → Contents × ℕ) (result : Result X HeaderFault) (bytes : List ℕ) → ReturnsAs view result (header_at bytes) →
-    (x : Contents) (rest : List ℕ) → FitHeader x → bytes ≡ header_bytes x ++ rest → IsOkAnd result (λ head. (view head).0 ≡ x)
+pub is_only : {X : Type 0} (view : X → HeaderContents × ℕ) (result : Result X HeaderFault) (bytes : List ℕ) → ReturnsAs view result (header_at bytes) →
+    (x : HeaderContents) (rest : List ℕ) → FitHeaderFields x → bytes ≡ header_bytes x ++ rest → IsOkAnd result (λ head. (view head).0 ≡ x)
 is_only view (Ok y) bytes g x rest h e =
-    ap (λ (r : Contents × ℕ). r.0) (ok_is (view y) (x, length (header_bytes x)) (sym g ∙ ap header_at e ∙ header_again x rest h))
+    ap (λ (r : HeaderContents × ℕ). r.0) (ok_is (view y) (x, length (header_bytes x)) (sym g ∙ ap header_at e ∙ header_again x rest h))
 is_only view (Err d) bytes g x rest h e =
     let again : header_at bytes ≡ Ok (x, length (header_bytes x)) = ap header_at e ∙ header_again x rest h in
     absurd (ok_not_err (x, length (header_bytes x)) d (sym again ∙ g))
@@ -306,13 +306,13 @@ raw_at bytes false s =
       λ n. at,
     )
 
-pub is_raw : {X : Type 0} (view : X → Contents × ℕ) (result : Result X HeaderFault) (bytes : List ℕ) → ReturnsAs view result (header_at bytes) → IsErrOf result fault.Raw ↔ ((rest : List ℕ) → bytes ≢ fixed_bytes ++ rest)
+pub is_raw : {X : Type 0} (view : X → HeaderContents × ℕ) (result : Result X HeaderFault) (bytes : List ℕ) → ReturnsAs view result (header_at bytes) → IsErrOf result fault.Raw ↔ ((rest : List ℕ) → bytes ≢ fixed_bytes ++ rest)
 is_raw {X = X} view (Ok x) bytes g =
     let r = raw_at bytes (starts_with nat_eq bytes fixed_bytes) refl in
     (λ i. absurd (ok_not_err x fault.Raw i), λ n. absurd (ok_not_err (view x) fault.Raw (sym g ∙ r.1 n)))
 is_raw {X = X} view (Err d) bytes g =
     let r = raw_at bytes (starts_with nat_eq bytes fixed_bytes) refl in
-    (λ i. r.0 (g ∙ ap (failed (Contents × ℕ)) (err_is X d fault.Raw i)), λ n. ap (failed X) (err_is (Contents × ℕ) d fault.Raw (sym g ∙ r.1 n)))
+    (λ i. r.0 (g ∙ ap (failed (HeaderContents × ℕ)) (err_is X d fault.Raw i)), λ n. ap (failed X) (err_is (HeaderContents × ℕ) d fault.Raw (sym g ∙ r.1 n)))
 
 pub cut_at : (bytes : List ℕ) (place : ℕ) (b : Bool) → starts_with nat_eq bytes fixed_bytes ≡ b → header_at bytes ≡ Err (fault.Cut place) → place ≡ length bytes
 unfolding header_at
@@ -321,7 +321,7 @@ cut_at bytes place true s e =
     subst (FaultInside (length bytes)) (sym at ∙ e) (header_fields_inside (length bytes) (drop 13 bytes))
 cut_at bytes place false s e =
     let at : header_at bytes ≡ Err fault.Raw = rw s refl in
-    let same : fault.Raw ≡ fault.Cut place = err_is (Contents × ℕ) fault.Raw (fault.Cut place) (sym at ∙ e) in
+    let same : fault.Raw ≡ fault.Cut place = err_is (HeaderContents × ℕ) fault.Raw (fault.Cut place) (sym at ∙ e) in
     absurd cc
 
 -- ---- another byte than a letter
@@ -406,7 +406,7 @@ first_letter_refused : (total : ℕ) (next : Field) (other : ℕ) (rest : List �
 unfolding field_at
 first_letter_refused total next other rest n = rw (letter_refused total next.letter other rest n) refl
 
-other_refused : (total : ℕ) (before : List Field) (contents : List (List ℕ)) (next : Field) (later : List Field) (other : ℕ) (rest : List ℕ) → Hold before contents → other ≢ next.letter →
+other_refused : (total : ℕ) (before : List Field) (contents : List (List ℕ)) (next : Field) (later : List Field) (other : ℕ) (rest : List ℕ) → FitFields before contents → other ≢ next.letter →
     fields_at total (before ++ next ∷ later) (fields_bytes before contents ++ other ∷ rest) ≡ Err (fault.Field (total - length (other ∷ rest)))
 unfolding fields_at
 other_refused total [] [] next later other rest h n = rw (first_letter_refused total next other rest n) refl
@@ -428,7 +428,7 @@ field_at_place bytes place true f s e =
     ]
 field_at_place bytes place false f s e =
     let at : header_at bytes ≡ Err fault.Raw = rw s refl in
-    let same : fault.Raw ≡ fault.Field place = err_is (Contents × ℕ) fault.Raw (fault.Field place) (sym at ∙ e) in
+    let same : fault.Raw ≡ fault.Field place = err_is (HeaderContents × ℕ) fault.Raw (fault.Field place) (sym at ∙ e) in
     absurd cc
 
 pub header_refused : (bytes : List ℕ) (place : ℕ) → HasOtherLetterAt bytes place → header_at bytes ≡ Err (fault.Field place)
@@ -441,13 +441,13 @@ header_refused bytes place (after, prefix, h, w) =
     let fields_refused : header_fields_at (length bytes) after ≡ Err (fault.Field place) = rw fields refl in
     ap header_at prefix ∙ ap (λ n. header_fields_at n after) (sym (ap length prefix)) ∙ fields_refused
 
-pub is_other : {X : Type 0} (view : X → Contents × ℕ) (result : Result X HeaderFault) (bytes : List ℕ) → AreBytes bytes → ReturnsAs view result (header_at bytes) → (place : ℕ) →
+pub is_other : {X : Type 0} (view : X → HeaderContents × ℕ) (result : Result X HeaderFault) (bytes : List ℕ) → AreBytes bytes → ReturnsAs view result (header_at bytes) → (place : ℕ) →
     IsErrOf result (fault.Field place) ↔ HasOtherLetterAt bytes place
 is_other view (Ok x) bytes f g place =
     (λ i. absurd (ok_not_err x (fault.Field place) i), λ w. absurd (ok_not_err (view x) (fault.Field place) (sym g ∙ header_refused bytes place w)))
 is_other {X = X} view (Err d) bytes f g place = (
-  λ i. field_at_place bytes place (starts_with nat_eq bytes fixed_bytes) f refl (g ∙ ap (failed (Contents × ℕ)) (err_is X d (fault.Field place) i)),
-  λ w. ap (failed X) (err_is (Contents × ℕ) d (fault.Field place) (sym g ∙ header_refused bytes place w)),
+  λ i. field_at_place bytes place (starts_with nat_eq bytes fixed_bytes) f refl (g ∙ ap (failed (HeaderContents × ℕ)) (err_is X d (fault.Field place) i)),
+  λ w. ap (failed X) (err_is (HeaderContents × ℕ) d (fault.Field place) (sym g ∙ header_refused bytes place w)),
 )
 
 -- a header is what follows the fixed bytes

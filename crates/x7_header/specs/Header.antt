@@ -42,9 +42,9 @@ header_fields =
     ∷ []
 
 -- a content fits a field of this kind: a text of at most 65,535 bytes, or four bytes
-abbrev pub Holds : FieldKind → List ℕ → Type 0
-Holds FieldKind.Counted content = length content < 2 ^ 16
-Holds FieldKind.Four content = length content ≡ 4
+abbrev pub FitsFieldKind : FieldKind → List ℕ → Type 0
+FitsFieldKind FieldKind.Counted content = length content < 2 ^ 16
+FitsFieldKind FieldKind.Four content = length content ≡ 4
 
 -- the bytes between a field's letter and its content: the count of a text, none before a number
 abbrev pub bytes_of_count : FieldKind → List ℕ → List ℕ
@@ -62,11 +62,11 @@ fields_bytes (field ∷ fields) [] = []
 fields_bytes [] contents = []
 
 -- there is one content for each of the fields, and it fits the field
-abbrev pub Hold : List Field → List (List ℕ) → Type 0
-Hold (field ∷ fields) (content ∷ contents) = Holds field.kind content × Hold fields contents
-Hold (field ∷ fields) [] = ⊥
-Hold [] (content ∷ contents) = ⊥
-Hold [] [] = Unit {0}
+abbrev pub FitFields : List Field → List (List ℕ) → Type 0
+FitFields (field ∷ fields) (content ∷ contents) = FitsFieldKind field.kind content × FitFields fields contents
+FitFields (field ∷ fields) [] = ⊥
+FitFields [] (content ∷ contents) = ⊥
+FitFields [] [] = Unit {0}
 
 -- the bytes are whole fields, the first ones of these, and then a byte that isn't the next field's letter; `left` bytes
 -- stand from it on
@@ -78,7 +78,7 @@ pub record HasOtherLetter (fields : List Field) (bytes : List ℕ) (left : ℕ) 
   pub other : ℕ
   pub rest : List ℕ
   pub fields_are : fields ≡ done ++ next ∷ later
-  pub hold : Hold done contents
+  pub hold : FitFields done contents
   pub bytes_are : bytes ≡ fields_bytes done contents ++ other ∷ rest
   pub left_is : left ≡ length (other ∷ rest)
   pub differs : other ≢ next.letter
@@ -89,7 +89,7 @@ HasOtherLetterAt bytes place =
     (after : List ℕ) × (bytes ≡ fixed_bytes ++ after) × (place ≤ length bytes) × HasOtherLetter header_fields after (length bytes - place)
 
 -- what the fields of a header hold
-pub record Contents : Type 0 where
+pub record HeaderContents : Type 0 where
   pub a : List ℕ
   pub b : List ℕ
   pub c : List ℕ
@@ -97,11 +97,11 @@ pub record Contents : Type 0 where
   pub data_length : ℕ
 
 -- the contents of a header's fields in their order
-abbrev pub contents_in_order : Contents → List (List ℕ)
+abbrev pub contents_in_order : HeaderContents → List (List ℕ)
 contents_in_order x = x.a ∷ x.b ∷ x.c ∷ x.d ∷ bytes_of_word x.data_length ∷ []
 
--- the contents fit a header: four texts of at most 65,535 bytes, and a length of 32 bits
-pub record FitHeader (x : Contents) : Type 0 where
+-- the contents fit the fields of a header: four texts of at most 65,535 bytes, and a length of 32 bits
+pub record FitHeaderFields (x : HeaderContents) : Type 0 where
   pub a : length x.a < 2 ^ 16
   pub b : length x.b < 2 ^ 16
   pub c : length x.c < 2 ^ 16
@@ -109,24 +109,24 @@ pub record FitHeader (x : Contents) : Type 0 where
   pub data_length : x.data_length < 2 ^ 32
 
 -- the bytes of the header with these contents
-abbrev pub header_bytes : Contents → List ℕ
+abbrev pub header_bytes : HeaderContents → List ℕ
 header_bytes x = fixed_bytes ++ fields_bytes header_fields (contents_in_order x)
 
 -- the header with these contents and of this size stands at the beginning of the bytes
-abbrev pub BeginsWith : Contents → ℕ → List ℕ → Type 0
-BeginsWith x size bytes = FitHeader x × (bytes ≡ header_bytes x ++ drop size bytes) × (size ≡ length (header_bytes x))
+abbrev pub BeginsWith : HeaderContents → ℕ → List ℕ → Type 0
+BeginsWith x size bytes = FitHeaderFields x × (bytes ≡ header_bytes x ++ drop size bytes) × (size ≡ length (header_bytes x))
 
 -- the input ends inside a header: its fixed bytes are there, and some header begins with the whole input and goes on
 pub record EndsInHeader (bytes : List ℕ) : Type 0 where
-  pub header : Contents
+  pub header : HeaderContents
   pub after : List ℕ
   pub next : ℕ
   pub missing : List ℕ
-  pub fit_header : FitHeader header
+  pub fit_header : FitHeaderFields header
   pub fixed_are : bytes ≡ fixed_bytes ++ after
   pub goes_on : header_bytes header ≡ bytes ++ next ∷ missing
   pub missing_are : AreBytes (next ∷ missing)
 
 -- what a head holds, wherever it lies
-abbrev pub contents_of : Head → Contents
+abbrev pub contents_of : Head → HeaderContents
 contents_of head = record { a = head.a.now; b = head.b.now; c = head.c.now; d = head.d.now; data_length = head.length }

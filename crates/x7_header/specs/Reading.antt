@@ -3,7 +3,7 @@
 use Rattle.std.specs.Prelude.{◌≡◌, ℕ, ◌+◌, ◌-◌, ◌*◌, ◌<◌, List, [], ◌∷◌, ◌++◌, length, take, drop, Result, Ok, Err, nat_le, nat_lt, nat_eq, max, ◌==◌, if◌then◌else◌}
 use Rattle.std.specs.List.{starts_with}
 use Rattle.x7_words.specs.Word.{word_of_bytes}
-use Rattle.x7_header.specs.Header.{fixed_bytes, fixed_size, FieldKind, Field, header_fields, Contents}
+use Rattle.x7_header.specs.Header.{fixed_bytes, fixed_size, FieldKind, Field, header_fields, HeaderContents}
 use Rattle.x7_header.specs.declared.fault.HeaderFault.{HeaderFault}
 use Rattle.x7_header.specs.declared.fault.HeaderFault.TheVariants as fault
 
@@ -64,7 +64,7 @@ fields_at total (field ∷ fields) bytes = do
   Ok (first.0 ∷ others.0, others.1)
 
 -- what a header holds, by the contents of its fields in their order
-abbrev pub contents_from : List (List ℕ) → Contents
+abbrev pub contents_from : List (List ℕ) → HeaderContents
 contents_from (a ∷ b ∷ c ∷ d ∷ length ∷ more) = record { a = a; b = b; c = c; d = d; data_length = word_of_bytes length }
 contents_from _ = record { a = []; b = []; c = []; d = []; data_length = 0 }
 
@@ -73,13 +73,13 @@ abbrev pub after_fixed_bytes : List ℕ → Result (List ℕ) HeaderFault
 after_fixed_bytes bytes = if starts_with nat_eq bytes fixed_bytes then Ok (drop (length fixed_bytes) bytes) else Err fault.Raw
 
 -- what the fields of a header hold, and at which place of the input they end
-unfoldable pub header_fields_at : ℕ → List ℕ → Result (Contents × ℕ) HeaderFault
+unfoldable pub header_fields_at : ℕ → List ℕ → Result (HeaderContents × ℕ) HeaderFault
 header_fields_at total bytes = do
   read ← fields_at total header_fields bytes
   Ok (contents_from read.0, total - length read.1)
 
 -- what the header's fields hold, and the header's size in bytes
-unfoldable pub header_at : List ℕ → Result (Contents × ℕ) HeaderFault
+unfoldable pub header_at : List ℕ → Result (HeaderContents × ℕ) HeaderFault
 header_at bytes = do
   after ← after_fixed_bytes bytes
   header_fields_at (length bytes) after

@@ -1,6 +1,6 @@
 //! Reading a header, field by field.
 ghost use Rattle.std.specs.Prelude.{◌≡◌, ◌≢◌, ◌↔◌, IsOkAnd, IsErrOf, ◌≤◌, ◌++◌, ℕ, List, length, IfOk, Ok};
-ghost use Rattle.x7_header.specs.Header.{BeginsWith, Contents, FitHeader, EndsInHeader, HasOtherLetterAt, contents_of, fixed_bytes, header_bytes, longest_header};
+ghost use Rattle.x7_header.specs.Header.{BeginsWith, HeaderContents, FitHeaderFields, EndsInHeader, HasOtherLetterAt, contents_of, fixed_bytes, header_bytes, longest_header};
 ghost use Rattle.x7_header.specs.Reading.{ReturnsAs, header_fields_at, header_at};
 
 use crate::fault::HeaderFault;
@@ -35,7 +35,7 @@ pub fn header_of(bytes: &[u8]) -> Result<Head<'_>, HeaderFault>
     // A header has at most 262,170 bytes.
     ensures most { IfOk result (λ head. head.size ≤ longest_header) }
     // Each header that stands at the beginning is read, whatever follows it.
-    ensures complete { (x : Contents) (rest : List ℕ) → FitHeader x → bytes.now ≡ header_bytes x ++ rest →
+    ensures complete { (x : HeaderContents) (rest : List ℕ) → FitHeaderFields x → bytes.now ≡ header_bytes x ++ rest →
         IsOkAnd result (λ head. contents_of head ≡ x) }
     // `Raw` comes exactly where the input doesn't begin with the fixed bytes.
     ensures raw { IsErrOf result HeaderFault.Raw ↔ ((rest : List ℕ) → bytes.now ≢ fixed_bytes ++ rest) }

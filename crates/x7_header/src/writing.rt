@@ -2,7 +2,7 @@
 ghost use Rattle.std.specs.Prelude.{◌≡◌, ◌<◌, ◌^◌, ◌++◌, length, IfOk, OnOk, Ok, ℕ, List};
 ghost use Rattle.x7_words.specs.Word.{bytes_of_word};
 ghost use Rattle.x7_header.specs.Reading.{header_at};
-ghost use Rattle.x7_header.specs.Header.{FieldKind, Contents, FitHeader, contents_of, header_bytes, field_bytes};
+ghost use Rattle.x7_header.specs.Header.{FieldKind, HeaderContents, FitHeaderFields, contents_of, header_bytes, field_bytes};
 
 use crate::header::{FIXED_BYTES, Head};
 use std::alloc::Global;
@@ -40,7 +40,7 @@ fn append_number(out: &mut Vec<u8>, letter: u8, number: u32) -> Result<(), NoMem
 
 /// The bytes of the header with what a head holds, field by field.
 fn bytes_of_header(alloc: Global, head: &Head<'_>) -> Result<Vec<u8>, NoMemory>
-    requires { FitHeader (contents_of head.now) }
+    requires { FitHeaderFields (contents_of head.now) }
     ensures { IfOk result (λ out. out.items ≡ header_bytes (contents_of head.now)) }
 {
     let mut out = Vec::new(alloc);
@@ -55,13 +55,13 @@ fn bytes_of_header(alloc: Global, head: &Head<'_>) -> Result<Vec<u8>, NoMemory>
 
 /// The bytes of the header with what a head holds, whose `size` is not looked at; an error is want of memory alone.
 pub fn write_header(alloc: Global, head: &Head<'_>) -> Result<Vec<u8>, NoMemory>
-    requires { FitHeader (contents_of head.now) }
+    requires { FitHeaderFields (contents_of head.now) }
     ensures bytes { IfOk result (λ out. out.items ≡ header_bytes (contents_of head.now)) }
     // What is written is read again, whatever follows it.
     ensures back { (rest : List ℕ) → header_at (header_bytes (contents_of head.now) ++ rest)
         ≡ Ok (contents_of head.now, length (header_bytes (contents_of head.now))) }
     // No head with other contents has these bytes.
-    ensures one_head { (x : Contents) → FitHeader x →
+    ensures one_head { (x : HeaderContents) → FitHeaderFields x →
         header_bytes x ≡ header_bytes (contents_of head.now) → x ≡ contents_of head.now }
 {
     bytes_of_header(alloc, head)

@@ -1,6 +1,6 @@
 -- Lemmas on the bytes that a flash in memory has had.
 use Rattle.std.proofs.Common.{◌≡◌, ℕ, zero, suc, ◌≤◌, ◌⊎◌, inl, inr, ⊎_elim, List, [], ◌∷◌, ◌++◌, length, drop, refl, ap, sym, subst, arith, length-append}
-use Rattle.x7_words.specs.Flash.{replaced, IsTorn, Elapses}
+use Rattle.x7_words.specs.Flash.{replaced, IsTorn, TimeElapses}
 use Rattle.x7_in_memory.specs.Memory.{PastWrite}
 use Rattle.x7_in_memory.specs.FoundSince.{whole_before, WithinOneOf, FoundSince}
 
@@ -31,7 +31,7 @@ module _ (w : PastWrite) (old new : List ℕ) (undone : replaced w.place w.befor
   drop_more_past (suc moment) (p ∷ past) le = drop_more_past moment past (omega arith)
 
   pub passes_more : (past : List PastWrite) → IsTorn w.place w.target old new → IsTorn w.place w.target old old
-      → Elapses (length past) (length (past ++ w ∷ [])) (FoundSince past old) (FoundSince (past ++ w ∷ []) new) (λ found. IsTorn w.place w.target old found)
+      → TimeElapses (length past) (length (past ++ w ∷ [])) (FoundSince past old) (FoundSince (past ++ w ∷ []) new) (λ found. IsTorn w.place w.target old found)
   passes_more past torn_new torn_old = record {
     later = omega (arith, length-append past (w ∷ []));
     nothing_else = λ moment found le since. ⊎_elim
@@ -45,5 +45,5 @@ module _ (w : PastWrite) (old new : List ℕ) (undone : replaced w.place w.befor
   }
 
 -- where nothing was written, the same may be found
-pub passes_none : (past : List PastWrite) (now : List ℕ) (within : List ℕ → Type 0) → Elapses (length past) (length past) (FoundSince past now) (FoundSince past now) within
+pub passes_none : (past : List PastWrite) (now : List ℕ) (within : List ℕ → Type 0) → TimeElapses (length past) (length past) (FoundSince past now) (FoundSince past now) within
 passes_none past now within = record { later = omega arith; nothing_else = λ moment found le since. inl since; keeps = λ moment found le since. since }

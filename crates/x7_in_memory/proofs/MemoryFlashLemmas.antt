@@ -5,7 +5,7 @@ use Rattle.std.proofs.lemmas.Bool.Decides.{nat_tests}
 use Rattle.std.specs.Cmp.Lexicographic.{bytes_decides}
 use Rattle.std.specs.Str.{bytes_eq}
 use Rattle.x7_words.specs.Count.{HasRisen}
-use Rattle.x7_words.specs.Flash.{replaced, AsksFor, IsTorn, Elapses, FlashStays, OnlyReads, Sees, Unwritten}
+use Rattle.x7_words.specs.Flash.{replaced, FlashIsAskedFor, IsTorn, TimeElapses, FlashStays, OnlyReads, SeesBytes, Unwritten}
 use Rattle.x7_in_memory.specs.Memory.{FlashInMemory, PastWrite, WriteRecord, left_by, write_refused, next_tear, latest_tear, flash_write_fails, known_flash, names_asked, seen_in, after_memory_attach, after_read_at, flash_fails, begun, after_refusal, after_tear, after_begun_write, after_flash_write, recorded, has_room}
 use Rattle.x7_in_memory.specs.FoundSince.{FoundSince}
 use Rattle.x7_words.proofs.CountLemmas.{raised_risen}
@@ -91,23 +91,23 @@ module _ (old new : FlashInMemory) (place : ℕ) (target : List ℕ) (within : p
   left_torn failed (torn pattern a e) = subst (λ (n : FlashInMemory). IsTorn place target old.bytes n.bytes) (sym e) (left_is_torn (Some pattern) place target old.bytes within)
 
   tells_passes : (failed : Bool) → Went old new place target failed
-      → Elapses (length old.writes.past) (length new.writes.past) (FoundSince old.writes.past old.bytes) (FoundSince new.writes.past new.bytes) (λ found. IsTorn place target old.bytes found)
+      → TimeElapses (length old.writes.past) (length new.writes.past) (FoundSince old.writes.past old.bytes) (FoundSince new.writes.past new.bytes) (λ found. IsTorn place target old.bytes found)
   tells_passes failed (refused a e) =
-      subst (λ (n : FlashInMemory). Elapses (length old.writes.past) (length n.writes.past) (FoundSince old.writes.past old.bytes) (FoundSince n.writes.past n.bytes) (λ found. IsTorn place target old.bytes found)) (sym e)
+      subst (λ (n : FlashInMemory). TimeElapses (length old.writes.past) (length n.writes.past) (FoundSince old.writes.past old.bytes) (FoundSince n.writes.past n.bytes) (λ found. IsTorn place target old.bytes found)) (sym e)
       (passes_none old.writes.past old.bytes (λ found. IsTorn place target old.bytes found))
   tells_passes failed (done a e) = passes_by None e
     where
       passes_by : (tear : Option ℕ) → new ≡ after_begun_write old place target tear
-          → Elapses (length old.writes.past) (length new.writes.past) (FoundSince old.writes.past old.bytes) (FoundSince new.writes.past new.bytes) (λ found. IsTorn place target old.bytes found)
+          → TimeElapses (length old.writes.past) (length new.writes.past) (FoundSince old.writes.past old.bytes) (FoundSince new.writes.past new.bytes) (λ found. IsTorn place target old.bytes found)
       passes_by tear e =
-          subst (λ (n : FlashInMemory). Elapses (length old.writes.past) (length n.writes.past) (FoundSince old.writes.past old.bytes) (FoundSince n.writes.past n.bytes) (λ found. IsTorn place target old.bytes found)) (sym e)
+          subst (λ (n : FlashInMemory). TimeElapses (length old.writes.past) (length n.writes.past) (FoundSince old.writes.past old.bytes) (FoundSince n.writes.past n.bytes) (λ found. IsTorn place target old.bytes found)) (sym e)
           (passes_more (record { place = place; before = slice_range old.bytes place (place + length target); target = target }) old.bytes _ (left_back tear place target old.bytes within) old.writes.past (left_is_torn tear place target old.bytes within) (old_is_torn place target old.bytes))
   tells_passes failed (torn pattern a e) = passes_by (Some pattern) e
     where
       passes_by : (tear : Option ℕ) → new ≡ after_begun_write old place target tear
-          → Elapses (length old.writes.past) (length new.writes.past) (FoundSince old.writes.past old.bytes) (FoundSince new.writes.past new.bytes) (λ found. IsTorn place target old.bytes found)
+          → TimeElapses (length old.writes.past) (length new.writes.past) (FoundSince old.writes.past old.bytes) (FoundSince new.writes.past new.bytes) (λ found. IsTorn place target old.bytes found)
       passes_by tear e =
-          subst (λ (n : FlashInMemory). Elapses (length old.writes.past) (length n.writes.past) (FoundSince old.writes.past old.bytes) (FoundSince n.writes.past n.bytes) (λ found. IsTorn place target old.bytes found)) (sym e)
+          subst (λ (n : FlashInMemory). TimeElapses (length old.writes.past) (length n.writes.past) (FoundSince old.writes.past old.bytes) (FoundSince n.writes.past n.bytes) (λ found. IsTorn place target old.bytes found)) (sym e)
           (passes_more (record { place = place; before = slice_range old.bytes place (place + length target); target = target }) old.bytes _ (left_back tear place target old.bytes within) old.writes.past (left_is_torn tear place target old.bytes within) (old_is_torn place target old.bytes))
 
   one_more : (tear : Option ℕ) → new ≡ after_begun_write old place target tear → length new.writes.past ≤ length old.writes.past + 1
@@ -141,7 +141,7 @@ module _ (old new : FlashInMemory) (place : ℕ) (target : List ℕ) (within : p
   pub record Promised (answer : Result (Unit {0}) FailedWrite) : Type 0 where
     pub written : OnOk answer (Some new.bytes ≡ Some (replaced place target old.bytes))
     pub torn : OnErr answer ((now : List ℕ) × (Some new.bytes ≡ Some now) × IsTorn place target old.bytes now)
-    pub passes : Elapses (length old.writes.past) (length new.writes.past) (FoundSince old.writes.past old.bytes) (FoundSince new.writes.past new.bytes) (λ found. IsTorn place target old.bytes found)
+    pub passes : TimeElapses (length old.writes.past) (length new.writes.past) (FoundSince old.writes.past old.bytes) (FoundSince new.writes.past new.bytes) (λ found. IsTorn place target old.bytes found)
     pub failed : OnErr answer (HasRisen old.write_faults new.write_faults)
     pub attached : new.attached ≡ old.attached
     pub extent : length new.bytes ≡ length old.bytes
@@ -202,8 +202,8 @@ asked_other false true true Same f h = inr (f refl refl)
 asked_other false false true Same f h = inl h
 asked_other a own false Same f h = inl refl
 
-pub attach_asks : (old new : FlashInMemory) (name : List ℕ) → new ≡ after_memory_attach old name → AsksFor (known_flash old) name (known_flash new)
-attach_asks old new name e = subst (λ (n : FlashInMemory). AsksFor (known_flash old) name (known_flash n)) (sym e) (record {
+pub attach_asks : (old new : FlashInMemory) (name : List ℕ) → new ≡ after_memory_attach old name → FlashIsAskedFor (known_flash old) name (known_flash new)
+attach_asks old new name e = subst (λ (n : FlashInMemory). FlashIsAskedFor (known_flash old) name (known_flash n)) (sym e) (record {
   asked = asked_now old.asked (bytes_eq old.name name);
   no_other = λ other h. asked_other old.asked (bytes_eq old.name name) (bytes_eq old.name other) (other ≡ name)
       (λ own is. sym ((bytes_decides old.name other).0 is) ∙ (bytes_decides old.name name).0 own) h;
@@ -240,7 +240,7 @@ module _ (old new : FlashInMemory) (place count : ℕ) (e : new ≡ after_read_a
   }
 
   -- what was read is seen
-  read_seen : (read : List ℕ) → length read ≡ count → flash_fails old ≡ false → read ≡ slice_range old.bytes place (place + count) → Sees (known_flash new) place read
+  read_seen : (read : List ℕ) → length read ≡ count → flash_fails old ≡ false → read ≡ slice_range old.bytes place (place + count) → SeesBytes (known_flash new) place read
   read_seen read long works is i h = subst (λ (n : FlashInMemory). IsTrue (seen_in n (place + i) (get_or read i 0))) (sym e) (between (flash_fails old) works)
     where
       same : get_or read i 0 ≡ get_or old.bytes (place + i) 0
@@ -251,6 +251,6 @@ module _ (old new : FlashInMemory) (place count : ℕ) (e : new ≡ after_read_a
       between true w = absurd (cc)
       between false w = grind (arith, nat_tests, h, long, same)
 
-  pub read_sees : (read : List ℕ) (answer : Result (Unit {0}) FailedWrite) → length read ≡ count → is_err answer ≡ flash_fails old → OnOk answer (read ≡ slice_range old.bytes place (place + count)) → OnOk answer (Sees (known_flash new) place read)
+  pub read_sees : (read : List ℕ) (answer : Result (Unit {0}) FailedWrite) → length read ≡ count → is_err answer ≡ flash_fails old → OnOk answer (read ≡ slice_range old.bytes place (place + count)) → OnOk answer (SeesBytes (known_flash new) place read)
   read_sees read (Ok _) long a is = read_seen read long (sym a) is
   read_sees read (Err _) long a is = tt

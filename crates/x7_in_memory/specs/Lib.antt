@@ -1,5 +1,5 @@
 pub mod Memory
 pub mod FoundSince
-pub mod Spans
+pub mod WriteRanges
 pub mod Tearing
 pub mod NamedBytes

@@ -11,7 +11,7 @@ use std::alloc::Global;
 use std::marker::Model;
 use x7_words::{ERASED_BYTE, Failed, Flash, NoMemory, SECTOR_SIZE, SelectFault, are_bytes, raised};
 
-/// A write that is torn: the number of its call, and the pattern of the bits that stay old.
+/// A write that is torn: the number of its call, from 1, and the pattern of the bits that stay old.
 #[derive(Clone, Copy, Drop)]
 struct Torn {
     call: u64,
@@ -26,17 +26,23 @@ pub struct MemoryFlash {
     name: String,
     bytes: Vec<u8>,
     attached: bool,
+    // whether the flash was asked for under its name
     asked: bool,
-    // The least place that was read since the last write, and the one after the greatest; usize::MAX and 0 before any.
+    // the least place that was read since the last write, and the one after the greatest; usize::MAX and 0 before any
     seen_from: usize,
     seen_to: usize,
+    // how many attaches asked for another name
     absences: u64,
     calls: Calls,
+    // how many attaches and reads failed
     read_faults: u64,
+    // how many erases and programs failed
     write_faults: u64,
     writes: Record,
+    // what the present write is to bring, in memory that was taken before
     target: Vec<u8>,
     tear: Option<Torn>,
+    // whether a write was torn: all calls fail from then on
     stopped: bool,
 }
 

@@ -8,7 +8,7 @@ use x7_words::NoMemory;
 
 /// The range of a write: its place, and how many bytes it has.
 #[derive(Clone, Copy, Drop)]
-pub(crate) struct Span {
+pub(crate) struct WriteRange {
     pub(crate) place: usize,
     pub(crate) count: usize,
 }
@@ -17,30 +17,32 @@ pub(crate) struct Span {
 /// The room for further ones is made ahead.
 #[derive(Drop)]
 pub(crate) struct Record {
-    spans: Vec<Span>,
+    write_ranges: Vec<WriteRange>,
     before: Vec<u8>,
     target: Vec<u8>,
+    // how many writes more can be recorded
     writes_left: usize,
+    // how many bytes the ranges of further writes may have in all
     bytes_left: usize,
 }
 
 impl Model for Record {
     ghost use Rattle.std.specs.Prelude.{◌≡◌, ◌+◌, ◌≤◌, length, vec_len, vec_capacity};
     ghost use Rattle.x7_in_memory.specs.Memory.{WriteRecord};
-    ghost use Rattle.x7_in_memory.specs.Spans.{writes_of, spans_size};
+    ghost use Rattle.x7_in_memory.specs.WriteRanges.{writes_of, ranges_size};
 
     ghost Value = { WriteRecord };
 
     ghost view = { λ r. record {
-      past = writes_of r.spans.items r.before.items r.target.items;
+      past = writes_of r.write_ranges.items r.before.items r.target.items;
       writes_left = r.writes_left;
       bytes_left = r.bytes_left;
     } };
 
     ghost invariant = { λ r.
-        (length r.before.items ≡ spans_size r.spans.items)
-        × (length r.target.items ≡ spans_size r.spans.items)
-        × (vec_len r.spans + r.writes_left ≤ vec_capacity r.spans)
+        (length r.before.items ≡ ranges_size r.write_ranges.items)
+        × (length r.target.items ≡ ranges_size r.write_ranges.items)
+        × (vec_len r.write_ranges + r.writes_left ≤ vec_capacity r.write_ranges)
         × (vec_len r.before + r.bytes_left ≤ vec_capacity r.before)
         × (vec_len r.target + r.bytes_left ≤ vec_capacity r.target) };
 }
@@ -51,7 +53,7 @@ impl Record {
         ensures { result ≡ no_writes }
     {
         Record {
-            spans: Vec::new(alloc),
+            write_ranges: Vec::new(alloc),
             before: Vec::new(alloc),
             target: Vec::new(alloc),
             writes_left: 0,
@@ -68,7 +70,7 @@ impl Record {
             .checked_add(writes)
             .ok_or(NoMemory)? as usize;
         let bytes = (self.bytes_left as u64).checked_add(bytes).ok_or(NoMemory)? as usize;
-        self.spans.reserve(writes)?;
+        self.write_ranges.reserve(writes)?;
         self.before.reserve(bytes)?;
         self.target.reserve(bytes)?;
         self.writes_left = writes;
@@ -103,7 +105,7 @@ impl Record {
         let Ok(()) = self.target.extend_from_slice(target) else {
             unreachable!()
         };
-        let Ok(()) = self.spans.push(Span { place, count }) else {
+        let Ok(()) = self.write_ranges.push(WriteRange { place, count }) else {
             unreachable!()
         };
         self.writes_left -= 1;

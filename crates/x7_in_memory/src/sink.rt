@@ -13,10 +13,14 @@ use x7_words::{Failed, NoMemory, Sink, raised};
 /// Each write has the next number, from 1, and those that are to fail fail.
 #[derive(Drop)]
 pub struct MemorySink {
+    // what was written
     bytes: Vec<u8>,
+    // how many bytes the sink takes in all
     room: usize,
+    // the most bytes that a write takes
     most: usize,
     calls: Calls,
+    // how many writes failed
     faults: u64,
 }
 

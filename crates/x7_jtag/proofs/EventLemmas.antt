@@ -11,7 +11,7 @@ use Rattle.x7_jtag.specs.Events.{data_events, events_in, events_of, idle_events,
 use Rattle.x7_jtag.specs.Instruction.{instruction_of}
 use Rattle.x7_jtag.specs.Port.{Port, acted, captured, clocked, data_shifted, idled, new_port, port_after, queue_at_update, words_read_out, with_bit}
 use Rattle.x7_jtag.specs.Queue.{QueueEvent, Byte, Queue, by_event, offered, queue_after}
-use Rattle.x7_jtag.specs.State.{Clock}
+use Rattle.x7_jtag.specs.State.{PortClock}
 
 eighth : (reads : List ℕ → List ℕ) (q : Queue) (x : ℕ) (b : Bool) → (if b then offered reads q x else q) ≡ fold (by_event reads) q (if b then Byte x ∷ [] else [])
 eighth reads q x true = refl
@@ -75,7 +75,7 @@ acted_events part state.PauseIr p tdi = refl
 acted_events part state.Exit2Ir p tdi = refl
 acted_events part state.UpdateIr p tdi = programmed_events (words_read_out part) (instruction_of p.register) p.queue
 
-events_from : (part : PartData) (p : Port) (cs : List Clock) → (fold (clocked part) p cs).queue ≡ fold (by_event (words_read_out part)) p.queue (events_of part p cs)
+events_from : (part : PartData) (p : Port) (cs : List PortClock) → (fold (clocked part) p cs).queue ≡ fold (by_event (words_read_out part)) p.queue (events_of part p cs)
 events_from part p [] = refl
 events_from part p (c ∷ cs) =
     let rest : List QueueEvent = events_of part (clocked part p c) cs in
@@ -83,5 +83,5 @@ events_from part p (c ∷ cs) =
     ∙ ap (λ (q : Queue). fold (by_event (words_read_out part)) q rest) (acted_events part p.state p c.tdi)
     ∙ sym (fold-append (by_event (words_read_out part)) p.queue (events_in p.state p c.tdi) rest)
 
-pub queue_events : (part : PartData) (cs : List Clock) → (port_after part cs).queue ≡ queue_after (words_read_out part) (events_of part new_port cs)
+pub queue_events : (part : PartData) (cs : List PortClock) → (port_after part cs).queue ≡ queue_after (words_read_out part) (events_of part new_port cs)
 queue_events part cs = events_from part new_port cs

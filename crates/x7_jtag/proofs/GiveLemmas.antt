@@ -90,7 +90,9 @@ quiet_whole part e given bytes piece words took due is k =
     omega (arith, ap length grown.1, length-append (reads_of part on_the_bench (given ++ take k piece)) grown.0, ap (λ (b : List ℕ). length (reads_of part on_the_bench b)) joined, ap length all)
 
 -- where a word is due, none has room before the last byte
-quiet_before : (part : PartData) (given bytes piece words : List ℕ) (n : ℕ) → n ≤ length piece → given ≡ bytes → RoomBefore (record { part = part; kept = on_the_bench; wrapped = false; bytes = bytes }) piece n words no_room → (k : ℕ) → k < n → length (words_read_out part (given ++ take k (take n piece))) ≤ length words
+quiet_before : (part : PartData) (given bytes piece words : List ℕ) (n : ℕ) → n ≤ length piece → given ≡ bytes
+    → RoomBefore (record { part = part; kept = on_the_bench; wrapped = false; bytes = bytes }) piece n words no_room → (k : ℕ) → k < n
+    → length (words_read_out part (given ++ take k (take n piece))) ≤ length words
 quiet_before part given bytes piece words n m is before k l =
     let same : given ++ take k (take n piece) ≡ bytes ++ take k piece = ap (λ (x : List ℕ). given ++ x) (take-take k n piece (omega (arith, l))) ∙ ap (λ (g : List ℕ). g ++ take k piece) is in
     let r = before k l in

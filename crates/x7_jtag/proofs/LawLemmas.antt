@@ -15,7 +15,7 @@ use Rattle.x7_engine.proofs.FrameLemmas.{length_left}
 use Rattle.x7_engine.proofs.StateLemmas.{stop_is_final_stop}
 use Rattle.x7_jtag.specs.Port.{port_after, words_read_out}
 use Rattle.x7_jtag.specs.Shown.{bytes_taken, state_shown}
-use Rattle.x7_jtag.specs.State.{Clock}
+use Rattle.x7_jtag.specs.State.{PortClock}
 use Rattle.x7_jtag.specs.Queue.{queue_of}
 use Rattle.x7_jtag.specs.Tap.{QueueHolds, TapStandsFor, TapState, TookOfGiven, words_taken, QueueState, QueueStandsFor}
 use Rattle.x7_jtag.proofs.TookLemmas.{reads_took}
@@ -42,7 +42,7 @@ took_by part given bytes d t s (Some stop) e over =
 pub took_first : (part : PartData) (given bytes : List ℕ) (d : DeviceState) → TookOfGiven part given bytes → DeviceStandsFor part on_the_bench false d bytes → bytes ≡ take (taken_of part on_the_bench given) given
 took_first part given bytes d t s = took_by part given bytes d t s (stop_in part on_the_bench bytes) refl t.over
 
-pub device_is : (part : PartData) (t : TapState) (d : DeviceState) (cs : List Clock) → TapStandsFor part t d cs
+pub device_is : (part : PartData) (t : TapState) (d : DeviceState) (cs : List PortClock) → TapStandsFor part t d cs
     → DeviceStandsFor part on_the_bench false d (take (taken_of part on_the_bench (port_after part cs).queue.given) (port_after part cs).queue.given)
 device_is part t d cs s =
     let h : QueueHolds part t.queue d (port_after part cs).queue = s.queue_is.holds in
@@ -64,12 +64,12 @@ due_by part k d given held out s =
     by zero z count whole taken = omega (arith, z, count, whole, taken, s.holds.out_is, s.no_word_due z)
     by (suc m) z count whole taken = omega (arith, z, count, whole, taken, s.holds.out_is, s.holds.bits_left_is)
 
-pub due_is : (part : PartData) (t : TapState) (d : DeviceState) (cs : List Clock) → TapStandsFor part t d cs
+pub due_is : (part : PartData) (t : TapState) (d : DeviceState) (cs : List PortClock) → TapStandsFor part t d cs
     → due_count d.registers.due ≡ length (words_read_out part (port_after part cs).queue.given) - ((port_after part cs).queue.out / 32 + 1)
 due_is part t d cs s = due_by part t.queue d (port_after part cs).queue.given (port_after part cs).queue.held (port_after part cs).queue.out s.queue_is
 
 -- what a device shows is what the clocks' port says
-pub shows_is : (part : PartData) (t : TapState) (d : DeviceState) (cs : List Clock) → TapStandsFor part t d cs
+pub shows_is : (part : PartData) (t : TapState) (d : DeviceState) (cs : List PortClock) → TapStandsFor part t d cs
     → state_owing part on_the_bench false (bytes_taken part (port_after part cs)) (frames_due d.registers.due) ≡ state_shown part (port_after part cs)
 shows_is part t d cs s =
     let bytes : List ℕ = bytes_taken part (port_after part cs) in

@@ -18,7 +18,7 @@ use Rattle.x7_jtag.specs.Clocks.{clock, clocks, clocks_of, from_exit, from_reset
 use Rattle.x7_svf.specs.Bits.{bytes_bits}
 use Rattle.x7_jtag.specs.Play.{MayClock, after_clocks, bit_at, difference, difference_from, differs_at, first_by, first_from, first_found, differs_from_wanted, least, tdo_at, walk_clocks}
 use Rattle.x7_jtag.specs.Port.{Port, clocked, new_port, port_after, tdo_of}
-use Rattle.x7_jtag.specs.State.{Clock, moved_by, state_after, test_logic_reset}
+use Rattle.x7_jtag.specs.State.{PortClock, moved_by, state_after, test_logic_reset}
 use Rattle.x7_jtag.specs.Tap.{CanAllBeOffered, CanBeOffered, TapStandsFor, TapState}
 use Rattle.x7_jtag.proofs.ShiftLemmas.{inner_append}
 use Rattle.x7_jtag.proofs.ShortLemmas.{held_short, taken_short}
@@ -31,19 +31,19 @@ ready_fits t d more r l = omega (arith, taken_short r.part t d r.before r.stands
 pub ready_less : (t : TapState) (d : DeviceState) (more less : ℕ) → less ≤ more → MayClock t d more → MayClock t d less
 ready_less t d more less l r = record { part = r.part; before = r.before; stands = r.stands; few = omega (arith, l, r.few) }
 
-pub ready_on : (t u : TapState) (d e : DeviceState) (more later : ℕ) (r : MayClock t d more) (ds : List Clock) → TapStandsFor r.part u e (r.before ++ ds) → length ds + later ≤ more → MayClock u e later
+pub ready_on : (t u : TapState) (d e : DeviceState) (more later : ℕ) (r : MayClock t d more) (ds : List PortClock) → TapStandsFor r.part u e (r.before ++ ds) → length ds + later ≤ more → MayClock u e later
 ready_on t u d e more later r ds s l = record { part = r.part; before = r.before ++ ds; stands = s; few = omega (arith, l, r.few, length-append r.before ds) }
 
-pub stands_at : (part : PartData) (t : TapState) (d : DeviceState) (cs ds : List Clock) → cs ≡ ds → TapStandsFor part t d cs → TapStandsFor part t d ds
+pub stands_at : (part : PartData) (t : TapState) (d : DeviceState) (cs ds : List PortClock) → cs ≡ ds → TapStandsFor part t d cs → TapStandsFor part t d ds
 stands_at part t d cs ds e s = subst (TapStandsFor part t d) e s
 
-pub after : (part : PartData) (cs ds : List Clock) → port_after part (cs ++ ds) ≡ after_clocks part (port_after part cs) ds
+pub after : (part : PartData) (cs ds : List PortClock) → port_after part (cs ++ ds) ≡ after_clocks part (port_after part cs) ds
 after part cs ds = fold-append (clocked part) new_port cs ds
 
 -- ---- a walk
 
 abbrev pub Walked : TapState → DeviceState → TapState → DeviceState → List Bool → List Bool → Type 0
-Walked t d u e path rest = (done : List Bool) × (done ++ rest ≡ path) × ((part : PartData) (cs : List Clock) → TapStandsFor part t d cs → TapStandsFor part u e (cs ++ walk_clocks done))
+Walked t d u e path rest = (done : List Bool) × (done ++ rest ≡ path) × ((part : PartData) (cs : List PortClock) → TapStandsFor part t d cs → TapStandsFor part u e (cs ++ walk_clocks done))
 
 pub walk_begins : (t : TapState) (d : DeviceState) (path : List Bool) → Walked t d t d path path
 walk_begins t d path = ([], refl, λ part cs s. stands_at part t d cs (cs ++ []) (sym (append-nil cs)) s)
@@ -60,7 +60,7 @@ rest_bits : (xs : List Bool) → take (length xs - 1) (drop 1 xs) ≡ drop 1 xs
 rest_bits xs = take_all (length xs - 1) (drop 1 xs) (omega (arith, length-drop 1 xs))
 
 pub walk_on : (t : TapState) (d : DeviceState) (u v : TapState) (e f : DeviceState) (path rest : List Bool) → 0 < length rest → Walked t d u e path rest
-    → ((part : PartData) (cs : List Clock) → TapStandsFor part u e cs → TapStandsFor part v f (cs ++ clock (slice_index_or rest 0 false) false ∷ []))
+    → ((part : PartData) (cs : List PortClock) → TapStandsFor part u e cs → TapStandsFor part v f (cs ++ clock (slice_index_or rest 0 false) false ∷ []))
     → Walked t d v f path (take (length rest - 1) (drop 1 rest))
 walk_on t d u v e f path rest some w step =
     let b : Bool = slice_index_or rest 0 false in
@@ -78,23 +78,23 @@ none_left [] l = refl
 none_left (x ∷ xs) l = absurd (omega (arith, l))
 
 pub walk_ends : (t : TapState) (d : DeviceState) (u : TapState) (e : DeviceState) (path rest : List Bool) → length rest ≡ 0 → Walked t d u e path rest
-    → (part : PartData) (cs : List Clock) → TapStandsFor part t d cs → TapStandsFor part u e (cs ++ walk_clocks path)
+    → (part : PartData) (cs : List PortClock) → TapStandsFor part t d cs → TapStandsFor part u e (cs ++ walk_clocks path)
 walk_ends t d u e path rest none w part cs s =
     let all : w.0 ≡ path = sym (append-nil w.0) ∙ ap (λ r. w.0 ++ r) (sym (none_left rest none)) ∙ w.1 in
     stands_at part u e (cs ++ walk_clocks w.0) (cs ++ walk_clocks path) (ap (λ r. cs ++ walk_clocks r) all) (w.2 part cs s)
 
 -- ---- a run
 
-replicate_more : (n : ℕ) (c : Clock) → replicate n c ++ c ∷ [] ≡ replicate (suc n) c
+replicate_more : (n : ℕ) (c : PortClock) → replicate n c ++ c ∷ [] ≡ replicate (suc n) c
 replicate_more zero c = refl
 replicate_more (suc n) c = ap (λ t. c ∷ t) (replicate_more n c)
 
-pub run_on : (part : PartData) (u v : TapState) (e f : DeviceState) (cs : List Clock) (c : Clock) (n m : ℕ) → TapStandsFor part u e (cs ++ replicate n c) → m ≡ suc n
+pub run_on : (part : PartData) (u v : TapState) (e f : DeviceState) (cs : List PortClock) (c : PortClock) (n m : ℕ) → TapStandsFor part u e (cs ++ replicate n c) → m ≡ suc n
     → TapStandsFor part v f ((cs ++ replicate n c) ++ c ∷ []) → TapStandsFor part v f (cs ++ replicate m c)
 run_on part u v e f cs c n m s is step =
     stands_at part v f ((cs ++ replicate n c) ++ c ∷ []) (cs ++ replicate m c) (append_assoc cs (replicate n c) (c ∷ []) ∙ ap (λ r. cs ++ r) (replicate_more n c ∙ ap (λ k. replicate k c) (sym is))) step
 
-pub run_whole : (part : PartData) (u : TapState) (e : DeviceState) (cs : List Clock) (c : Clock) (n m : ℕ) → TapStandsFor part u e (cs ++ replicate n c) → n ≡ m → TapStandsFor part u e (cs ++ replicate m c)
+pub run_whole : (part : PartData) (u : TapState) (e : DeviceState) (cs : List PortClock) (c : PortClock) (n m : ℕ) → TapStandsFor part u e (cs ++ replicate n c) → n ≡ m → TapStandsFor part u e (cs ++ replicate m c)
 run_whole part u e cs c n m s is = stands_at part u e (cs ++ replicate n c) (cs ++ replicate m c) (ap (λ k. cs ++ replicate k c) is) s
 
 -- ---- shifting
@@ -113,13 +113,13 @@ shift_at (b ∷ c ∷ cs) (suc i) tms l e =
     let t : tms ≡ (i == length (c ∷ cs) - 1) = grind (arith, e) in
     ap (λ r. clock false b ∷ r) (shift_at (c ∷ cs) i tms (omega (arith, l)) t)
 
-pub shift_on : (part : PartData) (u v : TapState) (e f : DeviceState) (cs : List Clock) (bs : List Bool) (i m : ℕ) (tms bit : Bool) → TapStandsFor part u e (cs ++ take i (shift_clocks bs)) → i < length bs → m ≡ suc i → tms ≡ (i == length bs - 1) → bit ≡ bit_at bs i
+pub shift_on : (part : PartData) (u v : TapState) (e f : DeviceState) (cs : List PortClock) (bs : List Bool) (i m : ℕ) (tms bit : Bool) → TapStandsFor part u e (cs ++ take i (shift_clocks bs)) → i < length bs → m ≡ suc i → tms ≡ (i == length bs - 1) → bit ≡ bit_at bs i
     → TapStandsFor part v f ((cs ++ take i (shift_clocks bs)) ++ clock tms bit ∷ []) → TapStandsFor part v f (cs ++ take m (shift_clocks bs))
 shift_on part u v e f cs bs i m tms bit s l is t b step =
     stands_at part v f ((cs ++ take i (shift_clocks bs)) ++ clock tms bit ∷ []) (cs ++ take m (shift_clocks bs))
     (append_assoc cs (take i (shift_clocks bs)) (clock tms bit ∷ []) ∙ ap (λ (x : Bool). cs ++ (take i (shift_clocks bs) ++ clock tms x ∷ [])) b ∙ ap (λ r. cs ++ r) (shift_at bs i tms l t) ∙ ap (λ k. cs ++ take k (shift_clocks bs)) (sym is)) step
 
-pub shift_ends : (part : PartData) (u : TapState) (e : DeviceState) (cs : List Clock) (bs : List Bool) (i : ℕ) → length bs ≤ i → TapStandsFor part u e (cs ++ take i (shift_clocks bs)) → TapStandsFor part u e (cs ++ shift_clocks bs)
+pub shift_ends : (part : PartData) (u : TapState) (e : DeviceState) (cs : List PortClock) (bs : List Bool) (i : ℕ) → length bs ≤ i → TapStandsFor part u e (cs ++ take i (shift_clocks bs)) → TapStandsFor part u e (cs ++ shift_clocks bs)
 shift_ends part u e cs bs i l s = stands_at part u e (cs ++ take i (shift_clocks bs)) (cs ++ shift_clocks bs) (ap (λ r. cs ++ r) (take_all i (shift_clocks bs) (omega (arith, l, shift_length bs)))) s
 
 -- ---- whole bytes of a scan
@@ -140,7 +140,7 @@ inner_length : (bs : List Bool) → length (inner_clocks bs) ≡ length bs
 inner_length [] = refl
 inner_length (b ∷ bs) = ap suc (inner_length bs)
 
-pub bytes_on : (part : PartData) (v : TapState) (f : DeviceState) (cs : List Clock) (bs : List Bool) (bytes : List ℕ) (at m : ℕ) → bytes_bits bytes ≡ take (8 * length bytes) (drop at bs) → at + 8 * length bytes < length bs → m ≡ at + 8 * length bytes
+pub bytes_on : (part : PartData) (v : TapState) (f : DeviceState) (cs : List PortClock) (bs : List Bool) (bytes : List ℕ) (at m : ℕ) → bytes_bits bytes ≡ take (8 * length bytes) (drop at bs) → at + 8 * length bytes < length bs → m ≡ at + 8 * length bytes
     → TapStandsFor part v f ((cs ++ take at (shift_clocks bs)) ++ inner_clocks (bytes_bits bytes)) → TapStandsFor part v f (cs ++ take m (shift_clocks bs))
 bytes_on part v f cs bs bytes at m e l is step =
     stands_at part v f ((cs ++ take at (shift_clocks bs)) ++ inner_clocks (bytes_bits bytes)) (cs ++ take m (shift_clocks bs))
@@ -152,7 +152,7 @@ pub bits_count : (bytes : List ℕ) → length (bytes_bits bytes) ≡ 8 * length
 bits_count [] = refl
 bits_count (b ∷ bs) = omega (arith, bits_count bs)
 
-pub ready_bytes : (t u : TapState) (d e : DeviceState) (more later : ℕ) (bytes : List ℕ) → MayClock t d more → ((part : PartData) (cs : List Clock) → TapStandsFor part t d cs → TapStandsFor part u e (cs ++ inner_clocks (bytes_bits bytes)))
+pub ready_bytes : (t u : TapState) (d e : DeviceState) (more later : ℕ) (bytes : List ℕ) → MayClock t d more → ((part : PartData) (cs : List PortClock) → TapStandsFor part t d cs → TapStandsFor part u e (cs ++ inner_clocks (bytes_bits bytes)))
     → 8 * length bytes + later ≤ more → MayClock u e later
 ready_bytes t u d e more later bytes r s l = ready_on t u d e more later r (inner_clocks (bytes_bits bytes)) (s r.part r.before r.stands) (omega (arith, l, inner_length (bytes_bits bytes), bits_count bytes))
 
@@ -199,7 +199,7 @@ found_ends holds found n i all l e =
     sym (e ∙ ap (λ k. found_or found (least holds i k)) count ∙ found_none found)
 
 -- what TDO shows at a shift clock
-pub shown_is : (part : PartData) (cs : List Clock) (s : Scan) (i : ℕ) (shown b : Bool) → shown ≡ tdo_of part (port_after part (cs ++ take i (shift_clocks s.tdi))) → b ≡ differs_from_wanted s.tdo s.mask i shown → b ≡ differs_at part (port_after part cs) s i
+pub shown_is : (part : PartData) (cs : List PortClock) (s : Scan) (i : ℕ) (shown b : Bool) → shown ≡ tdo_of part (port_after part (cs ++ take i (shift_clocks s.tdi))) → b ≡ differs_from_wanted s.tdo s.mask i shown → b ≡ differs_at part (port_after part cs) s i
 shown_is part cs s i shown b e f = f ∙ ap (differs_from_wanted s.tdo s.mask i) (e ∙ ap (tdo_of part) (after part cs (take i (shift_clocks s.tdi))))
 
 -- ---- lengths of walks
@@ -226,26 +226,26 @@ pub to_shift_length : (r : ScannedRegister) → length (to_shift r) ≤ 4
 to_shift_length scanned.Instruction = omega arith
 to_shift_length scanned.Data = omega arith
 
-pub ready_left : (t u : TapState) (d e : DeviceState) (more later : ℕ) → MayClock t d more → ((part : PartData) (cs : List Clock) → TapStandsFor part t d cs → TapStandsFor part u e (cs ++ from_reset (port_after part cs).state)) → 1 + later ≤ more → MayClock u e later
+pub ready_left : (t u : TapState) (d e : DeviceState) (more later : ℕ) → MayClock t d more → ((part : PartData) (cs : List PortClock) → TapStandsFor part t d cs → TapStandsFor part u e (cs ++ from_reset (port_after part cs).state)) → 1 + later ≤ more → MayClock u e later
 ready_left t u d e more later r s l =
     let c : State = (port_after r.part r.before).state in
     ready_on t u d e more later r (from_reset c) (s r.part r.before r.stands) (omega (arith, l, leave_length c))
 
-pub ready_in_shift : (t u : TapState) (d e : DeviceState) (more later : ℕ) (register : ScannedRegister) → MayClock t d more → ((part : PartData) (cs : List Clock) → TapStandsFor part t d cs → TapStandsFor part u e (cs ++ to_shift register)) → 4 + later ≤ more → MayClock u e later
+pub ready_in_shift : (t u : TapState) (d e : DeviceState) (more later : ℕ) (register : ScannedRegister) → MayClock t d more → ((part : PartData) (cs : List PortClock) → TapStandsFor part t d cs → TapStandsFor part u e (cs ++ to_shift register)) → 4 + later ≤ more → MayClock u e later
 ready_in_shift t u d e more later register r s l = ready_on t u d e more later r (to_shift register) (s r.part r.before r.stands) (omega (arith, l, to_shift_length register))
 
-pub ready_shifted : (t u : TapState) (d e : DeviceState) (more later : ℕ) (bs : List Bool) → MayClock t d more → ((part : PartData) (cs : List Clock) → TapStandsFor part t d cs → TapStandsFor part u e (cs ++ shift_clocks bs)) → length bs + later ≤ more → MayClock u e later
+pub ready_shifted : (t u : TapState) (d e : DeviceState) (more later : ℕ) (bs : List Bool) → MayClock t d more → ((part : PartData) (cs : List PortClock) → TapStandsFor part t d cs → TapStandsFor part u e (cs ++ shift_clocks bs)) → length bs + later ≤ more → MayClock u e later
 ready_shifted t u d e more later bs r s l = ready_on t u d e more later r (shift_clocks bs) (s r.part r.before r.stands) (omega (arith, l, shift_length bs))
 
-pub ready_clocked : (t u : TapState) (d e : DeviceState) (more later : ℕ) (c : Clock) → MayClock t d more → ((part : PartData) (cs : List Clock) → TapStandsFor part t d cs → TapStandsFor part u e (cs ++ c ∷ [])) → 1 + later ≤ more → MayClock u e later
+pub ready_clocked : (t u : TapState) (d e : DeviceState) (more later : ℕ) (c : PortClock) → MayClock t d more → ((part : PartData) (cs : List PortClock) → TapStandsFor part t d cs → TapStandsFor part u e (cs ++ c ∷ [])) → 1 + later ≤ more → MayClock u e later
 ready_clocked t u d e more later c r s l = ready_on t u d e more later r (c ∷ []) (s r.part r.before r.stands) (omega (arith, l))
 
-pub ready_walked : (t u : TapState) (d e : DeviceState) (rest : List Bool) (tms : Bool) → 0 < length rest → MayClock t d (length rest) → ((part : PartData) (cs : List Clock) → TapStandsFor part t d cs → TapStandsFor part u e (cs ++ clock tms false ∷ []))
+pub ready_walked : (t u : TapState) (d e : DeviceState) (rest : List Bool) (tms : Bool) → 0 < length rest → MayClock t d (length rest) → ((part : PartData) (cs : List PortClock) → TapStandsFor part t d cs → TapStandsFor part u e (cs ++ clock tms false ∷ []))
     → MayClock u e (length (take (length rest - 1) (drop 1 rest)))
 ready_walked t u d e rest tms some r s =
     ready_clocked t u d e (length rest) (length (take (length rest - 1) (drop 1 rest))) (clock tms false) r s (omega (arith, some, ap length (rest_bits rest), length-drop 1 rest))
 
-pub ready_played : (t u : TapState) (d e : DeviceState) (more later : ℕ) (x : Statement) → MayClock t d more → ((part : PartData) (cs : List Clock) → TapStandsFor part t d cs → TapStandsFor part u e (cs ++ clocks_of (port_after part cs).state x))
+pub ready_played : (t u : TapState) (d e : DeviceState) (more later : ℕ) (x : Statement) → MayClock t d more → ((part : PartData) (cs : List PortClock) → TapStandsFor part t d cs → TapStandsFor part u e (cs ++ clocks_of (port_after part cs).state x))
     → ((s : State) → length (clocks_of s x) ≤ 2 ^ 33) → 2 ^ 33 + later ≤ more → MayClock u e later
 ready_played t u d e more later x r s short l =
     let c : State = (port_after r.part r.before).state in
@@ -253,15 +253,15 @@ ready_played t u d e more later x r s short l =
 
 -- ---- a scan
 
-four_walks : (cs a b c d : List Clock) → (((cs ++ a) ++ b) ++ c) ++ d ≡ cs ++ (((a ++ b) ++ c) ++ d)
+four_walks : (cs a b c d : List PortClock) → (((cs ++ a) ++ b) ++ c) ++ d ≡ cs ++ (((a ++ b) ++ c) ++ d)
 four_walks cs a b c d = ap (λ t. t ++ d) (ap (λ t. t ++ c) (append_assoc cs a b) ∙ append_assoc cs (a ++ b) c) ∙ append_assoc cs ((a ++ b) ++ c) d
 
-pub scan_ends : (part : PartData) (u : TapState) (e : DeviceState) (cs : List Clock) (s : State) (x : Scan) → TapStandsFor part u e ((((cs ++ from_reset s) ++ to_shift x.register) ++ shift_clocks x.tdi) ++ from_exit)
+pub scan_ends : (part : PartData) (u : TapState) (e : DeviceState) (cs : List PortClock) (s : State) (x : Scan) → TapStandsFor part u e ((((cs ++ from_reset s) ++ to_shift x.register) ++ shift_clocks x.tdi) ++ from_exit)
     → TapStandsFor part u e (cs ++ clocks_of s (statement.Scan x))
 scan_ends part u e cs s x t =
     stands_at part u e ((((cs ++ from_reset s) ++ to_shift x.register) ++ shift_clocks x.tdi) ++ from_exit) (cs ++ clocks_of s (statement.Scan x)) (four_walks cs (from_reset s) (to_shift x.register) (shift_clocks x.tdi) from_exit) t
 
-pub scan_finds : (part : PartData) (cs : List Clock) (x : Scan) (found : Option ℕ) → found ≡ difference_from part (port_after part ((cs ++ from_reset (port_after part cs).state) ++ to_shift x.register)) x 0
+pub scan_finds : (part : PartData) (cs : List PortClock) (x : Scan) (found : Option ℕ) → found ≡ difference_from part (port_after part ((cs ++ from_reset (port_after part cs).state) ++ to_shift x.register)) x 0
     → found ≡ difference part (port_after part cs) (statement.Scan x)
 scan_finds part cs x found e =
     let s : State = (port_after part cs).state in
@@ -269,15 +269,25 @@ scan_finds part cs x found e =
 
 -- ---- a statement
 
-pub run_ends : (part : PartData) (u : TapState) (e : DeviceState) (cs : List Clock) (s : State) (count : ℕ) → TapStandsFor part u e ((cs ++ from_reset s) ++ replicate count (clock false false)) → TapStandsFor part u e (cs ++ clocks_of s (statement.Run count))
+pub run_ends : (part : PartData) (u : TapState) (e : DeviceState) (cs : List PortClock) (s : State) (count : ℕ) → TapStandsFor part u e ((cs ++ from_reset s) ++ replicate count (clock false false)) → TapStandsFor part u e (cs ++ clocks_of s (statement.Run count))
 run_ends part u e cs s count t = stands_at part u e ((cs ++ from_reset s) ++ replicate count (clock false false)) (cs ++ (from_reset s ++ replicate count (clock false false))) (append_assoc cs (from_reset s) (replicate count (clock false false))) t
 
-pub of_statement : (part : PartData) (u : TapState) (e : DeviceState) (cs : List Clock) (s : State) (x y : Statement) → y ≡ x → TapStandsFor part u e (cs ++ clocks_of s x) → TapStandsFor part u e (cs ++ clocks_of s y)
+pub of_statement : (part : PartData) (u : TapState) (e : DeviceState) (cs : List PortClock) (s : State) (x y : Statement) → y ≡ x → TapStandsFor part u e (cs ++ clocks_of s x) → TapStandsFor part u e (cs ++ clocks_of s y)
 of_statement part u e cs s x y is t = subst (λ (z : Statement). TapStandsFor part u e (cs ++ clocks_of s z)) (sym is) t
 
 pub short_scan : (s : State) (x : Scan) (y : Statement) → y ≡ statement.Scan x → length x.tdi < 2 ^ 32 → length (clocks_of s y) ≤ 2 ^ 33
 short_scan s x y is few =
-    omega (arith, ap (λ (z : Statement). length (clocks_of s z)) is, few, length-append (from_reset s) (to_shift x.register), leave_length s, length-append (from_reset s ++ to_shift x.register) (shift_clocks x.tdi), to_shift_length x.register, length-append (from_reset s ++ to_shift x.register ++ shift_clocks x.tdi) from_exit, shift_length x.tdi)
+    omega (
+      arith,
+      ap (λ (z : Statement). length (clocks_of s z)) is,
+      few,
+      length-append (from_reset s) (to_shift x.register),
+      leave_length s,
+      length-append (from_reset s ++ to_shift x.register) (shift_clocks x.tdi),
+      to_shift_length x.register,
+      length-append (from_reset s ++ to_shift x.register ++ shift_clocks x.tdi) from_exit,
+      shift_length x.tdi,
+    )
 
 -- ---- statements
 
@@ -294,45 +304,45 @@ drop_more (s ∷ ss) (suc i) x e = drop_more ss i x e
 clocks_more : (s : State) (ss : List Statement) (x : Statement) → clocks s (ss ++ x ∷ []) ≡ clocks s ss ++ clocks_of (state_after s (clocks s ss)) x
 clocks_more s [] x = append-nil (clocks_of s x)
 clocks_more s (y ∷ ss) x =
-    let first : List Clock = clocks_of s y in
+    let first : List PortClock = clocks_of s y in
     let t : State = state_after s first in
     ap (λ r. first ++ r) (clocks_more t ss x)
     ∙ sym (append_assoc first (clocks t ss) (clocks_of (state_after t (clocks t ss)) x))
     ∙ ap (λ (u : State). (first ++ clocks t ss) ++ clocks_of u x) (sym (fold-append moved_by s first (clocks t ss)))
 
-state_by : (part : PartData) (p : Port) (cs : List Clock) → (fold (clocked part) p cs).state ≡ state_after p.state cs
+state_by : (part : PartData) (p : Port) (cs : List PortClock) → (fold (clocked part) p cs).state ≡ state_after p.state cs
 state_by part p [] = refl
 state_by part p (c ∷ cs) = state_by part (clocked part p c) cs
 
-pub state_is : (part : PartData) (cs : List Clock) → (port_after part cs).state ≡ state_after test_logic_reset cs
+pub state_is : (part : PartData) (cs : List PortClock) → (port_after part cs).state ≡ state_after test_logic_reset cs
 state_is part cs = state_by part new_port cs
 
 -- the clocks of a statement more
 later_clocks : (ss : List Statement) (i m : ℕ) (x : Statement) → slice_get ss i ≡ Some x → m ≡ suc i
-    → (let cs : List Clock = clocks test_logic_reset (take i ss) in cs ++ clocks_of (state_after test_logic_reset cs) x ≡ clocks test_logic_reset (take m ss))
+    → (let cs : List PortClock = clocks test_logic_reset (take i ss) in cs ++ clocks_of (state_after test_logic_reset cs) x ≡ clocks test_logic_reset (take m ss))
 later_clocks ss i m x e is = sym (clocks_more test_logic_reset (take i ss) x) ∙ ap (clocks test_logic_reset) (take_more ss i x e ∙ ap (λ k. take k ss) (sym is))
 
 played_more : (part : PartData) (ss : List Statement) (i m : ℕ) (x : Statement) → slice_get ss i ≡ Some x → m ≡ suc i
-    → (let cs : List Clock = clocks test_logic_reset (take i ss) in cs ++ clocks_of (port_after part cs).state x ≡ clocks test_logic_reset (take m ss))
+    → (let cs : List PortClock = clocks test_logic_reset (take i ss) in cs ++ clocks_of (port_after part cs).state x ≡ clocks test_logic_reset (take m ss))
 played_more part ss i m x e is =
-    let cs : List Clock = clocks test_logic_reset (take i ss) in
+    let cs : List PortClock = clocks test_logic_reset (take i ss) in
     ap (λ (u : State). cs ++ clocks_of u x) (state_is part cs) ∙ later_clocks ss i m x e is
 
 pub plays_on : (part : PartData) (v : TapState) (f : DeviceState) (ss : List Statement) (i m : ℕ) (x : Statement) → slice_get ss i ≡ Some x → m ≡ suc i
-    → (let cs : List Clock = clocks test_logic_reset (take i ss) in TapStandsFor part v f (cs ++ clocks_of (port_after part cs).state x)) → TapStandsFor part v f (clocks test_logic_reset (take m ss))
+    → (let cs : List PortClock = clocks test_logic_reset (take i ss) in TapStandsFor part v f (cs ++ clocks_of (port_after part cs).state x)) → TapStandsFor part v f (clocks test_logic_reset (take m ss))
 plays_on part v f ss i m x e is s =
-    let cs : List Clock = clocks test_logic_reset (take i ss) in
+    let cs : List PortClock = clocks test_logic_reset (take i ss) in
     stands_at part v f (cs ++ clocks_of (port_after part cs).state x) (clocks test_logic_reset (take m ss)) (played_more part ss i m x e is) s
 
 finds_by : (part : PartData) (p q : Port) (n : ℕ) (rest : List Statement) (x : Statement) (xs : List Statement) (d : Option ℕ) → rest ≡ x ∷ xs → d ≡ difference part p x → after_clocks part p (clocks_of p.state x) ≡ q → first_from part p n rest ≡ first_by d n (first_from part q (n + 1) xs)
 finds_by part p q n rest x xs d e f g = ap (first_from part p n) e ∙ ap₂ (λ (o : Option ℕ) (r : Port). first_by o n (first_from part r (n + 1) xs)) (sym f) g
 
 pub finds_on : (part : PartData) (ss : List Statement) (i m : ℕ) (x : Statement) (d : Option ℕ) (all : Option Differ) → slice_get ss i ≡ Some x → m ≡ suc i
-    → (let cs : List Clock = clocks test_logic_reset (take i ss) in all ≡ first_from part (port_after part cs) (i + 1) (drop i ss) → d ≡ difference part (port_after part cs) x
+    → (let cs : List PortClock = clocks test_logic_reset (take i ss) in all ≡ first_from part (port_after part cs) (i + 1) (drop i ss) → d ≡ difference part (port_after part cs) x
     → all ≡ first_by d (i + 1) (first_from part (port_after part (clocks test_logic_reset (take m ss))) (m + 1) (drop m ss)))
 finds_on part ss i m x d all e is h f =
-    let cs : List Clock = clocks test_logic_reset (take i ss) in
-    let ds : List Clock = clocks test_logic_reset (take m ss) in
+    let cs : List PortClock = clocks test_logic_reset (take i ss) in
+    let ds : List PortClock = clocks test_logic_reset (take m ss) in
     let on : after_clocks part (port_after part cs) (clocks_of (port_after part cs).state x) ≡ port_after part ds =
     sym (after part cs (clocks_of (port_after part cs).state x)) ∙ ap (port_after part) (played_more part ss i m x e is) in
     let next : i + 1 ≡ m = omega (arith, is) in

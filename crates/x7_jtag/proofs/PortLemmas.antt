@@ -13,7 +13,7 @@ use Rattle.x7_jtag.specs.declared.state.State.TheVariants as state
 use Rattle.x7_jtag.specs.Instruction.{instruction_of}
 use Rattle.x7_jtag.specs.Port.{Port, acted, captured, clocked, data_shifted, idled, new_port, port_after, queue_at_update, words_read_out, ir_status_with, ir_status, data_shown, register_shifted, shown_in, tdo_of, updated, with_bit}
 use Rattle.x7_jtag.specs.Queue.{Queue, empty_queue, offered, shifted_out}
-use Rattle.x7_jtag.specs.State.{Clock, next_of}
+use Rattle.x7_jtag.specs.State.{PortClock, next_of}
 use Rattle.x7_jtag.specs.Tap.{QueueStandsFor, QueueState, StandsForPort, TapState, TapStandsFor, TookOfGiven}
 use Rattle.x7_jtag.proofs.StandingLemmas.{resets}
 use Rattle.x7_jtag.proofs.TookLemmas.{state_took}
@@ -177,8 +177,8 @@ moves part m n e p tms tdi s with = record {
   queue_is = subst (λ (q : QueueState). QueueStandsFor part q e (acted part p.state p tdi).queue) (sym (ap (λ (x : TapState). x.queue) with)) s.queue_is;
 }
 
-pub clocks_on : (part : PartData) (k m n : TapState) (d e : DeviceState) (cs : List Clock) (tms tdi : Bool) → TapStandsFor part k d cs → (StandsForPort part k d (port_after part cs) → StandsForPort part m e (acted part (port_after part cs).state (port_after part cs) tdi))
+pub clocks_on : (part : PartData) (k m n : TapState) (d e : DeviceState) (cs : List PortClock) (tms tdi : Bool) → TapStandsFor part k d cs → (StandsForPort part k d (port_after part cs) → StandsForPort part m e (acted part (port_after part cs).state (port_after part cs) tdi))
     → n ≡ record m { state = next_of m.state tms } → TapStandsFor part n e (cs ++ record { tms = tms; tdi = tdi } ∷ [])
 clocks_on part k m n d e cs tms tdi s act with =
-    let c : Clock = record { tms = tms; tdi = tdi } in
+    let c : PortClock = record { tms = tms; tdi = tdi } in
     subst (StandsForPort part n e) (sym (fold-append (clocked part) new_port cs (c ∷ []))) (moves part m n e (port_after part cs) tms tdi (act s) with)

@@ -13,7 +13,7 @@ use Rattle.x7_jtag.specs.declared.state.State.TheVariants as state
 use Rattle.x7_jtag.specs.Clocks.{clock, inner_clocks}
 use Rattle.x7_jtag.specs.Port.{Port, clocked, port_after, new_port, with_bit, words_read_out}
 use Rattle.x7_jtag.specs.Queue.{Queue, offered}
-use Rattle.x7_jtag.specs.State.{Clock}
+use Rattle.x7_jtag.specs.State.{PortClock}
 use Rattle.x7_jtag.specs.Tap.{QueueStandsFor, StandsForPort, TakesBytes, TapStandsFor, TapState, last_or}
 
 -- ---- eight bits make a byte
@@ -117,7 +117,7 @@ port_in_bytes p s i c =
     ∙ ap (λ (x : Instruction). record { state = state.ShiftDr; instruction = x; register = p.register; count = p.count; queue = p.queue }) i
     ∙ ap (λ (x : ℕ). record { state = state.ShiftDr; instruction = instruction.CfgIn; register = p.register; count = x; queue = p.queue }) c
 
-pub shifts_bytes : (part : PartData) (k n : TapState) (d e : DeviceState) (cs : List Clock) (bs : List ℕ) → TapStandsFor part k d cs → TakesBytes k → AreBytes bs → n ≡ record k { register = last_or k.register bs; queue = n.queue }
+pub shifts_bytes : (part : PartData) (k n : TapState) (d e : DeviceState) (cs : List PortClock) (bs : List ℕ) → TapStandsFor part k d cs → TakesBytes k → AreBytes bs → n ≡ record k { register = last_or k.register bs; queue = n.queue }
     → QueueStandsFor part n.queue e (fold (offered (words_read_out part)) (port_after part cs).queue bs) → TapStandsFor part n e (cs ++ inner_clocks (bytes_bits bs))
 shifts_bytes part k n d e cs bs s t f with q =
     let p : Port = port_after part cs in

@@ -10,7 +10,7 @@ use Rattle.x7_jtag.specs.declared.state.State.TheVariants as state
 use Rattle.x7_jtag.specs.Instruction.{instruction_of}
 use Rattle.x7_jtag.specs.Port.{Port, acted, clocked, data_shifted, idled, captured, new_port, port_after, queue_at_update, words_read_out, with_bit}
 use Rattle.x7_jtag.specs.Queue.{Queue, dropped, in_turn, most_bytes_held, offered, give_held, shifted_out, waits, queue_with_room}
-use Rattle.x7_jtag.specs.State.{Clock}
+use Rattle.x7_jtag.specs.State.{PortClock}
 use Rattle.x7_jtag.proofs.QueueLemmas.{given_on, in_turns}
 use Rattle.x7_jtag.specs.Tap.{QueueHolds, TapStandsFor, TapState}
 
@@ -111,19 +111,19 @@ acted_size part state.PauseIr p tdi = same_size p.queue
 acted_size part state.Exit2Ir p tdi = same_size p.queue
 acted_size part state.UpdateIr p tdi = programmed_size (instruction_of p.register) p.queue
 
-clocks_size : (part : PartData) (p : Port) (cs : List Clock) → size (fold (clocked part) p cs).queue ≤ size p.queue + length cs
+clocks_size : (part : PartData) (p : Port) (cs : List PortClock) → size (fold (clocked part) p cs).queue ≤ size p.queue + length cs
 clocks_size part p [] = omega arith
 clocks_size part p (c ∷ cs) =
     let step : size (clocked part p c).queue ≤ size p.queue + 1 = acted_size part p.state p c.tdi in
     omega (arith, step, clocks_size part (clocked part p c) cs)
 
 -- a device took no more bytes than there were clocks, with the bytes held
-pub held_short : (part : PartData) (t : TapState) (d : DeviceState) (cs : List Clock) → TapStandsFor part t d cs → d.taken + length t.queue.held ≤ length cs
+pub held_short : (part : PartData) (t : TapState) (d : DeviceState) (cs : List PortClock) → TapStandsFor part t d cs → d.taken + length t.queue.held ≤ length cs
 held_short part t d cs s =
     let h : QueueHolds part t.queue d (port_after part cs).queue = s.queue_is.holds in
     omega (arith, h.device.taken_is, ap length h.took.parts, length-append h.bytes h.took.rest, ap length h.held_is, clocks_size part new_port cs)
 
-pub taken_short : (part : PartData) (t : TapState) (d : DeviceState) (cs : List Clock) → TapStandsFor part t d cs → d.taken ≤ length cs
+pub taken_short : (part : PartData) (t : TapState) (d : DeviceState) (cs : List PortClock) → TapStandsFor part t d cs → d.taken ≤ length cs
 taken_short part t d cs s =
     let h : QueueHolds part t.queue d (port_after part cs).queue = s.queue_is.holds in
     omega (arith, h.device.taken_is, ap length h.took.parts, length-append h.bytes h.took.rest, clocks_size part new_port cs)

@@ -10,7 +10,7 @@ use Rattle.x7_svf.specs.declared.statement.Statement.TheVariants as statement
 use Rattle.x7_jtag.specs.Clocks.{clock, clocks, clocks_of, from_reset, shift_clocks, to_shift}
 use Rattle.x7_jtag.specs.Port.{Port, clocked, new_port, port_after, tdo_of}
 use Rattle.x7_engine.specs.Standing.{DeviceState}
-use Rattle.x7_jtag.specs.State.{Clock, test_logic_reset}
+use Rattle.x7_jtag.specs.State.{PortClock, test_logic_reset}
 use Rattle.x7_jtag.specs.Tap.{TapStandsFor, TapState}
 
 -- a bit, and 0 where there is none
@@ -33,7 +33,7 @@ bits_differ true b = not b
 bits_differ false b = b
 
 -- the port after clocks
-abbrev pub after_clocks : PartData → Port → List Clock → Port
+abbrev pub after_clocks : PartData → Port → List PortClock → Port
 after_clocks part p cs = fold (clocked part) p cs
 
 -- TDO at shift clock i of a scan, where the port is in Shift-DR or Shift-IR before the first
@@ -88,7 +88,7 @@ statements_played ss None = ss
 statements_played ss (Some differ) = take differ.statement ss
 
 -- the clocks of the statements that are played
-abbrev pub clocks_played : List Statement → Option Differ → List Clock
+abbrev pub clocks_played : List Statement → Option Differ → List PortClock
 clocks_played ss result = clocks test_logic_reset (statements_played ss result)
 
 -- the port after the clocks of the statements that are played
@@ -96,25 +96,27 @@ abbrev pub port_played : PartData → List Statement → Port
 port_played part ss = port_after part (clocks_played ss (first_difference part ss))
 
 -- clocks that walk from state to state, by their TMS
-abbrev pub walk_clocks : List Bool → List Clock
+abbrev pub walk_clocks : List Bool → List PortClock
 walk_clocks path = map (λ tms. clock tms false) path
 
 -- ---- what a step finds, and what holds after clocks
 
 -- the bit that a step found is `sought` of the port before the step
-abbrev pub FindsBy : TapState → DeviceState → (PartData → Port → Option ℕ) → Option ℕ → Type 0
-FindsBy t d sought found = (part : PartData) (cs : List Clock) → TapStandsFor part t d cs → found ≡ sought part (port_after part cs)
+abbrev pub FindsBit : TapState → DeviceState → (PartData → Port → Option ℕ) → Option ℕ → Type 0
+FindsBit tap device sought found =
+    (part : PartData) (cs : List PortClock) → TapStandsFor part tap device cs → found ≡ sought part (port_after part cs)
 
 -- what holds of the clocks before `made`, for each list of clocks that a tap and its device may have made and that ends
 -- with `made`
-abbrev pub AfterClocks : TapState → DeviceState → List Clock → (PartData → List Clock → Type 0) → Type 0
-AfterClocks t d made Fact = (part : PartData) (cs : List Clock) → TapStandsFor part t d (cs ++ made) → Fact part cs
+abbrev pub AfterClocks : TapState → DeviceState → List PortClock → (PartData → List PortClock → Type 0) → Type 0
+AfterClocks tap device made Fact =
+    (part : PartData) (cs : List PortClock) → TapStandsFor part tap device (cs ++ made) → Fact part cs
 
 -- ---- what a tap and a device are ready for
 
 -- a new tap and a new device
 abbrev pub AreNew : TapState → DeviceState → Type 0
-AreNew t d = (part : PartData) × TapStandsFor part t d []
+AreNew tap device = (part : PartData) × TapStandsFor part tap device []
 
 -- the most clocks of a run, and the most bits of a scan: a count of 32 bits
 abbrev pub count_limit : ℕ
@@ -126,8 +128,8 @@ statement_limit = 2 ^ 33
 
 -- a tap and its device, which were new before some clocks, may make this many more: a device takes at most a byte a
 -- clock, and so never more bytes than it can count
-pub record MayClock (t : TapState) (d : DeviceState) (more : ℕ) : Type 0 where
+pub record MayClock (tap : TapState) (device : DeviceState) (more : ℕ) : Type 0 where
   pub part : PartData
-  pub before : List Clock
-  pub stands : TapStandsFor part t d before
+  pub before : List PortClock
+  pub stands : TapStandsFor part tap device before
   pub few : length before + more ≤ 2 ^ 62

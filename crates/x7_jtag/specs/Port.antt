@@ -11,7 +11,7 @@ use Rattle.x7_jtag.specs.declared.state.State.{State}
 use Rattle.x7_jtag.specs.declared.state.State.TheVariants as state
 use Rattle.x7_jtag.specs.Instruction.{instruction_of}
 use Rattle.x7_jtag.specs.Queue.{Queue, bit_shown, empty_queue, offered, shifted_out}
-use Rattle.x7_jtag.specs.State.{Clock, next_of, test_logic_reset}
+use Rattle.x7_jtag.specs.State.{PortClock, next_of, test_logic_reset}
 
 -- the state, the instruction, the register between TDI and TDO, how many there were of the eight bits of a byte or of
 -- eight clocks of startup, and the queue
@@ -163,7 +163,7 @@ tdo_of part p = shown_in part p.state p
 -- ---- clocks
 
 -- a clock: the action of the present state, and then the next state
-abbrev pub clocked : PartData → Port → Clock → Port
+abbrev pub clocked : PartData → Port → PortClock → Port
 clocked part p c = record (acted part p.state p c.tdi) { state = next_of p.state c.tms }
 
 -- a new port
@@ -171,5 +171,5 @@ abbrev pub new_port : Port
 new_port = record { state = test_logic_reset; instruction = instruction.Idcode; register = 0; count = 0; queue = empty_queue }
 
 -- the port after clocks
-abbrev pub port_after : PartData → List Clock → Port
+abbrev pub port_after : PartData → List PortClock → Port
 port_after part cs = fold (clocked part) new_port cs

@@ -14,7 +14,7 @@ use Rattle.x7_jtag.specs.declared.state.State.{State}
 use Rattle.x7_jtag.specs.declared.state.State.TheVariants as state
 use Rattle.x7_jtag.specs.Port.{Port, port_after, words_read_out}
 use Rattle.x7_jtag.specs.Queue.{Queue, most_bytes_held}
-use Rattle.x7_jtag.specs.State.{Clock}
+use Rattle.x7_jtag.specs.State.{PortClock}
 
 -- the stored values of a queue: the bytes held, the latest word taken of the device, and how many of its bits are still
 -- to go out
@@ -25,8 +25,8 @@ pub record QueueState : Type 0 where
 
 -- the next word taken, where the device gave one
 abbrev pub with_word_taken : QueueState → List ℕ → QueueState
-with_word_taken k [] = k
-with_word_taken k (w ∷ ws) = record { held = k.held; word = w; bits_left = 32 }
+with_word_taken queue [] = queue
+with_word_taken queue (word ∷ words) = record { held = queue.held; word = word; bits_left = 32 }
 
 -- the stored values of a tap
 pub record TapState : Type 0 where
@@ -46,26 +46,27 @@ pub record TookOfGiven (part : PartData) (given bytes : List ℕ) : Type 0 where
 -- how many of a piece's bytes count as given, by what a feed of the piece answers and how many it has: after a stop all
 -- of them
 abbrev pub given_by : Fed → ℕ → ℕ
-given_by (fed.ReadFull n) count = n
+given_by (fed.ReadFull taken) count = taken
 given_by _ count = count
 
 -- the words that were taken of a device that took these bytes
 abbrev pub words_taken : PartData → DeviceState → List ℕ → List ℕ
-words_taken part d bytes = reads_given part on_the_bench d bytes
+words_taken part device bytes = reads_given part on_the_bench device bytes
 
 -- ---- how many bytes
 
 -- a byte can be offered: the device can be given it, and the most that are held before it
 abbrev pub CanBeOffered : DeviceState → Type 0
-CanBeOffered d = CanBeGiven d (most_bytes_held + 1)
+CanBeOffered device = CanBeGiven device (most_bytes_held + 1)
 
 -- `count` bytes can be offered, one after another, beside those that the queue holds
 abbrev pub CanAllBeOffered : QueueState → DeviceState → ℕ → Type 0
-CanAllBeOffered k d count = CanBeGiven d (length k.held + count + (most_bytes_held + 1))
+CanAllBeOffered queue device count = CanBeGiven device (length queue.held + count + (most_bytes_held + 1))
 
 -- the bytes that a queue holds and its device took are at most this many more than before
 abbrev pub AreGivenAtMost : QueueState → DeviceState → QueueState → DeviceState → ℕ → Type 0
-AreGivenAtMost k d n e count = e.taken + length n.held ≤ d.taken + length k.held + count
+AreGivenAtMost old_queue old_device new_queue new_device count =
+    new_device.taken + length new_queue.held ≤ old_device.taken + length old_queue.held + count
 
 -- ---- what a queue, or a tap, and its device stand for
 
@@ -90,7 +91,8 @@ pub record QueueStandsFor (part : PartData) (k : QueueState) (d : DeviceState) (
 -- a step on a queue and its device does this to the queue of a port that they stand for; `after` is given the words
 -- that a device of the part reads out, as a function of the bytes given to it
 abbrev pub QueueBecomes : QueueState → DeviceState → QueueState → DeviceState → ((List ℕ → List ℕ) → Queue → Queue) → Type 0
-QueueBecomes k d n e after = (part : PartData) (q : Queue) → QueueStandsFor part k d q → QueueStandsFor part n e (after (words_read_out part) q)
+QueueBecomes old_queue old_device new_queue new_device after =
+    (part : PartData) (q : Queue) → QueueStandsFor part old_queue old_device q → QueueStandsFor part new_queue new_device (after (words_read_out part) q)
 
 -- a tap and its device stand for a port
 pub record StandsForPort (part : PartData) (t : TapState) (d : DeviceState) (p : Port) : Type 0 where
@@ -102,19 +104,22 @@ pub record StandsForPort (part : PartData) (t : TapState) (d : DeviceState) (p :
 
 -- an action of a tap on its device does this to the port that they stand for
 abbrev pub PortBecomes : TapState → DeviceState → TapState → DeviceState → (PartData → Port → Port) → Type 0
-PortBecomes t d u e after = (part : PartData) (p : Port) → StandsForPort part t d p → StandsForPort part u e (after part p)
+PortBecomes old_tap old_device new_tap new_device after =
+    (part : PartData) (p : Port) → StandsForPort part old_tap old_device p → StandsForPort part new_tap new_device (after part p)
 
 -- a tap and its device were new before these clocks
-abbrev pub TapStandsFor : PartData → TapState → DeviceState → List Clock → Type 0
-TapStandsFor part t d cs = StandsForPort part t d (port_after part cs)
+abbrev pub TapStandsFor : PartData → TapState → DeviceState → List PortClock → Type 0
+TapStandsFor part tap device cs = StandsForPort part tap device (port_after part cs)
 
 -- a step on a tap and its device makes these clocks, by the port before them
-abbrev pub MakesClocks : TapState → DeviceState → TapState → DeviceState → (Port → List Clock) → Type 0
-MakesClocks t d u e made = (part : PartData) (cs : List Clock) → TapStandsFor part t d cs → TapStandsFor part u e (cs ++ made (port_after part cs))
+abbrev pub MakesClocks : TapState → DeviceState → TapState → DeviceState → (Port → List PortClock) → Type 0
+MakesClocks old_tap old_device new_tap new_device made =
+    (part : PartData) (cs : List PortClock) → TapStandsFor part old_tap old_device cs
+    → TapStandsFor part new_tap new_device (cs ++ made (port_after part cs))
 
 -- what holds of each device and of the port that it and a tap stand for
 abbrev pub OfEachPort : (PartData → DeviceState → Port → Type 0) → Type 0
-OfEachPort Fact = (part : PartData) (t : TapState) (d : DeviceState) (cs : List Clock) → TapStandsFor part t d cs → Fact part d (port_after part cs)
+OfEachPort Fact = (part : PartData) (t : TapState) (d : DeviceState) (cs : List PortClock) → TapStandsFor part t d cs → Fact part d (port_after part cs)
 
 -- the next bit is the first of a byte for the device
 pub record TakesBytes (t : TapState) : Type 0 where

@@ -8,7 +8,7 @@ ghost use Rattle.x7_jtag.specs.Port.{new_port, port_after, words_read_out};
 ghost use Rattle.x7_jtag.specs.Queue.{QueueIsSound, queue_after};
 ghost use Rattle.x7_jtag.specs.Shown.{bytes_taken, state_shown, state_with, port_words_due};
 ghost use Rattle.x7_jtag.specs.Tap.{OfEachPort};
-ghost use Rattle.x7_jtag.specs.State.{Clock, state_after, test_logic_reset, tms_one};
+ghost use Rattle.x7_jtag.specs.State.{PortClock, state_after, test_logic_reset, tms_one};
 ghost use Rattle.x7_jtag.specs.declared.state.State.{State};
 
 /// Five clocks of TMS 1 reach Test-Logic-Reset from every state.
@@ -28,10 +28,10 @@ pub fn devices_take_what_is_given()
 /// After any clocks a port has no more bits out than were read out, holds at most 64 bytes, and holds them only while a
 /// word waits.
 pub fn queues_are_sound()
-    ensures { (part : PartData) (cs : List Clock) → QueueIsSound (words_read_out part) (port_after part cs).queue }
+    ensures { (part : PartData) (cs : List PortClock) → QueueIsSound (words_read_out part) (port_after part cs).queue }
 {}
 
 /// The queue of a port is that of the events of its clocks: bytes offered, bits shifted out, and resets of the device.
 pub fn queues_are_those_of_events()
-    ensures { (part : PartData) (cs : List Clock) → (port_after part cs).queue ≡ queue_after (words_read_out part) (events_of part new_port cs) }
+    ensures { (part : PartData) (cs : List PortClock) → (port_after part cs).queue ≡ queue_after (words_read_out part) (events_of part new_port cs) }
 {}

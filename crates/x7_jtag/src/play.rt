@@ -3,7 +3,7 @@ ghost use Rattle.std.specs.Prelude.{◌≡◌, ◌≤◌, ◌<◌, ◌+◌, ◌-
 ghost use Rattle.std.specs.List.{slice_get};
 ghost use Rattle.x7_part.specs.Part.{PartData};
 ghost use Rattle.x7_jtag.specs.Clocks.{clock as clock_of, clocks_of, from_reset, shift_clocks, to_shift as to_shift_clocks};
-ghost use Rattle.x7_jtag.specs.Play.{AreNew, FindsBy, AfterClocks, MayClock, bits_differ, bit_at, clocks_played, count_limit, counts as counts_at, difference, difference_from, first_difference, first_found, differs_from_wanted, statement_limit, walk_clocks};
+ghost use Rattle.x7_jtag.specs.Play.{AreNew, FindsBit, AfterClocks, MayClock, bits_differ, bit_at, clocks_played, count_limit, counts as counts_at, difference, difference_from, first_difference, first_found, differs_from_wanted, statement_limit, walk_clocks};
 ghost use Rattle.x7_jtag.specs.Port.{port_after};
 ghost use Rattle.x7_jtag.specs.Tap.{MakesClocks, TapStandsFor};
 ghost use Rattle.x7_jtag.specs.declared.state.State.{State as StateData};
@@ -68,22 +68,22 @@ fn to_shift(tap: &mut Tap, device: &mut Device, register: ScannedRegister)
     }
 }
 
-/// Bit i, and 0 past the last.
-fn bit_at(bits: &Bits<'_>, i: u32) -> bool
-    ensures { result ≡ bit_at bits.now i }
+/// Bit `index`, from 0, and 0 past the last.
+fn bit_at(bits: &Bits<'_>, index: u32) -> bool
+    ensures { result ≡ bit_at bits.now index }
 {
-    match bits.bit(i) {
+    match bits.bit(index) {
         Some(bit) => bit,
         None => false,
     }
 }
 
-/// Whether bit i counts: all do where there is no mask.
-fn counts(mask: &Option<Bits<'_>>, i: u32) -> bool
-    ensures { result ≡ counts_at mask.now i }
+/// Whether bit `index` counts: all do where there is no mask.
+fn counts(mask: &Option<Bits<'_>>, index: u32) -> bool
+    ensures { result ≡ counts_at mask.now index }
 {
     match mask {
-        Some(mask) => bit_at(mask, i),
+        Some(mask) => bit_at(mask, index),
         None => true,
     }
 }
@@ -95,23 +95,23 @@ fn bits_differ(wanted: bool, shown: bool) -> bool
     wanted != shown
 }
 
-/// Whether the bit that is shown differs from the wanted one, where bits are wanted and bit i counts.
-fn differs_from_wanted(scan: &Scan<'_>, i: u32, shown: bool) -> bool
-    ensures { result ≡ differs_from_wanted scan.now.tdo scan.now.mask i shown }
+/// Whether the bit that is shown differs from the wanted one, where bits are wanted and bit `index` counts.
+fn differs_from_wanted(scan: &Scan<'_>, index: u32, shown: bool) -> bool
+    ensures { result ≡ differs_from_wanted scan.now.tdo scan.now.mask index shown }
 {
     match &scan.tdo {
-        Some(tdo) => counts(&scan.mask, i) && bits_differ(bit_at(tdo, i), shown),
+        Some(tdo) => counts(&scan.mask, index) && bits_differ(bit_at(tdo, index), shown),
         None => false,
     }
 }
 
-/// The first bit found that differs: bit i, if it differs, where none was found before.
-fn first_found(found: Option<u32>, differs: bool, i: u32) -> Option<u32>
-    ensures { result ≡ first_found found differs i }
+/// The first bit found that differs: bit `index`, if it differs, where none was found before.
+fn first_found(found: Option<u32>, differs: bool, index: u32) -> Option<u32>
+    ensures { result ≡ first_found found differs index }
 {
     match found {
         Some(first) => Some(first),
-        None if differs => Some(i),
+        None if differs => Some(index),
         None => None,
     }
 }
@@ -166,7 +166,7 @@ fn shift(tap: &mut Tap, device: &mut Device, scan: &Scan<'_>) -> Option<u32>
     requires { MayClock tap.old device.old count_limit }
     ensures clocks { MakesClocks tap.old device.old tap.new device.new (λ p. shift_clocks scan.now.tdi) }
     ensures most { length scan.now.tdi < count_limit }
-    ensures found { FindsBy tap.old device.old (λ part p. difference_from part p scan.now 0) result }
+    ensures found { FindsBit tap.old device.old (λ part p. difference_from part p scan.now 0) result }
 {
     let first = shift_bytes(tap, device, scan);
     shift_from(tap, device, scan, first)
@@ -177,7 +177,7 @@ fn play_scan(tap: &mut Tap, device: &mut Device, scan: &Scan<'_>) -> Option<u32>
     requires { MayClock tap.old device.old statement_limit }
     ensures clocks { MakesClocks tap.old device.old tap.new device.new (λ p. clocks_of p.state (StatementData.Scan scan.now)) }
     ensures most { length scan.now.tdi < count_limit }
-    ensures found { FindsBy tap.old device.old (λ part p. difference part p (StatementData.Scan scan.now)) result }
+    ensures found { FindsBit tap.old device.old (λ part p. difference part p (StatementData.Scan scan.now)) result }
 {
     leave_reset(tap, device);
     to_shift(tap, device, scan.register);
@@ -191,7 +191,7 @@ fn play_statement(statement: &Statement<'_>, tap: &mut Tap, device: &mut Device)
     requires { MayClock tap.old device.old statement_limit }
     ensures clocks { MakesClocks tap.old device.old tap.new device.new (λ p. clocks_of p.state statement.now) }
     ensures most { (s : StateData) → length (clocks_of s statement.now) ≤ statement_limit }
-    ensures found { FindsBy tap.old device.old (λ part p. difference part p statement.now) result }
+    ensures found { FindsBit tap.old device.old (λ part p. difference part p statement.now) result }
 {
     match statement {
         Statement::Reset => {
@@ -212,14 +212,14 @@ fn play_statement(statement: &Statement<'_>, tap: &mut Tap, device: &mut Device)
     }
 }
 
-/// The clocks of statement i of a text, from 0, and the least bit at which TDO differs from what is wanted.
-fn play_at(svf: &Svf, i: usize, tap: &mut Tap, device: &mut Device) -> Option<u32>
+/// The clocks of statement `index` of a text, from 0, and the least bit at which TDO differs from what is wanted.
+fn play_at(svf: &Svf, index: usize, tap: &mut Tap, device: &mut Device) -> Option<u32>
     requires { MayClock tap.old device.old statement_limit }
-    ensures clocks { (x : StatementData) → slice_get svf.now i ≡ Some x → MakesClocks tap.old device.old tap.new device.new (λ p. clocks_of p.state x) }
-    ensures most { (x : StatementData) → slice_get svf.now i ≡ Some x → (s : StateData) → length (clocks_of s x) ≤ statement_limit }
-    ensures found { (x : StatementData) → slice_get svf.now i ≡ Some x → FindsBy tap.old device.old (λ part p. difference part p x) result }
+    ensures clocks { (x : StatementData) → slice_get svf.now index ≡ Some x → MakesClocks tap.old device.old tap.new device.new (λ p. clocks_of p.state x) }
+    ensures most { (x : StatementData) → slice_get svf.now index ≡ Some x → (s : StateData) → length (clocks_of s x) ≤ statement_limit }
+    ensures found { (x : StatementData) → slice_get svf.now index ≡ Some x → FindsBit tap.old device.old (λ part p. difference part p x) result }
 {
-    match svf.statement(i) {
+    match svf.statement(index) {
         Some(statement) => play_statement(&statement, tap, device),
         None => None,
     }

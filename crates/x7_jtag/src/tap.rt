@@ -5,7 +5,7 @@ ghost use Rattle.x7_part.specs.Part.{PartData};
 ghost use Rattle.x7_engine.specs.Kept.{on_the_bench};
 ghost use Rattle.x7_engine.specs.Standing.{DeviceStandsFor, DeviceState};
 ghost use Rattle.x7_jtag.specs.Port.{Port, acted, captured, data_shifted, data_shown, idled, init_b_of, is_eighth, lowest_bit, next_of_eight, port_after, register_shifted as shifted_in, ir_status, ir_status_with, tdo_of, top_of_word, updated, with_bit as with_bit_in};
-ghost use Rattle.x7_jtag.specs.State.{Clock};
+ghost use Rattle.x7_jtag.specs.State.{PortClock};
 ghost use Rattle.x7_jtag.specs.declared.instruction.Instruction.TheVariants.{CfgIn};
 ghost use Rattle.x7_jtag.specs.Tap.{CanAllBeOffered, CanBeOffered, MakesClocks, PortBecomes, StandsForPort, TakesBytes, TapStandsFor, TookOfGiven, last_or};
 ghost use Rattle.x7_svf.specs.Bits.{bytes_bits};
@@ -300,7 +300,7 @@ impl Tap {
     pub fn clock(&mut self, tms: bool, tdi: bool, device: &mut Device) -> bool
         requires { CanBeOffered device.old }
         ensures clocks { MakesClocks self.old device.old self.new device.new (λ p. clock_of tms tdi ∷ []) }
-        ensures tdo { (part : PartData) (cs : List Clock) → TapStandsFor part self.old device.old cs → result ≡ tdo_of part (port_after part cs) }
+        ensures tdo { (part : PartData) (cs : List PortClock) → TapStandsFor part self.old device.old cs → result ≡ tdo_of part (port_after part cs) }
     {
         let tdo = self.act(tdi, device);
         self.state = self.state.next(tms);

@@ -9,7 +9,7 @@ use Rattle.x7_listing.specs.declared.assembler.AsmFault.TheVariants as fault
 use Rattle.x7_crc.specs.Checker.{check_of_bytes}
 use Rattle.x7_crc.specs.Checker.{CheckerState, KeepsCheckOf}
 use Rattle.x7_listing.specs.Line.{Line, line_bytes, FitsLine, text_of}
-use Rattle.x7_text.specs.Reads.{Reads}
+use Rattle.x7_text.specs.Reads.{AppendsIfRead}
 
 pub one_more : (lines : List Line) (l : Line) → assembled (lines ++ l ∷ []) ≡ with_line (assembled lines) l
 one_more lines l = fold-append with_line [] lines (l ∷ [])
@@ -33,10 +33,10 @@ pub begins_at : (limit : ℕ) (texts : List (List ℕ)) (lines : List Line) (lef
 begins_at limit texts lines left left2 e b = subst (λ s. BeginsWithLines limit texts lines s) e b
 
 module _ (limit : ℕ) (texts : List (List ℕ)) (t old new : List ℕ) (left : List (List ℕ)) (n : ℕ) (g : LinesAreRead limit texts (t ∷ left) old n) where
-  pub bad : Reads FitsLine text_of (line_bytes (check_of_bytes old)) false t old new → IsFirstBadText limit texts (n + 1)
+  pub bad : AppendsIfRead FitsLine text_of (line_bytes (check_of_bytes old)) false t old new → IsFirstBadText limit texts (n + 1)
   bad r = record { lines = g.lines; bad = t; left = left; begins = g.begins; count = ap (λ (k : ℕ). k + 1) g.count; no_line = λ l i. r.0 l i.fits i.text_is }
 
-  pub too_long : Reads FitsLine text_of (line_bytes (check_of_bytes old)) true t old new → limit < length new → PassesLimitAt limit texts (n + 1)
+  pub too_long : AppendsIfRead FitsLine text_of (line_bytes (check_of_bytes old)) true t old new → limit < length new → PassesLimitAt limit texts (n + 1)
   too_long r h = record {
     lines = g.lines;
     last = r.0;
@@ -47,7 +47,7 @@ module _ (limit : ℕ) (texts : List (List ℕ)) (t old new : List ℕ) (left : 
     passes = subst (λ b. limit < length b) (grown g.lines r.0 old new g.bytes_are r.3) h;
   }
 
-  pub next : Reads FitsLine text_of (line_bytes (check_of_bytes old)) true t old new → length new ≤ limit → LinesAreRead limit texts left new (n + 1)
+  pub next : AppendsIfRead FitsLine text_of (line_bytes (check_of_bytes old)) true t old new → length new ≤ limit → LinesAreRead limit texts left new (n + 1)
   next r h =
       let e : new ≡ assembled (g.lines ++ r.0 ∷ []) = grown g.lines r.0 old new g.bytes_are r.3 in
       record { lines = g.lines ++ r.0 ∷ []; begins = begins_more limit texts g.lines r.0 t left g.begins r.1 r.2 (subst (λ b. length b ≤ limit) e h); bytes_are = e; count = ap (λ (k : ℕ). k + 1) g.count ∙ sym (longer g.lines r.0) }
@@ -59,11 +59,11 @@ pub went_all : (limit : ℕ) (texts : List (List ℕ)) (bytes : List ℕ) (n : �
 went_all limit texts bytes n g = record { lines = g.lines; begins = g.begins; bytes_are = g.bytes_are }
 
 -- a line is read after a header's bytes as it is without them
-pub dropped : (start a : ℕ) (r : Bool) (t old new : List ℕ) → start ≤ length old → Reads FitsLine text_of (line_bytes a) r t old new → Reads FitsLine text_of (line_bytes a) r t (drop start old) (drop start new)
+pub dropped : (start a : ℕ) (r : Bool) (t old new : List ℕ) → start ≤ length old → AppendsIfRead FitsLine text_of (line_bytes a) r t old new → AppendsIfRead FitsLine text_of (line_bytes a) r t (drop start old) (drop start new)
 dropped start a true t old new h r = (r.0, r.1, r.2, ap (drop start) r.3 ∙ drop-append-le start old (line_bytes a r.0) h)
 dropped start a false t old new h r = (r.0, ap (drop start) r.1)
 
-pub prefix_stays : (start a : ℕ) (r : Bool) (t old new : List ℕ) → start ≤ length old → Reads FitsLine text_of (line_bytes a) r t old new → (take start new ≡ take start old) × (start ≤ length new)
+pub prefix_stays : (start a : ℕ) (r : Bool) (t old new : List ℕ) → start ≤ length old → AppendsIfRead FitsLine text_of (line_bytes a) r t old new → (take start new ≡ take start old) × (start ≤ length new)
 prefix_stays start a true t old new h r = (ap (take start) r.3 ∙ take-append-le start old (line_bytes a r.0) h, omega (arith, h, ap length r.3, length-append old (line_bytes a r.0)))
 prefix_stays start a false t old new h r = (ap (take start) r.1, omega (arith, h, ap length r.1))
 
@@ -124,21 +124,21 @@ goes_whole all out start checker n g = close_ok all g.others (take start out) ou
 
 -- one line more is read: it is bad, passes the limit, or is taken
 module _ (line out mid new : List ℕ) (start n c : ℕ) (old-checker new-checker : CheckerState) (r : Bool) (same : mid ≡ out) (n-is : c ≡ n + 1)
-    (reads : Reads FitsLine text_of (line_bytes (check_of_bytes (drop start mid))) r line mid new) (keeps : KeepsCheckOf new-checker (drop start new)) where
+    (reads : AppendsIfRead FitsLine text_of (line_bytes (check_of_bytes (drop start mid))) r line mid new) (keeps : KeepsCheckOf new-checker (drop start new)) where
   module _ (all left : List (List ℕ)) (g : TextsAreRead all (line ∷ left) (asm_state out start old-checker n)) where
-    got : Reads FitsLine text_of (line_bytes (check_of_bytes (drop start out))) r line out new
-    got = subst (λ (m : List ℕ). Reads FitsLine text_of (line_bytes (check_of_bytes (drop start m))) r line m new) same reads
+    got : AppendsIfRead FitsLine text_of (line_bytes (check_of_bytes (drop start out))) r line out new
+    got = subst (λ (m : List ℕ). AppendsIfRead FitsLine text_of (line_bytes (check_of_bytes (drop start m))) r line m new) same reads
 
-    after_prefix : Reads FitsLine text_of (line_bytes (check_of_bytes (drop start out))) r line (drop start out) (drop start new)
+    after_prefix : AppendsIfRead FitsLine text_of (line_bytes (check_of_bytes (drop start out))) r line (drop start out) (drop start new)
     after_prefix = dropped start (check_of_bytes (drop start out)) r line out new g.long got
 
     pub read_bad : r ≡ false → AreHeadedAsm all (Err (fault.Line c))
     read_bad e = close_bad all g.others (take start out) start g.first (g.read + 1) c (sym (length-take-le start out g.long)) g.opens
-        (bad (67108864 - start) g.others line (drop start out) (drop start new) left g.read g.went (subst (λ b. Reads FitsLine text_of (line_bytes (check_of_bytes (drop start out))) b line (drop start out) (drop start new)) e after_prefix))
+        (bad (67108864 - start) g.others line (drop start out) (drop start new) left g.read g.went (subst (λ b. AppendsIfRead FitsLine text_of (line_bytes (check_of_bytes (drop start out))) b line (drop start out) (drop start new)) e after_prefix))
         (omega (arith, n-is, g.count_is))
 
-    yes : r ≡ true → Reads FitsLine text_of (line_bytes (check_of_bytes (drop start out))) true line (drop start out) (drop start new)
-    yes e = subst (λ b. Reads FitsLine text_of (line_bytes (check_of_bytes (drop start out))) b line (drop start out) (drop start new)) e after_prefix
+    yes : r ≡ true → AppendsIfRead FitsLine text_of (line_bytes (check_of_bytes (drop start out))) true line (drop start out) (drop start new)
+    yes e = subst (λ b. AppendsIfRead FitsLine text_of (line_bytes (check_of_bytes (drop start out))) b line (drop start out) (drop start new)) e after_prefix
 
     pub read_long : r ≡ true → 67108864 < length new → AreHeadedAsm all (Err (fault.TooLong c))
     read_long e h = close_long all g.others (take start out) start g.first (g.read + 1) c (sym (length-take-le start out g.long)) g.opens

@@ -5,7 +5,7 @@ use Rattle.std.specs.Fmt.{decimal}
 use Rattle.std.specs.List.{flat_map}
 use Rattle.std.specs.Str.{bytes_eq}
 use Rattle.x7_words.specs.Word.{AreBytes, bytes_of_word}
-use Rattle.x7_header.specs.Header.{Contents, field_bytes, FitHeader, header_bytes, FieldKind, longest_header}
+use Rattle.x7_header.specs.Header.{HeaderContents, field_bytes, FitHeaderFields, header_bytes, FieldKind, longest_header}
 use Rattle.x7_text.specs.Digits.{hex_byte, hex_digit}
 use Rattle.x7_listing.specs.BitLine.{bit_text, field_text, has_no_space, IsCutAtSpace, IsField, IsHeaderOf, FitsHeader}
 use Rattle.x7_listing.specs.Line.{Empty, IsLine, Line, text_of}
@@ -58,13 +58,13 @@ same_field : (a b r s : List ℕ) → AreBytes a → AreBytes b → field_text a
 same_field a b r s h k e =
     (sym (first_field a r h) ∙ ap (λ t. field_guess (before_space t)) e ∙ first_field b s k, sym (rest_after_field a r) ∙ ap after_space e ∙ rest_after_field b s)
 
-abbrev pub contents : List ℕ → List ℕ → List ℕ → List ℕ → ℕ → Contents
+abbrev pub contents : List ℕ → List ℕ → List ℕ → List ℕ → ℕ → HeaderContents
 contents a b c d n = record { a = a; b = b; c = c; d = d; data_length = n }
 
-same_contents : (x y : Contents) → x.a ≡ y.a → x.b ≡ y.b → x.c ≡ y.c → x.d ≡ y.d → x.data_length ≡ y.data_length → x ≡ y
+same_contents : (x y : HeaderContents) → x.a ≡ y.a → x.b ≡ y.b → x.c ≡ y.c → x.d ≡ y.d → x.data_length ≡ y.data_length → x ≡ y
 same_contents x y a b c d n = ap₂ (λ s t. contents s t x.c x.d x.data_length) a b ∙ ap₂ (λ s t. contents y.a y.b s t x.data_length) c d ∙ ap (λ k. contents y.a y.b y.c y.d k) n
 
-pub one_header : (x y : Contents) → FitsHeader x → FitsHeader y → bit_text x ≡ bit_text y → x ≡ y
+pub one_header : (x y : HeaderContents) → FitsHeader x → FitsHeader y → bit_text x ≡ bit_text y → x ≡ y
 one_header x y h k e =
     let rest : field_texts x.a x.b x.c x.d x.data_length ≡ field_texts y.a y.b y.c y.d y.data_length = cc in
     let a = same_field x.a y.a (field_text x.b ++ 32 ∷ (field_text x.c ++ 32 ∷ with_count x.d x.data_length)) (field_text y.b ++ 32 ∷ (field_text y.c ++ 32 ∷ with_count y.d y.data_length)) h.a k.a rest in
@@ -74,18 +74,18 @@ one_header x y h k e =
     let n : x.data_length ≡ y.data_length = sym (decimal_back x.data_length (omega (arith, h.have.data_length))) ∙ ap (decimal_after 0) d.1 ∙ decimal_back y.data_length (omega (arith, k.have.data_length)) in
     same_contents x y a.0 b.0 c.0 d.0 n
 
-pub no_line : (x : Contents) (l : Line) → IsLine (bit_text x) l → ⊥
+pub no_line : (x : HeaderContents) (l : Line) → IsLine (bit_text x) l → ⊥
 no_line x l i = let none : l ≡ Empty = line_is (bit_text x) l i in let e : bit_text x ≡ [] = i.text_is ∙ ap text_of none in cc
 
 -- what the fields of a header's line hold, where a text is that of such fields
-pub header_by : List ℕ → Contents
+pub header_by : List ℕ → HeaderContents
 header_by t =
     let b = after_space t in
     let c = after_space b in
     let d = after_space c in
     contents (field_guess (before_space t)) (field_guess (before_space b)) (field_guess (before_space c)) (field_guess (before_space d)) (decimal_after 0 (after_space d))
 
-header_back : (x : Contents) → FitsHeader x → header_by (field_texts x.a x.b x.c x.d x.data_length) ≡ x
+header_back : (x : HeaderContents) → FitsHeader x → header_by (field_texts x.a x.b x.c x.d x.data_length) ≡ x
 unfolding header_by
 header_back x h =
     let count = with_count x.d x.data_length in
@@ -100,7 +100,7 @@ header_back x h =
     (ap field d ∙ first_field x.d (decimal x.data_length) h.d) (ap (decimal_after 0) n ∙ decimal_back x.data_length (omega (arith, h.have.data_length)))
 
 -- the one header whose line a text may be
-pub header_is : (t : List ℕ) (x : Contents) → FitsHeader x → t ≡ bit_text x → x ≡ header_by (drop 4 t)
+pub header_is : (t : List ℕ) (x : HeaderContents) → FitsHeader x → t ≡ bit_text x → x ≡ header_by (drop 4 t)
 header_is t x h e = sym (ap (λ s. header_by (drop 4 s)) e ∙ header_back x h)
 
 -- a text that begins with the same field and space goes on alike
@@ -140,19 +140,19 @@ field_found items t (Ok (Some x)) dash some long h = yes_field t (items x) some 
 field_found items t (Err e) dash some long h = h
 
 -- what stands after each field of a line that is a header's
-abbrev pub fields_text : Contents → List ℕ
+abbrev pub fields_text : HeaderContents → List ℕ
 fields_text x = field_texts x.a x.b x.c x.d x.data_length
 
-abbrev pub after_a : Contents → List ℕ
+abbrev pub after_a : HeaderContents → List ℕ
 after_a x = field_text x.b ++ 32 ∷ (field_text x.c ++ 32 ∷ with_count x.d x.data_length)
 
-abbrev pub after_b : Contents → List ℕ
+abbrev pub after_b : HeaderContents → List ℕ
 after_b x = field_text x.c ++ 32 ∷ with_count x.d x.data_length
 
-abbrev pub after_c : Contents → List ℕ
+abbrev pub after_c : HeaderContents → List ℕ
 after_c x = with_count x.d x.data_length
 
-pub line_fields : (line fields : List ℕ) (x : Contents) → line ≡ codes "bit " ++ fields → line ≡ bit_text x → fields ≡ fields_text x
+pub line_fields : (line fields : List ℕ) (x : HeaderContents) → line ≡ codes "bit " ++ fields → line ≡ bit_text x → fields ≡ fields_text x
 line_fields line fields x e h = let both : codes "bit " ++ fields ≡ codes "bit " ++ fields_text x = sym e ∙ h in cc
 
 -- a text after a field goes on as the header's line does there
@@ -173,7 +173,7 @@ line_made bit a b c d n t1 t2 t3 t4 t5 t6 t7 t8 e1 e2 e3 e4 e5 e6 e7 e8 =
     joins t f rest = append_assoc t (f ++ 32 ∷ []) rest ∙ ap (λ s. t ++ s) (append_assoc f (32 ∷ []) rest)
 
 -- the fields of a line are those of a header
-pub header_made : (line fields r1 r2 r3 digits : List ℕ) (x : Contents) (bytes : List ℕ) → line ≡ codes "bit " ++ fields → IsField x.a × (fields ≡ field_text x.a ++ 32 ∷ r1) → IsField x.b × (r1 ≡ field_text x.b ++ 32 ∷ r2)
+pub header_made : (line fields r1 r2 r3 digits : List ℕ) (x : HeaderContents) (bytes : List ℕ) → line ≡ codes "bit " ++ fields → IsField x.a × (fields ≡ field_text x.a ++ 32 ∷ r1) → IsField x.b × (r1 ≡ field_text x.b ++ 32 ∷ r2)
     → IsField x.c × (r2 ≡ field_text x.c ++ 32 ∷ r3) → IsField x.d × (r3 ≡ field_text x.d ++ 32 ∷ digits) → (x.data_length < 2 ^ 32) × (digits ≡ decimal x.data_length) → bytes ≡ header_bytes x → IsHeaderOf line bytes
 header_made line fields r1 r2 r3 digits x bytes e a b c d n is = record {
   header = x;
@@ -186,7 +186,7 @@ header_made line fields r1 r2 r3 digits x bytes e a b c d n is = record {
 counted : (letter : ℕ) (x rest : List ℕ) → length x < 2 ^ 16 → length (field_bytes (record { letter = letter; kind = FieldKind.Counted }) x ++ rest) ≤ 65538 + length rest
 counted letter x rest k = omega (arith, k, length-append x rest)
 
-pub header_limit : (x : Contents) → FitHeader x → length (header_bytes x) ≤ longest_header
+pub header_limit : (x : HeaderContents) → FitHeaderFields x → length (header_bytes x) ≤ longest_header
 header_limit x k =
     let last = bytes_of_word x.data_length ++ [] in
     let after_d = 0x65 ∷ last in

@@ -7,7 +7,7 @@ use Rattle.std.specs.List.{AllByRecursion}
 use Rattle.std.specs.Str.{bytes_eq}
 use Rattle.x7_words.specs.Word.{AreBytes}
 use Rattle.x7_text.specs.Lines.{split}
-use Rattle.x7_header.specs.Header.{Contents, header_bytes}
+use Rattle.x7_header.specs.Header.{HeaderContents, header_bytes}
 use Rattle.x7_listing.specs.BitLine.{bit_text, FitsHeader}
 use Rattle.x7_listing.specs.Line.{Line, Empty, Comment, Bytes, Sync, Nop, Write, Read, Write2, Read2, Word, Data, Cmd, Check, FitsLine, IsLine, text_of}
 use Rattle.x7_listing.specs.Assembly.{after_one_line, AreAsm, AreHeadedAsm, asm_limit, assembled, BeginsWithLines, HasNoHeaderLine, HasOutcome}
@@ -84,7 +84,7 @@ FieldOr field = Decided ((length field < 2 ^ 16) × AreBytes field)
 field_or : (field : List ℕ) → FieldOr field
 field_or field = both_or (below_or (length field) (2 ^ 16)) (all_below_or 256 field)
 
-held_or : (x : Contents) → Decided (FitsHeader x)
+held_or : (x : HeaderContents) → Decided (FitsHeader x)
 held_or x = by (field_or x.a) (field_or x.b) (field_or x.c) (field_or x.d) (below_or x.data_length (2 ^ 32))
   where
     by : FieldOr x.a → FieldOr x.b → FieldOr x.c → FieldOr x.d → Decided (x.data_length < 2 ^ 32) → Decided (FitsHeader x)
@@ -110,9 +110,9 @@ line_or t = line_by t (guess t) (line_is t)
 
 -- a text is that of a header, or of none
 HeaderOr : List ℕ → Type 0
-HeaderOr t = ((x : Contents) × FitsHeader x × (t ≡ bit_text x)) ⊎ ((x : Contents) → FitsHeader x → t ≡ bit_text x → ⊥)
+HeaderOr t = ((x : HeaderContents) × FitsHeader x × (t ≡ bit_text x)) ⊎ ((x : HeaderContents) → FitsHeader x → t ≡ bit_text x → ⊥)
 
-header_by_guess : (t : List ℕ) (g : Contents) → ((x : Contents) → FitsHeader x → t ≡ bit_text x → x ≡ g) → HeaderOr t
+header_by_guess : (t : List ℕ) (g : HeaderContents) → ((x : HeaderContents) → FitsHeader x → t ≡ bit_text x → x ≡ g) → HeaderOr t
 unfolding HeaderOr
 header_by_guess t g only = by (held_or g) (texts_or t (bit_text g))
   where
@@ -168,7 +168,7 @@ unfolding HeaderOr HasAsm
 headed [] = let o = has_asm asm_limit [] in (o.0, inr ((λ x others h e. cc), o.1))
 headed (t ∷ others) = by (header_or t)
   where
-    plain : ((x : Contents) → FitsHeader x → t ≡ bit_text x → ⊥) → HasNoHeaderLine (t ∷ others)
+    plain : ((x : HeaderContents) → FitsHeader x → t ≡ bit_text x → ⊥) → HasNoHeaderLine (t ∷ others)
     plain none x more h e = let first : t ≡ bit_text x = cc in none x h first
 
     by : HeaderOr t → (outcome : Result (List ℕ) AsmFault) × AreHeadedAsm (t ∷ others) outcome

@@ -13,14 +13,14 @@ use Rattle.x7_packets.specs.PacketWords.{type1_read_header, type1_write_header, 
 use Rattle.x7_listing.specs.Line.{Line, Empty, Comment, Bytes, Sync, Nop, Write, Read, Write2, Read2, Word, Data, Cmd, Check, type1_text, line_bytes, FitsLine, IsType1, IsLine, IsPlain, text_of}
 use Rattle.x7_listing.specs.OneWord.{IsWordOf, PutsWord}
 use Rattle.x7_text.specs.Row.{IsByteRow, IsWordRow}
-use Rattle.x7_text.specs.Reads.{Reads}
+use Rattle.x7_text.specs.Reads.{AppendsIfRead}
 use Rattle.x7_text.specs.DigitValue.{bytes_value, word_value}
 use Rattle.x7_listing.proofs.GuessLemmas.{after_space, digits_after_space, name_free, command_names, count_in, decimal_after, line_is, place_in, register_in, words_value}
 
 lift : {A : Type 0} (fits : A → Type 0) (text bytes : A → List ℕ) (check : ℕ) (word : List ℕ) (line : A → Line) (b : Bool) (t rest old new : List ℕ)
     → t ≡ word ++ rest → ((x : A) → fits x → FitsLine (line x)) → ((x : A) → FitsLine (line x) → fits x) → ((x : A) → text_of (line x) ≡ word ++ text x) → ((x : A) → line_bytes check (line x) ≡ bytes x)
     → ((l : Line) → IsLine (word ++ rest) l → (x : A) × (l ≡ line x))
-    → Reads fits text bytes b rest old new → Reads FitsLine text_of (line_bytes check) b t old new
+    → AppendsIfRead fits text bytes b rest old new → AppendsIfRead FitsLine text_of (line_bytes check) b t old new
 lift fits text bytes check word line true t rest old new e into from texts byteses only r =
     (line r.0, into r.0 r.1, e ∙ ap (λ s. word ++ s) r.2 ∙ sym (texts r.0), r.3 ∙ ap (λ s. old ++ s) (sym (byteses r.0)))
 lift fits text bytes check word line false t rest old new e into from texts byteses only r = (
@@ -30,37 +30,37 @@ lift fits text bytes check word line false t rest old new e into from texts byte
 )
 
 -- a text read as a word, whose bytes were appended
-found_read : {A : Type 0} (fits : A → Type 0) (text : A → List ℕ) (word : A → ℕ) (found : Option ℕ) (b : Bool) (t old new : List ℕ) → IsWordOf fits text word t found → PutsWord found b old new → Reads fits text (λ x. bytes_of_word (word x)) b t old new
+found_read : {A : Type 0} (fits : A → Type 0) (text : A → List ℕ) (word : A → ℕ) (found : Option ℕ) (b : Bool) (t old new : List ℕ) → IsWordOf fits text word t found → PutsWord found b old new → AppendsIfRead fits text (λ x. bytes_of_word (word x)) b t old new
 found_read fits text word None true t old new i p = absurd (let e : true ≡ false = p.0 in cc)
 found_read fits text word None false t old new i p = (i, p.1)
 found_read fits text word (Some w) true t old new i p = (i.0, i.1, i.2, p.1 ∙ ap (λ (v : ℕ). old ++ bytes_of_word v) i.3)
 found_read fits text word (Some w) false t old new i p = absurd (let e : false ≡ true = p.0 in cc)
 
 module _ (check : ℕ) (b : Bool) (t rest old new : List ℕ) where
-  pub data_line : t ≡ codes "data" ++ rest → Reads IsWordRow (flat_map spaced) (flat_map bytes_of_word) b rest old new → Reads FitsLine text_of (line_bytes check) b t old new
+  pub data_line : t ≡ codes "data" ++ rest → AppendsIfRead IsWordRow (flat_map spaced) (flat_map bytes_of_word) b rest old new → AppendsIfRead FitsLine text_of (line_bytes check) b t old new
   data_line e r = lift IsWordRow (flat_map spaced) (flat_map bytes_of_word) check (codes "data") Data b t rest old new e (λ x h. h) (λ x h. h) (λ x. refl) (λ x. refl) (λ l i. (words_value rest, line_is _ l i)) r
 
-  pub bytes_line : t ≡ codes "bytes " ++ rest → Reads IsByteRow (flat_map hex_byte) (λ (bs : List ℕ). bs) b rest old new → Reads FitsLine text_of (line_bytes check) b t old new
+  pub bytes_line : t ≡ codes "bytes " ++ rest → AppendsIfRead IsByteRow (flat_map hex_byte) (λ (bs : List ℕ). bs) b rest old new → AppendsIfRead FitsLine text_of (line_bytes check) b t old new
   bytes_line e r = lift IsByteRow (flat_map hex_byte) (λ (bs : List ℕ). bs) check (codes "bytes ") Bytes b t rest old new e (λ x h. h) (λ x h. h) (λ x. refl) (λ x. refl) (λ l i. (bytes_value rest, line_is _ l i)) r
 
   -- a word after a line's first word
   module _ (found : Option ℕ) (put : PutsWord found b old new) where
-    pub word_line : t ≡ codes "word " ++ rest → IsWordOf (λ w. w < 2 ^ 32) hex_word (λ w. w) rest found → Reads FitsLine text_of (line_bytes check) b t old new
+    pub word_line : t ≡ codes "word " ++ rest → IsWordOf (λ w. w < 2 ^ 32) hex_word (λ w. w) rest found → AppendsIfRead FitsLine text_of (line_bytes check) b t old new
     word_line e i = lift (λ w. w < 2 ^ 32) hex_word bytes_of_word check (codes "word ") Word b t rest old new e (λ x h. h) (λ x h. h) (λ x. refl) (λ x. refl) (λ l i. (word_value rest, line_is _ l i)) (found_read (λ w. w < 2 ^ 32) hex_word (λ w. w) found b rest old new i put)
 
-    pub cmd_line : t ≡ codes "cmd " ++ rest → IsWordOf (λ (c : Command). Unit {0}) command_name_of code_of rest found → Reads FitsLine text_of (line_bytes check) b t old new
+    pub cmd_line : t ≡ codes "cmd " ++ rest → IsWordOf (λ (c : Command). Unit {0}) command_name_of code_of rest found → AppendsIfRead FitsLine text_of (line_bytes check) b t old new
     cmd_line e i = lift (λ (c : Command). Unit {0}) command_name_of (λ c. bytes_of_word (code_of c)) check (codes "cmd ") Cmd b t rest old new e (λ x h. h) (λ x h. h) (λ x. refl) (λ x. refl) (λ l i. (command_with (place_in command_names rest), line_is _ l i)) (found_read (λ (c : Command). Unit {0}) command_name_of code_of found b rest old new i put)
 
-    pub write_line : t ≡ codes "write " ++ rest → IsWordOf IsType1 type1_text (λ (a : ℕ × ℕ). type1_write_header a.0 a.1) rest found → Reads FitsLine text_of (line_bytes check) b t old new
+    pub write_line : t ≡ codes "write " ++ rest → IsWordOf IsType1 type1_text (λ (a : ℕ × ℕ). type1_write_header a.0 a.1) rest found → AppendsIfRead FitsLine text_of (line_bytes check) b t old new
     write_line e i = lift IsType1 type1_text (λ (a : ℕ × ℕ). bytes_of_word (type1_write_header a.0 a.1)) check (codes "write ") (λ (a : ℕ × ℕ). Write a.0 a.1) b t rest old new e (λ x h. h) (λ x h. h) (λ x. refl) (λ x. refl) (λ l i. ((register_in rest, count_in rest), line_is _ l i)) (found_read IsType1 type1_text (λ (a : ℕ × ℕ). type1_write_header a.0 a.1) found b rest old new i put)
 
-    pub read_line : t ≡ codes "read " ++ rest → IsWordOf IsType1 type1_text (λ (a : ℕ × ℕ). type1_read_header a.0 a.1) rest found → Reads FitsLine text_of (line_bytes check) b t old new
+    pub read_line : t ≡ codes "read " ++ rest → IsWordOf IsType1 type1_text (λ (a : ℕ × ℕ). type1_read_header a.0 a.1) rest found → AppendsIfRead FitsLine text_of (line_bytes check) b t old new
     read_line e i = lift IsType1 type1_text (λ (a : ℕ × ℕ). bytes_of_word (type1_read_header a.0 a.1)) check (codes "read ") (λ (a : ℕ × ℕ). Read a.0 a.1) b t rest old new e (λ x h. h) (λ x h. h) (λ x. refl) (λ x. refl) (λ l i. ((register_in rest, count_in rest), line_is _ l i)) (found_read IsType1 type1_text (λ (a : ℕ × ℕ). type1_read_header a.0 a.1) found b rest old new i put)
 
-    pub write2_line : t ≡ codes "write2 " ++ rest → IsWordOf (λ n. n < 2 ^ 27) decimal type2_write_header rest found → Reads FitsLine text_of (line_bytes check) b t old new
+    pub write2_line : t ≡ codes "write2 " ++ rest → IsWordOf (λ n. n < 2 ^ 27) decimal type2_write_header rest found → AppendsIfRead FitsLine text_of (line_bytes check) b t old new
     write2_line e i = lift (λ n. n < 2 ^ 27) decimal (λ n. bytes_of_word (type2_write_header n)) check (codes "write2 ") Write2 b t rest old new e (λ x h. h) (λ x h. h) (λ x. refl) (λ x. refl) (λ l i. (decimal_after 0 rest, line_is _ l i)) (found_read (λ n. n < 2 ^ 27) decimal type2_write_header found b rest old new i put)
 
-    pub read2_line : t ≡ codes "read2 " ++ rest → IsWordOf (λ n. n < 2 ^ 27) decimal type2_read_header rest found → Reads FitsLine text_of (line_bytes check) b t old new
+    pub read2_line : t ≡ codes "read2 " ++ rest → IsWordOf (λ n. n < 2 ^ 27) decimal type2_read_header rest found → AppendsIfRead FitsLine text_of (line_bytes check) b t old new
     read2_line e i = lift (λ n. n < 2 ^ 27) decimal (λ n. bytes_of_word (type2_read_header n)) check (codes "read2 ") Read2 b t rest old new e (λ x h. h) (λ x h. h) (λ x. refl) (λ x. refl) (λ l i. (decimal_after 0 rest, line_is _ l i)) (found_read (λ n. n < 2 ^ 27) decimal type2_read_header found b rest old new i put)
 
 -- the text begins with this word
@@ -99,7 +99,7 @@ plain_fits (Data ws) h = absurd h
 plain_fits (Cmd x) h = tt
 plain_fits Check h = tt
 
-pub plain_line : (check : ℕ) (b : Bool) (t old new : List ℕ) → ((l : Line) → FitsLine l → t ≡ text_of l → IsPlain l) → Reads IsPlain text_of (line_bytes check) b t old new → Reads FitsLine text_of (line_bytes check) b t old new
+pub plain_line : (check : ℕ) (b : Bool) (t old new : List ℕ) → ((l : Line) → FitsLine l → t ≡ text_of l → IsPlain l) → AppendsIfRead IsPlain text_of (line_bytes check) b t old new → AppendsIfRead FitsLine text_of (line_bytes check) b t old new
 plain_line check true t old new only r = (r.0, plain_fits r.0 r.1, r.2, r.3)
 plain_line check false t old new only r = (λ l h e. r.0 l (only l h e) e, r.1)
 
@@ -114,6 +114,6 @@ pub is_none : (r : Option (Bor (List ℕ))) (P : Type 0) (Q : Bor (List ℕ) →
 is_none None P Q e h = h
 is_none (Some x) P Q e h = absurd cc
 
-pub is_comment : (r : Option (Bor (List ℕ))) (check : ℕ) (t old : List ℕ) → is_some r ≡ true → MatchOption r (NotAfter (codes "#") t) (λ x. t ≡ codes "#" ++ x.now) → Reads FitsLine text_of (line_bytes check) true t old old
+pub is_comment : (r : Option (Bor (List ℕ))) (check : ℕ) (t old : List ℕ) → is_some r ≡ true → MatchOption r (NotAfter (codes "#") t) (λ x. t ≡ codes "#" ++ x.now) → AppendsIfRead FitsLine text_of (line_bytes check) true t old old
 is_comment None check t old e h = absurd cc
 is_comment (Some x) check t old e h = (Comment x.now, tt, h, sym (append-nil old))

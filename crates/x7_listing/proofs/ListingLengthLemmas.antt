@@ -8,7 +8,7 @@ use Rattle.std.proofs.lemmas.Fmt.{length-decimal-le}
 use Rattle.std.proofs.lemmas.Grind.{flat_map-append}
 use Rattle.x7_words.specs.Word.{AreBytes, bytes_of_word}
 use Rattle.x7_words.proofs.ListLemmas.{all_append, all_back, all_prefix}
-use Rattle.x7_header.specs.Header.{Contents, field_bytes, fixed_bytes, FitHeader, header_bytes, FieldKind}
+use Rattle.x7_header.specs.Header.{HeaderContents, field_bytes, fixed_bytes, FitHeaderFields, header_bytes, FieldKind}
 use Rattle.x7_header.specs.Reading.{header_at}
 use Rattle.x7_header.specs.declared.fault.HeaderFault.{HeaderFault}
 use Rattle.x7_header.specs.declared.fault.HeaderFault.TheVariants as fault
@@ -198,7 +198,7 @@ field_long letter bs rest = omega (arith, length-append bs rest)
 spaced_long : (text rest : List ℕ) → length (text ++ 32 ∷ rest) ≡ length text + 1 + length rest
 spaced_long text rest = omega (arith, length-append text (32 ∷ rest))
 
-bit_short : (x : Contents) → FitHeader x → length (bit_text x) + 1 ≤ 5 * length (header_bytes x)
+bit_short : (x : HeaderContents) → FitHeaderFields x → length (bit_text x) + 1 ≤ 5 * length (header_bytes x)
 bit_short x h =
     let e = field_bytes (record { letter = 0x65; kind = FieldKind.Four }) (bytes_of_word x.data_length) ++ [] in
     let d = field_bytes (record { letter = 0x64; kind = FieldKind.Counted }) x.d ++ e in
@@ -232,7 +232,7 @@ bit_short x h =
 ok_text : (s t : List ℕ) → ◌≡◌ {A = Result (List ℕ) ℕ} (Ok s) (Ok t) → s ≡ t
 ok_text s t f = cc
 
-short_by : (b text : List ℕ) (r : Result (Contents × ℕ) HeaderFault) → header_at b ≡ r → AreBytes b → listing_by b r ≡ Ok text → length text ≤ 5 * length b + 4
+short_by : (b text : List ℕ) (r : Result (HeaderContents × ℕ) HeaderFault) → header_at b ≡ r → AreBytes b → listing_by b r ≡ Ok text → length text ≤ 5 * length b + 4
 short_by b text (Ok top) e fits is =
     let p : IsPrefix b top = header_takes b top fits e in
     let rest : List ℕ = drop top.1 b in

@@ -4,7 +4,7 @@ use Rattle.std.specs.Fmt.{decimal}
 use Rattle.std.specs.List.{AllByRecursion}
 use Rattle.x7_words.specs.Word.{AreBytes, bytes_of_word}
 use Rattle.x7_words.proofs.ListLemmas.{all_back, all_prefix}
-use Rattle.x7_header.specs.Header.{Contents, field_bytes, fixed_bytes, FitHeader, header_bytes, FieldKind}
+use Rattle.x7_header.specs.Header.{HeaderContents, field_bytes, fixed_bytes, FitHeaderFields, header_bytes, FieldKind}
 use Rattle.x7_header.specs.Reading.{header_at}
 use Rattle.x7_header.specs.declared.fault.HeaderFault.{HeaderFault}
 use Rattle.x7_header.specs.declared.fault.HeaderFault.TheVariants as fault
@@ -29,7 +29,7 @@ field_free (b ∷ bs) = hex_free (b ∷ bs)
 field_more : (bs rest : List ℕ) → has_no_end rest ≡ true → has_no_end (field_text bs ++ 32 ∷ rest) ≡ true
 field_more bs rest h = free_both (field_text bs) (32 ∷ rest) (field_free bs) h
 
-pub bit_free : (x : Contents) → FitHeader x → has_no_end (bit_text x) ≡ true
+pub bit_free : (x : HeaderContents) → FitHeaderFields x → has_no_end (bit_text x) ≡ true
 bit_free x h = field_more x.a (field_text x.b ++ 32 ∷ (field_text x.c ++ 32 ∷ (field_text x.d ++ 32 ∷ decimal x.data_length)))
     (field_more x.b (field_text x.c ++ 32 ∷ (field_text x.d ++ 32 ∷ decimal x.data_length))
     (field_more x.c (field_text x.d ++ 32 ∷ decimal x.data_length) (field_more x.d (decimal x.data_length) (decimal_free x.data_length (omega (arith, h.data_length))))))
@@ -40,7 +40,7 @@ first_bytes letter x rest a =
     let b = all_prefix (λ c. c < 256) (field_bytes (record { letter = letter; kind = FieldKind.Counted }) x) rest a in
     (all_back (λ c. c < 256) (letter ∷ length x / 256 ∷ length x % 256 ∷ []) x b, all_back (λ c. c < 256) (field_bytes (record { letter = letter; kind = FieldKind.Counted }) x) rest a)
 
-pub fitting_header : (x : Contents) → FitHeader x → AreBytes (header_bytes x) → FitsHeader x
+pub fitting_header : (x : HeaderContents) → FitHeaderFields x → AreBytes (header_bytes x) → FitsHeader x
 fitting_header x h all =
     let e = field_bytes (record { letter = 0x65; kind = FieldKind.Four }) (bytes_of_word x.data_length) ++ [] in
     let d = field_bytes (record { letter = 0x64; kind = FieldKind.Counted }) x.d ++ e in
@@ -64,7 +64,7 @@ none_first (l ∷ ls) texts a e x others h is =
 pub no_head : (limit : ℕ) (texts : List (List ℕ)) (bytes : List ℕ) → Assembles limit texts bytes → HasNoHeaderLine texts
 no_head limit texts bytes h = none_first h.lines texts h.begins.fits h.begins.texts
 
-headed : (b : List ℕ) (head : Contents × ℕ) → IsPrefix b head → AreBytes b → length b ≤ asm_limit → IsHeaded (split (bit_text head.0 ++ 10 ∷ listing_of (drop head.1 b))) (Ok b)
+headed : (b : List ℕ) (head : HeaderContents × ℕ) → IsPrefix b head → AreBytes b → length b ≤ asm_limit → IsHeaded (split (bit_text head.0 ++ 10 ∷ listing_of (drop head.1 b))) (Ok b)
 headed b head p a h =
     let whole : AreBytes (header_bytes head.0 ++ drop head.1 b) = subst AreBytes p.prefix a in
     let fits : AreBytes (drop head.1 b) = all_back (λ c. c < 256) (header_bytes head.0) (drop head.1 b) whole in
@@ -76,7 +76,7 @@ headed b head p a h =
       follows = record { rest = Ok (drop head.1 b); lines = round_trip (asm_limit - length (header_bytes head.0)) (drop head.1 b) fits (omega (arith, h, ap length p.prefix, length-append (header_bytes head.0) (drop head.1 b))); outcome_is = ap Ok p.prefix };
     }
 
-back_by : (b text : List ℕ) (r : Result (Contents × ℕ) HeaderFault) → header_at b ≡ r → AreBytes b → length b ≤ asm_limit → listing_by b r ≡ Ok text → IsAsm text (Ok b)
+back_by : (b text : List ℕ) (r : Result (HeaderContents × ℕ) HeaderFault) → header_at b ≡ r → AreBytes b → length b ≤ asm_limit → listing_by b r ≡ Ok text → IsAsm text (Ok b)
 back_by b text (Ok head) e a h is = subst (λ t. IsAsm t (Ok b)) (ok_text (bit_text head.0 ++ 10 ∷ listing_of (drop head.1 b)) text is) (inl (headed b head (header_takes b head a e) a h))
   where
     ok_text : (s t : List ℕ) → ◌≡◌ {A = Result (List ℕ) ℕ} (Ok s) (Ok t) → s ≡ t

@@ -3,7 +3,7 @@ use Rattle.std.specs.Prelude.{◌≡◌, ◌⊎◌, ℕ, ◌+◌, ◌-◌, ◌<�
 use Rattle.std.specs.declared.alloc.Global.{Global}
 use Rattle.std.specs.List.{AllByRecursion, flat_map}
 use Rattle.x7_crc.specs.Checker.{CheckerState, KeepsCheckOf}
-use Rattle.x7_header.specs.Header.{Contents, header_bytes, longest_header}
+use Rattle.x7_header.specs.Header.{HeaderContents, header_bytes, longest_header}
 use Rattle.x7_text.specs.Appends.{HasSpareRoom}
 use Rattle.x7_text.specs.Row.{bytes_row_size}
 use Rattle.x7_listing.specs.BitLine.{bit_text, FitsHeader}
@@ -21,7 +21,7 @@ pub record LinesAreRead (limit : ℕ) (all left : List (List ℕ)) (bytes : List
 
 -- the first text is the line of a header, whose bytes are `prefix`, and the others follow it: one text is read
 pub record OpensHeaded (all others : List (List ℕ)) (prefix : List ℕ) (n : ℕ) : Type 0 where
-  pub header : Contents
+  pub header : HeaderContents
   pub fits : FitsHeader header
   pub texts : all ≡ bit_text header ∷ others
   pub prefix_is : prefix ≡ header_bytes header

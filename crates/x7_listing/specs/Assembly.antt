@@ -6,7 +6,7 @@ use Rattle.x7_text.specs.Lines.{split}
 use Rattle.x7_crc.specs.Checker.{check_of_bytes}
 use Rattle.x7_listing.specs.declared.assembler.AsmFault.{AsmFault}
 use Rattle.x7_listing.specs.declared.assembler.AsmFault.TheVariants as fault
-use Rattle.x7_header.specs.Header.{Contents, header_bytes}
+use Rattle.x7_header.specs.Header.{HeaderContents, header_bytes}
 use Rattle.x7_listing.specs.BitLine.{bit_text, FitsHeader}
 use Rattle.x7_listing.specs.Line.{Line, line_bytes, FitsLine, IsLine, text_of}
 
@@ -75,7 +75,7 @@ pub record Follows (prefix : List ℕ) (others : List (List ℕ)) (outcome : Res
 
 -- the first text is a header's line, and the outcome is that of the others after it; the check leaves the header out
 pub record IsHeaded (all : List (List ℕ)) (outcome : Result (List ℕ) AsmFault) : Type 0 where
-  pub header : Contents
+  pub header : HeaderContents
   pub fits : FitsHeader header
   pub others : List (List ℕ)
   pub texts : all ≡ bit_text header ∷ others
@@ -83,7 +83,7 @@ pub record IsHeaded (all : List (List ℕ)) (outcome : Result (List ℕ) AsmFaul
 
 -- the first text is no header's line
 abbrev pub HasNoHeaderLine : List (List ℕ) → Type 0
-HasNoHeaderLine all = (x : Contents) (others : List (List ℕ)) → FitsHeader x → all ≢ bit_text x ∷ others
+HasNoHeaderLine all = (x : HeaderContents) (others : List (List ℕ)) → FitsHeader x → all ≢ bit_text x ∷ others
 
 -- what texts of lines, which may begin with a header's, assemble to
 abbrev pub AreHeadedAsm : List (List ℕ) → Result (List ℕ) AsmFault → Type 0

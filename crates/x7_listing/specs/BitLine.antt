@@ -2,7 +2,7 @@
 use Rattle.std.specs.Prelude.{◌≡◌, ◌≢◌, ℕ, ◌<◌, ◌^◌, ◌==◌, Bool, true, false, if◌then◌else◌, List, [], ◌∷◌, ◌++◌, length, slice_index, codes, decimal}
 use Rattle.std.specs.List.{flat_map}
 use Rattle.x7_words.specs.Word.{AreBytes}
-use Rattle.x7_header.specs.Header.{Contents, FitHeader, header_bytes}
+use Rattle.x7_header.specs.Header.{HeaderContents, FitHeaderFields, header_bytes}
 use Rattle.x7_text.specs.Digits.{hex_byte}
 use Rattle.x7_words.specs.Characters.{space_byte}
 
@@ -12,12 +12,12 @@ field_text [] = codes "-"
 field_text (x ∷ xs) = flat_map hex_byte (x ∷ xs)
 
 -- the text of a header's line, without its end: the four fields and the length of the data in bytes
-abbrev pub bit_text : Contents → List ℕ
+abbrev pub bit_text : HeaderContents → List ℕ
 bit_text x = codes "bit " ++ (field_text x.a ++ space_byte ∷ (field_text x.b ++ space_byte ∷ (field_text x.c ++ space_byte ∷ (field_text x.d ++ space_byte ∷ decimal x.data_length))))
 
 -- a header can hold these contents: each field fits its length, and is of bytes
-pub record FitsHeader (x : Contents) : Type 0 where
-  pub have : FitHeader x
+pub record FitsHeader (x : HeaderContents) : Type 0 where
+  pub have : FitHeaderFields x
   pub a : AreBytes x.a
   pub b : AreBytes x.b
   pub c : AreBytes x.c
@@ -34,7 +34,7 @@ HasFieldFirst text field rest = IsField field × (text ≡ field_text field ++ s
 
 -- `bytes` are those of a header whose line is `line`
 pub record IsHeaderOf (line bytes : List ℕ) : Type 0 where
-  pub header : Contents
+  pub header : HeaderContents
   pub fits : FitsHeader header
   pub text : line ≡ bit_text header
   pub bytes_are : bytes ≡ header_bytes header

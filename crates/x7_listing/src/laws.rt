@@ -9,7 +9,7 @@ ghost use Rattle.x7_listing.specs.Listed.{listing_lines};
 ghost use Rattle.x7_listing.specs.BitLine.{bit_text, FitsHeader};
 ghost use Rattle.x7_listing.specs.Listing.{IsListing, IsTextPrefix, listing_of};
 ghost use Rattle.x7_listing.specs.StreamListing.{stream_listing};
-ghost use Rattle.x7_header.specs.Header.{Contents};
+ghost use Rattle.x7_header.specs.Header.{HeaderContents};
 ghost use Rattle.x7_packets.specs.Mode.{Mode};
 ghost use Rattle.x7_listing.specs.Lister.{TakerStandsFor, ListerStandsFor, ListerState};
 
@@ -70,8 +70,8 @@ pub fn listing_is_short()
 
 /// A header's line is that of no other header, and no other line.
 pub fn header_line_is_its_own()
-    ensures no_other_header { (x y : Contents) → FitsHeader x → FitsHeader y → bit_text x ≡ bit_text y → x ≡ y }
-    ensures no_line { (x : Contents) (line : Line) → IsLine (bit_text x) line → ⊥ }
+    ensures no_other_header { (x y : HeaderContents) → FitsHeader x → FitsHeader y → bit_text x ≡ bit_text y → x ≡ y }
+    ensures no_line { (x : HeaderContents) (line : Line) → IsLine (bit_text x) line → ⊥ }
 {}
 
 /// A text assembles to at most one outcome.

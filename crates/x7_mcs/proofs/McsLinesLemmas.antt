@@ -10,7 +10,7 @@ use Rattle.x7_text.proofs.SplitLemmas.{split_line, split_some}
 use Rattle.x7_mcs.specs.Flash.{FlashReading, after_data, after_line, after_lines, and_then, of_no_line}
 use Rattle.x7_mcs.specs.Lines.{bare, lines_of, without_return}
 use Rattle.x7_mcs.specs.DataRecords.{DataRecord}
-use Rattle.x7_mcs.specs.McsLines.{AreGoodWith, HasMcsFault, HasReadRecords, flash_of_lines}
+use Rattle.x7_mcs.specs.McsLines.{AreGoodMcsLines, HasMcsFault, HasReadRecords, flash_of_lines}
 use Rattle.x7_mcs.specs.Record.{sum_byte}
 use Rattle.x7_mcs.specs.Image.{McsLinesState, FailsAsReading, TookRecords, mcs_reading}
 use Rattle.x7_mcs.specs.Text.{data_line}
@@ -72,14 +72,14 @@ module _ (b : McsLinesState) (lines : List (List ℕ)) (n : ℕ) (m : n ≡ leng
   line_came (Err f) d line bare e w = λ more. line_fails f line more (subst (λ l. FailsAsReading (after_line n (mcs_reading b.base b.has_ended t.records) l) f) e w)
 
   -- memory is wanting at a good line
-  pub line_wants : (f : McsFault) (line : List ℕ) → FailsAsReading (after_line n (mcs_reading b.base b.has_ended t.records) (without_return line)) f → f ≡ fault.NoMemory → AreGoodWith lines line
+  pub line_wants : (f : McsFault) (line : List ℕ) → FailsAsReading (after_line n (mcs_reading b.base b.has_ended t.records) (without_return line)) f → f ≡ fault.NoMemory → AreGoodMcsLines lines line
   line_wants f line (inl none) want =
       inl (none.1.0, ap (after_lines 1 of_no_line) (map_push without_return lines line) ∙ read_after (without_return line ∷ []) ∙ then_ok (after_line n (mcs_reading b.base b.has_ended t.records) (without_return line)) ∙ none.1.1)
   line_wants f line (inr h) want = absurd (reported_one (without_return line) n (mcs_reading b.base b.has_ended t.records) (h ∙ ap Err want))
 
   pub line_wanted : {A : Type 0} (r : Result A McsFault) (d : McsLinesState) (line bare : List ℕ) → bare ≡ without_return line
       → MatchResult r (λ _. TookRecords (after_line n (mcs_reading b.base b.has_ended t.records) bare) d) (λ f. FailsAsReading (after_line n (mcs_reading b.base b.has_ended t.records) bare) f)
-      → IfErr r (λ f. f ≡ fault.NoMemory → AreGoodWith lines line)
+      → IfErr r (λ f. f ≡ fault.NoMemory → AreGoodMcsLines lines line)
   line_wanted (Ok _) d line bare e w = tt
   line_wanted (Err f) d line bare e w = line_wants f line (subst (λ l. FailsAsReading (after_line n (mcs_reading b.base b.has_ended t.records) l) f) e w)
 
@@ -103,7 +103,7 @@ module _ (b : McsLinesState) (lines : List (List ℕ)) (n : ℕ) (m : n ≡ leng
     last_fault f (inl none) = inl none.0
     last_fault f (inr h) = gives_fault (lines ++ line ∷ []) f (inr (last_is ∙ h))
 
-    pub last_wants : (f : McsFault) → FailsAsReading (after_line n (mcs_reading b.base b.has_ended t.records) line) f → f ≡ fault.NoMemory → AreGoodWith lines line
+    pub last_wants : (f : McsFault) → FailsAsReading (after_line n (mcs_reading b.base b.has_ended t.records) line) f → f ≡ fault.NoMemory → AreGoodMcsLines lines line
     last_wants f (inl none) want = inr (none.1.0, last_is ∙ none.1.1)
     last_wants f (inr h) want = absurd (reported_one line n (mcs_reading b.base b.has_ended t.records) (h ∙ ap Err want))
 

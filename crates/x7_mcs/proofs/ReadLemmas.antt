@@ -51,7 +51,9 @@ read_data n base a xs r rest h small fits low =
     read_record n (mcs_reading base false xs) (length r ∷ a / 256 ∷ a % 256 ∷ 0 ∷ r) rest (omega arith, (omega arith, (omega arith, (omega arith, no_more r (sum_byte (length r ∷ a / 256 ∷ a % 256 ∷ 0 ∷ r)) h s))))
     ∙ ap (λ t. and_then (after_meaning n (mcs_reading base false xs) ((length r ∷ a / 256 ∷ a % 256 ∷ 0 ∷ r) ++ sum_byte (length r ∷ a / 256 ∷ a % 256 ∷ 0 ∷ r) ∷ []) t) (λ g. after_lines (n + 1) g (lines_of rest)))
     (meaning_written n (length r ∷ a / 256 ∷ a % 256 ∷ 0 ∷ r) long)
-    ∙ ap (λ (b : Bool). and_then (after_meaning n (mcs_reading base false xs) ((length r ∷ a / 256 ∷ a % 256 ∷ 0 ∷ r) ++ sum_byte (length r ∷ a / 256 ∷ a % 256 ∷ 0 ∷ r) ∷ []) (if b then Ok (Meaning.Data (256 * (a / 256) + a % 256)) else Err (fault.Line n))) (λ g. after_lines (n + 1) g (lines_of rest)))
+    ∙ ap (λ (b : Bool). and_then
+    (after_meaning n (mcs_reading base false xs) ((length r ∷ a / 256 ∷ a % 256 ∷ 0 ∷ r) ++ sum_byte (length r ∷ a / 256 ∷ a % 256 ∷ 0 ∷ r) ∷ []) (if b then Ok (Meaning.Data (256 * (a / 256) + a % 256)) else Err (fault.Line n)))
+    (λ g. after_lines (n + 1) g (lines_of rest)))
     (is_le (256 * (a / 256) + a % 256 + length r) block_size (omega arith))
     ∙ ap₂ (λ (d : ℕ) (t : List ℕ). and_then (with_records (mcs_reading base false xs) (with_record n xs (record { place = base + d; bytes = t }))) (λ g. after_lines (n + 1) g (lines_of rest)))
     (whole a) (take_at r (sum_byte (length r ∷ a / 256 ∷ a % 256 ∷ 0 ∷ r) ∷ []) (length r) refl)

@@ -1,5 +1,6 @@
 -- The flash bytes that a text gives (Intel HEX; the order of faults is this project's choice).
 use Rattle.std.specs.Prelude.{ℕ, ◌+◌, ◌==◌, Bool, true, false, if◌then◌else◌, List, [], ◌∷◌, Option, None, Some, Result, Ok, Err}
+use Rattle.x7_words.specs.Characters.{colon_byte}
 use Rattle.x7_mcs.specs.declared.fault.McsFault.{McsFault}
 use Rattle.x7_mcs.specs.declared.fault.McsFault.TheVariants as fault
 use Rattle.x7_mcs.specs.Lines.{lines_of}
@@ -41,7 +42,7 @@ after_bytes n r (Some bs) = after_meaning n r bs (meaning_of n r.has_ended bs)
 -- what lines give with line n: an empty line means nothing, and any other is `:` and pairs of digits
 abbrev pub after_line : ℕ → FlashReading → List ℕ → Result FlashReading McsFault
 after_line n r [] = Ok r
-after_line n r (c ∷ cs) = if c == 58 then after_bytes n r (bytes_of_pairs cs) else Err (fault.Line n)
+after_line n r (c ∷ cs) = if c == colon_byte then after_bytes n r (bytes_of_pairs cs) else Err (fault.Line n)
 
 -- the first fault stays
 abbrev pub and_then : Result FlashReading McsFault → (FlashReading → Result FlashReading McsFault) → Result FlashReading McsFault

@@ -2,7 +2,7 @@
 use Rattle.std.specs.Prelude.{◌≡◌, ◌⊎◌, ℕ, List, [], ◌∷◌, ◌++◌, map, Option, MatchOption, Result, Err, MatchResult}
 use Rattle.x7_text.specs.Lines.{split}
 use Rattle.x7_mcs.specs.Flash.{FlashReading, after_lines, flash_in, of_no_line, with_end}
-use Rattle.x7_mcs.specs.Readings.{CameTo}
+use Rattle.x7_mcs.specs.Readings.{CameToContext}
 use Rattle.x7_mcs.specs.Lines.{bare, without_return}
 use Rattle.x7_mcs.specs.Image.{McsLinesState, FailsAsReading, HasNoFault, TookRecords}
 use Rattle.x7_mcs.specs.declared.mcs_lines.McsLines.{McsLines}
@@ -23,8 +23,8 @@ flash_of_lines lines = flash_in (with_end (after_lines 1 of_no_line (bare lines)
 
 -- a line, with its end or as the last of a text, is read without a fault, as are those before it: memory may be
 -- wanting at it
-abbrev pub AreGoodWith : List (List ℕ) → List ℕ → Type 0
-AreGoodWith lines line = HasNoFault (after_lines 1 of_no_line (map without_return (lines ++ line ∷ []))) ⊎ HasNoFault (after_lines 1 of_no_line (bare (lines ++ line ∷ [])))
+abbrev pub AreGoodMcsLines : List (List ℕ) → List ℕ → Type 0
+AreGoodMcsLines lines line = HasNoFault (after_lines 1 of_no_line (map without_return (lines ++ line ∷ []))) ⊎ HasNoFault (after_lines 1 of_no_line (bare (lines ++ line ∷ [])))
 
 -- a text of these lines has this fault; of want of memory nothing is said here
 abbrev pub HasMcsFault : McsFault → List (List ℕ) → Type 0
@@ -32,7 +32,7 @@ HasMcsFault f lines = (f ≡ fault.NoMemory) ⊎ (flash_of_lines lines ≡ Err f
 
 -- a call on lines that are taken one by one came to what this reading comes to, or gave the reading's fault
 abbrev pub LinesComeTo : {A : Type 0} → Result A McsFault → Result FlashReading McsFault → McsLines → Type 0
-LinesComeTo result reading new = MatchResult result (λ _. CameTo reading new.context new.image) (λ f. FailsAsReading reading f)
+LinesComeTo result reading new = MatchResult result (λ _. CameToContext reading new.context new.image) (λ f. FailsAsReading reading f)
 
 -- the first line of a text was taken after these lines, and this is left of the text
 pub record TakesFirstLine (lines : List (List ℕ)) (text rest : List ℕ) (new : McsLines) : Type 0 where

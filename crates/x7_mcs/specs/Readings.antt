@@ -38,9 +38,9 @@ abbrev pub after_record : ℕ → Context → List DataRecord → List ℕ → R
 after_record n context records bytes = after_meaning n (flash_reading_at context records) bytes (meaning_of n context.has_ended bytes)
 
 -- a reading came to this context, and the image has its records
-abbrev pub CameTo : Result FlashReading McsFault → Context → Image → Type 0
-CameTo reading context image = TookRecords reading (record { base = context.base; has_ended = context.has_ended; bytes = image.bytes.items; marks = image.marks.items })
+abbrev pub CameToContext : Result FlashReading McsFault → Context → Image → Type 0
+CameToContext reading context image = TookRecords reading (record { base = context.base; has_ended = context.has_ended; bytes = image.bytes.items; marks = image.marks.items })
 
 -- a call came to what this reading comes to, and the image has its records; or it gave the reading's fault
 abbrev pub CallComesTo : Result Context McsFault → Result FlashReading McsFault → Image → Type 0
-CallComesTo result reading image = MatchResult result (λ c. CameTo reading c image) (λ f. FailsAsReading reading f)
+CallComesTo result reading image = MatchResult result (λ c. CameToContext reading c image) (λ f. FailsAsReading reading f)

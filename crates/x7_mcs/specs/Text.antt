@@ -3,7 +3,7 @@ use Rattle.std.specs.Prelude.{ℕ, ◌+◌, ◌*◌, ◌/◌, ◌%◌, ◌==◌,
 use Rattle.std.specs.List.{flat_map}
 use Rattle.x7_text.specs.Digits.{hex_byte}
 use Rattle.x7_text.specs.Row.{rows}
-use Rattle.x7_words.specs.Characters.{line_end_byte}
+use Rattle.x7_words.specs.Characters.{colon_byte, line_end_byte}
 use Rattle.x7_mcs.specs.Record.{block_size, byte_values, data_type, linear_base_type, sum_byte}
 
 -- how many bytes of a flash a row has, each but the last
@@ -27,13 +27,9 @@ rows_room n = 4 * n + (base_line_size + row_line_size)
 abbrev pub block_room : ℕ
 block_room = rows_room block_size
 
--- the character that a record's line begins with
-abbrev pub colon : ℕ
-colon = 58
-
--- the line of a record's bytes, with the byte that makes their sum 0
+-- the line of a record's bytes: `:`, their digits and those of the byte that makes their sum 0, and the line end
 abbrev pub record_line : List ℕ → List ℕ
-record_line bs = colon ∷ (flat_map hex_byte (bs ++ sum_byte bs ∷ []) ++ line_end_byte ∷ [])
+record_line bs = colon_byte ∷ (flat_map hex_byte (bs ++ sum_byte bs ∷ []) ++ line_end_byte ∷ [])
 
 -- how many bytes of data a record 04 has: those of its base
 abbrev pub base_data_size : ℕ

@@ -2,7 +2,7 @@
 ghost use Rattle.std.specs.Prelude.{◌≡◌, ℕ, ◌≤◌, ◌⊎◌, List, [], length, Ok, Err, MatchResult, IfOk, IfErr};
 ghost use Rattle.x7_text.specs.LineReader.{WantsAt};
 ghost use Rattle.x7_mcs.specs.Flash.{mcs_of};
-ghost use Rattle.x7_mcs.specs.McsLines.{AreGoodWith};
+ghost use Rattle.x7_mcs.specs.McsLines.{AreGoodMcsLines};
 ghost use Rattle.x7_words.specs.Flash.{flash_limit};
 ghost use Rattle.x7_mcs.specs.Text.{mcs_text};
 ghost use Rattle.x7_mcs.specs.declared.fault.McsFault.{McsFault};
@@ -18,7 +18,7 @@ use x7_text::read_lines;
 pub fn flash_of(alloc: Global, text: &[u8]) -> Result<Vec<u8>, McsFault>
     ensures bytes { IfOk result (λ bytes. mcs_of text.now ≡ Ok bytes.items) }
     ensures fault { IfErr result (λ fault. (fault ≡ McsFault.NoMemory) ⊎ (mcs_of text.now ≡ Err fault)) }
-    ensures memory { IfErr result (λ fault. fault ≡ McsFault.NoMemory → WantsAt AreGoodWith [] text.now) }
+    ensures memory { IfErr result (λ fault. fault ≡ McsFault.NoMemory → WantsAt AreGoodMcsLines [] text.now) }
     ensures back { (x : List ℕ) → AreBytes x → length x ≤ flash_limit → text.now ≡ mcs_text x
         → MatchResult result (λ bytes. bytes.items ≡ x) (λ fault. fault ≡ McsFault.NoMemory) }
 {
@@ -28,7 +28,7 @@ pub fn flash_of(alloc: Global, text: &[u8]) -> Result<Vec<u8>, McsFault>
 /// The bytes that a flash text gives, line by line.
 fn read_text(alloc: Global, text: &[u8]) -> Result<Vec<u8>, McsFault>
     ensures read { MatchResult result (λ bytes. mcs_of text.now ≡ Ok bytes.items) (λ fault. (fault ≡ McsFault.NoMemory) ⊎ (mcs_of text.now ≡ Err fault)) }
-    ensures memory { IfErr result (λ fault. fault ≡ McsFault.NoMemory → WantsAt AreGoodWith [] text.now) }
+    ensures memory { IfErr result (λ fault. fault ≡ McsFault.NoMemory → WantsAt AreGoodMcsLines [] text.now) }
 {
     read_lines(McsLines::new(alloc), text)
 }

@@ -41,15 +41,15 @@ pub(crate) fn empty_image(alloc: Global) -> Image
     }
 }
 
-/// Lengthens bytes by FF to `n` of them, where there are fewer.
+/// Lengthens bytes by FF to `size` of them, where there are fewer.
 #[inline(always)]
-fn grow_bytes(bytes: &mut Vec<u8>, n: usize) -> Result<(), AllocError>
-    ensures { MatchResult result (λ _. IsGrownTo n bytes.old.items bytes.new.items) (λ _. Unit {0}) }
+fn grow_bytes(bytes: &mut Vec<u8>, size: usize) -> Result<(), AllocError>
+    ensures { MatchResult result (λ _. IsGrownTo size bytes.old.items bytes.new.items) (λ _. Unit {0}) }
 {
-    if n <= bytes.len() {
+    if size <= bytes.len() {
         return Ok(());
     }
-    bytes.resize(n, ERASED_BYTE)
+    bytes.resize(size, ERASED_BYTE)
 }
 
 /// Writes a content over the bytes from a place on, as many as it has.
@@ -90,11 +90,11 @@ fn grow_marks(marks: &mut Vec<u16>, end: usize) -> Result<(), AllocError>
     requires { end < 2 ^ 34 }
     ensures { MatchResult result (λ _. HasMarksUpTo end marks.old.items marks.new.items) (λ _. Unit {0}) }
 {
-    let n = end / PLACES_PER_MARK + 1;
-    if n <= marks.len() {
+    let mark_count = end / PLACES_PER_MARK + 1;
+    if mark_count <= marks.len() {
         return Ok(());
     }
-    marks.resize(n + SPARE_MARKS, 0)
+    marks.resize(mark_count + SPARE_MARKS, 0)
 }
 
 /// Marks a place.
@@ -188,25 +188,25 @@ fn overlap(image: &Image, place: usize, count: usize) -> Option<usize>
     first_marked(&image.marks, place, count)
 }
 
-/// Writes the data of line `n`'s record from a place on, or answers its fault.
+/// Takes the data of line `line_number`'s record into the image, from a place on, or answers its fault.
 #[inline(always)]
-pub(crate) fn put_content(
+pub(crate) fn take_content(
     image: &mut Image,
-    n: u64,
+    line_number: u64,
     place: usize,
     content: &[u8],
 ) -> Result<(), McsFault>
     requires place { place < 2 ^ 33 }
     requires content { length content.now < byte_values }
     ensures { (xs : List DataRecord) → ImageHolds image.old xs
-        → MatchResult result (λ _. IsRecordTaken image.new n xs (data_at place content.now)) (λ fault. IsRecordRefused n xs (data_at place content.now) fault) }
+        → MatchResult result (λ _. IsRecordTaken image.new line_number xs (data_at place content.now)) (λ fault. IsRecordRefused line_number xs (data_at place content.now) fault) }
 {
     if content.len() == 0 {
         return Ok(());
     }
     let end = place + content.len();
     if end > IMAGE_LIMIT {
-        return Err(McsFault::TooLarge(n));
+        return Err(McsFault::TooLarge(line_number));
     }
     if let Some(covered) = overlap(image, place, content.len()) {
         return Err(McsFault::Overlap(covered as u32));

@@ -6,7 +6,7 @@ ghost use Rattle.x7_mcs.specs.Flash.{after_data, after_line};
 ghost use Rattle.x7_mcs.specs.Readings.{ImageHolds, flash_reading_at};
 ghost use Rattle.x7_mcs.specs.DataRecords.{DataRecord};
 ghost use Rattle.x7_mcs.specs.Text.{row_size};
-ghost use Rattle.x7_mcs.specs.McsLines.{AreGoodWith, HasMcsFault, HasReadRecords, LinesComeTo, TakesIfEnded, mcs_lines_state, flash_of_lines};
+ghost use Rattle.x7_mcs.specs.McsLines.{AreGoodMcsLines, HasMcsFault, HasReadRecords, LinesComeTo, TakesIfEnded, mcs_lines_state, flash_of_lines};
 ghost use Rattle.x7_mcs.specs.declared.mcs_lines.McsLines.{McsLines};
 ghost use Rattle.x7_mcs.specs.declared.fault.McsFault.{McsFault};
 
@@ -14,8 +14,8 @@ use crate::fault::McsFault;
 use crate::image::{Image, empty_image};
 use crate::lines::without_return;
 use crate::record::BLOCK_SIZE;
-use crate::row::{ROW_SIZE, Row, first_row};
-use crate::step::{Context, put_data, put_line};
+use crate::row::{ROW_SIZE, RowRecord, first_row};
+use crate::step::{Context, take_data, take_line};
 use std::alloc::Global;
 use x7_text::{TakesLines, first_line};
 
@@ -43,47 +43,57 @@ impl McsLines {
         }
     }
 
-    /// Takes line `n`, which is that of this row in the form in which one is written here.
+    /// Takes line `line_number`, which is that of this row in the form in which one is written here.
     #[inline(always)]
-    fn take_row(&mut self, n: u64, row: &Row) -> Result<(), McsFault>
+    fn take_row(&mut self, line_number: u64, row: &RowRecord) -> Result<(), McsFault>
         requires { length row.now.content ≡ row_size }
         ensures { (xs : List DataRecord) → ImageHolds self.old.image xs
-            → LinesComeTo result (after_data n (flash_reading_at self.old.context xs) row.now.address row.now.content) self.new }
+            → LinesComeTo result (after_data line_number (flash_reading_at self.old.context xs) row.now.address row.now.content) self.new }
     {
         let address = u32::from(row.address);
-        self.context = put_data(&mut self.image, n, self.context, address, &row.content)?;
+        self.context = take_data(
+            &mut self.image,
+            line_number,
+            self.context,
+            address,
+            &row.content,
+        )?;
         Ok(())
     }
 
-    /// Takes line `n`, given without its end.
-    fn put_bare_line(&mut self, n: u64, line: &[u8]) -> Result<(), McsFault>
-        ensures { (xs : List DataRecord) → ImageHolds self.old.image xs → LinesComeTo result (after_line n (flash_reading_at self.old.context xs) line.now) self.new }
+    /// Takes line `line_number`, given without its end.
+    fn take_bare_line(&mut self, line_number: u64, line: &[u8]) -> Result<(), McsFault>
+        ensures { (xs : List DataRecord) → ImageHolds self.old.image xs → LinesComeTo result (after_line line_number (flash_reading_at self.old.context xs) line.now) self.new }
     {
-        self.context = put_line(&mut self.image, n, self.context, line)?;
+        self.context = take_line(&mut self.image, line_number, self.context, line)?;
         Ok(())
     }
 
-    /// Takes the first line of a text, line `n`, if it has its end. Answers the text after it.
+    /// Takes the first line of a text, line `line_number`, if it has its end. Answers the text after it.
     #[inline(always)]
-    fn take_line<'t>(&mut self, n: u64, text: &'t [u8]) -> Result<Option<&'t [u8]>, McsFault>
-        ensures read { (lines : List (List ℕ)) → n ≡ length lines + 1 → HasReadRecords (mcs_lines_state self.old) lines
+    fn take_first_line<'t>(
+        &mut self,
+        line_number: u64,
+        text: &'t [u8],
+    ) -> Result<Option<&'t [u8]>, McsFault>
+        ensures read { (lines : List (List ℕ)) → line_number ≡ length lines + 1 → HasReadRecords (mcs_lines_state self.old) lines
             → MatchResult result (λ found. TakesIfEnded (λ rest. rest.now) lines text.now found self.new) (λ f. FailsAfter (HasMcsFault f) lines text.now) }
-        ensures memory { (lines : List (List ℕ)) → n ≡ length lines + 1 → HasReadRecords (mcs_lines_state self.old) lines
-            → IfErr result (λ f. f ≡ McsFault.NoMemory → WantsAt AreGoodWith lines text.now) }
+        ensures memory { (lines : List (List ℕ)) → line_number ≡ length lines + 1 → HasReadRecords (mcs_lines_state self.old) lines
+            → IfErr result (λ f. f ≡ McsFault.NoMemory → WantsAt AreGoodMcsLines lines text.now) }
         ensures left { IfOk result (λ found. MatchOption found (split text.now ≡ text.now ∷ []) (λ rest. length rest.now < length text.now)) }
     {
         if !self.context.has_ended
             && let Some((row, rest)) = first_row(text)
             && row.address <= LAST_ROW_ADDRESS
         {
-            self.take_row(n, &row)?;
+            self.take_row(line_number, &row)?;
             return Ok(Some(rest));
         }
         let (line, more) = first_line(text);
         let Some(rest) = more else {
             return Ok(None);
         };
-        self.put_bare_line(n, without_return(line))?;
+        self.take_bare_line(line_number, without_return(line))?;
         Ok(Some(rest))
     }
 }
@@ -101,7 +111,7 @@ impl TakesLines for McsLines {
 
     ghost is_want = { λ fault. fault ≡ McsFault.NoMemory };
 
-    ghost wants = { λ first. AreGoodWith };
+    ghost wants = { λ first. AreGoodMcsLines };
 
     fn no_memory() -> McsFault
         ensures { (first : McsLines) (lines : List (List ℕ)) → HasMcsFault result lines }
@@ -109,16 +119,20 @@ impl TakesLines for McsLines {
         McsFault::NoMemory
     }
 
-    fn put_line(&mut self, n: u64, line: &[u8]) -> Result<(), McsFault> {
-        self.put_bare_line(n, without_return(line))
+    fn take_line(&mut self, line_number: u64, line: &[u8]) -> Result<(), McsFault> {
+        self.take_bare_line(line_number, without_return(line))
     }
 
-    fn put_lines<'t>(&mut self, n: u64, text: &'t [u8]) -> Result<(&'t [u8], u64), McsFault> {
+    fn take_lines<'t>(
+        &mut self,
+        line_count: u64,
+        text: &'t [u8],
+    ) -> Result<(&'t [u8], u64), McsFault> {
         let mut rest = text;
-        let mut count = n;
+        let mut count = line_count;
         loop {
             let next = count.saturating_add(1);
-            let Some(after) = self.take_line(next, rest)? else {
+            let Some(after) = self.take_first_line(next, rest)? else {
                 return Ok((rest, count));
             };
             rest = after;
@@ -126,9 +140,9 @@ impl TakesLines for McsLines {
         }
     }
 
-    fn put_last(self, n: u64, line: &[u8]) -> Result<Vec<u8>, McsFault> {
+    fn take_last(self, line_number: u64, line: &[u8]) -> Result<Vec<u8>, McsFault> {
         let mut last = self;
-        last.put_bare_line(n, line)?;
+        last.take_bare_line(line_number, line)?;
         if !last.context.has_ended {
             return Err(McsFault::NoEnd);
         }

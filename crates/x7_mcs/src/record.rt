@@ -49,8 +49,8 @@ pub(crate) fn sum_of(bytes: &[u8]) -> u8
     ensures { result ≡ sum bytes.now % byte_values }
 {
     let mut total: u8 = 0;
-    for b in bytes {
-        total = total.wrapping_add(*b);
+    for byte in bytes {
+        total = total.wrapping_add(*byte);
     }
     total
 }
@@ -71,10 +71,10 @@ fn base_value(bytes: &[u8]) -> u32
     256 * u32::from(bytes[4]) + u32::from(bytes[5])
 }
 
-/// What the record of line `n` says by its type, its count and its address.
-fn meaning_by_type(n: u64, bytes: &[u8]) -> Result<Meaning, McsFault>
+/// What the record of line `line_number` says by its type, its count and its address.
+fn meaning_by_type(line_number: u64, bytes: &[u8]) -> Result<Meaning, McsFault>
     requires { IsOfItsCount bytes.now }
-    ensures { SaysMeaning result (meaning_by_type n bytes.now) }
+    ensures { SaysMeaning result (meaning_by_type line_number bytes.now) }
 {
     let count = u32::from(bytes[0]);
     let address = 256 * u32::from(bytes[1]) + u32::from(bytes[2]);
@@ -84,27 +84,35 @@ fn meaning_by_type(n: u64, bytes: &[u8]) -> Result<Meaning, McsFault>
         (SEGMENT_BASE_TYPE, 2) => Ok(Meaning::Base(16 * base_value(bytes))),
         (LINEAR_BASE_TYPE, 2) => Ok(Meaning::Base(BLOCK_SIZE * base_value(bytes))),
         (SEGMENT_START_TYPE | LINEAR_START_TYPE, 4) => Ok(Meaning::Start),
-        _ => Err(McsFault::Line(n)),
+        _ => Err(McsFault::Line(line_number)),
     }
 }
 
-/// What the bytes of line `n` say, where a record 01 stood before or not.
-pub(crate) fn meaning_of(n: u64, has_ended: bool, bytes: &[u8]) -> Result<Meaning, McsFault>
-    ensures meaning { SaysMeaning result (meaning_of n has_ended bytes.now) }
+/// What the bytes of line `line_number` say, where a record 01 stood before or not.
+pub(crate) fn meaning_of(
+    line_number: u64,
+    has_ended: bool,
+    bytes: &[u8],
+) -> Result<Meaning, McsFault>
+    ensures meaning { SaysMeaning result (meaning_of line_number has_ended bytes.now) }
     ensures counted { MatchResult result (λ _. IsOfItsCount bytes.now) (λ _. Unit {0}) }
 {
     if bytes.len() == 0 || usize::from(bytes[0]) + BYTES_BESIDE != bytes.len() {
-        return Err(McsFault::Line(n));
+        return Err(McsFault::Line(line_number));
     }
     let last = bytes.len() - 1;
     let (want, got) = (sum_byte(&bytes[..last], &[]), bytes[last]);
     if want != got {
-        return Err(McsFault::Sum { line: n, want, got });
+        return Err(McsFault::Sum {
+            line: line_number,
+            want,
+            got,
+        });
     }
     if has_ended {
-        return Err(McsFault::Line(n));
+        return Err(McsFault::Line(line_number));
     }
-    meaning_by_type(n, bytes)
+    meaning_by_type(line_number, bytes)
 }
 
 /// The data of a record, as many bytes as its count says.

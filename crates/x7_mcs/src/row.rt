@@ -1,16 +1,16 @@
 //! The usual line, a data record of sixteen bytes: written at once, and read by a guess that is written again and
 //! compared.
-ghost use Rattle.std.specs.Prelude.{◌≡◌, ◌<◌, ◌≤◌, ◌+◌, ◌%◌, ◌++◌, length, map, IsTrue, MatchOption};
+ghost use Rattle.std.specs.Prelude.{◌≡◌, ◌<◌, ◌≤◌, ◌+◌, ◌%◌, ◌++◌, length, IsTrue, MatchOption};
 ghost use Rattle.std.specs.List.{flat_map, sum};
-ghost use Rattle.std.specs.Simd.Lanes.{Each1, chunk};
-ghost use Rattle.x7_text.specs.Digits.{hex_byte, hex_digit};
+ghost use Rattle.std.specs.Simd.Lanes.{chunk};
+ghost use Rattle.x7_text.specs.Digits.{hex_byte};
 ghost use Rattle.x7_words.specs.Word.{AreBytes};
 ghost use Rattle.x7_mcs.specs.Record.{sum_byte, byte_values};
 ghost use Rattle.x7_mcs.specs.Text.{data_line, row_fields, row_line_size, row_size};
 
 use crate::record::{DATA_TYPE, sum_of};
 use std::simd::prelude::*;
-use x7_text::hex_of_byte;
+use x7_text::{hex_of_byte, hex_of_sixteen};
 use x7_words::are_bytes;
 
 /// How many bytes of a flash a row has, each but the last.
@@ -18,35 +18,6 @@ pub(crate) const ROW_SIZE: usize = 16;
 
 /// How many bytes of text the data record of a whole row has, with its line end.
 pub(crate) const ROW_LINE_SIZE: usize = 44;
-
-/// The digits of numbers below 16.
-#[inline(always)]
-fn hex_digits(numbers: u8x16) -> u8x16
-    requires lanes { length numbers ≡ 16 }
-    requires below { Each1 (λ n. n < 16) numbers }
-    ensures { result ≡ map hex_digit numbers }
-{
-    let is_letter = numbers.simd_gt(u8x16::splat(9));
-    numbers + is_letter.select(u8x16::splat(b'A' - 10), u8x16::splat(b'0'))
-}
-
-/// The digits of sixteen bytes: those of the first eight, and those of the others.
-#[inline(always)]
-fn hex_of_content(content: &[u8; 16]) -> ([u8; 16], [u8; 16])
-    ensures { result.0 ++ result.1 ≡ flat_map hex_byte content.now }
-{
-    let bytes = u8x16::from_array(*content);
-    let (high, low) = (bytes >> 4, bytes & u8x16::splat(15));
-    let first = high.shuffle(
-        low,
-        [0, 16, 1, 17, 2, 18, 3, 19, 4, 20, 5, 21, 6, 22, 7, 23],
-    );
-    let second = high.shuffle(
-        low,
-        [8, 24, 9, 25, 10, 26, 11, 27, 12, 28, 13, 29, 14, 30, 15, 31],
-    );
-    (hex_digits(first).to_array(), hex_digits(second).to_array())
-}
 
 /// The sum of sixteen bytes, without its carries.
 #[inline(always)]
@@ -85,7 +56,7 @@ fn hex_of_fields(address: u16) -> [u8; 8]
 pub(crate) fn row_line(address: u16, content: &[u8; 16]) -> [u8; ROW_LINE_SIZE]
     ensures { result ≡ data_line address content.now }
 {
-    let (first, second) = hex_of_content(content);
+    let (first, second) = hex_of_sixteen(content);
     let mut line = [b'\n'; ROW_LINE_SIZE];
     line[41..43].copy_from_slice(&hex_of_byte(sum_byte_of_row(address, content)));
     line[25..41].copy_from_slice(&second);
@@ -112,9 +83,9 @@ fn sixteen_in(line: &[u8; ROW_LINE_SIZE], at: usize) -> [u8; 16]
     u8x16::from_slice(&line[at..]).to_array()
 }
 
-/// A data record of sixteen bytes.
+/// A data record of sixteen bytes, at an address within its block.
 #[derive(Clone, Copy)]
-pub(crate) struct Row {
+pub(crate) struct RowRecord {
     pub(crate) address: u16,
     pub(crate) content: [u8; 16],
 }
@@ -151,12 +122,12 @@ fn guess_number(digit: u8) -> u16
 
 /// The row that a line would show.
 #[inline(always)]
-fn guess_row(line: &[u8; ROW_LINE_SIZE]) -> Row {
+fn guess_row(line: &[u8; ROW_LINE_SIZE]) -> RowRecord {
     let address = 4096 * guess_number(line[3])
         + 256 * guess_number(line[4])
         + 16 * guess_number(line[5])
         + guess_number(line[6]);
-    Row {
+    RowRecord {
         address,
         content: guess_bytes(sixteen_in(line, 9), sixteen_in(line, 25)),
     }
@@ -170,7 +141,7 @@ fn is_row_line(line: &[u8; ROW_LINE_SIZE], address: u16, content: &[u8; 16]) -> 
     if line[0] != b':' || line[43] != b'\n' {
         return false;
     }
-    let (first, second) = hex_of_content(content);
+    let (first, second) = hex_of_sixteen(content);
     if sixteen_in(line, 9) != first {
         return false;
     }
@@ -186,7 +157,7 @@ fn is_row_line(line: &[u8; ROW_LINE_SIZE], address: u16, content: &[u8; 16]) -> 
 /// The row whose line a text begins with, in the form in which one is written here, and the text after that line. None
 /// says nothing of the text.
 #[inline(always)]
-pub(crate) fn first_row(text: &[u8]) -> Option<(Row, &[u8])>
+pub(crate) fn first_row(text: &[u8]) -> Option<(RowRecord, &[u8])>
     ensures line { MatchOption result (Unit {0}) (λ r. text.now ≡ data_line r.0.address r.0.content ++ r.1.now) }
     ensures content { MatchOption result (Unit {0}) (λ r. length r.0.content ≡ row_size) }
     ensures bytes { MatchOption result (Unit {0}) (λ r. AreBytes r.0.content) }

@@ -6,47 +6,54 @@ ghost use Rattle.x7_mcs.specs.Flash.{after_data, after_line};
 ghost use Rattle.x7_mcs.specs.Readings.{CallComesTo, ImageHolds, after_record, flash_reading_at};
 
 use crate::fault::McsFault;
-use crate::image::{Image, put_content};
+use crate::image::{Image, take_content};
 use crate::record::{BYTES_BESIDE, Meaning, meaning_of, record_data};
 use x7_text::read_pairs;
 
 /// The bytes of the longest record: 255 of data, and those beside them.
 const MOST_RECORD_SIZE: usize = 255 + BYTES_BESIDE;
 
-/// The base that stands, and whether a record 01 stood.
+/// The base that stands, a place in bytes, and whether a record 01 stood.
 #[derive(Clone, Copy)]
 pub(crate) struct Context {
     pub(crate) base: u32,
     pub(crate) has_ended: bool,
 }
 
-/// Writes the data of line `n`'s record into the image, and gives the base and the end that stand after it.
+/// Takes the data of line `line_number`'s record into the image, and gives the base and the end that stand after
+/// it.
 #[inline(always)]
-pub(crate) fn put_data(
+pub(crate) fn take_data(
     image: &mut Image,
-    n: u64,
+    line_number: u64,
     context: Context,
     address: u32,
     content: &[u8],
 ) -> Result<Context, McsFault>
     requires content { length content.now < byte_values }
     requires address { address < 2 ^ 16 }
-    ensures { (xs : List DataRecord) → ImageHolds image.old xs → CallComesTo result (after_data n (flash_reading_at context xs) address content.now) image.new }
+    ensures { (xs : List DataRecord) → ImageHolds image.old xs → CallComesTo result (after_data line_number (flash_reading_at context xs) address content.now) image.new }
 {
-    put_content(image, n, context.base as usize + address as usize, content)?;
+    take_content(
+        image,
+        line_number,
+        context.base as usize + address as usize,
+        content,
+    )?;
     Ok(context)
 }
 
-/// Takes the record of line `n`, by its bytes, into the image, and gives the base and the end that stand after it.
-fn put_record(
+/// Takes the record of line `line_number`, by its bytes, into the image, and gives the base and the end that stand after
+/// it.
+fn take_record(
     image: &mut Image,
-    n: u64,
+    line_number: u64,
     context: Context,
     bytes: &[u8],
 ) -> Result<Context, McsFault>
-    ensures { (xs : List DataRecord) → ImageHolds image.old xs → CallComesTo result (after_record n context xs bytes.now) image.new }
+    ensures { (xs : List DataRecord) → ImageHolds image.old xs → CallComesTo result (after_record line_number context xs bytes.now) image.new }
 {
-    match meaning_of(n, context.has_ended, bytes)? {
+    match meaning_of(line_number, context.has_ended, bytes)? {
         Meaning::Start => Ok(context),
         Meaning::End => Ok(Context {
             base: context.base,
@@ -56,36 +63,42 @@ fn put_record(
             base,
             has_ended: context.has_ended,
         }),
-        Meaning::Data(address) => put_data(image, n, context, address, record_data(bytes)),
+        Meaning::Data(address) => take_data(
+            image,
+            line_number,
+            context,
+            address,
+            record_data(bytes),
+        ),
     }
 }
 
-/// Takes line `n` into the image, and gives the base and the end that stand after it.
-pub(crate) fn put_line(
+/// Takes line `line_number` into the image, and gives the base and the end that stand after it.
+pub(crate) fn take_line(
     image: &mut Image,
-    n: u64,
+    line_number: u64,
     context: Context,
     line: &[u8],
 ) -> Result<Context, McsFault>
-    ensures { (xs : List DataRecord) → ImageHolds image.old xs → CallComesTo result (after_line n (flash_reading_at context xs) line.now) image.new }
+    ensures { (xs : List DataRecord) → ImageHolds image.old xs → CallComesTo result (after_line line_number (flash_reading_at context xs) line.now) image.new }
 {
     if line.len() == 0 {
         return Ok(context);
     }
     if line[0] != b':' {
-        return Err(McsFault::Line(n));
+        return Err(McsFault::Line(line_number));
     }
     let (_, digits) = line.split_at(1);
     if digits.len() > 2 * MOST_RECORD_SIZE {
-        return Err(McsFault::Line(n));
+        return Err(McsFault::Line(line_number));
     }
     if digits.len() % 2 != 0 {
-        return Err(McsFault::Line(n));
+        return Err(McsFault::Line(line_number));
     }
     let mut room = [0; MOST_RECORD_SIZE];
     let bytes = &mut room[..digits.len() / 2];
     if !read_pairs(bytes, digits) {
-        return Err(McsFault::Line(n));
+        return Err(McsFault::Line(line_number));
     }
-    put_record(image, n, context, bytes)
+    take_record(image, line_number, context, bytes)
 }

@@ -33,8 +33,8 @@ fn put_digits(out: &mut Vec<u8>, bytes: &[u8])
     requires { HasSpareRoom out.old (2 * length bytes.now) }
     ensures { Appends out.old out.new (flat_map hex_byte bytes.now) (2 * length bytes.now) }
 {
-    for b in bytes {
-        put(out, &hex_of_byte(*b));
+    for byte in bytes {
+        put(out, &hex_of_byte(*byte));
     }
 }
 

@@ -2,34 +2,34 @@
 use Rattle.std.specs.Prelude.{IfSome}
 use Rattle.std.proofs.Common.{◌≡◌, ℕ, ◌≤◌, Bool, true, if◌then◌else◌, List, ◌∷◌, ◌++◌, length, drop, Option, Some, None, refl, ap, sym, subst, ◌∙◌, arith}
 use Rattle.std.proofs.lemmas.List.{drop-append-le}
-use Rattle.x7_svf.specs.Fields.{Between, Fields, Inside, Named, Scanning, are_hex, fields_after_step, scan_from, scan_step}
+use Rattle.x7_svf.specs.Fields.{Between, ScanFields, Inside, Named, Scanning, are_hex, fields_after_step, scan_from, scan_step}
 use Rattle.x7_svf.specs.Token.{Token, token_of}
-use Rattle.x7_svf.specs.Span.{AreWithin, StaysKept, at_of, fields_of, scanning_of}
-use Rattle.x7_svf.specs.declared.fields.Field.{Field}
+use Rattle.x7_svf.specs.Span.{AreWithin, StaysKept, scan_place_of, fields_of, scanning_of}
+use Rattle.x7_svf.specs.declared.fields.ScanField.{ScanField}
 use Rattle.x7_svf.specs.declared.fields.FieldSpans.{FieldSpans}
-use Rattle.x7_svf.specs.declared.fields.Place.{Place}
+use Rattle.x7_svf.specs.declared.fields.ScannerPlace.{ScannerPlace}
 use Rattle.x7_svf.specs.declared.fields.Scanner.{Scanner}
 use Rattle.x7_svf.specs.declared.token.NextToken.{NextToken}
 use Rattle.x7_svf.specs.declared.token.NextToken.TheVariants as next_token
 use Rattle.x7_svf.proofs.SpanLemmas.{more_stays, option_stays}
 
 -- a step as that at this place and of this token
-pub step_at : (kept rest : List ℕ) (g : FieldSpans) (p q : Place) (t u : NextToken) → p ≡ q → t ≡ u → scan_step (at_of kept q) (fields_of kept g) (token_of u rest) ≡ scan_step (at_of kept p) (fields_of kept g) (token_of t rest)
-step_at kept rest g p q t u e f = sym (λ i. scan_step (at_of kept (e i)) (fields_of kept g) (token_of (f i) rest))
+pub step_at : (kept rest : List ℕ) (g : FieldSpans) (p q : ScannerPlace) (t u : NextToken) → p ≡ q → t ≡ u → scan_step (scan_place_of kept q) (fields_of kept g) (token_of u rest) ≡ scan_step (scan_place_of kept p) (fields_of kept g) (token_of t rest)
+step_at kept rest g p q t u e f = sym (λ i. scan_step (scan_place_of kept (e i)) (fields_of kept g) (token_of (f i) rest))
 
-pub none_between : (f : Fields) (t : NextToken) (rest : List ℕ) → ((n : ℕ) → t ≡ next_token.Word n → ⊥) → None ≡ scan_step Between f (token_of t rest)
+pub none_between : (f : ScanFields) (t : NextToken) (rest : List ℕ) → ((n : ℕ) → t ≡ next_token.Word n → ⊥) → None ≡ scan_step Between f (token_of t rest)
 none_between f (next_token.Word n) rest not = absurd (not n refl)
 none_between f next_token.Open rest not = refl
 none_between f next_token.Close rest not = refl
 none_between f next_token.End rest not = refl
 
-pub none_named : (k : Field) (f : Fields) (t : NextToken) (rest : List ℕ) → (t ≡ next_token.Open → ⊥) → None ≡ scan_step (Named k) f (token_of t rest)
+pub none_named : (k : ScanField) (f : ScanFields) (t : NextToken) (rest : List ℕ) → (t ≡ next_token.Open → ⊥) → None ≡ scan_step (Named k) f (token_of t rest)
 none_named k f (next_token.Word n) rest not = refl
 none_named k f next_token.Open rest not = absurd (not refl)
 none_named k f next_token.Close rest not = refl
 none_named k f next_token.End rest not = refl
 
-pub none_inside : (k : Field) (ds : List ℕ) (f : Fields) (t : NextToken) (rest : List ℕ) → ((n : ℕ) → t ≡ next_token.Word n → ⊥) → (t ≡ next_token.Close → ⊥) → None ≡ scan_step (Inside k ds) f (token_of t rest)
+pub none_inside : (k : ScanField) (ds : List ℕ) (f : ScanFields) (t : NextToken) (rest : List ℕ) → ((n : ℕ) → t ≡ next_token.Word n → ⊥) → (t ≡ next_token.Close → ⊥) → None ≡ scan_step (Inside k ds) f (token_of t rest)
 none_inside k ds f (next_token.Word n) rest word not = absurd (word n refl)
 none_inside k ds f next_token.Open rest word not = refl
 none_inside k ds f next_token.Close rest word not = absurd (not refl)
@@ -50,7 +50,7 @@ pub fields_more : (n m : ℕ) (g : FieldSpans) → n ≤ m → AreWithin n g →
 fields_more n m g l w = (omega (arith, l, w.0), omega (arith, l, w.1), omega (arith, l, w.2), omega (arith, l, w.3))
 
 -- digits more
-pub digits_more : (kept more : List ℕ) (b : List ℕ) (g : FieldSpans) (k : Field) (from : ℕ) → b ≡ kept ++ more → from ≤ length kept → AreWithin (length kept) g → are_hex more ≡ true
+pub digits_more : (kept more : List ℕ) (b : List ℕ) (g : FieldSpans) (k : ScanField) (from : ℕ) → b ≡ kept ++ more → from ≤ length kept → AreWithin (length kept) g → are_hex more ≡ true
     → ◌≡◌ {A = Option Scanning} (Some (record { at = Inside k (drop from b); fields = fields_of b g })) (if are_hex more then Some (record { at = Inside k (drop from kept ++ more); fields = fields_of kept g }) else None)
 digits_more kept more b g k from e l w h =
     let digits : drop from b ≡ drop from kept ++ more = ap (drop from) e ∙ drop-append-le from kept more l in
@@ -60,7 +60,7 @@ digits_more kept more b g k from e l w h =
     ∙ sym (ap {B = Option Scanning} (λ (test : Bool). if test then Some (record { at = Inside k (drop from kept ++ more); fields = fields_of kept g }) else None) h)
 
 -- the fields of tokens of which the first was taken
-pub scan_on : (a b : List ℕ) (s next : Scanner) (ms left : List Token) (m : Token) (all : Option Fields) → all ≡ scan_from (at_of a s.place) (fields_of a s.spans) ms → ms ≡ m ∷ left
-    → scanning_of b (Some next) ≡ scan_step (at_of a s.place) (fields_of a s.spans) m → all ≡ scan_from (at_of b next.place) (fields_of b next.spans) left
+pub scan_on : (a b : List ℕ) (s next : Scanner) (ms left : List Token) (m : Token) (all : Option ScanFields) → all ≡ scan_from (scan_place_of a s.place) (fields_of a s.spans) ms → ms ≡ m ∷ left
+    → scanning_of b (Some next) ≡ scan_step (scan_place_of a s.place) (fields_of a s.spans) m → all ≡ scan_from (scan_place_of b next.place) (fields_of b next.spans) left
 scan_on a b s next ms left m all h e is =
-    h ∙ ap (scan_from (at_of a s.place) (fields_of a s.spans)) e ∙ sym (ap (λ (o : Option Scanning). fields_after_step o (λ x g. scan_from x g left)) is)
+    h ∙ ap (scan_from (scan_place_of a s.place) (fields_of a s.spans)) e ∙ sym (ap (λ (o : Option Scanning). fields_after_step o (λ x g. scan_from x g left)) is)

@@ -49,7 +49,8 @@ number_read limit n (c ∷ cs) h = by (λ l. number_read limit (n * 10 + (c - 48
     by read true e true f = ap (λ (v : ℕ). number_by limit (n * 10 + v) cs) (digit_is c e) ∙ read (within_limit (n * 10 + (c - 48)) limit f)
     by read true e false f =
         ap (λ (v : ℕ). number_by limit (n * 10 + v) cs) (digit_is c e)
-        ∙ none_past (list_all is_decimal_digit cs) (nat_le (digits_value_after 10 (n * 10 + (c - 48)) cs) limit) (digits_value_after 10 (n * 10 + (c - 48)) cs) (is_past (digits_value_after 10 (n * 10 + (c - 48)) cs) limit (omega (arith, past_limit (n * 10 + (c - 48)) limit f, grows (n * 10 + (c - 48)) cs)))
+        ∙ none_past (list_all is_decimal_digit cs) (nat_le (digits_value_after 10 (n * 10 + (c - 48)) cs) limit) (digits_value_after 10 (n * 10 + (c - 48)) cs)
+        (is_past (digits_value_after 10 (n * 10 + (c - 48)) cs) limit (omega (arith, past_limit (n * 10 + (c - 48)) limit f, grows (n * 10 + (c - 48)) cs)))
 
 -- the number of a word, read from its first digit on
 pub number_is : (limit : ℕ) (w : List ℕ) → 0 < length w → number_within limit w ≡ number_from limit 0 w

@@ -10,10 +10,10 @@ use Rattle.x7_svf.specs.Stored.{AreStoredWithin, IsStored, IsStoredWithin, state
 use Rattle.x7_svf.specs.declared.span.Span.{Span}
 use Rattle.x7_svf.specs.declared.statement.Statement.{Statement}
 use Rattle.x7_svf.specs.declared.statement.Statement.TheVariants as statement
-use Rattle.x7_svf.specs.declared.stored.Stored.{Stored}
-use Rattle.x7_svf.specs.declared.stored.Stored.TheVariants as stored
-use Rattle.x7_svf.specs.declared.words.Words.{Words}
-use Rattle.x7_svf.specs.declared.words.Words.TheVariants as words
+use Rattle.x7_svf.specs.declared.stored.StoredStatement.{StoredStatement}
+use Rattle.x7_svf.specs.declared.stored.StoredStatement.TheVariants as stored
+use Rattle.x7_svf.specs.declared.words.KeptWords.{KeptWords}
+use Rattle.x7_svf.specs.declared.words.KeptWords.TheVariants as words
 
 pub prefix_long : (a b : List ℕ) → StaysKept a b → length a ≤ length b
 prefix_long a b f = elim (cases_lt (length b) (length a)) [
@@ -43,36 +43,36 @@ module _ (a b : List ℕ) (f : StaysKept a b) where
   option_stays None w = refl
   option_stays (Some s) w = ap Some (bytes_stay s w)
 
-  pub words_stay : (ws : Words) → AreWordsWithin (length a) ws → words_kept b ws ≡ words_kept a ws
+  pub words_stay : (ws : KeptWords) → AreWordsWithin (length a) ws → words_kept b ws ≡ words_kept a ws
   words_stay words.None w = refl
   words_stay (words.One p) w = ap (λ (x : List ℕ). x ∷ []) (bytes_stay p w)
   words_stay (words.Two p q) w = λ i. bytes_stay p w.0 i ∷ bytes_stay q w.1 i ∷ []
   words_stay (words.Three p q r) w = λ i. bytes_stay p w.0 i ∷ bytes_stay q w.1 i ∷ bytes_stay r w.2 i ∷ []
   words_stay (words.Four p q r s) w = λ i. bytes_stay p w.0 i ∷ bytes_stay q w.1 i ∷ bytes_stay r w.2 i ∷ bytes_stay s w.3 i ∷ []
 
-  pub statement_stays : (s : Stored) → IsStoredWithin (length a) s → statement_in b s ≡ statement_in a s
+  pub statement_stays : (s : StoredStatement) → IsStoredWithin (length a) s → statement_in b s ≡ statement_in a s
   statement_stays stored.Reset w = refl
   statement_stays stored.Idle w = refl
   statement_stays (stored.Run n) w = refl
   statement_stays stored.Nothing w = refl
   statement_stays (stored.Scan s) w = λ i. statement.Scan (record { register = s.register; tdi = bits_of s.bit_count (bytes_stay s.tdi w.0 i); tdo = bits_if s.bit_count (option_stays s.tdo w.1 i); mask = bits_if s.bit_count (option_stays s.mask w.2 i) })
 
-  pub statements_stay : (ss : List Stored) → AreStoredWithin (length a) ss → statements_in b ss ≡ statements_in a ss
+  pub statements_stay : (ss : List StoredStatement) → AreStoredWithin (length a) ss → statements_in b ss ≡ statements_in a ss
   statements_stay [] w = refl
   statements_stay (s ∷ ss) w = λ i. statement_stays s w.0 i ∷ statements_stay ss w.1 i
 
-pub stored_more : (n m : ℕ) (s : Stored) → n ≤ m → IsStoredWithin n s → IsStoredWithin m s
+pub stored_more : (n m : ℕ) (s : StoredStatement) → n ≤ m → IsStoredWithin n s → IsStoredWithin m s
 stored_more n m (stored.Scan s) l w = (omega (arith, l, w.0), omega (arith, l, w.1), omega (arith, l, w.2))
 stored_more n m stored.Reset l w = w
 stored_more n m stored.Idle l w = w
 stored_more n m (stored.Run x) l w = w
 stored_more n m stored.Nothing l w = w
 
-pub all_stored_more : (n m : ℕ) (ss : List Stored) → n ≤ m → AreStoredWithin n ss → AreStoredWithin m ss
+pub all_stored_more : (n m : ℕ) (ss : List StoredStatement) → n ≤ m → AreStoredWithin n ss → AreStoredWithin m ss
 all_stored_more n m [] l w = w
 all_stored_more n m (s ∷ ss) l w = (stored_more n m s l w.0, all_stored_more n m ss l w.1)
 
-pub words_more : (n m : ℕ) (ws : Words) → n ≤ m → AreWordsWithin n ws → AreWordsWithin m ws
+pub words_more : (n m : ℕ) (ws : KeptWords) → n ≤ m → AreWordsWithin n ws → AreWordsWithin m ws
 words_more n m words.None l w = w
 words_more n m (words.One p) l w = omega (arith, l, w)
 words_more n m (words.Two p q) l w = (omega (arith, l, w.0), omega (arith, l, w.1))
@@ -80,6 +80,6 @@ words_more n m (words.Three p q r) l w = (omega (arith, l, w.0), omega (arith, l
 words_more n m (words.Four p q r s) l w = (omega (arith, l, w.0), omega (arith, l, w.1), omega (arith, l, w.2), omega (arith, l, w.3))
 
 -- what is stored where nothing is kept is stored anywhere
-pub stored_anywhere : (kept : List ℕ) (o : Option Stored) (s : Option Statement) → stored_if [] o ≡ s → IfSome o (IsStoredWithin 0) → IsStored kept o s
+pub stored_anywhere : (kept : List ℕ) (o : Option StoredStatement) (s : Option Statement) → stored_if [] o ≡ s → IfSome o (IsStoredWithin 0) → IsStored kept o s
 stored_anywhere kept None s e w = (e, w)
 stored_anywhere kept (Some x) s e w = (ap Some (statement_stays [] kept refl x w) ∙ e, stored_more 0 (length kept) x (omega arith) w)

@@ -3,7 +3,7 @@ use Rattle.std.proofs.Common.{◌≡◌, ◌⊎◌, inl, inr, ℕ, List, [], ◌
 use Rattle.std.proofs.lemmas.List.{map-append}
 use Rattle.x7_words.proofs.ListLemmas.{all_append}
 use Rattle.x7_svf.specs.declared.statement.Statement.{Statement}
-use Rattle.x7_svf.specs.declared.stored.Stored.{Stored}
+use Rattle.x7_svf.specs.declared.stored.StoredStatement.{StoredStatement}
 use Rattle.x7_svf.specs.Token.{TokenOnLine}
 use Rattle.x7_svf.specs.Source.{SourceState, tokens_left}
 use Rattle.x7_svf.specs.Span.{StaysKept}
@@ -13,7 +13,7 @@ use Rattle.x7_svf.proofs.OutcomeLemmas.{after_all, one_on}
 use Rattle.x7_svf.proofs.SpanLemmas.{all_stored_more, prefix_long, statements_stay}
 
 -- a source from before its next token, there, and after the statement there
-module _ (ps : List TokenOnLine) (before here after : SourceState) (out new : List Stored) (one : Stored) (e : new ≡ out ++ one ∷ []) (w : AreStoredWithin (length before.kept) out)
+module _ (ps : List TokenOnLine) (before here after : SourceState) (out new : List StoredStatement) (one : StoredStatement) (e : new ≡ out ++ one ∷ []) (w : AreStoredWithin (length before.kept) out)
     (same : here.kept ≡ before.kept) (f : StaysKept here.kept after.kept) where
   prefix_here : StaysKept before.kept after.kept
   prefix_here = subst (λ (k : List ℕ). StaysKept k after.kept) same f

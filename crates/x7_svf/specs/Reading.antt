@@ -13,7 +13,7 @@ pub record PassesBlanks (old new : SourceState) : Type 0 where
   pub passed : length new.rest ≤ length old.rest
 
 -- the rest of the text begins with a token's bytes, of which there is one at least
-pub record ComesNext (s : SourceState) (t : NextToken) : Type 0 where
+pub record TokenComesNext (s : SourceState) (t : NextToken) : Type 0 where
   pub not_empty : 0 < token_size t
   pub within : token_size t ≤ length s.rest
 

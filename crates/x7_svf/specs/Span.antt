@@ -1,13 +1,13 @@
 -- Bytes by where they are kept: the fields of a scan, and words (this project's choice).
 use Rattle.std.specs.Prelude.{◌≡◌, ◌≤◌, ℕ, ◌+◌, ⊤, List, [], ◌∷◌, length, take, drop, Option, Some, None}
-use Rattle.x7_svf.specs.Fields.{At, Between, Named, Inside, Fields, Scanning}
+use Rattle.x7_svf.specs.Fields.{ScanPlace, Between, Named, Inside, ScanFields, Scanning}
 use Rattle.x7_svf.specs.declared.span.Span.{Span}
-use Rattle.x7_svf.specs.declared.fields.Place.{Place}
-use Rattle.x7_svf.specs.declared.fields.Place.TheVariants as place
+use Rattle.x7_svf.specs.declared.fields.ScannerPlace.{ScannerPlace}
+use Rattle.x7_svf.specs.declared.fields.ScannerPlace.TheVariants as place
 use Rattle.x7_svf.specs.declared.fields.FieldSpans.{FieldSpans}
 use Rattle.x7_svf.specs.declared.fields.Scanner.{Scanner}
-use Rattle.x7_svf.specs.declared.words.Words.{Words}
-use Rattle.x7_svf.specs.declared.words.Words.TheVariants as words
+use Rattle.x7_svf.specs.declared.words.KeptWords.{KeptWords}
+use Rattle.x7_svf.specs.declared.words.KeptWords.TheVariants as words
 
 -- the bytes at a place among those kept
 abbrev pub bytes_in : List ℕ → Span → List ℕ
@@ -19,24 +19,24 @@ digits_if kept None = None
 digits_if kept (Some s) = Some (bytes_in kept s)
 
 -- the fields of a scan whose digits are kept
-abbrev pub fields_of : List ℕ → FieldSpans → Fields
+abbrev pub fields_of : List ℕ → FieldSpans → ScanFields
 fields_of kept g = record { tdi = digits_if kept g.tdi; tdo = digits_if kept g.tdo; mask = digits_if kept g.mask; smask = digits_if kept g.smask }
 
 -- the fields of a scan, if they are any
-abbrev pub fields_if : List ℕ → Option FieldSpans → Option Fields
+abbrev pub fields_if : List ℕ → Option FieldSpans → Option ScanFields
 fields_if kept None = None
 fields_if kept (Some g) = Some (fields_of kept g)
 
 -- where a reader of a scan stands; inside brackets after the digits kept from a place on
-abbrev pub at_of : List ℕ → Place → At
-at_of kept place.Between = Between
-at_of kept (place.Named k) = Named k
-at_of kept (place.Inside k from) = Inside k (drop from kept)
+abbrev pub scan_place_of : List ℕ → ScannerPlace → ScanPlace
+scan_place_of kept place.Between = Between
+scan_place_of kept (place.Named k) = Named k
+scan_place_of kept (place.Inside k from) = Inside k (drop from kept)
 
 -- where a reader of a scan stands, and the fields so far, if a scan goes on so
 abbrev pub scanning_of : List ℕ → Option Scanner → Option Scanning
 scanning_of kept None = None
-scanning_of kept (Some s) = Some (record { at = at_of kept s.place; fields = fields_of kept s.spans })
+scanning_of kept (Some s) = Some (record { at = scan_place_of kept s.place; fields = fields_of kept s.spans })
 
 -- ---- what is kept stays
 
@@ -58,7 +58,7 @@ abbrev pub AreWithin : ℕ → FieldSpans → Type 0
 AreWithin n g = (span_end_if g.tdi ≤ n) × (span_end_if g.tdo ≤ n) × (span_end_if g.mask ≤ n) × (span_end_if g.smask ≤ n)
 
 -- the open field, if there is one, begins among the first n bytes
-abbrev pub IsPlaceWithin : ℕ → Place → Type 0
+abbrev pub IsPlaceWithin : ℕ → ScannerPlace → Type 0
 IsPlaceWithin n place.Between = ⊤
 IsPlaceWithin n (place.Named k) = ⊤
 IsPlaceWithin n (place.Inside k from) = from ≤ n
@@ -70,7 +70,7 @@ IsWithin n s = IsPlaceWithin n s.place × AreWithin n s.spans
 -- ---- words
 
 -- the words at these places, in order
-abbrev pub words_kept : List ℕ → Words → List (List ℕ)
+abbrev pub words_kept : List ℕ → KeptWords → List (List ℕ)
 words_kept kept words.None = []
 words_kept kept (words.One a) = bytes_in kept a ∷ []
 words_kept kept (words.Two a b) = bytes_in kept a ∷ bytes_in kept b ∷ []
@@ -78,7 +78,7 @@ words_kept kept (words.Three a b c) = bytes_in kept a ∷ bytes_in kept b ∷ by
 words_kept kept (words.Four a b c d) = bytes_in kept a ∷ bytes_in kept b ∷ bytes_in kept c ∷ bytes_in kept d ∷ []
 
 -- the words are among the first n bytes
-abbrev pub AreWordsWithin : ℕ → Words → Type 0
+abbrev pub AreWordsWithin : ℕ → KeptWords → Type 0
 AreWordsWithin n words.None = ⊤
 AreWordsWithin n (words.One a) = span_end a ≤ n
 AreWordsWithin n (words.Two a b) = (span_end a ≤ n) × (span_end b ≤ n)

@@ -13,7 +13,9 @@ const MOST_BYTES_AT_ONCE: usize = 1024;
 /// Some bits, lowest first, lent as the hexadecimal digits that a text gives for them.
 #[derive(Drop)]
 pub struct Bits<'t> {
+    // how many bits there are
     count: u32,
+    // the digits, the first the highest
     digits: &'t [u8],
 }
 
@@ -36,15 +38,15 @@ pub(crate) fn digit_number(digit: u8) -> u8
     digit.saturating_sub(87 - 32 * upper - 7 * decimal)
 }
 
-/// Bit i of digits, from 0, the last of which has the lowest; 0 past the first digit.
-fn bit_of(digits: &[u8], i: u32) -> bool
-    ensures { result ≡ bit_of digits.now i }
+/// Bit `index` of digits, from 0, the last of which has the lowest; 0 past the first digit.
+fn bit_of(digits: &[u8], index: u32) -> bool
+    ensures { result ≡ bit_of digits.now index }
 {
-    let place = (i / 4) as usize;
+    let place = (index / 4) as usize;
     if place >= digits.len() {
         return false;
     }
-    (digit_number(digits[digits.len() - 1 - place]) >> (i % 4)) % 2 == 1
+    (digit_number(digits[digits.len() - 1 - place]) >> (index % 4)) % 2 == 1
 }
 
 /// The four bits of the digit at this place from the last, and 0 past the first digit.
@@ -110,14 +112,14 @@ impl<'t> Bits<'t> {
         self.count
     }
 
-    /// Bit i, from 0, and none exactly past the last.
-    pub fn bit(&self, i: u32) -> Option<bool>
-        ensures { result ≡ slice_get self.now i }
+    /// Bit `index`, from 0, and none exactly past the last.
+    pub fn bit(&self, index: u32) -> Option<bool>
+        ensures { result ≡ slice_get self.now index }
     {
-        if i >= self.count {
+        if index >= self.count {
             return None;
         }
-        Some(bit_of(self.digits, i))
+        Some(bit_of(self.digits, index))
     }
 
     /// The bytes of the bits from bit `from` on, a multiple of eight: those that end before the last bit, and at most

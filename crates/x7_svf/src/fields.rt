@@ -2,10 +2,10 @@
 ghost use Rattle.std.specs.Prelude.{◌≡◌, ◌≤◌, ℕ, List, drop, length, IfSome, Option, Some, None};
 ghost use Rattle.x7_words.specs.Characters.{is_hex_digit};
 ghost use Rattle.x7_svf.specs.Token.{token_of, token_size};
-ghost use Rattle.x7_svf.specs.Fields.{are_hex, Between, closed_field, field_by_name, no_fields, put_field, scan_from, scan_step};
+ghost use Rattle.x7_svf.specs.Fields.{are_hex, Between, closed_field, field_by_name, no_fields, with_field, scan_from, scan_step};
 ghost use Rattle.x7_svf.specs.Reading.{ReadsOn, StepsOver};
 ghost use Rattle.x7_svf.specs.Source.{tokens_left};
-ghost use Rattle.x7_svf.specs.Span.{AreWithin, IsWithin, at_of, bytes_in, span_end, fields_of, fields_if, scanning_of};
+ghost use Rattle.x7_svf.specs.Span.{AreWithin, IsWithin, scan_place_of, bytes_in, span_end, fields_of, fields_if, scanning_of};
 ghost use Rattle.x7_svf.specs.Svf.{tokens_before_end};
 
 use crate::source::Source;
@@ -15,7 +15,7 @@ use crate::words::is_keyword;
 
 /// A field of a scan.
 #[derive(Clone, Copy)]
-pub(crate) enum Field {
+pub(crate) enum ScanField {
     Tdi,
     Tdo,
     Mask,
@@ -24,11 +24,11 @@ pub(crate) enum Field {
 
 /// Where among a scan's words and brackets a reader stands.
 #[derive(Clone, Copy)]
-pub(crate) enum Place {
+pub(crate) enum ScannerPlace {
     Between,
-    Named(Field),
+    Named(ScanField),
     /// Inside the brackets of a field, whose digits are the bytes kept from here on.
-    Inside(Field, usize),
+    Inside(ScanField, usize),
 }
 
 /// Where the digits of each field are kept.
@@ -43,25 +43,25 @@ pub(crate) struct FieldSpans {
 /// A reader of a scan: where it stands, and the fields so far.
 #[derive(Clone, Copy)]
 pub(crate) struct Scanner {
-    pub(crate) place: Place,
+    pub(crate) place: ScannerPlace,
     pub(crate) spans: FieldSpans,
 }
 
 /// The field of this name, in either case.
-fn field_by_name(word: &[u8]) -> Option<Field>
+fn field_by_name(word: &[u8]) -> Option<ScanField>
     ensures { result ≡ field_by_name word.now }
 {
     if is_keyword(word, b"TDI") {
-        return Some(Field::Tdi);
+        return Some(ScanField::Tdi);
     }
     if is_keyword(word, b"TDO") {
-        return Some(Field::Tdo);
+        return Some(ScanField::Tdo);
     }
     if is_keyword(word, b"MASK") {
-        return Some(Field::Mask);
+        return Some(ScanField::Mask);
     }
     if is_keyword(word, b"SMASK") {
-        return Some(Field::Smask);
+        return Some(ScanField::Smask);
     }
     None
 }
@@ -88,24 +88,24 @@ fn are_hex(word: &[u8]) -> bool
 }
 
 /// The fields with one more; none where it is among them.
-fn put_field(spans: FieldSpans, field: Field, digits: Span) -> Option<FieldSpans>
-    ensures fields { (kept : List ℕ) → fields_if kept result ≡ put_field (fields_of kept spans) field (bytes_in kept digits) }
+fn with_field(spans: FieldSpans, field: ScanField, digits: Span) -> Option<FieldSpans>
+    ensures fields { (kept : List ℕ) → fields_if kept result ≡ with_field (fields_of kept spans) field (bytes_in kept digits) }
     ensures within { (n : ℕ) → AreWithin n spans → span_end digits ≤ n → IfSome result (AreWithin n) }
 {
     match field {
-        Field::Tdi if spans.tdi.is_none() => Some(FieldSpans {
+        ScanField::Tdi if spans.tdi.is_none() => Some(FieldSpans {
             tdi: Some(digits),
             ..spans
         }),
-        Field::Tdo if spans.tdo.is_none() => Some(FieldSpans {
+        ScanField::Tdo if spans.tdo.is_none() => Some(FieldSpans {
             tdo: Some(digits),
             ..spans
         }),
-        Field::Mask if spans.mask.is_none() => Some(FieldSpans {
+        ScanField::Mask if spans.mask.is_none() => Some(FieldSpans {
             mask: Some(digits),
             ..spans
         }),
-        Field::Smask if spans.smask.is_none() => Some(FieldSpans {
+        ScanField::Smask if spans.smask.is_none() => Some(FieldSpans {
             smask: Some(digits),
             ..spans
         }),
@@ -114,7 +114,12 @@ fn put_field(spans: FieldSpans, field: Field, digits: Span) -> Option<FieldSpans
 }
 
 /// The fields with the one whose digits were kept from `from` on; none where it has no digit, or is among them.
-fn closed_field(source: &Source, spans: FieldSpans, field: Field, from: usize) -> Option<FieldSpans>
+fn closed_field(
+    source: &Source,
+    spans: FieldSpans,
+    field: ScanField,
+    from: usize,
+) -> Option<FieldSpans>
     requires from { from ≤ length source.now.kept }
     ensures fields { fields_if source.now.kept result ≡ closed_field (fields_of source.now.kept spans) field (drop from source.now.kept) }
     ensures within { AreWithin (length source.now.kept) spans → IfSome result (AreWithin (length source.now.kept)) }
@@ -123,7 +128,7 @@ fn closed_field(source: &Source, spans: FieldSpans, field: Field, from: usize) -
     if from == end {
         return None;
     }
-    put_field(spans, field, Span::new(from, end))
+    with_field(spans, field, Span::new(from, end))
 }
 
 /// The reader of a scan after one token more, which is passed, or kept where it is digits; none where no scan goes on
@@ -131,39 +136,39 @@ fn closed_field(source: &Source, spans: FieldSpans, field: Field, from: usize) -
 fn scan_step(source: &mut Source, scanner: Scanner, token: NextToken) -> Option<Scanner>
     requires token { token_size token ≤ length source.old.rest }
     requires within { IsWithin (length source.old.kept) scanner }
-    ensures scans { scanning_of source.new.kept result ≡ scan_step (at_of source.old.kept scanner.place) (fields_of source.old.kept scanner.spans) (token_of token source.old.rest) }
+    ensures scans { scanning_of source.new.kept result ≡ scan_step (scan_place_of source.old.kept scanner.place) (fields_of source.old.kept scanner.spans) (token_of token source.old.rest) }
     ensures within { IfSome result (IsWithin (length source.new.kept)) }
     ensures steps { IfSome result (λ s. StepsOver (token_size token) source.old source.new) }
 {
     let spans = scanner.spans;
     match (scanner.place, token) {
-        (Place::Between, NextToken::Word(length)) => {
+        (ScannerPlace::Between, NextToken::Word(length)) => {
             let field = field_by_name(&source.rest()[..length])?;
             source.skip(length);
             Some(Scanner {
-                place: Place::Named(field),
+                place: ScannerPlace::Named(field),
                 spans,
             })
         }
-        (Place::Named(field), NextToken::Open) => {
+        (ScannerPlace::Named(field), NextToken::Open) => {
             source.skip(1);
             Some(Scanner {
-                place: Place::Inside(field, source.kept().len()),
+                place: ScannerPlace::Inside(field, source.kept().len()),
                 spans,
             })
         }
-        (Place::Inside(_, _), NextToken::Word(length)) => {
+        (ScannerPlace::Inside(_, _), NextToken::Word(length)) => {
             if !are_hex(&source.rest()[..length]) {
                 return None;
             }
             source.keep(length);
             Some(scanner)
         }
-        (Place::Inside(field, from), NextToken::Close) => {
+        (ScannerPlace::Inside(field, from), NextToken::Close) => {
             source.skip(1);
             let spans = closed_field(source, spans, field, from)?;
             Some(Scanner {
-                place: Place::Between,
+                place: ScannerPlace::Between,
                 spans,
             })
         }
@@ -178,7 +183,7 @@ pub(crate) fn fields(source: &mut Source) -> Option<FieldSpans>
     ensures reads_on { IfSome result (λ g. ReadsOn source.old source.new) }
 {
     let mut scanner = Scanner {
-        place: Place::Between,
+        place: ScannerPlace::Between,
         spans: FieldSpans {
             tdi: None,
             tdo: None,
@@ -193,7 +198,7 @@ pub(crate) fn fields(source: &mut Source) -> Option<FieldSpans>
         }
     }
     match scanner.place {
-        Place::Between => Some(scanner.spans),
+        ScannerPlace::Between => Some(scanner.spans),
         _ => None,
     }
 }

@@ -18,9 +18,11 @@ use crate::fields::{FieldSpans, fields};
 use crate::source::Source;
 use crate::span::Span;
 use crate::statement::ScannedRegister;
-use crate::stored::{Stored, StoredScan};
+use crate::stored::{StoredScan, StoredStatement};
 use crate::token::{NextToken, next_within, pass_end};
-use crate::words::{Words, is_free_word, is_keyword, number_within, statement_of_kept, with_word};
+use crate::words::{
+    KeptWords, is_free_word, is_keyword, number_within, statement_of_kept, with_word,
+};
 
 /// The most bits of a scan.
 const MOST_BITS: u32 = 1 << 29;
@@ -51,12 +53,12 @@ fn are_free_tokens(source: &mut Source) -> bool
 }
 
 /// The statement of tokens without meaning that come next, which are passed.
-fn free_statement(source: &mut Source) -> Option<Stored>
+fn free_statement(source: &mut Source) -> Option<StoredStatement>
     ensures says { IsStored source.new.kept result (some_if (list_all is_free_token (tokens_before_end (tokens_left source.old))) StatementData.Nothing) }
     ensures reads_on { IfSome result (λ s. ReadsOn source.old source.new) }
 {
     if are_free_tokens(source) {
-        Some(Stored::Nothing)
+        Some(StoredStatement::Nothing)
     } else {
         None
     }
@@ -75,12 +77,12 @@ fn keep_word(source: &mut Source, size: usize) -> Span
 }
 
 /// The statement of a keyword, which is kept, and of the words that come next, which are kept too.
-fn words_statement(source: &mut Source, key: Span) -> Option<Stored>
+fn words_statement(source: &mut Source, key: Span) -> Option<StoredStatement>
     requires key { span_end key ≤ length source.old.kept }
     ensures says { IsStored source.new.kept result (if_words (bytes_in source.old.kept key) (words_of (tokens_before_end (tokens_left source.old)))) }
     ensures reads_on { IfSome result (λ s. ReadsOn source.old source.new) }
 {
-    let mut words = Words::None;
+    let mut words = KeptWords::None;
     while let Some(token) = next_within(source) {
         let NextToken::Word(size) = token else {
             return None;
@@ -162,7 +164,7 @@ fn scan_of_fields(
     register: ScannedRegister,
     count: u32,
     spans: FieldSpans,
-) -> Option<Stored>
+) -> Option<StoredStatement>
     requires { AreWithin (length kept.now) spans }
     ensures { IsStored kept.now result (scan_by register count (Some (fields_of kept.now spans))) }
 {
@@ -170,7 +172,7 @@ fn scan_of_fields(
         return None;
     }
     let tdi = spans.tdi?;
-    Some(Stored::Scan(StoredScan {
+    Some(StoredStatement::Scan(StoredScan {
         register,
         bit_count: count,
         tdi,
@@ -196,7 +198,7 @@ fn scan_count(source: &mut Source) -> Option<u32>
 }
 
 /// The scan whose keyword was passed. Its digits are kept.
-fn scan(source: &mut Source, register: ScannedRegister) -> Option<Stored>
+fn scan(source: &mut Source, register: ScannedRegister) -> Option<StoredStatement>
     ensures says { IsStored source.new.kept result (scan_of register (tokens_before_end (tokens_left source.old))) }
     ensures reads_on { IfSome result (λ s. ReadsOn source.old source.new) }
 {
@@ -206,7 +208,7 @@ fn scan(source: &mut Source, register: ScannedRegister) -> Option<Stored>
 }
 
 /// The statement of a keyword, which is kept, and of what comes next.
-fn statement_by(source: &mut Source, key: Span) -> Option<Stored>
+fn statement_by(source: &mut Source, key: Span) -> Option<StoredStatement>
     requires key { span_end key ≤ length source.old.kept }
     ensures says { IsStored source.new.kept result (statement_by (bytes_in source.old.kept key) (tokens_before_end (tokens_left source.old))) }
     ensures reads_on { IfSome result (λ s. ReadsOn source.old source.new) }
@@ -226,7 +228,7 @@ fn statement_by(source: &mut Source, key: Span) -> Option<Stored>
 
 /// The statement that comes next, up to its `;`. Its keyword, and the digits of a scan or the words of another, are
 /// kept.
-fn statement(source: &mut Source) -> Option<Stored>
+fn statement(source: &mut Source) -> Option<StoredStatement>
     ensures says { IsStored source.new.kept result (statement_of (tokens_before_end (tokens_left source.old))) }
     ensures reads_on { IfSome result (λ s. ReadsOn source.old source.new) }
     ensures passed { IfSome result (λ s. length source.new.rest < length source.old.rest) }
@@ -239,7 +241,7 @@ fn statement(source: &mut Source) -> Option<Stored>
 }
 
 /// The statement that comes next, with its `;`.
-pub(crate) fn first_statement(source: &mut Source) -> Option<Stored>
+pub(crate) fn first_statement(source: &mut Source) -> Option<StoredStatement>
     ensures says { IsStored source.new.kept result (first_statement (tokens_left source.old)) }
     ensures prefix { IfSome result (λ s. StaysKept source.old.kept source.new.kept) }
     ensures after_end { IfSome result (λ s. tokens_after_end (tokens_left source.old) ≡ Some (tokens_left source.new)) }

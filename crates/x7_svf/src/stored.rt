@@ -10,7 +10,7 @@ use crate::statement::{Scan, ScannedRegister, Statement};
 
 /// A statement in few bytes, as a long text has many statements. The digits of a scan are kept apart.
 #[derive(Clone, Copy)]
-pub(crate) enum Stored {
+pub(crate) enum StoredStatement {
     Reset,
     Idle,
     Run(u32),
@@ -40,20 +40,20 @@ fn bits_if(kept: &[u8], count: u32, digits: Option<Span>) -> Option<Bits<'_>>
 }
 
 /// A statement with its digits, which are among those kept.
-pub(crate) fn statement_of<'t>(stored: &Stored, kept: &'t [u8]) -> Statement<'t>
+pub(crate) fn statement_of<'t>(stored: &StoredStatement, kept: &'t [u8]) -> Statement<'t>
     requires { IsStoredWithin (length kept.now) stored.now }
     ensures { result ≡ statement_in kept.now stored.now }
 {
     match stored {
-        Stored::Reset => Statement::Reset,
-        Stored::Idle => Statement::Idle,
-        Stored::Run(count) => Statement::Run(*count),
-        Stored::Scan(scan) => Statement::Scan(Scan {
+        StoredStatement::Reset => Statement::Reset,
+        StoredStatement::Idle => Statement::Idle,
+        StoredStatement::Run(count) => Statement::Run(*count),
+        StoredStatement::Scan(scan) => Statement::Scan(Scan {
             register: scan.register,
             tdi: Bits::new(scan.bit_count, scan.tdi.bytes_in(kept)),
             tdo: bits_if(kept, scan.bit_count, scan.tdo),
             mask: bits_if(kept, scan.bit_count, scan.mask),
         }),
-        Stored::Nothing => Statement::Nothing,
+        StoredStatement::Nothing => Statement::Nothing,
     }
 }

@@ -11,7 +11,7 @@ use crate::fault::SvfFault;
 use crate::reader::first_statement;
 use crate::source::Source;
 use crate::statement::Statement;
-use crate::stored::{Stored, statement_of};
+use crate::stored::{StoredStatement, statement_of};
 use crate::token::next;
 use std::alloc::Global;
 use std::marker::Model;
@@ -22,7 +22,7 @@ pub const SVF_TEXT_LIMIT: usize = 1 << 29;
 /// The statements of a text, fewer than the bytes that a text may have.
 #[derive(Drop)]
 pub struct Svf {
-    statements: Vec<Stored>,
+    statements: Vec<StoredStatement>,
     // the digits of their scans, among keywords and the words of other statements
     digits: Vec<u8>,
 }
@@ -49,11 +49,11 @@ impl Svf {
         self.statements.len()
     }
 
-    /// Statement i, from 0, and none exactly past the last.
-    pub fn statement(&self, i: usize) -> Option<Statement<'_>>
-        ensures { result ≡ slice_get self.now i }
+    /// Statement `index`, from 0, and none exactly past the last.
+    pub fn statement(&self, index: usize) -> Option<Statement<'_>>
+        ensures { result ≡ slice_get self.now index }
     {
-        match self.statements.get(i) {
+        match self.statements.get(index) {
             Some(stored) => Some(statement_of(stored, &self.digits)),
             None => None,
         }
@@ -61,7 +61,7 @@ impl Svf {
 }
 
 /// The statements of a text without comments. The digits of their scans are kept.
-fn statements(alloc: Global, source: &mut Source) -> Result<Vec<Stored>, SvfFault>
+fn statements(alloc: Global, source: &mut Source) -> Result<Vec<StoredStatement>, SvfFault>
     requires none_kept { source.old.kept ≡ [] }
     requires within_limit { length source.old.rest ≤ svf_text_limit }
     ensures says { MatchResult result (λ s. outcome (tokens_left source.old) ≡ Ok (statements_in source.new.kept s.items))

@@ -1,7 +1,7 @@
 //! The next word, bracket or end of a text without comments.
 ghost use Rattle.std.specs.Prelude.{◌≡◌, ◌+◌, ◌<◌, ◌≤◌, ◌∷◌, [], ℕ, List, true, false, length, MatchOption, IfSome, Some, None, slice_index, drop, take};
 ghost use Rattle.x7_svf.specs.Token.{byte_token, is_blank_byte, is_word_byte, token_of, tokens, token_size, Word};
-ghost use Rattle.x7_svf.specs.Reading.{ComesNext, PassesBlanks};
+ghost use Rattle.x7_svf.specs.Reading.{TokenComesNext, PassesBlanks};
 ghost use Rattle.x7_svf.specs.Source.{left_after, left_from, tokens_left};
 ghost use Rattle.x7_svf.specs.Svf.{tokens_before_end, tokens_after_end};
 
@@ -100,7 +100,7 @@ fn skip_blanks(source: &mut Source)
 pub(crate) fn next(source: &mut Source) -> Option<NextToken>
     ensures tokens { MatchOption result (tokens_left source.old ≡ [])
         (λ t. tokens_left source.old ≡ left_from source.new t) }
-    ensures comes_next { IfSome result (ComesNext source.new) }
+    ensures comes_next { IfSome result (TokenComesNext source.new) }
     ensures blanks { PassesBlanks source.old source.new }
 {
     skip_blanks(source);
@@ -117,7 +117,7 @@ pub(crate) fn next_within(source: &mut Source) -> Option<NextToken>
     ensures tokens { MatchOption result (tokens_before_end (tokens_left source.old) ≡ [])
         (λ t. tokens_before_end (tokens_left source.old) ≡ token_of t source.new.rest ∷ tokens_before_end (left_after source.new t)) }
     ensures after_end { IfSome result (λ t. tokens_after_end (tokens_left source.old) ≡ tokens_after_end (left_after source.new t)) }
-    ensures comes_next { IfSome result (ComesNext source.new) }
+    ensures comes_next { IfSome result (TokenComesNext source.new) }
     ensures blanks { PassesBlanks source.old source.new }
 {
     let token = next(source)?;

@@ -7,7 +7,7 @@ ghost use Rattle.x7_svf.specs.Stored.{IsStored};
 ghost use Rattle.std.specs.List.{list_all};
 
 use crate::span::Span;
-use crate::stored::Stored;
+use crate::stored::StoredStatement;
 
 /// The most clocks of a run: 2^24.
 const MOST_CLOCKS: u32 = 16_777_216;
@@ -87,23 +87,23 @@ pub(crate) fn is_free_word(word: &[u8]) -> bool
 }
 
 /// The run of as many clocks as the digits say.
-fn run_for(digits: &[u8]) -> Option<Stored>
+fn run_for(digits: &[u8]) -> Option<StoredStatement>
     ensures { IsStored [] result (run_by (number_within most_clocks digits.now)) }
 {
     let count = number_within(digits, MOST_CLOCKS)?;
-    Some(Stored::Run(count))
+    Some(StoredStatement::Run(count))
 }
 
 /// The statement of the words after STATE.
-fn state_statement(words: &[&[u8]]) -> Option<Stored>
+fn state_statement(words: &[&[u8]]) -> Option<StoredStatement>
     ensures { IsStored [] result (state_statement (word_list words.now)) }
 {
     match words {
         [word] => {
             if is_keyword(word, b"RESET") {
-                Some(Stored::Reset)
+                Some(StoredStatement::Reset)
             } else if is_keyword(word, b"IDLE") {
-                Some(Stored::Idle)
+                Some(StoredStatement::Idle)
             } else {
                 None
             }
@@ -127,7 +127,7 @@ fn are_timed_clocks(unit: &[u8], time: &[u8], second: &[u8]) -> bool
 }
 
 /// The statement of the words after RUNTEST.
-fn runtest_statement(words: &[&[u8]]) -> Option<Stored>
+fn runtest_statement(words: &[&[u8]]) -> Option<StoredStatement>
     ensures { IsStored [] result (runtest_statement (word_list words.now)) }
 {
     match words {
@@ -135,7 +135,7 @@ fn runtest_statement(words: &[&[u8]]) -> Option<Stored>
             if is_keyword(unit, b"TCK") {
                 run_for(count)
             } else if is_keyword(unit, b"SEC") && is_time(count) {
-                Some(Stored::Nothing)
+                Some(StoredStatement::Nothing)
             } else {
                 None
             }
@@ -159,13 +159,13 @@ fn runtest_statement(words: &[&[u8]]) -> Option<Stored>
 }
 
 /// The statement of the words after ENDIR or ENDDR: IDLE alone.
-fn end_state_statement(words: &[&[u8]]) -> Option<Stored>
+fn end_state_statement(words: &[&[u8]]) -> Option<StoredStatement>
     ensures { IsStored [] result (end_state_statement (word_list words.now)) }
 {
     match words {
         [word] => {
             if is_keyword(word, b"IDLE") {
-                Some(Stored::Nothing)
+                Some(StoredStatement::Nothing)
             } else {
                 None
             }
@@ -176,13 +176,13 @@ fn end_state_statement(words: &[&[u8]]) -> Option<Stored>
 
 /// The statement of the words after HIR, HDR, TIR or TDR, the bits of other devices in the chain: 0 alone, as none
 /// stands in it.
-fn chain_statement(words: &[&[u8]]) -> Option<Stored>
+fn chain_statement(words: &[&[u8]]) -> Option<StoredStatement>
     ensures { IsStored [] result (chain_statement (word_list words.now)) }
 {
     match words {
         [word] => {
             if is_keyword(word, b"0") {
-                Some(Stored::Nothing)
+                Some(StoredStatement::Nothing)
             } else {
                 None
             }
@@ -192,13 +192,13 @@ fn chain_statement(words: &[&[u8]]) -> Option<Stored>
 }
 
 /// The statement of the words after TRST.
-fn trst_statement(words: &[&[u8]]) -> Option<Stored>
+fn trst_statement(words: &[&[u8]]) -> Option<StoredStatement>
     ensures { IsStored [] result (trst_statement (word_list words.now)) }
 {
     match words {
         [word] => {
             if is_free_word(word) {
-                Some(Stored::Nothing)
+                Some(StoredStatement::Nothing)
             } else {
                 None
             }
@@ -208,7 +208,7 @@ fn trst_statement(words: &[&[u8]]) -> Option<Stored>
 }
 
 /// The statement of a keyword and the words after it.
-fn statement_of_words(key: &[u8], words: &[&[u8]]) -> Option<Stored>
+fn statement_of_words(key: &[u8], words: &[&[u8]]) -> Option<StoredStatement>
     ensures { IsStored [] result (statement_of_words key.now (word_list words.now)) }
 {
     if is_keyword(key, b"STATE") {
@@ -235,7 +235,7 @@ fn statement_of_words(key: &[u8], words: &[&[u8]]) -> Option<Stored>
 
 /// The words after a keyword by where they are kept. No statement has more than four.
 #[derive(Clone, Copy)]
-pub(crate) enum Words {
+pub(crate) enum KeptWords {
     None,
     One(Span),
     Two(Span, Span),
@@ -244,45 +244,49 @@ pub(crate) enum Words {
 }
 
 /// One word more, where there are fewer than four.
-pub(crate) fn with_word(words: Words, word: Span) -> Option<Words>
+pub(crate) fn with_word(words: KeptWords, word: Span) -> Option<KeptWords>
     ensures one_more { (kept : List ℕ) → IfSome result (λ r. words_kept kept r ≡ words_kept kept words ++ bytes_in kept word ∷ []) }
     ensures full_at_four { (kept : List ℕ) → IfNone result (length (words_kept kept words) ≡ 4) }
     ensures within { (n : ℕ) → AreWordsWithin n words → span_end word ≤ n → IfSome result (AreWordsWithin n) }
 {
     match words {
-        Words::None => Some(Words::One(word)),
-        Words::One(first) => Some(Words::Two(first, word)),
-        Words::Two(first, second) => Some(Words::Three(first, second, word)),
-        Words::Three(first, second, third) => Some(Words::Four(first, second, third, word)),
-        Words::Four(_, _, _, _) => None,
+        KeptWords::None => Some(KeptWords::One(word)),
+        KeptWords::One(first) => Some(KeptWords::Two(first, word)),
+        KeptWords::Two(first, second) => Some(KeptWords::Three(first, second, word)),
+        KeptWords::Three(first, second, third) => Some(KeptWords::Four(first, second, third, word)),
+        KeptWords::Four(_, _, _, _) => None,
     }
 }
 
 /// The statement of a keyword and the words after it, which are kept.
-pub(crate) fn statement_of_kept(kept: &[u8], key: Span, words: Words) -> Option<Stored>
+pub(crate) fn statement_of_kept(kept: &[u8], key: Span, words: KeptWords) -> Option<StoredStatement>
     requires key { span_end key ≤ length kept.now }
     requires words { AreWordsWithin (length kept.now) words }
     ensures { IsStored [] result (statement_of_words (bytes_in kept.now key) (words_kept kept.now words)) }
 {
     let key = key.bytes_in(kept);
     match words {
-        Words::None => None,
-        Words::One(a) => statement_of_words(key, &[a.bytes_in(kept)]),
-        Words::Two(a, b) => statement_of_words(key, &[a.bytes_in(kept), b.bytes_in(kept)]),
-        Words::Three(a, b, c) => statement_of_words(
-            key,
-            &[a.bytes_in(kept), b.bytes_in(kept), c.bytes_in(kept)],
-        ),
-        Words::Four(a, b, c, d) => {
-            statement_of_words(
-                key,
-                &[
-                    a.bytes_in(kept),
-                    b.bytes_in(kept),
-                    c.bytes_in(kept),
-                    d.bytes_in(kept),
-                ],
-            )
+        KeptWords::None => None,
+        KeptWords::One(first) => statement_of_words(key, &[first.bytes_in(kept)]),
+        KeptWords::Two(first, second) => {
+            statement_of_words(key, &[first.bytes_in(kept), second.bytes_in(kept)])
         }
+        KeptWords::Three(first, second, third) => statement_of_words(
+            key,
+            &[
+                first.bytes_in(kept),
+                second.bytes_in(kept),
+                third.bytes_in(kept),
+            ],
+        ),
+        KeptWords::Four(first, second, third, fourth) => statement_of_words(
+            key,
+            &[
+                first.bytes_in(kept),
+                second.bytes_in(kept),
+                third.bytes_in(kept),
+                fourth.bytes_in(kept),
+            ],
+        ),
     }
 }

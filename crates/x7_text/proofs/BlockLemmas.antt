@@ -67,7 +67,9 @@ looked_up js long small =
     get_or-swz_l_below w8 16 table 0 js i within below ∙ table_digit (16 * ((0 + i) / 16) + get_or js i 0) (omega (arith, within, long, below)) ∙ ap hex_digit rest ∙ sym (get_or-map hex_digit js i 0 0 within))
 
 abbrev pub positions : List ℕ
-positions = 0 ∷ 32 ∷ 1 ∷ 33 ∷ 2 ∷ 34 ∷ 3 ∷ 35 ∷ 4 ∷ 36 ∷ 5 ∷ 37 ∷ 6 ∷ 38 ∷ 7 ∷ 39 ∷ 8 ∷ 40 ∷ 9 ∷ 41 ∷ 10 ∷ 42 ∷ 11 ∷ 43 ∷ 12 ∷ 44 ∷ 13 ∷ 45 ∷ 14 ∷ 46 ∷ 15 ∷ 47 ∷ 16 ∷ 48 ∷ 17 ∷ 49 ∷ 18 ∷ 50 ∷ 19 ∷ 51 ∷ 20 ∷ 52 ∷ 21 ∷ 53 ∷ 22 ∷ 54 ∷ 23 ∷ 55 ∷ 24 ∷ 56 ∷ 25 ∷ 57 ∷ 26 ∷ 58 ∷ 27 ∷ 59 ∷ 28 ∷ 60 ∷ 29 ∷ 61 ∷ 30 ∷ 62 ∷ 31 ∷ 63 ∷ []
+positions =
+    0 ∷ 32 ∷ 1 ∷ 33 ∷ 2 ∷ 34 ∷ 3 ∷ 35 ∷ 4 ∷ 36 ∷ 5 ∷ 37 ∷ 6 ∷ 38 ∷ 7 ∷ 39 ∷ 8 ∷ 40 ∷ 9 ∷ 41 ∷ 10 ∷ 42 ∷ 11 ∷ 43 ∷ 12 ∷ 44 ∷ 13 ∷ 45 ∷ 14 ∷ 46 ∷ 15 ∷ 47 ∷ 16 ∷ 48 ∷ 17
+    ∷ 49 ∷ 18 ∷ 50 ∷ 19 ∷ 51 ∷ 20 ∷ 52 ∷ 21 ∷ 53 ∷ 22 ∷ 54 ∷ 23 ∷ 55 ∷ 24 ∷ 56 ∷ 25 ∷ 57 ∷ 26 ∷ 58 ∷ 27 ∷ 59 ∷ 28 ∷ 60 ∷ 29 ∷ 61 ∷ 30 ∷ 62 ∷ 31 ∷ 63 ∷ []
 
 low_half : (b : ℕ) → bit_and b 15 ≡ b % 2 ^ 4
 low_half b = and_high b 4 0 ∙ omega arith
@@ -76,7 +78,7 @@ low_half b = and_high b 4 0 ∙ omega arith
 abbrev pub halves : List ℕ → List ℕ
 halves bs = flat_map (λ b. b / 2 ^ 4 ∷ b % 2 ^ 4 ∷ []) bs
 
-masked_are : (bs : List ℕ) → flat_map (λ b. b / 2 ^ 4 ∷ bit_and b 15 ∷ []) bs ≡ halves bs
+pub masked_are : (bs : List ℕ) → flat_map (λ b. b / 2 ^ 4 ∷ bit_and b 15 ∷ []) bs ≡ halves bs
 masked_are [] = refl
 masked_are (b ∷ bs) = ap₂ (λ (x : ℕ) (t : List ℕ). b / 2 ^ 4 ∷ x ∷ t) (low_half b) (masked_are bs)
 

@@ -1,5 +1,6 @@
 pub mod AppendsLemmas
 pub mod BlockLemmas
+pub mod SixteenLemmas
 pub mod ByteLemmas
 pub mod CaseLemmas
 pub mod DecodeLemmas

@@ -6,7 +6,9 @@ use Rattle.x7_text.specs.Row.{line_start, bytes_text, close, data_text, line_end
 
 pub open_text_append : (n : ℕ) (keyword : List ℕ) (text : ℕ → List ℕ) (i : ℕ) (xs ys : List ℕ) → open_text n keyword text i (xs ++ ys) ≡ open_text n keyword text i xs ++ open_text n keyword text (in_line_after n i xs) ys
 open_text_append n keyword text i [] ys = refl
-open_text_append n keyword text i (x ∷ xs) ys = ap (λ t. element_text n keyword text i x ++ t) (open_text_append n keyword text (next_in_line n i) xs ys) ∙ sym (append_assoc (element_text n keyword text i x) (open_text n keyword text (next_in_line n i) xs) (open_text n keyword text (in_line_after n (next_in_line n i) xs) ys))
+open_text_append n keyword text i (x ∷ xs) ys =
+    ap (λ t. element_text n keyword text i x ++ t) (open_text_append n keyword text (next_in_line n i) xs ys)
+    ∙ sym (append_assoc (element_text n keyword text i x) (open_text n keyword text (next_in_line n i) xs) (open_text n keyword text (in_line_after n (next_in_line n i) xs) ys))
 
 pub in_line_after_append : (n i : ℕ) (xs ys : List ℕ) → in_line_after n i (xs ++ ys) ≡ in_line_after n (in_line_after n i xs) ys
 in_line_after_append n i [] ys = refl
@@ -25,7 +27,10 @@ close_more k = grind (arith, common_steps)
 
 opened_snoc : (keyword : List ℕ) (text : ℕ → List ℕ) (open_row : List ℕ) (x : ℕ) → opened keyword text (open_row ++ x ∷ []) ≡ opened keyword text open_row ++ line_start keyword (length open_row) ++ text x
 opened_snoc keyword text [] x = ap (λ t. keyword ++ t) (append-nil (text x))
-opened_snoc keyword text (y ∷ ys) x = ap (λ t. keyword ++ t) (flat_map-append text (y ∷ ys) (x ∷ []) ∙ ap (λ t. flat_map text (y ∷ ys) ++ t) (append-nil (text x))) ∙ sym (append_assoc keyword (flat_map text (y ∷ ys)) (text x)) ∙ ap (λ t. t ++ text x) (sym (append-nil (keyword ++ flat_map text (y ∷ ys)))) ∙ ap (λ t. keyword ++ flat_map text (y ∷ ys) ++ t ++ text x) (sym (line_start_more keyword (length ys)))
+opened_snoc keyword text (y ∷ ys) x =
+    ap (λ t. keyword ++ t) (flat_map-append text (y ∷ ys) (x ∷ []) ∙ ap (λ t. flat_map text (y ∷ ys) ++ t) (append-nil (text x)))
+    ∙ sym (append_assoc keyword (flat_map text (y ∷ ys)) (text x)) ∙ ap (λ t. t ++ text x) (sym (append-nil (keyword ++ flat_map text (y ∷ ys))))
+    ∙ ap (λ t. keyword ++ flat_map text (y ∷ ys) ++ t ++ text x) (sym (line_start_more keyword (length ys)))
 
 line_opened : (keyword : List ℕ) (text : ℕ → List ℕ) (open_row : List ℕ) (x : ℕ) → line keyword text (open_row ++ x ∷ []) ≡ opened keyword text (open_row ++ x ∷ []) ++ 10 ∷ []
 line_opened keyword text [] x = simp append_assoc
@@ -44,10 +49,13 @@ Closes n keyword text open_row k xs = opened keyword text open_row ++ open_text 
 closing_by : (n : ℕ) (keyword : List ℕ) (text : ℕ → List ℕ) (open_row : List ℕ) (k x : ℕ) (xs : List ℕ) (b : Bool) → k ≡ length open_row → (length open_row + 1 == n) ≡ b
     → Closes n keyword text [] 0 xs → Closes n keyword text (open_row ++ x ∷ []) (length open_row + 1) xs → Closes n keyword text open_row k (x ∷ xs)
 closing_by n keyword text open_row k x xs true same e full more =
-    rw (same, e) (full_glue (opened keyword text open_row) (line_start keyword (length open_row)) (text x) (open_text n keyword text 0 xs) (close (in_line_after n 0 xs)) (opened keyword text (open_row ++ x ∷ [])) (flat_map (line keyword text) (rows_from n [] xs)) (opened_snoc keyword text open_row x) full
+    rw (same, e)
+    (full_glue (opened keyword text open_row) (line_start keyword (length open_row)) (text x) (open_text n keyword text 0 xs) (close (in_line_after n 0 xs)) (opened keyword text (open_row ++ x ∷ [])) (flat_map (line keyword text) (rows_from n [] xs)) (opened_snoc keyword text open_row x) full
     ∙ ap (λ t. t ++ flat_map (line keyword text) (rows_from n [] xs)) (sym (line_opened keyword text open_row x)))
 closing_by n keyword text open_row k x xs false same e full more =
-    rw (same, e) (more_glue (opened keyword text open_row) (line_start keyword (length open_row)) (text x) (open_text n keyword text (length open_row + 1) xs) (close (in_line_after n (length open_row + 1) xs)) (opened keyword text (open_row ++ x ∷ [])) (flat_map (line keyword text) (rows_from n (open_row ++ x ∷ []) xs)) (opened_snoc keyword text open_row x) more)
+    rw (same, e) (more_glue (opened keyword text open_row) (line_start keyword (length open_row)) (text x) (open_text n keyword text (length open_row + 1) xs)
+    (close (in_line_after n (length open_row + 1) xs)) (opened keyword text (open_row ++ x ∷ [])) (flat_map (line keyword text) (rows_from n (open_row ++ x ∷ []) xs))
+    (opened_snoc keyword text open_row x) more)
 
 pub closing : (n : ℕ) (keyword : List ℕ) (text : ℕ → List ℕ) (open_row : List ℕ) (k : ℕ) (xs : List ℕ) → k ≡ length open_row → Closes n keyword text open_row k xs
 closing n keyword text [] k [] same = rw same refl

@@ -12,7 +12,7 @@ use Rattle.x7_text.specs.Digits.{hex_byte, hex_word}
 use Rattle.x7_text.specs.Row.{spaced}
 use Rattle.x7_text.proofs.WholeLineLemmas.{length_hex_bytes}
 use Rattle.x7_text.specs.Row.{IsByteRow, IsWordRow}
-use Rattle.x7_text.specs.Reads.{Reads}
+use Rattle.x7_text.specs.Reads.{AppendsIfRead}
 use Rattle.x7_text.specs.DigitValue.{bytes_value}
 use Rattle.x7_text.proofs.ValueLemmas.{byte_back, word_digits}
 use Rattle.x7_text.proofs.DigitLemmas.{refuted}
@@ -67,14 +67,16 @@ no_byte_row ds p r known b prefix value text off is bs row e =
     refuted b off (is (ap (take (length ds)) again ∙ take-append_seam ds (flat_map hex_byte (bytes_value (drop (length ds) p)))))
 
 pub yes_byte_row : (ds r known old new : List ℕ) (n : ℕ) → length r ≡ 32 → ((i : ℕ) → get_or r i 0 < 256) → known ≡ flat_map hex_byte r → take (length ds) known ≡ ds → 0 < n → length ds ≡ 2 * n → n ≤ 32 → new ≡ old ++ take n r
-    → Reads IsByteRow (flat_map hex_byte) (λ (bs : List ℕ). bs) true ds old new
+    → AppendsIfRead IsByteRow (flat_map hex_byte) (λ (bs : List ℕ). bs) true ds old new
 yes_byte_row ds r known old new n long fit text same some two few appended =
     let count : length (take n r) ≡ n = length-take-le n r (omega arith) in
     let is : ds ≡ flat_map hex_byte (take n r) = sym same ∙ ap (take (length ds)) text ∙ ap (λ (j : ℕ). take j (flat_map hex_byte r)) two ∙ take_hex n r (omega arith) in
     let all : AreBytes r = all_from_places (λ b. b < 256) r (λ k l. fit k) in
     (take n r, (all_take (λ b. b < 256) n r all, omega (arith, count), omega (arith, count)), is, appended)
 
-pub no_word_row : (ds p r known : List ℕ) (m : ℕ) (b : Bool) → m ≡ length ds → take (8 * (length ds / 9)) p ≡ flat_map (λ (word : List ℕ). drop 1 word) (first_chunks 9 (length ds / 9) ds) → length p ≡ 64 → r ≡ bytes_value p → known ≡ flat_map spaced (words_of_bytes r) ++ 10 ∷ [] → b ≡ false → (take m known ≡ ds → IsTrue b)
+pub no_word_row : (ds p r known : List ℕ) (m : ℕ) (b : Bool) → m ≡ length ds
+    → take (8 * (length ds / 9)) p ≡ flat_map (λ (word : List ℕ). drop 1 word) (first_chunks 9 (length ds / 9) ds) → length p ≡ 64 → r ≡ bytes_value p
+    → known ≡ flat_map spaced (words_of_bytes r) ++ 10 ∷ [] → b ≡ false → (take m known ≡ ds → IsTrue b)
     → (ws : List ℕ) → IsWordRow ws → ds ≡ flat_map spaced ws → ⊥
 no_word_row ds p r known m b same prefix long value text off is ws row e =
     let nine : length ds ≡ 9 * length ws = ap length e ∙ length_spaced ws in
@@ -90,14 +92,16 @@ no_word_row ds p r known m b same prefix long value text off is ws row e =
     refuted b off (is (ap (λ (j : ℕ). take j known) same ∙ ap (take (length ds)) again ∙ take-append_seam ds (flat_map spaced (words_of_bytes (bytes_value T)) ++ 10 ∷ [])))
 
 pub yes_word_row : (ds r known old new : List ℕ) (m n : ℕ) → m ≡ length ds → length r ≡ 32 → ((i : ℕ) → get_or r i 0 < 256) → known ≡ flat_map spaced (words_of_bytes r) ++ 10 ∷ [] → take m known ≡ ds → 0 < n → length ds ≡ 9 * n → n ≤ 8 → new ≡ old ++ take (4 * n) r
-    → Reads IsWordRow (flat_map spaced) (flat_map bytes_of_word) true ds old new
+    → AppendsIfRead IsWordRow (flat_map spaced) (flat_map bytes_of_word) true ds old new
 yes_word_row ds r known old new m n eq long fit text same some nine few appended =
     let bs : List ℕ = take (4 * n) r in
     let count : length (take (4 * n) r) ≡ 4 * n = length-take-le (4 * n) r (omega arith) in
     let all : AreBytes (take (4 * n) r) = all_take (λ b. b < 256) (4 * n) r (all_from_places (λ b. b < 256) r (λ k l. fit k)) in
     let words : length (words_of_bytes (take (4 * n) r)) ≡ n = length_words (take (4 * n) r) n count in
     let eight : length (words_of_bytes r) ≡ 8 = length_words r 8 long in
-    let is : ds ≡ flat_map spaced (words_of_bytes (take (4 * n) r)) = sym same ∙ ap (λ (j : ℕ). take j known) eq ∙ ap (take (length ds)) text ∙ ap (λ (j : ℕ). take j (flat_map spaced (words_of_bytes r) ++ 10 ∷ [])) nine ∙ take_spaced n (words_of_bytes r) (10 ∷ []) (omega arith) ∙ ap (flat_map spaced) (sym (words_taken n r (omega arith))) in
+    let is : ds ≡ flat_map spaced (words_of_bytes (take (4 * n) r)) =
+    sym same ∙ ap (λ (j : ℕ). take j known) eq ∙ ap (take (length ds)) text ∙ ap (λ (j : ℕ). take j (flat_map spaced (words_of_bytes r) ++ 10 ∷ [])) nine
+    ∙ take_spaced n (words_of_bytes r) (10 ∷ []) (omega arith) ∙ ap (flat_map spaced) (sym (words_taken n r (omega arith))) in
     (words_of_bytes (take (4 * n) r), (words_fit (take (4 * n) r) all, omega (arith, words), omega (arith, words)), is, appended ∙ ap (λ t. old ++ t) (sym (bytes_words (take (4 * n) r) n all count)))
 
 -- a row of one word
@@ -109,7 +113,7 @@ rest_whole : (t : List ℕ) → length t ≡ 9 → take (length t - 1) (drop 1 t
 rest_whole t l = take_all (length t - 1) (drop 1 t) (omega (arith, length-drop 1 t))
 
 pub yes_one_word : (t old new put : List ℕ) (w : ℕ) → length t ≡ 9 → get_or t 0 0 ≡ 32 → w < 2 ^ 32 → take (length t - 1) (drop 1 t) ≡ hex_word w → put ≡ bytes_of_word w → new ≡ old ++ put
-    → Reads IsWordRow (flat_map spaced) (flat_map bytes_of_word) true t old new
+    → AppendsIfRead IsWordRow (flat_map spaced) (flat_map bytes_of_word) true t old new
 yes_one_word t old new put w l s h d b e =
     (w ∷ [], ((h, tt), omega arith, omega arith), led_by t l s ∙ ap (λ r. 32 ∷ r) (sym (rest_whole t l) ∙ d), e ∙ ap (λ p. old ++ p) b)
 

@@ -106,7 +106,9 @@ pub first_bytes : (old begun all known cut new bytes : List ℕ) (n count : ℕ)
 first_bytes old begun all known cut new bytes n count some few long is b e f g h =
     let prefix : List ℕ = take count bytes in
     let number : length (take count bytes) ≡ count = length-take-le count bytes (omega (arith, long, few)) in
-    let shown : cut ≡ begun ++ flat_map hex_byte (take count bytes) = kept_prefix begun all known cut n (2 * count) (omega (arith, e, ap length b, length-append old (codes "bytes "))) f g ∙ ap (λ t. begun ++ take (2 * count) t) is ∙ ap (λ t. begun ++ t) (hex_prefix count bytes (omega (arith, long, few))) in
+    let shown : cut ≡ begun ++ flat_map hex_byte (take count bytes) =
+    kept_prefix begun all known cut n (2 * count) (omega (arith, e, ap length b, length-append old (codes "bytes "))) f g ∙ ap (λ t. begun ++ take (2 * count) t) is
+    ∙ ap (λ t. begun ++ t) (hex_prefix count bytes (omega (arith, long, few))) in
     let known_so : in_line_after 32 0 (take count bytes) ≡ 0 + length (take count bytes) = few_count 32 0 (take count bytes) (omega (arith, number, few)) in
     let ends : close (in_line_after 32 0 (take count bytes)) ≡ 10 ∷ [] = closes (in_line_after 32 0 (take count bytes)) (omega (arith, known_so, number, some)) in
     let text : bytes_text (take count bytes) ≡ (codes "bytes " ++ flat_map hex_byte (take count bytes)) ++ 10 ∷ [] =

@@ -57,8 +57,8 @@ module _ {B F : Type 0} (taken : B → List (List ℕ) → Type 0) (fails : F �
 
   -- Whatever text of fewer than 2^63 bytes, the piece among them, a reader stood for: after a call the reader stands
   -- for that text and the piece, or every text that begins so fails.
-  abbrev pub TakesPiece : {A : Type 0} → ReaderState B → List ℕ → Result A F → (A → ReaderState B) → Type 0
-  TakesPiece old piece result new =
+  abbrev pub TakesTextPiece : {A : Type 0} → ReaderState B → List ℕ → Result A F → (A → ReaderState B) → Type 0
+  TakesTextPiece old piece result new =
       (text : List ℕ) → length (text ++ piece) < taken_bytes_limit → StandsFor taken old text
       → MatchResult result (λ x. StandsFor taken (new x) (text ++ piece)) (λ fault. FailsFrom (fails fault) (text ++ piece))
 

@@ -5,9 +5,9 @@ use Rattle.std.specs.declared.alloc.Global.{Global}
 -- what is read: values that fit, the text of each, and the bytes that it stands for
 module _ {A : Type 0} (fits : A → Type 0) (text bytes : A → List ℕ) where
   -- the text is that of some x that fits, whose bytes were appended; or that of none, and nothing was
-  abbrev pub Reads : Bool → List ℕ → List ℕ → List ℕ → Type 0
-  Reads true t old new = (x : A) × fits x × (t ≡ text x) × (new ≡ old ++ bytes x)
-  Reads false t old new = ((x : A) → fits x → t ≡ text x → ⊥) × (new ≡ old)
+  abbrev pub AppendsIfRead : Bool → List ℕ → List ℕ → List ℕ → Type 0
+  AppendsIfRead true t old new = (x : A) × fits x × (t ≡ text x) × (new ≡ old ++ bytes x)
+  AppendsIfRead false t old new = ((x : A) → fits x → t ≡ text x → ⊥) × (new ≡ old)
 
 -- a text grew by at most `most` bytes, and lost no room
 pub record StaysWithin (old new : Vec ℕ Global) (most : ℕ) : Type 0 where

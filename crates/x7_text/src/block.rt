@@ -1,5 +1,5 @@
 //! Lines of 32 bytes at once: their digits in vector registers, and the line in an array.
-ghost use Rattle.std.specs.Prelude.{◌≡◌, ◌<◌, ◌≤◌, ◌+◌, ◌*◌, ◌/◌, ◌%◌, ◌^◌, [], ◌∷◌, length, take, map, codes};
+ghost use Rattle.std.specs.Prelude.{◌≡◌, ◌<◌, ◌≤◌, ◌+◌, ◌*◌, ◌/◌, ◌%◌, ◌^◌, ◌++◌, [], ◌∷◌, length, take, map, codes};
 ghost use Rattle.std.specs.List.{flat_map};
 ghost use Rattle.std.specs.Simd.Lanes.{Each1, chunk};
 ghost use Rattle.x7_text.specs.Digits.{hex_byte, hex_digit};
@@ -84,6 +84,38 @@ pub(crate) fn hex_of_four(bytes: &[u8; 4]) -> [u8; 8]
     ensures { result ≡ flat_map hex_byte bytes.now }
 {
     eight_hex_digits(halves_of_four(u8x4::from_array(*bytes))).to_array()
+}
+
+/// The digits of sixteen numbers below 16.
+#[inline(always)]
+fn sixteen_hex_digits(numbers: u8x16) -> u8x16
+    requires lanes { length numbers ≡ 16 }
+    requires below { Each1 (λ n. n < 16) numbers }
+    ensures { result ≡ map hex_digit numbers }
+{
+    let is_letter = numbers.simd_gt(u8x16::splat(9));
+    numbers + is_letter.select(u8x16::splat(b'A' - 10), u8x16::splat(b'0'))
+}
+
+/// The two upper-case digits of each of sixteen bytes: those of the first eight bytes, and those of the others.
+#[inline(always)]
+pub fn hex_of_sixteen(bytes: &[u8; 16]) -> ([u8; 16], [u8; 16])
+    ensures { result.0 ++ result.1 ≡ flat_map hex_byte bytes.now }
+{
+    let lanes = u8x16::from_array(*bytes);
+    let (high, low) = (lanes >> 4, lanes & u8x16::splat(15));
+    let first = high.shuffle(
+        low,
+        [0, 16, 1, 17, 2, 18, 3, 19, 4, 20, 5, 21, 6, 22, 7, 23],
+    );
+    let second = high.shuffle(
+        low,
+        [8, 24, 9, 25, 10, 26, 11, 27, 12, 28, 13, 29, 14, 30, 15, 31],
+    );
+    (
+        sixteen_hex_digits(first).to_array(),
+        sixteen_hex_digits(second).to_array(),
+    )
 }
 
 /// How many bytes of text a full `data` line has, with its line end.

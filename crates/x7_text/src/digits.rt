@@ -10,10 +10,10 @@ use x7_words::bytes_of;
 
 /// The eight upper-case digits of a word.
 #[inline(always)]
-pub fn hex_of_word(w: u32) -> [u8; 8]
-    ensures { result ≡ hex_word w }
+pub fn hex_of_word(word: u32) -> [u8; 8]
+    ensures { result ≡ hex_word word }
 {
-    hex_of_four(&bytes_of(w))
+    hex_of_four(&bytes_of(word))
 }
 
 /// The two upper-case digits of each byte, from 00 to FF.
@@ -39,20 +39,20 @@ static BYTE_DIGITS: [[u8; 2]; 256] = [
 
 /// The two upper-case digits of a byte.
 #[inline(always)]
-pub fn hex_of_byte(b: u8) -> [u8; 2]
-    ensures { result ≡ hex_byte b }
+pub fn hex_of_byte(byte: u8) -> [u8; 2]
+    ensures { result ≡ hex_byte byte }
 {
-    BYTE_DIGITS[usize::from(b)]
+    BYTE_DIGITS[usize::from(byte)]
 }
 
 /// The most decimal digits that a number of 64 bits has.
-pub(crate) const MOST_DIGITS: usize = 20;
+pub const MOST_DIGITS: usize = 20;
 
 /// Appends the decimal digits of a number, without leading zeros. It takes no memory.
-pub fn put_decimal(text: &mut Vec<u8>, n: u64)
+pub fn put_decimal(text: &mut Vec<u8>, number: u64)
     requires { HasSpareRoom text.old most_digits }
-    ensures appends { Appends text.old text.new (decimal n) most_digits }
+    ensures appends { Appends text.old text.new (decimal number) most_digits }
 {
     let mut buffer = Buffer::new();
-    put(text, buffer.format(n).as_bytes());
+    put(text, buffer.format(number).as_bytes());
 }

@@ -4,7 +4,7 @@ ghost use Rattle.std.specs.List.{flat_map, AllByRecursion};
 ghost use Rattle.x7_words.specs.Word.{AreBytes};
 ghost use Rattle.x7_text.specs.Digits.{hex_byte, hex_digit, hex_word};
 ghost use Rattle.x7_text.specs.DigitValue.{bytes_value, word_value};
-ghost use Rattle.x7_words.specs.Characters.{number_of_digit};
+ghost use Rattle.x7_words.specs.Characters.{line_end_byte, number_of_digit};
 ghost use Rattle.x7_text.specs.EitherCase.{bytes_of_pairs};
 ghost use Rattle.x7_text.specs.Lines.{has_no_end, joined_lines, split};
 ghost use Rattle.x7_text.specs.Row.{AreFullButLast, rows, line, bytes_text, data_text, open_text, in_line_after, close, open_data, open_bytes, row_words, bytes_row_size};
@@ -60,5 +60,5 @@ pub fn lines_lead_back()
     ensures joined { (text : List ℕ) → joined_lines (split text) ≡ text }
     ensures no_ends { (text : List ℕ) → AllByRecursion (λ line. has_no_end line ≡ true) (split text) }
     ensures ended { (lines : List (List ℕ)) → AllByRecursion (λ line. has_no_end line ≡ true) lines
-        → split (flat_map (λ line. line ++ 10 ∷ []) lines) ≡ lines ++ [] ∷ [] }
+        → split (flat_map (λ line. line ++ line_end_byte ∷ []) lines) ≡ lines ++ [] ∷ [] }
 {}

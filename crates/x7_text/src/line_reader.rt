@@ -1,6 +1,6 @@
 //! A text that comes in pieces, line by line.
 ghost use Rattle.std.specs.Prelude.{◌≡◌, ◌+◌, ◌<◌, ◌++◌, ◌∷◌, [], List, ℕ, length, IfErr, MatchOption, MatchResult};
-ghost use Rattle.x7_text.specs.LineReader.{CompletesLine, StandsFor, TakesEndedLine, TakesEndedLines, TakesPiece, WantsAt, WantsOnlyIn};
+ghost use Rattle.x7_text.specs.LineReader.{CompletesLine, StandsFor, TakesEndedLine, TakesEndedLines, TakesTextPiece, WantsAt, WantsOnlyIn};
 ghost use Rattle.x7_text.specs.Lines.{split};
 ghost use Rattle.x7_words.specs.Input.{taken_bytes_limit};
 
@@ -37,39 +37,43 @@ pub trait TakesLines: Drop {
     fn no_memory() -> Self::Fault
         ensures { (first : Self) (lines : List (List ℕ)) → fails first result lines };
 
-    /// Takes line `n`, which has its end. After an error nothing more may be taken.
-    fn put_line(&mut self, n: u64, line: &[u8]) -> Result<(), Self::Fault>
-        ensures read { (first : Self) (lines : List (List ℕ)) → n ≡ length lines + 1 → took first self.old lines
+    /// Takes line `line_number`, which has its end. After an error nothing more may be taken.
+    fn take_line(&mut self, line_number: u64, line: &[u8]) -> Result<(), Self::Fault>
+        ensures read { (first : Self) (lines : List (List ℕ)) → line_number ≡ length lines + 1 → took first self.old lines
             → TakesEndedLine (took first) (fails first) lines line.now result self.new }
-        ensures memory { (first : Self) (lines : List (List ℕ)) → n ≡ length lines + 1 → took first self.old lines
+        ensures memory { (first : Self) (lines : List (List ℕ)) → line_number ≡ length lines + 1 → took first self.old lines
             → IfErr result (λ fault. is_want fault → wants first lines line.now) };
 
-    /// Takes the lines of a text that have their end, after `n` lines. Answers what is left of the text, and how many
-    /// lines were taken in all. After an error nothing more may be taken.
-    fn put_lines<'t>(&mut self, n: u64, text: &'t [u8]) -> Result<(&'t [u8], u64), Self::Fault>
-        ensures read { (first : Self) (lines : List (List ℕ)) → n ≡ length lines → n + length text.now < taken_bytes_limit → took first self.old lines
+    /// Takes the lines of a text that have their end, after `line_count` lines. Answers what is left of the text, and
+    /// how many lines were taken in all. After an error nothing more may be taken.
+    fn take_lines<'t>(
+        &mut self,
+        line_count: u64,
+        text: &'t [u8],
+    ) -> Result<(&'t [u8], u64), Self::Fault>
+        ensures read { (first : Self) (lines : List (List ℕ)) → line_count ≡ length lines → line_count + length text.now < taken_bytes_limit → took first self.old lines
             → TakesEndedLines (took first) (fails first) lines text.now result self.new }
-        ensures memory { (first : Self) (lines : List (List ℕ)) → n ≡ length lines → n + length text.now < taken_bytes_limit → took first self.old lines
+        ensures memory { (first : Self) (lines : List (List ℕ)) → line_count ≡ length lines → line_count + length text.now < taken_bytes_limit → took first self.old lines
             → IfErr result (λ fault. is_want fault → WantsAt (wants first) lines text.now) }
     {
         let mut rest = text;
-        let mut count = n;
+        let mut count = line_count;
         loop {
             let (line, more) = first_line(rest);
             let Some(after) = more else {
                 return Ok((line, count));
             };
             count = count.saturating_add(1);
-            self.put_line(count, line)?;
+            self.take_line(count, line)?;
             rest = after;
         }
     }
 
-    /// Takes line `n`, the last one, which has no end: what the text gives.
-    fn put_last(self, n: u64, line: &[u8]) -> Result<Self::Out, Self::Fault>
-        ensures read { (first : Self) (lines : List (List ℕ)) → n ≡ length lines + 1 → took first self lines
+    /// Takes line `line_number`, the last one, which has no end: what the text gives.
+    fn take_last(self, line_number: u64, line: &[u8]) -> Result<Self::Out, Self::Fault>
+        ensures read { (first : Self) (lines : List (List ℕ)) → line_number ≡ length lines + 1 → took first self lines
             → MatchResult result (λ out. gives first out (lines ++ line.now ∷ [])) (λ fault. fails first fault (lines ++ line.now ∷ [])) }
-        ensures memory { (first : Self) (lines : List (List ℕ)) → n ≡ length lines + 1 → took first self lines
+        ensures memory { (first : Self) (lines : List (List ℕ)) → line_number ≡ length lines + 1 → took first self lines
             → IfErr result (λ fault. is_want fault → wants first lines line.now) };
 }
 
@@ -79,15 +83,18 @@ pub fn read_lines<T: TakesLines>(taker: T, text: &[u8]) -> Result<T::Out, T::Fau
     ensures memory { T.took taker taker [] → IfErr result (λ fault. T.is_want fault → WantsAt (T.wants taker) [] text.now) }
 {
     let mut last = taker;
-    let (line, count) = last.put_lines(0, text)?;
-    last.put_last(count.saturating_add(1), line)
+    let (line, count) = last.take_lines(0, text)?;
+    last.take_last(count.saturating_add(1), line)
 }
 
 /// Reads a text that comes in pieces, line by line.
 #[derive(Drop)]
 pub struct LineReader<T> {
+    // what takes the lines
     taker: T,
+    // the beginning of the line that comes
     held: Vec<u8>,
+    // how many lines were taken
     count: u64,
 }
 
@@ -124,17 +131,17 @@ impl<T: TakesLines> LineReader<T> {
             return Ok(None);
         };
         self.count = self.count.saturating_add(1);
-        self.taker.put_line(self.count, &self.held)?;
+        self.taker.take_line(self.count, &self.held)?;
         self.held.clear();
         Ok(Some(rest))
     }
 
     /// Takes the next piece of a text, where no beginning of a line is held.
-    fn take_lines(&mut self, piece: &[u8]) -> Result<(), T::Fault>
-        ensures read { (first : T) → self.old.held ≡ [] → TakesPiece (T.took first) (T.fails first) self.old piece.now result (λ _. self.new) }
+    fn take_at_line_start(&mut self, piece: &[u8]) -> Result<(), T::Fault>
+        ensures read { (first : T) → self.old.held ≡ [] → TakesTextPiece (T.took first) (T.fails first) self.old piece.now result (λ _. self.new) }
         ensures memory { (first : T) → WantsOnlyIn (T.took first) (T.wants first) T.is_want self.old piece.now result }
     {
-        let (rest, count) = self.taker.put_lines(self.count, piece)?;
+        let (rest, count) = self.taker.take_lines(self.count, piece)?;
         self.count = count;
         if rest.is_empty() {
             return Ok(());
@@ -147,14 +154,14 @@ impl<T: TakesLines> LineReader<T> {
 
     /// Takes the next piece of a text.
     fn take(&mut self, piece: &[u8]) -> Result<(), T::Fault>
-        ensures read { (first : T) → TakesPiece (T.took first) (T.fails first) self.old piece.now result (λ _. self.new) }
+        ensures read { (first : T) → TakesTextPiece (T.took first) (T.fails first) self.old piece.now result (λ _. self.new) }
         ensures memory { (first : T) → WantsOnlyIn (T.took first) (T.wants first) T.is_want self.old piece.now result }
     {
         if self.held.is_empty() {
-            return self.take_lines(piece);
+            return self.take_at_line_start(piece);
         }
         match self.complete(piece)? {
-            Some(rest) => self.take_lines(rest),
+            Some(rest) => self.take_at_line_start(rest),
             None => Ok(()),
         }
     }
@@ -163,7 +170,7 @@ impl<T: TakesLines> LineReader<T> {
     /// whole text, whatever follows. Where no beginning of a line is held, memory is wanting only at a line of the
     /// piece, or to hold the beginning of a line after them.
     pub fn feed(self, piece: &[u8]) -> Result<LineReader<T>, T::Fault>
-        ensures read { (first : T) → TakesPiece (T.took first) (T.fails first) self piece.now result (λ reader. reader) }
+        ensures read { (first : T) → TakesTextPiece (T.took first) (T.fails first) self piece.now result (λ reader. reader) }
         ensures memory { (first : T) → WantsOnlyIn (T.took first) (T.wants first) T.is_want self piece.now result }
     {
         let mut reader = self;
@@ -179,6 +186,6 @@ impl<T: TakesLines> LineReader<T> {
             → IfErr result (λ fault. T.is_want fault → T.wants first s.lines self.held) }
     {
         let LineReader { taker, held, count } = self;
-        taker.put_last(count.saturating_add(1), &held)
+        taker.take_last(count.saturating_add(1), &held)
     }
 }

@@ -6,7 +6,7 @@ ghost use Rattle.x7_words.specs.Word.{bytes_of_word};
 ghost use Rattle.x7_text.specs.Digits.{hex_byte};
 ghost use Rattle.x7_text.specs.Row.{IsByteRow, IsWordRow, bytes_row_size, spaced};
 ghost use Rattle.x7_text.specs.Appends.{HasSpareRoom};
-ghost use Rattle.x7_text.specs.Reads.{Reads, StaysWithin};
+ghost use Rattle.x7_text.specs.Reads.{AppendsIfRead, StaysWithin};
 
 use crate::block::{data_line, hex_of_block};
 use crate::reading::{bytes_of_digits, word_of_hex};
@@ -24,9 +24,9 @@ fn padded(digits: &[u8]) -> [u8; 64]
 }
 
 /// Appends the bytes of one to 32 pairs of digits, exactly where they are digits.
-pub fn put_byte_row(out: &mut Vec<u8>, digits: &[u8]) -> bool
+pub fn read_byte_row(out: &mut Vec<u8>, digits: &[u8]) -> bool
     requires { HasSpareRoom out.old bytes_row_size }
-    ensures reads { Reads IsByteRow (flat_map hex_byte) (λ (bs : List ℕ). bs) result digits.now out.old.items out.new.items }
+    ensures reads { AppendsIfRead IsByteRow (flat_map hex_byte) (λ (bs : List ℕ). bs) result digits.now out.old.items out.new.items }
     ensures room { StaysWithin out.old out.new bytes_row_size }
 {
     let count = digits.len() / 2;
@@ -67,10 +67,10 @@ fn gathered(text: &[u8]) -> [u8; 64]
 
 /// Appends the bytes of one word, exactly where a space and its eight digits stand.
 #[inline(always)]
-fn put_one_word(out: &mut Vec<u8>, text: &[u8]) -> bool
+fn read_one_word(out: &mut Vec<u8>, text: &[u8]) -> bool
     requires room { HasSpareRoom out.old bytes_row_size }
     requires length { length text.now ≡ 9 }
-    ensures reads { Reads IsWordRow (flat_map spaced) (flat_map bytes_of_word) result text.now out.old.items out.new.items }
+    ensures reads { AppendsIfRead IsWordRow (flat_map spaced) (flat_map bytes_of_word) result text.now out.old.items out.new.items }
     ensures room { StaysWithin out.old out.new bytes_row_size }
 {
     if text[0] != b' ' {
@@ -86,13 +86,13 @@ fn put_one_word(out: &mut Vec<u8>, text: &[u8]) -> bool
 }
 
 /// Appends the bytes of one to eight words, exactly where a space and eight digits stand for each.
-pub fn put_word_row(out: &mut Vec<u8>, text: &[u8]) -> bool
+pub fn read_word_row(out: &mut Vec<u8>, text: &[u8]) -> bool
     requires { HasSpareRoom out.old bytes_row_size }
-    ensures reads { Reads IsWordRow (flat_map spaced) (flat_map bytes_of_word) result text.now out.old.items out.new.items }
+    ensures reads { AppendsIfRead IsWordRow (flat_map spaced) (flat_map bytes_of_word) result text.now out.old.items out.new.items }
     ensures room { StaysWithin out.old out.new bytes_row_size }
 {
     if text.len() == 9 {
-        return put_one_word(out, text);
+        return read_one_word(out, text);
     }
     let count = text.len() / 9;
     if count == 0 || text.len() > 72 || text.len() != 9 * count {

@@ -70,12 +70,12 @@ pub fn number_of_decimal(digits: &[u8]) -> Option<u32>
     let Ok(text) = std::str::from_utf8(digits) else {
         return None;
     };
-    let Ok(n) = text.parse::<u32>() else {
+    let Ok(number) = text.parse::<u32>() else {
         return None;
     };
     let mut buffer = Buffer::new();
-    if is_same(buffer.format(n).as_bytes(), digits) {
-        Some(n)
+    if is_same(buffer.format(number).as_bytes(), digits) {
+        Some(number)
     } else {
         None
     }

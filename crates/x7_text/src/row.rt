@@ -15,7 +15,7 @@ use x7_words::word_of;
 const ROW_WORDS: usize = 8;
 
 /// How many bytes a full `bytes` line has.
-const BYTES_ROW_SIZE: usize = 32;
+pub const BYTES_ROW_SIZE: usize = 32;
 
 /// Appends the keyword that a line begins with, where no line is open.
 fn put_line_start(text: &mut Vec<u8>, keyword: &[u8], in_line: usize)
@@ -43,16 +43,16 @@ fn put_line_end(text: &mut Vec<u8>, full: usize, in_line: usize) -> usize
 }
 
 /// Appends a word to a `data` line that has `in_line` words (0 where no line is open). Gives that count afterwards.
-pub fn put_word(text: &mut Vec<u8>, in_line: usize, w: u32) -> usize
+pub fn put_word(text: &mut Vec<u8>, in_line: usize, word: u32) -> usize
     requires open { in_line < row_words }
     requires room { HasSpareRoom text.old word_text_limit }
-    ensures count { result ≡ in_line_after row_words in_line (w ∷ []) }
+    ensures count { result ≡ in_line_after row_words in_line (word ∷ []) }
     ensures open { result < row_words }
-    ensures appends { Appends text.old text.new (open_data in_line (w ∷ [])) word_text_limit }
+    ensures appends { Appends text.old text.new (open_data in_line (word ∷ [])) word_text_limit }
 {
     put_line_start(text, b"data", in_line);
     put(text, b" ");
-    put(text, &hex_of_word(w));
+    put(text, &hex_of_word(word));
     put_line_end(text, ROW_WORDS, in_line)
 }
 

@@ -1,6 +1,6 @@
 -- Lemmas on specs/Ahead.
 use Rattle.std.proofs.Common.{◌≡◌, ℕ, ◌+◌, ◌<◌, ◌≤◌, ◌⊎◌, inl, inr, List, [], ◌++◌, Option, Some, Result, Ok, Err, length, length-append, ap, refl, sym, subst, ◌∙◌, append-nil, append_assoc, arith}
-use Rattle.x7_words.specs.Input.{Asks, InputsState, preceded, RestIsWhole}
+use Rattle.x7_words.specs.Input.{AsksForName, InputsState, preceded, RestIsWhole}
 use Rattle.x7_words.specs.Word.{AreBytes}
 use Rattle.x7_words.specs.Sink.{SinkState, appended, PutsPrefix}
 use Rattle.x7_words.proofs.SinkLemmas.{appended_appended, appended_nil}
@@ -177,7 +177,7 @@ bad_soon contents stream name m n event s b inputs bytes left place c i r l =
 -- ---- what a fault finds
 
 -- where the header was not judged yet, no wrong letter was given
-pub prefix_unjudged : (contents : Option (List ℕ → Option (List ℕ))) (stream name : List ℕ) (m n : InputsState) → RestIsWhole contents stream m.rest → Asks name m → NoLetterGiven m n → UnjudgedBy contents stream n.given
+pub prefix_unjudged : (contents : Option (List ℕ → Option (List ℕ))) (stream name : List ℕ) (m n : InputsState) → RestIsWhole contents stream m.rest → AsksForName name m → NoLetterGiven m n → UnjudgedBy contents stream n.given
 prefix_unjudged contents stream name m n s a g inputs bytes place c i fits e l =
     let t = known_all inputs stream [] m.rest (nothing_taken (Some inputs) stream m.rest (subst (λ (k : Option (List ℕ → Option (List ℕ))). RestIsWhole k stream m.rest) c s)) in
     let whole : bytes ≡ t.0 = let f = t.1.1 in cc in
@@ -200,11 +200,11 @@ module _ (contents : Option (List ℕ → Option (List ℕ))) (stream : List ℕ
   as_event : (given : ℕ) (event other : Event) → event ≡ other → StaysBy (status_of_event other) contents stream given rest old new → StaysBy (status_of_event event) contents stream given rest old new
   as_event given event other e h = subst (λ (x : Event). StaysBy (status_of_event x) contents stream given rest old new) (sym e) h
 
-  pub unopened_near : (s n : InputsState) (name : List ℕ) (event : Event) → Asks name n → Longer old new → Unopened s name n event → StaysBy (status_of_event event) contents stream n.given rest old new
+  pub unopened_near : (s n : InputsState) (name : List ℕ) (event : Event) → AsksForName name n → Longer old new → Unopened s name n event → StaysBy (status_of_event event) contents stream n.given rest old new
   unopened_near s n name event a l (inl h, none) = as_event n.given event (missing name) h.0 tt
   unopened_near s n name event a l (inr h, none) = as_event n.given event (reading_failed name) h.0 (λ inputs bytes place c i fits e f. omega (arith, a.given), prefix_given contents stream n.given old new (omega (arith, a.given)) l)
 
-  pub without_prefix_near : (m n : InputsState) (name : List ℕ) (event : Event) → n.rest ≡ rest → RestIsWhole contents stream m.rest → Asks name m → n.given ≤ m.given + longest_beginning → Longer old new → UnreadBeginning m name n event
+  pub without_prefix_near : (m n : InputsState) (name : List ℕ) (event : Event) → n.rest ≡ rest → RestIsWhole contents stream m.rest → AsksForName name m → n.given ≤ m.given + longest_beginning → Longer old new → UnreadBeginning m name n event
       → StaysBy (status_of_event event) contents stream n.given rest old new
   without_prefix_near m n name event e s a few l (inl h) = as_event n.given event no_memory h (prefix_given contents stream n.given old new (omega (arith, a.given, few)) l)
   without_prefix_near m n name event e s a few l (inr (inl h)) =

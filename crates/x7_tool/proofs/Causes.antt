@@ -5,8 +5,8 @@ use Rattle.std.specs.List.{starts_with}
 use Rattle.std.proofs.lemmas.Bool.Decides.{nat_tests}
 use Rattle.std.proofs.lemmas.List.{length-take}
 use Rattle.x7_words.specs.Count.{HasRisen}
-use Rattle.x7_words.specs.Input.{InputsState, Asks, AtEnd, Misses, RestIsWhole, InputsStay, preceded}
-use Rattle.x7_words.specs.Input.{Lacks as MapLacks}
+use Rattle.x7_words.specs.Input.{InputsState, AsksForName, AtEnd, MissesInput, RestIsWhole, InputsStay, preceded}
+use Rattle.x7_words.specs.Input.{MapLacks}
 use Rattle.x7_words.specs.Sink.{SinkFails, SinkState, appended, PutsPrefix}
 use Rattle.x7_words.specs.Word.{AreBytes}
 use Rattle.x7_words.proofs.SinkLemmas.{appended_nil}
@@ -115,7 +115,7 @@ absent_due None flash stream = tt
 absent_due (Some inputs) flash stream = let here = name_is stream in rw here refl
 
 -- a name that isn't there
-pub absent : (old new : InputsState) (flash : Option (List ℕ)) (name : List ℕ) → Asks name new → new.selected ≡ false → Misses old name new
+pub absent : (old new : InputsState) (flash : Option (List ℕ)) (name : List ℕ) → AsksForName name new → new.selected ≡ false → MissesInput old name new
     → IsCaused {A = Answer} (with_inputs old.contents flash) (CameIn (step_over (name ∷ []) old new)) (λ known. listed known name) (Err (missing name))
 absent old new flash name a s m = by old.contents refl m
   where
@@ -223,7 +223,7 @@ pub ends_same : (known : Option Known) (C : Mishap → Type 0) (stream : List �
 ends_same known C stream Full old now x y e h = subst (λ (event : Event). Ended known C stream Full old now (Err event)) (sym e) h
 
 -- a stream that could not be opened
-pub unopened : (s n : InputsState) (flash : Option (List ℕ)) (stream : List ℕ) (Full : Type 0) (old : Option (List ℕ)) (event : Event) → Unopened s stream n event → Asks stream n
+pub unopened : (s n : InputsState) (flash : Option (List ℕ)) (stream : List ℕ) (Full : Type 0) (old : Option (List ℕ)) (event : Event) → Unopened s stream n event → AsksForName stream n
     → Ended (with_inputs s.contents flash) (CameIn (step_over (stream ∷ []) s n)) stream Full old old (Err event)
 unopened s n flash stream Full old event (inl h, none) a =
     ends_same (with_inputs s.contents flash) (CameIn (step_over (stream ∷ []) s n)) stream Full old old event (missing stream) h.0 (absent s n flash stream a none h.1, refl)
@@ -243,7 +243,7 @@ nothing_taken contents stream (Some rest) s = s
 
 -- a stream whose beginning was not read
 pub without_prefix : (s m n : InputsState) (flash : Option (List ℕ)) (stream : List ℕ) (Full : Type 0) (old : Option (List ℕ)) (event : Event)
-    → InputsStay s m → RestIsWhole s.contents stream m.rest → Asks stream m → UnreadBeginning m stream n event
+    → InputsStay s m → RestIsWhole s.contents stream m.rest → AsksForName stream m → UnreadBeginning m stream n event
     → Ended (with_inputs s.contents flash) (CameIn (step_over (stream ∷ []) s n)) stream Full old old (Err event)
 without_prefix s m n flash stream Full old event f sel a (inl h) =
     ends_same (with_inputs s.contents flash) (CameIn (step_over (stream ∷ []) s n)) stream Full old old event no_memory h

@@ -2,7 +2,7 @@
 use Rattle.std.proofs.Common.{◌≡◌, ◌∙◌, ap, arith, ℕ, ◌≤◌, Bool, true, false, IfErr, List, [], ◌∷◌, Option, None, Some, Result, Ok, Err, refl, subst, sym, inl, inr}
 use Rattle.std.specs.Prelude.{IsTrue}
 use Rattle.x7_words.specs.Count.{HasRisen}
-use Rattle.x7_words.specs.Flash.{AsksFor, FlashFails, FlashState, FlashStays, OnlyReads, FlashRefuses, Unwritten}
+use Rattle.x7_words.specs.Flash.{FlashIsAskedFor, FlashFails, FlashState, FlashStays, OnlyReads, FlashRefuses, Unwritten}
 use Rattle.x7_words.specs.Input.{InputsState}
 use Rattle.x7_update.proofs.KnownLemmas.{moments_none, only_read}
 use Rattle.x7_words.specs.declared.input.SelectFault.{SelectFault}
@@ -243,7 +243,7 @@ uses_same form inputs s since =
     record { keeps = kept_same (flash_use form) s; moments = moments_none s since (MayBeFound known (updated_by form)) (λ all e. found_same known (updated_by form) all) }
 
 -- an attach that asks for this name
-pub reads_asked : (name : List ℕ) (old new : FlashState) (past since : ℕ → List ℕ → Type 0) → FlashStays old new past since → AsksFor old name new → ReadsFlash name old new
+pub reads_asked : (name : List ℕ) (old new : FlashState) (past since : ℕ → List ℕ → Type 0) → FlashStays old new past since → FlashIsAskedFor old name new → ReadsFlash name old new
 reads_asked name old new past since s a = record { bytes = s.bytes; write_faults = s.unwritten.write_faults; moments = s.unwritten.moments; faults = s.faults; absences = s.absences; no_other = a.no_other }
 
 -- reads after it

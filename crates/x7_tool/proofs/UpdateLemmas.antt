@@ -4,7 +4,7 @@ use Rattle.std.specs.Prelude.{IsTrue, if◌then◌else◌}
 use Rattle.std.specs.Str.{bytes_eq}
 use Rattle.std.proofs.lemmas.Slice.Eq.{bytes_eq-Decides}
 use Rattle.x7_words.specs.Count.{HasRisen}
-use Rattle.x7_words.specs.Flash.{AsksFor, FlashState, FlashStays, IfKnown}
+use Rattle.x7_words.specs.Flash.{FlashIsAskedFor, FlashState, FlashStays, IfKnown}
 use Rattle.x7_words.specs.Input.{InputsState}
 use Rattle.x7_words.specs.Sink.{SinkState}
 use Rattle.x7_words.proofs.CountLemmas.{risen_from}
@@ -289,7 +289,7 @@ done_ends flash stream bytes old new out within has updatable size becomes =
 -- ---- what an update leaves of the flash
 
 -- a flash that was attached at most
-pub uses_opened : (flash stream : List ℕ) (inputs : InputsState) (old new : FlashState) (past since : ℕ → List ℕ → Type 0) → FlashStays old new past since → AsksFor old flash new → UsesFlash (Some (UpdatingFlash flash stream)) (sources inputs old) new past since
+pub uses_opened : (flash stream : List ℕ) (inputs : InputsState) (old new : FlashState) (past since : ℕ → List ℕ → Type 0) → FlashStays old new past since → FlashIsAskedFor old flash new → UsesFlash (Some (UpdatingFlash flash stream)) (sources inputs old) new past since
 uses_opened flash stream inputs old new past since s a =
     let known = with_inputs inputs.contents old.bytes in
     record {
@@ -298,7 +298,7 @@ uses_opened flash stream inputs old new past since s a =
     }
 
 -- a flash that was attached and updated
-pub uses_updated : (flash stream bytes : List ℕ) (inputs : InputsState) (old mid new : FlashState) (past mids since : ℕ → List ℕ → Type 0) → FlashStays old mid past mids → AsksFor old flash mid → HasData (with_inputs inputs.contents old.bytes) stream bytes
+pub uses_updated : (flash stream bytes : List ℕ) (inputs : InputsState) (old mid new : FlashState) (past mids since : ℕ → List ℕ → Type 0) → FlashStays old mid past mids → FlashIsAskedFor old flash mid → HasData (with_inputs inputs.contents old.bytes) stream bytes
     → OnlyUses mid new → AtAnyMoment mid new mids since (MayBeLeft bytes) → UsesFlash (Some (UpdatingFlash flash stream)) (sources inputs old) new past since
 uses_updated flash stream bytes inputs old mid new past mids since s a has o m =
     let P = MayBeFound (with_inputs inputs.contents old.bytes) (Some stream) in

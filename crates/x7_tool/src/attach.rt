@@ -1,6 +1,6 @@
 //! A flash that a command reads or updates, attached under its name.
 ghost use Rattle.std.specs.Prelude.{◌≡◌, ◌≤◌, IfErr, OnOk, length, true, false};
-ghost use Rattle.x7_words.specs.Flash.{AsksFor, FlashStays, IsSized, IfKnown};
+ghost use Rattle.x7_words.specs.Flash.{FlashIsAskedFor, FlashStays, IsSized, IfKnown};
 ghost use Rattle.x7_boot.specs.Image.{flash_limit};
 ghost use Rattle.x7_forms.specs.Event.{event_of};
 ghost use Rattle.x7_tool.specs.Outside.{ReadsFlash};
@@ -16,7 +16,7 @@ pub(crate) fn attach<'w, F: Flash>(flash: &mut F, name: &'w str) -> Result<(), R
     ensures unattached { IfErr result (λ r. (F.state flash.new).attached ≡ false) }
     ensures reads { ReadsFlash name.now (F.state flash.old) (F.state flash.new) }
     ensures stays { FlashStays (F.state flash.old) (F.state flash.new) (F.found_since flash.old) (F.found_since flash.new) }
-    ensures asks { AsksFor (F.state flash.old) name.now (F.state flash.new) }
+    ensures asks { FlashIsAskedFor (F.state flash.old) name.now (F.state flash.new) }
     ensures sized { IsSized (F.state flash.new) }
 {
     match flash.attach(name) {
@@ -39,7 +39,7 @@ pub(crate) fn open_flash<'w, F: Flash>(flash: &mut F, name: &'w str) -> Result<(
     ensures size { OnOk result ((F.state flash.new).extent ≤ flash_limit) }
     ensures refused { IfErr result (λ r. IsUnattachedOrLarge name.now (F.state flash.old) (F.state flash.new) (event_of r)) }
     ensures stays { FlashStays (F.state flash.old) (F.state flash.new) (F.found_since flash.old) (F.found_since flash.new) }
-    ensures asks { AsksFor (F.state flash.old) name.now (F.state flash.new) }
+    ensures asks { FlashIsAskedFor (F.state flash.old) name.now (F.state flash.new) }
 {
     attach(flash, name)?;
     if flash.size() > FLASH_LIMIT {

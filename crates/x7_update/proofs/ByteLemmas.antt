@@ -1,6 +1,6 @@
 -- Lemmas on bytes: calls one after another leave bytes where there were bytes.
 use Rattle.std.proofs.Common.{◌≡◌, ℕ, ◌+◌, ◌≤◌, ⊎_elim, inl, inr, List, length, Option, None, Some, option_map, Result, OnErr, OnOk, sym, subst, ◌∙◌}
-use Rattle.x7_words.specs.Flash.{Elapses, FlashState, IfKnown, IsTorn, TornFrom, WithinWrite, replaced}
+use Rattle.x7_words.specs.Flash.{TimeElapses, FlashState, IfKnown, IsTorn, TornFrom, WithinWrite, replaced}
 use Rattle.x7_words.specs.Word.{AreBytes}
 use Rattle.x7_words.proofs.FlashLemmas.{torn_bytes}
 use Rattle.x7_update.specs.Writing.{AtAnyMoment, StaysBytes}
@@ -13,7 +13,7 @@ bytes_on a b c past mids since m n = moments_on a b c past mids since StaysBytes
 -- a write of bytes
 pub bytes_write : {E : Type 0} (place : ℕ) (target : List ℕ → List ℕ) (old new : FlashState) (past since : ℕ → List ℕ → Type 0) (answer : Result (Unit {0}) E)
     → ((all : List ℕ) → AreBytes (target all)) → ((all : List ℕ) → old.bytes ≡ Some all → place + length (target all) ≤ length all)
-    → OnOk answer (new.bytes ≡ option_map (λ all. replaced place (target all) all) old.bytes) → OnErr answer (TornFrom place target old.bytes new.bytes) → Elapses old.moments new.moments past since (WithinWrite place target old.bytes)
+    → OnOk answer (new.bytes ≡ option_map (λ all. replaced place (target all) all) old.bytes) → OnErr answer (TornFrom place target old.bytes new.bytes) → TimeElapses old.moments new.moments past since (WithinWrite place target old.bytes)
     → AtAnyMoment old new past since StaysBytes
 bytes_write place target old new past since answer fits within done torn passes =
     moments_weaker old new past since (λ all found. IsTorn place (target all) all found) StaysBytes (λ all found e t h. torn_bytes place (target all) all found (fits all) h t)

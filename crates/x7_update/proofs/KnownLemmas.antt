@@ -1,6 +1,6 @@
 -- Lemmas on bytes that may be known, and on what calls leave of them one after the other.
 use Rattle.std.proofs.Common.{◌≡◌, ℕ, ◌+◌, ◌≤◌, List, length, Option, None, Some, option_map, Result, Ok, Err, IfErr, OnOk, OnErr, refl, sym, subst, ◌∙◌, arith}
-use Rattle.x7_words.specs.Flash.{Elapses, FlashState, IsTorn, OnlyWrites, TornFrom, Unwritten, IfKnown, WithinWrite, replaced}
+use Rattle.x7_words.specs.Flash.{TimeElapses, FlashState, IsTorn, OnlyWrites, TornFrom, Unwritten, IfKnown, WithinWrite, replaced}
 use Rattle.x7_words.proofs.FlashLemmas.{elapses_none, elapses_on, elapses_unwritten, elapses_weaker, target_is_torn}
 use Rattle.x7_update.specs.Writing.{AtAnyMoment, Becomes, BecomesBytes, StaysKnown}
 
@@ -139,7 +139,7 @@ only_read a b past since P h kept u = moments_read a a b past past since P (mome
 -- what is found within a write, and what it leaves, is torn
 pub write_moments : {E : Type 0} (place : ℕ) (target : List ℕ → List ℕ) (old new : FlashState) (past since : ℕ → List ℕ → Type 0) (answer : Result (Unit {0}) E)
     → ((all : List ℕ) → old.bytes ≡ Some all → place + length (target all) ≤ length all)
-    → OnOk answer (new.bytes ≡ option_map (λ all. replaced place (target all) all) old.bytes) → OnErr answer (TornFrom place target old.bytes new.bytes) → Elapses old.moments new.moments past since (WithinWrite place target old.bytes)
+    → OnOk answer (new.bytes ≡ option_map (λ all. replaced place (target all) all) old.bytes) → OnErr answer (TornFrom place target old.bytes new.bytes) → TimeElapses old.moments new.moments past since (WithinWrite place target old.bytes)
     → AtAnyMoment old new past since (λ all found. IsTorn place (target all) all found)
 write_moments place target old new past since answer within done torn passes = record { leaves = left answer done torn; elapses = passes }
   where

@@ -1,7 +1,7 @@
 -- Lemmas on what was verified before a slot is opened.
 use Rattle.std.proofs.Common.{◌≡◌, ℕ, ◌+◌, ◌-◌, ◌*◌, ◌≤◌, inl, inr, IsTrue, List, length, get_or, Option, Result, Ok, Err, OnOk, ap, sym, subst, ◌∙◌, arith}
 use Rattle.std.proofs.lemmas.Bool.{cases_lt}
-use Rattle.x7_words.specs.Flash.{sector_size, FlashState, IfKnown, Sees}
+use Rattle.x7_words.specs.Flash.{sector_size, FlashState, IfKnown, SeesBytes}
 use Rattle.x7_update.specs.After.{IsAfterUpdate, IsBetweenSlots, with_stream}
 use Rattle.x7_update.specs.Layout.{CanStandAt, IsUpdatable, HasSize, HasNoOpenSlot, IsNextFreeSlot, IsOpen, open_switch, switch_of, update_place}
 use Rattle.x7_update.specs.Verified.{AllVerified, IsVerified, WasReady}
@@ -16,7 +16,7 @@ use Rattle.x7_update.specs.declared.slots.UpdateTarget.{UpdateTarget}
 -- ---- what is seen
 
 -- this many bytes more, which were read and are as they are wanted
-pub sees_to : (update : ℕ) (stream : List ℕ) (place count : ℕ) (buffer : List ℕ) (new : FlashState) → count ≤ length buffer → Sees new place buffer → SeesWanted update stream update place new → ReadsWantedTo update stream place buffer count
+pub sees_to : (update : ℕ) (stream : List ℕ) (place count : ℕ) (buffer : List ℕ) (new : FlashState) → count ≤ length buffer → SeesBytes new place buffer → SeesWanted update stream update place new → ReadsWantedTo update stream place buffer count
     → SeesWanted update stream update (place + count) new
 sees_to update stream place count buffer new within seen had wanted at l h = elim (cases_lt at place) [
   | inl below ↦ had at l below
@@ -28,14 +28,14 @@ sees_to update stream place count buffer new within seen had wanted at l h = eli
 ]
 
 -- a piece more that was read and is as it is wanted
-pub sees_wanted : {E : Type 0} (update : ℕ) (stream : List ℕ) (from count at : ℕ) (buffer : List ℕ) (new : FlashState) (result : Result (Unit {0}) E) → length buffer ≡ count → at ≡ from → Sees new from buffer → SeesWanted update stream update from new
+pub sees_wanted : {E : Type 0} (update : ℕ) (stream : List ℕ) (from count at : ℕ) (buffer : List ℕ) (new : FlashState) (result : Result (Unit {0}) E) → length buffer ≡ count → at ≡ from → SeesBytes new from buffer → SeesWanted update stream update from new
     → OnOk result (ReadsWanted update stream at buffer) → OnOk result (SeesWanted update stream update (from + count) new)
 sees_wanted update stream from count at buffer new (Err fault) long same seen had wanted = tt
 sees_wanted update stream from count at buffer new (Ok _) long same seen had wanted =
     sees_to update stream from count buffer new (omega (arith, long)) seen had (λ i h. wanted i (omega (arith, long, h)) ∙ ap (λ a. wanted_at update stream (a + i)) same)
 
 -- a switch word that was read and is that of an open slot
-pub sees_open : {E : Type 0} (place : ℕ) (buffer : List ℕ) (new : FlashState) (result : Result (Unit {0}) E) → length buffer ≡ 4 → Sees new place buffer → OnOk result (ReadsWanted place open_switch (place + 0) buffer) → OnOk result (Sees new place open_switch)
+pub sees_open : {E : Type 0} (place : ℕ) (buffer : List ℕ) (new : FlashState) (result : Result (Unit {0}) E) → length buffer ≡ 4 → SeesBytes new place buffer → OnOk result (ReadsWanted place open_switch (place + 0) buffer) → OnOk result (SeesBytes new place open_switch)
 sees_open place buffer new (Err fault) long seen wanted = tt
 sees_open place buffer new (Ok _) long seen wanted = λ i l.
     let here : place + 0 + i - place ≡ i = omega arith in
@@ -86,7 +86,7 @@ module _ {F : Type 0} (state : F → FlashState) (stream : List ℕ) (old new : 
   }
 
   pub all_verified : {E : Type 0} (result : Result (Unit {0}) E) → TargetFits new.extent target → IfKnown old.bytes (λ all. IsTargetIn (length all) all target) → OnOk result (WasReady state target.place stream new)
-      → OnOk result (Sees new (32 * target.slots.next) open_switch) → OnOk result (AllVerified state stream old new)
+      → OnOk result (SeesBytes new (32 * target.slots.next) open_switch) → OnOk result (AllVerified state stream old new)
   all_verified (Err fault) fits finds was seen = tt
   all_verified (Ok _) fits finds was seen = record {
     before = verified fits finds was;

@@ -1,7 +1,7 @@
 -- Lemmas on bytes that are read to verify them: one that is another than the one wanted there is a byte that
 -- an update writes, and none of known bytes.
 use Rattle.std.proofs.Common.{◌≡◌, ℕ, ◌+◌, ◌-◌, ◌*◌, ◌<◌, ◌≤◌, IsTrue, true, false, List, length, Option, None, Some, option_map, Result, Ok, Err, IfErr, get_or, slice_range, refl, ap, sym, subst, ◌∙◌, arith}
-use Rattle.x7_words.specs.Flash.{FlashState, IfKnown, Sees}
+use Rattle.x7_words.specs.Flash.{FlashState, IfKnown, SeesBytes}
 use Rattle.x7_words.proofs.CountLemmas.{risen_from}
 use Rattle.x7_words.proofs.FlashLemmas.{get_or_slice_range}
 use Rattle.x7_update.specs.Layout.{CanStandAt, HasSize, IsOpen, open_switch}
@@ -28,7 +28,7 @@ not_known (Some all) from piece place count buffer at wrote read long r h w =
     absurd (w.5 same)
 
 -- a fault of what was read from a place on and compared with what is wanted there
-wrong_fails : (from : ℕ) (piece : List ℕ) (place count end : ℕ) (buffer stream : List ℕ) (old new : FlashState) (fault : UpdateFault) → length buffer ≡ count → Sees new place buffer → HasSize new.extent → IfKnown old.bytes (λ all. buffer ≡ slice_range all place (place + count))
+wrong_fails : (from : ℕ) (piece : List ℕ) (place count end : ℕ) (buffer stream : List ℕ) (old new : FlashState) (fault : UpdateFault) → length buffer ≡ count → SeesBytes new place buffer → HasSize new.extent → IfKnown old.bytes (λ all. buffer ≡ slice_range all place (place + count))
     → IfKnown old.bytes (AreWanted from piece place count) → IsWritten new.extent stream piece from end → from ≤ place → place + count ≤ end → SeesWanted from piece from place new → IsWrong from piece place buffer fault → HasLateCause stream old new fault
 wrong_fails from piece place count end buffer stream old new (Differs at wrote read) long seen sized r h written after within had w = (
   record {
@@ -54,7 +54,7 @@ wrong_fails from piece place count end buffer stream old new TooLong long seen s
 wrong_fails from piece place count end buffer stream old new (NoLayout at) long seen sized r h written after within had w = absurd w
 wrong_fails from piece place count end buffer stream old new NoMemory long seen sized r h written after within had w = absurd w
 
-compared_fails : (from : ℕ) (piece : List ℕ) (place count end : ℕ) (buffer stream : List ℕ) (old new : FlashState) (result : Result (Unit {0}) UpdateFault) → length buffer ≡ count → Sees new place buffer → HasSize new.extent → IfKnown old.bytes (λ all. buffer ≡ slice_range all place (place + count))
+compared_fails : (from : ℕ) (piece : List ℕ) (place count end : ℕ) (buffer stream : List ℕ) (old new : FlashState) (result : Result (Unit {0}) UpdateFault) → length buffer ≡ count → SeesBytes new place buffer → HasSize new.extent → IfKnown old.bytes (λ all. buffer ≡ slice_range all place (place + count))
     → IfKnown old.bytes (AreWanted from piece place count) → IsWritten new.extent stream piece from end → from ≤ place → place + count ≤ end → SeesWanted from piece from place new → IfErr result (IsWrong from piece place buffer) → IfErr result (HasLateCause stream old new)
 compared_fails from piece place count end buffer stream old new (Ok _) long seen sized r h written after within had w = tt
 compared_fails from piece place count end buffer stream old new (Err fault) long seen sized r h written after within had w =
@@ -67,7 +67,7 @@ stream_wanted None update stream place count size after within s h = tt
 stream_wanted (Some all) update stream place count size after within s h = λ i l. h (place + i) (omega arith) (omega (arith, s))
 
 -- this many bytes of the stream, or of FF after it, were verified from a place on
-pub stream_fails : (update : ℕ) (stream : List ℕ) (place count : ℕ) (buffer : List ℕ) (old new : FlashState) (result : Result (Unit {0}) UpdateFault) → length buffer ≡ count → Sees new place buffer → new.extent ≡ old.extent → HasSize old.extent → CanStandAt old.extent update
+pub stream_fails : (update : ℕ) (stream : List ℕ) (place count : ℕ) (buffer : List ℕ) (old new : FlashState) (result : Result (Unit {0}) UpdateFault) → length buffer ≡ count → SeesBytes new place buffer → new.extent ≡ old.extent → HasSize old.extent → CanStandAt old.extent update
     → update + length stream ≤ old.extent → update ≤ place → place + count ≤ old.extent → IfKnown old.bytes (λ all. old.extent ≡ length all) → IfKnown old.bytes (HasWanted update stream)
     → IfKnown old.bytes (λ all. buffer ≡ slice_range all place (place + count)) → SeesWanted update stream update place new → IfErr result (IsWrong update stream place buffer) → IfErr result (HasLateCause stream old new)
 stream_fails update stream place count buffer old new result long seen same sized stands fits after within counted wanted r had w =
@@ -85,7 +85,7 @@ switch_wanted (Some all) slot h = λ i l.
     same_four all open_switch place 0 i h l ∙ ap (λ k. get_or open_switch k 0) at ∙ sym (wanted_inside place open_switch (place + i) short)
 
 -- the switch word of a slot that was opened was verified
-pub switch_fails : (slot : ℕ) (buffer stream : List ℕ) (old new : FlashState) (result : Result (Unit {0}) UpdateFault) → length buffer ≡ 4 → Sees new (32 * slot) buffer → new.extent ≡ old.extent → HasSize old.extent → slot < 2048 → IfKnown old.bytes (λ all. IsOpen all slot)
+pub switch_fails : (slot : ℕ) (buffer stream : List ℕ) (old new : FlashState) (result : Result (Unit {0}) UpdateFault) → length buffer ≡ 4 → SeesBytes new (32 * slot) buffer → new.extent ≡ old.extent → HasSize old.extent → slot < 2048 → IfKnown old.bytes (λ all. IsOpen all slot)
     → IfKnown old.bytes (λ all. buffer ≡ slice_range all (32 * slot) (32 * slot + 4)) → IfErr result (IsWrong (32 * slot) open_switch (32 * slot) buffer) → IfErr result (HasLateCause stream old new)
 switch_fails slot buffer stream old new result long seen same sized h opened r w =
     compared_fails (32 * slot) open_switch (32 * slot) 4 (32 * slot + 4) buffer stream old new result long seen (subst HasSize (sym same) sized) r (switch_wanted old.bytes slot opened) (in_switch slot h refl refl refl) (omega arith) (omega arith)

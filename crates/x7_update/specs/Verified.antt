@@ -1,7 +1,7 @@
 -- That an update is read again and compared before its slot is opened, and the slot's switch word after it (this
 -- project's choice).
 use Rattle.std.specs.Prelude.{◌≡◌, ℕ, ◌+◌, ◌*◌, ◌<◌, ◌≤◌, List}
-use Rattle.x7_words.specs.Flash.{FlashState, IfKnown, Sees}
+use Rattle.x7_words.specs.Flash.{FlashState, IfKnown, SeesBytes}
 use Rattle.x7_packets.specs.FlashSlot.{flash_slot_size, flash_slot_count}
 use Rattle.x7_update.specs.After.{IsAfterUpdate}
 use Rattle.x7_update.specs.Layout.{CanStandAt, IsUpdatable, HasNoOpenSlot, IsNextFreeSlot, open_switch, update_place}
@@ -34,4 +34,4 @@ module _ {F : Type 0} (state : F → FlashState) where
     pub slot : ℕ
     pub within : slot < flash_slot_count
     pub next : IfKnown old.bytes (λ all. IsNextFreeSlot all slot)
-    pub switch : Sees new (flash_slot_size * slot) open_switch
+    pub switch : SeesBytes new (flash_slot_size * slot) open_switch

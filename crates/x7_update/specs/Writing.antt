@@ -1,6 +1,6 @@
 -- What the steps of an update do to the flash (this project's choice).
 use Rattle.std.specs.Prelude.{◌≡◌, ◌≢◌, ℕ, ◌+◌, ◌-◌, ◌*◌, ◌%◌, ◌<◌, ◌≤◌, ◌⊎◌, IsTrue, List, length, get_or, Option, Some, None, nat_lt, if◌then◌else◌, true, false}
-use Rattle.x7_words.specs.Flash.{erased_byte, Elapses, FlashFails, FlashState, IfKnown, OnlyWrites, WriteFails}
+use Rattle.x7_words.specs.Flash.{erased_byte, TimeElapses, FlashFails, FlashState, IfKnown, OnlyWrites, WriteFails}
 use Rattle.x7_words.specs.Word.{AreBytes}
 use Rattle.x7_packets.specs.FlashSlot.{sector_size, flash_slot_size, flash_slot_count}
 use Rattle.x7_update.specs.After.{SpendsOpen, IsBetweenSlots, switched, with_stream}
@@ -25,7 +25,7 @@ Becomes old new Relates = BecomesBytes Relates old.bytes new.bytes
 -- At any moment from one state to the next, and at the end, the bytes are in this relation to those at the start.
 pub record AtAnyMoment (old new : FlashState) (past since : ℕ → List ℕ → Type 0) (Relates : List ℕ → List ℕ → Type 0) : Type 0 where
   pub leaves : StaysKnown old new Relates
-  pub elapses : Elapses old.moments new.moments past since (λ found. IfKnown old.bytes (λ all. Relates all found))
+  pub elapses : TimeElapses old.moments new.moments past since (λ found. IfKnown old.bytes (λ all. Relates all found))
 
 -- the flash is used: nothing changed but its bytes, the moment and the counts of faults, which don't fall
 pub record OnlyUses (old new : FlashState) : Type 0 where

@@ -1,6 +1,6 @@
 //! The steps of an update, in their order: look, spend the open slot, write, verify, open the next.
 ghost use Rattle.std.specs.Prelude.{◌≡◌, ◌+◌, ◌*◌, ◌<◌, ◌≤◌, ◌⊎◌, ℕ, List, true, length, IfErr, OnOk, OnErr, option_map};
-ghost use Rattle.x7_words.specs.Flash.{OnlyReads, IfKnown, Sees, WriteFails};
+ghost use Rattle.x7_words.specs.Flash.{OnlyReads, IfKnown, SeesBytes, WriteFails};
 ghost use Rattle.x7_packets.specs.FlashSlot.{flash_slot_size, flash_slot_count};
 ghost use Rattle.x7_update.specs.After.{SpendsOpen, IsAfterUpdate, MayBeLeft, switched};
 ghost use Rattle.x7_update.specs.Layout.{IsUpdatable, HasNoOpenSlot, IsFree, open_switch};
@@ -62,7 +62,7 @@ fn verify_and_open<F: Flash>(
     ensures stays_bytes { AtAnyMoment (F.state flash.old) (F.state flash.new) (F.found_since flash.old) (F.found_since flash.new)
         StaysBytes }
     ensures was_ready { OnOk result (WasReady F.state target.place stream.now (F.state flash.new)) }
-    ensures seen { OnOk result (Sees (F.state flash.new) (flash_slot_size * target.slots.next) open_switch) }
+    ensures seen { OnOk result (SeesBytes (F.state flash.new) (flash_slot_size * target.slots.next) open_switch) }
     ensures opens { AtAnyMoment (F.state flash.old) (F.state flash.new) (F.found_since flash.old) (F.found_since flash.new)
         (λ all found. (found ≡ all) ⊎ WasReady F.state target.place stream.now (F.state flash.new)) }
     ensures fault { IfErr result (HasLateCause stream.now (F.state flash.old) (F.state flash.new)) }

@@ -1,6 +1,6 @@
 //! What an update has written is verified: read again and compared.
 ghost use Rattle.std.specs.Prelude.{◌≡◌, ◌+◌, ◌*◌, ◌<◌, ◌≤◌, ◌^◌, ℕ, List, true, length, IfErr, OnOk};
-ghost use Rattle.x7_words.specs.Flash.{OnlyReads, IfKnown, Sees};
+ghost use Rattle.x7_words.specs.Flash.{OnlyReads, IfKnown, SeesBytes};
 ghost use Rattle.x7_packets.specs.FlashSlot.{sector_size, flash_slot_size, flash_slot_count};
 ghost use Rattle.x7_update.specs.Layout.{HasSize, IsOpen, open_switch};
 ghost use Rattle.x7_update.specs.Writing.{CanVerify, HasLateCause, IsWrong, ReadsWanted, SeesWanted, wanted_at};
@@ -96,7 +96,7 @@ pub(crate) fn verify_switch<F: Flash>(flash: &mut F, slot: u64) -> Result<(), Up
     requires size { HasSize (F.state flash.old).extent }
     requires slot { slot < flash_slot_count }
     requires opened { IfKnown (F.state flash.old).bytes (λ all. IsOpen all slot) }
-    ensures seen { OnOk result (Sees (F.state flash.new) (flash_slot_size * slot) open_switch) }
+    ensures seen { OnOk result (SeesBytes (F.state flash.new) (flash_slot_size * slot) open_switch) }
     ensures fault { (stream : List ℕ) → IfErr result (HasLateCause stream (F.state flash.old) (F.state flash.new)) }
     ensures only_reads { OnlyReads (F.state flash.old) (F.state flash.new) (F.found_since flash.old) (F.found_since flash.new) }
 {

@@ -5,7 +5,7 @@ use Rattle.std.proofs.lemmas.Bool.{cases_lt}
 use Rattle.std.proofs.lemmas.List.{length-take-le, length-replicate, get_or_append_left, get_or-append_right, get_or-take, get_or-drop, get_or-replicate, ext_get_or}
 use Rattle.std.proofs.lemmas.Nat.{and_mask}
 use Rattle.std.proofs.lemmas.Nat.Bits.{bit_at_above, bit_at_and, bit_at_ones, bit_at_ones_above, bit_at-lt, same_from_bits}
-use Rattle.x7_words.specs.Flash.{FlashState, OnlyReads, Unwritten, folded_sector_size, erased_sector, replaced, cleared, zip_with, IsTorn, Elapses}
+use Rattle.x7_words.specs.Flash.{FlashState, OnlyReads, Unwritten, folded_sector_size, erased_sector, replaced, cleared, zip_with, IsTorn, TimeElapses}
 use Rattle.x7_words.specs.Word.{AreBytes}
 use Rattle.x7_words.proofs.ListLemmas.{all_append, all_back, all_from_places, all_take}
 use Rattle.x7_words.proofs.ZipLemmas.{length_zip_with}
@@ -172,12 +172,12 @@ bytes_replaced place piece all p h =
 -- ---- moments: one call after another
 
 -- before the first call
-pub elapses_none : (now : ℕ) (since : ℕ → List ℕ → Type 0) (within : List ℕ → Type 0) → Elapses now now since since within
+pub elapses_none : (now : ℕ) (since : ℕ → List ℕ → Type 0) (within : List ℕ → Type 0) → TimeElapses now now since since within
 elapses_none now since within = record { later = omega arith; nothing_else = λ moment found le had. inl had; keeps = λ moment found le had. had }
 
 -- one call more, within which what may be found is of the same kind
-pub elapses_on : (first mid last : ℕ) (past mids since : ℕ → List ℕ → Type 0) (within next : List ℕ → Type 0) → Elapses first mid past mids within → Elapses mid last mids since next
-    → ((found : List ℕ) → next found → within found) → Elapses first last past since within
+pub elapses_on : (first mid last : ℕ) (past mids since : ℕ → List ℕ → Type 0) (within next : List ℕ → Type 0) → TimeElapses first mid past mids within → TimeElapses mid last mids since next
+    → ((found : List ℕ) → next found → within found) → TimeElapses first last past since within
 elapses_on first mid last past mids since within next a b weaker = record {
   later = omega (arith, a.later, b.later);
   nothing_else = λ moment found le had. ⊎_elim (λ m. a.nothing_else moment found le m) (λ n. inr (weaker found n)) (b.nothing_else moment found (omega (arith, le, a.later)) had);
@@ -185,7 +185,7 @@ elapses_on first mid last past mids since within next a b weaker = record {
 }
 
 -- what elapses within a fact elapses within a weaker one
-pub elapses_weaker : (first last : ℕ) (past since : ℕ → List ℕ → Type 0) (within wider : List ℕ → Type 0) → Elapses first last past since within → ((found : List ℕ) → within found → wider found) → Elapses first last past since wider
+pub elapses_weaker : (first last : ℕ) (past since : ℕ → List ℕ → Type 0) (within wider : List ℕ → Type 0) → TimeElapses first last past since within → ((found : List ℕ) → within found → wider found) → TimeElapses first last past since wider
 elapses_weaker first last past since within wider a weaker = record {
   later = a.later;
   nothing_else = λ moment found le had. ⊎_elim (λ m. inl m) (λ n. inr (weaker found n)) (a.nothing_else moment found le had);
@@ -193,7 +193,7 @@ elapses_weaker first last past since within wider a weaker = record {
 }
 
 -- a call that writes nothing
-pub elapses_unwritten : (first : ℕ) (mid last : FlashState) (past mids since : ℕ → List ℕ → Type 0) (within : List ℕ → Type 0) → Elapses first mid.moments past mids within → Unwritten mid last mids since → Elapses first last.moments past since within
+pub elapses_unwritten : (first : ℕ) (mid last : FlashState) (past mids since : ℕ → List ℕ → Type 0) (within : List ℕ → Type 0) → TimeElapses first mid.moments past mids within → Unwritten mid last mids since → TimeElapses first last.moments past since within
 elapses_unwritten first mid last past mids since within a b = record {
   later = omega (arith, a.later, b.moments);
   nothing_else = λ moment found le had. a.nothing_else moment found le (b.nothing_else moment found had);

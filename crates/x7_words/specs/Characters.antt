@@ -45,6 +45,10 @@ point_byte = 46
 abbrev pub slash_byte : ℕ
 slash_byte = 47
 
+-- `:`
+abbrev pub colon_byte : ℕ
+colon_byte = 58
+
 -- `;`
 abbrev pub semicolon_byte : ℕ
 semicolon_byte = 59

@@ -65,8 +65,8 @@ KnowsBytes state = IfKnown state.bytes AreBytes
 -- ---- attaching and reading
 
 -- the bytes `read` are seen from the place on: each may have been read there, with no write since
-abbrev pub Sees : FlashState → ℕ → List ℕ → Type 0
-Sees state place read = (i : ℕ) → i < length read → IsTrue (state.seen (place + i) (get_or read i 0))
+abbrev pub SeesBytes : FlashState → ℕ → List ℕ → Type 0
+SeesBytes state place read = (i : ℕ) → i < length read → IsTrue (state.seen (place + i) (get_or read i 0))
 
 -- No time passed and nothing was written: after a stop since any moment the same bytes may be found after a call as
 -- before it.
@@ -95,7 +95,7 @@ pub record OnlyReads (old new : FlashState) (found_before found_after : ℕ → 
   pub unwritten : Unwritten old new found_before found_after
 
 -- the flash was asked for this name, and for no other one since
-pub record AsksFor (old : FlashState) (name : List ℕ) (new : FlashState) : Type 0 where
+pub record FlashIsAskedFor (old : FlashState) (name : List ℕ) (new : FlashState) : Type 0 where
   pub asked : IsTrue (new.names name)
   pub no_other : (other : List ℕ) → IsTrue (new.names other) → IsTrue (old.names other) ⊎ (other ≡ name)
 
@@ -162,7 +162,7 @@ WithinWrite place target known found = IfKnown known (λ old. IsTorn place (targ
 
 -- Time went on over a write, from moment `before` to moment `now`: what may be found after a stop since a moment up to
 -- `before` is what might have been found before the write, or what may be found within it.
-pub record Elapses (before now : ℕ) (found_before found_after : ℕ → List ℕ → Type 0) (within : List ℕ → Type 0) : Type 0 where
+pub record TimeElapses (before now : ℕ) (found_before found_after : ℕ → List ℕ → Type 0) (within : List ℕ → Type 0) : Type 0 where
   pub later : before ≤ now
   pub nothing_else : (moment : ℕ) (found : List ℕ) → moment ≤ before → found_after moment found → found_before moment found ⊎ within found
   pub keeps : (moment : ℕ) (found : List ℕ) → moment ≤ before → found_before moment found → found_after moment found

@@ -36,9 +36,9 @@ RestIsWhole None name rest = Unit {0}
 RestIsWhole (Some map) name rest = (bytes : List ℕ) × (map name ≡ Some bytes) × (rest ≡ Some bytes)
 
 -- the map is known and has no such name
-abbrev pub Lacks : Option (List ℕ → Option (List ℕ)) → List ℕ → Type 0
-Lacks None name = ⊥
-Lacks (Some map) name = map name ≡ None
+abbrev pub MapLacks : Option (List ℕ → Option (List ℕ)) → List ℕ → Type 0
+MapLacks None name = ⊥
+MapLacks (Some map) name = map name ≡ None
 
 -- bytes before the known ones; where none are known the result isn't known either
 abbrev pub preceded : List ℕ → Option (List ℕ) → Option (List ℕ)
@@ -65,16 +65,16 @@ abbrev pub InputsFail : InputsState → InputsState → Type 0
 InputsFail old new = HasRisen old.faults new.faults
 
 -- the name is missing: the map is known and lacks it, or the count of absences has risen
-abbrev pub Misses : InputsState → List ℕ → InputsState → Type 0
-Misses old name new = Lacks old.contents name ⊎ HasRisen old.absences new.absences
+abbrev pub MissesInput : InputsState → List ℕ → InputsState → Type 0
+MissesInput old name new = MapLacks old.contents name ⊎ HasRisen old.absences new.absences
 
 -- the input of this name is selected, at its first byte
-pub record Opens (old : InputsState) (name : List ℕ) (new : InputsState) : Type 0 where
+pub record OpensInput (old : InputsState) (name : List ℕ) (new : InputsState) : Type 0 where
   pub selected : new.selected ≡ true
   pub found : RestIsWhole old.contents name new.rest
 
 -- the name is that of the last select, where that is kept, and no byte was given since
-pub record Asks (name : List ℕ) (new : InputsState) : Type 0 where
+pub record AsksForName (name : List ℕ) (new : InputsState) : Type 0 where
   pub asked : IfSome new.asked (λ kept. kept ≡ name)
   pub given : new.given ≡ 0
 
@@ -111,5 +111,5 @@ pub record ReadFails (old new : InputsState) : Type 0 where
 
 -- why a name was not selected
 abbrev pub InputsRefuse : InputsState → List ℕ → InputsState → SelectFault → Type 0
-InputsRefuse old name new Missing = Misses old name new
+InputsRefuse old name new Missing = MissesInput old name new
 InputsRefuse old name new Failed = InputsFail old new

@@ -1,6 +1,6 @@
 //! A flash that is read, erased and programmed at places.
 ghost use Rattle.std.specs.Prelude.{◌≡◌, ℕ, List, ◌+◌, ◌<◌, ◌≤◌, ◌^◌, length, Some, true, false, IfErr, OnOk, OnErr, slice_range, option_map};
-ghost use Rattle.x7_words.specs.Flash.{AsksFor, Elapses, FlashFails, FlashCountsFit, FlashState, FlashStays, IsSized, KnowsBytes, OnlyReads, OnlyWrites, Sees, TornFrom, FlashRefuses, IfKnown, WithinWrite, WriteFails, cleared, erased, erased_sector, programmed, sector_size, sector_place};
+ghost use Rattle.x7_words.specs.Flash.{FlashIsAskedFor, TimeElapses, FlashFails, FlashCountsFit, FlashState, FlashStays, IsSized, KnowsBytes, OnlyReads, OnlyWrites, SeesBytes, TornFrom, FlashRefuses, IfKnown, WithinWrite, WriteFails, cleared, erased, erased_sector, programmed, sector_size, sector_place};
 
 use crate::input::{Failed, SelectFault};
 
@@ -34,7 +34,7 @@ pub trait Flash {
         ensures attached { OnOk result ((state self.new).attached ≡ true) }
         ensures refused { IfErr result (FlashRefuses (state self.old) (state self.new)) }
         ensures not_attached { OnErr result ((state self.new).attached ≡ false) }
-        ensures asks { AsksFor (state self.old) name.now (state self.new) }
+        ensures asks { FlashIsAskedFor (state self.old) name.now (state self.new) }
         ensures stays { FlashStays (state self.old) (state self.new) (found_since self.old) (found_since self.new) }
         ensures known_length { IsSized (state self.new) }
         ensures bytes { KnowsBytes (state self.new) }
@@ -55,7 +55,7 @@ pub trait Flash {
         ensures read { OnOk result (IfKnown (state self.old).bytes
             (λ all. buf.new ≡ slice_range all place (place + length buf.old))) }
         ensures length { length buf.new ≡ length buf.old }
-        ensures seen { OnOk result (Sees (state self.new) place buf.new) }
+        ensures seen { OnOk result (SeesBytes (state self.new) place buf.new) }
         ensures no_fault { OnOk result ((state self.new).faults ≡ (state self.old).faults) }
         ensures failed { OnErr result (FlashFails (state self.old) (state self.new)) }
         ensures only { OnlyReads (state self.old) (state self.new) (found_since self.old) (found_since self.new) }
@@ -70,7 +70,7 @@ pub trait Flash {
         ensures erased { OnOk result ((state self.new).bytes ≡ option_map (erased sector) (state self.old).bytes) }
         ensures torn { OnErr result
             (TornFrom (sector_place sector) (λ _. erased_sector) (state self.old).bytes (state self.new).bytes) }
-        ensures passes { Elapses (state self.old).moments (state self.new).moments (found_since self.old) (found_since self.new)
+        ensures passes { TimeElapses (state self.old).moments (state self.new).moments (found_since self.old) (found_since self.new)
             (WithinWrite (sector_place sector) (λ _. erased_sector) (state self.old).bytes) }
         ensures moment { (state self.new).moments ≤ (state self.old).moments + 1 }
         ensures failed { OnErr result (WriteFails (state self.old) (state self.new)) }
@@ -87,7 +87,7 @@ pub trait Flash {
             ((state self.new).bytes ≡ option_map (programmed place given.now) (state self.old).bytes) }
         ensures torn { OnErr result
             (TornFrom place (cleared place given.now) (state self.old).bytes (state self.new).bytes) }
-        ensures passes { Elapses (state self.old).moments (state self.new).moments (found_since self.old) (found_since self.new)
+        ensures passes { TimeElapses (state self.old).moments (state self.new).moments (found_since self.old) (found_since self.new)
             (WithinWrite place (cleared place given.now) (state self.old).bytes) }
         ensures moment { (state self.new).moments ≤ (state self.old).moments + 1 }
         ensures failed { OnErr result (WriteFails (state self.old) (state self.new)) }

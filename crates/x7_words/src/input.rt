@@ -1,6 +1,6 @@
 //! Inputs that are read by name, and what can go wrong with the outside.
 ghost use Rattle.std.specs.Prelude.{◌≡◌, ◌<◌, ◌≤◌, length, take, true, false, IfErr, IfOk, OnOk, OnErr};
-ghost use Rattle.x7_words.specs.Input.{InputsState, Asks, AsksForNone, AsksOnce, AtEnd, InputCountsFit, Opens, ReadFails, InputsRefuse, InputsStay, TakesInput};
+ghost use Rattle.x7_words.specs.Input.{InputsState, AsksForName, AsksForNone, AsksOnce, AtEnd, InputCountsFit, OpensInput, ReadFails, InputsRefuse, InputsStay, TakesInput};
 
 use std::alloc::{AllocError, AllocFailed};
 
@@ -44,10 +44,10 @@ pub trait Inputs {
     /// Begins the input of this name, at its first byte, also where it was selected before.
     /// After an error no input is selected.
     fn select(&mut self, name: &str) -> Result<(), SelectFault>
-        ensures opened { OnOk result (Opens (state self.old) name.now (state self.new)) }
+        ensures opened { OnOk result (OpensInput (state self.old) name.now (state self.new)) }
         ensures refused { IfErr result (InputsRefuse (state self.old) name.now (state self.new)) }
         ensures not_selected { OnErr result ((state self.new).selected ≡ false) }
-        ensures asks { Asks name.now (state self.new) }
+        ensures asks { AsksForName name.now (state self.new) }
         ensures at_most_one_more { AsksOnce (state self.old) (state self.new) }
         ensures stays { InputsStay (state self.old) (state self.new) }
         ensures fits { InputCountsFit (state self.new) };

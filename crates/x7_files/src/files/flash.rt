@@ -3,7 +3,7 @@ ghost use Rattle.std.specs.Prelude.{◌≡◌, ◌+◌, ◌<◌, ◌≤◌, ◌^
 ghost use Rattle.std.specs.Io.KnownBytes.{Consumes};
 ghost use Rattle.std.specs.Io.Seek.{MovesTo};
 ghost use Rattle.x7_words.specs.Count.{IsLaterCount, raised};
-ghost use Rattle.x7_files.specs.Files.{after_attach, file_tells, known_flash, Clears, ClearsAt, EndsAt, IsExtent, ReadsAt, RefusedFor, TriesWrite, WhileOpen, WritesAt};
+ghost use Rattle.x7_files.specs.Files.{after_attach, file_tells, known_flash, ClearsBits, ClearsAt, EndsAt, IsExtent, ReadsAt, RefusedFor, TriesWrite, WhileOpen, WritesAt};
 ghost use Rattle.x7_words.specs.Flash.{erased_sector, sector_size, sector_place, zip_with};
 
 use super::count_refusal;
@@ -118,7 +118,7 @@ fn program_from<F: Read + Write + Seek + OpenFile>(
     given: &[u8],
 ) -> io::Result<()>
     requires { place + length given.now < 2 ^ 64 }
-    ensures { OnOk result (Clears (file_tells F.stream_position F.remaining) (file_tells F.stream_position F.contents)
+    ensures { OnOk result (ClearsBits (file_tells F.stream_position F.remaining) (file_tells F.stream_position F.contents)
         place given.now file.old file.new) }
 {
     let mut done = 0;
@@ -270,7 +270,7 @@ impl<'r, R: Files> Flash for FileFlash<'r, R> {
     fn program(&mut self, place: u64, given: &[u8]) -> Result<(), Failed>
         requires attached { is_some self.old.file ≡ true }
         requires within { place + length given.now ≤ self.old.extent }
-        ensures { TriesWrite (Clears (file_tells R.File.stream_position R.File.remaining)
+        ensures { TriesWrite (ClearsBits (file_tells R.File.stream_position R.File.remaining)
             (file_tells R.File.stream_position R.File.contents) place given.now) self.old result self.new }
     {
         let Some(file) = &mut self.file else {

@@ -8,13 +8,13 @@ use Rattle.std.proofs.Math.Seq.{drop-nil}
 use Rattle.std.specs.List.{flat_map}
 use Rattle.x7_crc.specs.Checker.{CheckerState, KeepsCheckOf}
 use Rattle.x7_crc.proofs.CheckerLemmas.{still_keeps}
-use Rattle.x7_header.specs.Header.{Contents, longest_header}
+use Rattle.x7_header.specs.Header.{HeaderContents, longest_header}
 use Rattle.x7_text.specs.Lines.{split}
 use Rattle.x7_text.proofs.LineReaderLemmas.{HasTaken, each_fault}
 use Rattle.x7_listing.specs.Assembly.{AreHeadedAsm}
 use Rattle.x7_listing.specs.Assembling.{HasReadWithRoom, AsmState, FailsFirst, FailsNext, TextsAreRead, HasAsmFault, HasLineRoom, IsOutputOf, IsFirstOrGood, IsSoundOutput, Output, ReadsFirst, ReadsNext, AppendsLines, Unbegun, AreReadOrUnbegun, LinesAreRead, state_of_output, asm_state, has_any}
 use Rattle.x7_listing.specs.BitLine.{bit_text, IsHeaderOf, FitsHeader}
-use Rattle.x7_text.specs.Reads.{Reads}
+use Rattle.x7_text.specs.Reads.{AppendsIfRead}
 use Rattle.x7_listing.specs.Line.{Line, Empty, Comment, Bytes, Sync, Nop, Write, Read, Write2, Read2, Word, Data, Cmd, Check, line_bytes, FitsLine, text_of}
 use Rattle.x7_listing.specs.declared.assembler.AsmFault.{AsmFault}
 use Rattle.x7_listing.specs.declared.assembler.AsmFault.TheVariants as fault
@@ -41,7 +41,7 @@ goes_header all left held out header start len c n checker fresh h short size up
 first_is : (s t : List ℕ) (ss ts : List (List ℕ)) → s ∷ ss ≡ t ∷ ts → s ≡ t
 first_is s t ss ts e = cc
 
-pub goes_plain : (all left : List (List ℕ)) (held out : List ℕ) (start n : ℕ) (checker : CheckerState) → ((x : Contents) → FitsHeader x → held ≡ bit_text x → ⊥) → Unbegun all (held ∷ left) (asm_state out start checker n) → TextsAreRead all (held ∷ left) (asm_state out start checker n)
+pub goes_plain : (all left : List (List ℕ)) (held out : List ℕ) (start n : ℕ) (checker : CheckerState) → ((x : HeaderContents) → FitsHeader x → held ≡ bit_text x → ⊥) → Unbegun all (held ∷ left) (asm_state out start checker n) → TextsAreRead all (held ∷ left) (asm_state out start checker n)
 goes_plain all left held out start n checker none u =
     let empty : drop start out ≡ [] = ap (drop start) u.out_is ∙ drop-nil start in
     record {
@@ -93,19 +93,19 @@ any_check check (Data words) n = refl
 any_check check (Cmd command) n = refl
 any_check check Check n = absurd (n refl)
 
-pub reads_any : (check : ℕ) (b : Bool) (t old new : List ℕ) → (t ≡ codes "crc" → ⊥) → Reads FitsLine text_of (line_bytes 0) b t old new → Reads FitsLine text_of (line_bytes check) b t old new
+pub reads_any : (check : ℕ) (b : Bool) (t old new : List ℕ) → (t ≡ codes "crc" → ⊥) → AppendsIfRead FitsLine text_of (line_bytes 0) b t old new → AppendsIfRead FitsLine text_of (line_bytes check) b t old new
 reads_any check true t old new n r = (r.0, r.1, r.2, r.3 ∙ ap (λ (bs : List ℕ). old ++ bs) (any_check check r.0 (λ e. n (r.2 ∙ e))))
 reads_any check false t old new n r = r
 
 -- a line only appends
-grown : (check : ℕ) (b : Bool) (t old new : List ℕ) → Reads FitsLine text_of (line_bytes check) b t old new → (more : List ℕ) × (new ≡ old ++ more)
+grown : (check : ℕ) (b : Bool) (t old new : List ℕ) → AppendsIfRead FitsLine text_of (line_bytes check) b t old new → (more : List ℕ) × (new ≡ old ++ more)
 grown check true t old new r = (line_bytes check r.0, r.3)
 grown check false t old new r = ([], r.1 ∙ sym (append-nil old))
 
-pub still_begun : (check : ℕ) (b : Bool) (t old new : List ℕ) (start : ℕ) → Reads FitsLine text_of (line_bytes check) b t old new → start ≤ length old → start ≤ length new
+pub still_begun : (check : ℕ) (b : Bool) (t old new : List ℕ) (start : ℕ) → AppendsIfRead FitsLine text_of (line_bytes check) b t old new → start ≤ length old → start ≤ length new
 still_begun check b t old new start r h = let g = grown check b t old new r in omega (arith, h, ap length g.1, length-append old g.0)
 
-pub keeps_begun : (check : ℕ) (b : Bool) (t old new : List ℕ) (start : ℕ) (checker : CheckerState) → Reads FitsLine text_of (line_bytes check) b t old new → start ≤ length old → KeepsCheckOf checker (drop start old) → KeepsCheckOf checker (drop start new)
+pub keeps_begun : (check : ℕ) (b : Bool) (t old new : List ℕ) (start : ℕ) (checker : CheckerState) → AppendsIfRead FitsLine text_of (line_bytes check) b t old new → start ≤ length old → KeepsCheckOf checker (drop start old) → KeepsCheckOf checker (drop start new)
 keeps_begun check b t old new start checker r h k = let g = grown check b t old new r in still_keeps checker (drop start old) g.0 (drop start new) (ap (drop start) g.1 ∙ drop-append-le start old g.0 h) k
 
 pub first_read : {A : Type 0} (r : Result A AsmFault) (old new : Output) (line : List ℕ) (lines : List (List ℕ)) → length lines ≡ 0 → OnOk r (ReadsFirst old new line) → OnOk r (HasLineRoom new) → IfErr r (FailsFirst old line) → HasReadWithRoom old lines

@@ -5,7 +5,7 @@ use Rattle.std.proofs.lemmas.Bool.{cases_lt}
 use Rattle.std.specs.List.{flat_map}
 use Rattle.x7_words.specs.Word.{AreBytes}
 use Rattle.x7_text.specs.Digits.{hex_byte}
-use Rattle.x7_text.specs.Reads.{Reads}
+use Rattle.x7_text.specs.Reads.{AppendsIfRead}
 use Rattle.x7_text.specs.Row.{IsByteRow}
 use Rattle.x7_text.proofs.WholeLineLemmas.{length_hex_bytes}
 
@@ -56,6 +56,6 @@ module _ (digits done rest row more : List ℕ) (n : ℕ) (prefix : row ≡ take
         | inr long ↦ no_long none (omega (arith, most, long)) t.0 t.1 t.2
       ]
 
-pub unread : (r : Bool) (row old new : List ℕ) → r ≡ false → Reads IsByteRow (flat_map hex_byte) (λ (bs : List ℕ). bs) r row old new → (x : List ℕ) → IsByteRow x → row ≡ flat_map hex_byte x → ⊥
+pub unread : (r : Bool) (row old new : List ℕ) → r ≡ false → AppendsIfRead IsByteRow (flat_map hex_byte) (λ (bs : List ℕ). bs) r row old new → (x : List ℕ) → IsByteRow x → row ≡ flat_map hex_byte x → ⊥
 unread true row old new e h = absurd cc
 unread false row old new e h = h.0

@@ -2,7 +2,7 @@
 ghost use Rattle.std.specs.Prelude.{◌≡◌, ◌≢◌, ℕ, List, ◌∷◌, ◌++◌, ◌≤◌, vec_len, IfOk, IfSome, MatchOption};
 ghost use Rattle.std.specs.List.{flat_map};
 ghost use Rattle.x7_words.specs.Word.{AreBytes};
-ghost use Rattle.x7_header.specs.Header.{Contents, longest_header};
+ghost use Rattle.x7_header.specs.Header.{HeaderContents, longest_header};
 ghost use Rattle.x7_text.specs.Digits.{hex_byte};
 ghost use Rattle.x7_listing.specs.BitLine.{bit_text, field_text, HasFieldFirst, IsCutAtSpace, IsField, IsHeaderOf, FitsHeader};
 ghost use Rattle.x7_words.specs.Characters.{space_byte};
@@ -10,7 +10,7 @@ ghost use Rattle.x7_words.specs.Characters.{space_byte};
 use memchr::memchr;
 use std::alloc::Global;
 use x7_header::{Head, LONGEST_TEXT, write_header};
-use x7_text::{after, make_room, number_of_decimal, put_byte_row};
+use x7_text::{after, make_room, number_of_decimal, read_byte_row};
 use x7_words::{NoMemory, is_same};
 
 /// The bytes of a text of pairs of hexadecimal digits; `None` for any other text.
@@ -23,7 +23,7 @@ fn bytes_of_pairs(alloc: Global, digits: &[u8]) -> Result<Option<Vec<u8>>, NoMem
     while !rest.is_empty() {
         let (row, more) = rest.split_at(rest.len().min(64));
         make_room(&mut bytes, 32)?;
-        if !put_byte_row(&mut bytes, row) {
+        if !read_byte_row(&mut bytes, row) {
             return Ok(None);
         }
         rest = more;
@@ -71,7 +71,7 @@ fn first_field(alloc: Global, text: &[u8]) -> Result<Option<(Vec<u8>, &[u8])>, N
 
 /// The header whose line this is, as bytes; `None` where the text is no header's line.
 pub(crate) fn header_of_line(alloc: Global, line: &[u8]) -> Result<Option<Vec<u8>>, NoMemory>
-    ensures found { IfOk result (λ found. MatchOption found ((x : Contents) → FitsHeader x → line.now ≢ bit_text x) (λ bytes. IsHeaderOf line.now bytes.items)) }
+    ensures found { IfOk result (λ found. MatchOption found ((x : HeaderContents) → FitsHeader x → line.now ≢ bit_text x) (λ bytes. IsHeaderOf line.now bytes.items)) }
     ensures most { IfOk result (λ found. IfSome found (λ bytes. vec_len bytes ≤ longest_header)) }
 {
     let Some(fields) = after(line, b"bit ") else {

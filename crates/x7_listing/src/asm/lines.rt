@@ -1,6 +1,6 @@
 //! The bytes of a text's lines, as the lines come.
 ghost use Rattle.std.specs.Prelude.{◌≡◌, ℕ, List, [], ◌∷◌, ◌++◌, ◌+◌, ◌≤◌, drop, length, vec_len, vec_capacity, Ok, IfErr, OnOk, MatchResult};
-ghost use Rattle.x7_text.specs.Reads.{Reads};
+ghost use Rattle.x7_text.specs.Reads.{AppendsIfRead};
 ghost use Rattle.x7_crc.specs.Checker.{check_of_bytes, KeepsCheckOf};
 ghost use Rattle.x7_listing.specs.Assembly.{AreHeadedAsm};
 ghost use Rattle.x7_listing.specs.Assembling.{HasReadWithRoom, FailsFirst, FailsNext, HasAsmFault, HasLineRoom, HasRoomForLine, IsFirstOrGood, Output, ReadsFirst, ReadsNext, AppendsLines};
@@ -23,7 +23,7 @@ fn put_checked(out: &mut Vec<u8>, start: usize, checker: &mut Checker, line: &[u
     requires room { HasRoomForLine out.old }
     requires start { start ≤ length out.old.items }
     requires keeps { KeepsCheckOf checker.old (drop start out.old.items) }
-    ensures reads { Reads FitsLine text_of (line_bytes (check_of_bytes (drop start out.old.items))) result line.now out.old.items out.new.items }
+    ensures reads { AppendsIfRead FitsLine text_of (line_bytes (check_of_bytes (drop start out.old.items))) result line.now out.old.items out.new.items }
     ensures start { start ≤ length out.new.items }
     ensures keeps { KeepsCheckOf checker.new (drop start out.new.items) }
 {
@@ -153,13 +153,17 @@ impl TakesLines for AsmLines {
         AsmFault::NoMemory
     }
 
-    fn put_line(&mut self, n: u64, line: &[u8]) -> Result<(), AsmFault> {
-        self.put_next(n, line)
+    fn take_line(&mut self, line_number: u64, line: &[u8]) -> Result<(), AsmFault> {
+        self.put_next(line_number, line)
     }
 
-    fn put_lines<'t>(&mut self, n: u64, text: &'t [u8]) -> Result<(&'t [u8], u64), AsmFault> {
+    fn take_lines<'t>(
+        &mut self,
+        line_count: u64,
+        text: &'t [u8],
+    ) -> Result<(&'t [u8], u64), AsmFault> {
         let mut rest = text;
-        let mut count = n;
+        let mut count = line_count;
         loop {
             let quick = self.put_at_once(count, rest);
             count = count.saturating_add(quick.count);
@@ -173,9 +177,9 @@ impl TakesLines for AsmLines {
         }
     }
 
-    fn put_last(self, n: u64, line: &[u8]) -> Result<Vec<u8>, AsmFault> {
+    fn take_last(self, line_number: u64, line: &[u8]) -> Result<Vec<u8>, AsmFault> {
         let mut last = self;
-        last.put_next(n, line)?;
+        last.put_next(line_number, line)?;
         Ok(last.out)
     }
 }

@@ -12,18 +12,20 @@ ghost use Rattle.x7_listing.specs.Line.{type1_text, line_bytes, FitsLine, IsType
 ghost use Rattle.x7_words.specs.Characters.{space_byte};
 ghost use Rattle.x7_listing.specs.BitLine.{IsFirstSpace};
 ghost use Rattle.x7_listing.specs.OneWord.{IsWordOf, PutsWord};
-ghost use Rattle.x7_text.specs.Reads.{Reads, StaysWithin};
+ghost use Rattle.x7_text.specs.Reads.{AppendsIfRead, StaysWithin};
 ghost use Rattle.x7_text.specs.Row.{bytes_row_size};
 
 use x7_packets::{
     NO_OP, SYNC_WORD, type1_read_header, type1_write_header, type2_read_header, type2_write_header,
 };
 use x7_regs::{Reg, command_named, reg_named};
-use x7_text::{after, decimal_below, put, put_byte_row, put_word_row, word_of_hex};
+use x7_text::{
+    BYTES_ROW_SIZE, after, decimal_below, put, read_byte_row, read_word_row, word_of_hex,
+};
 use x7_words::{bytes_of, is_same};
 
-/// How many bytes the row of a line has at most; a line of another kind stands for fewer.
-pub(crate) const MOST_ROW_SIZE: usize = 32;
+/// The most bytes that a line stands for: those of a full `bytes` line, as many as a full `data` line's words have.
+pub(crate) const MOST_ROW_SIZE: usize = BYTES_ROW_SIZE;
 
 /// How many word counts a type 1 header can say: each is below this (UG470, packet types).
 const TYPE1_COUNTS: u32 = 1 << 11;
@@ -180,7 +182,7 @@ fn read_of(text: &[u8]) -> Option<u32>
 /// `false`: the line is none of these.
 fn put_plain(out: &mut Vec<u8>, check: u32, line: &[u8]) -> bool
     requires { HasRoomForLine out.old }
-    ensures reads { Reads IsPlain text_of (line_bytes check) result line.now out.old.items out.new.items }
+    ensures reads { AppendsIfRead IsPlain text_of (line_bytes check) result line.now out.old.items out.new.items }
     ensures room { StaysWithin out.old out.new bytes_row_size }
 {
     if is_same(line, b"") {
@@ -202,7 +204,7 @@ fn put_plain(out: &mut Vec<u8>, check: u32, line: &[u8]) -> bool
 /// line.
 pub(crate) fn put_line(out: &mut Vec<u8>, check: u32, line: &[u8]) -> bool
     requires { HasRoomForLine out.old }
-    ensures reads { Reads FitsLine text_of (line_bytes check) result line.now out.old.items out.new.items }
+    ensures reads { AppendsIfRead FitsLine text_of (line_bytes check) result line.now out.old.items out.new.items }
     ensures room { StaysWithin out.old out.new bytes_row_size }
 {
     if is_same(line, b"nop") {
@@ -210,7 +212,7 @@ pub(crate) fn put_line(out: &mut Vec<u8>, check: u32, line: &[u8]) -> bool
         return true;
     }
     if let Some(words) = after(line, b"data") {
-        return put_word_row(out, words);
+        return read_word_row(out, words);
     }
     if let Some(fields) = after(line, b"write ") {
         return put_found(out, write_of(fields));
@@ -219,7 +221,7 @@ pub(crate) fn put_line(out: &mut Vec<u8>, check: u32, line: &[u8]) -> bool
         return put_found(out, command_word(name));
     }
     if let Some(digits) = after(line, b"bytes ") {
-        return put_byte_row(out, digits);
+        return read_byte_row(out, digits);
     }
     if let Some(digits) = after(line, b"word ") {
         return put_found(out, word_in(digits));

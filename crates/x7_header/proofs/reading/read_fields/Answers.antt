@@ -11,7 +11,8 @@ returns-in_err-d c =
 
 pub returns-in_err-length : goal.returns-in_err-length
 returns-in_err-length c =
-    gives_fault _ c.from_residual-in_err-length.result _ c.in_err-length.field-0.0 c.from_residual-in_err-length.ensures.0 c.from_residual-in_err-length.ensures.1 (fault_at_e _ _ _ _ _ _ _ _ _ _ _ c.in_ok-a.ensures.value c.in_ok-b.ensures.value c.in_ok-c.ensures.value c.in_ok-d.ensures.value c.in_err-length.ensures.value)
+    gives_fault _ c.from_residual-in_err-length.result _ c.in_err-length.field-0.0 c.from_residual-in_err-length.ensures.0 c.from_residual-in_err-length.ensures.1
+    (fault_at_e _ _ _ _ _ _ _ _ _ _ _ c.in_ok-a.ensures.value c.in_ok-b.ensures.value c.in_ok-c.ensures.value c.in_ok-d.ensures.value c.in_err-length.ensures.value)
 
 pub returns : goal.returns
 returns c =

@@ -4,10 +4,10 @@ use Rattle.x7_svf.specs.Fields.{Inside, Named, Scanning, after_name, after_field
 use Rattle.x7_svf.specs.Token.{token_size}
 use Rattle.x7_svf.specs.Reading.{StepsOver}
 use Rattle.x7_svf.specs.Source.{SourceState}
-use Rattle.x7_svf.specs.Span.{AreWithin, IsPlaceWithin, at_of, fields_of, scanning_of}
-use Rattle.x7_svf.specs.declared.fields.Field.{Field}
-use Rattle.x7_svf.specs.declared.fields.Place.{Place}
-use Rattle.x7_svf.specs.declared.fields.Place.TheVariants as place
+use Rattle.x7_svf.specs.Span.{AreWithin, IsPlaceWithin, scan_place_of, fields_of, scanning_of}
+use Rattle.x7_svf.specs.declared.fields.ScanField.{ScanField}
+use Rattle.x7_svf.specs.declared.fields.ScannerPlace.{ScannerPlace}
+use Rattle.x7_svf.specs.declared.fields.ScannerPlace.TheVariants as place
 use Rattle.x7_svf.specs.declared.token.NextToken.{NextToken}
 use Rattle.x7_svf.specs.declared.token.NextToken.TheVariants as next_token
 use Rattle.x7_svf.proofs.FieldLemmas.{digits_more, fields_more, none_between, none_holds, none_inside, none_named, step_at}
@@ -58,7 +58,7 @@ returns-in-Named-Open c =
     let old = c.args.source.now in
     let new = c.skip-in-Named-Open.new.self in
     let spans = c.args.scanner.spans in
-    let k : Field = c.in-Named-Open.field in
+    let k : ScanField = c.in-Named-Open.field in
     let same : new.kept ≡ old.kept = ap (λ (s : SourceState). s.kept) c.skip-in-Named-Open.ensures in
     let none : drop (length c.kept.result.now) new.kept ≡ [] = drop_all (length c.kept.result.now) new.kept (omega (arith, ap length c.kept.ensures.now)) in
     let scanning : ◌≡◌ {A = Scanning} (record { at = Inside k (drop (length c.kept.result.now) new.kept); fields = fields_of new.kept spans }) (record { at = Inside k []; fields = fields_of old.kept spans }) = λ i. record { at = Inside k (none i); fields = fields_of (same i) spans } in
@@ -84,7 +84,7 @@ returns-else-not-are_hex c =
     let old = c.args.source.now in
     let new = c.keep.new.self in
     let spans = c.args.scanner.spans in
-    let k : Field = c.in-Inside-Word.field-0-0 in
+    let k : ScanField = c.in-Inside-Word.field-0-0 in
     let from : ℕ = c.in-Inside-Word.field-1-0 in
     let n : ℕ = c.in-Inside-Word.length in
     let word : List ℕ = take n old.rest in
@@ -93,7 +93,7 @@ returns-else-not-are_hex c =
     let begun : from ≤ length old.kept = subst (IsPlaceWithin (length old.kept)) c.in-Inside-Word.is-0 c.requires.within.0 in
     let digits : are_hex word ≡ true = sym (c.are_hex.ensures ∙ ap (λ (r : List ℕ). are_hex (take n r)) c.rest-in-Inside-Word.ensures) ∙ c.if-not-are_hex.false in
     record {
-      scans = ap (λ (p : Place). Some (record { at = at_of new.kept p; fields = fields_of new.kept spans })) c.in-Inside-Word.is-0
+      scans = ap (λ (p : ScannerPlace). Some (record { at = scan_place_of new.kept p; fields = fields_of new.kept spans })) c.in-Inside-Word.is-0
           ∙ digits_more old.kept word new.kept spans k from grown begun c.requires.within.1 digits
           ∙ step_at old.kept old.rest spans c.args.scanner.place (place.Inside k from) c.args.token (next_token.Word n) c.in-Inside-Word.is-0 c.in-Inside-Word.is-1;
       within = (subst (IsPlaceWithin (length new.kept)) (sym c.in-Inside-Word.is-0) (omega (arith, long, begun)), fields_more (length old.kept) (length new.kept) spans (omega (arith, long)) c.requires.within.1);
@@ -109,7 +109,7 @@ returns-in_ok-spans-in-Inside-Close c =
     let old = c.args.source.now in
     let new = c.skip-in-Inside-Close.new.self in
     let spans = c.args.scanner.spans in
-    let k : Field = c.in-Inside-Close.field in
+    let k : ScanField = c.in-Inside-Close.field in
     let from : ℕ = c.in-Inside-Close.from in
     let same : new.kept ≡ old.kept = ap (λ (s : SourceState). s.kept) c.skip-in-Inside-Close.ensures in
     let closed = c.in_ok-spans-in-Inside-Close.ensures in
@@ -123,7 +123,7 @@ returns-in_ok-spans-in-Inside-Close c =
 pub returns-in_default-3 : goal.returns-in_default-3
 returns-in_default-3 c =
     let old = c.args.source.now in
-    let k : Field = c.in_default.field-0-0 in
+    let k : ScanField = c.in_default.field-0-0 in
     let from : ℕ = c.in_default.field-1-0 in
     record {
       scans = none_inside k (drop from old.kept) (fields_of old.kept c.args.scanner.spans) c.args.token old.rest c.in_default.not-Word-1 c.in_default.not-Close-1

@@ -29,5 +29,6 @@ returns c =
     record {
       says = subst (λ (s : Option Statement). IsStored after.kept c.statement_by.result s) said c.statement_by.ensures.says;
       reads_on = reads_if c.statement_by.result old mid after (reads_token old here mid (next_token.Word n) next.blanks goes_on steps) c.statement_by.ensures.reads_on;
-      passed = passed_if c.statement_by.result here mid after n (length old.rest) (subst (λ (t : NextToken). 0 < token_size t) is_word next.comes_next.not_empty) (subst (λ (t : NextToken). token_size t ≤ length here.rest) is_word next.comes_next.within) next.blanks.passed steps c.statement_by.ensures.reads_on;
+      passed = passed_if c.statement_by.result here mid after n (length old.rest) (subst (λ (t : NextToken). 0 < token_size t) is_word next.comes_next.not_empty)
+          (subst (λ (t : NextToken). token_size t ≤ length here.rest) is_word next.comes_next.within) next.blanks.passed steps c.statement_by.ensures.reads_on;
     }

@@ -25,7 +25,8 @@ loop-token-preserved c =
           (words_kept after.kept c.in-Some-with_word.more) word (tokens_left after) (c.in-Some-with_word.ensures.one_more after.kept ∙ ap (λ (ws : List (List ℕ)). ws ++ word ∷ []) stay) c.keep_word-word.ensures.word
           (λ i. tokens (c.keep_word-word.ensures.steps.line i) (c.keep_word-word.ensures.steps.rest i));
       within = c.in-Some-with_word.ensures.within (length after.kept) (words_more (length at.kept) (length after.kept) c.loop-token.words long c.loop-token.invariant.within) c.keep_word-word.ensures.within;
-      reads_on = reads_both c.args.source.now at after c.loop-token.invariant.reads_on (reads_token at here after (next_token.Word c.in-Word.size) c.in-Some.ensures.blanks (c.in-Some.ensures.after_end ∙ ap (λ (t : NextToken). tokens_after_end (left_after here t)) c.in-Word.is) c.keep_word-word.ensures.steps);
+      reads_on = reads_both c.args.source.now at after c.loop-token.invariant.reads_on
+          (reads_token at here after (next_token.Word c.in-Word.size) c.in-Some.ensures.blanks (c.in-Some.ensures.after_end ∙ ap (λ (t : NextToken). tokens_after_end (left_after here t)) c.in-Word.is) c.keep_word-word.ensures.steps);
     }
 
 pub returns-clause-says : goal.returns-clause-says

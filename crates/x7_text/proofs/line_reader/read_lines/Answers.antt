@@ -10,9 +10,9 @@ returns-clause-read g c = λ begun.
     let first = c.args.taker in
     let text = c.args.text.now in
     let rest = c.in_ok-line.line.now in
-    let w : TakesWhole (g.T.TakesLines.took first) [] text c.put_lines.new.self rest c.in_ok-line.count = c.in_ok-line.ensures.read first [] refl (omega arith) begun in
-    subst (λ ls. MatchResult c.put_last.result (λ out. g.T.TakesLines.gives first out ls) (λ fault. g.T.TakesLines.fails first fault ls)) (sym w.cut)
-    (c.put_last.ensures.read first w.more (omega (arith, c.saturating_add.ensures, w.count, cut_long text rest w.more w.cut)) w.took)
+    let w : TakesWhole (g.T.TakesLines.took first) [] text c.take_lines.new.self rest c.in_ok-line.count = c.in_ok-line.ensures.read first [] refl (omega arith) begun in
+    subst (λ ls. MatchResult c.take_last.result (λ out. g.T.TakesLines.gives first out ls) (λ fault. g.T.TakesLines.fails first fault ls)) (sym w.cut)
+    (c.take_last.ensures.read first w.more (omega (arith, c.saturating_add.ensures, w.count, cut_long text rest w.more w.cut)) w.took)
 
 pub returns-in_err-line-clause-read : goal.returns-in_err-line-clause-read
 returns-in_err-line-clause-read g c =
@@ -25,9 +25,9 @@ returns-clause-memory g c = λ begun.
     let first = c.args.taker in
     let text = c.args.text.now in
     let rest = c.in_ok-line.line.now in
-    let w : TakesWhole (g.T.TakesLines.took first) [] text c.put_lines.new.self rest c.in_ok-line.count = c.in_ok-line.ensures.read first [] refl (omega arith) begun in
-    wants_last (g.T.TakesLines.wants first) [] c.put_last.result g.T.TakesLines.is_want w.more text rest w.cut
-    (c.put_last.ensures.memory first w.more (omega (arith, c.saturating_add.ensures, w.count, cut_long text rest w.more w.cut)) w.took)
+    let w : TakesWhole (g.T.TakesLines.took first) [] text c.take_lines.new.self rest c.in_ok-line.count = c.in_ok-line.ensures.read first [] refl (omega arith) begun in
+    wants_last (g.T.TakesLines.wants first) [] c.take_last.result g.T.TakesLines.is_want w.more text rest w.cut
+    (c.take_last.ensures.memory first w.more (omega (arith, c.saturating_add.ensures, w.count, cut_long text rest w.more w.cut)) w.took)
 
 pub returns-in_err-line-clause-memory : goal.returns-in_err-line-clause-memory
 returns-in_err-line-clause-memory g c =

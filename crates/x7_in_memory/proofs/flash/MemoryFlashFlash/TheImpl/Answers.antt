@@ -32,7 +32,10 @@ pub program-tells : goal.program-tells
 program-tells c =
     let old = c.args.self.now in
     let new = c.new.self.now in
-    let p = promised old new c.args.place (cleared c.args.place c.args.given.now old.bytes) (omega (arith, length_cleared c.args.place c.args.given.now old.bytes c.requires.within, c.requires.within)) c.result (c.ensures.answer ∙ ap (flash_write_fails old) (sym (length_cleared c.args.place c.args.given.now old.bytes c.requires.within))) c.ensures.after in
+    let p =
+    promised old new c.args.place (cleared c.args.place c.args.given.now old.bytes)
+    (omega (arith, length_cleared c.args.place c.args.given.now old.bytes c.requires.within, c.requires.within)) c.result
+    (c.ensures.answer ∙ ap (flash_write_fails old) (sym (length_cleared c.args.place c.args.given.now old.bytes c.requires.within))) c.ensures.after in
     record {
       programmed = p.written;
       torn = p.torn;

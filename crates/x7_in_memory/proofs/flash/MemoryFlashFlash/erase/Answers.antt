@@ -16,7 +16,22 @@ returns-in_err-begin_write-clause-after c =
 pub returns-clause-after : goal.returns-clause-after
 returns-clause-after c =
     let f = c.self.inside in
-    let start : FlashInMemory = record { name = string_bytes f.name; bytes = f.bytes.items; attached = f.attached; asked = f.asked; seen_from = f.seen_from; seen_to = f.seen_to; absences = f.absences; calls = f.calls; read_faults = f.read_faults; write_faults = f.write_faults; writes = f.writes; tear = tear_of f.tear; stopped = f.stopped } in
+    let start : FlashInMemory =
+    record {
+      name = string_bytes f.name;
+      bytes = f.bytes.items;
+      attached = f.attached;
+      asked = f.asked;
+      seen_from = f.seen_from;
+      seen_to = f.seen_to;
+      absences = f.absences;
+      calls = f.calls;
+      read_faults = f.read_faults;
+      write_faults = f.write_faults;
+      writes = f.writes;
+      tear = tear_of f.tear;
+      stopped = f.stopped;
+    } in
     let is_begun : start ≡ begun c.args.self.now = c.self.view_is ∙ c.in_ok-begin_write.ensures.begun in
     let place = c.args.sector * 65536 in
     let t = c.deref.result.now in

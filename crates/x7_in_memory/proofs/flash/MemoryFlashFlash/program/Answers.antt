@@ -10,12 +10,29 @@ use Rattle.x7_in_memory.proofs.flash.MemoryFlashFlash.program.Goals as goal
 
 pub returns-in_err-begin_write-clause-after : goal.returns-in_err-begin_write-clause-after
 returns-in_err-begin_write-clause-after c =
-    refused_after c.args.self.now c.begin_write.new.self c.args.place (length c.args.given.now) (cleared c.args.place c.args.given.now c.args.self.now.bytes) (length_cleared c.args.place c.args.given.now c.args.self.now.bytes c.requires.within) (sym c.begin_write.ensures.answer ∙ ap is_err c.in_err-begin_write.was) c.in_err-begin_write.ensures.refused
+    refused_after c.args.self.now c.begin_write.new.self c.args.place (length c.args.given.now) (cleared c.args.place c.args.given.now c.args.self.now.bytes)
+    (length_cleared c.args.place c.args.given.now c.args.self.now.bytes c.requires.within)
+    (sym c.begin_write.ensures.answer ∙ ap is_err c.in_err-begin_write.was) c.in_err-begin_write.ensures.refused
 
 pub write_target-requires-clause-within : goal.write_target-requires-clause-within
 write_target-requires-clause-within c =
     let f = c.self.inside in
-    let start : FlashInMemory = record { name = string_bytes f.name; bytes = f.bytes.items; attached = f.attached; asked = f.asked; seen_from = f.seen_from; seen_to = f.seen_to; absences = f.absences; calls = f.calls; read_faults = f.read_faults; write_faults = f.write_faults; writes = f.writes; tear = tear_of f.tear; stopped = f.stopped } in
+    let start : FlashInMemory =
+    record {
+      name = string_bytes f.name;
+      bytes = f.bytes.items;
+      attached = f.attached;
+      asked = f.asked;
+      seen_from = f.seen_from;
+      seen_to = f.seen_to;
+      absences = f.absences;
+      calls = f.calls;
+      read_faults = f.read_faults;
+      write_faults = f.write_faults;
+      writes = f.writes;
+      tear = tear_of f.tear;
+      stopped = f.stopped;
+    } in
     let is_begun : start ≡ begun c.args.self.now = c.self.view_is ∙ c.in_ok-begin_write.ensures.begun in
     let bytes : f.bytes.items ≡ c.args.self.now.bytes = ap (λ x. x.bytes) is_begun in
     let is : c.deref-2.result.now ≡ cleared c.args.place c.args.given.now c.args.self.now.bytes =
@@ -26,7 +43,22 @@ write_target-requires-clause-within c =
 pub write_target-requires-clause-room : goal.write_target-requires-clause-room
 write_target-requires-clause-room c =
     let f = c.self.inside in
-    let start : FlashInMemory = record { name = string_bytes f.name; bytes = f.bytes.items; attached = f.attached; asked = f.asked; seen_from = f.seen_from; seen_to = f.seen_to; absences = f.absences; calls = f.calls; read_faults = f.read_faults; write_faults = f.write_faults; writes = f.writes; tear = tear_of f.tear; stopped = f.stopped } in
+    let start : FlashInMemory =
+    record {
+      name = string_bytes f.name;
+      bytes = f.bytes.items;
+      attached = f.attached;
+      asked = f.asked;
+      seen_from = f.seen_from;
+      seen_to = f.seen_to;
+      absences = f.absences;
+      calls = f.calls;
+      read_faults = f.read_faults;
+      write_faults = f.write_faults;
+      writes = f.writes;
+      tear = tear_of f.tear;
+      stopped = f.stopped;
+    } in
     let is_begun : start ≡ begun c.args.self.now = c.self.view_is ∙ c.in_ok-begin_write.ensures.begun in
     let bytes : f.bytes.items ≡ c.args.self.now.bytes = ap (λ x. x.bytes) is_begun in
     let is : c.deref-2.result.now ≡ cleared c.args.place c.args.given.now c.args.self.now.bytes =
@@ -37,7 +69,22 @@ write_target-requires-clause-room c =
 pub returns-clause-after : goal.returns-clause-after
 returns-clause-after c =
     let f = c.self.inside in
-    let start : FlashInMemory = record { name = string_bytes f.name; bytes = f.bytes.items; attached = f.attached; asked = f.asked; seen_from = f.seen_from; seen_to = f.seen_to; absences = f.absences; calls = f.calls; read_faults = f.read_faults; write_faults = f.write_faults; writes = f.writes; tear = tear_of f.tear; stopped = f.stopped } in
+    let start : FlashInMemory =
+    record {
+      name = string_bytes f.name;
+      bytes = f.bytes.items;
+      attached = f.attached;
+      asked = f.asked;
+      seen_from = f.seen_from;
+      seen_to = f.seen_to;
+      absences = f.absences;
+      calls = f.calls;
+      read_faults = f.read_faults;
+      write_faults = f.write_faults;
+      writes = f.writes;
+      tear = tear_of f.tear;
+      stopped = f.stopped;
+    } in
     let is_begun : start ≡ begun c.args.self.now = c.self.view_is ∙ c.in_ok-begin_write.ensures.begun in
     let place = c.args.place in
     let t = c.deref-2.result.now in

@@ -1,6 +1,6 @@
 use Rattle.std.proofs.Common.{◌≡◌, ◌-◌, IsTrue, List, ℕ, ap, drop, length, subst, take, ◌∙◌}
 use Rattle.x7_crc.specs.Checker.{check_of_bytes, KeepsCheckOf}
-use Rattle.x7_text.specs.Reads.{Reads}
+use Rattle.x7_text.specs.Reads.{AppendsIfRead}
 use Rattle.x7_listing.specs.Line.{line_bytes, FitsLine, text_of}
 use Rattle.x7_listing.proofs.asm.AsmLinesLemmas.{keeps_begun, reads_any, still_begun}
 use Rattle.x7_listing.proofs.asm.fast.QuickLemmas.{left_from}
@@ -28,7 +28,7 @@ returns c =
     let left = ap (λ (t : List ℕ). take (length t - c.args.start) (drop c.args.start t)) c.deref.ensures.value ∙ left_from c.args.start c.args.out.now.items c.requires.start in
     let is : c.check_of-check.result ≡ check_of_bytes (drop c.args.start c.args.out.now.items) = c.check_of-check.ensures.check ∙ ap check_of_bytes left in
     record {
-      reads = subst (λ (k : ℕ). Reads FitsLine text_of (line_bytes k) c.put_line-2.result line old new) is r;
+      reads = subst (λ (k : ℕ). AppendsIfRead FitsLine text_of (line_bytes k) c.put_line-2.result line old new) is r;
       start = still_begun check c.put_line-2.result line old new c.args.start r c.requires.start;
       keeps = keeps_begun check c.put_line-2.result line old new c.args.start c.check_of-check.new.self r c.requires.start (subst (λ (bs : List ℕ). KeepsCheckOf c.check_of-check.new.self bs) left c.check_of-check.ensures.keeps);
     }

@@ -4,10 +4,10 @@ use Rattle.x7_listing.proofs.LineLemmas.{data_line, bytes_line, word_line, cmd_l
 use Rattle.x7_listing.proofs.asm.reading.put_line.Goals as goal
 
 pub returns-in-Some-clause-reads : goal.returns-in-Some-clause-reads
-returns-in-Some-clause-reads c = data_line c.args.check c.put_word_row.result c.args.line.now c.in-Some.words.now c.args.out.now.items c.put_word_row.new.out.items c.in-Some.ensures c.put_word_row.ensures.reads
+returns-in-Some-clause-reads c = data_line c.args.check c.read_word_row.result c.args.line.now c.in-Some.words.now c.args.out.now.items c.read_word_row.new.out.items c.in-Some.ensures c.read_word_row.ensures.reads
 
 pub returns-in-Some-after-3-clause-reads : goal.returns-in-Some-after-3-clause-reads
-returns-in-Some-after-3-clause-reads c = bytes_line c.args.check c.put_byte_row.result c.args.line.now c.in-Some-after-3.digits.now c.args.out.now.items c.put_byte_row.new.out.items c.in-Some-after-3.ensures c.put_byte_row.ensures.reads
+returns-in-Some-after-3-clause-reads c = bytes_line c.args.check c.read_byte_row.result c.args.line.now c.in-Some-after-3.digits.now c.args.out.now.items c.read_byte_row.new.out.items c.in-Some-after-3.ensures c.read_byte_row.ensures.reads
 
 pub returns-in-Some-after-4-clause-reads : goal.returns-in-Some-after-4-clause-reads
 returns-in-Some-after-4-clause-reads c = word_line c.args.check c.put_found-in-Some-after-4.result c.args.line.now c.in-Some-after-4.digits.now c.args.out.now.items c.put_found-in-Some-after-4.new.out.items c.word_in.result c.put_found-in-Some-after-4.ensures.puts c.in-Some-after-4.ensures c.word_in.ensures

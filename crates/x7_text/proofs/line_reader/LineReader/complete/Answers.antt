@@ -16,12 +16,12 @@ returns-in_default-more g c = λ first text fits now.
     let p = only_line piece line (at_none piece line c.first_line.result.1 c.in_default-more.is c.first_line.ensures) in
     held_on taken r _ text piece refl refl (c.in-Ok.ensures.items ∙ ap (λ t. r.held ++ t) (sym p.0)) p.1 s
 
-pub returns-in_err-put_line : goal.returns-in_err-put_line
-returns-in_err-put_line g c =
+pub returns-in_err-take_line : goal.returns-in_err-take_line
+returns-in_err-take_line g c =
     let p = err_from_is_err_and c.from_residual.result c.from_residual.ensures.1 in
     rw (p.1, p.2) (λ first text fits now.
     let taken = g.T.TakesLines.took first in
-    let fails = g.T.TakesLines.fails first c.in_err-put_line.field-0.0 in
+    let fails = g.T.TakesLines.fails first c.in_err-take_line.field-0.0 in
     let piece = c.args.piece.now in
     let line = c.first_line.result.0.now in
     let rest = c.in-Some.rest.now in
@@ -31,7 +31,7 @@ returns-in_err-put_line g c =
     let is : c.deref.result.now ≡ r.held ++ line = c.deref.ensures.value ∙ c.in-Ok.ensures.items in
     line_fails taken fails r text piece line rest s e
     (λ more. subst (λ t. fails (s.lines ++ t ∷ split more)) is
-    (c.in_err-put_line.ensures.read first s.lines (omega (arith, c.saturating_add-self-inside.ensures, few_lines taken r text s, s.count, fits, length-append text piece)) s.took more)))
+    (c.in_err-take_line.ensures.read first s.lines (omega (arith, c.saturating_add-self-inside.ensures, few_lines taken r text s, s.count, fits, length-append text piece)) s.took more)))
 
 pub returns : goal.returns
 returns g c = λ first text fits now.
@@ -45,4 +45,4 @@ returns g c = λ first text fits now.
     let is : c.deref.result.now ≡ r.held ++ line = c.deref.ensures.value ∙ c.in-Ok.ensures.items in
     let n : c.saturating_add-self-inside.result ≡ r.count + 1 = omega (arith, c.saturating_add-self-inside.ensures, few_lines taken r text s, fits, length-append text piece) in
     line_ends taken r _ text piece line rest s e c.clear.ensures.items n
-    (subst (λ t. taken c.put_line.new.self (s.lines ++ t ∷ [])) is (c.in_ok-put_line.ensures.read first s.lines (omega (arith, n, s.count)) s.took))
+    (subst (λ t. taken c.take_line.new.self (s.lines ++ t ∷ [])) is (c.in_ok-take_line.ensures.read first s.lines (omega (arith, n, s.count)) s.took))

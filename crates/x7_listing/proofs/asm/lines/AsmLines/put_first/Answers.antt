@@ -1,6 +1,6 @@
 use Rattle.std.proofs.Common.{◌≡◌, List, ℕ, arith, inl, inr, refl, subst, sym}
 use Rattle.std.proofs.lemmas.Result.{on_ok_weaker}
-use Rattle.x7_header.specs.Header.{Contents}
+use Rattle.x7_header.specs.Header.{HeaderContents}
 use Rattle.x7_listing.specs.Assembling.{TextsAreRead, IsSoundOutput, asm_state}
 use Rattle.x7_listing.specs.BitLine.{bit_text, IsHeaderOf, FitsHeader}
 use Rattle.x7_listing.proofs.asm.AsmLinesLemmas.{err_weaker, goes_header, goes_plain, header_sound, if_some}
@@ -23,7 +23,7 @@ returns-in-Some-clause-reads c = λ all left u.
 pub returns-clause-reads : goal.returns-clause-reads
 returns-clause-reads c = on_ok_weaker c.put_one.result (λ h all left u.
     let b = c.args.self.now in
-    let none : (x : Contents) → FitsHeader x → c.args.line.now ≡ bit_text x → ⊥ = none_of _ _ c.in_ok-header.field-0 c.in_default.is c.in_ok-header.ensures.found in
+    let none : (x : HeaderContents) → FitsHeader x → c.args.line.now ≡ bit_text x → ⊥ = none_of _ _ c.in_ok-header.field-0 c.in_default.is c.in_ok-header.ensures.found in
     h all left 0 refl (goes_plain all left c.args.line.now b.out b.start 0 b.checker none u)) c.put_one.ensures.reads
 
 pub returns-clause-fault : goal.returns-clause-fault
@@ -31,6 +31,6 @@ returns-clause-fault c = err_weaker c.put_one.result (λ f. elim [
   | inl none ↦ inl none
   | inr h ↦ inr (λ all left u.
       let b = c.args.self.now in
-      let none : (x : Contents) → FitsHeader x → c.args.line.now ≡ bit_text x → ⊥ = none_of _ _ c.in_ok-header.field-0 c.in_default.is c.in_ok-header.ensures.found in
+      let none : (x : HeaderContents) → FitsHeader x → c.args.line.now ≡ bit_text x → ⊥ = none_of _ _ c.in_ok-header.field-0 c.in_default.is c.in_ok-header.ensures.found in
       h all left 0 refl (goes_plain all left c.args.line.now b.out b.start 0 b.checker none u))
 ]) c.put_one.ensures.fault
