@@ -3,7 +3,7 @@ ghost use Rattle.std.specs.Prelude.{◌≡◌, ◌≤◌, ◌<◌, ◌+◌, ◌-
 ghost use Rattle.x7_engine.specs.Standing.{CanBeGiven, NoWordDue, fed_of};
 ghost use Rattle.x7_engine.specs.Undo.{SavesDevice, UndoState};
 ghost use Rattle.x7_debug.specs.Journal.{AreRecordsOf, IsFedAsTaken, IsOnStream, KeepsOldest, oldest_by, record_reach, record_room, records_of};
-ghost use Rattle.x7_debug.specs.Session.{TakesPiece};
+ghost use Rattle.x7_debug.specs.Session.{TakesUpToStop};
 
 use circular_buffer::HeapCircularBuffer;
 use std::alloc::Global;
@@ -76,7 +76,7 @@ impl Journal {
         requires fits { CanBeGiven device.old (length piece.now) }
         requires no_word_due { NoWordDue device.old }
         requires records { AreRecordsOf device.old.part self.old }
-        ensures takes { TakesPiece device.old device.new piece.now }
+        ensures takes { TakesUpToStop device.old device.new piece.now }
         ensures fed { IsFedAsTaken device.old device.new }
         ensures records { AreRecordsOf device.old.part self.new }
         ensures recorded { (u : UndoState) × SavesDevice u device.old × (records_of self.new ≡ u ∷ take (record_room - 1) (records_of self.old)) }

@@ -78,7 +78,7 @@ pub record SavesDevice (u : UndoState) (d : DeviceState) : Type 0 where
 
 -- What is saved leads from a device back to an old one: the values are those of the old device, and the memory of the
 -- new one, with the saved frame put into it, is that of the old one.
-pub record Back (u : UndoState) (new old : DeviceState) : Type 0 where
+pub record UndoLeadsBack (u : UndoState) (new old : DeviceState) : Type 0 where
   pub part : new.part ≡ old.part
   pub values : SavesValues u old
   pub frames : FramesBack old.part u.frames new.registers.frames old.registers.frames

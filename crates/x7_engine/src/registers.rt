@@ -14,9 +14,9 @@ ghost use Rattle.x7_engine.specs.WordCalls.{MayTakeWords, LeavesBytes, LeavesDue
 ghost use Rattle.x7_engine.specs.Standing.{counted_in, due_count};
 ghost use Rattle.x7_engine.specs.State.{last_counted};
 ghost use Rattle.x7_engine.specs.Stop.{why_by_access, why_by_frames, stop_of_refused};
-ghost use Rattle.x7_engine.specs.Taken.{TookFirst, TookWords, TookWrite};
+ghost use Rattle.x7_engine.specs.Taken.{TookFirstWords, TookWords, TookWrite};
 ghost use Rattle.x7_engine.specs.Targets.{target_number};
-ghost use Rattle.x7_engine.specs.Entering.{AreRead, change_of, Enters, EntersAt, EntersIf, OfHistory, ReadsIf, RunEnters, RunReads, step_entered, up_to_stop, word_entered};
+ghost use Rattle.x7_engine.specs.Entering.{AreRead, change_of, EntersHistory, EntersHistoryAt, EntersHistoryIf, OfHistory, ReadsIf, RunEnters, RunReads, step_entered, up_to_stop, word_entered};
 
 use crate::clock::Clock;
 use crate::controls::{Controls, masked_word};
@@ -101,7 +101,7 @@ pub(crate) struct Registers {
 }
 
 impl Registers {
-    ghost use Rattle.x7_engine.specs.Standing.{HoldsRun, IsHeaderStep, RegistersStandFor, registers_in, HasNoWord};
+    ghost use Rattle.x7_engine.specs.Standing.{RunLiesWithin, IsHeaderStep, RegistersStandFor, registers_in, HasNoWord};
 
     /// The registers of a device that took nothing, with what the reset kept and frames after a reset.
     pub(crate) fn new(kept: &Kept, frames: Frames) -> Registers
@@ -260,7 +260,7 @@ impl Registers {
         ensures fired { (why : StopCause) → self.new.stop ≡ Some why → (why ≡ StopCause.Fault Fault.Watchdog) × (result < count) }
         ensures due { self.new.due ≡ self.old.due }
         ensures frames { self.new.frames ≡ self.old.frames }
-        ensures enters { Enters (change_of part.now self.old self.new) (λ n h. h) (count - result) }
+        ensures enters { EntersHistory (change_of part.now self.old self.new) (λ n h. h) (count - result) }
     {
         let Some(taken) = self.clock.bytes(part, count) else {
             return 0;
@@ -275,7 +275,7 @@ impl Registers {
         ensures left { LeavesBytes count result self.new }
         ensures takes_some { 0 < count → result < count }
         ensures leaves { LeavesDue (change_of part.now self.old self.new) }
-        ensures enters { EntersIf (0 < count) (change_of part.now self.old self.new)
+        ensures enters { EntersHistoryIf (0 < count) (change_of part.now self.old self.new)
             (up_to_stop (registers_in self.new) (word_entered (target_number target) word count) (count - result)) (count - result) }
     {
         let left = self.take_bytes(part, count);
@@ -308,7 +308,7 @@ impl Registers {
         requires may_take { MayTakeWords part.now self.old }
         requires register { TakesWords reg }
         requires has_idcode { self.old.progress.has_idcode ≡ true }
-        ensures { TookFirst (change_of part.now self.old self.new) (number_of reg) bytes.now result }
+        ensures { TookFirstWords (change_of part.now self.old self.new) (number_of reg) bytes.now result }
     {
         let settings = self.settings();
         let before = self.clock.before_firing(part, bytes.len()) / WORD_BYTES * WORD_BYTES;
@@ -327,7 +327,7 @@ impl Registers {
     /// Takes those of a payload's words that can be taken at once, and says how many bytes these are.
     fn words_at_once(&mut self, part: &Part, reg: Reg, bytes: &[u8]) -> usize
         requires may_take { MayTakeWords part.now self.old }
-        ensures { TookFirst (change_of part.now self.old self.new) (number_of reg) bytes.now result }
+        ensures { TookFirstWords (change_of part.now self.old self.new) (number_of reg) bytes.now result }
     {
         match reg {
             Reg::Fdri | Reg::Mfwr if self.progress.has_idcode => self.frame_words(part, reg, bytes),
@@ -375,7 +375,7 @@ impl Registers {
         requires header { IsHeaderStep step }
         ensures none_due_at_stop { HasNoneDueAtStop part.now self.new }
         ensures counts { (n : ℕ) → counted_in self.new.stop n ≡ n }
-        ensures enters { EntersAt (change_of part.now self.old self.new) (λ place h. entered place step h) }
+        ensures enters { EntersHistoryAt (change_of part.now self.old self.new) (λ place h. entered place step h) }
         ensures reads { OfHistory part.now (registers_in self.old) (λ kept h place. AreRead part.now kept h (entered place step h) self.new.due) }
     {
         match step {
@@ -392,7 +392,7 @@ impl Registers {
         requires header { IsHeaderStep step }
         ensures left { LeavesBytes count result self.new }
         ensures none_due_at_stop { HasNoneDueAtStop part.now self.new }
-        ensures enters { EntersIf (0 < count) (change_of part.now self.old self.new)
+        ensures enters { EntersHistoryIf (0 < count) (change_of part.now self.old self.new)
             (up_to_stop (registers_in self.new) (step_entered step count) (count - result)) (count - result) }
         ensures reads { ReadsIf (0 < count) (change_of part.now self.old self.new) (up_to_stop (registers_in self.new) (step_entered step count) (count - result)) }
     {
@@ -410,7 +410,7 @@ impl Registers {
     pub(crate) fn run(&mut self, part: &Part, run: Cut<'_>, count: usize) -> usize
         requires may_take { MayTakeWords part.now self.old }
         requires run { IsRun run }
-        requires holds { HoldsRun run count }
+        requires holds { RunLiesWithin run count }
         ensures left { LeavesBytes count result self.new }
         ensures no_word_due { HasNoWord run.entry → due_count self.new.due ≡ 0 }
         ensures none_due_at_stop { HasNoneDueAtStop part.now self.new }

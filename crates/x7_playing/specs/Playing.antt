@@ -16,7 +16,7 @@ use Rattle.x7_playing.specs.declared.player.Player.{Player}
 
 -- A device was given these bytes, and took all of them, or those up to its stop; `reads` are the words read out,
 -- without those still due, within their limit.
-pub record Plays (part : PartData) (bytes : List ℕ) (d : DeviceState) (reads : List ℕ) : Type 0 where
+pub record DevicePlayed (part : PartData) (bytes : List ℕ) (d : DeviceState) (reads : List ℕ) : Type 0 where
   pub taken : List ℕ
   pub left : List ℕ
   pub split : bytes ≡ taken ++ left
@@ -52,7 +52,7 @@ play_state device buffer reads = record { device = device; buffer = buffer; read
 -- by whether a player is over: it was given these bytes
 abbrev pub HasPlayedBy : Bool → PartData → List ℕ → PlayState → Type 0
 HasPlayedBy true part bytes s = ReadsOver part bytes
-HasPlayedBy false part bytes s = Plays part bytes s.device s.reads × NoWordDue s.device × (s.buffer ≡ empty_buffer)
+HasPlayedBy false part bytes s = DevicePlayed part bytes s.device s.reads × NoWordDue s.device × (s.buffer ≡ empty_buffer)
 
 -- a player with a device of this part was given these bytes; it may be over
 abbrev pub HasPlayed : PartData → List ℕ → Player → Type 0
@@ -75,11 +75,11 @@ pub record OfPrefix (piece : List ℕ) (Holds : List ℕ → Type 0) : Type 0 wh
 
 -- the player's device was given these bytes more; words that they read out may still be due
 abbrev pub PlaysPrefix : Player → Player → List ℕ → Type 0
-PlaysPrefix old new prefix = (part : PartData) (bytes : List ℕ) → HasPlayed part bytes old → Plays part (bytes ++ prefix) new.device new.reads.items
+PlaysPrefix old new prefix = (part : PartData) (bytes : List ℕ) → HasPlayed part bytes old → DevicePlayed part (bytes ++ prefix) new.device new.reads.items
 
 -- the device of a player that was not over was given these bytes more; words that they read out may still be due
 abbrev pub FeedsPrefix : PlayState → PlayState → List ℕ → Type 0
-FeedsPrefix old new prefix = (part : PartData) (bytes : List ℕ) → HasPlayedBy false part bytes old → Plays part (bytes ++ prefix) new.device new.reads
+FeedsPrefix old new prefix = (part : PartData) (bytes : List ℕ) → HasPlayedBy false part bytes old → DevicePlayed part (bytes ++ prefix) new.device new.reads
 
 -- by whether a player is over: with `count` bytes more it was given no more than a device counts
 abbrev pub MayPlayBy : Bool → PlayState → ℕ → Type 0

@@ -4,7 +4,7 @@ use Rattle.std.proofs.Math.Nat.{zero-add}
 use Rattle.std.specs.Bool.{then_some}
 use Rattle.std.specs.Option.{option_or}
 use Rattle.x7_startup.specs.Phases.{wait_of, IsPhase, tick_limit}
-use Rattle.x7_startup.specs.Startup.{IsPhaseOf, Call, Arm, Desync, Byte, DropBack, StartupProgress, NotBegun, Begun, has_shutdown, since_shutdown, bytes_among, is_armed, progress_from, progress_of, Stored, StoresAt, StandsForCalls}
+use Rattle.x7_startup.specs.Startup.{IsPhaseOf, Call, Arm, Desync, Byte, DropBack, StartupProgress, NotBegun, Begun, has_shutdown, since_shutdown, bytes_among, is_armed, progress_from, progress_of, StartupState, StoresAt, StandsForCalls}
 use Rattle.x7_startup.specs.Ticks.{PassesTicks, reached}
 use Rattle.x7_startup.proofs.PhaseLemmas.{phase_first, phase_rises, one_phase}
 
@@ -143,10 +143,10 @@ start_desync false (DropBack ∷ calls) d = start_desync false calls d
 
 -- ---- what a call leaves
 
-armed_so : (lock_ticks match_ticks : ℕ) (s : Stored) (armed : Bool) (progress : StartupProgress) → StoresAt lock_ticks match_ticks s progress → StoresAt lock_ticks match_ticks (record s { armed = armed }) progress
+armed_so : (lock_ticks match_ticks : ℕ) (s : StartupState) (armed : Bool) (progress : StartupProgress) → StoresAt lock_ticks match_ticks s progress → StoresAt lock_ticks match_ticks (record s { armed = armed }) progress
 armed_so lock_ticks match_ticks s armed progress h = record { begun_with_is = h.begun_with_is; tick_bytes_are = h.tick_bytes_are; ticks_are = h.ticks_are; phase_is = h.phase_is }
 
-pub arm_stands : (lock_ticks match_ticks : ℕ) (s : Stored) (calls : List Call) → StandsForCalls lock_ticks match_ticks s calls →
+pub arm_stands : (lock_ticks match_ticks : ℕ) (s : StartupState) (calls : List Call) → StandsForCalls lock_ticks match_ticks s calls →
     StandsForCalls lock_ticks match_ticks (record s { armed = true }) (calls ++ Arm ∷ [])
 arm_stands lock_ticks match_ticks s calls h =
     let e = since_push calls (Arm ∷ []) refl in
@@ -164,7 +164,7 @@ drop_stands lock_ticks match_ticks calls =
       stores = rw e record { begun_with_is = refl; tick_bytes_are = refl; ticks_are = refl; phase_is = refl };
     }
 
-desync_stores : (lock_ticks match_ticks : ℕ) (s : Stored) (progress : StartupProgress) (armed : Bool) (d : ℕ) → StoresAt lock_ticks match_ticks s progress →
+desync_stores : (lock_ticks match_ticks : ℕ) (s : StartupState) (progress : StartupProgress) (armed : Bool) (d : ℕ) → StoresAt lock_ticks match_ticks s progress →
     StoresAt lock_ticks match_ticks (record s { armed = false; begun_with = option_or s.begun_with (then_some armed d) }) (first_place progress armed d)
 desync_stores lock_ticks match_ticks s NotBegun true d h =
     let none : s.begun_with ≡ None = h.begun_with_is in
@@ -182,7 +182,7 @@ desync_stores lock_ticks match_ticks s (Begun cor0 bytes) armed d h =
     let some : s.begun_with ≡ Some cor0 = h.begun_with_is in
     record { begun_with_is = rw some refl; tick_bytes_are = h.tick_bytes_are; ticks_are = h.ticks_are; phase_is = h.phase_is }
 
-pub desync_stands : (lock_ticks match_ticks : ℕ) (s : Stored) (calls : List Call) (d : ℕ) → StandsForCalls lock_ticks match_ticks s calls →
+pub desync_stands : (lock_ticks match_ticks : ℕ) (s : StartupState) (calls : List Call) (d : ℕ) → StandsForCalls lock_ticks match_ticks s calls →
     StandsForCalls lock_ticks match_ticks (record s { armed = false; begun_with = option_or s.begun_with (then_some s.armed d) }) (calls ++ Desync d ∷ [])
 desync_stands lock_ticks match_ticks s calls d h =
     let e = since_push calls (Desync d ∷ []) refl in
@@ -196,13 +196,13 @@ no_taking : (n : ℕ) → has_shutdown (replicate n Byte) ≡ false
 no_taking zero = refl
 no_taking (suc n) = no_taking n
 
-idle : (lock_ticks match_ticks : ℕ) (s : Stored) (progress : StartupProgress) (n : ℕ) → s.begun_with ≡ None → StoresAt lock_ticks match_ticks s progress → StoresAt lock_ticks match_ticks s (further n progress)
+idle : (lock_ticks match_ticks : ℕ) (s : StartupState) (progress : StartupProgress) (n : ℕ) → s.begun_with ≡ None → StoresAt lock_ticks match_ticks s progress → StoresAt lock_ticks match_ticks s (further n progress)
 idle lock_ticks match_ticks s NotBegun n none h = h
 idle lock_ticks match_ticks s (Begun cor0 bytes) n none h =
     let some : s.begun_with ≡ Some cor0 = h.begun_with_is in absurd (cc (none, some))
 
 -- bytes at a startup that hasn't begun
-pub idle_stands : (lock_ticks match_ticks : ℕ) (s : Stored) (calls : List Call) (n : ℕ) → s.begun_with ≡ None → StandsForCalls lock_ticks match_ticks s calls →
+pub idle_stands : (lock_ticks match_ticks : ℕ) (s : StartupState) (calls : List Call) (n : ℕ) → s.begun_with ≡ None → StandsForCalls lock_ticks match_ticks s calls →
     StandsForCalls lock_ticks match_ticks s (calls ++ replicate n Byte)
 idle_stands lock_ticks match_ticks s calls n none h =
     let e = since_push calls (replicate n Byte) (no_taking n) in
@@ -212,7 +212,7 @@ idle_stands lock_ticks match_ticks s calls n none h =
           (idle lock_ticks match_ticks s (progress_of calls) n none h.stores);
     }
 
-goes_on : (lock_ticks match_ticks : ℕ) (s : Stored) (progress : StartupProgress) (n cor0 more tick_bytes ticks phase : ℕ) → s.begun_with ≡ Some cor0 →
+goes_on : (lock_ticks match_ticks : ℕ) (s : StartupState) (progress : StartupProgress) (n cor0 more tick_bytes ticks phase : ℕ) → s.begun_with ≡ Some cor0 →
     more ≡ (s.tick_bytes + n) / 4 → tick_bytes ≡ (s.tick_bytes + n) % 4 →
     PassesTicks (wait_of lock_ticks match_ticks cor0) (reached s.ticks s.phase) more (reached ticks phase) → StoresAt lock_ticks match_ticks s progress →
     StoresAt lock_ticks match_ticks (record s { tick_bytes = tick_bytes; ticks = ticks; phase = phase }) (further n progress)
@@ -230,7 +230,7 @@ goes_on lock_ticks match_ticks s (Begun c b) n cor0 more tick_bytes ticks phase 
     record { begun_with_is = was; tick_bytes_are = omega arith; ticks_are = t; phase_is = rw same f }
 
 -- bytes at a startup that has begun
-pub running_stands : (lock_ticks match_ticks : ℕ) (s : Stored) (calls : List Call) (n cor0 more tick_bytes ticks phase : ℕ) → s.begun_with ≡ Some cor0 →
+pub running_stands : (lock_ticks match_ticks : ℕ) (s : StartupState) (calls : List Call) (n cor0 more tick_bytes ticks phase : ℕ) → s.begun_with ≡ Some cor0 →
     more ≡ (s.tick_bytes + n) / 4 → tick_bytes ≡ (s.tick_bytes + n) % 4 →
     PassesTicks (wait_of lock_ticks match_ticks cor0) (reached s.ticks s.phase) more (reached ticks phase) → StandsForCalls lock_ticks match_ticks s calls →
     StandsForCalls lock_ticks match_ticks (record s { tick_bytes = tick_bytes; ticks = ticks; phase = phase }) (calls ++ replicate n Byte)
@@ -243,7 +243,7 @@ running_stands lock_ticks match_ticks s calls n cor0 more tick_bytes ticks phase
     }
 
 -- a byte that ends no tick
-pub within_tick : (lock_ticks match_ticks : ℕ) (s : Stored) (calls : List Call) (cor0 : ℕ) → s.begun_with ≡ Some cor0 → s.tick_bytes < 3 →
+pub within_tick : (lock_ticks match_ticks : ℕ) (s : StartupState) (calls : List Call) (cor0 : ℕ) → s.begun_with ≡ Some cor0 → s.tick_bytes < 3 →
     StandsForCalls lock_ticks match_ticks s calls → StandsForCalls lock_ticks match_ticks (record s { tick_bytes = s.tick_bytes + 1 }) (calls ++ Byte ∷ [])
 within_tick lock_ticks match_ticks s calls cor0 begun small h =
     running_stands lock_ticks match_ticks s calls 1 cor0 0 (s.tick_bytes + 1) s.ticks s.phase begun (omega arith) (omega arith)

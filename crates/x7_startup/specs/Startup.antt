@@ -72,7 +72,7 @@ IsPhaseOf lock_ticks match_ticks (Begun cor0 bytes) phase = IsPhase (wait_of loc
 
 -- what a startup keeps: whether it is armed, the COR0 that it began with, the bytes past the last tick, the ticks up to
 -- 65,535, and the phase
-pub record Stored : Type 0 where
+pub record StartupState : Type 0 where
   pub armed : Bool
   pub begun_with : Option ℕ
   pub tick_bytes : ℕ
@@ -80,7 +80,7 @@ pub record Stored : Type 0 where
   pub phase : ℕ
 
 -- what is stored is that of a startup so far along, whose part needs these ticks to lock and to match
-pub record StoresAt (lock_ticks match_ticks : ℕ) (s : Stored) (progress : StartupProgress) : Type 0 where
+pub record StoresAt (lock_ticks match_ticks : ℕ) (s : StartupState) (progress : StartupProgress) : Type 0 where
   pub begun_with_is : s.begun_with ≡ cor0_of progress
   pub tick_bytes_are : s.tick_bytes ≡ bytes_since_begun progress % 4
   pub ticks_are : s.ticks ≡ min (ticks_of progress) tick_limit
@@ -88,11 +88,11 @@ pub record StoresAt (lock_ticks match_ticks : ℕ) (s : Stored) (progress : Star
 
 -- What is stored stands for the calls: each stored value is what the list of all calls so far comes to, each byte of
 -- which was taken with these ticks to lock and to match.
-pub record StandsForCalls (lock_ticks match_ticks : ℕ) (s : Stored) (calls : List Call) : Type 0 where
+pub record StandsForCalls (lock_ticks match_ticks : ℕ) (s : StartupState) (calls : List Call) : Type 0 where
   pub armed_is : s.armed ≡ is_armed false (since_shutdown calls)
   pub stores : StoresAt lock_ticks match_ticks s (progress_of calls)
 
 -- whatever calls the old startup stands for, the new one stands for these and then `more`
-abbrev pub AddsCalls : ℕ → ℕ → Stored → Stored → List Call → Type 0
+abbrev pub AddsCalls : ℕ → ℕ → StartupState → StartupState → List Call → Type 0
 AddsCalls lock_ticks match_ticks old new more =
     (calls : List Call) → StandsForCalls lock_ticks match_ticks old calls → StandsForCalls lock_ticks match_ticks new (calls ++ more)

@@ -51,8 +51,8 @@ watched_count off first calls = bytes_on off (timer_after first calls) (since_lo
 
 -- the watchdog fires at one byte more after the calls: it is on there, and the byte brings the count to four times
 -- TIMER's value
-abbrev pub Fires : Bool → ℕ → List WatchCall → Bool → Type 0
-Fires off first calls eos =
+abbrev pub FiresNext : Bool → ℕ → List WatchCall → Bool → Type 0
+FiresNext off first calls eos =
     IsTrue (is_on off (timer_after first calls) eos)
     × (watched_count off first (calls ++ Watched eos ∷ []) ≡ timer_value_of (timer_after first calls) * 4)
 
@@ -62,7 +62,7 @@ bytes_alike count eos = replicate count (Watched eos)
 
 -- the watchdog fires at the byte after `count` bytes, all in phase 7 or none
 abbrev pub FiresAfter : Bool → ℕ → List WatchCall → ℕ → Bool → Type 0
-FiresAfter off first calls count eos = Fires off first (calls ++ bytes_alike count eos) eos
+FiresAfter off first calls count eos = FiresNext off first (calls ++ bytes_alike count eos) eos
 
 -- the watchdog fires at none of `count` bytes, all in phase 7 or none
 abbrev pub NoneFires : Bool → ℕ → List WatchCall → ℕ → Bool → Type 0
@@ -73,27 +73,27 @@ abbrev pub full_count : Bool → ℕ → ℕ
 full_count off timer = if (cfg_mon_of timer == 1) && not off then timer_value_of timer * 4 else 0
 
 -- what a watchdog keeps: whether its attempt has none, the count at which it fires, and its count up to 2^32 - 1
-pub record Watch : Type 0 where
+pub record WatchdogState : Type 0 where
   pub off : Bool
   pub limit : ℕ
   pub count : ℕ
 
 -- what is stored stands for the calls of a watchdog that was made with `first` in TIMER
-pub record WatchesFor (off : Bool) (first : ℕ) (w : Watch) (calls : List WatchCall) : Type 0 where
+pub record WatchesFor (off : Bool) (first : ℕ) (w : WatchdogState) (calls : List WatchCall) : Type 0 where
   pub off_is : w.off ≡ off
   pub limit_is : w.limit ≡ full_count off (timer_after first calls)
   pub count_is : w.count ≡ min (watched_count off first calls) (2 ^ 32 - 1)
 
 -- `Fact` holds of each word of TIMER at first, and each list of calls, that the watchdog stands for
-abbrev pub OfCalls : Watch → (Bool → ℕ → List WatchCall → Type 0) → Type 0
+abbrev pub OfCalls : WatchdogState → (Bool → ℕ → List WatchCall → Type 0) → Type 0
 OfCalls w Fact = (off : Bool) (first : ℕ) (calls : List WatchCall) → WatchesFor off first w calls → Fact off first calls
 
 -- an attempt, TIMER at first, the calls since then, and whether the bytes after these are taken in phase 7
 module _ (off : Bool) (first : ℕ) (calls : List WatchCall) (eos : Bool) where
   -- the watchdog fires at byte `n` of `count`, from 1, and at none before it, and it took the bytes up to that one
-  abbrev pub FiredAt : ℕ → ℕ → Watch → Type 0
+  abbrev pub FiredAt : ℕ → ℕ → WatchdogState → Type 0
   FiredAt count n new = (0 < n) × (n ≤ count) × FiresAfter off first calls (n - 1) eos × WatchesFor off first new (calls ++ bytes_alike n eos) × NoneFires off first calls (n - 1) eos
 
   -- the watchdog fires at none of `count` bytes, and it took them all
-  abbrev pub NoneFired : ℕ → Watch → Type 0
+  abbrev pub NoneFired : ℕ → WatchdogState → Type 0
   NoneFired count new = WatchesFor off first new (calls ++ bytes_alike count eos) × NoneFires off first calls count eos

@@ -2,7 +2,7 @@
 ghost use Rattle.std.specs.Prelude.{◌≡◌, ◌<◌, ◌≤◌, ◌+◌, ◌∷◌, ◌++◌, min, ℕ, List, [], replicate, is_some};
 ghost use Rattle.x7_startup.specs.Lines.{done_line, gts_line, gwe_line, AreLines};
 ghost use Rattle.x7_startup.specs.Phases.{last_phase, tick_limit};
-ghost use Rattle.x7_startup.specs.Startup.{AddsCalls, Call, Arm, Desync, Byte, DropBack, Stored, StandsForCalls, IsPhaseOf, progress_of, cor0_of, ticks_of};
+ghost use Rattle.x7_startup.specs.Startup.{AddsCalls, Call, Arm, Desync, Byte, DropBack, StartupState, StandsForCalls, IsPhaseOf, progress_of, cor0_of, ticks_of};
 
 use crate::lines::{Lines, lines_in};
 use crate::phases::{Reached, pass_ticks, tick};
@@ -21,7 +21,7 @@ pub struct Startup {
 }
 
 impl Model for Startup {
-    ghost Value = { Stored };
+    ghost Value = { StartupState };
 
     ghost view = { λ s. record { armed = s.armed; begun_with = s.begun_with; tick_bytes = s.tick_bytes; ticks = s.ticks; phase = s.phase } };
 

@@ -1,6 +1,6 @@
 //! The configuration watchdog (UG470, watchdog): it counts the bytes at which it is on.
 ghost use Rattle.std.specs.Prelude.{◌≡◌, ◌<◌, ◌≤◌, ◌^◌, ◌+◌, ◌-◌, ◌*◌, ◌==◌, ◌&&◌, ◌↔◌, ◌∷◌, ◌++◌, not, min, ℕ, IsTrue, [], IfSome, IfNone, if◌then◌else◌};
-ghost use Rattle.x7_startup.specs.Watchdog.{FiredAt, NoneFired, OfCalls, Load, Reload, Watched, Watch, WatchesFor, Fires, full_count};
+ghost use Rattle.x7_startup.specs.Watchdog.{FiredAt, NoneFired, OfCalls, Load, Reload, Watched, WatchdogState, WatchesFor, FiresNext, full_count};
 
 use std::marker::Model;
 
@@ -25,7 +25,7 @@ pub struct Watchdog {
 }
 
 impl Model for Watchdog {
-    ghost Value = { Watch };
+    ghost Value = { WatchdogState };
 
     ghost view = { λ w. record { off = w.off; limit = w.limit; count = w.count } };
 
@@ -73,7 +73,7 @@ impl Watchdog {
     /// One byte more was taken, with EOS (end of startup, phase 7) as `eos` says: whether the watchdog fires at it.
     pub fn byte(&mut self, eos: bool) -> bool
         ensures stands { OfCalls self.old (λ off first calls. WatchesFor off first self.new (calls ++ Watched eos ∷ [])) }
-        ensures fires { OfCalls self.old (λ off first calls. (IsTrue result ↔ Fires off first calls eos)) }
+        ensures fires { OfCalls self.old (λ off first calls. (IsTrue result ↔ FiresNext off first calls eos)) }
     {
         if !is_on(self.limit, eos) {
             return false;

@@ -4,7 +4,7 @@ ghost use Rattle.x7_packets.specs.Cutter.{between};
 ghost use Rattle.x7_engine.specs.UntilRead.{RoomBefore};
 ghost use Rattle.x7_engine.specs.SoonestEnd.{soonest_end};
 ghost use Rattle.x7_engine.specs.Standing.{CanBeGiven, HasBegun, HasStopped, NoWordDue, fed_more, fed_of};
-ghost use Rattle.x7_engine.specs.Turns.{MayTake, TookTurn};
+ghost use Rattle.x7_engine.specs.Turns.{MayTakePiece, TurnAnswers};
 ghost use Rattle.x7_engine.specs.UntilStarted.{HasNotBegun, NoneBegun, NoneStarted, says_started, taken_until};
 ghost use Rattle.x7_engine.specs.declared.until_started.UntilStarted.TheVariants as until;
 ghost use Rattle.x7_engine.specs.Past.{AnswersUntilFor, OfPast, TakesJust, GivesWordsNext, later, prefix_taken_until, started_at, state_at, stop_at, reads_given_at};
@@ -51,8 +51,8 @@ impl Device {
     /// Takes the next turn of a piece, up to a byte at which startup may end, and moves `at` past it. The answer is
     /// `true` only where the piece is used up; after `false` the next turn may find nothing left.
     fn turn_until_started(&mut self, piece: &[u8], at: &mut usize) -> bool
-        requires { MayTake self.old piece.now at.old }
-        ensures took { TookTurn self.old self.new piece.now at.old at.new result }
+        requires { MayTakePiece self.old piece.now at.old }
+        ensures took { TurnAnswers self.old self.new piece.now at.old at.new result }
         ensures first { OfPast self.old (λ p. started_at p ≡ false → NoneStarted p.part p.kept p.bytes (between piece.now at.old at.new) (at.new - at.old)) }
     {
         let end = self.turn_end(*at, piece.len());

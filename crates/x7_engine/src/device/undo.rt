@@ -5,7 +5,7 @@ ghost use Rattle.x7_engine.specs.Kept.{on_the_bench};
 ghost use Rattle.x7_engine.specs.ReadBuffer.{dropping};
 ghost use Rattle.x7_engine.specs.declared.stop.StopCause.{StopCause};
 ghost use Rattle.x7_engine.specs.Standing.{CanBeGiven, DeviceState, DeviceStandsFor, NoWordDue, answer_at_stop, fed_more, fed_of, taken_in};
-ghost use Rattle.x7_engine.specs.Undo.{AreEqual, Back, IsUndoOf, SavesDevice, TookFewSince, device_saved};
+ghost use Rattle.x7_engine.specs.Undo.{AreEqual, UndoLeadsBack, IsUndoOf, SavesDevice, TookFewSince, device_saved};
 ghost use Rattle.x7_engine.specs.Past.{AnswersFor, OfPast, TakesJust, prefix_taken, stop_at, HasPast, Past, later};
 
 use super::Device;
@@ -98,7 +98,7 @@ impl Device {
         ensures fed { fed_of self.new ≡ fed_more self.old (taken_in (length piece.now) result) }
         ensures stays { (why : StopCause) → self.old.registers.stop ≡ Some why → (self.new ≡ self.old) × (result ≡ answer_at_stop why 0) }
         ensures saves { SavesDevice undo.new self.old }
-        ensures back { OfPast self.old (λ p. Back undo.new self.new self.old) }
+        ensures back { OfPast self.old (λ p. UndoLeadsBack undo.new self.new self.old) }
         ensures stopped { OfPast self.old (λ p. IsSome (stop_at p) → (self.new ≡ self.old) × (taken_in (length piece.now) result ≡ 0)) }
         ensures undo { IsUndoOf self.old.part undo.new }
     {
@@ -122,7 +122,7 @@ impl Device {
     pub fn undo(&mut self, undo: &Undo)
         requires undo { IsUndoOf self.old.part undo.now }
         requires back { TookFewSince undo.now self.old }
-        ensures back { (old : DeviceState) → Back undo.now self.old old → AreEqual self.new old }
+        ensures back { (old : DeviceState) → UndoLeadsBack undo.now self.old old → AreEqual self.new old }
         ensures after_more { (p : Past) (more : List ℕ) (old : DeviceState) → SavesDevice undo.now old → NoWordDue old → length more ≤ 4
             → HasPast old p → HasPast self.old (later p more) → AreEqual self.new old }
         ensures part { self.new.part ≡ self.old.part }
@@ -136,7 +136,7 @@ impl Device {
     fn go_back(&mut self, undo: &Undo)
         requires undo { IsUndoOf self.old.part undo.now }
         requires back { TookFewSince undo.now self.old }
-        ensures back { (old : DeviceState) → Back undo.now self.old old → AreEqual self.new old }
+        ensures back { (old : DeviceState) → UndoLeadsBack undo.now self.old old → AreEqual self.new old }
         ensures part { self.new.part ≡ self.old.part }
         ensures fed { fed_of self.new ≡ fed_of self.old }
     {

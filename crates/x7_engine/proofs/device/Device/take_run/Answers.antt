@@ -7,7 +7,7 @@ use Rattle.x7_engine.specs.declared.kept.Kept.{Kept}
 use Rattle.x7_engine.specs.Past.{HasSomePast}
 use Rattle.x7_engine.specs.Standing.{DeviceStandsFor, DeviceState, IsCutterOf, HasNoWord, registers_in, words_still_due}
 use Rattle.x7_engine.specs.State.{history_taken, reads_of}
-use Rattle.x7_engine.specs.Turns.{TakesTurn}
+use Rattle.x7_engine.specs.Turns.{TurnTakes}
 use Rattle.x7_engine.proofs.DeviceLemmas.{between_prefix, holds_run, length_between, given_by, turned}
 use Rattle.x7_engine.proofs.FrameLemmas.{no_word_due}
 use Rattle.x7_engine.proofs.PastLemmas.{past_later}
@@ -57,7 +57,7 @@ turned_here c kept wrapped bytes s =
     (sym all) (between_prefix piece from at left forward) (length-drop (at - left - from) cut ∙ omega (arith, all, some)) c.cut-run.ensures.run c.cut-run.ensures.lent
     c.run-left.ensures.left.goes_on c.run-left.ensures.none_due_at_stop.none_due_at_stop refl refl (omega (arith, taken))
 
-turn_taken : (c : goal.After-is_done) → TakesTurn c.args.self.now (device_after c) (between c.args.piece.now c.args.at.now (c.cut-run.new.at - c.run-left.result))
+turn_taken : (c : goal.After-is_done) → TurnTakes c.args.self.now (device_after c) (between c.args.piece.now c.args.at.now (c.cut-run.new.at - c.run-left.result))
 turn_taken c = record {
   part = ap (λ (d : DeviceState). d.part) c.self.view_is;
   takes = λ part kept wrapped bytes s. (

@@ -1,11 +1,11 @@
 use Rattle.std.proofs.Common.{sym, ap, ◌∙◌, arith}
-use Rattle.x7_startup.specs.Startup.{Stored}
+use Rattle.x7_startup.specs.Startup.{StartupState}
 use Rattle.x7_startup.proofs.CallLemmas.{idle_stands, running_stands}
 use Rattle.x7_startup.proofs.startup.Startup.bytes.Goals as goal
 
 pub returns-in_default : goal.returns-in_default
 returns-in_default c = record {
-  stands = λ calls h. idle_stands _ _ _ calls c.args.count (ap (λ (v : Stored). v.begun_with) (sym c.self.view_is) ∙ c.in_default.is) h;
+  stands = λ calls h. idle_stands _ _ _ calls c.args.count (ap (λ (v : StartupState). v.begun_with) (sym c.self.view_is) ∙ c.in_default.is) h;
 }
 
 pub returns : goal.returns
