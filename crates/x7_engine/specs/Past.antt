@@ -125,13 +125,18 @@ pub record BootGoesOn (p : Past) : Type 0 where
 abbrev pub TakesJust : DeviceState → DeviceState → List ℕ → Type 0
 TakesJust old new more = OfPast old (λ p. HasPast new (later p more))
 
+-- no byte was taken of a piece, as their number `taken` says, and the device and the buffer are as they were
+abbrev pub TakesNothing : DeviceState → DeviceState → ReadBufState → ReadBufState → ℕ → Type 0
+TakesNothing old new before after taken = (new ≡ old) × (after ≡ before) × (taken ≡ 0)
+
 -- the bytes `more` give no word: the words given so far are those given before
 abbrev pub GivesNoWord : DeviceState → DeviceState → List ℕ → Type 0
 GivesNoWord old new more = OfPast old (λ p. reads_given_at new (later p more) ≡ reads_given_at old p)
 
 -- the bytes `more` give the buffer words: the words given so far are those given before, and then these
 abbrev pub GivesWordsNext : DeviceState → DeviceState → List ℕ → ReadBufState → ReadBufState → Type 0
-GivesWordsNext old new more before after = OfPast old (λ p. (words : List ℕ) × (after ≡ with_words before words) × (reads_given_at new (later p more) ≡ reads_given_at old p ++ words))
+GivesWordsNext old new more before after =
+    OfPast old (λ p. (words : List ℕ) × (after ≡ with_words before words) × (reads_given_at new (later p more) ≡ reads_given_at old p ++ words))
 
 -- what a feed answers: that nothing stopped the device and no word is due, the stop at the last byte, with no word due
 -- either, or that nothing stopped it, a word is due and the buffer full

@@ -9,13 +9,13 @@ ghost use Rattle.x7_engine.specs.UntilRead.{RoomBefore};
 ghost use Rattle.x7_engine.specs.Kept.{on_the_bench};
 ghost use Rattle.x7_engine.specs.Readout.{DeviceGaveWords};
 ghost use Rattle.x7_engine.specs.ReadBuffer.{HoldsWithinMost, IsFull};
-ghost use Rattle.x7_engine.specs.Standing.{CanBeGiven, DeviceStandsFor, MayWrap, NoWordDue, due_count, answer_at_stop, fed_more, fed_of, frames_due, taken_in, with_wrap};
+ghost use Rattle.x7_engine.specs.Standing.{CanBeGiven, DeviceStandsFor, HasStopped, MayWrap, NoWordDue, due_count, answer_at_stop, fed_more, fed_of, frames_due, taken_in, with_wrap};
 ghost use Rattle.x7_engine.specs.State.{attempt_in, end_by, kept_after, why_of, memory_in, state_owing};
 ghost use Rattle.x7_engine.specs.Stop.{stop_fault};
 ghost use Rattle.x7_engine.specs.Turns.{MayTakePiece, TurnAnswers, TurnMoves};
 ghost use Rattle.x7_engine.specs.Value.{failure_of};
 ghost use Rattle.x7_engine.specs.declared.fault.Fault.{Fault as FaultData};
-ghost use Rattle.x7_engine.specs.Past.{AnswersFor, HasSomePast, OfPast, TakesJust, GivesWordsNext, prefix_taken, state_at, stop_at, reads_given_at};
+ghost use Rattle.x7_engine.specs.Past.{AnswersFor, HasSomePast, OfPast, TakesJust, TakesNothing, GivesWordsNext, prefix_taken, state_at, stop_at, reads_given_at};
 
 mod boot;
 mod started;
@@ -322,8 +322,9 @@ impl Device {
         ensures reads { GivesWordsNext self.old self.new (prefix_taken piece.now result) read.old read.new }
         ensures within_most { HoldsWithinMost read.new.most read.new.words }
         ensures room { OfPast self.old (λ p. RoomBefore p piece.now (taken_in (length piece.now) result) (reads_given_at self.old p) read.old) }
-        ensures stopped { OfPast self.old (λ p. IsSome (stop_at p) → (self.new ≡ self.old) × (read.new ≡ read.old) × (taken_in (length piece.now) result ≡ 0)) }
-        ensures stays { (why : StopCause) → self.old.registers.stop ≡ Some why → (self.new ≡ self.old) × (read.new ≡ read.old) × (result ≡ answer_at_stop why 0) }
+        ensures stopped { OfPast self.old (λ p. IsSome (stop_at p) → TakesNothing self.old self.new read.old read.new (taken_in (length piece.now) result)) }
+        ensures stays { HasStopped self.old → TakesNothing self.old self.new read.old read.new (taken_in (length piece.now) result) }
+        ensures answers_stop { (why : StopCause) → self.old.registers.stop ≡ Some why → result ≡ answer_at_stop why 0 }
     {
         read.holds_within_most();
         let mut at = 0;

@@ -27,7 +27,7 @@ use crate::kept::{Kept, is_fallback};
 use crate::progress::{Progress, is_same_idcode};
 use crate::stop::StopCause;
 use crate::target::{PlainNumber, Target};
-use crate::words::Words;
+use crate::words::LastWords;
 use x7_crc::{executed, is_command};
 use x7_flow::{FrameSettings, Frames};
 use x7_packets::{Cut, Step};
@@ -87,7 +87,7 @@ fn first_cause(why: Option<StopCause>, refused: Option<RunFault>) -> Option<Stop
 /// be given.
 #[derive(Drop)]
 pub(crate) struct Registers {
-    pub(crate) words: Words,
+    pub(crate) words: LastWords,
     pub(crate) controls: Controls,
     pub(crate) progress: Progress,
     // what began the present boot attempt
@@ -111,7 +111,7 @@ impl Registers {
         ensures frames { result.frames ≡ frames }
     {
         Registers {
-            words: Words::new(kept),
+            words: LastWords::new(kept),
             controls: Controls::new(),
             progress: Progress::new(),
             kind: kept.kind,
@@ -130,7 +130,7 @@ impl Registers {
         ensures no_word_due { self.new.due ≡ Due.Nothing }
         ensures frames { (part : PartData) → FramesFit part self.old.frames → FramesFit part self.new.frames }
     {
-        self.words = Words::new(kept);
+        self.words = LastWords::new(kept);
         self.controls = Controls::new();
         self.progress = Progress::new();
         self.kind = kept.kind;

@@ -5,6 +5,9 @@ ghost use Rattle.x7_startup.specs.Ticks.{PassesTicks};
 
 use x7_regs::{LOCK_CYCLE, MATCH_CYCLE};
 
+/// How many bytes a tick takes (this project's choice).
+pub const TICK_SIZE: u64 = 4;
+
 /// The number up to which ticks are counted, the last of 16 bits: no part waits for more.
 const TICK_LIMIT: u64 = 65_535;
 

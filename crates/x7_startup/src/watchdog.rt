@@ -10,6 +10,9 @@ const CFG_MON: u32 = 30;
 /// The bits of TIMER that are its value.
 const TIMER_VALUE: u32 = 0x3FFF_FFFF;
 
+/// How many counted bytes are one of TIMER's value (this project's choice).
+const TIMER_STEP: u32 = 4;
+
 /// The number up to which bytes are counted, the last of 32 bits, which is above each count at which a watchdog fires.
 const COUNT_LIMIT: u64 = 0xFFFF_FFFF;
 
@@ -18,7 +21,7 @@ const COUNT_LIMIT: u64 = 0xFFFF_FFFF;
 pub struct Watchdog {
     // whether the attempt has no watchdog
     off: bool,
-    // the count at which it fires: four times TIMER's value, or 0 where TIMER or the attempt has it off
+    // the count at which it fires: `TIMER_STEP` times TIMER's value, or 0 where TIMER or the attempt has it off
     limit: u32,
     // how many bytes it counted since its count began anew, up to `COUNT_LIMIT`
     count: u32,
@@ -101,12 +104,12 @@ impl Watchdog {
     }
 }
 
-/// The count at which the watchdog fires: four times TIMER's value, and 0 where TIMER or the attempt has it off.
+/// The count at which the watchdog fires: `TIMER_STEP` times TIMER's value, and 0 where TIMER or the attempt has it off.
 fn limit_of(off: bool, timer: u32) -> u32
     ensures { result ≡ full_count off timer }
 {
     if timer >> CFG_MON & 1 == 1 && !off {
-        (timer & TIMER_VALUE) * 4
+        (timer & TIMER_VALUE) * TIMER_STEP
     } else {
         0
     }

@@ -8,9 +8,9 @@ returns-in_default c = record {
   stands = λ calls h. idle_stands _ _ _ calls 1 (ap (λ (v : StartupState). v.begun_with) (sym c.self.view_is) ∙ c.in_default.is) h;
 }
 
-pub returns-then-self-lt3 : goal.returns-then-self-lt3
-returns-then-self-lt3 c = record {
-  stands = λ calls h. within_tick _ _ _ calls c.in-Some.cor0 c.in-Some.is c.if-self-lt3.true (rw (← c.self.view_is) at h);
+pub returns-then-self-lt-LAST_OF_TICK : goal.returns-then-self-lt-LAST_OF_TICK
+returns-then-self-lt-LAST_OF_TICK c = record {
+  stands = λ calls h. within_tick _ _ _ calls c.in-Some.cor0 c.in-Some.is (omega (arith, c.if-self-lt-LAST_OF_TICK.true)) (rw (← c.self.view_is) at h);
 }
 
 pub returns : goal.returns

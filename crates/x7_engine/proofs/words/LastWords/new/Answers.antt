@@ -2,7 +2,7 @@ use Rattle.std.proofs.Common.{◌≡◌, ◌==◌, ◌<◌, ℕ, Bool, true, fal
 use Rattle.std.proofs.lemmas.Bool.Decides.{nat_tests}
 use Rattle.std.proofs.lemmas.Grind.{get_or-set_at}
 use Rattle.std.proofs.lemmas.List.{get_or-set_other, length-set}
-use Rattle.x7_engine.proofs.words.Words.new.Goals as goal
+use Rattle.x7_engine.proofs.words.LastWords.new.Goals as goal
 
 -- a word of a list, one of which was set
 set_is : (xs : List ℕ) (i register y old : ℕ) → i < length xs → get_or xs register 0 ≡ old → get_or (set xs i y) register 0 ≡ (if register == i then y else old)
