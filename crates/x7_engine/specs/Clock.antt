@@ -46,8 +46,14 @@ OfClock part c Fact = (kept : Kept) (h : History) (n : ℕ) → newest_place h �
 -- The clock takes `count` bytes more: the watchdog fires at none of them; or it fires first at byte k of them, and the
 -- bytes up to that one are taken.
 abbrev pub ClockTakes : Course → ClockState → ℕ → Option ℕ → Type 0
-ClockTakes c clock count None = IsClock c.part c.kept clock c.history (c.taken + count) × (first_firing c.part c.kept c.history c.taken count ≡ None)
-ClockTakes c clock count (Some k) = (0 < k) × (k ≤ count) × IsClock c.part c.kept clock c.history (c.taken + k) × (first_firing c.part c.kept c.history c.taken count ≡ Some (c.taken + k))
+ClockTakes c clock count None =
+    IsClock c.part c.kept clock c.history (c.taken + count)
+    × (first_firing c.part c.kept c.history c.taken count ≡ None)
+ClockTakes c clock count (Some k) =
+    (0 < k)
+    × (k ≤ count)
+    × IsClock c.part c.kept clock c.history (c.taken + k)
+    × (first_firing c.part c.kept c.history c.taken count ≡ Some (c.taken + k))
 
 -- A part's clock takes `count` bytes more, whatever course it is the clock of: all of them, or those
 -- up to byte k, at which the watchdog fires.
@@ -70,7 +76,8 @@ pub record HasEndedBy (c : Course) (clock : ClockState) (count : ℕ) : Type 0 w
 
 -- a clock takes an access after any history of which `Fact` holds
 abbrev pub TakesEntry : ClockState → ClockState → Entry → (History → Type 0) → Type 0
-TakesEntry old new e Fact = (part : PartData) (kept : Kept) (h : History) → Fact h → IsClock part kept old h e.place → IsClock part kept new (e ∷ h) e.place
+TakesEntry old new e Fact =
+    (part : PartData) (kept : Kept) (h : History) → Fact h → IsClock part kept old h e.place → IsClock part kept new (e ∷ h) e.place
 
 -- what an access asks of startup, by the command that it executes, whether it takes a shutdown, and COR0
 abbrev pub startup_call_by : Option ℕ → Bool → ℕ → List Call

@@ -28,7 +28,16 @@ pub record SavedRegistersState : Type 0 where
 
 -- the stored values of registers without their frames
 abbrev pub without_frames : RegistersState → SavedRegistersState
-without_frames r = record { words = r.words; controls = r.controls; progress = r.progress; kind = r.kind; before = r.before; clock = r.clock; stop = r.stop; due = r.due }
+without_frames r = record {
+  words = r.words;
+  controls = r.controls;
+  progress = r.progress;
+  kind = r.kind;
+  before = r.before;
+  clock = r.clock;
+  stop = r.stop;
+  due = r.due;
+}
 
 -- the stored values of saved registers as their fields hold them
 abbrev pub saved_registers_in : SavedRegisters → SavedRegistersState
@@ -45,7 +54,17 @@ saved_registers_in s = record {
 
 -- registers of these stored values and frames
 abbrev pub registers_with : SavedRegistersState → FramesState → RegistersState
-registers_with v f = record { words = v.words; controls = v.controls; progress = v.progress; kind = v.kind; before = v.before; clock = v.clock; stop = v.stop; due = v.due; frames = f }
+registers_with v f = record {
+  words = v.words;
+  controls = v.controls;
+  progress = v.progress;
+  kind = v.kind;
+  before = v.before;
+  clock = v.clock;
+  stop = v.stop;
+  due = v.due;
+  frames = f;
+}
 
 -- what is saved of a device: each stored value but its memory, and at most one frame of that
 pub record UndoState : Type 0 where
@@ -61,7 +80,14 @@ IsUndoOf part u = IsSavedOf part u.frames
 
 -- the device whose values are saved, with a memory of zeros
 abbrev pub device_saved : PartData → UndoState → DeviceState
-device_saved part u = record { part = part; cutter = u.cutter; registers = registers_with u.values (frames_state u.frames.pipeline (zero_frames part)); wrapped = u.wrapped; taken = u.taken; fed = 0 }
+device_saved part u = record {
+  part = part;
+  cutter = u.cutter;
+  registers = registers_with u.values (frames_state u.frames.pipeline (zero_frames part));
+  wrapped = u.wrapped;
+  taken = u.taken;
+  fed = 0;
+}
 
 -- each saved value is that of a device
 pub record SavesValues (u : UndoState) (d : DeviceState) : Type 0 where

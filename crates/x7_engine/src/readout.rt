@@ -20,7 +20,7 @@ pub(crate) fn due_count(due: Due) -> u32
 {
     match due {
         Due::Nothing => 0,
-        Due::Same(_, count) => count,
+        Due::Same { count, .. } => count,
         Due::Frames(count) => count,
     }
 }
@@ -61,7 +61,10 @@ impl Registers {
         ensures reads { OfHistory part.now (registers_in self.old) (λ kept h place. AreReadBy part.now kept h (read_entry register count place) self.new.due) }
     {
         if !reads_frames(self.settings(), register, count) {
-            self.due = Due::Same(self.read_value(part, register), count);
+            self.due = Due::Same {
+                word: self.read_value(part, register),
+                count,
+            };
             return;
         }
         match self.frames.fault_of_read(part) {
@@ -77,9 +80,9 @@ impl Registers {
     {
         match self.due {
             Due::Nothing => (),
-            Due::Same(word, count) => {
+            Due::Same { word, count } => {
                 let left = read.push_times(word, count);
-                self.due = Due::Same(word, left);
+                self.due = Due::Same { word, count: left };
             }
             Due::Frames(count) => {
                 let left = give_frames(&mut self.frames, part, count, read);

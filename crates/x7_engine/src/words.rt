@@ -11,15 +11,6 @@ use crate::kept::Kept;
 use x7_regs::Reg;
 use x7_words::word_of;
 
-/// The number of WBSTAR, which a reset keeps.
-const WBSTAR: usize = 16;
-
-/// The number of TIMER, which a reset keeps.
-const TIMER: usize = 17;
-
-/// The number of BSPI, which a reset keeps.
-const BSPI: usize = 31;
-
 /// The last word written to each register number; where none was, what the reset kept, or 0.
 #[derive(Clone, Copy)]
 pub(crate) struct LastWords {
@@ -40,10 +31,13 @@ impl LastWords {
     pub(crate) fn new(kept: &Kept) -> LastWords
         ensures { AreLastWords kept.now result.last [] }
     {
+        let bspi = Reg::Bspi.number() as usize;
+        let timer = Reg::Timer.number() as usize;
+        let wbstar = Reg::Wbstar.number() as usize;
         let mut words = LastWords::zero();
-        words.last[BSPI] = kept.bspi;
-        words.last[TIMER] = kept.timer;
-        words.last[WBSTAR] = kept.wbstar;
+        words.last[bspi] = kept.bspi;
+        words.last[timer] = kept.timer;
+        words.last[wbstar] = kept.wbstar;
         words
     }
 

@@ -113,8 +113,10 @@ impl PlayText {
         reads: &[u32],
         stopped: bool,
     ) -> Result<PlayText, NoMemory>
-        ensures value { IfOk result (λ text. OfPast device (λ p. NoWordDue device → text ≡ record { stopped = stopped; text = report_text p.part (state_at p) reads.now (memory_at p) })) }
-        ensures owing { IfOk result (λ text. OfPast device (λ p. text ≡ record { stopped = stopped; text = report_text p.part (state_reported device p) reads.now (memory_at p) })) }
+        ensures value { IfOk result (λ text. OfPast device (λ p. NoWordDue device
+            → text ≡ record { stopped = stopped; text = report_text p.part (state_at p) reads.now (memory_at p) })) }
+        ensures owing { IfOk result (λ text. OfPast device (λ p.
+            text ≡ record { stopped = stopped; text = report_text p.part (state_reported device p) reads.now (memory_at p) })) }
     {
         let fars = shown_frames(alloc, device.part(), device.memory())?;
         let head = report_head(alloc, &device, reads, fars.len())?;

@@ -97,7 +97,12 @@ OfCalls w Fact = (off : Bool) (first : ℕ) (calls : List WatchCall) → Watches
 module _ (off : Bool) (first : ℕ) (calls : List WatchCall) (eos : Bool) where
   -- the watchdog fires at byte `n` of `count`, from 1, and at none before it, and it took the bytes up to that one
   abbrev pub FiredAt : ℕ → ℕ → WatchdogState → Type 0
-  FiredAt count n new = (0 < n) × (n ≤ count) × FiresAfter off first calls (n - 1) eos × WatchesFor off first new (calls ++ bytes_alike n eos) × NoneFires off first calls (n - 1) eos
+  FiredAt count n new =
+      (0 < n)
+      × (n ≤ count)
+      × FiresAfter off first calls (n - 1) eos
+      × WatchesFor off first new (calls ++ bytes_alike n eos)
+      × NoneFires off first calls (n - 1) eos
 
   -- the watchdog fires at none of `count` bytes, and it took them all
   abbrev pub NoneFired : ℕ → WatchdogState → Type 0
