@@ -250,7 +250,7 @@ impl Device {
         let from = *at;
         let run = self.cutter.cut(piece, at);
         let used_up = is_need(&run);
-        let left = self.registers.run(&self.part, run, *at - from);
+        let left = self.registers.take_run(&self.part, run, *at - from);
         *at -= left;
         self.taken += (*at - from) as u64;
         self.fed = self.fed.saturating_add((*at - from) as u64);

@@ -270,7 +270,7 @@ impl Registers {
     }
 
     /// Takes the last bytes of a payload word, and then the word. Says how many bytes are left.
-    fn word(&mut self, part: &Part, target: Target, word: u32, count: usize) -> usize
+    fn take_word(&mut self, part: &Part, target: Target, word: u32, count: usize) -> usize
         requires may_take { MayTakeWords part.now self.old }
         ensures left { LeavesBytes count result self.new }
         ensures takes_some { 0 < count → result < count }
@@ -304,7 +304,7 @@ impl Registers {
 
     /// Takes frame data or copies at once, on a device whose IDCODE was written: the words before the first that is
     /// refused or in which the watchdog fires. Says how many bytes these are.
-    fn frame_words(&mut self, part: &Part, reg: Reg, bytes: &[u8]) -> usize
+    fn take_frame_words(&mut self, part: &Part, reg: Reg, bytes: &[u8]) -> usize
         requires may_take { MayTakeWords part.now self.old }
         requires register { TakesWords reg }
         requires has_idcode { self.old.progress.has_idcode ≡ true }
@@ -325,18 +325,20 @@ impl Registers {
     }
 
     /// Takes those of a payload's words that can be taken at once, and says how many bytes these are.
-    fn words_at_once(&mut self, part: &Part, reg: Reg, bytes: &[u8]) -> usize
+    fn take_words_at_once(&mut self, part: &Part, reg: Reg, bytes: &[u8]) -> usize
         requires may_take { MayTakeWords part.now self.old }
         ensures { TookFirstWords (change_of part.now self.old self.new) (number_of reg) bytes.now result }
     {
         match reg {
-            Reg::Fdri | Reg::Mfwr if self.progress.has_idcode => self.frame_words(part, reg, bytes),
+            Reg::Fdri | Reg::Mfwr if self.progress.has_idcode => self.take_frame_words(
+                part, reg, bytes,
+            ),
             _ => 0,
         }
     }
 
     /// Takes payload words one by one up to a byte that stops the device, and says how many bytes these are.
-    fn words_one_by_one(&mut self, part: &Part, reg: Reg, bytes: &[u8]) -> usize
+    fn take_words_one_by_one(&mut self, part: &Part, reg: Reg, bytes: &[u8]) -> usize
         requires may_take { MayTakeWords part.now self.old }
         requires whole { AreWholeWords bytes.now }
         ensures { TookWords (change_of part.now self.old self.new) (number_of reg) bytes.now result }
@@ -344,7 +346,7 @@ impl Registers {
         let (words, _) = bytes.as_chunks::<4>();
         let mut taken = 0;
         for word in words {
-            let left = self.word(part, Target::Effective(reg), word_of(*word), WORD_BYTES);
+            let left = self.take_word(part, Target::Effective(reg), word_of(*word), WORD_BYTES);
             taken += WORD_BYTES - left;
             if self.stop.is_some() {
                 return taken;
@@ -355,15 +357,15 @@ impl Registers {
 
     /// Takes the payload words of a packet up to a byte that stops the device, and says how many bytes these are.
     #[inline(always)]
-    fn body(&mut self, part: &Part, target: Target, bytes: &[u8]) -> usize
+    fn take_body(&mut self, part: &Part, target: Target, bytes: &[u8]) -> usize
         requires may_take { MayTakeWords part.now self.old }
         requires whole { AreWholeWords bytes.now }
         ensures { TookWords (change_of part.now self.old self.new) (target_number target) bytes.now result }
     {
         match target {
             Target::Effective(reg) => {
-                let taken = self.words_at_once(part, reg, bytes);
-                taken + self.words_one_by_one(part, reg, &bytes[taken..])
+                let taken = self.take_words_at_once(part, reg, bytes);
+                taken + self.take_words_one_by_one(part, reg, &bytes[taken..])
             }
             Target::Plain(plain) => self.pass_all(part, plain, bytes),
         }
@@ -387,7 +389,7 @@ impl Registers {
 
     /// Takes the last bytes of a word in a header's place, and then the word. Says how many bytes are left.
     #[inline(always)]
-    fn header(&mut self, part: &Part, step: Step, count: usize) -> usize
+    fn take_header(&mut self, part: &Part, step: Step, count: usize) -> usize
         requires may_take { MayTakeWords part.now self.old }
         requires header { IsHeaderStep step }
         ensures left { LeavesBytes count result self.new }
@@ -407,7 +409,7 @@ impl Registers {
     /// Takes a run of a stream, `count` bytes of which are new, up to the byte that stops the device.
     /// Says how many of the last bytes are left.
     #[inline(always)]
-    pub(crate) fn run(&mut self, part: &Part, run: Cut<'_>, count: usize) -> usize
+    pub(crate) fn take_run(&mut self, part: &Part, run: Cut<'_>, count: usize) -> usize
         requires may_take { MayTakeWords part.now self.old }
         requires run { IsRun run }
         requires holds { RunLiesWithin run count }
@@ -421,10 +423,15 @@ impl Registers {
             Cut::Need => self.take_bytes(part, count),
             Cut::Skip(_) => self.take_bytes(part, count),
             Cut::Sync => self.take_bytes(part, count),
-            Cut::Head(_, step) => self.header(part, step, count),
-            Cut::Word(register, word) => self.word(part, Target::numbered(register), word, count),
+            Cut::Head(_, step) => self.take_header(part, step, count),
+            Cut::Word(register, word) => self.take_word(
+                part,
+                Target::numbered(register),
+                word,
+                count,
+            ),
             Cut::Body(register, bytes) => bytes.len()
-                - self.body(part, Target::numbered(register), bytes),
+                - self.take_body(part, Target::numbered(register), bytes),
         }
     }
 }
