@@ -279,7 +279,14 @@ ends_alike part h n count i eos l e f m =
   where
     by : (a b c : ℕ) (eos : Bool) → a ≤ b → b ≤ c → c ≤ 7 → eos ≡ (a == 7) → eos ≡ (c == 7) → (b == 7) ≡ eos
     by a b c true l m o e f = let last : a ≡ 7 = grind (arith, nat_tests, sym e) in let here : b ≡ 7 = omega (arith, l, m, o) in grind (arith, nat_tests, here)
-    by a b c false l m o e f = elim (b == 7) as (λ x. (b == 7) ≡ x → x ≡ false) [ true ↦ λ g. let here : b ≡ 7 = grind (arith, nat_tests, g) in let last : c ≡ 7 = omega (arith, l, m, o, here) in let yes : (c == 7) ≡ true = grind (arith, nat_tests, last) in absurd (let no : false ≡ true = f ∙ yes in cc) | false ↦ λ g. refl ] refl
+    by a b c false l m o e f = elim (b == 7) as (λ x. (b == 7) ≡ x → x ≡ false) [
+      | true ↦ λ g.
+          let here : b ≡ 7 = grind (arith, nat_tests, g) in
+          let last : c ≡ 7 = omega (arith, l, m, o, here) in
+          let yes : (c == 7) ≡ true = grind (arith, nat_tests, last) in
+          absurd (let no : false ≡ true = f ∙ yes in cc)
+      | false ↦ λ g. refl
+    ] refl
 
 -- ---- what the calls of the code come to
 

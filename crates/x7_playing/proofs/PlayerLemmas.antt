@@ -86,7 +86,8 @@ fed_full part bytes piece d e reads now s fits stands none known few =
       within_limit = few;
     }
 
-fed_stopped : (part : PartData) (bytes piece : List ℕ) (n : ℕ) (d e : DeviceState) (reads now : List ℕ) → (s : DevicePlayed part bytes d reads) → (IsSome (stop_in part on_the_bench s.taken) → n ≡ 0) → AreBytes (bytes ++ piece) → DeviceStandsFor part on_the_bench false e (s.taken ++ take n piece) → (st : Stopped) → stop_in part on_the_bench (s.taken ++ take n piece) ≡ Some st
+fed_stopped : (part : PartData) (bytes piece : List ℕ) (n : ℕ) (d e : DeviceState) (reads now : List ℕ)
+    → (s : DevicePlayed part bytes d reads) → (IsSome (stop_in part on_the_bench s.taken) → n ≡ 0) → AreBytes (bytes ++ piece) → DeviceStandsFor part on_the_bench false e (s.taken ++ take n piece) → (st : Stopped) → stop_in part on_the_bench (s.taken ++ take n piece) ≡ Some st
     → now ≡ reads_given part on_the_bench e (s.taken ++ take n piece) → length now ≤ reads_limit → DevicePlayed part (bytes ++ piece) e now
 fed_stopped part bytes piece n d e reads now s still fits stands st stop known few =
     let rest = rest_of_turn part bytes piece n d reads s still in

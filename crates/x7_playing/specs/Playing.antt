@@ -1,17 +1,16 @@
 -- What the steps of a play come to. A player is over once its device has read out more words than a play may (this
 -- project's choice).
 use Rattle.std.specs.Prelude.{◌≡◌, ◌+◌, ◌<◌, ◌≤◌, ◌⊎◌, ◌++◌, ℕ, List, [], Some, Bool, true, false, IsSome, length, Result, Ok}
-use Rattle.x7_words.specs.Input.{taken_bytes_limit}
+use Rattle.x7_words.specs.Input.{InputsState, taken_bytes_limit}
 use Rattle.x7_words.specs.Word.{AreBytes}
 use Rattle.x7_part.specs.Part.{PartData}
 use Rattle.x7_engine.specs.Kept.{on_the_bench}
 use Rattle.x7_engine.specs.ReadBuffer.{ReadBufState}
 use Rattle.x7_engine.specs.Standing.{DeviceState, DeviceStandsFor, NoWordDue, reads_given}
 use Rattle.x7_engine.specs.State.{reads_of, stop_in}
+use Rattle.x7_forms.specs.Event.{Event}
 use Rattle.x7_forms.specs.Known.{reads_limit, StreamRead}
 use Rattle.x7_forms.specs.Step.{ReadsStreams}
-use Rattle.x7_words.specs.Input.{InputsState}
-use Rattle.x7_forms.specs.Event.{Event}
 use Rattle.x7_playing.specs.declared.player.Player.{Player}
 
 -- A device was given these bytes, and took all of them, or those up to its stop; `reads` are the words read out,
@@ -83,7 +82,7 @@ FeedsPrefix old new prefix = (part : PartData) (bytes : List ℕ) → HasPlayedB
 
 -- by whether a player is over: with `count` bytes more it was given no more than a device counts
 abbrev pub MayPlayBy : Bool → PlayState → ℕ → Type 0
-MayPlayBy over s count = (part : PartData) × ((bytes : List ℕ) × (HasPlayedBy over part bytes s × (length bytes + count ≤ taken_bytes_limit)))
+MayPlayBy over s count = (part : PartData) × (bytes : List ℕ) × HasPlayedBy over part bytes s × (length bytes + count ≤ taken_bytes_limit)
 
 -- a player may be given `count` bytes more, which with all before are no more than a device counts
 abbrev pub MayPlay : Player → ℕ → Type 0

@@ -104,7 +104,8 @@ impl Watchdog {
     }
 }
 
-/// The count at which the watchdog fires: `TIMER_STEP` times TIMER's value, and 0 where TIMER or the attempt has it off.
+/// The count at which the watchdog fires: `TIMER_STEP` times TIMER's value, and 0 where TIMER or the attempt has it
+/// off.
 fn limit_of(off: bool, timer: u32) -> u32
     ensures { result ≡ full_count off timer }
 {

@@ -156,19 +156,22 @@ returns-then-turn_until_started-clause-reads c = λ part kept wrapped bytes s.
     let count : taken_until (length piece) c.answer-then-turn_until_started.result ≡ at = count_is c.answer-then-turn_until_started.result c.started-then-turn_until_started.result fed.All (length piece) at c.answer-then-turn_until_started.ensures (sym used.all) in
     let known : (more : List ℕ) × (c.give.new.read ≡ with_words c.args.read.now more) × (reads_given part kept c.turn_until_started.new.self (bytes ++ take at piece) ≡ reads_given part kept c.args.self.now bytes ++ more) =
     read_here part kept wrapped c.runs.self c.give.new.self c.turn_until_started.new.self c.args.read.now c.runs.read c.give.new.read bytes piece (reads_given part kept c.args.self.now bytes) c.runs.at at
-    (c.give.ensures.given part kept wrapped (bytes ++ take c.runs.at piece) (c.runs.invariant.stands part kept wrapped bytes s)) c.turn_until_started.ensures.took.turned.forward (c.turn_until_started.ensures.took.turned.turn.silent part kept wrapped) (c.runs.invariant.reads part kept wrapped bytes s) in
+    (c.give.ensures.given part kept wrapped (bytes ++ take c.runs.at piece) (c.runs.invariant.stands part kept wrapped bytes s)) c.turn_until_started.ensures.took.turned.forward
+    (c.turn_until_started.ensures.took.turned.turn.silent part kept wrapped) (c.runs.invariant.reads part kept wrapped bytes s) in
     (known.0, known.1, ap (λ (k : ℕ). reads_given part kept c.turn_until_started.new.self (bytes ++ take k piece)) count ∙ known.2)
 
 pub returns-then-turn_until_started-clause-room : goal.returns-then-turn_until_started-clause-room
 returns-then-turn_until_started-clause-room c = λ part kept wrapped bytes s.
     let piece : List ℕ = c.args.piece.now in
     let used = c.turn_until_started.ensures.took.used_up c.if-turn_until_started.true in
-    let count : taken_until (length piece) c.answer-then-turn_until_started.result ≡ c.turn_until_started.new.at = count_is c.answer-then-turn_until_started.result c.started-then-turn_until_started.result fed.All (length piece) c.turn_until_started.new.at c.answer-then-turn_until_started.ensures (sym used.all) in
+    let count : taken_until (length piece) c.answer-then-turn_until_started.result ≡ c.turn_until_started.new.at =
+        count_is c.answer-then-turn_until_started.result c.started-then-turn_until_started.result fed.All (length piece) c.turn_until_started.new.at c.answer-then-turn_until_started.ensures (sym used.all) in
     subst (λ (k : ℕ). RoomBefore (record { part = part; kept = kept; wrapped = wrapped; bytes = bytes }) piece k (reads_given part kept c.args.self.now bytes) c.args.read.now) (sym count) (
     let taken : List ℕ = bytes ++ take c.runs.at c.args.piece.now in
     let gives = c.give.ensures.given part kept wrapped taken (c.runs.invariant.stands part kept wrapped bytes s) in
     let due : NoWordDue c.give.new.self = c.give.ensures.none_left.0 c.if-not-give.false in
-    room_read_on part kept wrapped c.give.new.self c.turn_until_started.new.self c.args.read.now c.give.new.read bytes c.args.piece.now (reads_given part kept c.args.self.now bytes) c.runs.at c.turn_until_started.new.at c.turn_until_started.ensures.took.turned.forward c.turn_until_started.ensures.took.turned.within
+    room_read_on part kept wrapped c.give.new.self c.turn_until_started.new.self c.args.read.now c.give.new.read bytes c.args.piece.now
+    (reads_given part kept c.args.self.now bytes) c.runs.at c.turn_until_started.new.at c.turn_until_started.ensures.took.turned.forward c.turn_until_started.ensures.took.turned.within
     c.give.ensures.going due gives.stands (c.turn_until_started.ensures.took.turned.turn.takes part kept wrapped taken gives.stands) (c.turn_until_started.ensures.took.turned.turn.commands part kept wrapped taken gives.stands) c.give.ensures.within_most
     (now_given part kept wrapped c.runs.self c.give.new.self c.args.read.now c.runs.read c.give.new.read taken (reads_given part kept c.args.self.now bytes) gives (c.runs.invariant.reads part kept wrapped bytes s))
     (c.runs.invariant.room part kept wrapped bytes s))
@@ -196,12 +199,14 @@ runs-preserved c =
           none_on part kept bytes piece c.runs.at at c.turn_until_started.ensures.took.turned.forward (c.runs.invariant.first part kept wrapped bytes s) (c.turn_until_started.ensures.first part kept wrapped taken given.stands not);
       reads = λ part kept wrapped bytes s.
           read_here part kept wrapped c.runs.self c.give.new.self c.turn_until_started.new.self c.args.read.now c.runs.read c.give.new.read bytes piece (reads_given part kept c.args.self.now bytes) c.runs.at at
-          (c.give.ensures.given part kept wrapped (bytes ++ take c.runs.at piece) (c.runs.invariant.stands part kept wrapped bytes s)) c.turn_until_started.ensures.took.turned.forward (c.turn_until_started.ensures.took.turned.turn.silent part kept wrapped) (c.runs.invariant.reads part kept wrapped bytes s);
+          (c.give.ensures.given part kept wrapped (bytes ++ take c.runs.at piece) (c.runs.invariant.stands part kept wrapped bytes s)) c.turn_until_started.ensures.took.turned.forward
+          (c.turn_until_started.ensures.took.turned.turn.silent part kept wrapped) (c.runs.invariant.reads part kept wrapped bytes s);
       room = λ part kept wrapped bytes s. (
           let taken : List ℕ = bytes ++ take c.runs.at c.args.piece.now in
           let gives = c.give.ensures.given part kept wrapped taken (c.runs.invariant.stands part kept wrapped bytes s) in
           let due : NoWordDue c.give.new.self = c.give.ensures.none_left.0 c.if-not-give.false in
-          room_read_on part kept wrapped c.give.new.self c.turn_until_started.new.self c.args.read.now c.give.new.read bytes c.args.piece.now (reads_given part kept c.args.self.now bytes) c.runs.at c.turn_until_started.new.at c.turn_until_started.ensures.took.turned.forward c.turn_until_started.ensures.took.turned.within
+          room_read_on part kept wrapped c.give.new.self c.turn_until_started.new.self c.args.read.now c.give.new.read bytes c.args.piece.now
+          (reads_given part kept c.args.self.now bytes) c.runs.at c.turn_until_started.new.at c.turn_until_started.ensures.took.turned.forward c.turn_until_started.ensures.took.turned.within
           c.give.ensures.going due gives.stands (c.turn_until_started.ensures.took.turned.turn.takes part kept wrapped taken gives.stands) (c.turn_until_started.ensures.took.turned.turn.commands part kept wrapped taken gives.stands) c.give.ensures.within_most
           (now_given part kept wrapped c.runs.self c.give.new.self c.args.read.now c.runs.read c.give.new.read taken (reads_given part kept c.args.self.now bytes) gives (c.runs.invariant.reads part kept wrapped bytes s))
           (c.runs.invariant.room part kept wrapped bytes s));
