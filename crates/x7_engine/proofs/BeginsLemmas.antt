@@ -4,7 +4,7 @@ use Rattle.x7_packets.specs.History.{Entry, History, Placed, executes, last_word
 use Rattle.x7_packets.proofs.GrowthLemmas.{placed_within}
 use Rattle.x7_startup.specs.Startup.{Begun, Call, NotBegun, StartupProgress, is_armed, progress_of, since_shutdown}
 use Rattle.x7_startup.specs.Startup as call
-use Rattle.x7_startup.proofs.CallLemmas.{first_place, further, is_armed_arm, is_armed_bytes, is_armed_desync, is_armed_drop, progress_arm, progress_bytes, progress_desync, progress_drop}
+use Rattle.x7_startup.proofs.CallLemmas.{progress_after_desync, further, is_armed_arm, is_armed_bytes, is_armed_desync, is_armed_drop, progress_arm, progress_bytes, progress_desync, progress_drop}
 use Rattle.x7_engine.specs.Registers.{takes_shutdown}
 use Rattle.x7_engine.specs.Sequence.{StartupBegins, Executes, IsArmed, IsArmedDesync, disarms}
 use Rattle.x7_engine.specs.Since.{NoneSince, Since}
@@ -83,10 +83,10 @@ after_call h e a o s = by (executes 5 h e.access) (takes_shutdown h e.access) (e
     same : (a : Bool) (o : Option Beginning) → AfterCall calls a o e.place → AfterCall (calls ++ []) a o e.place
     same a o s = subst (λ (t : List Call). AfterCall t a o e.place) (sym (append-nil calls)) s
 
-    began : (a : Bool) (o : Option Beginning) → AfterCall calls a o e.place → first_place (progress_of calls) (is_armed false (since_shutdown calls)) now.cor0 ≡ progress_by (or_now o a now) e.place
-    began a o s = ap (λ (p : StartupProgress). first_place p (is_armed false (since_shutdown calls)) now.cor0) s.progress_is ∙ ap (λ (b : Bool). first_place (progress_by o e.place) b now.cor0) s.armed_is ∙ at_once a o
+    began : (a : Bool) (o : Option Beginning) → AfterCall calls a o e.place → progress_after_desync (progress_of calls) (is_armed false (since_shutdown calls)) now.cor0 ≡ progress_by (or_now o a now) e.place
+    began a o s = ap (λ (p : StartupProgress). progress_after_desync p (is_armed false (since_shutdown calls)) now.cor0) s.progress_is ∙ ap (λ (b : Bool). progress_after_desync (progress_by o e.place) b now.cor0) s.armed_is ∙ at_once a o
       where
-        at_once : (a : Bool) (o : Option Beginning) → first_place (progress_by o e.place) a now.cor0 ≡ progress_by (or_now o a now) e.place
+        at_once : (a : Bool) (o : Option Beginning) → progress_after_desync (progress_by o e.place) a now.cor0 ≡ progress_by (or_now o a now) e.place
         at_once a (Some b) = refl
         at_once true None = let none : 0 ≡ e.place - e.place = omega arith in ap (Begun now.cor0) none
         at_once false None = refl

@@ -17,5 +17,5 @@ pub returns : goal.returns
 returns c = record {
   stands = λ calls h.
       running_stands _ _ _ calls 1 c.in-Some.cor0 1 0 c.tick-next.result.ticks c.tick-next.result.phase
-      c.in-Some.is (omega arith) (omega arith) c.tick-next.ensures.runs (rw (← c.self.view_is) at h);
+      c.in-Some.is (omega arith) (omega arith) c.tick-next.ensures.passes (rw (← c.self.view_is) at h);
 }

@@ -12,5 +12,5 @@ pub returns : goal.returns
 returns c = record {
   stands = λ calls h.
       running_stands _ _ _ calls c.args.count c.in-Some.cor0 _ _ c.pass_ticks-next.result.ticks c.pass_ticks-next.result.phase
-      c.in-Some.is (omega arith) (omega arith) c.pass_ticks-next.ensures.runs (rw (← c.self.view_is) at h);
+      c.in-Some.is (omega arith) (omega arith) c.pass_ticks-next.ensures.passes (rw (← c.self.view_is) at h);
 }
