@@ -8,10 +8,10 @@ ghost use Rattle.x7_debug.specs.Position.{last_of};
 ghost use Rattle.x7_debug.specs.Session.{StandsAtPosition, TakesUpToStop};
 
 use crate::journal::{Journal, RECORD_ROOM};
-use x7_engine::{Device, ON_THE_BENCH, ReadBuf};
+use x7_engine::{Device, ON_THE_BENCH, ReadBuf, UNDO_REACH};
 
 /// How many bytes a record leads back at most.
-pub(crate) const RECORD_REACH: u64 = 4;
+pub(crate) const RECORD_REACH: u64 = UNDO_REACH;
 
 /// How many bytes before a position records lead back at least, where all of them are in use: four bytes for each but
 /// the newest, which may be one byte before the position.

@@ -1,4 +1,4 @@
--- What is saved of a device, so that the next bytes up to four can be taken back (this project's choice).
+-- What is saved of a device, so that the next bytes, up to `undo_reach`, can be taken back (this project's choice).
 use Rattle.std.specs.Prelude.{◌≡◌, ℕ, ◌≤◌, Bool, List, length, Option}
 use Rattle.x7_packets.specs.Cutter.{CutterState}
 use Rattle.x7_part.specs.Part.{PartData}
@@ -14,6 +14,10 @@ use Rattle.x7_engine.specs.declared.stop.StopCause.{StopCause}
 use Rattle.x7_engine.specs.Clock.{ClockState, clock_in}
 use Rattle.x7_engine.specs.Past.{HasPast, Past, later}
 use Rattle.x7_engine.specs.Standing.{ControlsState, DeviceState, NoWordDue, ProgressState, RegistersState, controls_in, progress_in}
+
+-- how many bytes can be taken back at most
+abbrev pub undo_reach : ℕ
+undo_reach = 4
 
 -- the stored values of registers but their frames: all that `RegistersState` has beside these
 pub record SavedRegistersState : Type 0 where
@@ -109,14 +113,14 @@ pub record UndoLeadsBack (u : UndoState) (new old : DeviceState) : Type 0 where
   pub values : SavesValues u old
   pub frames : FramesBack old.part u.frames new.registers.frames old.registers.frames
 
--- what is saved is an old device, which took at most four bytes since then
+-- what is saved is an old device, which took no more bytes since then than can be taken back
 pub record TookFewSince (u : UndoState) (d : DeviceState) : Type 0 where
   pub past : Past
   pub more : List ℕ
   pub old : DeviceState
   pub saves : SavesDevice u old
   pub no_word_due : NoWordDue old
-  pub few : length more ≤ 4
+  pub few : length more ≤ undo_reach
   pub had : HasPast old past
   pub has : HasPast d (later past more)
 

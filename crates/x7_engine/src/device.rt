@@ -32,7 +32,7 @@ use crate::target::Target;
 pub use boot::flash_may_end;
 use std::alloc::Global;
 use std::marker::Model;
-pub use undo::Undo;
+pub use undo::{UNDO_REACH, Undo};
 use x7_flow::Frames;
 use x7_memory::Memory;
 use x7_packets::{Cut, Cutter};

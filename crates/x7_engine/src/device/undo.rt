@@ -5,7 +5,7 @@ ghost use Rattle.x7_engine.specs.Kept.{on_the_bench};
 ghost use Rattle.x7_engine.specs.ReadBuffer.{dropping};
 ghost use Rattle.x7_engine.specs.declared.stop.StopCause.{StopCause};
 ghost use Rattle.x7_engine.specs.Standing.{CanBeGiven, DeviceState, DeviceStandsFor, HasStopped, NoWordDue, answer_at_stop, fed_more, fed_of, taken_in};
-ghost use Rattle.x7_engine.specs.Undo.{AreEqual, UndoLeadsBack, IsUndoOf, SavesDevice, TookFewSince, device_saved};
+ghost use Rattle.x7_engine.specs.Undo.{AreEqual, IsUndoOf, SavesDevice, TookFewSince, UndoLeadsBack, device_saved, undo_reach};
 ghost use Rattle.x7_engine.specs.Past.{AnswersFor, OfPast, TakesJust, TakesNothing, prefix_taken, stop_at, HasPast, Past, later};
 
 use super::Device;
@@ -18,6 +18,9 @@ use x7_packets::Cutter;
 use x7_part::Part;
 use x7_pipeline::Saved;
 use x7_words::NoMemory;
+
+/// How many bytes can be taken back at most.
+pub const UNDO_REACH: u64 = 4;
 
 /// A device as it stood, saved so that the bytes that it takes next, up to four, can be taken back.
 #[derive(Drop)]
@@ -86,7 +89,7 @@ impl Device {
 
     /// Saves the device, and takes up to four bytes as `feed` does. Words read out are dropped.
     pub fn feed_word(&mut self, piece: &[u8], undo: &mut Undo) -> Fed
-        requires four { length piece.now ≤ 4 }
+        requires within_reach { length piece.now ≤ undo_reach }
         requires fits { CanBeGiven self.old (length piece.now) }
         requires no_word_due { NoWordDue self.old }
         requires undo { IsUndoOf self.old.part undo.old }
@@ -124,7 +127,7 @@ impl Device {
         requires undo { IsUndoOf self.old.part undo.now }
         requires back { TookFewSince undo.now self.old }
         ensures back { (old : DeviceState) → UndoLeadsBack undo.now self.old old → AreEqual self.new old }
-        ensures after_more { (p : Past) (more : List ℕ) (old : DeviceState) → SavesDevice undo.now old → NoWordDue old → length more ≤ 4
+        ensures after_more { (p : Past) (more : List ℕ) (old : DeviceState) → SavesDevice undo.now old → NoWordDue old → length more ≤ undo_reach
             → HasPast old p → HasPast self.old (later p more) → AreEqual self.new old }
         ensures part { self.new.part ≡ self.old.part }
         ensures fed { fed_of self.new ≡ fed_of self.old }

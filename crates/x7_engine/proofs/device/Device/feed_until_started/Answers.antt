@@ -165,7 +165,7 @@ returns-then-turn_until_started-clause-room c = λ part kept wrapped bytes s.
     let piece : List ℕ = c.args.piece.now in
     let used = c.turn_until_started.ensures.took.used_up c.if-turn_until_started.true in
     let count : taken_until (length piece) c.answer-then-turn_until_started.result ≡ c.turn_until_started.new.at =
-        count_is c.answer-then-turn_until_started.result c.started-then-turn_until_started.result fed.All (length piece) c.turn_until_started.new.at c.answer-then-turn_until_started.ensures (sym used.all) in
+    count_is c.answer-then-turn_until_started.result c.started-then-turn_until_started.result fed.All (length piece) c.turn_until_started.new.at c.answer-then-turn_until_started.ensures (sym used.all) in
     subst (λ (k : ℕ). RoomBefore (record { part = part; kept = kept; wrapped = wrapped; bytes = bytes }) piece k (reads_given part kept c.args.self.now bytes) c.args.read.now) (sym count) (
     let taken : List ℕ = bytes ++ take c.runs.at c.args.piece.now in
     let gives = c.give.ensures.given part kept wrapped taken (c.runs.invariant.stands part kept wrapped bytes s) in

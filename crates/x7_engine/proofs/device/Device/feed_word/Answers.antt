@@ -16,7 +16,7 @@ pub returns-clause-back : goal.returns-clause-back
 returns-clause-back c = λ part kept wrapped bytes s.
     let piece : List ℕ = c.args.piece.now in
     let taken : ℕ = taken_in (length piece) c.feed-fed.result in
-    let few : length (take taken piece) ≤ 4 = omega (arith, length-take taken piece, c.requires.four) in
+    let few : length (take taken piece) ≤ 4 = omega (arith, length-take taken piece, c.requires.within_reach) in
     leads_back part kept wrapped c.save.new.undo c.args.self.now c.feed-fed.new.self bytes (take taken piece) c.save.ensures.saves c.frames_fit.ensures c.requires.no_word_due few s (c.feed-fed.ensures.takes part kept wrapped bytes s)
 
 pub returns-clause-stopped : goal.returns-clause-stopped

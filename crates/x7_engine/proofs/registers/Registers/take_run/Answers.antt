@@ -64,7 +64,7 @@ returns-in-Body-clause-enters c = λ kept h from n e s.
     let ws : List ℕ = words_of_bytes c.in-Body.bytes.now in
     let here : n + c.take_body.result ≡ n + (c.args.count - (length c.in-Body.bytes.now - c.take_body.result)) = omega (arith, w.1, c.take_body.ensures.takes.within) in
     rw c.in-Body.is (subst (λ (p : ℕ). RegistersStandFor c.args.part.now kept (registers_in c.take_body.new.self)
-        (until (counted_in c.take_body.new.self.stop (n + (c.args.count - (length c.in-Body.bytes.now - c.take_body.result)))) (entered_all p (payload_steps c.in-Body.register ws) h)) (n + (c.args.count - (length c.in-Body.bytes.now - c.take_body.result)))) (sym w.0)
+    (until (counted_in c.take_body.new.self.stop (n + (c.args.count - (length c.in-Body.bytes.now - c.take_body.result)))) (entered_all p (payload_steps c.in-Body.register ws) h)) (n + (c.args.count - (length c.in-Body.bytes.now - c.take_body.result)))) (sym w.0)
     (subst (λ (m : ℕ). RegistersStandFor c.args.part.now kept (registers_in c.take_body.new.self) (until (counted_in c.take_body.new.self.stop m) (entered_all n (payload_steps c.in-Body.register ws) h)) m) here
     (subst (λ (r : ℕ). RegistersStandFor c.args.part.now kept (registers_in c.take_body.new.self) (until (counted_in c.take_body.new.self.stop (n + c.take_body.result)) (entered_all n (payload_steps r ws) h)) (n + c.take_body.result)) c.numbered-in-Body.ensures
     (c.take_body.ensures.enters kept h n s))))
