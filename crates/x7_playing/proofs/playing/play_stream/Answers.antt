@@ -55,7 +55,7 @@ returns-else-is_err-clause-played g c =
       plays = on_on c.args.player.now c.play.new.self c.play_rest.new.player slice more plays p.2;
       reads = λ flash. subst (λ (bytes : List ℕ). IsCaused (with_inputs contents flash) C (λ t. stream_known t c.args.limit name) (Ok (record { bytes = bytes; room = left }))) bytes
           (stream_read contents flash C name first more (drop start first) (i.state c.next_turn.new.inputs).rest (i.state c.play_rest.new.inputs).rest
-              c.args.limit left c.in_ok-first.first.last select p.3.0 p.3.1 c.in_ok-first.ensures.end long fits (omega (arith, p.1, size)) within c.in-Ok.ensures.data);
+          c.args.limit left c.in_ok-first.first.last select p.3.0 p.3.1 c.in_ok-first.ensures.end long fits (omega (arith, p.1, size)) within c.in-Ok.ensures.data);
     }) c.play_rest.ensures.played
 
 pub returns-in_err-open-clause-refused : goal.returns-in_err-open-clause-refused
@@ -91,7 +91,7 @@ returns-in_err-skip_rest-in-Err-clause-refused g c = rw (handed_on c.from_residu
     stream_unread (i.state c.args.inputs.now) (i.state c.open.new.inputs) (i.state c.skip_rest.new.inputs) flash c.args.name.now c.args.limit (event_of c.in_err-skip_rest-in-Err.field-0.0)
     c.open.ensures.inputs c.in_ok-open.ensures.opened.found c.open.ensures.asks
     (want_or_rest (i.state c.open.new.inputs) (i.state c.next_turn.new.inputs) (i.state c.skip_rest.new.inputs)
-        c.args.name.now first c.args.limit (c.args.limit - count) (event_of c.in_err-skip_rest-in-Err.field-0.0) reads (omega (arith, size, c.in_ok-first.ensures.within.0)) (inr c.in_err-skip_rest-in-Err.ensures.refused)))
+    c.args.name.now first c.args.limit (c.args.limit - count) (event_of c.in_err-skip_rest-in-Err.field-0.0) reads (omega (arith, size, c.in_ok-first.ensures.within.0)) (inr c.in_err-skip_rest-in-Err.ensures.refused)))
 
 pub returns-in_ok-skip_rest-in-Err-clause-refused : goal.returns-in_ok-skip_rest-in-Err-clause-refused
 returns-in_ok-skip_rest-in-Err-clause-refused g c = λ flash.
