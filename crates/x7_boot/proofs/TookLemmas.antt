@@ -13,7 +13,7 @@ use Rattle.x7_engine.specs.declared.until_started.UntilStarted.TheVariants as un
 use Rattle.x7_regs.specs.declared.boot_status.Cause.{Cause}
 use Rattle.x7_engine.specs.Value.{failure_of}
 use Rattle.x7_engine.specs.ReadBuffer.{IsFullBy, ReadBufState}
-use Rattle.x7_engine.specs.Past.{Answers, AnswersUntil}
+use Rattle.x7_engine.specs.Past.{AnswersAt, AnswersUntilAt}
 use Rattle.x7_engine.specs.Standing.{CanBeGiven, DeviceState, DeviceStandsFor, NoWordDue, taken_in}
 use Rattle.x7_engine.specs.State.{history_by, why_of, state_of, stop_in, taken_by}
 use Rattle.x7_engine.specs.Startup.{phase_by, startup_progress}
@@ -60,7 +60,7 @@ none_yet part kept d bytes page n s within first k l =
 -- ---- what a feed does
 
 -- no word is due where the buffer drops each
-none_due : (part : PartData) (kept : Kept) (d : DeviceState) (bytes : List ℕ) (read : ReadBufState) (answer : Fed) → read.most ≡ None → Answers (past_in_flash part kept bytes) d read answer → NoWordDue d
+none_due : (part : PartData) (kept : Kept) (d : DeviceState) (bytes : List ℕ) (read : ReadBufState) (answer : Fed) → read.most ≡ None → AnswersAt (past_in_flash part kept bytes) d read answer → NoWordDue d
 none_due part kept d bytes read fed.All dropping a = a.1
 none_due part kept d bytes read (fed.Stopped n) dropping a = a.2
 none_due part kept d bytes read (fed.Iprog n) dropping a = a.1
@@ -71,7 +71,7 @@ failed_at f cause e = ap failed_by (sym e)
 
 -- what it does to an attempt in which startup hasn't ended by then
 steps_to : (part : PartData) (kept : Kept) (d : DeviceState) (bytes : List ℕ) (read : ReadBufState) (answer : Fed) (cause : Option Cause) → read.most ≡ None
-    → Answers (past_in_flash part kept bytes) d read answer → has_started part kept bytes ≡ false → cause ≡ failure_of (stop_fault (why_of (stop_in part kept bytes))) false
+    → AnswersAt (past_in_flash part kept bytes) d read answer → has_started part kept bytes ≡ false → cause ≡ failure_of (stop_fault (why_of (stop_in part kept bytes))) false
     → StepsTo part kept bytes (step_by answer cause)
 steps_to part kept d bytes read fed.All cause dropping a e f = (a.0, ends_by_stop part kept bytes e ∙ ap (λ (o : Option Stopped). ending_by (why_of o)) a.0)
 steps_to part kept d bytes read (fed.Iprog n) cause dropping a e f = ends_by_stop part kept bytes e ∙ ap (λ (o : Option Stopped). ending_by (why_of o)) a.0
@@ -81,7 +81,7 @@ steps_to part kept d bytes read (fed.Stopped n) None dropping a e f =
     (subst (λ (o : Option Stopped). IsSome o) (sym a.1) refl, ends_by_stop part kept bytes e ∙ ap (λ (o : Option Stopped). ending_by (why_of o)) a.1 ∙ failed_at a.0 None (f ∙ ap (λ (o : Option Stopped). failure_of (stop_fault (why_of o)) false) a.1))
 
 -- an attempt goes on only where all was taken
-goes_all : (part : PartData) (kept : Kept) (d : DeviceState) (bytes : List ℕ) (read : ReadBufState) (answer : Fed) (cause : Option Cause) (length : ℕ) → read.most ≡ None → Answers (past_in_flash part kept bytes) d read answer → step_by answer cause ≡ GoesOn
+goes_all : (part : PartData) (kept : Kept) (d : DeviceState) (bytes : List ℕ) (read : ReadBufState) (answer : Fed) (cause : Option Cause) (length : ℕ) → read.most ≡ None → AnswersAt (past_in_flash part kept bytes) d read answer → step_by answer cause ≡ GoesOn
     → taken_in length answer ≡ length
 goes_all part kept d bytes read fed.All cause n dropping a e = refl
 goes_all part kept d bytes read (fed.Iprog k) cause n dropping a e = cc
@@ -96,16 +96,16 @@ abbrev pub step_until : UntilStarted → Option Cause → AttemptStep
 step_until (until.Started n) cause = Ends Started
 step_until (until.Fed answer) cause = step_by answer cause
 
-due_until : (part : PartData) (kept : Kept) (d : DeviceState) (bytes : List ℕ) (read : ReadBufState) (answer : UntilStarted) → read.most ≡ None → AnswersUntil (past_in_flash part kept bytes) d read answer → NoWordDue d
+due_until : (part : PartData) (kept : Kept) (d : DeviceState) (bytes : List ℕ) (read : ReadBufState) (answer : UntilStarted) → read.most ≡ None → AnswersUntilAt (past_in_flash part kept bytes) d read answer → NoWordDue d
 due_until part kept d bytes read (until.Started n) dropping a = a
 due_until part kept d bytes read (until.Fed answer) dropping a = none_due part kept d bytes read answer dropping a
 
-steps_until : (part : PartData) (kept : Kept) (d : DeviceState) (bytes : List ℕ) (read : ReadBufState) (answer : UntilStarted) (cause : Option Cause) → read.most ≡ None → AnswersUntil (past_in_flash part kept bytes) d read answer
+steps_until : (part : PartData) (kept : Kept) (d : DeviceState) (bytes : List ℕ) (read : ReadBufState) (answer : UntilStarted) (cause : Option Cause) → read.most ≡ None → AnswersUntilAt (past_in_flash part kept bytes) d read answer
     → says_started answer ≡ has_started part kept bytes → cause ≡ failure_of (stop_fault (why_of (stop_in part kept bytes))) false → StepsTo part kept bytes (step_until answer cause)
 steps_until part kept d bytes read (until.Started n) cause dropping a e f = ends_started part kept bytes (sym e)
 steps_until part kept d bytes read (until.Fed answer) cause dropping a e f = steps_to part kept d bytes read answer cause dropping a (sym e) f
 
-all_until : (part : PartData) (kept : Kept) (d : DeviceState) (bytes : List ℕ) (read : ReadBufState) (answer : UntilStarted) (cause : Option Cause) (length : ℕ) → read.most ≡ None → AnswersUntil (past_in_flash part kept bytes) d read answer
+all_until : (part : PartData) (kept : Kept) (d : DeviceState) (bytes : List ℕ) (read : ReadBufState) (answer : UntilStarted) (cause : Option Cause) (length : ℕ) → read.most ≡ None → AnswersUntilAt (past_in_flash part kept bytes) d read answer
     → step_until answer cause ≡ GoesOn → taken_until length answer ≡ length
 all_until part kept d bytes read (until.Started n) cause length dropping a e = absurd (cc)
 all_until part kept d bytes read (until.Fed answer) cause length dropping a e = goes_all part kept d bytes read answer cause length dropping a e
@@ -113,7 +113,7 @@ all_until part kept d bytes read (until.Fed answer) cause length dropping a e = 
 -- a device took what it answers
 pub page_took : (part : PartData) (kept : Kept) (d : DeviceState) (bytes page : List ℕ) (read : ReadBufState) (answer : UntilStarted) (cause : Option Cause)
     → (let n : ℕ = taken_until (length page) answer in let all : List ℕ = bytes ++ take n page in
-    n ≤ length page → DeviceStandsFor part kept false d all → NoneStarted part kept bytes page n → read.most ≡ None → AnswersUntil (past_in_flash part kept all) d read answer
+    n ≤ length page → DeviceStandsFor part kept false d all → NoneStarted part kept bytes page n → read.most ≡ None → AnswersUntilAt (past_in_flash part kept all) d read answer
     → (NoWordDue d → says_started answer ≡ has_started part kept all) → cause ≡ failure_of (stop_fault (why_of (stop_in part kept all))) false → Took (past_in_flash part kept bytes) d page (step_until answer cause))
 page_took part kept d bytes page read answer cause within s first dropping a started f =
     let n : ℕ = taken_until (length page) answer in

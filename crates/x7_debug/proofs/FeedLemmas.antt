@@ -8,7 +8,7 @@ use Rattle.x7_engine.specs.declared.fed.Fed.{Fed}
 use Rattle.x7_engine.specs.declared.fed.Fed.TheVariants as fed
 use Rattle.x7_engine.specs.declared.kept.Kept.{Kept}
 use Rattle.x7_engine.specs.ReadBuffer.{IsFullBy, ReadBufState, with_words}
-use Rattle.x7_engine.specs.Past.{Answers, past_of}
+use Rattle.x7_engine.specs.Past.{AnswersAt, past_of}
 use Rattle.x7_engine.specs.Standing.{DeviceState, DeviceStandsFor, NoWordDue, taken_in}
 use Rattle.x7_engine.specs.State.{stop_in, taken_by, taken_of}
 use Rattle.x7_engine.specs.Stop.{Stopped}
@@ -49,7 +49,7 @@ module _ (part : PartData) (kept : Kept) (wrapped : Bool) (bytes piece : List �
       subst (λ b. DeviceStandsFor part kept wrapped d b) same stands
 
   -- a buffer that drops words never waits for room
-  pub fed_stands : (read : ReadBufState) (f : Fed) → AreBytes (bytes ++ piece) → read.most ≡ None → DeviceStandsFor part kept wrapped d (bytes ++ take (taken_in (length piece) f) piece) → Answers (past_of part kept wrapped (bytes ++ take (taken_in (length piece) f) piece)) d read f
+  pub fed_stands : (read : ReadBufState) (f : Fed) → AreBytes (bytes ++ piece) → read.most ≡ None → DeviceStandsFor part kept wrapped d (bytes ++ take (taken_in (length piece) f) piece) → AnswersAt (past_of part kept wrapped (bytes ++ take (taken_in (length piece) f) piece)) d read f
       → DeviceStandsFor part kept wrapped d (take (taken_of part kept (bytes ++ piece)) (bytes ++ piece))
   fed_stands read fed.All fits most stands answer =
       let all : bytes ++ take (length piece) piece ≡ bytes ++ piece = ap (λ t. bytes ++ t) (take-length piece) in
@@ -59,7 +59,7 @@ module _ (part : PartData) (kept : Kept) (wrapped : Bool) (bytes piece : List �
   fed_stands read (fed.Iprog n) fits most stands answer = at_stop n _ fits stands answer.0 refl
   fed_stands read (fed.ReadFull n) fits most stands answer = absurd (subst (λ (m : Option ℕ). IsFullBy m (length read.words)) most answer.2)
 
-  pub fed_none_due : (read : ReadBufState) (f : Fed) → read.most ≡ None → Answers (past_of part kept wrapped (bytes ++ take (taken_in (length piece) f) piece)) d read f → NoWordDue d
+  pub fed_none_due : (read : ReadBufState) (f : Fed) → read.most ≡ None → AnswersAt (past_of part kept wrapped (bytes ++ take (taken_in (length piece) f) piece)) d read f → NoWordDue d
   fed_none_due read fed.All most answer = answer.1
   fed_none_due read (fed.Stopped n) most answer = answer.2
   fed_none_due read (fed.Iprog n) most answer = answer.1

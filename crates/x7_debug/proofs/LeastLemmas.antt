@@ -5,7 +5,7 @@ use Rattle.std.proofs.lemmas.List.{length-take-le, take-append-drop}
 use Rattle.x7_words.specs.Word.{AreBytes}
 use Rattle.x7_words.proofs.ListLemmas.{all_prefix}
 use Rattle.x7_packets.specs.ByHand.{reading_of}
-use Rattle.x7_packets.specs.Reading.{is_synced as ends_synced}
+use Rattle.x7_packets.specs.Reading.{is_synced}
 use Rattle.x7_part.specs.Part.{PartData}
 use Rattle.x7_engine.specs.declared.stop.StopCause.{StopCause}
 use Rattle.x7_engine.specs.Kept.{on_the_bench}
@@ -13,7 +13,7 @@ use Rattle.x7_engine.specs.State.{end_by, why_of, stop_in}
 use Rattle.x7_engine.specs.Stop.{Stopped}
 use Rattle.x7_engine.proofs.StateLemmas.{stop_is_final_stop, stop_place}
 use Rattle.x7_debug.specs.declared.order.Stop.TheVariants as stop
-use Rattle.x7_debug.specs.Position.{has_stopped, holds_at, last_of, until_of}
+use Rattle.x7_debug.specs.Position.{ends_at_stop, holds_at, last_of, until_of}
 use Rattle.x7_debug.proofs.FeedLemmas.{taken_stopped}
 use Rattle.x7_debug.proofs.PositionLemmas.{last_within, until_last, until_there}
 
@@ -37,12 +37,12 @@ none_before part stream n fits lt = by (stop_in part on_the_bench (take n stream
         let place = stop_place part on_the_bench (take n stream) s (all_prefix (λ b. b < 256) (take n stream) (drop n stream) fit) e in
         absurd (omega (arith, taken_stopped part on_the_bench stream s later, place.1, long, lt))
 
-going : (o : Option StopCause) (synced : Bool) (wbstar : ℕ) → o ≡ None → has_stopped (end_by o synced wbstar) ≡ false
-going o true wbstar e = ap (λ (x : Option StopCause). has_stopped (end_by x true wbstar)) e
-going o false wbstar e = ap (λ (x : Option StopCause). has_stopped (end_by x false wbstar)) e
+going : (o : Option StopCause) (synced : Bool) (wbstar : ℕ) → o ≡ None → ends_at_stop (end_by o synced wbstar) ≡ false
+going o true wbstar e = ap (λ (x : Option StopCause). ends_at_stop (end_by x true wbstar)) e
+going o false wbstar e = ap (λ (x : Option StopCause). ends_at_stop (end_by x false wbstar)) e
 
 not_stopped : (part : PartData) (stream : List ℕ) (n : ℕ) → AreBytes stream → n < last_of part stream → holds_at part stream stop.Stopped n ≡ false
-not_stopped part stream n fits lt = going (why_of (stop_in part on_the_bench (take n stream))) (ends_synced (reading_of (take n stream)).place) _ (ap why_of (none_before part stream n fits lt))
+not_stopped part stream n fits lt = going (why_of (stop_in part on_the_bench (take n stream))) (is_synced (reading_of (take n stream)).place) _ (ap why_of (none_before part stream n fits lt))
 
 pub until_stopped : (part : PartData) (stream : List ℕ) (at : ℕ) → AreBytes stream → at ≤ last_of part stream → until_of part stream stop.Stopped at ≡ last_of part stream
 until_stopped part stream at fits le = by (holds_at part stream stop.Stopped (last_of part stream)) refl

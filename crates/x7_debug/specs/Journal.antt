@@ -4,7 +4,7 @@ use Rattle.std.specs.Prelude.{◌≡◌, ℕ, ◌+◌, ◌-◌, ◌*◌, ◌<◌
 use Rattle.std.specs.List.{AllByRecursion}
 use Rattle.x7_part.specs.Part.{PartData}
 use Rattle.x7_engine.specs.Standing.{DeviceState, fed_of}
-use Rattle.x7_engine.specs.Undo.{IsUndoOf, SavesDevice, UndoState}
+use Rattle.x7_engine.specs.Undo.{IsUndoOf, SavesDevice, UndoState, undo_reach}
 use Rattle.x7_debug.specs.Session.{MovesTo, SessionState, StandsAtPosition}
 
 -- how many records there is room for
@@ -13,7 +13,7 @@ record_room = 64
 
 -- how many bytes a record leads back at most
 abbrev pub record_reach : ℕ
-record_reach = 4
+record_reach = undo_reach
 
 -- how many bytes before a position records lead back at least, where all of them are in use: four bytes for each but
 -- the newest, which may be one byte before the position
@@ -55,6 +55,10 @@ pub record IsOnStream (part : PartData) (stream : List ℕ) (d : DeviceState) (j
   pub records : AreRecordsOf part j
   pub few : length (records_of j) ≤ record_room
   pub leads : LeadBack part stream d.taken (records_of j)
+
+-- `Fact` holds of each stream that a device is on with its records
+abbrev pub OfStream : DeviceState → JournalState → (List ℕ → Type 0) → Type 0
+OfStream d j Fact = (stream : List ℕ) → IsOnStream d.part stream d j → Fact stream
 
 -- a device came to position n of the stream, and these records lead back from there
 pub record ComesToPosition (stream : List ℕ) (old new : DeviceState) (j : JournalState) (n : ℕ) : Type 0 where

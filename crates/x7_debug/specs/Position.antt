@@ -24,26 +24,26 @@ abbrev pub memory_at_position : PartData → List ℕ → ℕ → FrameMap
 memory_at_position part stream n = memory_in part on_the_bench (take n stream)
 
 -- the bytes end in a session of the stream: after a sync word, and no DESYNC has ended it
-abbrev pub is_synced : End → Bool
-is_synced at_end.Synced = true
-is_synced _ = false
+abbrev pub ends_in_session : End → Bool
+ends_in_session at_end.Synced = true
+ends_in_session _ = false
 
 -- the bytes end in a gap of the stream, where the sync word is searched
-abbrev pub is_searching : End → Bool
-is_searching at_end.Searching = true
-is_searching _ = false
+abbrev pub ends_in_gap : End → Bool
+ends_in_gap at_end.Searching = true
+ends_in_gap _ = false
 
 -- the bytes end at a fault or an obeyed IPROG
-abbrev pub has_stopped : End → Bool
-has_stopped (at_end.Iprog wbstar) = true
-has_stopped (at_end.Fault fault) = true
-has_stopped _ = false
+abbrev pub ends_at_stop : End → Bool
+ends_at_stop (at_end.Iprog wbstar) = true
+ends_at_stop (at_end.Fault fault) = true
+ends_at_stop _ = false
 
 -- the stop of an order `until` holds where the bytes end so, in this phase of startup
 abbrev pub holds_in : Stop → End → ℕ → Bool
-holds_in stop.Synced end phase = is_synced end
-holds_in stop.Searching end phase = is_searching end
-holds_in stop.Stopped end phase = has_stopped end
+holds_in stop.Synced end phase = ends_in_session end
+holds_in stop.Searching end phase = ends_in_gap end
+holds_in stop.Stopped end phase = ends_at_stop end
 holds_in (stop.Phase wanted) end phase = phase == wanted
 
 -- the stop holds at position n of the stream

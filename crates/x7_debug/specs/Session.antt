@@ -31,6 +31,6 @@ pub record StandsAtPosition (part : PartData) (stream : List ℕ) (d : DeviceSta
   pub no_word_due : NoWordDue d
 
 -- a device takes a piece, up to what stops it, and no word that it read out is due
-abbrev pub TakesPiece : DeviceState → DeviceState → List ℕ → Type 0
-TakesPiece old new piece =
+abbrev pub TakesUpToStop : DeviceState → DeviceState → List ℕ → Type 0
+TakesUpToStop old new piece =
     OfPast old (λ p. DeviceStandsFor p.part p.kept p.wrapped new (take (taken_of p.part p.kept (p.bytes ++ piece)) (p.bytes ++ piece)) × NoWordDue new)

@@ -30,8 +30,8 @@ abbrev pub FollowsOrders : SessionState → SessionState → List Order → Type
 FollowsOrders old new orders = MovesTo old new (final_position old.part old.stream orders)
 
 -- a session moved to where the first of the orders lead from position 0 on: some of them, none or all
-abbrev pub FollowsSome : SessionState → SessionState → List Order → Type 0
-FollowsSome old new orders = (done : List Order) × (left : List Order) × (orders ≡ done ++ left) × FollowsOrders old new done
+abbrev pub FollowsSomeOrders : SessionState → SessionState → List Order → Type 0
+FollowsSomeOrders old new orders = (done : List Order) × (left : List Order) × (orders ≡ done ++ left) × FollowsOrders old new done
 
 -- where a move led: the position, and where the bytes up to it end
 unfoldable pub position_text : Regs → List ℕ

@@ -2,8 +2,8 @@
 ghost use Rattle.std.specs.Prelude.{◌≡◌, ◌≤◌, ◌<◌, ◌+◌, ◌-◌, ◌∷◌, ℕ, List, length, take, IfOk};
 ghost use Rattle.x7_engine.specs.Standing.{CanBeGiven, NoWordDue, fed_of};
 ghost use Rattle.x7_engine.specs.Undo.{SavesDevice, UndoState};
-ghost use Rattle.x7_debug.specs.Journal.{AreRecordsOf, IsFedAsTaken, IsOnStream, KeepsOldest, oldest_by, record_reach, record_room, records_of};
-ghost use Rattle.x7_debug.specs.Session.{TakesPiece};
+ghost use Rattle.x7_debug.specs.Journal.{AreRecordsOf, IsFedAsTaken, IsOnStream, KeepsOldest, OfStream, oldest_by, record_reach, record_room, records_of};
+ghost use Rattle.x7_debug.specs.Session.{TakesUpToStop};
 
 use circular_buffer::HeapCircularBuffer;
 use std::alloc::Global;
@@ -76,7 +76,7 @@ impl Journal {
         requires fits { CanBeGiven device.old (length piece.now) }
         requires no_word_due { NoWordDue device.old }
         requires records { AreRecordsOf device.old.part self.old }
-        ensures takes { TakesPiece device.old device.new piece.now }
+        ensures takes { TakesUpToStop device.old device.new piece.now }
         ensures fed { IsFedAsTaken device.old device.new }
         ensures records { AreRecordsOf device.old.part self.new }
         ensures recorded { (u : UndoState) × SavesDevice u device.old × (records_of self.new ≡ u ∷ take (record_room - 1) (records_of self.old)) }
@@ -94,11 +94,11 @@ impl Journal {
         requires has_record { 0 < self.old.count }
         requires records { AreRecordsOf device.old.part self.old }
         requires on_stream { (stream : List ℕ) × IsOnStream device.old.part stream device.old self.old }
-        ensures back { (stream : List ℕ) → IsOnStream device.old.part stream device.old self.old → IsOnStream device.new.part stream device.new self.new }
-        ensures one_record { (stream : List ℕ) → IsOnStream device.old.part stream device.old self.old → device.new.taken ≤ device.old.taken × device.old.taken ≤ device.new.taken + record_reach }
+        ensures back { OfStream device.old self.old (λ stream. IsOnStream device.new.part stream device.new self.new) }
+        ensures one_record { OfStream device.old self.old (λ stream. device.new.taken ≤ device.old.taken × device.old.taken ≤ device.new.taken + record_reach) }
         ensures fed { fed_of device.new ≡ fed_of device.old }
-        ensures oldest { (stream : List ℕ) → IsOnStream device.old.part stream device.old self.old → KeepsOldest device.old self.old device.new self.new }
-        ensures room_for_one { (stream : List ℕ) → IsOnStream device.old.part stream device.old self.old → length (records_of self.new) < record_room }
+        ensures oldest { OfStream device.old self.old (λ stream. KeepsOldest device.old self.old device.new self.new) }
+        ensures room_for_one { OfStream device.old self.old (λ stream. length (records_of self.new) < record_room) }
         ensures count { self.new.count + 1 ≡ self.old.count }
         ensures part { device.new.part ≡ device.old.part }
     {

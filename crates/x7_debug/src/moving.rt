@@ -5,13 +5,13 @@ ghost use Rattle.x7_debug.specs.Journal.{ComesToPosition, MoveCosts, HasRecorded
 ghost use Rattle.x7_debug.specs.SessionFields.{session_of};
 ghost use Rattle.x7_debug.specs.Moving.{ComesForward, ComesForwardRecorded, MayMove, MayMoveBack, MayMoveForward};
 ghost use Rattle.x7_debug.specs.Position.{last_of};
-ghost use Rattle.x7_debug.specs.Session.{StandsAtPosition, TakesPiece};
+ghost use Rattle.x7_debug.specs.Session.{StandsAtPosition, TakesUpToStop};
 
 use crate::journal::{Journal, RECORD_ROOM};
-use x7_engine::{Device, ON_THE_BENCH, ReadBuf};
+use x7_engine::{Device, ON_THE_BENCH, ReadBuf, UNDO_REACH};
 
 /// How many bytes a record leads back at most.
-pub(crate) const RECORD_REACH: u64 = 4;
+pub(crate) const RECORD_REACH: u64 = UNDO_REACH;
 
 /// How many bytes before a position records lead back at least, where all of them are in use: four bytes for each but
 /// the newest, which may be one byte before the position.
@@ -24,7 +24,7 @@ const RECORDED_SIZE: u64 = RECORD_ROOM as u64 * RECORD_REACH;
 /// Feeds a piece to a device, up to what stops it. Words read out are dropped.
 pub(crate) fn feed_piece(device: &mut Device, piece: &[u8])
     requires { CanBeGiven device.old (length piece.now) }
-    ensures takes { TakesPiece device.old device.new piece.now }
+    ensures takes { TakesUpToStop device.old device.new piece.now }
     ensures fed { IsFedAsTaken device.old device.new }
 {
     let mut read = ReadBuf::dropping();

@@ -34,16 +34,16 @@ impl Script {
     }
 }
 
-/// Takes line `n`: the order of a line that has a meaning goes after those of the lines before it.
-fn take_line(orders: &mut Vec<Order>, n: u64, line: &[u8]) -> Result<(), ScriptFault>
+/// Takes the line of this number: the order of a line that has a meaning goes after those of the lines before it.
+fn take_line(orders: &mut Vec<Order>, line_number: u64, line: &[u8]) -> Result<(), ScriptFault>
     ensures taken { OnOk result ((before : List (List ℕ)) → AreOrders before orders.old.items → AreOrders (before ++ line.now ∷ []) orders.new.items) }
-    ensures fault { IfErr result (λ fault. (fault ≡ ScriptFault.NoMemory) ⊎ ((fault ≡ ScriptFault.Line n) × IsNoOrder line.now)) }
+    ensures fault { IfErr result (λ fault. (fault ≡ ScriptFault.NoMemory) ⊎ ((fault ≡ ScriptFault.Line line_number) × IsNoOrder line.now)) }
 {
     if means_nothing(line) {
         return Ok(());
     }
     let Some(order) = order_of(line) else {
-        return Err(ScriptFault::Line(n));
+        return Err(ScriptFault::Line(line_number));
     };
     match orders.push(order) {
         Ok(()) => Ok(()),

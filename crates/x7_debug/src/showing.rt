@@ -2,7 +2,7 @@
 ghost use Rattle.std.specs.Prelude.{◌≡◌, ◌++◌, IfOk, OnErr, OnOk};
 ghost use Rattle.x7_memory.specs.PartFrames.{AreFramesOf, frame_at};
 ghost use Rattle.x7_debug.specs.Session.{MovesTo};
-ghost use Rattle.x7_debug.specs.Showing.{FollowsOrders, FollowsSome, frame_shown, none_text, position_after, position_text, order_shown, transcript_of};
+ghost use Rattle.x7_debug.specs.Showing.{FollowsOrders, FollowsSomeOrders, frame_shown, none_text, position_after, position_text, order_shown, transcript_of};
 
 use crate::order::Order;
 use crate::script::Script;
@@ -106,7 +106,7 @@ pub fn transcript(
     requires { session.old.at ≡ 0 }
     ensures text { IfOk result (λ text. text.items ≡ transcript_of session.old.part session.old.stream script.now) }
     ensures all_orders { OnOk result (FollowsOrders session.old session.new script.now) }
-    ensures some_orders { OnErr result (FollowsSome session.old session.new script.now) }
+    ensures some_orders { OnErr result (FollowsSomeOrders session.old session.new script.now) }
 {
     let mut text = Vec::new(alloc);
     for order in script.orders() {

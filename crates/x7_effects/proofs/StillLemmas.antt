@@ -7,7 +7,7 @@ use Rattle.x7_startup.specs.Startup.{Begun, Call, NotBegun, StartupProgress, cor
 use Rattle.x7_startup.specs.Startup as call
 use Rattle.x7_startup.specs.Lines.{done_line, gts_line, gwe_line}
 use Rattle.x7_startup.specs.declared.lines.Lines.{Lines}
-use Rattle.x7_startup.proofs.CallLemmas.{first_place, further, is_armed_arm, is_armed_bytes, is_armed_desync, is_armed_drop, progress_arm, progress_bytes, progress_desync, progress_drop}
+use Rattle.x7_startup.proofs.CallLemmas.{progress_after_desync, further, is_armed_arm, is_armed_bytes, is_armed_desync, is_armed_drop, progress_arm, progress_bytes, progress_desync, progress_drop}
 use Rattle.x7_startup.proofs.PhaseLemmas.{one_phase}
 use Rattle.x7_engine.specs.Clock.{newest_place}
 use Rattle.x7_engine.specs.Startup.{phase_by, phase_of, startup_call, startup_calls, startup_progress}
@@ -61,14 +61,14 @@ startup_dropped h access place e =
 
 -- DESYNC
 pub startup_desynced : (h : History) (access : Access) (place cor0 : ℕ) (armed : Bool) (progress : StartupProgress) → startup_call h access ≡ call.Desync cor0 ∷ [] → HasStartup h place armed progress
-    → HasStartup (entry access place ∷ h) place false (first_place progress armed cor0)
+    → HasStartup (entry access place ∷ h) place false (progress_after_desync progress armed cor0)
 startup_desynced h access place cor0 armed progress e s =
     let calls : startup_calls (entry access place ∷ h) place ≡ startup_calls h place ++ call.Desync cor0 ∷ [] = entered_by h access place (call.Desync cor0 ∷ []) e in
     record {
       armed_is = ap (λ (t : List Call). is_armed false (since_shutdown t)) calls ∙ is_armed_desync (startup_calls h place) cor0;
       progress_is = ap progress_of calls ∙ progress_desync (startup_calls h place) cor0
-          ∙ ap (λ (p : StartupProgress). first_place p (is_armed false (since_shutdown (startup_calls h place))) cor0) s.progress_is
-          ∙ ap (λ (b : Bool). first_place progress b cor0) s.armed_is;
+          ∙ ap (λ (p : StartupProgress). progress_after_desync p (is_armed false (since_shutdown (startup_calls h place))) cor0) s.progress_is
+          ∙ ap (λ (b : Bool). progress_after_desync progress b cor0) s.armed_is;
     }
 
 -- DESYNC is the newest access, or there is none: startup isn't armed
@@ -77,7 +77,7 @@ never_armed n = is_armed_bytes [] n
 
 pub disarmed : (h : History) (access : Access) (place n cor0 : ℕ) → startup_call h access ≡ call.Desync cor0 ∷ [] → place ≤ n → is_armed false (since_shutdown (startup_calls (entry access place ∷ h) n)) ≡ false
 disarmed h access place n cor0 e l =
-    let here : HasStartup (entry access place ∷ h) place false (first_place (startup_progress h place) (is_armed false (since_shutdown (startup_calls h place))) cor0) =
+    let here : HasStartup (entry access place ∷ h) place false (progress_after_desync (startup_progress h place) (is_armed false (since_shutdown (startup_calls h place))) cor0) =
     startup_desynced h access place cor0 (is_armed false (since_shutdown (startup_calls h place))) (startup_progress h place) e (record { armed_is = refl; progress_is = refl }) in
     (startup_bytes (entry access place ∷ h) place n false _ (omega arith) l here).armed_is
 
@@ -143,7 +143,7 @@ still_none part startup h access place e (inr s) =
     })
 
 -- startup that has begun goes on
-goes_on : (part : PartData) (progress : StartupProgress) (armed : Bool) (cor0 : ℕ) → phase_by part progress ≡ 7 → first_place progress armed cor0 ≡ progress
+goes_on : (part : PartData) (progress : StartupProgress) (armed : Bool) (cor0 : ℕ) → phase_by part progress ≡ 7 → progress_after_desync progress armed cor0 ≡ progress
 goes_on part NotBegun armed cor0 e = absurd (omega (arith, e))
 goes_on part (Begun c bytes) armed cor0 e = refl
 

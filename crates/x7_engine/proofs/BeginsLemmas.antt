@@ -4,9 +4,9 @@ use Rattle.x7_packets.specs.History.{Entry, History, Placed, executes, last_word
 use Rattle.x7_packets.proofs.GrowthLemmas.{placed_within}
 use Rattle.x7_startup.specs.Startup.{Begun, Call, NotBegun, StartupProgress, is_armed, progress_of, since_shutdown}
 use Rattle.x7_startup.specs.Startup as call
-use Rattle.x7_startup.proofs.CallLemmas.{first_place, further, is_armed_arm, is_armed_bytes, is_armed_desync, is_armed_drop, progress_arm, progress_bytes, progress_desync, progress_drop}
+use Rattle.x7_startup.proofs.CallLemmas.{progress_after_desync, further, is_armed_arm, is_armed_bytes, is_armed_desync, is_armed_drop, progress_arm, progress_bytes, progress_desync, progress_drop}
 use Rattle.x7_engine.specs.Registers.{takes_shutdown}
-use Rattle.x7_engine.specs.Sequence.{Begins, Executes, IsArmed, IsArmedDesync, disarms}
+use Rattle.x7_engine.specs.Sequence.{StartupBegins, Executes, IsArmed, IsArmedDesync, disarms}
 use Rattle.x7_engine.specs.Since.{NoneSince, Since}
 use Rattle.x7_engine.specs.Startup.{startup_call, startup_calls, startup_progress}
 use Rattle.x7_engine.proofs.SequenceLemmas.{no_taking, other_executed}
@@ -83,10 +83,10 @@ after_call h e a o s = by (executes 5 h e.access) (takes_shutdown h e.access) (e
     same : (a : Bool) (o : Option Beginning) → AfterCall calls a o e.place → AfterCall (calls ++ []) a o e.place
     same a o s = subst (λ (t : List Call). AfterCall t a o e.place) (sym (append-nil calls)) s
 
-    began : (a : Bool) (o : Option Beginning) → AfterCall calls a o e.place → first_place (progress_of calls) (is_armed false (since_shutdown calls)) now.cor0 ≡ progress_by (or_now o a now) e.place
-    began a o s = ap (λ (p : StartupProgress). first_place p (is_armed false (since_shutdown calls)) now.cor0) s.progress_is ∙ ap (λ (b : Bool). first_place (progress_by o e.place) b now.cor0) s.armed_is ∙ at_once a o
+    began : (a : Bool) (o : Option Beginning) → AfterCall calls a o e.place → progress_after_desync (progress_of calls) (is_armed false (since_shutdown calls)) now.cor0 ≡ progress_by (or_now o a now) e.place
+    began a o s = ap (λ (p : StartupProgress). progress_after_desync p (is_armed false (since_shutdown calls)) now.cor0) s.progress_is ∙ ap (λ (b : Bool). progress_after_desync (progress_by o e.place) b now.cor0) s.armed_is ∙ at_once a o
       where
-        at_once : (a : Bool) (o : Option Beginning) → first_place (progress_by o e.place) a now.cor0 ≡ progress_by (or_now o a now) e.place
+        at_once : (a : Bool) (o : Option Beginning) → progress_after_desync (progress_by o e.place) a now.cor0 ≡ progress_by (or_now o a now) e.place
         at_once a (Some b) = refl
         at_once true None = let none : 0 ≡ e.place - e.place = omega arith in ap (Begun now.cor0) none
         at_once false None = refl
@@ -155,14 +155,14 @@ begun_none (x ∷ h) e s = elim (since_parts IsArmedDesync takes_shutdown x h s)
     more false false a (Some b) e f g = absurd (cc)
 
 record BeganAt (h : History) (b : Beginning) : Type 0 where
-  begins : Begins h
+  begins : StartupBegins h
   cor0_is : b.cor0 ≡ last_word 9 0 begins.older
   place_is : b.place ≡ begins.desync.place
 
 -- a later access that takes no shutdown
 began_on : (h : History) (x : Entry) (b : Beginning) → takes_shutdown h x.access ≡ false → BeganAt h b → BeganAt (x ∷ h) b
 began_on h x b t s =
-    let g : Begins h = s.begins in
+    let g : StartupBegins h = s.begins in
     record {
       begins = record {
         newer = x ∷ g.newer;
@@ -218,7 +218,7 @@ begun_at [] older e s f l = by (takes_shutdown older e.access) (executes 13 olde
     by false true false o y t d' a' = absurd (cc)
     by false true true None y t d' a' = refl
     by false true true (Some b) y t d' a' =
-        let g : Begins older = (began older b y).begins in
+        let g : StartupBegins older = (began older b y).begins in
         absurd (f (record { newer = g.newer; latest = g.desync; older = g.older; split = g.split; kind_is = g.armed; lasts = g.lasts }))
 begun_at (x ∷ newer) older e s f l =
     by (takes_shutdown (newer ++ e ∷ older) x.access) (executes 13 (newer ++ e ∷ older) x.access) (armed_in (newer ++ e ∷ older)) (begun_in (newer ++ e ∷ older)) l.0 (begun_at newer older e s f l.1)
@@ -234,10 +234,10 @@ begun_at (x ∷ newer) older e s f l =
 
 -- ---- both ways
 
-pub begins_by : (h : History) (n cor0 bytes : ℕ) → Placed n h → startup_progress h n ≡ Begun cor0 bytes → (b : Begins h) × (cor0 ≡ last_word 9 0 b.older) × (b.desync.place + bytes ≡ n)
+pub begins_by : (h : History) (n cor0 bytes : ℕ) → Placed n h → startup_progress h n ≡ Begun cor0 bytes → (b : StartupBegins h) × (cor0 ≡ last_word 9 0 b.older) × (b.desync.place + bytes ≡ n)
 begins_by h n cor0 bytes p e = by (begun_in h) refl (sym (after_history h n p).progress_is ∙ e)
   where
-    by : (o : Option Beginning) → begun_in h ≡ o → progress_by o n ≡ Begun cor0 bytes → (b : Begins h) × (cor0 ≡ last_word 9 0 b.older) × (b.desync.place + bytes ≡ n)
+    by : (o : Option Beginning) → begun_in h ≡ o → progress_by o n ≡ Begun cor0 bytes → (b : StartupBegins h) × (cor0 ≡ last_word 9 0 b.older) × (b.desync.place + bytes ≡ n)
     by None y g = absurd (cc)
     by (Some b) y g =
         let s : BeganAt h b = began h b y in
@@ -245,7 +245,7 @@ begins_by h n cor0 bytes p e = by (begun_in h) refl (sym (after_history h n p).p
         let count : n - b.place ≡ bytes = cc in
         (s.begins, sym word ∙ s.cor0_is, omega (arith, count, s.place_is, begun_within h n b p y))
 
-pub begins_there : (h : History) (n : ℕ) → Placed n h → (b : Begins h) → startup_progress h n ≡ Begun (last_word 9 0 b.older) (n - b.desync.place)
+pub begins_there : (h : History) (n : ℕ) → Placed n h → (b : StartupBegins h) → startup_progress h n ≡ Begun (last_word 9 0 b.older) (n - b.desync.place)
 begins_there h n p b =
     let here : begun_in h ≡ Some (record { cor0 = last_word 9 0 b.older; place = b.desync.place }) = ap begun_in b.split ∙ begun_at b.newer b.older b.desync b.armed b.first b.lasts in
     (after_history h n p).progress_is ∙ ap (λ (o : Option Beginning). progress_by o n) here

@@ -15,7 +15,7 @@ use Rattle.x7_engine.specs.declared.stop.StopCause.{StopCause}
 use Rattle.x7_engine.specs.declared.stop.StopCause.TheVariants as stop
 use Rattle.x7_engine.specs.Checked.{HasStartAndDesync, StandsIn}
 use Rattle.x7_flow.specs.Controls.{has_idcode, same_idcode}
-use Rattle.x7_engine.specs.Sequence.{Begins}
+use Rattle.x7_engine.specs.Sequence.{StartupBegins}
 use Rattle.x7_engine.specs.Startup.{phase_by, startup_progress}
 use Rattle.x7_engine.specs.State.{history_by, history_taken, last_counted, state_of, stop_in, taken_by, taken_of}
 use Rattle.x7_engine.specs.Stop.{Stopped, asks_decryption, why_at, needs_match, stop_of, stopped_at, why_by_write}
@@ -150,7 +150,7 @@ placed_split n (x ∷ newer) older e p =
     let s = placed_split (x.place - 1) newer older e p.2 in
     (s.0, omega (arith, s.1, p.1), s.2)
 
-begun_started : (part : PartData) (kept : Kept) (bytes : List ℕ) → AreBytes bytes → Begins (history_taken part kept bytes) → HasStartAndDesync part.idcode (history_taken part kept bytes) (taken_of part kept bytes)
+begun_started : (part : PartData) (kept : Kept) (bytes : List ℕ) → AreBytes bytes → StartupBegins (history_taken part kept bytes) → HasStartAndDesync part.idcode (history_taken part kept bytes) (taken_of part kept bytes)
 begun_started part kept bytes fits b =
     let armed = b.armed.1 in
     let h : History = history_taken part kept bytes in

@@ -5,9 +5,9 @@ use Rattle.std.proofs.lemmas.List.{replicate-append-replicate}
 use Rattle.std.specs.Option.{option_or}
 use Rattle.x7_packets.specs.History.{Access, Bad, History, Read, Write, command_held, entry, executed_by, executes, last_word, written}
 use Rattle.x7_part.specs.Part.{PartData}
-use Rattle.x7_startup.specs.Startup.{Begun, Call, IsPhaseOf, NotBegun, StartupProgress, StandsForCalls, Stored, progress_of}
+use Rattle.x7_startup.specs.Startup.{Begun, Call, IsPhaseOf, NotBegun, StartupProgress, StandsForCalls, StartupState, progress_of}
 use Rattle.x7_startup.specs.Startup as call
-use Rattle.x7_startup.specs.Watchdog.{Fires, Reload, Watch, WatchCall, Watched, WatchesFor, bytes_alike, watched_count, is_on, timer_after, timer_value_of}
+use Rattle.x7_startup.specs.Watchdog.{FiresNext, Reload, WatchdogState, WatchCall, Watched, WatchesFor, bytes_alike, watched_count, is_on, timer_after, timer_value_of}
 use Rattle.x7_startup.proofs.CallLemmas.{idle_stands, one_phase_after, phase_never_falls}
 use Rattle.x7_startup.proofs.WatchdogLemmas.{idle_fires, idle_watches, timer_load, timer_reload, timer_watched}
 use Rattle.x7_engine.specs.Course.{course_at}
@@ -171,7 +171,7 @@ one_watched part h n l =
     let here : n + 0 + 1 ≡ n + 1 = omega arith in
     watch_more part h n 1 l ∙ ap (λ (m : ℕ). watch_calls part h n ++ Watched (has_ended part h m) ∷ []) here
 
-pub fires_by : (part : PartData) (kept : Kept) (h : History) (n : ℕ) → newest_place h ≤ n → Fires (is_fallback kept.kind) kept.timer (watch_calls part h n) (has_ended part h (n + 1)) → watchdog_fires part kept h (n + 1) ≡ true
+pub fires_by : (part : PartData) (kept : Kept) (h : History) (n : ℕ) → newest_place h ≤ n → FiresNext (is_fallback kept.kind) kept.timer (watch_calls part h n) (has_ended part h (n + 1)) → watchdog_fires part kept h (n + 1) ≡ true
 fires_by part kept h n l f =
     let off : Bool = is_fallback kept.kind in
     let eos : Bool = has_ended part h (n + 1) in
@@ -180,7 +180,7 @@ fires_by part kept h n l f =
     let count : watched_count off kept.timer (watch_calls part h (n + 1)) ≡ timer_value_of (timer_held kept h) * 4 = ap (watched_count off kept.timer) (one_watched part h n l) ∙ f.1 ∙ ap (λ (t : ℕ). timer_value_of t * 4) timer in
     full_is (is_on off (timer_held kept h) eos) (watched_count off kept.timer (watch_calls part h (n + 1))) (timer_value_of (timer_held kept h) * 4) on count
 
-pub fires_not : (part : PartData) (kept : Kept) (h : History) (n : ℕ) → newest_place h ≤ n → ¬ Fires (is_fallback kept.kind) kept.timer (watch_calls part h n) (has_ended part h (n + 1)) → watchdog_fires part kept h (n + 1) ≡ false
+pub fires_not : (part : PartData) (kept : Kept) (h : History) (n : ℕ) → newest_place h ≤ n → ¬ FiresNext (is_fallback kept.kind) kept.timer (watch_calls part h n) (has_ended part h (n + 1)) → watchdog_fires part kept h (n + 1) ≡ false
 fires_not part kept h n l f =
     let off : Bool = is_fallback kept.kind in
     let eos : Bool = has_ended part h (n + 1) in
@@ -232,19 +232,19 @@ none_more part kept h n i e f =
 
 -- one byte of those that are alike fires by the calls before it
 alike_here : (part : PartData) (kept : Kept) (h : History) (n i : ℕ) (eos : Bool) → newest_place h ≤ n → ((j : ℕ) → j < i + 1 → has_ended part h (n + j + 1) ≡ eos)
-    → Fires (is_fallback kept.kind) kept.timer (watch_calls part h (n + i)) (has_ended part h (n + i + 1)) ≡ Fires (is_fallback kept.kind) kept.timer (watch_calls part h n ++ bytes_alike i eos) eos
+    → FiresNext (is_fallback kept.kind) kept.timer (watch_calls part h (n + i)) (has_ended part h (n + i + 1)) ≡ FiresNext (is_fallback kept.kind) kept.timer (watch_calls part h n ++ bytes_alike i eos) eos
 alike_here part kept h n i eos l f =
-    ap (λ t. Fires (is_fallback kept.kind) kept.timer t (has_ended part h (n + i + 1))) (calls_alike part h n i eos l (λ j m. f j (omega arith)))
-    ∙ ap (λ (b : Bool). Fires (is_fallback kept.kind) kept.timer (watch_calls part h n ++ bytes_alike i eos) b) (f i (omega arith))
+    ap (λ t. FiresNext (is_fallback kept.kind) kept.timer t (has_ended part h (n + i + 1))) (calls_alike part h n i eos l (λ j m. f j (omega arith)))
+    ∙ ap (λ (b : Bool). FiresNext (is_fallback kept.kind) kept.timer (watch_calls part h n ++ bytes_alike i eos) b) (f i (omega arith))
 
 pub alike_quiet : (part : PartData) (kept : Kept) (h : History) (n count : ℕ) (eos : Bool) → newest_place h ≤ n → ((i : ℕ) → i < count → has_ended part h (n + i + 1) ≡ eos)
-    → ((i : ℕ) → i < count → ¬ Fires (is_fallback kept.kind) kept.timer (watch_calls part h n ++ bytes_alike i eos) eos) → first_firing part kept h n count ≡ None
+    → ((i : ℕ) → i < count → ¬ FiresNext (is_fallback kept.kind) kept.timer (watch_calls part h n ++ bytes_alike i eos) eos) → first_firing part kept h n count ≡ None
 alike_quiet part kept h n count eos l f g =
     none_fires part kept h n count (λ i m. fires_not part kept h (n + i) (omega (arith, l)) (λ x. g i m (subst (λ (t : Type 0). t) (alike_here part kept h n i eos l (λ j o. f j (omega arith))) x)))
 
 pub alike_fires : (part : PartData) (kept : Kept) (h : History) (n k count : ℕ) (eos : Bool) → newest_place h ≤ n → ((i : ℕ) → i < count → has_ended part h (n + i + 1) ≡ eos) → 0 < k → k ≤ count
-    → Fires (is_fallback kept.kind) kept.timer (watch_calls part h n ++ bytes_alike (k - 1) eos) eos
-    → ((i : ℕ) → i < k - 1 → ¬ Fires (is_fallback kept.kind) kept.timer (watch_calls part h n ++ bytes_alike i eos) eos) → first_firing part kept h n count ≡ Some (n + k)
+    → FiresNext (is_fallback kept.kind) kept.timer (watch_calls part h n ++ bytes_alike (k - 1) eos) eos
+    → ((i : ℕ) → i < k - 1 → ¬ FiresNext (is_fallback kept.kind) kept.timer (watch_calls part h n ++ bytes_alike i eos) eos) → first_firing part kept h n count ≡ Some (n + k)
 alike_fires part kept h n k count eos l f some few x g =
     let last : n + (k - 1) + 1 ≡ n + (k - 1 + 1) = omega arith in
     let here : n + (k - 1 + 1) ≡ n + k = omega arith in
@@ -279,7 +279,14 @@ ends_alike part h n count i eos l e f m =
   where
     by : (a b c : ℕ) (eos : Bool) → a ≤ b → b ≤ c → c ≤ 7 → eos ≡ (a == 7) → eos ≡ (c == 7) → (b == 7) ≡ eos
     by a b c true l m o e f = let last : a ≡ 7 = grind (arith, nat_tests, sym e) in let here : b ≡ 7 = omega (arith, l, m, o) in grind (arith, nat_tests, here)
-    by a b c false l m o e f = elim (b == 7) as (λ x. (b == 7) ≡ x → x ≡ false) [ true ↦ λ g. let here : b ≡ 7 = grind (arith, nat_tests, g) in let last : c ≡ 7 = omega (arith, l, m, o, here) in let yes : (c == 7) ≡ true = grind (arith, nat_tests, last) in absurd (let no : false ≡ true = f ∙ yes in cc) | false ↦ λ g. refl ] refl
+    by a b c false l m o e f = elim (b == 7) as (λ x. (b == 7) ≡ x → x ≡ false) [
+      | true ↦ λ g.
+          let here : b ≡ 7 = grind (arith, nat_tests, g) in
+          let last : c ≡ 7 = omega (arith, l, m, o, here) in
+          let yes : (c == 7) ≡ true = grind (arith, nat_tests, last) in
+          absurd (let no : false ≡ true = f ∙ yes in cc)
+      | false ↦ λ g. refl
+    ] refl
 
 -- ---- what the calls of the code come to
 
@@ -296,7 +303,7 @@ pub watch_written : (part : PartData) (h : History) (access : Access) (place : �
 watch_written part h access place command e =
     ap (λ (o : Option ℕ). watch_calls part h place ++ watch_call_by o access) e ∙ sym (watch_entered part h access place)
 
-pub startup_bytes : (part : PartData) (h : History) (n k lock matched : ℕ) (old new : Stored) → lock ≡ part.lock → matched ≡ part.matched
+pub startup_bytes : (part : PartData) (h : History) (n k lock matched : ℕ) (old new : StartupState) → lock ≡ part.lock → matched ≡ part.matched
     → ((calls : List Call) → StandsForCalls lock matched old calls → StandsForCalls lock matched new (calls ++ replicate k call.Byte)) → newest_place h ≤ n
     → StandsForCalls part.lock part.matched old (startup_calls h n) → StandsForCalls part.lock part.matched new (startup_calls h (n + k))
 startup_bytes part h n k lock matched old new a b f l s =
@@ -305,24 +312,24 @@ startup_bytes part h n k lock matched old new a b f l s =
     (subst (λ (x : ℕ). StandsForCalls part.lock x new (startup_calls h n ++ replicate k call.Byte)) b
     (subst (λ (x : ℕ). StandsForCalls x matched new (startup_calls h n ++ replicate k call.Byte)) a (f (startup_calls h n) here)))
 
-pub watch_byte : (part : PartData) (kept : Kept) (h : History) (n : ℕ) (eos : Bool) (new : Watch) → newest_place h ≤ n → eos ≡ has_ended part h (n + 1)
+pub watch_byte : (part : PartData) (kept : Kept) (h : History) (n : ℕ) (eos : Bool) (new : WatchdogState) → newest_place h ≤ n → eos ≡ has_ended part h (n + 1)
     → WatchesFor (is_fallback kept.kind) kept.timer new (watch_calls part h n ++ Watched eos ∷ []) → WatchesFor (is_fallback kept.kind) kept.timer new (watch_calls part h (n + 1))
 watch_byte part kept h n eos new l e s =
     subst (λ t. WatchesFor (is_fallback kept.kind) kept.timer new t) (ap (λ (b : Bool). watch_calls part h n ++ Watched b ∷ []) e ∙ sym (one_watched part h n l)) s
 
 pub fires_bool : (part : PartData) (kept : Kept) (h : History) (n : ℕ) (eos b : Bool) → newest_place h ≤ n → eos ≡ has_ended part h (n + 1)
-    → (IsTrue b ↔ Fires (is_fallback kept.kind) kept.timer (watch_calls part h n) eos) → b ≡ watchdog_fires part kept h (n + 1)
+    → (IsTrue b ↔ FiresNext (is_fallback kept.kind) kept.timer (watch_calls part h n) eos) → b ≡ watchdog_fires part kept h (n + 1)
 fires_bool part kept h n eos true l e f =
-    sym (fires_by part kept h n l (subst (λ (x : Bool). Fires (is_fallback kept.kind) kept.timer (watch_calls part h n) x) e (f.0 refl)))
+    sym (fires_by part kept h n l (subst (λ (x : Bool). FiresNext (is_fallback kept.kind) kept.timer (watch_calls part h n) x) e (f.0 refl)))
 fires_bool part kept h n eos false l e f =
-    sym (fires_not part kept h n l (λ x. absurd (let no : false ≡ true = f.1 (subst (λ (y : Bool). Fires (is_fallback kept.kind) kept.timer (watch_calls part h n) y) (sym e) x) in cc)))
+    sym (fires_not part kept h n l (λ x. absurd (let no : false ≡ true = f.1 (subst (λ (y : Bool). FiresNext (is_fallback kept.kind) kept.timer (watch_calls part h n) y) (sym e) x) in cc)))
 
 -- ---- bytes where startup hasn't begun and the watchdog doesn't run
 
-never_counts : (w : Watch) (eos : Bool) → w.limit ≡ 0 → false ≡ (not (w.limit == 0) && not eos)
+never_counts : (w : WatchdogState) (eos : Bool) → w.limit ≡ 0 → false ≡ (not (w.limit == 0) && not eos)
 never_counts w eos e = let none : (w.limit == 0) ≡ true = grind (arith, nat_tests, e) in rw none refl
 
-idle_watchdog : (part : PartData) (kept : Kept) (w : Watch) (h : History) (n k : ℕ) → newest_place h ≤ n → w.limit ≡ 0 → WatchesFor (is_fallback kept.kind) kept.timer w (watch_calls part h n) → WatchesFor (is_fallback kept.kind) kept.timer w (watch_calls part h (n + k))
+idle_watchdog : (part : PartData) (kept : Kept) (w : WatchdogState) (h : History) (n k : ℕ) → newest_place h ≤ n → w.limit ≡ 0 → WatchesFor (is_fallback kept.kind) kept.timer w (watch_calls part h n) → WatchesFor (is_fallback kept.kind) kept.timer w (watch_calls part h (n + k))
 idle_watchdog part kept w h n zero l e s =
     let same : n + 0 ≡ n = omega arith in
     subst (λ (m : ℕ). WatchesFor (is_fallback kept.kind) kept.timer w (watch_calls part h m)) (sym same) s
@@ -333,7 +340,7 @@ idle_watchdog part kept w h n (suc k) l e s =
     subst (λ (m : ℕ). WatchesFor (is_fallback kept.kind) kept.timer w (watch_calls part h m)) next
     (watch_byte part kept h (n + k) eos w (omega (arith, l)) refl (idle_watches (is_fallback kept.kind) kept.timer w (watch_calls part h (n + k)) eos false before (never_counts w eos e) refl))
 
-idle_quiet : (part : PartData) (kept : Kept) (w : Watch) (h : History) (n k : ℕ) → newest_place h ≤ n → w.limit ≡ 0 → WatchesFor (is_fallback kept.kind) kept.timer w (watch_calls part h n) → first_firing part kept h n k ≡ None
+idle_quiet : (part : PartData) (kept : Kept) (w : WatchdogState) (h : History) (n k : ℕ) → newest_place h ≤ n → w.limit ≡ 0 → WatchesFor (is_fallback kept.kind) kept.timer w (watch_calls part h n) → first_firing part kept h n k ≡ None
 idle_quiet part kept w h n k l e s = none_fires part kept h n k (λ i m.
     let eos : Bool = has_ended part h (n + i + 1) in
     let before : WatchesFor (is_fallback kept.kind) kept.timer w (watch_calls part h (n + i)) = idle_watchdog part kept w h n i l e s in

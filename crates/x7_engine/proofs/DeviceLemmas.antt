@@ -18,7 +18,7 @@ use Rattle.x7_packets.proofs.HistoryLemmas.{cut_enters, next_word_is, words_end}
 use Rattle.x7_part.specs.Part.{PartData}
 use Rattle.x7_engine.specs.declared.kept.Kept.{Kept}
 use Rattle.x7_engine.specs.declared.stop.StopCause.{StopCause}
-use Rattle.x7_engine.specs.Standing.{DeviceStandsFor, DeviceState, EndsWords, HoldsRun, IsCutterOf, RegistersStandFor, counted_in, due_count, reads_given, words_still_due}
+use Rattle.x7_engine.specs.Standing.{DeviceStandsFor, DeviceState, EndsWords, RunLiesWithin, IsCutterOf, RegistersStandFor, counted_in, due_count, reads_given, words_still_due}
 use Rattle.x7_engine.specs.State.{history_by, history_taken, reads_of, stop_in}
 use Rattle.x7_engine.specs.Stop.{Stopped, stop_of, stopped_at}
 use Rattle.x7_engine.specs.Value.{read_out}
@@ -53,7 +53,7 @@ pub length_between : (piece : List ℕ) (from to : ℕ) → from ≤ to → to �
 length_between piece from to l m = length-take-le (to - from) (drop from piece) (omega (arith, length-drop from piece))
 
 -- a lent run lies in the piece
-pub holds_run : (c n : CutterState) (run : Cut) (left count : ℕ) (cut : List ℕ) → IsLent c left run → c.kept ++ cut ≡ run_bytes run ++ n.kept → count ≡ length cut → HoldsRun run count
+pub holds_run : (c n : CutterState) (run : Cut) (left count : ℕ) (cut : List ℕ) → IsLent c left run → c.kept ++ cut ≡ run_bytes run ++ n.kept → count ≡ length cut → RunLiesWithin run count
 holds_run c n Need left count cut k e l = tt
 holds_run c n (Skip bs) left count cut k e l = tt
 holds_run c n Sync left count cut k e l = tt

@@ -16,7 +16,7 @@ use Rattle.x7_engine.specs.declared.stop.StopCause.{StopCause}
 use Rattle.x7_engine.specs.declared.stop.StopCause.TheVariants as stop
 use Rattle.x7_engine.specs.ReadBuffer.{ReadBufState, gathered, with_words}
 use Rattle.x7_engine.specs.Readout.{RegistersGaveWords, GotAllBut, DeviceGaveWords}
-use Rattle.x7_engine.specs.Past.{Answers, past_of}
+use Rattle.x7_engine.specs.Past.{AnswersAt, past_of}
 use Rattle.x7_engine.specs.Standing.{DeviceStandsFor, DeviceState, NoWordDue, RegistersStandFor, RegistersState, due_count, answer_at_stop, frames_among, frames_due, taken_in, reads_given, words_still_due}
 use Rattle.x7_engine.specs.State.{history_taken, reads_of}
 use Rattle.x7_engine.specs.Stop.{stopped_at}
@@ -96,7 +96,8 @@ now_given part kept wrapped d e first read next taken known g m = (
 )
 
 -- the words given once a run more is taken, which gives none
-pub read_here : (part : PartData) (kept : Kept) (wrapped : Bool) (old new next : DeviceState) (first read last : ReadBufState) (bytes piece known : List ℕ) (from to : ℕ) → DeviceGaveWords (record { part = part; kept = kept; wrapped = wrapped; bytes = bytes ++ take from piece }) old new read last → from ≤ to
+pub read_here : (part : PartData) (kept : Kept) (wrapped : Bool) (old new next : DeviceState) (first read last : ReadBufState) (bytes piece known : List ℕ) (from to : ℕ)
+    → DeviceGaveWords (record { part = part; kept = kept; wrapped = wrapped; bytes = bytes ++ take from piece }) old new read last → from ≤ to
     → ((b : List ℕ) → DeviceStandsFor part kept wrapped new b → reads_given part kept next (b ++ between piece from to) ≡ reads_given part kept new b)
     → ((more : List ℕ) × (read ≡ with_words first more) × (reads_given part kept old (bytes ++ take from piece) ≡ known ++ more))
     → (more : List ℕ) × (last ≡ with_words first more) × (reads_given part kept next (bytes ++ take to piece) ≡ known ++ more)
@@ -109,7 +110,8 @@ pub taken_by_stop : (why : StopCause) (n at : ℕ) → taken_in n (answer_at_sto
 taken_by_stop (stop.Fault f) n at = refl
 taken_by_stop stop.Iprog n at = refl
 
-pub answers_stop : (part : PartData) (kept : Kept) (wrapped : Bool) (d : DeviceState) (bytes : List ℕ) (read : ReadBufState) (why : StopCause) (at : ℕ) → DeviceStandsFor part kept wrapped d bytes → Some why ≡ d.registers.stop → Answers (past_of part kept wrapped bytes) d read (answer_at_stop why at)
+pub answers_stop : (part : PartData) (kept : Kept) (wrapped : Bool) (d : DeviceState) (bytes : List ℕ) (read : ReadBufState) (why : StopCause) (at : ℕ)
+    → DeviceStandsFor part kept wrapped d bytes → Some why ≡ d.registers.stop → AnswersAt (past_of part kept wrapped bytes) d read (answer_at_stop why at)
 answers_stop part kept wrapped d bytes read (stop.Fault f) at s e = (f, s.stop_is ∙ ap (stopped_at (length bytes)) (sym e), s.none_due_at_stop (stop.Fault f) (sym e))
 answers_stop part kept wrapped d bytes read stop.Iprog at s e = (s.stop_is ∙ ap (stopped_at (length bytes)) (sym e), s.none_due_at_stop stop.Iprog (sym e))
 

@@ -48,7 +48,8 @@ less false false false false x y s1 s2 s3 s4 s5 e f = ap (λ (b : Bool). if b th
 lets_pass : (part : PartData) (fallback : Bool) (check mask ctl0 : ℕ) (matched : Bool) (held r w : ℕ) → why_from part fallback check mask ctl0 matched held r w ≡ None → why_from part true check mask ctl0 matched held r w ≡ None
 lets_pass part fallback check mask ctl0 matched held r w e =
     less (r == number_of reg.Crc && not (w == check)) (r == number_of reg.Cbc || (r == number_of reg.Ctl0 && has_dec (masked_word (number_of reg.Ctl0) mask (Write r w) ctl0))) (r == number_of reg.Idcode && not (same_idcode part.idcode w))
-    ((r == number_of reg.Fdri || (r == number_of reg.Mfwr || is_command (code_of command.Start) (executed_by held (Write r w)))) && not matched) (r == number_of reg.Cmd && (w % 2 ^ 5 == code_of command.Iprog && not fallback)) (r == number_of reg.Cmd && (w % 2 ^ 5 == code_of command.Iprog && not true))
+    ((r == number_of reg.Fdri || (r == number_of reg.Mfwr || is_command (code_of command.Start) (executed_by held (Write r w)))) && not matched)
+    (r == number_of reg.Cmd && (w % 2 ^ 5 == code_of command.Iprog && not fallback)) (r == number_of reg.Cmd && (w % 2 ^ 5 == code_of command.Iprog && not true))
     (stop.Fault (fault.Crc check w)) (stop.Fault fault.Encrypted) (stop.Fault (fault.Id part.idcode w)) (stop.Fault (fault.Id part.idcode 0)) stop.Iprog (and_right (r == number_of reg.Cmd) (w % 2 ^ 5 == code_of command.Iprog && not true) (and_right (w % 2 ^ 5 == code_of command.Iprog) false refl)) e
 
 stopped_none : (place : ℕ) (w : Option StopCause) → stopped_at place w ≡ None → w ≡ None

@@ -8,7 +8,7 @@ use Rattle.x7_packets.proofs.GrowthLemmas.{byte_enters, placed_of}
 use Rattle.x7_part.specs.Part.{PartData}
 use Rattle.x7_startup.specs.Phases.{arrival, IsPhase, wait_of}
 use Rattle.x7_startup.specs.Startup.{Call, Arm, Byte, Desync, DropBack, StartupProgress, NotBegun, Begun, is_armed, progress_of, since_shutdown}
-use Rattle.x7_startup.proofs.CallLemmas.{first_place, further, progress_arm, progress_bytes, progress_desync, progress_drop}
+use Rattle.x7_startup.proofs.CallLemmas.{progress_after_desync, further, progress_arm, progress_bytes, progress_desync, progress_drop}
 use Rattle.x7_startup.proofs.PhaseLemmas.{arrival_grows, phase_first}
 use Rattle.x7_engine.specs.Registers.{takes_shutdown}
 use Rattle.x7_engine.specs.Startup.{phase_by, phase_of, startup_call, startup_calls, startup_progress}
@@ -29,11 +29,11 @@ one_more p q k (inl e) = inl (ap (further 1) e)
 one_more p q k (inr (inl r)) = let e : r.1 + k + 1 ≡ r.1 + (k + 1) = omega arith in inr (inl (r.0, r.1, r.2, ap (further 1) r.3 ∙ ap (Begun r.0) e))
 one_more p q k (inr (inr r)) = inr (inr (r.0, r.1 + 1, ap (further 1) r.2, omega (arith, r.3)))
 
-placed_first : (p q : StartupProgress) (k : ℕ) (armed : Bool) (d : ℕ) → Reaches p q k → Reaches p (first_place q armed d) k
-placed_first p q k true d (inl e) = inr (inr (d, 0, ap (λ (x : StartupProgress). first_place x true d) e, omega arith))
-placed_first p q k false d (inl e) = inl (ap (λ (x : StartupProgress). first_place x false d) e)
-placed_first p q k armed d (inr (inl r)) = inr (inl (r.0, r.1, r.2, ap (λ (x : StartupProgress). first_place x armed d) r.3))
-placed_first p q k armed d (inr (inr r)) = inr (inr (r.0, r.1, ap (λ (x : StartupProgress). first_place x armed d) r.2, r.3))
+placed_first : (p q : StartupProgress) (k : ℕ) (armed : Bool) (d : ℕ) → Reaches p q k → Reaches p (progress_after_desync q armed d) k
+placed_first p q k true d (inl e) = inr (inr (d, 0, ap (λ (x : StartupProgress). progress_after_desync x true d) e, omega arith))
+placed_first p q k false d (inl e) = inl (ap (λ (x : StartupProgress). progress_after_desync x false d) e)
+placed_first p q k armed d (inr (inl r)) = inr (inl (r.0, r.1, r.2, ap (λ (x : StartupProgress). progress_after_desync x armed d) r.3))
+placed_first p q k armed d (inr (inr r)) = inr (inr (r.0, r.1, ap (λ (x : StartupProgress). progress_after_desync x armed d) r.2, r.3))
 
 -- a call of an access
 called : (p : StartupProgress) (calls : List Call) (k : ℕ) (arms drops desyncs : Bool) (d : ℕ) → Reaches p (progress_of calls) k

@@ -253,7 +253,8 @@ pub plain_none : (part : PartData) (kept : Kept) (register n : ℕ) (ws : List �
 plain_none part kept register n [] h p = tt
 plain_none part kept register n (w ∷ ws) h p = (sym (why_none part kept h register w p), plain_none part kept register (n + 4) ws (entry (Write register w) (n + 4) ∷ h) p)
 
-clocked_more : (part : PartData) (kept : Kept) (c : ClockState) (d : Option StopCause) (h : History) (n m register w : ℕ) → IsQuiet register → why_at part kept h (Write register w) ≡ None → n + 4 ≤ m → Clocked part kept c d h n m → Clocked part kept c d (entry (Write register w) (n + 4) ∷ h) (n + 4) m
+clocked_more : (part : PartData) (kept : Kept) (c : ClockState) (d : Option StopCause) (h : History) (n m register w : ℕ)
+    → IsQuiet register → why_at part kept h (Write register w) ≡ None → n + 4 ≤ m → Clocked part kept c d h n m → Clocked part kept c d (entry (Write register w) (n + 4) ∷ h) (n + 4) m
 clocked_more part kept c d h n m register w p none l s =
     let before : newest_place h ≤ n + 4 = omega (arith, newest_within n h s.places) in
     record {

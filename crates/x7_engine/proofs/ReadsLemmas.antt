@@ -58,7 +58,8 @@ stop_after part kept [] first n s l none e =
 stop_after part kept (x ∷ h) first n s l none e =
     let parts = parts_none (stop_of part kept h x.place) _ none in
     let own = parts_none (stopped_at x.place (why_at part kept h x.access)) _ parts.1 in
-    let here : option_or (stopped_at x.place (why_at part kept h x.access)) (stopped_by_watchdog (first_firing part kept (x ∷ h) x.place (n - x.place))) ≡ Some s = ap (λ (o : Option Stopped). option_or o (option_or (stopped_at x.place (why_at part kept h x.access)) (stopped_by_watchdog (first_firing part kept (x ∷ h) x.place (n - x.place))))) (sym parts.0) ∙ e in
+    let here : option_or (stopped_at x.place (why_at part kept h x.access)) (stopped_by_watchdog (first_firing part kept (x ∷ h) x.place (n - x.place))) ≡ Some s =
+    ap (λ (o : Option Stopped). option_or o (option_or (stopped_at x.place (why_at part kept h x.access)) (stopped_by_watchdog (first_firing part kept (x ∷ h) x.place (n - x.place))))) (sym parts.0) ∙ e in
     let fired : stopped_by_watchdog (first_firing part kept (x ∷ h) x.place (n - x.place)) ≡ Some s = ap (λ (o : Option Stopped). option_or o (stopped_by_watchdog (first_firing part kept (x ∷ h) x.place (n - x.place)))) (sym own.0) ∙ here in
     let less : x.place + (first - x.place) < s.place = watchdog_after part kept (x ∷ h) x.place (first - x.place) (n - x.place) s (omega (arith, l)) own.1 fired in
     omega (arith, less)

@@ -13,7 +13,7 @@ use Rattle.x7_regs.specs.Command.{command_by}
 use Rattle.x7_regs.specs.declared.command.Command.{Command}
 use Rattle.x7_startup.specs.Startup.{Call, NotBegun, StartupProgress, is_armed, progress_of, since_shutdown}
 use Rattle.x7_startup.specs.Startup as call
-use Rattle.x7_startup.proofs.CallLemmas.{first_place, further, is_armed_arm, is_armed_bytes, is_armed_desync, is_armed_drop, progress_arm, progress_bytes, progress_desync, progress_drop}
+use Rattle.x7_startup.proofs.CallLemmas.{progress_after_desync, further, is_armed_arm, is_armed_bytes, is_armed_desync, is_armed_drop, progress_arm, progress_bytes, progress_desync, progress_drop}
 use Rattle.x7_flow.specs.Controls.{ctl0_held, has_idcode, mask_held, masked_word, names_part}
 use Rattle.x7_flow.specs.HistoryFlow.{Flow, asked_under, asked_after, fault_by, flow_by, flow_of, frame_fault}
 use Rattle.x7_flow.specs.FrameMemory.{memory_of, pairs_put}
@@ -31,8 +31,8 @@ one_more call.Arm a b s = (is_armed_arm a ∙ sym (is_armed_arm b), progress_arm
 one_more (call.Desync d) a b s = (
   is_armed_desync a d ∙ sym (is_armed_desync b d),
   progress_desync a d
-      ∙ ap (λ (p : StartupProgress). first_place p (is_armed false (since_shutdown a)) d) s.1
-      ∙ ap (λ (x : Bool). first_place (progress_of b) x d) s.0
+      ∙ ap (λ (p : StartupProgress). progress_after_desync p (is_armed false (since_shutdown a)) d) s.1
+      ∙ ap (λ (x : Bool). progress_after_desync (progress_of b) x d) s.0
       ∙ sym (progress_desync b d),
 )
 one_more call.Byte a b s = (is_armed_bytes a 1 ∙ s.0 ∙ sym (is_armed_bytes b 1), progress_bytes a 1 ∙ ap (further 1) s.1 ∙ sym (progress_bytes b 1))

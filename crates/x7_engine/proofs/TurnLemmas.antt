@@ -79,7 +79,8 @@ stop_at_last : (part : PartData) (kept : Kept) (k m : ℕ) (h : History) (s : St
 stop_at_last part kept k m [] s p e = e
 stop_at_last part kept k m (x ∷ h) s p e = by (λ q. stop_at_last part kept (x.place - 1) m h s p.2 q) (nat_lt m x.place) (nat_lt (m - 1) x.place) refl refl e
   where
-    by : (stop_of part kept (until (m - 1) h) m ≡ Some s → stop_of part kept (until m h) m ≡ Some s) → (b c : Bool) → nat_lt m x.place ≡ b → nat_lt (m - 1) x.place ≡ c → stop_of part kept (if c then until (m - 1) h else x ∷ h) m ≡ Some s → stop_of part kept (if b then until m h else x ∷ h) m ≡ Some s
+    by : (stop_of part kept (until (m - 1) h) m ≡ Some s → stop_of part kept (until m h) m ≡ Some s)
+        → (b c : Bool) → nat_lt m x.place ≡ b → nat_lt (m - 1) x.place ≡ c → stop_of part kept (if c then until (m - 1) h else x ∷ h) m ≡ Some s → stop_of part kept (if b then until m h else x ∷ h) m ≡ Some s
     by i true true f g e = i e
     by i true false f g e = absurd (let a : m < x.place = grind (arith, nat_tests, f) in let b : x.place ≤ m - 1 = grind (arith, nat_tests, g) in omega (arith, a, b))
     by i false false f g e = e
@@ -197,7 +198,8 @@ writes_until part kept n m register [] h p l = ap (read_out part kept) (until_pl
 writes_until part kept n m register (w ∷ ws) h p l =
     by (λ far. writes_until part kept (n + 4) m register ws (entry (Write register w) (n + 4) ∷ h) (omega arith, omega arith, placed_within n (n + 4 - 1) h (omega arith) p) far) (nat_lt m (n + 4)) refl
   where
-    by : (n + 4 ≤ m → read_out part kept (until m (entered_all (n + 4) (payload_steps register ws) (entry (Write register w) (n + 4) ∷ h))) ≡ read_out part kept (entry (Write register w) (n + 4) ∷ h)) → (b : Bool) → nat_lt m (n + 4) ≡ b → read_out part kept (until m (entered_all n (payload_steps register (w ∷ ws)) h)) ≡ read_out part kept h
+    by : (n + 4 ≤ m → read_out part kept (until m (entered_all (n + 4) (payload_steps register ws) (entry (Write register w) (n + 4) ∷ h))) ≡ read_out part kept (entry (Write register w) (n + 4) ∷ h))
+        → (b : Bool) → nat_lt m (n + 4) ≡ b → read_out part kept (until m (entered_all n (payload_steps register (w ∷ ws)) h)) ≡ read_out part kept h
     by i true f =
         let near : m < n + 4 = grind (arith, nat_tests, f) in
         ap (read_out part kept) (steps_after m n (payload_steps register (w ∷ ws)) h near ∙ until_placed m h (placed_within n m h l p))

@@ -18,11 +18,11 @@ use Rattle.x7_engine.specs.declared.fed.Fed.TheVariants as fed
 use Rattle.x7_engine.specs.declared.kept.Kept.{Kept}
 use Rattle.x7_engine.specs.declared.stop.StopCause.{StopCause}
 use Rattle.x7_engine.specs.ReadBuffer.{IsFullBy, ReadBufState, dropping, with_words}
-use Rattle.x7_engine.specs.Past.{Answers, Past}
+use Rattle.x7_engine.specs.Past.{AnswersAt, Past}
 use Rattle.x7_engine.specs.Standing.{DeviceState, DeviceStandsFor, NoWordDue, frames_due}
 use Rattle.x7_engine.specs.State.{history_by, history_taken, last_counted, memory_in, stop_in}
 use Rattle.x7_engine.specs.Stop.{Stopped, stopped_at}
-use Rattle.x7_engine.specs.Undo.{Back, SavesDevice, UndoState}
+use Rattle.x7_engine.specs.Undo.{UndoLeadsBack, SavesDevice, UndoState}
 use Rattle.x7_engine.proofs.DeviceLemmas.{going_taken}
 use Rattle.x7_engine.proofs.FrameLemmas.{frames_of, goes_on, none_frames}
 use Rattle.x7_engine.proofs.StateLemmas.{stop_is_final_stop, counted_most}
@@ -109,7 +109,7 @@ frames_back part kept wrapped u old new bytes (x ∷ more) k o n none few s t = 
 
 -- a device that took up to four bytes since it was kept
 pub leads_back : (part : PartData) (kept : Kept) (wrapped : Bool) (u : UndoState) (old new : DeviceState) (bytes more : List ℕ) → SavesDevice u old → FramesFit new.part new.registers.frames → NoWordDue old → length more ≤ 4
-    → DeviceStandsFor part kept wrapped old bytes → DeviceStandsFor part kept wrapped new (bytes ++ more) → Back u new old
+    → DeviceStandsFor part kept wrapped old bytes → DeviceStandsFor part kept wrapped new (bytes ++ more) → UndoLeadsBack u new old
 leads_back part kept wrapped u old new bytes more k n none few s t =
     let there : old.part ≡ part = s.part_is in
     let here : new.part ≡ part = t.part_is in
@@ -122,7 +122,7 @@ leads_back part kept wrapped u old new bytes more k n none few s t =
     }
 
 -- a feed with a dropping buffer
-pub answers_dropping : (p : Past) (d : DeviceState) (more : List ℕ) (first read : ReadBufState) (f : Fed) → first ≡ dropping → read ≡ with_words first more → Answers p d read f → Answers p d dropping f
+pub answers_dropping : (p : Past) (d : DeviceState) (more : List ℕ) (first read : ReadBufState) (f : Fed) → first ≡ dropping → read ≡ with_words first more → AnswersAt p d read f → AnswersAt p d dropping f
 answers_dropping p d more first read fed.All e g a = a
 answers_dropping p d more first read (fed.Stopped n) e g a = a
 answers_dropping p d more first read (fed.Iprog n) e g a = a

@@ -28,7 +28,7 @@ use Rattle.x7_engine.specs.declared.until_started.UntilStarted.TheVariants as un
 use Rattle.x7_engine.specs.SoonestEnd.{soonest_end}
 use Rattle.x7_engine.specs.Registers.{takes_shutdown}
 use Rattle.x7_engine.specs.ReadBuffer.{ReadBufState}
-use Rattle.x7_engine.specs.Past.{Answers, AnswersUntil, Past}
+use Rattle.x7_engine.specs.Past.{AnswersAt, AnswersUntilAt, Past}
 use Rattle.x7_engine.specs.Standing.{DeviceStandsFor, DeviceState, EndsWords, NoWordDue, taken_in}
 use Rattle.x7_engine.specs.Startup.{phase_by, phase_of, startup_call, startup_calls, startup_progress}
 use Rattle.x7_engine.specs.State.{history_by, history_taken, state_of, stop_in, taken_by, taken_of}
@@ -356,6 +356,6 @@ pub says_answer : (b : Bool) (answer : Fed) (at : ℕ) → says_started (if b th
 says_answer true answer at = refl
 says_answer false answer at = refl
 
-pub answers_until : (p : Past) (d : DeviceState) (read : ReadBufState) (b : Bool) (answer : Fed) (at : ℕ) → NoWordDue d → Answers p d read answer → AnswersUntil p d read (if b then until.Started at else until.Fed answer)
+pub answers_until : (p : Past) (d : DeviceState) (read : ReadBufState) (b : Bool) (answer : Fed) (at : ℕ) → NoWordDue d → AnswersAt p d read answer → AnswersUntilAt p d read (if b then until.Started at else until.Fed answer)
 answers_until p d read true answer at due a = due
 answers_until p d read false answer at due a = a

@@ -5,9 +5,9 @@ use Rattle.x7_packets.specs.History.{Access, Entry, History, is_command}
 use Rattle.x7_part.specs.Part.{PartData}
 use Rattle.x7_regs.specs.declared.command.Command.TheVariants.{Desync, Ltimer, Start}
 use Rattle.x7_regs.specs.Command.{code_of}
-use Rattle.x7_startup.specs.Startup.{Call, StandsForCalls, Stored}
+use Rattle.x7_startup.specs.Startup.{Call, StandsForCalls, StartupState}
 use Rattle.x7_startup.specs.Startup as call
-use Rattle.x7_startup.specs.Watchdog.{Reload, Watch, WatchCall, WatchesFor}
+use Rattle.x7_startup.specs.Watchdog.{Reload, WatchdogState, WatchCall, WatchesFor}
 use Rattle.x7_engine.specs.declared.clock.Clock.{Clock}
 use Rattle.x7_engine.specs.declared.kept.Kept.{Kept}
 use Rattle.x7_engine.specs.Kept.{is_fallback}
@@ -17,8 +17,8 @@ use Rattle.x7_engine.specs.Watching.{first_firing, load_call, watch_calls}
 
 -- the stored values of a clock
 pub record ClockState : Type 0 where
-  pub startup : Stored
-  pub watchdog : Watch
+  pub startup : StartupState
+  pub watchdog : WatchdogState
 
 -- the stored values as the clock's fields hold them
 abbrev pub clock_in : Clock → ClockState
@@ -35,7 +35,7 @@ newest_place [] = 0
 newest_place (e ∷ h) = e.place
 
 -- `Fact` holds of each part, history and number of bytes taken whose startup this is
-abbrev pub OfStartup : Stored → (PartData → History → ℕ → Type 0) → Type 0
+abbrev pub OfStartup : StartupState → (PartData → History → ℕ → Type 0) → Type 0
 OfStartup s Fact = (part : PartData) (h : History) (n : ℕ) → StandsForCalls part.lock part.matched s (startup_calls h n) → Fact part h n
 
 -- `Fact` holds of all that the clock of a part's device is a clock of: what the reset kept, the history, and the number
@@ -46,8 +46,14 @@ OfClock part c Fact = (kept : Kept) (h : History) (n : ℕ) → newest_place h �
 -- The clock takes `count` bytes more: the watchdog fires at none of them; or it fires first at byte k of them, and the
 -- bytes up to that one are taken.
 abbrev pub ClockTakes : Course → ClockState → ℕ → Option ℕ → Type 0
-ClockTakes c clock count None = IsClock c.part c.kept clock c.history (c.taken + count) × (first_firing c.part c.kept c.history c.taken count ≡ None)
-ClockTakes c clock count (Some k) = (0 < k) × (k ≤ count) × IsClock c.part c.kept clock c.history (c.taken + k) × (first_firing c.part c.kept c.history c.taken count ≡ Some (c.taken + k))
+ClockTakes c clock count None =
+    IsClock c.part c.kept clock c.history (c.taken + count)
+    × (first_firing c.part c.kept c.history c.taken count ≡ None)
+ClockTakes c clock count (Some k) =
+    (0 < k)
+    × (k ≤ count)
+    × IsClock c.part c.kept clock c.history (c.taken + k)
+    × (first_firing c.part c.kept c.history c.taken count ≡ Some (c.taken + k))
 
 -- A part's clock takes `count` bytes more, whatever course it is the clock of: all of them, or those
 -- up to byte k, at which the watchdog fires.
@@ -70,7 +76,8 @@ pub record HasEndedBy (c : Course) (clock : ClockState) (count : ℕ) : Type 0 w
 
 -- a clock takes an access after any history of which `Fact` holds
 abbrev pub TakesEntry : ClockState → ClockState → Entry → (History → Type 0) → Type 0
-TakesEntry old new e Fact = (part : PartData) (kept : Kept) (h : History) → Fact h → IsClock part kept old h e.place → IsClock part kept new (e ∷ h) e.place
+TakesEntry old new e Fact =
+    (part : PartData) (kept : Kept) (h : History) → Fact h → IsClock part kept old h e.place → IsClock part kept new (e ∷ h) e.place
 
 -- what an access asks of startup, by the command that it executes, whether it takes a shutdown, and COR0
 abbrev pub startup_call_by : Option ℕ → Bool → ℕ → List Call

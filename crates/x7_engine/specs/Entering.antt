@@ -40,20 +40,24 @@ abbrev pub change_of : PartData → Registers → Registers → Change
 change_of part old new = record { part = part; old = registers_in old; new = registers_in new }
 
 -- `taken` bytes were taken, and the history that the registers stand for became the longer one
-abbrev pub Enters : Change → Extension → ℕ → Type 0
-Enters x longer taken = OfHistory x.part x.old (λ kept h n. RegistersStandFor x.part kept x.new (longer n h) (n + taken))
+abbrev pub EntersHistory : Change → Extension → ℕ → Type 0
+EntersHistory x longer taken = OfHistory x.part x.old (λ kept h n. RegistersStandFor x.part kept x.new (longer n h) (n + taken))
 
 -- the longer history up to the stop, where one came
 abbrev pub up_to_stop : RegistersState → Extension → ℕ → Extension
 up_to_stop new longer taken n h = until (counted_in new.stop (n + taken)) (longer n h)
 
 -- where a condition holds, `taken` bytes were taken, and the history that the registers stand for became the longer one
-abbrev pub EntersIf : Type 0 → Change → Extension → ℕ → Type 0
-EntersIf Condition x longer taken = (kept : Kept) (h : History) (n : ℕ) → Condition → RegistersStandFor x.part kept x.old h n → RegistersStandFor x.part kept x.new (longer n h) (n + taken)
+abbrev pub EntersHistoryIf : Type 0 → Change → Extension → ℕ → Type 0
+EntersHistoryIf Condition x longer taken =
+    (kept : Kept) (h : History) (n : ℕ) → Condition → RegistersStandFor x.part kept x.old h n
+    → RegistersStandFor x.part kept x.new (longer n h) (n + taken)
 
 -- an access entered at the next place
-abbrev pub EntersAt : Change → Extension → Type 0
-EntersAt x longer = (kept : Kept) (h : History) (place : ℕ) → IsNextAccess place h → RegistersStandFor x.part kept x.old h place → RegistersStandFor x.part kept x.new (longer place h) place
+abbrev pub EntersHistoryAt : Change → Extension → Type 0
+EntersHistoryAt x longer =
+    (kept : Kept) (h : History) (place : ℕ) → IsNextAccess place h → RegistersStandFor x.part kept x.old h place
+    → RegistersStandFor x.part kept x.new (longer place h) place
 
 -- the longer history reads out the words that are due, and no others
 abbrev pub AreRead : PartData → Kept → History → History → Due → Type 0
@@ -61,7 +65,8 @@ AreRead part kept h longer due = read_out part kept longer ≡ read_out part kep
 
 -- where a condition holds, the longer history reads out the words that are then due, and no others
 abbrev pub ReadsIf : Type 0 → Change → Extension → Type 0
-ReadsIf Condition x longer = (kept : Kept) (h : History) (n : ℕ) → Condition → RegistersStandFor x.part kept x.old h n → AreRead x.part kept h (longer n h) x.new.due
+ReadsIf Condition x longer =
+    (kept : Kept) (h : History) (n : ℕ) → Condition → RegistersStandFor x.part kept x.old h n → AreRead x.part kept h (longer n h) x.new.due
 
 -- the words that an access reads out are those due
 abbrev pub AreReadBy : PartData → Kept → History → Entry → Due → Type 0

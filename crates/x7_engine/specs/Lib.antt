@@ -8,7 +8,6 @@ pub mod Kept
 pub mod Past
 pub mod ReadBuffer
 pub mod Readout
-pub mod WordCalls
 pub mod Registers
 pub mod Rest
 pub mod Sequence
@@ -27,3 +26,4 @@ pub mod UntilRead
 pub mod UntilStarted
 pub mod Value
 pub mod Watching
+pub mod WordCalls

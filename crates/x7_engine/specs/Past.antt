@@ -125,35 +125,40 @@ pub record BootGoesOn (p : Past) : Type 0 where
 abbrev pub TakesJust : DeviceState → DeviceState → List ℕ → Type 0
 TakesJust old new more = OfPast old (λ p. HasPast new (later p more))
 
+-- no byte was taken of a piece, as their number `taken` says, and the device and the buffer are as they were
+abbrev pub TakesNothing : DeviceState → DeviceState → ReadBufState → ReadBufState → ℕ → Type 0
+TakesNothing old new before after taken = (new ≡ old) × (after ≡ before) × (taken ≡ 0)
+
 -- the bytes `more` give no word: the words given so far are those given before
 abbrev pub GivesNoWord : DeviceState → DeviceState → List ℕ → Type 0
 GivesNoWord old new more = OfPast old (λ p. reads_given_at new (later p more) ≡ reads_given_at old p)
 
 -- the bytes `more` give the buffer words: the words given so far are those given before, and then these
 abbrev pub GivesWordsNext : DeviceState → DeviceState → List ℕ → ReadBufState → ReadBufState → Type 0
-GivesWordsNext old new more before after = OfPast old (λ p. (words : List ℕ) × (after ≡ with_words before words) × (reads_given_at new (later p more) ≡ reads_given_at old p ++ words))
+GivesWordsNext old new more before after =
+    OfPast old (λ p. (words : List ℕ) × (after ≡ with_words before words) × (reads_given_at new (later p more) ≡ reads_given_at old p ++ words))
 
 -- what a feed answers: that nothing stopped the device and no word is due, the stop at the last byte, with no word due
 -- either, or that nothing stopped it, a word is due and the buffer full
-abbrev pub Answers : Past → DeviceState → ReadBufState → Fed → Type 0
-Answers p d read fed.All = (stop_at p ≡ None) × NoWordDue d
-Answers p d read (fed.Stopped n) = (f : Fault) × (stop_at p ≡ Some (record { place = length p.bytes; why = stop.Fault f })) × NoWordDue d
-Answers p d read (fed.Iprog n) = (stop_at p ≡ Some (record { place = length p.bytes; why = stop.Iprog })) × NoWordDue d
-Answers p d read (fed.ReadFull n) = (stop_at p ≡ None) × (0 < due_count d.registers.due) × IsFull read
+abbrev pub AnswersAt : Past → DeviceState → ReadBufState → Fed → Type 0
+AnswersAt p d read fed.All = (stop_at p ≡ None) × NoWordDue d
+AnswersAt p d read (fed.Stopped n) = (f : Fault) × (stop_at p ≡ Some (record { place = length p.bytes; why = stop.Fault f })) × NoWordDue d
+AnswersAt p d read (fed.Iprog n) = (stop_at p ≡ Some (record { place = length p.bytes; why = stop.Iprog })) × NoWordDue d
+AnswersAt p d read (fed.ReadFull n) = (stop_at p ≡ None) × (0 < due_count d.registers.due) × IsFull read
 
 -- what a feed up to the end of startup answers: where it says that startup has ended, no word is due; and else what a
 -- feed answers
-abbrev pub AnswersUntil : Past → DeviceState → ReadBufState → UntilStarted → Type 0
-AnswersUntil p d read (until.Started n) = NoWordDue d
-AnswersUntil p d read (until.Fed answer) = Answers p d read answer
+abbrev pub AnswersUntilAt : Past → DeviceState → ReadBufState → UntilStarted → Type 0
+AnswersUntilAt p d read (until.Started n) = NoWordDue d
+AnswersUntilAt p d read (until.Fed answer) = AnswersAt p d read answer
 
 -- the answer says what the old bytes and then `more` come to
 abbrev pub AnswersFor : DeviceState → DeviceState → List ℕ → ReadBufState → Fed → Type 0
-AnswersFor old new more read answer = OfPast old (λ p. Answers (later p more) new read answer)
+AnswersFor old new more read answer = OfPast old (λ p. AnswersAt (later p more) new read answer)
 
 -- the answer of a feed up to the end of startup says what the old bytes and then `more` come to
 abbrev pub AnswersUntilFor : DeviceState → DeviceState → List ℕ → ReadBufState → UntilStarted → Type 0
-AnswersUntilFor old new more read answer = OfPast old (λ p. AnswersUntil (later p more) new read answer)
+AnswersUntilFor old new more read answer = OfPast old (λ p. AnswersUntilAt (later p more) new read answer)
 
 -- the bytes taken of a piece, by what is answered
 abbrev pub prefix_taken : List ℕ → Fed → List ℕ

@@ -24,7 +24,7 @@ pub record RegistersGaveWords (c : Course) (d e : RegistersState) (old new : Rea
 
 -- registers that can give the words due: nothing stopped them, their frames are those of a device
 -- of the part, and they stand for a history
-pub record MayGive (part : PartData) (d : Registers) : Type 0 where
+pub record MayGiveWords (part : PartData) (d : Registers) : Type 0 where
   pub going : d.stop ≡ None
   pub frames : FramesFit part d.frames
   pub history : HaveHistory part (registers_in d)

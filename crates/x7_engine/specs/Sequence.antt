@@ -36,7 +36,7 @@ abbrev pub IsArmedDesync : History → Access → Type 0
 IsArmedDesync h access = Executes (code_of Desync) h access × IsArmed h
 
 -- startup has begun, by the first armed DESYNC since the last shutdown taken
-pub record Begins (h : History) : Type 0 where
+pub record StartupBegins (h : History) : Type 0 where
   pub newer : History
   pub desync : Entry
   pub older : History

@@ -195,9 +195,9 @@ HasNoWord Sync = Unit {0}
 HasNoWord _ = ⊥
 
 -- a run's lent slice lies in the `count` bytes that were taken last
-abbrev pub HoldsRun : Cut → ℕ → Type 0
-HoldsRun (Body register bytes) count = length bytes.now ≤ count
-HoldsRun _ count = Unit {0}
+abbrev pub RunLiesWithin : Cut → ℕ → Type 0
+RunLiesWithin (Body register bytes) count = length bytes.now ≤ count
+RunLiesWithin _ count = Unit {0}
 
 -- a run's words, the first of which begins at byte `from`, end where its `count` new bytes after the first n do
 abbrev pub EndsWords : Cut → ℕ → ℕ → ℕ → Type 0

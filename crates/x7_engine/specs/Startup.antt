@@ -6,7 +6,7 @@ use Rattle.x7_regs.specs.declared.command.Command.TheVariants.{Desync, Start}
 use Rattle.x7_regs.specs.declared.register.Reg.TheVariants.{Cor0}
 use Rattle.x7_regs.specs.Command.{code_of}
 use Rattle.x7_regs.specs.Register.{number_of}
-use Rattle.x7_startup.specs.Phases.{arrival, last_phase, wait_of}
+use Rattle.x7_startup.specs.Phases.{arrival, last_phase, tick_size, wait_of}
 use Rattle.x7_startup.specs.Startup.{Call, StartupProgress, NotBegun, Begun, progress_of}
 use Rattle.x7_startup.specs.Startup as call
 use Rattle.x7_engine.specs.Registers.{takes_shutdown}
@@ -39,7 +39,7 @@ phase_at wait ticks = greatest_begun wait ticks last_phase
 -- the phase, by how far startup is
 abbrev pub phase_by : PartData → StartupProgress → ℕ
 phase_by part NotBegun = 0
-phase_by part (Begun cor0 bytes) = phase_at (wait_of part.lock part.matched cor0) (bytes / 4)
+phase_by part (Begun cor0 bytes) = phase_at (wait_of part.lock part.matched cor0) (bytes / tick_size)
 
 -- the phase of startup
 abbrev pub phase_of : PartData → History → ℕ → ℕ

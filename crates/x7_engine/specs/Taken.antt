@@ -2,13 +2,13 @@
 -- the words due stay (this project's choice).
 use Rattle.std.specs.Prelude.{◌≡◌, ℕ, ◌≤◌, ◌%◌, ◌∷◌, List, length, take, None}
 use Rattle.x7_packets.specs.History.{Write, entry}
-use Rattle.x7_engine.specs.Entering.{Change, Enters, EntersAt, up_to_stop, words_entered}
+use Rattle.x7_engine.specs.Entering.{Change, EntersHistory, EntersHistoryAt, up_to_stop, words_entered}
 use Rattle.x7_engine.specs.WordCalls.{LeavesDue, TakesUpTo}
 use Rattle.x7_engine.specs.Standing.{counted_in}
 
 -- registers took a word written to a register, which counts also where it stops them
 pub record TookWrite (x : Change) (register word : ℕ) : Type 0 where
-  pub enters : EntersAt x (λ place h. entry (Write register word) place ∷ h)
+  pub enters : EntersHistoryAt x (λ place h. entry (Write register word) place ∷ h)
   pub counts : (n : ℕ) → counted_in x.new.stop n ≡ n
   pub leaves : LeavesDue x
 
@@ -16,12 +16,12 @@ pub record TookWrite (x : Change) (register word : ℕ) : Type 0 where
 pub record TookWords (x : Change) (register : ℕ) (bytes : List ℕ) (taken : ℕ) : Type 0 where
   pub takes : TakesUpTo (length bytes) taken x.new.stop
   pub leaves : LeavesDue x
-  pub enters : Enters x (up_to_stop x.new (words_entered register bytes) taken) taken
+  pub enters : EntersHistory x (up_to_stop x.new (words_entered register bytes) taken) taken
 
 -- of words written to a register, four bytes each, registers took the first ones, and none of these stopped them
-pub record TookFirst (x : Change) (register : ℕ) (bytes : List ℕ) (taken : ℕ) : Type 0 where
+pub record TookFirstWords (x : Change) (register : ℕ) (bytes : List ℕ) (taken : ℕ) : Type 0 where
   pub within : taken ≤ length bytes
   pub whole : taken % 4 ≡ 0
   pub going : x.new.stop ≡ None
   pub leaves : LeavesDue x
-  pub enters : Enters x (words_entered register (take taken bytes)) taken
+  pub enters : EntersHistory x (words_entered register (take taken bytes)) taken

@@ -6,7 +6,7 @@ use Rattle.x7_regs.specs.declared.command.Command.TheVariants.{Ltimer}
 use Rattle.x7_regs.specs.declared.register.Reg.TheVariants.{Timer}
 use Rattle.x7_regs.specs.Command.{code_of}
 use Rattle.x7_regs.specs.Register.{number_of}
-use Rattle.x7_startup.specs.Watchdog.{is_on, timer_value_of}
+use Rattle.x7_startup.specs.Watchdog.{is_on, timer_step, timer_value_of}
 use Rattle.x7_engine.specs.declared.kept.Kept.{Kept}
 use Rattle.x7_engine.specs.Kept.{is_fallback}
 use Rattle.x7_engine.specs.Startup.{has_ended}
@@ -40,6 +40,6 @@ abbrev pub bytes_on_since_load : PartData → Kept → List ℕ → ℕ → ℕ
 bytes_on_since_load part kept bytes n = bytes_on_after part kept bytes (last_load (before_byte bytes n)) (n - last_load (before_byte bytes n))
 
 -- the watchdog's time is out at byte n, and it fires: it is on there, and with n as many bytes after the last load had
--- it on as four times TIMER's value
+-- it on as `timer_step` times TIMER's value
 abbrev pub times_out_at : PartData → Kept → List ℕ → ℕ → Bool
-times_out_at part kept bytes n = is_on_at part kept bytes n && bytes_on_since_load part kept bytes n == timer_value_of (timer_held kept (before_byte bytes n)) * 4
+times_out_at part kept bytes n = is_on_at part kept bytes n && bytes_on_since_load part kept bytes n == timer_value_of (timer_held kept (before_byte bytes n)) * timer_step

@@ -7,7 +7,7 @@ use Rattle.x7_engine.specs.UntilStarted.{CommandsLast}
 
 -- a device that can take the bytes of a piece from a place on: nothing stopped it, no word is due, and it can be given
 -- them
-pub record MayTake (d : DeviceState) (piece : List ℕ) (at : ℕ) : Type 0 where
+pub record MayTakePiece (d : DeviceState) (piece : List ℕ) (at : ℕ) : Type 0 where
   pub within : at ≤ length piece
   pub going : d.registers.stop ≡ None
   pub no_word_due : NoWordDue d
@@ -15,19 +15,19 @@ pub record MayTake (d : DeviceState) (piece : List ℕ) (at : ℕ) : Type 0 wher
 
 -- in a turn a device keeps its part, takes just the bytes `more` and gives no word, and none of the bytes but the last
 -- ends a write to CMD, a read or a word that is no header
-pub record TakesTurn (old new : DeviceState) (more : List ℕ) : Type 0 where
+pub record TurnTakes (old new : DeviceState) (more : List ℕ) : Type 0 where
   pub part : new.part ≡ old.part
   pub takes : TakesJust old new more
   pub silent : GivesNoWord old new more
   pub commands : OfPast old (λ p. CommandsLast p.bytes more)
 
 -- a device took a turn over the bytes of a piece between two places, and counted them
-pub record Turned (old new : DeviceState) (piece : List ℕ) (from to : ℕ) : Type 0 where
+pub record TurnMoves (old new : DeviceState) (piece : List ℕ) (from to : ℕ) : Type 0 where
   pub forward : from ≤ to
   pub within : to ≤ length piece
   pub taken : new.taken ≡ old.taken + (to - from)
   pub fed : fed_of new ≡ fed_more old (to - from)
-  pub turn : TakesTurn old new (between piece from to)
+  pub turn : TurnTakes old new (between piece from to)
 
 -- a device used up a piece: it is at the piece's end, nothing stopped it, and no word is due
 pub record IsUsedUp (d : DeviceState) (piece : List ℕ) (at : ℕ) : Type 0 where
@@ -41,7 +41,7 @@ HasFewerCalls old new piece from to = new.registers.stop ≡ None → calls_left
 
 -- a device took a turn over the bytes of a piece between two places, and used up the piece, where it says so, or else
 -- has fewer calls of its cutter left in it
-pub record TookTurn (old new : DeviceState) (piece : List ℕ) (from to : ℕ) (says_used_up : Bool) : Type 0 where
-  pub turned : Turned old new piece from to
+pub record TurnAnswers (old new : DeviceState) (piece : List ℕ) (from to : ℕ) (says_used_up : Bool) : Type 0 where
+  pub turned : TurnMoves old new piece from to
   pub used_up : IsTrue says_used_up → IsUsedUp new piece to
   pub goes_on : says_used_up ≡ false → HasFewerCalls old new piece from to

@@ -1,4 +1,4 @@
--- What is saved of a device, so that the next bytes up to four can be taken back (this project's choice).
+-- What is saved of a device, so that the next bytes, up to `undo_reach`, can be taken back (this project's choice).
 use Rattle.std.specs.Prelude.{◌≡◌, ℕ, ◌≤◌, Bool, List, length, Option}
 use Rattle.x7_packets.specs.Cutter.{CutterState}
 use Rattle.x7_part.specs.Part.{PartData}
@@ -15,6 +15,10 @@ use Rattle.x7_engine.specs.Clock.{ClockState, clock_in}
 use Rattle.x7_engine.specs.Past.{HasPast, Past, later}
 use Rattle.x7_engine.specs.Standing.{ControlsState, DeviceState, NoWordDue, ProgressState, RegistersState, controls_in, progress_in}
 
+-- how many bytes can be taken back at most
+abbrev pub undo_reach : ℕ
+undo_reach = 4
+
 -- the stored values of registers but their frames: all that `RegistersState` has beside these
 pub record SavedRegistersState : Type 0 where
   pub words : List ℕ
@@ -28,7 +32,16 @@ pub record SavedRegistersState : Type 0 where
 
 -- the stored values of registers without their frames
 abbrev pub without_frames : RegistersState → SavedRegistersState
-without_frames r = record { words = r.words; controls = r.controls; progress = r.progress; kind = r.kind; before = r.before; clock = r.clock; stop = r.stop; due = r.due }
+without_frames r = record {
+  words = r.words;
+  controls = r.controls;
+  progress = r.progress;
+  kind = r.kind;
+  before = r.before;
+  clock = r.clock;
+  stop = r.stop;
+  due = r.due;
+}
 
 -- the stored values of saved registers as their fields hold them
 abbrev pub saved_registers_in : SavedRegisters → SavedRegistersState
@@ -45,7 +58,17 @@ saved_registers_in s = record {
 
 -- registers of these stored values and frames
 abbrev pub registers_with : SavedRegistersState → FramesState → RegistersState
-registers_with v f = record { words = v.words; controls = v.controls; progress = v.progress; kind = v.kind; before = v.before; clock = v.clock; stop = v.stop; due = v.due; frames = f }
+registers_with v f = record {
+  words = v.words;
+  controls = v.controls;
+  progress = v.progress;
+  kind = v.kind;
+  before = v.before;
+  clock = v.clock;
+  stop = v.stop;
+  due = v.due;
+  frames = f;
+}
 
 -- what is saved of a device: each stored value but its memory, and at most one frame of that
 pub record UndoState : Type 0 where
@@ -61,7 +84,14 @@ IsUndoOf part u = IsSavedOf part u.frames
 
 -- the device whose values are saved, with a memory of zeros
 abbrev pub device_saved : PartData → UndoState → DeviceState
-device_saved part u = record { part = part; cutter = u.cutter; registers = registers_with u.values (frames_state u.frames.pipeline (zero_frames part)); wrapped = u.wrapped; taken = u.taken; fed = 0 }
+device_saved part u = record {
+  part = part;
+  cutter = u.cutter;
+  registers = registers_with u.values (frames_state u.frames.pipeline (zero_frames part));
+  wrapped = u.wrapped;
+  taken = u.taken;
+  fed = 0;
+}
 
 -- each saved value is that of a device
 pub record SavesValues (u : UndoState) (d : DeviceState) : Type 0 where
@@ -78,19 +108,19 @@ pub record SavesDevice (u : UndoState) (d : DeviceState) : Type 0 where
 
 -- What is saved leads from a device back to an old one: the values are those of the old device, and the memory of the
 -- new one, with the saved frame put into it, is that of the old one.
-pub record Back (u : UndoState) (new old : DeviceState) : Type 0 where
+pub record UndoLeadsBack (u : UndoState) (new old : DeviceState) : Type 0 where
   pub part : new.part ≡ old.part
   pub values : SavesValues u old
   pub frames : FramesBack old.part u.frames new.registers.frames old.registers.frames
 
--- what is saved is an old device, which took at most four bytes since then
+-- what is saved is an old device, which took no more bytes since then than can be taken back
 pub record TookFewSince (u : UndoState) (d : DeviceState) : Type 0 where
   pub past : Past
   pub more : List ℕ
   pub old : DeviceState
   pub saves : SavesDevice u old
   pub no_word_due : NoWordDue old
-  pub few : length more ≤ 4
+  pub few : length more ≤ undo_reach
   pub had : HasPast old past
   pub has : HasPast d (later past more)
 

@@ -6,7 +6,7 @@ use Rattle.x7_regs.specs.declared.command.Command.TheVariants.{Ltimer}
 use Rattle.x7_regs.specs.declared.register.Reg.TheVariants.{Timer}
 use Rattle.x7_regs.specs.Command.{code_of}
 use Rattle.x7_regs.specs.Register.{number_of}
-use Rattle.x7_startup.specs.Watchdog.{WatchCall, Load, Reload, Watched, cfg_mon_of, watched_count, is_on, timer_value_of}
+use Rattle.x7_startup.specs.Watchdog.{WatchCall, Load, Reload, Watched, cfg_mon_of, watched_count, is_on, timer_step, timer_value_of}
 use Rattle.x7_engine.specs.declared.kept.Kept.{Kept}
 use Rattle.x7_engine.specs.Kept.{is_fallback}
 use Rattle.x7_engine.specs.Registers.{word_held}
@@ -40,11 +40,12 @@ turns_on timer = cfg_mon_of timer == 1 && not (timer_value_of timer == 0)
 abbrev pub timer_held : Kept → History → ℕ
 timer_held kept h = word_held kept (number_of Timer) h
 
--- the watchdog fires at byte n, after the history `h`: it is on, and its count comes to four times TIMER's value
+-- the watchdog fires at byte n, after the history `h`: it is on, and its count comes to `timer_step`
+-- times TIMER's value
 abbrev pub watchdog_fires : PartData → Kept → History → ℕ → Bool
 watchdog_fires part kept h n =
     is_on (is_fallback kept.kind) (timer_held kept h) (has_ended part h n)
-    && watched_count (is_fallback kept.kind) kept.timer (watch_calls part h n) == timer_value_of (timer_held kept h) * 4
+    && watched_count (is_fallback kept.kind) kept.timer (watch_calls part h n) == timer_value_of (timer_held kept h) * timer_step
 
 -- the place where the watchdog fired already, or place n where it fires there
 abbrev pub fired_or : Option ℕ → Bool → ℕ → Option ℕ

@@ -9,13 +9,13 @@ ghost use Rattle.x7_engine.specs.UntilRead.{RoomBefore};
 ghost use Rattle.x7_engine.specs.Kept.{on_the_bench};
 ghost use Rattle.x7_engine.specs.Readout.{DeviceGaveWords};
 ghost use Rattle.x7_engine.specs.ReadBuffer.{HoldsWithinMost, IsFull};
-ghost use Rattle.x7_engine.specs.Standing.{CanBeGiven, DeviceStandsFor, MayWrap, NoWordDue, due_count, answer_at_stop, fed_more, fed_of, frames_due, taken_in, with_wrap};
+ghost use Rattle.x7_engine.specs.Standing.{CanBeGiven, DeviceStandsFor, HasStopped, MayWrap, NoWordDue, due_count, answer_at_stop, fed_more, fed_of, frames_due, taken_in, with_wrap};
 ghost use Rattle.x7_engine.specs.State.{attempt_in, end_by, kept_after, why_of, memory_in, state_owing};
 ghost use Rattle.x7_engine.specs.Stop.{stop_fault};
-ghost use Rattle.x7_engine.specs.Turns.{MayTake, TookTurn, Turned};
+ghost use Rattle.x7_engine.specs.Turns.{MayTakePiece, TurnAnswers, TurnMoves};
 ghost use Rattle.x7_engine.specs.Value.{failure_of};
 ghost use Rattle.x7_engine.specs.declared.fault.Fault.{Fault as FaultData};
-ghost use Rattle.x7_engine.specs.Past.{AnswersFor, HasSomePast, OfPast, TakesJust, GivesWordsNext, prefix_taken, state_at, stop_at, reads_given_at};
+ghost use Rattle.x7_engine.specs.Past.{AnswersFor, HasSomePast, OfPast, TakesJust, TakesNothing, GivesWordsNext, prefix_taken, state_at, stop_at, reads_given_at};
 
 mod boot;
 mod started;
@@ -32,7 +32,7 @@ use crate::target::Target;
 pub use boot::flash_may_end;
 use std::alloc::Global;
 use std::marker::Model;
-pub use undo::Undo;
+pub use undo::{UNDO_REACH, Undo};
 use x7_flow::Frames;
 use x7_memory::Memory;
 use x7_packets::{Cut, Cutter};
@@ -228,8 +228,8 @@ impl Device {
 
     /// Takes the no-ops that come next in a session, all at once, up to a byte at which the watchdog fires.
     fn pass_nops(&mut self, piece: &[u8], at: &mut usize)
-        requires { MayTake self.old piece.now at.old }
-        ensures turned { Turned self.old self.new piece.now at.old at.new }
+        requires { MayTakePiece self.old piece.now at.old }
+        ensures turned { TurnMoves self.old self.new piece.now at.old at.new }
         ensures no_word_due { NoWordDue self.new }
         ensures cutter { self.new.cutter ≡ self.old.cutter }
         ensures same_history { OfPast self.old (λ p. history_of (p.bytes ++ between piece.now at.old at.new) ≡ history_of p.bytes) }
@@ -244,13 +244,13 @@ impl Device {
     /// Takes the next run of the piece from place `at` on, and moves `at` past the bytes taken. The answer is `true`
     /// only where the piece is used up; after `false` the next turn may find nothing left.
     fn take_run(&mut self, piece: &[u8], at: &mut usize) -> bool
-        requires { MayTake self.old piece.now at.old }
-        ensures { TookTurn self.old self.new piece.now at.old at.new result }
+        requires { MayTakePiece self.old piece.now at.old }
+        ensures { TurnAnswers self.old self.new piece.now at.old at.new result }
     {
         let from = *at;
         let run = self.cutter.cut(piece, at);
         let used_up = is_need(&run);
-        let left = self.registers.run(&self.part, run, *at - from);
+        let left = self.registers.take_run(&self.part, run, *at - from);
         *at -= left;
         self.taken += (*at - from) as u64;
         self.fed = self.fed.saturating_add((*at - from) as u64);
@@ -261,11 +261,11 @@ impl Device {
     /// `at` past it, and says whether there is one.
     #[inline(always)]
     fn take_write(&mut self, piece: &[u8], at: &mut usize) -> bool
-        requires { MayTake self.old piece.now at.old }
+        requires { MayTakePiece self.old piece.now at.old }
         ensures unchanged { result ≡ false → (self.new ≡ self.old) × (at.new ≡ at.old) }
         ensures eight_bytes { IsTrue result → at.new ≡ at.old + 8 }
         ensures no_word_due { NoWordDue self.new }
-        ensures turned { IsTrue result → Turned self.old self.new piece.now at.old at.new }
+        ensures turned { IsTrue result → TurnMoves self.old self.new piece.now at.old at.new }
     {
         if !self.registers.clock.is_idle() {
             return false;
@@ -286,8 +286,8 @@ impl Device {
     /// after `false` the next turn may find nothing left.
     #[inline(always)]
     fn turn(&mut self, piece: &[u8], at: &mut usize) -> bool
-        requires { MayTake self.old piece.now at.old }
-        ensures { TookTurn self.old self.new piece.now at.old at.new result }
+        requires { MayTakePiece self.old piece.now at.old }
+        ensures { TurnAnswers self.old self.new piece.now at.old at.new result }
     {
         if self.take_write(piece, at) {
             return false;
@@ -299,8 +299,8 @@ impl Device {
     /// only where the piece is used up; after `false` the next turn may find nothing left.
     #[inline(never)]
     fn take_next(&mut self, piece: &[u8], at: &mut usize) -> bool
-        requires { MayTake self.old piece.now at.old }
-        ensures { TookTurn self.old self.new piece.now at.old at.new result }
+        requires { MayTakePiece self.old piece.now at.old }
+        ensures { TurnAnswers self.old self.new piece.now at.old at.new result }
     {
         self.pass_nops(piece, at);
         if self.has_stopped() {
@@ -322,8 +322,9 @@ impl Device {
         ensures reads { GivesWordsNext self.old self.new (prefix_taken piece.now result) read.old read.new }
         ensures within_most { HoldsWithinMost read.new.most read.new.words }
         ensures room { OfPast self.old (λ p. RoomBefore p piece.now (taken_in (length piece.now) result) (reads_given_at self.old p) read.old) }
-        ensures stopped { OfPast self.old (λ p. IsSome (stop_at p) → (self.new ≡ self.old) × (read.new ≡ read.old) × (taken_in (length piece.now) result ≡ 0)) }
-        ensures stays { (why : StopCause) → self.old.registers.stop ≡ Some why → (self.new ≡ self.old) × (read.new ≡ read.old) × (result ≡ answer_at_stop why 0) }
+        ensures stopped { OfPast self.old (λ p. IsSome (stop_at p) → TakesNothing self.old self.new read.old read.new (taken_in (length piece.now) result)) }
+        ensures stays { HasStopped self.old → TakesNothing self.old self.new read.old read.new (taken_in (length piece.now) result) }
+        ensures answers_stop { (why : StopCause) → self.old.registers.stop ≡ Some why → result ≡ answer_at_stop why 0 }
     {
         read.holds_within_most();
         let mut at = 0;

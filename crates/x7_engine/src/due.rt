@@ -5,8 +5,13 @@
 pub enum Due {
     /// No word is due.
     Nothing,
-    /// One word is due, the number of times given second.
-    Same(u32, u32),
+    /// One word is due, this many times.
+    Same {
+        /// The word.
+        word: u32,
+        /// How often it is due.
+        count: u32,
+    },
     /// Words of frame data are due, as many as the number.
     Frames(u32),
 }

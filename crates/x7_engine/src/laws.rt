@@ -18,7 +18,7 @@ ghost use Rattle.x7_flow.specs.Standing.{word_to};
 ghost use Rattle.x7_engine.specs.Registers.{HasMaskedBits, cor0_held, has_ghigh, clears_check, is_pending, takes_shutdown};
 ghost use Rattle.x7_engine.specs.Past.{HasStoppedBefore, IsBootAttempt, OfPast, Past, StandsBefore, cause_in, due_at, history_at, later, memory_at, reads_at, state_at, stop_at, taken_at, reads_given_at};
 ghost use Rattle.x7_engine.specs.Rest.{AtRest, LastGapGoesOn};
-ghost use Rattle.x7_engine.specs.Sequence.{Begins, HasGhigh, IsPending};
+ghost use Rattle.x7_engine.specs.Sequence.{StartupBegins, HasGhigh, IsPending};
 ghost use Rattle.x7_engine.specs.Standing.{DeviceState, NoWordDue};
 ghost use Rattle.x7_engine.specs.Startup.{phase_of, startup_progress};
 ghost use Rattle.x7_engine.specs.State.{memory_in, reads_of, state_of, stop_in, bootsts_in};
@@ -61,8 +61,8 @@ pub fn shutdowns_and_ghigh()
 /// Startup begins at the first armed DESYNC since the last shutdown taken, with COR0 as it stands there.
 pub fn startup_begins()
     ensures begun { (h : History) (n cor0 bytes : ℕ) → Placed n h → startup_progress h n ≡ Begun cor0 bytes
-        → (b : Begins h) × (cor0 ≡ cor0_held b.older) × (b.desync.place + bytes ≡ n) }
-    ensures found { (h : History) (n : ℕ) → Placed n h → (b : Begins h) → startup_progress h n ≡ Begun (cor0_held b.older) (n - b.desync.place) }
+        → (b : StartupBegins h) × (cor0 ≡ cor0_held b.older) × (b.desync.place + bytes ≡ n) }
+    ensures found { (h : History) (n : ℕ) → Placed n h → (b : StartupBegins h) → startup_progress h n ≡ Begun (cor0_held b.older) (n - b.desync.place) }
 {}
 
 /// The stop of bytes is just the first one: its byte stops the device, and no byte before it. Where there is none, no

@@ -21,7 +21,7 @@ mod until_started;
 mod value;
 mod words;
 
-pub use device::{Device, Undo, flash_may_end};
+pub use device::{Device, UNDO_REACH, Undo, flash_may_end};
 pub use due::Due;
 pub use fault::Fault;
 pub use fed::Fed;

@@ -2,11 +2,11 @@
 ghost use Rattle.std.specs.Prelude.{◌≡◌, ◌≤◌, ◌<◌, ℕ, IsTrue, ◌↔◌, None, Some};
 ghost use Rattle.x7_packets.specs.History.{History};
 ghost use Rattle.x7_flow.specs.Standing.{FramesFit, FramesStandFor, HaveDue, read_entry, words_due};
-ghost use Rattle.x7_engine.specs.Readout.{GaveWordsDue, GotAllBut, MayGive};
+ghost use Rattle.x7_engine.specs.Readout.{GaveWordsDue, GotAllBut, MayGiveWords};
 ghost use Rattle.x7_engine.specs.ReadBuffer.{HoldsWithinMost, IsFull};
 ghost use Rattle.x7_engine.specs.WordCalls.{MayTakeWords, HasNoneDueAtStop};
 ghost use Rattle.x7_engine.specs.Standing.{due_count};
-ghost use Rattle.x7_engine.specs.Entering.{AreReadBy, EntersAt, OfHistory, change_of, read_entered};
+ghost use Rattle.x7_engine.specs.Entering.{AreReadBy, EntersHistoryAt, OfHistory, change_of, read_entered};
 
 use crate::due::Due;
 use crate::read_buffer::ReadBuf;
@@ -20,7 +20,7 @@ pub(crate) fn due_count(due: Due) -> u32
 {
     match due {
         Due::Nothing => 0,
-        Due::Same(_, count) => count,
+        Due::Same { count, .. } => count,
         Due::Frames(count) => count,
     }
 }
@@ -57,11 +57,14 @@ impl Registers {
         requires at_least_one { 0 < count }
         ensures none_due_at_stop { HasNoneDueAtStop part.now self.new }
         ensures counts { (n : ℕ) → counted_in self.new.stop n ≡ n }
-        ensures enters { EntersAt (change_of part.now self.old self.new) (read_entered register count) }
+        ensures enters { EntersHistoryAt (change_of part.now self.old self.new) (read_entered register count) }
         ensures reads { OfHistory part.now (registers_in self.old) (λ kept h place. AreReadBy part.now kept h (read_entry register count place) self.new.due) }
     {
         if !reads_frames(self.settings(), register, count) {
-            self.due = Due::Same(self.read_value(part, register), count);
+            self.due = Due::Same {
+                word: self.read_value(part, register),
+                count,
+            };
             return;
         }
         match self.frames.fault_of_read(part) {
@@ -72,14 +75,14 @@ impl Registers {
 
     /// Gives the words due to a buffer, as many as it has room for.
     fn give_due(&mut self, part: &Part, read: &mut ReadBuf)
-        requires { MayGive part.now self.old }
+        requires { MayGiveWords part.now self.old }
         ensures { GaveWordsDue (change_of part.now self.old self.new) read.old read.new }
     {
         match self.due {
             Due::Nothing => (),
-            Due::Same(word, count) => {
+            Due::Same { word, count } => {
                 let left = read.push_times(word, count);
-                self.due = Due::Same(word, left);
+                self.due = Due::Same { word, count: left };
             }
             Due::Frames(count) => {
                 let left = give_frames(&mut self.frames, part, count, read);
@@ -90,7 +93,7 @@ impl Registers {
 
     /// Gives the words due to a buffer, as many as it has room for, and says whether none is left.
     pub(crate) fn give(&mut self, part: &Part, read: &mut ReadBuf) -> bool
-        requires { MayGive part.now self.old }
+        requires { MayGiveWords part.now self.old }
         ensures none_left { IsTrue result ↔ (due_count self.new.due ≡ 0) }
         ensures within_most { HoldsWithinMost read.new.most read.new.words }
         ensures gave { GaveWordsDue (change_of part.now self.old self.new) read.old read.new }

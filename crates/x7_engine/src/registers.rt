@@ -14,9 +14,9 @@ ghost use Rattle.x7_engine.specs.WordCalls.{MayTakeWords, LeavesBytes, LeavesDue
 ghost use Rattle.x7_engine.specs.Standing.{counted_in, due_count};
 ghost use Rattle.x7_engine.specs.State.{last_counted};
 ghost use Rattle.x7_engine.specs.Stop.{why_by_access, why_by_frames, stop_of_refused};
-ghost use Rattle.x7_engine.specs.Taken.{TookFirst, TookWords, TookWrite};
+ghost use Rattle.x7_engine.specs.Taken.{TookFirstWords, TookWords, TookWrite};
 ghost use Rattle.x7_engine.specs.Targets.{target_number};
-ghost use Rattle.x7_engine.specs.Entering.{AreRead, change_of, Enters, EntersAt, EntersIf, OfHistory, ReadsIf, RunEnters, RunReads, step_entered, up_to_stop, word_entered};
+ghost use Rattle.x7_engine.specs.Entering.{AreRead, change_of, EntersHistory, EntersHistoryAt, EntersHistoryIf, OfHistory, ReadsIf, RunEnters, RunReads, step_entered, up_to_stop, word_entered};
 
 use crate::clock::Clock;
 use crate::controls::{Controls, masked_word};
@@ -27,7 +27,7 @@ use crate::kept::{Kept, is_fallback};
 use crate::progress::{Progress, is_same_idcode};
 use crate::stop::StopCause;
 use crate::target::{PlainNumber, Target};
-use crate::words::Words;
+use crate::words::LastWords;
 use x7_crc::{executed, is_command};
 use x7_flow::{FrameSettings, Frames};
 use x7_packets::{Cut, Step};
@@ -87,7 +87,7 @@ fn first_cause(why: Option<StopCause>, refused: Option<RunFault>) -> Option<Stop
 /// be given.
 #[derive(Drop)]
 pub(crate) struct Registers {
-    pub(crate) words: Words,
+    pub(crate) words: LastWords,
     pub(crate) controls: Controls,
     pub(crate) progress: Progress,
     // what began the present boot attempt
@@ -101,7 +101,7 @@ pub(crate) struct Registers {
 }
 
 impl Registers {
-    ghost use Rattle.x7_engine.specs.Standing.{HoldsRun, IsHeaderStep, RegistersStandFor, registers_in, HasNoWord};
+    ghost use Rattle.x7_engine.specs.Standing.{RunLiesWithin, IsHeaderStep, RegistersStandFor, registers_in, HasNoWord};
 
     /// The registers of a device that took nothing, with what the reset kept and frames after a reset.
     pub(crate) fn new(kept: &Kept, frames: Frames) -> Registers
@@ -111,7 +111,7 @@ impl Registers {
         ensures frames { result.frames ≡ frames }
     {
         Registers {
-            words: Words::new(kept),
+            words: LastWords::new(kept),
             controls: Controls::new(),
             progress: Progress::new(),
             kind: kept.kind,
@@ -130,7 +130,7 @@ impl Registers {
         ensures no_word_due { self.new.due ≡ Due.Nothing }
         ensures frames { (part : PartData) → FramesFit part self.old.frames → FramesFit part self.new.frames }
     {
-        self.words = Words::new(kept);
+        self.words = LastWords::new(kept);
         self.controls = Controls::new();
         self.progress = Progress::new();
         self.kind = kept.kind;
@@ -260,7 +260,7 @@ impl Registers {
         ensures fired { (why : StopCause) → self.new.stop ≡ Some why → (why ≡ StopCause.Fault Fault.Watchdog) × (result < count) }
         ensures due { self.new.due ≡ self.old.due }
         ensures frames { self.new.frames ≡ self.old.frames }
-        ensures enters { Enters (change_of part.now self.old self.new) (λ n h. h) (count - result) }
+        ensures enters { EntersHistory (change_of part.now self.old self.new) (λ n h. h) (count - result) }
     {
         let Some(taken) = self.clock.bytes(part, count) else {
             return 0;
@@ -270,12 +270,12 @@ impl Registers {
     }
 
     /// Takes the last bytes of a payload word, and then the word. Says how many bytes are left.
-    fn word(&mut self, part: &Part, target: Target, word: u32, count: usize) -> usize
+    fn take_word(&mut self, part: &Part, target: Target, word: u32, count: usize) -> usize
         requires may_take { MayTakeWords part.now self.old }
         ensures left { LeavesBytes count result self.new }
         ensures takes_some { 0 < count → result < count }
         ensures leaves { LeavesDue (change_of part.now self.old self.new) }
-        ensures enters { EntersIf (0 < count) (change_of part.now self.old self.new)
+        ensures enters { EntersHistoryIf (0 < count) (change_of part.now self.old self.new)
             (up_to_stop (registers_in self.new) (word_entered (target_number target) word count) (count - result)) (count - result) }
     {
         let left = self.take_bytes(part, count);
@@ -304,11 +304,11 @@ impl Registers {
 
     /// Takes frame data or copies at once, on a device whose IDCODE was written: the words before the first that is
     /// refused or in which the watchdog fires. Says how many bytes these are.
-    fn frame_words(&mut self, part: &Part, reg: Reg, bytes: &[u8]) -> usize
+    fn take_frame_words(&mut self, part: &Part, reg: Reg, bytes: &[u8]) -> usize
         requires may_take { MayTakeWords part.now self.old }
         requires register { TakesWords reg }
         requires has_idcode { self.old.progress.has_idcode ≡ true }
-        ensures { TookFirst (change_of part.now self.old self.new) (number_of reg) bytes.now result }
+        ensures { TookFirstWords (change_of part.now self.old self.new) (number_of reg) bytes.now result }
     {
         let settings = self.settings();
         let before = self.clock.before_firing(part, bytes.len()) / WORD_BYTES * WORD_BYTES;
@@ -325,18 +325,20 @@ impl Registers {
     }
 
     /// Takes those of a payload's words that can be taken at once, and says how many bytes these are.
-    fn words_at_once(&mut self, part: &Part, reg: Reg, bytes: &[u8]) -> usize
+    fn take_words_at_once(&mut self, part: &Part, reg: Reg, bytes: &[u8]) -> usize
         requires may_take { MayTakeWords part.now self.old }
-        ensures { TookFirst (change_of part.now self.old self.new) (number_of reg) bytes.now result }
+        ensures { TookFirstWords (change_of part.now self.old self.new) (number_of reg) bytes.now result }
     {
         match reg {
-            Reg::Fdri | Reg::Mfwr if self.progress.has_idcode => self.frame_words(part, reg, bytes),
+            Reg::Fdri | Reg::Mfwr if self.progress.has_idcode => self.take_frame_words(
+                part, reg, bytes,
+            ),
             _ => 0,
         }
     }
 
     /// Takes payload words one by one up to a byte that stops the device, and says how many bytes these are.
-    fn words_one_by_one(&mut self, part: &Part, reg: Reg, bytes: &[u8]) -> usize
+    fn take_words_one_by_one(&mut self, part: &Part, reg: Reg, bytes: &[u8]) -> usize
         requires may_take { MayTakeWords part.now self.old }
         requires whole { AreWholeWords bytes.now }
         ensures { TookWords (change_of part.now self.old self.new) (number_of reg) bytes.now result }
@@ -344,7 +346,7 @@ impl Registers {
         let (words, _) = bytes.as_chunks::<4>();
         let mut taken = 0;
         for word in words {
-            let left = self.word(part, Target::Effective(reg), word_of(*word), WORD_BYTES);
+            let left = self.take_word(part, Target::Effective(reg), word_of(*word), WORD_BYTES);
             taken += WORD_BYTES - left;
             if self.stop.is_some() {
                 return taken;
@@ -355,15 +357,15 @@ impl Registers {
 
     /// Takes the payload words of a packet up to a byte that stops the device, and says how many bytes these are.
     #[inline(always)]
-    fn body(&mut self, part: &Part, target: Target, bytes: &[u8]) -> usize
+    fn take_body(&mut self, part: &Part, target: Target, bytes: &[u8]) -> usize
         requires may_take { MayTakeWords part.now self.old }
         requires whole { AreWholeWords bytes.now }
         ensures { TookWords (change_of part.now self.old self.new) (target_number target) bytes.now result }
     {
         match target {
             Target::Effective(reg) => {
-                let taken = self.words_at_once(part, reg, bytes);
-                taken + self.words_one_by_one(part, reg, &bytes[taken..])
+                let taken = self.take_words_at_once(part, reg, bytes);
+                taken + self.take_words_one_by_one(part, reg, &bytes[taken..])
             }
             Target::Plain(plain) => self.pass_all(part, plain, bytes),
         }
@@ -375,7 +377,7 @@ impl Registers {
         requires header { IsHeaderStep step }
         ensures none_due_at_stop { HasNoneDueAtStop part.now self.new }
         ensures counts { (n : ℕ) → counted_in self.new.stop n ≡ n }
-        ensures enters { EntersAt (change_of part.now self.old self.new) (λ place h. entered place step h) }
+        ensures enters { EntersHistoryAt (change_of part.now self.old self.new) (λ place h. entered place step h) }
         ensures reads { OfHistory part.now (registers_in self.old) (λ kept h place. AreRead part.now kept h (entered place step h) self.new.due) }
     {
         match step {
@@ -387,12 +389,12 @@ impl Registers {
 
     /// Takes the last bytes of a word in a header's place, and then the word. Says how many bytes are left.
     #[inline(always)]
-    fn header(&mut self, part: &Part, step: Step, count: usize) -> usize
+    fn take_header(&mut self, part: &Part, step: Step, count: usize) -> usize
         requires may_take { MayTakeWords part.now self.old }
         requires header { IsHeaderStep step }
         ensures left { LeavesBytes count result self.new }
         ensures none_due_at_stop { HasNoneDueAtStop part.now self.new }
-        ensures enters { EntersIf (0 < count) (change_of part.now self.old self.new)
+        ensures enters { EntersHistoryIf (0 < count) (change_of part.now self.old self.new)
             (up_to_stop (registers_in self.new) (step_entered step count) (count - result)) (count - result) }
         ensures reads { ReadsIf (0 < count) (change_of part.now self.old self.new) (up_to_stop (registers_in self.new) (step_entered step count) (count - result)) }
     {
@@ -407,10 +409,10 @@ impl Registers {
     /// Takes a run of a stream, `count` bytes of which are new, up to the byte that stops the device.
     /// Says how many of the last bytes are left.
     #[inline(always)]
-    pub(crate) fn run(&mut self, part: &Part, run: Cut<'_>, count: usize) -> usize
+    pub(crate) fn take_run(&mut self, part: &Part, run: Cut<'_>, count: usize) -> usize
         requires may_take { MayTakeWords part.now self.old }
         requires run { IsRun run }
-        requires holds { HoldsRun run count }
+        requires holds { RunLiesWithin run count }
         ensures left { LeavesBytes count result self.new }
         ensures no_word_due { HasNoWord run.entry → due_count self.new.due ≡ 0 }
         ensures none_due_at_stop { HasNoneDueAtStop part.now self.new }
@@ -421,10 +423,15 @@ impl Registers {
             Cut::Need => self.take_bytes(part, count),
             Cut::Skip(_) => self.take_bytes(part, count),
             Cut::Sync => self.take_bytes(part, count),
-            Cut::Head(_, step) => self.header(part, step, count),
-            Cut::Word(register, word) => self.word(part, Target::numbered(register), word, count),
+            Cut::Head(_, step) => self.take_header(part, step, count),
+            Cut::Word(register, word) => self.take_word(
+                part,
+                Target::numbered(register),
+                word,
+                count,
+            ),
             Cut::Body(register, bytes) => bytes.len()
-                - self.body(part, Target::numbered(register), bytes),
+                - self.take_body(part, Target::numbered(register), bytes),
         }
     }
 }

@@ -15,7 +15,7 @@ use crate::kept::ON_THE_BENCH;
 use crate::progress::Progress;
 use crate::registers::Registers;
 use crate::stop::StopCause;
-use crate::words::Words;
+use crate::words::LastWords;
 use x7_part::Part;
 use x7_pipeline::Saved;
 use x7_regs::{Attempt, Kind};
@@ -23,7 +23,7 @@ use x7_regs::{Attempt, Kind};
 /// All that the registers of a device store, except their frames.
 #[derive(Clone, Copy)]
 pub(crate) struct SavedRegisters {
-    pub(crate) words: Words,
+    pub(crate) words: LastWords,
     pub(crate) controls: Controls,
     pub(crate) progress: Progress,
     // what began the boot attempt
@@ -44,7 +44,7 @@ impl SavedRegisters {
         ensures going { result.stop ≡ None }
     {
         SavedRegisters {
-            words: Words::new(&ON_THE_BENCH),
+            words: LastWords::new(&ON_THE_BENCH),
             controls: Controls::new(),
             progress: Progress::new(),
             kind: Kind::Bench,

@@ -11,39 +11,33 @@ use crate::kept::Kept;
 use x7_regs::Reg;
 use x7_words::word_of;
 
-/// The number of WBSTAR, which a reset keeps.
-const WBSTAR: usize = 16;
-
-/// The number of TIMER, which a reset keeps.
-const TIMER: usize = 17;
-
-/// The number of BSPI, which a reset keeps.
-const BSPI: usize = 31;
-
 /// The last word written to each register number; where none was, what the reset kept, or 0.
 #[derive(Clone, Copy)]
-pub(crate) struct Words {
+pub(crate) struct LastWords {
     last: [u32; 32],
 }
 
-impl Words {
+impl LastWords {
     ghost use Rattle.x7_engine.specs.Standing.{AreLastWords};
 
     /// Words that are all 0.
-    fn zero() -> Words
+    fn zero() -> LastWords
         ensures { (register : ℕ) → register < reg_number_count → slice_index result.last register ≡ 0 }
     {
-        Words { last: [0; 32] }
+        LastWords { last: [0; 32] }
     }
 
     /// The last words of a device that took nothing, with what the reset kept.
-    pub(crate) fn new(kept: &Kept) -> Words
+    pub(crate) fn new(kept: &Kept) -> LastWords
         ensures { AreLastWords kept.now result.last [] }
     {
-        let mut words = Words::zero();
-        words.last[BSPI] = kept.bspi;
-        words.last[TIMER] = kept.timer;
-        words.last[WBSTAR] = kept.wbstar;
+        let bspi = Reg::Bspi.number() as usize;
+        let timer = Reg::Timer.number() as usize;
+        let wbstar = Reg::Wbstar.number() as usize;
+        let mut words = LastWords::zero();
+        words.last[bspi] = kept.bspi;
+        words.last[timer] = kept.timer;
+        words.last[wbstar] = kept.wbstar;
         words
     }
 

@@ -10,7 +10,7 @@ use Rattle.x7_part.specs.Part.{PartData}
 use Rattle.x7_engine.specs.declared.fed.Fed.{Fed}
 use Rattle.x7_engine.specs.declared.fed.Fed.TheVariants as fed
 use Rattle.x7_engine.specs.Kept.{on_the_bench}
-use Rattle.x7_engine.specs.Past.{Answers, past_of}
+use Rattle.x7_engine.specs.Past.{AnswersAt, past_of}
 use Rattle.x7_engine.specs.ReadBuffer.{HoldsWithinMost, ReadBufState, no_room, with_words}
 use Rattle.x7_engine.specs.Standing.{DeviceStandsFor, DeviceState, NoWordDue, taken_in}
 use Rattle.x7_engine.specs.State.{reads_of, stop_in}
@@ -144,7 +144,7 @@ module _ (part : PartData) (k : QueueState) (d e : DeviceState) (q : Queue) (pie
 
   given_by_is : (f : Fed) (read : ReadBufState) → (s : QueueStandsFor part k d q) → k.bits_left ≡ 0 → AreBytes piece → taken_in (length piece) f ≤ length piece
       → DeviceStandsFor part on_the_bench false e (s.holds.bytes ++ take (taken_in (length piece) f) piece)
-      → Answers (past_of part on_the_bench false (s.holds.bytes ++ take (taken_in (length piece) f) piece)) e read f
+      → AnswersAt (past_of part on_the_bench false (s.holds.bytes ++ take (taken_in (length piece) f) piece)) e read f
       → words_taken part e (s.holds.bytes ++ take (taken_in (length piece) f) piece) ≡ words_taken part d s.holds.bytes
       → RoomBefore (record { part = part; kept = on_the_bench; wrapped = false; bytes = s.holds.bytes }) piece (taken_in (length piece) f) (words_taken part d s.holds.bytes) no_room
       → (IsSome (stop_in part on_the_bench s.holds.bytes) → taken_in (length piece) f ≡ 0) → Given part k d e q piece (given_by f (length piece))
@@ -163,7 +163,7 @@ none_got (w ∷ words) read e f =
 -- a piece is given, and then the word that it reads out is taken
 pub gives : (part : PartData) (k n : QueueState) (d e g : DeviceState) (q : Queue) (piece : List ℕ) (read : ReadBufState) (f : Fed) (count : ℕ) → (s : QueueStandsFor part k d q) → k.bits_left ≡ 0 → AreBytes piece → taken_in (length piece) f ≤ length piece
     → DeviceStandsFor part on_the_bench false e (s.holds.bytes ++ take (taken_in (length piece) f) piece)
-    → Answers (past_of part on_the_bench false (s.holds.bytes ++ take (taken_in (length piece) f) piece)) e read f
+    → AnswersAt (past_of part on_the_bench false (s.holds.bytes ++ take (taken_in (length piece) f) piece)) e read f
     → words_taken part e (s.holds.bytes ++ take (taken_in (length piece) f) piece) ≡ words_taken part d s.holds.bytes
     → RoomBefore (record { part = part; kept = on_the_bench; wrapped = false; bytes = s.holds.bytes }) piece (taken_in (length piece) f) (words_taken part d s.holds.bytes) no_room
     → (IsSome (stop_in part on_the_bench s.holds.bytes) → (e ≡ d) × (taken_in (length piece) f ≡ 0)) → count ≡ given_by f (length piece)

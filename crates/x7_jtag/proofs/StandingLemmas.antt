@@ -11,7 +11,7 @@ use Rattle.x7_engine.specs.declared.fed.Fed.{Fed}
 use Rattle.x7_engine.specs.Kept.{on_the_bench}
 use Rattle.x7_engine.specs.ReadBuffer.{HoldsWithinMost, IsFull, IsFullBy, ReadBufState}
 use Rattle.x7_engine.specs.ReadBuffer.{with_words as read_with}
-use Rattle.x7_engine.specs.Past.{Answers, past_of}
+use Rattle.x7_engine.specs.Past.{AnswersAt, past_of}
 use Rattle.x7_engine.specs.Standing.{DeviceStandsFor, DeviceState, NoWordDue, due_count, taken_in, words_still_due}
 use Rattle.x7_engine.specs.State.{history_taken, reads_of, stop_in}
 use Rattle.x7_engine.proofs.FrameLemmas.{length_left}
@@ -125,7 +125,7 @@ turn_given part k n d e q x z s t = turn_by part n e q x false (none_waits part 
 fed_by : (part : PartData) (k n : QueueState) (d e : DeviceState) (given held piece more : List ℕ) (out : ℕ) (read : ReadBufState) (f : Fed) → (h : QueueHolds part k d (queue_of given held out)) → k.bits_left ≡ 0 → AreBytes piece → length piece ≤ 1
     → (0 < length piece → NoWordDue d) → taken_in (length piece) f ≤ length piece
     → DeviceStandsFor part on_the_bench false e (h.bytes ++ take (taken_in (length piece) f) piece)
-    → Answers (past_of part on_the_bench false (h.bytes ++ take (taken_in (length piece) f) piece)) e read f
+    → AnswersAt (past_of part on_the_bench false (h.bytes ++ take (taken_in (length piece) f) piece)) e read f
     → words_taken part e (h.bytes ++ take (taken_in (length piece) f) piece) ≡ words_taken part d h.bytes ++ more
     → (IsSome (stop_in part on_the_bench h.bytes) → taken_in (length piece) f ≡ 0)
     → read ≡ record { most = Some 1; words = more } → length more ≤ 1 → n ≡ with_word_taken k more → QueueStandsFor part n e (queue_of (given ++ piece) held out)
@@ -170,7 +170,7 @@ fed_by part k n d e given held piece (v ∷ u ∷ us) out read f h z fits few no
 pub fed : (part : PartData) (k n : QueueState) (d e : DeviceState) (given held piece words : List ℕ) (out : ℕ) (old read : ReadBufState) (f : Fed) → (h : QueueHolds part k d (queue_of given held out)) → k.bits_left ≡ 0 → AreBytes piece → length piece ≤ 1
     → (0 < length piece → NoWordDue d) → taken_in (length piece) f ≤ length piece
     → DeviceStandsFor part on_the_bench false e (h.bytes ++ take (taken_in (length piece) f) piece)
-    → Answers (past_of part on_the_bench false (h.bytes ++ take (taken_in (length piece) f) piece)) e read f
+    → AnswersAt (past_of part on_the_bench false (h.bytes ++ take (taken_in (length piece) f) piece)) e read f
     → ((more : List ℕ) × (read ≡ read_with old more) × (words_taken part e (h.bytes ++ take (taken_in (length piece) f) piece) ≡ words_taken part d h.bytes ++ more))
     → (IsSome (stop_in part on_the_bench h.bytes) → (e ≡ d) × (read ≡ old) × (taken_in (length piece) f ≡ 0))
     → old ≡ record { most = Some 1; words = [] } → words ≡ read.words → HoldsWithinMost read.most words → n ≡ with_word_taken k words → QueueStandsFor part n e (queue_of (given ++ piece) held out)
@@ -185,7 +185,7 @@ fed part k n d e given held piece words out old read f h z fits few none w stand
 
 pub all_dropped : (part : PartData) (k n : QueueState) (d e : DeviceState) (given held piece : List ℕ) (out : ℕ) (old read : ReadBufState) (f : Fed) → (s : QueueStandsFor part k d (queue_of given held out)) → piece ≡ k.held
     → DeviceStandsFor part on_the_bench false e (s.holds.bytes ++ take (taken_in (length piece) f) piece)
-    → Answers (past_of part on_the_bench false (s.holds.bytes ++ take (taken_in (length piece) f) piece)) e read f
+    → AnswersAt (past_of part on_the_bench false (s.holds.bytes ++ take (taken_in (length piece) f) piece)) e read f
     → ((more : List ℕ) × (read ≡ read_with old more) × (words_taken part e (s.holds.bytes ++ take (taken_in (length piece) f) piece) ≡ words_taken part d s.holds.bytes ++ more))
     → (IsSome (stop_in part on_the_bench s.holds.bytes) → (e ≡ d) × (read ≡ old) × (taken_in (length piece) f ≡ 0))
     → old ≡ record { most = None; words = [] } → n ≡ record { held = []; word = k.word; bits_left = 0 } → QueueStandsFor part n e (queue_of (given ++ held) [] (bits_read (words_read_out part) (given ++ held)))

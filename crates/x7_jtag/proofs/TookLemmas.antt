@@ -10,7 +10,7 @@ use Rattle.x7_engine.specs.declared.fed.Fed.{Fed}
 use Rattle.x7_engine.specs.declared.fed.Fed.TheVariants as fed
 use Rattle.x7_engine.specs.Kept.{on_the_bench}
 use Rattle.x7_engine.specs.ReadBuffer.{IsFull, ReadBufState}
-use Rattle.x7_engine.specs.Past.{Answers, past_of}
+use Rattle.x7_engine.specs.Past.{AnswersAt, past_of}
 use Rattle.x7_engine.specs.Standing.{DeviceState, NoWordDue, due_count, taken_in}
 use Rattle.x7_engine.specs.State.{reads_of, state_of, stop_in}
 use Rattle.x7_engine.specs.Stop.{Stopped}
@@ -99,7 +99,7 @@ taken_few part d bytes =
 -- ---- what a feed of at most one byte came to, by its answer
 
 -- the device has stopped, or took the whole piece; a word that is due has come with its byte
-pub goes_on : (part : PartData) (d e : DeviceState) (bytes piece more : List ℕ) (read : ReadBufState) (f : Fed) → Answers (past_of part on_the_bench false (bytes ++ take (taken_in (length piece) f) piece)) e read f → taken_in (length piece) f ≤ length piece → length piece ≤ 1
+pub goes_on : (part : PartData) (d e : DeviceState) (bytes piece more : List ℕ) (read : ReadBufState) (f : Fed) → AnswersAt (past_of part on_the_bench false (bytes ++ take (taken_in (length piece) f) piece)) e read f → taken_in (length piece) f ≤ length piece → length piece ≤ 1
     → (0 < length piece → NoWordDue d) → (IsFull read → length more ≡ 1) → words_taken part e (bytes ++ take (taken_in (length piece) f) piece) ≡ words_taken part d bytes ++ more
     → IsSome (stop_in part on_the_bench (bytes ++ take (taken_in (length piece) f) piece)) ⊎ (taken_in (length piece) f ≡ length piece)
 goes_on part d e bytes piece more read fed.All a w l z full grown = inr refl
@@ -121,14 +121,14 @@ goes_on part d e bytes (x ∷ xs) more read (fed.ReadFull n) a w l z full grown 
     by (suc m) g = omega (arith, g, w, l)
 
 -- where the device gave no word none is due
-pub none_given : (part : PartData) (e : DeviceState) (bytes piece : List ℕ) (read : ReadBufState) (f : Fed) → Answers (past_of part on_the_bench false (bytes ++ take (taken_in (length piece) f) piece)) e read f → (IsFull read → ⊥) → NoWordDue e
+pub none_given : (part : PartData) (e : DeviceState) (bytes piece : List ℕ) (read : ReadBufState) (f : Fed) → AnswersAt (past_of part on_the_bench false (bytes ++ take (taken_in (length piece) f) piece)) e read f → (IsFull read → ⊥) → NoWordDue e
 none_given part e bytes piece read fed.All a full = a.1
 none_given part e bytes piece read (fed.Stopped n) a full = a.2
 none_given part e bytes piece read (fed.Iprog n) a full = a.1
 none_given part e bytes piece read (fed.ReadFull n) a full = absurd (full a.2)
 
 -- a piece for a buffer that drops words
-pub goes_on_dropping : (part : PartData) (e : DeviceState) (bytes piece : List ℕ) (read : ReadBufState) (f : Fed) → Answers (past_of part on_the_bench false (bytes ++ take (taken_in (length piece) f) piece)) e read f → (IsFull read → ⊥)
+pub goes_on_dropping : (part : PartData) (e : DeviceState) (bytes piece : List ℕ) (read : ReadBufState) (f : Fed) → AnswersAt (past_of part on_the_bench false (bytes ++ take (taken_in (length piece) f) piece)) e read f → (IsFull read → ⊥)
     → IsSome (stop_in part on_the_bench (bytes ++ take (taken_in (length piece) f) piece)) ⊎ (taken_in (length piece) f ≡ length piece)
 goes_on_dropping part e bytes piece read fed.All a full = inr refl
 goes_on_dropping part e bytes piece read (fed.Stopped n) a full = inl (ap is_some a.1)

@@ -11,7 +11,7 @@ use Rattle.x7_engine.specs.declared.fed.Fed.{Fed}
 use Rattle.x7_engine.specs.declared.fed.Fed.TheVariants as fed
 use Rattle.x7_engine.specs.Kept.{on_the_bench}
 use Rattle.x7_engine.specs.ReadBuffer.{ReadBufState}
-use Rattle.x7_engine.specs.Past.{Answers, past_of}
+use Rattle.x7_engine.specs.Past.{AnswersAt, past_of}
 use Rattle.x7_engine.specs.Standing.{CanBeGiven, DeviceState, DeviceStandsFor, NoWordDue, taken_in, reads_given, words_still_due}
 use Rattle.x7_engine.specs.State.{history_taken, reads_of, stop_in}
 use Rattle.x7_engine.specs.Stop.{Stopped}
@@ -20,7 +20,7 @@ use Rattle.x7_engine.proofs.FrameLemmas.{length_left}
 use Rattle.x7_engine.proofs.ReadsLemmas.{reads_grow}
 use Rattle.x7_engine.proofs.StateLemmas.{stop_is_final_stop}
 use Rattle.x7_forms.specs.Known.{reads_limit}
-use Rattle.x7_playing.specs.Playing.{HasPlayed, HasPlayedBy, MayPlay, PlayState, Plays, PlaysOn, ReadsOver}
+use Rattle.x7_playing.specs.Playing.{HasPlayed, HasPlayedBy, MayPlay, PlayState, DevicePlayed, PlaysOn, ReadsOver}
 use Rattle.x7_playing.specs.declared.player.Player.{Player}
 use Rattle.x7_playing.proofs.PlayLemmas.{IsPlayed, IsEnd, over_limit, stopped_end}
 
@@ -42,7 +42,7 @@ over_grows part bytes more fits o =
 -- ---- a feed
 
 -- what was taken before and of a piece, and what is left of all
-pub rest_of_turn : (part : PartData) (bytes piece : List ℕ) (n : ℕ) (d : DeviceState) (reads : List ℕ) → (s : Plays part bytes d reads) → (IsSome (stop_in part on_the_bench s.taken) → n ≡ 0) → (rest : List ℕ) × (bytes ++ piece ≡ (s.taken ++ take n piece) ++ rest)
+pub rest_of_turn : (part : PartData) (bytes piece : List ℕ) (n : ℕ) (d : DeviceState) (reads : List ℕ) → (s : DevicePlayed part bytes d reads) → (IsSome (stop_in part on_the_bench s.taken) → n ≡ 0) → (rest : List ℕ) × (bytes ++ piece ≡ (s.taken ++ take n piece) ++ rest)
 rest_of_turn part bytes piece n d reads s still = by s.ends
   where
     by : (s.left ≡ []) ⊎ IsSome (stop_in part on_the_bench s.taken) → (rest : List ℕ) × (bytes ++ piece ≡ (s.taken ++ take n piece) ++ rest)
@@ -56,7 +56,7 @@ rest_of_turn part bytes piece n d reads s still = by s.ends
     )
 
 -- a device that goes on had taken all
-pub went_on : (part : PartData) (bytes piece : List ℕ) (d : DeviceState) (reads : List ℕ) → (s : Plays part bytes d reads) → AreBytes (s.taken ++ piece) → stop_in part on_the_bench (s.taken ++ piece) ≡ None → bytes ≡ s.taken
+pub went_on : (part : PartData) (bytes piece : List ℕ) (d : DeviceState) (reads : List ℕ) → (s : DevicePlayed part bytes d reads) → AreBytes (s.taken ++ piece) → stop_in part on_the_bench (s.taken ++ piece) ≡ None → bytes ≡ s.taken
 went_on part bytes piece d reads s fits none = by s.ends
   where
     by : (s.left ≡ []) ⊎ IsSome (stop_in part on_the_bench s.taken) → bytes ≡ s.taken
@@ -66,12 +66,12 @@ went_on part bytes piece d reads s fits none = by s.ends
         let later = stop_is_final_stop part on_the_bench s.taken piece st.0 fits st.1 in
         absurd (cc)
 
-taken_fit : (part : PartData) (bytes piece : List ℕ) (d : DeviceState) (reads : List ℕ) → (s : Plays part bytes d reads) → AreBytes piece → AreBytes (s.taken ++ piece)
+taken_fit : (part : PartData) (bytes piece : List ℕ) (d : DeviceState) (reads : List ℕ) → (s : DevicePlayed part bytes d reads) → AreBytes piece → AreBytes (s.taken ++ piece)
 taken_fit part bytes piece d reads s fits = all_append (λ b. b < 256) s.taken piece (all_prefix (λ b. b < 256) s.taken s.left (subst (λ x. AreBytes x) s.split s.fits)) fits
 
 -- a feed that waits for room
-pub fed_full : (part : PartData) (bytes piece : List ℕ) (d e : DeviceState) (reads now : List ℕ) → (s : Plays part bytes d reads) → AreBytes piece → DeviceStandsFor part on_the_bench false e (s.taken ++ piece) → stop_in part on_the_bench (s.taken ++ piece) ≡ None
-    → now ≡ reads_given part on_the_bench e (s.taken ++ piece) → length now ≤ reads_limit → Plays part (bytes ++ piece) e now
+pub fed_full : (part : PartData) (bytes piece : List ℕ) (d e : DeviceState) (reads now : List ℕ) → (s : DevicePlayed part bytes d reads) → AreBytes piece → DeviceStandsFor part on_the_bench false e (s.taken ++ piece) → stop_in part on_the_bench (s.taken ++ piece) ≡ None
+    → now ≡ reads_given part on_the_bench e (s.taken ++ piece) → length now ≤ reads_limit → DevicePlayed part (bytes ++ piece) e now
 fed_full part bytes piece d e reads now s fits stands none known few =
     let fit = taken_fit part bytes piece d reads s fits in
     let all = ap (λ b. b ++ piece) (went_on part bytes piece d reads s fit none) in
@@ -86,8 +86,9 @@ fed_full part bytes piece d e reads now s fits stands none known few =
       within_limit = few;
     }
 
-fed_stopped : (part : PartData) (bytes piece : List ℕ) (n : ℕ) (d e : DeviceState) (reads now : List ℕ) → (s : Plays part bytes d reads) → (IsSome (stop_in part on_the_bench s.taken) → n ≡ 0) → AreBytes (bytes ++ piece) → DeviceStandsFor part on_the_bench false e (s.taken ++ take n piece) → (st : Stopped) → stop_in part on_the_bench (s.taken ++ take n piece) ≡ Some st
-    → now ≡ reads_given part on_the_bench e (s.taken ++ take n piece) → length now ≤ reads_limit → Plays part (bytes ++ piece) e now
+fed_stopped : (part : PartData) (bytes piece : List ℕ) (n : ℕ) (d e : DeviceState) (reads now : List ℕ)
+    → (s : DevicePlayed part bytes d reads) → (IsSome (stop_in part on_the_bench s.taken) → n ≡ 0) → AreBytes (bytes ++ piece) → DeviceStandsFor part on_the_bench false e (s.taken ++ take n piece) → (st : Stopped) → stop_in part on_the_bench (s.taken ++ take n piece) ≡ Some st
+    → now ≡ reads_given part on_the_bench e (s.taken ++ take n piece) → length now ≤ reads_limit → DevicePlayed part (bytes ++ piece) e now
 fed_stopped part bytes piece n d e reads now s still fits stands st stop known few =
     let rest = rest_of_turn part bytes piece n d reads s still in
     record {
@@ -102,9 +103,9 @@ fed_stopped part bytes piece n d e reads now s still fits stands st stop known f
     }
 
 -- a feed that ends
-pub fed_end : (part : PartData) (bytes piece : List ℕ) (d e : DeviceState) (read : ReadBufState) (reads now : List ℕ) (f : Fed) → (s : Plays part bytes d reads) → IsEnd f → AreBytes piece → (IsSome (stop_in part on_the_bench s.taken) → taken_in (length piece) f ≡ 0)
-    → DeviceStandsFor part on_the_bench false e (s.taken ++ take (taken_in (length piece) f) piece) → Answers (past_of part on_the_bench false (s.taken ++ take (taken_in (length piece) f) piece)) e read f
-    → now ≡ reads_given part on_the_bench e (s.taken ++ take (taken_in (length piece) f) piece) → length now ≤ reads_limit → Plays part (bytes ++ piece) e now × NoWordDue e
+pub fed_end : (part : PartData) (bytes piece : List ℕ) (d e : DeviceState) (read : ReadBufState) (reads now : List ℕ) (f : Fed) → (s : DevicePlayed part bytes d reads) → IsEnd f → AreBytes piece → (IsSome (stop_in part on_the_bench s.taken) → taken_in (length piece) f ≡ 0)
+    → DeviceStandsFor part on_the_bench false e (s.taken ++ take (taken_in (length piece) f) piece) → AnswersAt (past_of part on_the_bench false (s.taken ++ take (taken_in (length piece) f) piece)) e read f
+    → now ≡ reads_given part on_the_bench e (s.taken ++ take (taken_in (length piece) f) piece) → length now ≤ reads_limit → DevicePlayed part (bytes ++ piece) e now × NoWordDue e
 fed_end part bytes piece d e read reads now (fed.ReadFull n) s end fits still stands answer known few = absurd end
 fed_end part bytes piece d e read reads now (fed.Stopped n) s end fits still stands answer known few =
     (fed_stopped part bytes piece n d e reads now s still (all_append (λ b. b < 256) bytes piece s.fits fits) stands _ answer.1 known few, answer.2)
@@ -120,7 +121,7 @@ fed_end part bytes piece d e read reads now fed.All s end fits still stands answ
 -- ---- the end of a play
 
 -- what was played where no word is due
-pub played_all : (part : PartData) (bytes : List ℕ) (d : DeviceState) (reads : List ℕ) → Plays part bytes d reads → NoWordDue d → IsPlayed part bytes d reads
+pub played_all : (part : PartData) (bytes : List ℕ) (d : DeviceState) (reads : List ℕ) → DevicePlayed part bytes d reads → NoWordDue d → IsPlayed part bytes d reads
 played_all part bytes d reads s due = by s.ends
   where
     by : (s.left ≡ []) ⊎ IsSome (stop_in part on_the_bench s.taken) → IsPlayed part bytes d reads
@@ -143,7 +144,7 @@ played_all part bytes d reads s due = by s.ends
 -- ---- a player
 
 -- a new device took nothing, and no word is due
-pub new_plays : (part : PartData) (d : DeviceState) (reads : List ℕ) → DeviceStandsFor part on_the_bench false d [] → reads ≡ [] → Plays part [] d reads × NoWordDue d
+pub new_plays : (part : PartData) (d : DeviceState) (reads : List ℕ) → DeviceStandsFor part on_the_bench false d [] → reads ≡ [] → DevicePlayed part [] d reads × NoWordDue d
 new_plays part d reads s e =
     let h = history_taken part on_the_bench [] in
     let none : length (reads_of part on_the_bench []) ≡ 0 = refl in
@@ -162,7 +163,7 @@ new_plays part d reads s e =
     )
 
 -- a device that was given these bytes may be given more
-pub may_feed : (part : PartData) (bytes : List ℕ) (d : DeviceState) (reads : List ℕ) (count : ℕ) → Plays part bytes d reads → length bytes + count ≤ taken_bytes_limit → CanBeGiven d count
+pub may_feed : (part : PartData) (bytes : List ℕ) (d : DeviceState) (reads : List ℕ) (count : ℕ) → DevicePlayed part bytes d reads → length bytes + count ≤ taken_bytes_limit → CanBeGiven d count
 may_feed part bytes d reads count s few = omega (arith, few, s.stands.taken_is, ap length s.split, length-append s.taken s.left)
 
 pub may_less : (p : Player) (count fewer : ℕ) → fewer ≤ count → MayPlay p count → MayPlay p fewer
@@ -201,7 +202,7 @@ rest_fits piece at fits = all_back (λ b. b < 256) (take at piece) (drop at piec
 some_fits : (piece : List ℕ) (n : ℕ) → AreBytes piece → AreBytes (take n piece)
 some_fits piece n fits = all_prefix (λ b. b < 256) (take n piece) (drop n piece) (subst (λ x. AreBytes x) (sym (take-append-drop n piece)) fits)
 
-pub turn_over : (part : PartData) (bytes piece : List ℕ) (at n : ℕ) (d e : DeviceState) (reads more : List ℕ) → AreBytes bytes → AreBytes piece → (s : Plays part (bytes ++ take at piece) d reads) → (IsSome (stop_in part on_the_bench s.taken) → n ≡ 0)
+pub turn_over : (part : PartData) (bytes piece : List ℕ) (at n : ℕ) (d e : DeviceState) (reads more : List ℕ) → AreBytes bytes → AreBytes piece → (s : DevicePlayed part (bytes ++ take at piece) d reads) → (IsSome (stop_in part on_the_bench s.taken) → n ≡ 0)
     → reads_given part on_the_bench e (s.taken ++ take n (drop at piece)) ≡ reads_given part on_the_bench d s.taken ++ more → reads_limit < length reads + length more → ReadsOver part (bytes ++ piece)
 turn_over part bytes piece at n d e reads more fb fp s still known many =
     let fits : AreBytes (bytes ++ piece) = all_append (λ b. b < 256) bytes piece fb fp in
@@ -211,22 +212,22 @@ turn_over part bytes piece at n d e reads more fb fp s still known many =
       many = over_limit part e (bytes ++ piece) reads more (s.taken ++ take n (drop at piece)) rest.0 fits (sym (whole_piece bytes piece at) ∙ rest.1) (known ∙ ap (λ x. x ++ more) (sym s.reads_are)) many;
     }
 
-pub turn_full : (part : PartData) (bytes piece : List ℕ) (at n : ℕ) (d e : DeviceState) (reads now more : List ℕ) → AreBytes piece → (s : Plays part (bytes ++ take at piece) d reads) → DeviceStandsFor part on_the_bench false e (s.taken ++ take n (drop at piece))
+pub turn_full : (part : PartData) (bytes piece : List ℕ) (at n : ℕ) (d e : DeviceState) (reads now more : List ℕ) → AreBytes piece → (s : DevicePlayed part (bytes ++ take at piece) d reads) → DeviceStandsFor part on_the_bench false e (s.taken ++ take n (drop at piece))
     → stop_in part on_the_bench (s.taken ++ take n (drop at piece)) ≡ None → reads_given part on_the_bench e (s.taken ++ take n (drop at piece)) ≡ reads_given part on_the_bench d s.taken ++ more → now ≡ reads ++ more → length now ≤ reads_limit
-    → Plays part (bytes ++ take (at + n) piece) e now
+    → DevicePlayed part (bytes ++ take (at + n) piece) e now
 turn_full part bytes piece at n d e reads now more fp s stands none known is few =
     let words : now ≡ reads_given part on_the_bench e (s.taken ++ take n (drop at piece)) = is ∙ ap (λ x. x ++ more) s.reads_are ∙ sym known in
-    subst (λ b. Plays part b e now) (more_piece bytes piece at n)
+    subst (λ b. DevicePlayed part b e now) (more_piece bytes piece at n)
     (fed_full part (bytes ++ take at piece) (take n (drop at piece)) d e reads now s (some_fits (drop at piece) n (rest_fits piece at fp)) stands none words few)
 
-pub turn_end : (part : PartData) (bytes piece : List ℕ) (at : ℕ) (d e : DeviceState) (read : ReadBufState) (reads now more : List ℕ) (f : Fed) → AreBytes piece → (s : Plays part (bytes ++ take at piece) d reads) → IsEnd f
+pub turn_end : (part : PartData) (bytes piece : List ℕ) (at : ℕ) (d e : DeviceState) (read : ReadBufState) (reads now more : List ℕ) (f : Fed) → AreBytes piece → (s : DevicePlayed part (bytes ++ take at piece) d reads) → IsEnd f
     → (IsSome (stop_in part on_the_bench s.taken) → taken_in (length (drop at piece)) f ≡ 0) → DeviceStandsFor part on_the_bench false e (s.taken ++ take (taken_in (length (drop at piece)) f) (drop at piece))
-    → Answers (past_of part on_the_bench false (s.taken ++ take (taken_in (length (drop at piece)) f) (drop at piece))) e read f
+    → AnswersAt (past_of part on_the_bench false (s.taken ++ take (taken_in (length (drop at piece)) f) (drop at piece))) e read f
     → reads_given part on_the_bench e (s.taken ++ take (taken_in (length (drop at piece)) f) (drop at piece)) ≡ reads_given part on_the_bench d s.taken ++ more → now ≡ reads ++ more → length now ≤ reads_limit
-    → Plays part (bytes ++ piece) e now × NoWordDue e
+    → DevicePlayed part (bytes ++ piece) e now × NoWordDue e
 turn_end part bytes piece at d e read reads now more f fp s end still stands answer known is few =
     let words : now ≡ reads_given part on_the_bench e (s.taken ++ take (taken_in (length (drop at piece)) f) (drop at piece)) = is ∙ ap (λ x. x ++ more) s.reads_are ∙ sym known in
-    subst (λ b. Plays part b e now × NoWordDue e) (whole_piece bytes piece at)
+    subst (λ b. DevicePlayed part b e now × NoWordDue e) (whole_piece bytes piece at)
     (fed_end part (bytes ++ take at piece) (drop at piece) d e read reads now f s end (rest_fits piece at fp) still stands answer words few)
 
 -- a player that is over stays so

@@ -1,22 +1,21 @@
 -- What the steps of a play come to. A player is over once its device has read out more words than a play may (this
 -- project's choice).
 use Rattle.std.specs.Prelude.{◌≡◌, ◌+◌, ◌<◌, ◌≤◌, ◌⊎◌, ◌++◌, ℕ, List, [], Some, Bool, true, false, IsSome, length, Result, Ok}
-use Rattle.x7_words.specs.Input.{taken_bytes_limit}
+use Rattle.x7_words.specs.Input.{InputsState, taken_bytes_limit}
 use Rattle.x7_words.specs.Word.{AreBytes}
 use Rattle.x7_part.specs.Part.{PartData}
 use Rattle.x7_engine.specs.Kept.{on_the_bench}
 use Rattle.x7_engine.specs.ReadBuffer.{ReadBufState}
 use Rattle.x7_engine.specs.Standing.{DeviceState, DeviceStandsFor, NoWordDue, reads_given}
 use Rattle.x7_engine.specs.State.{reads_of, stop_in}
+use Rattle.x7_forms.specs.Event.{Event}
 use Rattle.x7_forms.specs.Known.{reads_limit, StreamRead}
 use Rattle.x7_forms.specs.Step.{ReadsStreams}
-use Rattle.x7_words.specs.Input.{InputsState}
-use Rattle.x7_forms.specs.Event.{Event}
 use Rattle.x7_playing.specs.declared.player.Player.{Player}
 
 -- A device was given these bytes, and took all of them, or those up to its stop; `reads` are the words read out,
 -- without those still due, within their limit.
-pub record Plays (part : PartData) (bytes : List ℕ) (d : DeviceState) (reads : List ℕ) : Type 0 where
+pub record DevicePlayed (part : PartData) (bytes : List ℕ) (d : DeviceState) (reads : List ℕ) : Type 0 where
   pub taken : List ℕ
   pub left : List ℕ
   pub split : bytes ≡ taken ++ left
@@ -52,7 +51,7 @@ play_state device buffer reads = record { device = device; buffer = buffer; read
 -- by whether a player is over: it was given these bytes
 abbrev pub HasPlayedBy : Bool → PartData → List ℕ → PlayState → Type 0
 HasPlayedBy true part bytes s = ReadsOver part bytes
-HasPlayedBy false part bytes s = Plays part bytes s.device s.reads × NoWordDue s.device × (s.buffer ≡ empty_buffer)
+HasPlayedBy false part bytes s = DevicePlayed part bytes s.device s.reads × NoWordDue s.device × (s.buffer ≡ empty_buffer)
 
 -- a player with a device of this part was given these bytes; it may be over
 abbrev pub HasPlayed : PartData → List ℕ → Player → Type 0
@@ -75,15 +74,15 @@ pub record OfPrefix (piece : List ℕ) (Holds : List ℕ → Type 0) : Type 0 wh
 
 -- the player's device was given these bytes more; words that they read out may still be due
 abbrev pub PlaysPrefix : Player → Player → List ℕ → Type 0
-PlaysPrefix old new prefix = (part : PartData) (bytes : List ℕ) → HasPlayed part bytes old → Plays part (bytes ++ prefix) new.device new.reads.items
+PlaysPrefix old new prefix = (part : PartData) (bytes : List ℕ) → HasPlayed part bytes old → DevicePlayed part (bytes ++ prefix) new.device new.reads.items
 
 -- the device of a player that was not over was given these bytes more; words that they read out may still be due
 abbrev pub FeedsPrefix : PlayState → PlayState → List ℕ → Type 0
-FeedsPrefix old new prefix = (part : PartData) (bytes : List ℕ) → HasPlayedBy false part bytes old → Plays part (bytes ++ prefix) new.device new.reads
+FeedsPrefix old new prefix = (part : PartData) (bytes : List ℕ) → HasPlayedBy false part bytes old → DevicePlayed part (bytes ++ prefix) new.device new.reads
 
 -- by whether a player is over: with `count` bytes more it was given no more than a device counts
 abbrev pub MayPlayBy : Bool → PlayState → ℕ → Type 0
-MayPlayBy over s count = (part : PartData) × ((bytes : List ℕ) × (HasPlayedBy over part bytes s × (length bytes + count ≤ taken_bytes_limit)))
+MayPlayBy over s count = (part : PartData) × (bytes : List ℕ) × HasPlayedBy over part bytes s × (length bytes + count ≤ taken_bytes_limit)
 
 -- a player may be given `count` bytes more, which with all before are no more than a device counts
 abbrev pub MayPlay : Player → ℕ → Type 0

@@ -32,7 +32,10 @@ joined bs (s ∷ t ∷ u ∷ v ∷ []) n each = absurd (omega arith)
 joined bs (s ∷ t ∷ u ∷ v ∷ w ∷ []) n each = absurd (omega arith)
 joined bs (s ∷ t ∷ u ∷ v ∷ w ∷ x ∷ []) n each = absurd (omega arith)
 joined bs (s ∷ t ∷ u ∷ v ∷ w ∷ x ∷ y ∷ []) n each = absurd (omega arith)
-joined bs (s ∷ t ∷ u ∷ v ∷ w ∷ x ∷ y ∷ z ∷ []) n each = by_fours bs ∙ ap₂ (λ (a b : List ℕ). a ++ b) (each 0 (omega arith)) (ap₂ (λ (a b : List ℕ). a ++ b) (each 1 (omega arith)) (ap₂ (λ (a b : List ℕ). a ++ b) (each 2 (omega arith)) (ap₂ (λ (a b : List ℕ). a ++ b) (each 3 (omega arith)) (ap₂ (λ (a b : List ℕ). a ++ b) (each 4 (omega arith)) (ap₂ (λ (a b : List ℕ). a ++ b) (each 5 (omega arith)) (ap₂ (λ (a b : List ℕ). a ++ b) (each 6 (omega arith)) (ap₂ (λ (a b : List ℕ). a ++ b) (each 7 (omega arith)) refl)))))))
+joined bs (s ∷ t ∷ u ∷ v ∷ w ∷ x ∷ y ∷ z ∷ []) n each =
+    by_fours bs ∙ ap₂ (λ (a b : List ℕ). a ++ b) (each 0 (omega arith)) (ap₂ (λ (a b : List ℕ). a ++ b) (each 1 (omega arith))
+    (ap₂ (λ (a b : List ℕ). a ++ b) (each 2 (omega arith)) (ap₂ (λ (a b : List ℕ). a ++ b) (each 3 (omega arith)) (ap₂ (λ (a b : List ℕ). a ++ b) (each 4 (omega arith))
+    (ap₂ (λ (a b : List ℕ). a ++ b) (each 5 (omega arith)) (ap₂ (λ (a b : List ℕ). a ++ b) (each 6 (omega arith)) (ap₂ (λ (a b : List ℕ). a ++ b) (each 7 (omega arith)) refl)))))))
 joined bs (s ∷ t ∷ u ∷ v ∷ w ∷ x ∷ y ∷ z ∷ more ∷ ws) n each = absurd (omega arith)
 
 byte_at : (ws : List ℕ) (j i : ℕ) → Each1 (λ w. w < 2 ^ 32) ws → i < 4 → 4 * j + i < 32 → get_or (digits_l 256 32 (number_l (2 ^ 32) ws)) (4 * j + i) 0 ≡ get_or ws j 0 / 256 ^ i % 256

@@ -16,11 +16,11 @@ use x7_text::{hex_of_block, hex_of_word, make_room, put, put_number, put_text};
 use x7_words::NoMemory;
 
 /// How many digits a word has.
-const DIGITS_PER_WORD: usize = 8;
+pub(crate) const DIGITS_PER_WORD: usize = 8;
 
 /// How many bytes the line of a frame takes besides the digits of its words: those of `frame `, its address, a blank
 /// and a line end.
-const LINE_SIZE_WITHOUT_WORDS: usize = 16;
+pub(crate) const LINE_SIZE_WITHOUT_WORDS: usize = 16;
 
 /// Appends the digits of a word.
 fn put_word_digits(out: &mut Vec<u8>, word: u32)

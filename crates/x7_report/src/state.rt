@@ -1,6 +1,7 @@
 //! The state of a device as text, appended where room is made first.
 ghost use Rattle.std.specs.Prelude.{◌≡◌, ◌∷◌, ◌++◌, ◌+◌, ◌*◌, length, OnOk, OnErr};
 ghost use Rattle.std.specs.List.{flat_map};
+ghost use Rattle.x7_words.specs.Characters.{space_byte};
 ghost use Rattle.x7_text.specs.Appends.{Appends, HasSpareRoom};
 ghost use Rattle.x7_text.specs.Digits.{hex_word};
 ghost use Rattle.x7_report.specs.State.{end_room, end_text, fault_room, fault_text, line_digit, phase_room, phase_text, reg_line, reg_line_room, reg_text, reg_words, state_text};
@@ -34,7 +35,7 @@ fn put_named_word(out: &mut Vec<u8>, name: &[u8], word: u32)
 /// Appends a name and the digits of two words.
 fn put_named_pair(out: &mut Vec<u8>, name: &[u8], want: u32, got: u32)
     requires { HasSpareRoom out.old (length name.now + 17) }
-    ensures { out.new.items ≡ out.old.items ++ (name.now ++ hex_word want ++ 32 ∷ hex_word got) }
+    ensures { out.new.items ≡ out.old.items ++ (name.now ++ hex_word want ++ space_byte ∷ hex_word got) }
 {
     put(out, name);
     put(out, &hex_of_word(want));
@@ -79,12 +80,12 @@ fn put_end(out: &mut Vec<u8>, end: End)
 /// Appends to `out` where the bytes taken end, without a line end (this project's choice): `searching`, `synced`,
 /// `iprog WBSTAR`, or `fault ` with the kind of fault and its words. Words have eight upper-case hexadecimal digits.
 /// `NoMemory` leaves `out` as it was.
-pub fn end_words(out: &mut Vec<u8>, r: &Regs) -> Result<(), NoMemory>
-    ensures appends { OnOk result (out.new.items ≡ out.old.items ++ end_text r.now.end) }
+pub fn end_words(out: &mut Vec<u8>, regs: &Regs) -> Result<(), NoMemory>
+    ensures appends { OnOk result (out.new.items ≡ out.old.items ++ end_text regs.now.end) }
     ensures unchanged { OnErr result (out.new.items ≡ out.old.items) }
 {
     make_room(out, END_ROOM)?;
-    put_end(out, r.end);
+    put_end(out, regs.end);
     Ok(())
 }
 
@@ -99,50 +100,50 @@ fn put_bit(out: &mut Vec<u8>, name: &[u8], bit: bool)
 
 /// Appends the line of startup.
 #[tactic(auto, unfolding(crate::specs::State::phase_text))]
-fn put_phase(out: &mut Vec<u8>, r: &Regs)
+fn put_phase(out: &mut Vec<u8>, regs: &Regs)
     requires { HasSpareRoom out.old phase_room }
-    ensures { out.new.items ≡ out.old.items ++ phase_text r.now }
+    ensures { out.new.items ≡ out.old.items ++ phase_text regs.now }
 {
     put(out, b"phase ");
-    put_decimal(out, u64::from(r.phase));
-    put_bit(out, b" done ", r.lines.done);
-    put_bit(out, b" gts ", r.lines.gts);
-    put_bit(out, b" gwe ", r.lines.gwe);
+    put_decimal(out, u64::from(regs.phase));
+    put_bit(out, b" done ", regs.lines.done);
+    put_bit(out, b" gts ", regs.lines.gts);
+    put_bit(out, b" gwe ", regs.lines.gwe);
     put(out, b"\n");
 }
 
 /// Appends to `out` the line `phase P done D gts G gwe E` (this project's choice): the phase of startup in decimal, and
 /// DONE, GTS_CFG_B and GWE as 0 or 1. `NoMemory` leaves `out` as it was.
-pub fn phase_line(out: &mut Vec<u8>, r: &Regs) -> Result<(), NoMemory>
-    ensures appends { OnOk result (out.new.items ≡ out.old.items ++ phase_text r.now) }
+pub fn phase_line(out: &mut Vec<u8>, regs: &Regs) -> Result<(), NoMemory>
+    ensures appends { OnOk result (out.new.items ≡ out.old.items ++ phase_text regs.now) }
     ensures unchanged { OnErr result (out.new.items ≡ out.old.items) }
 {
     make_room(out, PHASE_ROOM)?;
-    put_phase(out, r);
+    put_phase(out, regs);
     Ok(())
 }
 
 /// The registers in the order of their numbers, each with its word.
 #[rattlefmt::skip]
-fn rows_of(r: &Regs) -> [(Reg, u32); REG_LINES]
-    ensures { result ≡ reg_words r.now }
+fn rows_of(regs: &Regs) -> [(Reg, u32); REG_LINES]
+    ensures { result ≡ reg_words regs.now }
 {
     [
-        (Reg::Crc,     r.crc),
-        (Reg::Far,     r.far),
-        (Reg::Cmd,     r.cmd),
-        (Reg::Ctl0,    r.ctl0),
-        (Reg::Mask,    r.mask),
-        (Reg::Stat,    r.stat),
-        (Reg::Cor0,    r.cor0),
-        (Reg::Idcode,  r.idcode),
-        (Reg::Axss,    r.axss),
-        (Reg::Cor1,    r.cor1),
-        (Reg::Wbstar,  r.wbstar),
-        (Reg::Timer,   r.timer),
-        (Reg::Bootsts, r.bootsts),
-        (Reg::Ctl1,    r.ctl1),
-        (Reg::Bspi,    r.bspi),
+        (Reg::Crc,     regs.crc),
+        (Reg::Far,     regs.far),
+        (Reg::Cmd,     regs.cmd),
+        (Reg::Ctl0,    regs.ctl0),
+        (Reg::Mask,    regs.mask),
+        (Reg::Stat,    regs.stat),
+        (Reg::Cor0,    regs.cor0),
+        (Reg::Idcode,  regs.idcode),
+        (Reg::Axss,    regs.axss),
+        (Reg::Cor1,    regs.cor1),
+        (Reg::Wbstar,  regs.wbstar),
+        (Reg::Timer,   regs.timer),
+        (Reg::Bootsts, regs.bootsts),
+        (Reg::Ctl1,    regs.ctl1),
+        (Reg::Bspi,    regs.bspi),
     ]
 }
 
@@ -172,12 +173,12 @@ fn put_rows(out: &mut Vec<u8>, rows: &[(Reg, u32)])
 /// Appends to `out` the fifteen lines `reg NAME WORD` of the registers, from CRC to BSPI in the order of their numbers
 /// (this project's choice). Words have eight upper-case hexadecimal digits. `NoMemory` leaves `out` as it was.
 #[tactic(auto, unfolding(crate::specs::State::reg_text))]
-pub fn reg_lines(out: &mut Vec<u8>, r: &Regs) -> Result<(), NoMemory>
-    ensures appends { OnOk result (out.new.items ≡ out.old.items ++ reg_text r.now) }
+pub fn reg_lines(out: &mut Vec<u8>, regs: &Regs) -> Result<(), NoMemory>
+    ensures appends { OnOk result (out.new.items ≡ out.old.items ++ reg_text regs.now) }
     ensures unchanged { OnErr result (out.new.items ≡ out.old.items) }
 {
     make_room(out, REG_LINES * REG_LINE_ROOM)?;
-    put_rows(out, &rows_of(r));
+    put_rows(out, &rows_of(regs));
     Ok(())
 }
 

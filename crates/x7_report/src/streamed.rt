@@ -8,21 +8,21 @@ ghost use Rattle.x7_engine.specs.Standing.{NoWordDue};
 ghost use Rattle.x7_report.specs.Frames.{frame_line_room, frame_text_if, room_at_once, frame_lines_text};
 ghost use Rattle.x7_report.specs.Reports.{report_text, state_reported};
 
-use crate::frames::{put_frame, shown_frames};
+use crate::frames::{DIGITS_PER_WORD, LINE_SIZE_WITHOUT_WORDS, put_frame, shown_frames};
 use crate::reports::report_head;
 use std::alloc::Global;
 use std::marker::Model;
 use x7_engine::Device;
 use x7_memory::Memory;
-use x7_part::Part;
+use x7_part::{MOST_FRAME_WORDS, Part};
 use x7_words::{Failed, NoMemory, Sink, write_all};
 
 /// How many lines of frames are written at once.
 const LINES_AT_ONCE: usize = 128;
 
-/// The most bytes that the line of a frame takes: eight digits for each of its words, and 16 bytes for its name, its
-/// address, a blank and a line end.
-const FRAME_LINE_ROOM: usize = 16 + 8 * x7_part::MOST_FRAME_WORDS as usize;
+/// The most bytes that the line of a frame takes.
+const FRAME_LINE_ROOM: usize = LINE_SIZE_WITHOUT_WORDS
+    + DIGITS_PER_WORD * MOST_FRAME_WORDS as usize;
 
 /// The most bytes that the lines written at once take.
 const ROOM_AT_ONCE: usize = LINES_AT_ONCE * FRAME_LINE_ROOM;
@@ -113,8 +113,10 @@ impl PlayText {
         reads: &[u32],
         stopped: bool,
     ) -> Result<PlayText, NoMemory>
-        ensures value { IfOk result (λ text. OfPast device (λ p. NoWordDue device → text ≡ record { stopped = stopped; text = report_text p.part (state_at p) reads.now (memory_at p) })) }
-        ensures owing { IfOk result (λ text. OfPast device (λ p. text ≡ record { stopped = stopped; text = report_text p.part (state_reported device p) reads.now (memory_at p) })) }
+        ensures value { IfOk result (λ text. OfPast device (λ p. NoWordDue device
+            → text ≡ record { stopped = stopped; text = report_text p.part (state_at p) reads.now (memory_at p) })) }
+        ensures owing { IfOk result (λ text. OfPast device (λ p.
+            text ≡ record { stopped = stopped; text = report_text p.part (state_reported device p) reads.now (memory_at p) })) }
     {
         let fars = shown_frames(alloc, device.part(), device.memory())?;
         let head = report_head(alloc, &device, reads, fars.len())?;

@@ -4,23 +4,23 @@ use Rattle.std.proofs.Math.Nat.{zero-add}
 use Rattle.std.specs.Bool.{then_some}
 use Rattle.std.specs.Option.{option_or}
 use Rattle.x7_startup.specs.Phases.{wait_of, IsPhase, tick_limit}
-use Rattle.x7_startup.specs.Startup.{IsPhaseOf, Call, Arm, Desync, Byte, DropBack, StartupProgress, NotBegun, Begun, has_shutdown, since_shutdown, bytes_among, is_armed, progress_from, progress_of, Stored, StoresAt, StandsForCalls}
+use Rattle.x7_startup.specs.Startup.{IsPhaseOf, Call, Arm, Desync, Byte, DropBack, StartupProgress, NotBegun, Begun, has_shutdown, since_shutdown, bytes_among, is_armed, progress_from, progress_of, StartupState, StoresAt, StandsForCalls}
 use Rattle.x7_startup.specs.Ticks.{PassesTicks, reached}
 use Rattle.x7_startup.proofs.PhaseLemmas.{phase_first, phase_rises, one_phase}
 
-has_taking_push : (calls t : List Call) → has_shutdown t ≡ false → has_shutdown (calls ++ t) ≡ has_shutdown calls
-has_taking_push [] t h = h
-has_taking_push (Arm ∷ calls) t h = has_taking_push calls t h
-has_taking_push (Desync c ∷ calls) t h = has_taking_push calls t h
-has_taking_push (Byte ∷ calls) t h = has_taking_push calls t h
-has_taking_push (DropBack ∷ calls) t h = refl
+has_shutdown_push : (calls t : List Call) → has_shutdown t ≡ false → has_shutdown (calls ++ t) ≡ has_shutdown calls
+has_shutdown_push [] t h = h
+has_shutdown_push (Arm ∷ calls) t h = has_shutdown_push calls t h
+has_shutdown_push (Desync c ∷ calls) t h = has_shutdown_push calls t h
+has_shutdown_push (Byte ∷ calls) t h = has_shutdown_push calls t h
+has_shutdown_push (DropBack ∷ calls) t h = refl
 
-has_taking_last : (calls : List Call) → has_shutdown (calls ++ DropBack ∷ []) ≡ true
-has_taking_last [] = refl
-has_taking_last (Arm ∷ calls) = has_taking_last calls
-has_taking_last (Desync c ∷ calls) = has_taking_last calls
-has_taking_last (Byte ∷ calls) = has_taking_last calls
-has_taking_last (DropBack ∷ calls) = refl
+has_shutdown_last : (calls : List Call) → has_shutdown (calls ++ DropBack ∷ []) ≡ true
+has_shutdown_last [] = refl
+has_shutdown_last (Arm ∷ calls) = has_shutdown_last calls
+has_shutdown_last (Desync c ∷ calls) = has_shutdown_last calls
+has_shutdown_last (Byte ∷ calls) = has_shutdown_last calls
+has_shutdown_last (DropBack ∷ calls) = refl
 
 since_none : (t : List Call) → has_shutdown t ≡ false → since_shutdown t ≡ t
 since_none [] h = refl
@@ -33,12 +33,12 @@ choice false x y z = refl
 pub since_push : (calls t : List Call) → has_shutdown t ≡ false → since_shutdown (calls ++ t) ≡ since_shutdown calls ++ t
 since_push [] t h = since_none t h
 since_push (c ∷ calls) t h =
-    rw (has_taking_push (c ∷ calls) t h, since_push calls t h)
+    rw (has_shutdown_push (c ∷ calls) t h, since_push calls t h)
     (choice (has_shutdown (c ∷ calls)) (since_shutdown calls) (c ∷ calls) t)
 
 pub since_last : (calls : List Call) → since_shutdown (calls ++ DropBack ∷ []) ≡ []
 since_last [] = refl
-since_last (c ∷ calls) = rw (has_taking_last (c ∷ calls)) (since_last calls)
+since_last (c ∷ calls) = rw (has_shutdown_last (c ∷ calls)) (since_last calls)
 
 pub armed_arm : (a : Bool) (calls : List Call) → is_armed a (calls ++ Arm ∷ []) ≡ true
 armed_arm a [] = refl
@@ -124,12 +124,12 @@ start_arm true (DropBack ∷ calls) = start_arm true calls
 start_arm false (DropBack ∷ calls) = start_arm false calls
 
 -- the progress after a DESYNC
-abbrev pub first_place : StartupProgress → Bool → ℕ → StartupProgress
-first_place (Begun cor0 bytes) armed d = Begun cor0 bytes
-first_place NotBegun true d = Begun d 0
-first_place NotBegun false d = NotBegun
+abbrev pub progress_after_desync : StartupProgress → Bool → ℕ → StartupProgress
+progress_after_desync (Begun cor0 bytes) armed d = Begun cor0 bytes
+progress_after_desync NotBegun true d = Begun d 0
+progress_after_desync NotBegun false d = NotBegun
 
-pub start_desync : (a : Bool) (calls : List Call) (d : ℕ) → progress_from a (calls ++ Desync d ∷ []) ≡ first_place (progress_from a calls) (is_armed a calls) d
+pub start_desync : (a : Bool) (calls : List Call) (d : ℕ) → progress_from a (calls ++ Desync d ∷ []) ≡ progress_after_desync (progress_from a calls) (is_armed a calls) d
 start_desync true [] d = refl
 start_desync false [] d = refl
 start_desync true (Arm ∷ calls) d = start_desync true calls d
@@ -143,10 +143,10 @@ start_desync false (DropBack ∷ calls) d = start_desync false calls d
 
 -- ---- what a call leaves
 
-armed_so : (lock_ticks match_ticks : ℕ) (s : Stored) (armed : Bool) (progress : StartupProgress) → StoresAt lock_ticks match_ticks s progress → StoresAt lock_ticks match_ticks (record s { armed = armed }) progress
+armed_so : (lock_ticks match_ticks : ℕ) (s : StartupState) (armed : Bool) (progress : StartupProgress) → StoresAt lock_ticks match_ticks s progress → StoresAt lock_ticks match_ticks (record s { armed = armed }) progress
 armed_so lock_ticks match_ticks s armed progress h = record { begun_with_is = h.begun_with_is; tick_bytes_are = h.tick_bytes_are; ticks_are = h.ticks_are; phase_is = h.phase_is }
 
-pub arm_stands : (lock_ticks match_ticks : ℕ) (s : Stored) (calls : List Call) → StandsForCalls lock_ticks match_ticks s calls →
+pub arm_stands : (lock_ticks match_ticks : ℕ) (s : StartupState) (calls : List Call) → StandsForCalls lock_ticks match_ticks s calls →
     StandsForCalls lock_ticks match_ticks (record s { armed = true }) (calls ++ Arm ∷ [])
 arm_stands lock_ticks match_ticks s calls h =
     let e = since_push calls (Arm ∷ []) refl in
@@ -164,8 +164,8 @@ drop_stands lock_ticks match_ticks calls =
       stores = rw e record { begun_with_is = refl; tick_bytes_are = refl; ticks_are = refl; phase_is = refl };
     }
 
-desync_stores : (lock_ticks match_ticks : ℕ) (s : Stored) (progress : StartupProgress) (armed : Bool) (d : ℕ) → StoresAt lock_ticks match_ticks s progress →
-    StoresAt lock_ticks match_ticks (record s { armed = false; begun_with = option_or s.begun_with (then_some armed d) }) (first_place progress armed d)
+desync_stores : (lock_ticks match_ticks : ℕ) (s : StartupState) (progress : StartupProgress) (armed : Bool) (d : ℕ) → StoresAt lock_ticks match_ticks s progress →
+    StoresAt lock_ticks match_ticks (record s { armed = false; begun_with = option_or s.begun_with (then_some armed d) }) (progress_after_desync progress armed d)
 desync_stores lock_ticks match_ticks s NotBegun true d h =
     let none : s.begun_with ≡ None = h.begun_with_is in
     let first : s.phase ≡ 0 = h.phase_is in
@@ -182,7 +182,7 @@ desync_stores lock_ticks match_ticks s (Begun cor0 bytes) armed d h =
     let some : s.begun_with ≡ Some cor0 = h.begun_with_is in
     record { begun_with_is = rw some refl; tick_bytes_are = h.tick_bytes_are; ticks_are = h.ticks_are; phase_is = h.phase_is }
 
-pub desync_stands : (lock_ticks match_ticks : ℕ) (s : Stored) (calls : List Call) (d : ℕ) → StandsForCalls lock_ticks match_ticks s calls →
+pub desync_stands : (lock_ticks match_ticks : ℕ) (s : StartupState) (calls : List Call) (d : ℕ) → StandsForCalls lock_ticks match_ticks s calls →
     StandsForCalls lock_ticks match_ticks (record s { armed = false; begun_with = option_or s.begun_with (then_some s.armed d) }) (calls ++ Desync d ∷ [])
 desync_stands lock_ticks match_ticks s calls d h =
     let e = since_push calls (Desync d ∷ []) refl in
@@ -192,58 +192,58 @@ desync_stands lock_ticks match_ticks s calls d h =
           (desync_stores lock_ticks match_ticks s (progress_of calls) s.armed d h.stores);
     }
 
-no_taking : (n : ℕ) → has_shutdown (replicate n Byte) ≡ false
-no_taking zero = refl
-no_taking (suc n) = no_taking n
+no_shutdown : (n : ℕ) → has_shutdown (replicate n Byte) ≡ false
+no_shutdown zero = refl
+no_shutdown (suc n) = no_shutdown n
 
-idle : (lock_ticks match_ticks : ℕ) (s : Stored) (progress : StartupProgress) (n : ℕ) → s.begun_with ≡ None → StoresAt lock_ticks match_ticks s progress → StoresAt lock_ticks match_ticks s (further n progress)
+idle : (lock_ticks match_ticks : ℕ) (s : StartupState) (progress : StartupProgress) (n : ℕ) → s.begun_with ≡ None → StoresAt lock_ticks match_ticks s progress → StoresAt lock_ticks match_ticks s (further n progress)
 idle lock_ticks match_ticks s NotBegun n none h = h
 idle lock_ticks match_ticks s (Begun cor0 bytes) n none h =
     let some : s.begun_with ≡ Some cor0 = h.begun_with_is in absurd (cc (none, some))
 
 -- bytes at a startup that hasn't begun
-pub idle_stands : (lock_ticks match_ticks : ℕ) (s : Stored) (calls : List Call) (n : ℕ) → s.begun_with ≡ None → StandsForCalls lock_ticks match_ticks s calls →
+pub idle_stands : (lock_ticks match_ticks : ℕ) (s : StartupState) (calls : List Call) (n : ℕ) → s.begun_with ≡ None → StandsForCalls lock_ticks match_ticks s calls →
     StandsForCalls lock_ticks match_ticks s (calls ++ replicate n Byte)
 idle_stands lock_ticks match_ticks s calls n none h =
-    let e = since_push calls (replicate n Byte) (no_taking n) in
+    let e = since_push calls (replicate n Byte) (no_shutdown n) in
     record {
       armed_is = h.armed_is ∙ sym (ap (is_armed false) e ∙ armed_bytes false (since_shutdown calls) n);
       stores = rw (e, start_bytes false (since_shutdown calls) n)
           (idle lock_ticks match_ticks s (progress_of calls) n none h.stores);
     }
 
-goes_on : (lock_ticks match_ticks : ℕ) (s : Stored) (progress : StartupProgress) (n cor0 more tick_bytes ticks phase : ℕ) → s.begun_with ≡ Some cor0 →
+goes_on : (lock_ticks match_ticks : ℕ) (s : StartupState) (progress : StartupProgress) (n cor0 more tick_bytes ticks phase : ℕ) → s.begun_with ≡ Some cor0 →
     more ≡ (s.tick_bytes + n) / 4 → tick_bytes ≡ (s.tick_bytes + n) % 4 →
     PassesTicks (wait_of lock_ticks match_ticks cor0) (reached s.ticks s.phase) more (reached ticks phase) → StoresAt lock_ticks match_ticks s progress →
     StoresAt lock_ticks match_ticks (record s { tick_bytes = tick_bytes; ticks = ticks; phase = phase }) (further n progress)
-goes_on lock_ticks match_ticks s NotBegun n cor0 more tick_bytes ticks phase some m q runs h =
+goes_on lock_ticks match_ticks s NotBegun n cor0 more tick_bytes ticks phase some m q passes h =
     let none : s.begun_with ≡ None = h.begun_with_is in absurd (cc (some, none))
-goes_on lock_ticks match_ticks s (Begun c b) n cor0 more tick_bytes ticks phase some m q runs h =
+goes_on lock_ticks match_ticks s (Begun c b) n cor0 more tick_bytes ticks phase some m q passes h =
     let was : s.begun_with ≡ Some c = h.begun_with_is in
     let same : c ≡ cor0 = cc (some, was) in
     let before : s.tick_bytes ≡ b % 4 = h.tick_bytes_are in
     let all : b / 4 + more ≡ (b + n) / 4 = omega arith in
     let p : IsPhase (wait_of lock_ticks match_ticks c) (b / 4) s.phase = h.phase_is in
-    let r = runs (b / 4) h.ticks_are (rw same at p) in
+    let r = passes (b / 4) h.ticks_are (rw same at p) in
     let t : ticks ≡ min ((b + n) / 4) tick_limit = rw (← all) r.0 in
     let f : IsPhase (wait_of lock_ticks match_ticks cor0) ((b + n) / 4) phase = rw all at r.1 in
     record { begun_with_is = was; tick_bytes_are = omega arith; ticks_are = t; phase_is = rw same f }
 
 -- bytes at a startup that has begun
-pub running_stands : (lock_ticks match_ticks : ℕ) (s : Stored) (calls : List Call) (n cor0 more tick_bytes ticks phase : ℕ) → s.begun_with ≡ Some cor0 →
+pub running_stands : (lock_ticks match_ticks : ℕ) (s : StartupState) (calls : List Call) (n cor0 more tick_bytes ticks phase : ℕ) → s.begun_with ≡ Some cor0 →
     more ≡ (s.tick_bytes + n) / 4 → tick_bytes ≡ (s.tick_bytes + n) % 4 →
     PassesTicks (wait_of lock_ticks match_ticks cor0) (reached s.ticks s.phase) more (reached ticks phase) → StandsForCalls lock_ticks match_ticks s calls →
     StandsForCalls lock_ticks match_ticks (record s { tick_bytes = tick_bytes; ticks = ticks; phase = phase }) (calls ++ replicate n Byte)
-running_stands lock_ticks match_ticks s calls n cor0 more tick_bytes ticks phase begun m q runs h =
-    let e = since_push calls (replicate n Byte) (no_taking n) in
+running_stands lock_ticks match_ticks s calls n cor0 more tick_bytes ticks phase begun m q passes h =
+    let e = since_push calls (replicate n Byte) (no_shutdown n) in
     record {
       armed_is = h.armed_is ∙ sym (ap (is_armed false) e ∙ armed_bytes false (since_shutdown calls) n);
       stores = rw (e, start_bytes false (since_shutdown calls) n)
-          (goes_on lock_ticks match_ticks s (progress_of calls) n cor0 more tick_bytes ticks phase begun m q runs h.stores);
+          (goes_on lock_ticks match_ticks s (progress_of calls) n cor0 more tick_bytes ticks phase begun m q passes h.stores);
     }
 
 -- a byte that ends no tick
-pub within_tick : (lock_ticks match_ticks : ℕ) (s : Stored) (calls : List Call) (cor0 : ℕ) → s.begun_with ≡ Some cor0 → s.tick_bytes < 3 →
+pub within_tick : (lock_ticks match_ticks : ℕ) (s : StartupState) (calls : List Call) (cor0 : ℕ) → s.begun_with ≡ Some cor0 → s.tick_bytes < 3 →
     StandsForCalls lock_ticks match_ticks s calls → StandsForCalls lock_ticks match_ticks (record s { tick_bytes = s.tick_bytes + 1 }) (calls ++ Byte ∷ [])
 within_tick lock_ticks match_ticks s calls cor0 begun small h =
     running_stands lock_ticks match_ticks s calls 1 cor0 0 (s.tick_bytes + 1) s.ticks s.phase begun (omega arith) (omega arith)
@@ -254,7 +254,7 @@ within_tick lock_ticks match_ticks s calls cor0 begun small h =
 pub progress_arm : (calls : List Call) → progress_of (calls ++ Arm ∷ []) ≡ progress_of calls
 progress_arm calls = ap (progress_from false) (since_push calls (Arm ∷ []) refl) ∙ start_arm false (since_shutdown calls)
 
-pub progress_desync : (calls : List Call) (d : ℕ) → progress_of (calls ++ Desync d ∷ []) ≡ first_place (progress_of calls) (is_armed false (since_shutdown calls)) d
+pub progress_desync : (calls : List Call) (d : ℕ) → progress_of (calls ++ Desync d ∷ []) ≡ progress_after_desync (progress_of calls) (is_armed false (since_shutdown calls)) d
 progress_desync calls d = ap (progress_from false) (since_push calls (Desync d ∷ []) refl) ∙ start_desync false (since_shutdown calls) d
 
 pub progress_drop : (calls : List Call) → progress_of (calls ++ DropBack ∷ []) ≡ NotBegun
@@ -270,10 +270,10 @@ pub is_armed_drop : (calls : List Call) → is_armed false (since_shutdown (call
 is_armed_drop calls = ap (is_armed false) (since_last calls)
 
 pub is_armed_bytes : (calls : List Call) (n : ℕ) → is_armed false (since_shutdown (calls ++ replicate n Byte)) ≡ is_armed false (since_shutdown calls)
-is_armed_bytes calls n = ap (is_armed false) (since_push calls (replicate n Byte) (no_taking n)) ∙ armed_bytes false (since_shutdown calls) n
+is_armed_bytes calls n = ap (is_armed false) (since_push calls (replicate n Byte) (no_shutdown n)) ∙ armed_bytes false (since_shutdown calls) n
 
 pub progress_bytes : (calls : List Call) (n : ℕ) → progress_of (calls ++ replicate n Byte) ≡ further n (progress_of calls)
-progress_bytes calls n = ap (progress_from false) (since_push calls (replicate n Byte) (no_taking n)) ∙ start_bytes false (since_shutdown calls) n
+progress_bytes calls n = ap (progress_from false) (since_push calls (replicate n Byte) (no_shutdown n)) ∙ start_bytes false (since_shutdown calls) n
 
 never_falls : (lock_ticks match_ticks : ℕ) (progress : StartupProgress) (n p q : ℕ) → IsPhaseOf lock_ticks match_ticks progress p → IsPhaseOf lock_ticks match_ticks (further n progress) q → p ≤ q
 never_falls lock_ticks match_ticks NotBegun n p q h k = let first : p ≡ 0 = h in omega arith

@@ -2,7 +2,7 @@
 use Rattle.std.proofs.Common.{◌≡◌, ◌==◌, ℕ, zero, suc, ◌+◌, ◌-◌, ◌*◌, ◌^◌, ◌<◌, ◌≤◌, min, Bool, true, false, not, List, [], ◌∷◌, ◌++◌, if◌then◌else◌, refl, sym, ap, ◌∙◌, arith, add_assoc, IsTrue, ◌↔◌, ◌&&◌, inl, inr, eq-eqb}
 use Rattle.std.proofs.lemmas.Bool.Decides.{eqb_tells}
 use Rattle.std.proofs.Math.Nat.{suc-mul}
-use Rattle.x7_startup.specs.Watchdog.{WatchCall, Load, Reload, Watched, cfg_mon_of, timer_value_of, is_on, timer_after, has_load, since_load, bytes_on, watched_count, full_count, Watch, WatchesFor, Fires, bytes_alike}
+use Rattle.x7_startup.specs.Watchdog.{WatchCall, Load, Reload, Watched, cfg_mon_of, timer_value_of, is_on, timer_after, has_load, since_load, bytes_on, watched_count, full_count, WatchdogState, WatchesFor, FiresNext, bytes_alike}
 
 pub timer_watched : (t : ℕ) (calls : List WatchCall) (e : Bool) → timer_after t (calls ++ Watched e ∷ []) ≡ timer_after t calls
 timer_watched t [] e = refl
@@ -108,14 +108,14 @@ on_if true false false false v h = rw h refl
 pub on_by_full : (off : Bool) (timer : ℕ) (eos : Bool) → is_on off timer eos ≡ (not (full_count off timer == 0) && not eos)
 on_by_full off timer eos = on_if (cfg_mon_of timer == 1) (timer_value_of timer == 0) off eos (timer_value_of timer) (four_times (timer_value_of timer))
 
-pub on_kept : (off : Bool) (first : ℕ) (w : Watch) (calls : List WatchCall) (eos on : Bool) → WatchesFor off first w calls →
+pub on_kept : (off : Bool) (first : ℕ) (w : WatchdogState) (calls : List WatchCall) (eos on : Bool) → WatchesFor off first w calls →
     on ≡ (not (w.limit == 0) && not eos) → on ≡ is_on off (timer_after first calls) eos
 on_kept off first w calls eos on k h =
     h ∙ ap (λ (x : ℕ). not (x == 0) && not eos) k.limit_is ∙ sym (on_by_full off (timer_after first calls) eos)
 
 -- ---- what a call leaves
 
-pub load_watches : (off : Bool) (first : ℕ) (w : Watch) (calls : List WatchCall) (next limit : ℕ) → limit ≡ full_count w.off next → WatchesFor off first w calls →
+pub load_watches : (off : Bool) (first : ℕ) (w : WatchdogState) (calls : List WatchCall) (next limit : ℕ) → limit ≡ full_count w.off next → WatchesFor off first w calls →
     WatchesFor off first (record w { limit = limit; count = 0 }) (calls ++ Load next ∷ [])
 load_watches off first w calls next limit e h = record {
   off_is = h.off_is;
@@ -123,7 +123,7 @@ load_watches off first w calls next limit e h = record {
   count_is = sym (ap (λ x. min x (2 ^ 32 - 1)) (count_loaded off first calls (Load next) refl));
 }
 
-pub reload_watches : (off : Bool) (first : ℕ) (w : Watch) (calls : List WatchCall) → WatchesFor off first w calls →
+pub reload_watches : (off : Bool) (first : ℕ) (w : WatchdogState) (calls : List WatchCall) → WatchesFor off first w calls →
     WatchesFor off first (record w { count = 0 }) (calls ++ Reload ∷ [])
 reload_watches off first w calls h = record {
   off_is = h.off_is;
@@ -158,7 +158,7 @@ count_alike off t (suc n) calls e =
     let same : tick (is_on off (timer_after t (calls ++ bytes_alike n e)) e) ≡ b = ap (λ (u : ℕ). tick (is_on off u e)) (timer_alike t n calls e) in
     ap (watched_count off t) (push_replicate calls n e) ∙ omega arith
 
-pub alike_watches : (off : Bool) (first : ℕ) (w : Watch) (calls : List WatchCall) (e on : Bool) (n count : ℕ) → WatchesFor off first w calls →
+pub alike_watches : (off : Bool) (first : ℕ) (w : WatchdogState) (calls : List WatchCall) (e on : Bool) (n count : ℕ) → WatchesFor off first w calls →
     on ≡ (not (w.limit == 0) && not e) → count ≡ min (w.count + n * tick on) (2 ^ 32 - 1) →
     WatchesFor off first (record w { count = count }) (calls ++ bytes_alike n e)
 alike_watches off first w calls e on n count k o h =
@@ -173,8 +173,8 @@ alike_watches off first w calls e on n count k o h =
     }
 
 -- byte n + 1 of bytes alike fires where bytes count and it brings the count to its end
-pub alike_fires : (off : Bool) (first : ℕ) (w : Watch) (calls : List WatchCall) (e on : Bool) (n : ℕ) → WatchesFor off first w calls →
-    on ≡ (not (w.limit == 0) && not e) → IsTrue on → w.count + suc n ≡ w.limit → Fires off first (calls ++ bytes_alike n e) e
+pub alike_fires : (off : Bool) (first : ℕ) (w : WatchdogState) (calls : List WatchCall) (e on : Bool) (n : ℕ) → WatchesFor off first w calls →
+    on ≡ (not (w.limit == 0) && not e) → IsTrue on → w.count + suc n ≡ w.limit → FiresNext off first (calls ++ bytes_alike n e) e
 alike_fires off first w calls e on n k o t full =
     let timer = timer_after first calls in
     let now : IsTrue (is_on off timer e) = sym (on_kept off first w calls e on k o) ∙ t in
@@ -189,8 +189,8 @@ alike_fires off first w calls e on n k o t full =
     let small : timer_value_of timer < 2 ^ 30 = value_small timer in
     rw same (now, omega arith)
 
-pub alike_quiet : (off : Bool) (first : ℕ) (w : Watch) (calls : List WatchCall) (e on : Bool) (n : ℕ) → WatchesFor off first w calls →
-    on ≡ (not (w.limit == 0) && not e) → (IsTrue on → w.count + suc n ≡ w.limit → ⊥) → Fires off first (calls ++ bytes_alike n e) e → ⊥
+pub alike_quiet : (off : Bool) (first : ℕ) (w : WatchdogState) (calls : List WatchCall) (e on : Bool) (n : ℕ) → WatchesFor off first w calls →
+    on ≡ (not (w.limit == 0) && not e) → (IsTrue on → w.count + suc n ≡ w.limit → ⊥) → FiresNext off first (calls ++ bytes_alike n e) e → ⊥
 alike_quiet off first w calls e on n k o not' (now', full') =
     let timer = timer_after first calls in
     let same : timer_after first (calls ++ bytes_alike n e) ≡ timer = timer_alike first n calls e in
@@ -207,10 +207,10 @@ alike_quiet off first w calls e on n k o not' (now', full') =
     not' (on_kept off first w calls e on k o ∙ now) (omega arith)
 
 -- what bytes alike leave where the last one fires
-pub alike_fired : (off : Bool) (first : ℕ) (w : Watch) (calls : List WatchCall) (e on : Bool) (n count : ℕ) → WatchesFor off first w calls →
+pub alike_fired : (off : Bool) (first : ℕ) (w : WatchdogState) (calls : List WatchCall) (e on : Bool) (n count : ℕ) → WatchesFor off first w calls →
     on ≡ (not (w.limit == 0) && not e) → 0 < n → n ≤ count → IsTrue on → w.count + n ≡ w.limit →
-    (0 < n) × (n ≤ count) × Fires off first (calls ++ bytes_alike (n - 1) e) e × WatchesFor off first (record w { count = w.limit }) (calls ++ bytes_alike n e)
-    × ((k : ℕ) → k < n - 1 → Fires off first (calls ++ bytes_alike k e) e → ⊥)
+    (0 < n) × (n ≤ count) × FiresNext off first (calls ++ bytes_alike (n - 1) e) e × WatchesFor off first (record w { count = w.limit }) (calls ++ bytes_alike n e)
+    × ((k : ℕ) → k < n - 1 → FiresNext off first (calls ++ bytes_alike k e) e → ⊥)
 alike_fired off first w calls e on n count k o some most t at =
     let one : tick on ≡ 1 = ap tick t in
     let now : IsTrue (is_on off (timer_after first calls) e) = sym (on_kept off first w calls e on k o) ∙ t in
@@ -227,20 +227,20 @@ alike_fired off first w calls e on n count k o some most t at =
 -- ---- one byte
 
 -- a byte that doesn't count
-pub idle_watches : (off : Bool) (first : ℕ) (w : Watch) (calls : List WatchCall) (e on : Bool) → WatchesFor off first w calls →
+pub idle_watches : (off : Bool) (first : ℕ) (w : WatchdogState) (calls : List WatchCall) (e on : Bool) → WatchesFor off first w calls →
     on ≡ (not (w.limit == 0) && not e) → on ≡ false → WatchesFor off first w (calls ++ Watched e ∷ [])
 idle_watches off first w calls e on k o f =
     let none : tick on ≡ 0 = ap tick f in
     let old : w.count ≡ min (watched_count off first calls) (2 ^ 32 - 1) = k.count_is in
     alike_watches off first w calls e on 1 w.count k o (rw none (omega arith))
 
-pub idle_fires : (off : Bool) (first : ℕ) (w : Watch) (calls : List WatchCall) (e on : Bool) → WatchesFor off first w calls →
-    on ≡ (not (w.limit == 0) && not e) → on ≡ false → IsTrue false ↔ Fires off first calls e
+pub idle_fires : (off : Bool) (first : ℕ) (w : WatchdogState) (calls : List WatchCall) (e on : Bool) → WatchesFor off first w calls →
+    on ≡ (not (w.limit == 0) && not e) → on ≡ false → IsTrue false ↔ FiresNext off first calls e
 idle_fires off first w calls e on k o f =
     (λ t. absurd (cc), λ g. sym f ∙ on_kept off first w calls e on k o ∙ g.0)
 
 -- a byte that counts
-pub byte_watches : (off : Bool) (first : ℕ) (w : Watch) (calls : List WatchCall) (e on : Bool) (count : ℕ) → WatchesFor off first w calls →
+pub byte_watches : (off : Bool) (first : ℕ) (w : WatchdogState) (calls : List WatchCall) (e on : Bool) (count : ℕ) → WatchesFor off first w calls →
     on ≡ (not (w.limit == 0) && not e) → IsTrue on → count ≡ min (w.count + 1) (2 ^ 32 - 1) →
     WatchesFor off first (record w { count = count }) (calls ++ Watched e ∷ [])
 byte_watches off first w calls e on count k o t c =
@@ -248,9 +248,9 @@ byte_watches off first w calls e on count k o t c =
     alike_watches off first w calls e on 1 count k o (rw one (omega arith))
 
 -- the capped count and the count itself reach a number below the cap together
-pub byte_fires : (off : Bool) (first : ℕ) (w : Watch) (calls : List WatchCall) (e on : Bool) (count : ℕ) (result : Bool) → WatchesFor off first w calls →
+pub byte_fires : (off : Bool) (first : ℕ) (w : WatchdogState) (calls : List WatchCall) (e on : Bool) (count : ℕ) (result : Bool) → WatchesFor off first w calls →
     on ≡ (not (w.limit == 0) && not e) → IsTrue on → count ≡ min (w.count + 1) (2 ^ 32 - 1) → result ≡ (count == w.limit) →
-    IsTrue result ↔ Fires off first calls e
+    IsTrue result ↔ FiresNext off first calls e
 byte_fires off first w calls e on count result k o t c r =
     let after = byte_watches off first w calls e on count k o t c in
     let timer = timer_after first calls in

@@ -9,6 +9,10 @@ abbrev pub wait_of : ℕ → ℕ → ℕ → ℕ → ℕ
 wait_of lock_ticks match_ticks cor0 phase =
     max (if lock_cycle_of cor0 == phase then lock_ticks else 0) (if match_cycle_of cor0 == phase then match_ticks else 0)
 
+-- how many bytes a tick takes (this project's choice)
+abbrev pub tick_size : ℕ
+tick_size = 4
+
 -- the number up to which ticks are counted, the last of 16 bits: no part waits for more
 abbrev pub tick_limit : ℕ
 tick_limit = 65535

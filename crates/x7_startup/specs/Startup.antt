@@ -1,6 +1,6 @@
 -- What a list of calls of a `Startup` means: where startup begins (UG470, startup; arming is this project's choice).
 use Rattle.std.specs.Prelude.{◌++◌, ◌≡◌, ℕ, ◌+◌, ◌/◌, ◌%◌, min, Bool, true, false, List, [], ◌∷◌, Option, Some, None, if◌then◌else◌}
-use Rattle.x7_startup.specs.Phases.{wait_of, tick_limit, IsPhase}
+use Rattle.x7_startup.specs.Phases.{wait_of, tick_limit, tick_size, IsPhase}
 
 -- a call of a startup: START, DESYNC with COR0 as it stands there, a byte taken, a shutdown taken
 pub data Call : Type 0 where
@@ -61,18 +61,18 @@ abbrev pub bytes_since_begun : StartupProgress → ℕ
 bytes_since_begun NotBegun = 0
 bytes_since_begun (Begun cor0 bytes) = bytes
 
--- the ticks since startup began: each fourth byte is one
+-- the ticks since startup began: one for each `tick_size` bytes
 abbrev pub ticks_of : StartupProgress → ℕ
-ticks_of progress = bytes_since_begun progress / 4
+ticks_of progress = bytes_since_begun progress / tick_size
 
 -- the phase of a startup, by the ticks that its part's clocks need to lock and its impedance to match
 abbrev pub IsPhaseOf : ℕ → ℕ → StartupProgress → ℕ → Type 0
 IsPhaseOf lock_ticks match_ticks NotBegun phase = phase ≡ 0
-IsPhaseOf lock_ticks match_ticks (Begun cor0 bytes) phase = IsPhase (wait_of lock_ticks match_ticks cor0) (bytes / 4) phase
+IsPhaseOf lock_ticks match_ticks (Begun cor0 bytes) phase = IsPhase (wait_of lock_ticks match_ticks cor0) (bytes / tick_size) phase
 
 -- what a startup keeps: whether it is armed, the COR0 that it began with, the bytes past the last tick, the ticks up to
 -- 65,535, and the phase
-pub record Stored : Type 0 where
+pub record StartupState : Type 0 where
   pub armed : Bool
   pub begun_with : Option ℕ
   pub tick_bytes : ℕ
@@ -80,19 +80,19 @@ pub record Stored : Type 0 where
   pub phase : ℕ
 
 -- what is stored is that of a startup so far along, whose part needs these ticks to lock and to match
-pub record StoresAt (lock_ticks match_ticks : ℕ) (s : Stored) (progress : StartupProgress) : Type 0 where
+pub record StoresAt (lock_ticks match_ticks : ℕ) (s : StartupState) (progress : StartupProgress) : Type 0 where
   pub begun_with_is : s.begun_with ≡ cor0_of progress
-  pub tick_bytes_are : s.tick_bytes ≡ bytes_since_begun progress % 4
+  pub tick_bytes_are : s.tick_bytes ≡ bytes_since_begun progress % tick_size
   pub ticks_are : s.ticks ≡ min (ticks_of progress) tick_limit
   pub phase_is : IsPhaseOf lock_ticks match_ticks progress s.phase
 
 -- What is stored stands for the calls: each stored value is what the list of all calls so far comes to, each byte of
 -- which was taken with these ticks to lock and to match.
-pub record StandsForCalls (lock_ticks match_ticks : ℕ) (s : Stored) (calls : List Call) : Type 0 where
+pub record StandsForCalls (lock_ticks match_ticks : ℕ) (s : StartupState) (calls : List Call) : Type 0 where
   pub armed_is : s.armed ≡ is_armed false (since_shutdown calls)
   pub stores : StoresAt lock_ticks match_ticks s (progress_of calls)
 
 -- whatever calls the old startup stands for, the new one stands for these and then `more`
-abbrev pub AddsCalls : ℕ → ℕ → Stored → Stored → List Call → Type 0
+abbrev pub AddsCalls : ℕ → ℕ → StartupState → StartupState → List Call → Type 0
 AddsCalls lock_ticks match_ticks old new more =
     (calls : List Call) → StandsForCalls lock_ticks match_ticks old calls → StandsForCalls lock_ticks match_ticks new (calls ++ more)

@@ -18,6 +18,10 @@ cfg_mon_of = field_of 30 1
 abbrev pub timer_value_of : ℕ → ℕ
 timer_value_of = field_of 0 30
 
+-- how many counted bytes are one of TIMER's value (this project's choice)
+abbrev pub timer_step : ℕ
+timer_step = 4
+
 -- whether the watchdog is on at a byte, and counts it: `off` is for an attempt that has none, `eos` is phase 7
 abbrev pub is_on : Bool → ℕ → Bool → Bool
 is_on off timer eos = (cfg_mon_of timer == 1) && (not (timer_value_of timer == 0) && (not eos && not off))
@@ -49,12 +53,12 @@ bytes_on off timer (_ ∷ calls) = bytes_on off timer calls
 abbrev pub watched_count : Bool → ℕ → List WatchCall → ℕ
 watched_count off first calls = bytes_on off (timer_after first calls) (since_load calls)
 
--- the watchdog fires at one byte more after the calls: it is on there, and the byte brings the count to four times
--- TIMER's value
-abbrev pub Fires : Bool → ℕ → List WatchCall → Bool → Type 0
-Fires off first calls eos =
+-- the watchdog fires at one byte more after the calls: it is on there, and the byte brings the count to `timer_step`
+-- times TIMER's value
+abbrev pub FiresNext : Bool → ℕ → List WatchCall → Bool → Type 0
+FiresNext off first calls eos =
     IsTrue (is_on off (timer_after first calls) eos)
-    × (watched_count off first (calls ++ Watched eos ∷ []) ≡ timer_value_of (timer_after first calls) * 4)
+    × (watched_count off first (calls ++ Watched eos ∷ []) ≡ timer_value_of (timer_after first calls) * timer_step)
 
 -- `count` bytes taken, all in phase 7 or none
 abbrev pub bytes_alike : ℕ → Bool → List WatchCall
@@ -62,38 +66,44 @@ bytes_alike count eos = replicate count (Watched eos)
 
 -- the watchdog fires at the byte after `count` bytes, all in phase 7 or none
 abbrev pub FiresAfter : Bool → ℕ → List WatchCall → ℕ → Bool → Type 0
-FiresAfter off first calls count eos = Fires off first (calls ++ bytes_alike count eos) eos
+FiresAfter off first calls count eos = FiresNext off first (calls ++ bytes_alike count eos) eos
 
 -- the watchdog fires at none of `count` bytes, all in phase 7 or none
 abbrev pub NoneFires : Bool → ℕ → List WatchCall → ℕ → Bool → Type 0
 NoneFires off first calls count eos = (k : ℕ) → k < count → ¬ FiresAfter off first calls k eos
 
--- the count of bytes at which the watchdog fires: four times TIMER's value, and 0 where TIMER or the attempt has it off
+-- the count of bytes at which the watchdog fires: `timer_step` times TIMER's value, and 0 where TIMER or the attempt
+-- has it off
 abbrev pub full_count : Bool → ℕ → ℕ
-full_count off timer = if (cfg_mon_of timer == 1) && not off then timer_value_of timer * 4 else 0
+full_count off timer = if (cfg_mon_of timer == 1) && not off then timer_value_of timer * timer_step else 0
 
 -- what a watchdog keeps: whether its attempt has none, the count at which it fires, and its count up to 2^32 - 1
-pub record Watch : Type 0 where
+pub record WatchdogState : Type 0 where
   pub off : Bool
   pub limit : ℕ
   pub count : ℕ
 
 -- what is stored stands for the calls of a watchdog that was made with `first` in TIMER
-pub record WatchesFor (off : Bool) (first : ℕ) (w : Watch) (calls : List WatchCall) : Type 0 where
+pub record WatchesFor (off : Bool) (first : ℕ) (w : WatchdogState) (calls : List WatchCall) : Type 0 where
   pub off_is : w.off ≡ off
   pub limit_is : w.limit ≡ full_count off (timer_after first calls)
   pub count_is : w.count ≡ min (watched_count off first calls) (2 ^ 32 - 1)
 
 -- `Fact` holds of each word of TIMER at first, and each list of calls, that the watchdog stands for
-abbrev pub OfCalls : Watch → (Bool → ℕ → List WatchCall → Type 0) → Type 0
+abbrev pub OfCalls : WatchdogState → (Bool → ℕ → List WatchCall → Type 0) → Type 0
 OfCalls w Fact = (off : Bool) (first : ℕ) (calls : List WatchCall) → WatchesFor off first w calls → Fact off first calls
 
 -- an attempt, TIMER at first, the calls since then, and whether the bytes after these are taken in phase 7
 module _ (off : Bool) (first : ℕ) (calls : List WatchCall) (eos : Bool) where
   -- the watchdog fires at byte `n` of `count`, from 1, and at none before it, and it took the bytes up to that one
-  abbrev pub FiredAt : ℕ → ℕ → Watch → Type 0
-  FiredAt count n new = (0 < n) × (n ≤ count) × FiresAfter off first calls (n - 1) eos × WatchesFor off first new (calls ++ bytes_alike n eos) × NoneFires off first calls (n - 1) eos
+  abbrev pub FiredAt : ℕ → ℕ → WatchdogState → Type 0
+  FiredAt count n new =
+      (0 < n)
+      × (n ≤ count)
+      × FiresAfter off first calls (n - 1) eos
+      × WatchesFor off first new (calls ++ bytes_alike n eos)
+      × NoneFires off first calls (n - 1) eos
 
   -- the watchdog fires at none of `count` bytes, and it took them all
-  abbrev pub NoneFired : ℕ → Watch → Type 0
+  abbrev pub NoneFired : ℕ → WatchdogState → Type 0
   NoneFired count new = WatchesFor off first new (calls ++ bytes_alike count eos) × NoneFires off first calls count eos

@@ -9,6 +9,6 @@ mod watchdog;
 
 pub use laws::phases_never_fall;
 pub use lines::Lines;
-pub use phases::LAST_PHASE;
+pub use phases::{LAST_PHASE, TICK_SIZE};
 pub use startup::Startup;
 pub use watchdog::Watchdog;

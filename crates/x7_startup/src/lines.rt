@@ -15,23 +15,39 @@ pub struct Lines {
     pub gwe: bool,
 }
 
-/// By a code of COR0 the phase in which DONE rises, and that in which GTS_CFG_B or GWE does (codes 6 and 7 are this
-/// project's choice). `done` is DONE's own phase; a line without a phase never rises.
+/// The phase in which DONE rises, by its code (codes 6 and 7 are this project's choice).
 #[rattlefmt::skip]
-fn rises_of(code: u32, done: u8) -> (u8, Option<u8>)
+fn done_rise(code: u32) -> u8
     requires code { code < 8 }
-    ensures done { result.0 ≡ done_rise code }
-    ensures line { result.1 ≡ line_rise done code }
+    ensures { result ≡ done_rise code }
 {
     match code {
-        0 => (1, Some(1)),
-        1 => (2, Some(2)),
-        2 => (3, Some(3)),
-        3 => (4, Some(4)),
-        4 => (5, Some(5)),
-        5 => (6, Some(6)),
-        6 => (6, Some(done)),
-        _ => (6, None),
+        0 => 1,
+        1 => 2,
+        2 => 3,
+        3 => 4,
+        4 => 5,
+        5 => 6,
+        _ => 6,
+    }
+}
+
+/// The phase in which GTS_CFG_B or GWE rises, by its code and by DONE's phase; none for a line that never rises (codes
+/// 6 and 7 are this project's choice).
+#[rattlefmt::skip]
+fn line_rise(code: u32, done: u8) -> Option<u8>
+    requires code { code < 8 }
+    ensures { result ≡ line_rise done code }
+{
+    match code {
+        0 => Some(1),
+        1 => Some(2),
+        2 => Some(3),
+        3 => Some(4),
+        4 => Some(5),
+        5 => Some(6),
+        6 => Some(done),
+        _ => None,
     }
 }
 
@@ -51,9 +67,9 @@ pub(crate) fn lines_in(cor0: u32, phase: u8) -> Lines
     ensures gts { result.gts ≡ gts_line (Some cor0) phase }
     ensures gwe { result.gwe ≡ gwe_line (Some cor0) phase }
 {
-    let (done, _) = rises_of(cor0 >> DONE_CYCLE & 7, 6);
-    let (_, gts) = rises_of(cor0 >> GTS_CYCLE & 7, done);
-    let (_, gwe) = rises_of(cor0 >> GWE_CYCLE & 7, done);
+    let done = done_rise(cor0 >> DONE_CYCLE & 7);
+    let gts = line_rise(cor0 >> GTS_CYCLE & 7, done);
+    let gwe = line_rise(cor0 >> GWE_CYCLE & 7, done);
     Lines {
         done: is_up(Some(done), phase),
         gts: is_up(gts, phase),

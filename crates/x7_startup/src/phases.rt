@@ -5,6 +5,9 @@ ghost use Rattle.x7_startup.specs.Ticks.{PassesTicks};
 
 use x7_regs::{LOCK_CYCLE, MATCH_CYCLE};
 
+/// How many bytes a tick takes (this project's choice).
+pub const TICK_SIZE: u64 = 4;
+
 /// The number up to which ticks are counted, the last of 16 bits: no part waits for more.
 const TICK_LIMIT: u64 = 65_535;
 
@@ -39,7 +42,7 @@ fn wait_of(cor0: u32, phase: u8, lock_ticks: u16, match_ticks: u16) -> u16
 pub(crate) fn tick(cor0: u32, start: Reached, lock_ticks: u16, match_ticks: u16) -> Reached
     requires most { start.phase ≤ last_phase }
     ensures most { result.phase ≤ last_phase }
-    ensures runs { PassesTicks (wait_of lock_ticks match_ticks cor0) start 1 result }
+    ensures passes { PassesTicks (wait_of lock_ticks match_ticks cor0) start 1 result }
 {
     let ticks = start.ticks.saturating_add(1);
     let phase = start.phase;
@@ -56,7 +59,7 @@ pub(crate) fn tick(cor0: u32, start: Reached, lock_ticks: u16, match_ticks: u16)
 }
 
 /// The phase and the ticks that are reached `count` ticks later.
-#[tactic(auto, using(crate::proofs::RunLemmas::ran_none, crate::proofs::RunLemmas::ran_stays, crate::proofs::RunLemmas::ran_moves, crate::proofs::RunLemmas::ran_all))]
+#[tactic(auto, using(crate::proofs::TickLemmas::passed_none, crate::proofs::TickLemmas::passed_stays, crate::proofs::TickLemmas::passed_moves, crate::proofs::TickLemmas::passed_all))]
 pub(crate) fn pass_ticks(
     cor0: u32,
     start: Reached,
@@ -66,7 +69,7 @@ pub(crate) fn pass_ticks(
 ) -> Reached
     requires most { start.phase ≤ last_phase }
     ensures most { result.phase ≤ last_phase }
-    ensures runs { PassesTicks (wait_of lock_ticks match_ticks cor0) start count result }
+    ensures passes { PassesTicks (wait_of lock_ticks match_ticks cor0) start count result }
 {
     let mut ticks = start.ticks;
     let mut phase = start.phase;

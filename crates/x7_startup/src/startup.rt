@@ -1,12 +1,15 @@
 //! The startup sequence: it moves by a phase a tick, save where COR0 makes it wait.
 ghost use Rattle.std.specs.Prelude.{◌≡◌, ◌<◌, ◌≤◌, ◌+◌, ◌∷◌, ◌++◌, min, ℕ, List, [], replicate, is_some};
 ghost use Rattle.x7_startup.specs.Lines.{done_line, gts_line, gwe_line, AreLines};
-ghost use Rattle.x7_startup.specs.Phases.{last_phase, tick_limit};
-ghost use Rattle.x7_startup.specs.Startup.{AddsCalls, Call, Arm, Desync, Byte, DropBack, Stored, StandsForCalls, IsPhaseOf, progress_of, cor0_of, ticks_of};
+ghost use Rattle.x7_startup.specs.Phases.{last_phase, tick_limit, tick_size};
+ghost use Rattle.x7_startup.specs.Startup.{AddsCalls, Call, Arm, Desync, Byte, DropBack, StartupState, StandsForCalls, IsPhaseOf, progress_of, cor0_of, ticks_of};
 
 use crate::lines::{Lines, lines_in};
-use crate::phases::{Reached, pass_ticks, tick};
+use crate::phases::{Reached, TICK_SIZE, pass_ticks, tick};
 use std::marker::Model;
+
+/// The number of a tick's last byte, from 0.
+const LAST_OF_TICK: u8 = TICK_SIZE as u8 - 1;
 
 /// Startup as the calls so far have left it (UG470, startup).
 #[derive(Clone, Copy)]
@@ -14,20 +17,20 @@ pub struct Startup {
     armed: bool,
     // COR0 as it stood where startup began, if it has begun
     begun_with: Option<u32>,
-    // the bytes past the last tick, at most 3
+    // the bytes past the last tick, fewer than a tick has
     tick_bytes: u8,
     ticks: u16,
     phase: u8,
 }
 
 impl Model for Startup {
-    ghost Value = { Stored };
+    ghost Value = { StartupState };
 
     ghost view = { λ s. record { armed = s.armed; begun_with = s.begun_with; tick_bytes = s.tick_bytes; ticks = s.ticks; phase = s.phase } };
 
     ghost inverse = { λ v. record { armed = v.armed; begun_with = v.begun_with; tick_bytes = v.tick_bytes; ticks = v.ticks; phase = v.phase } };
 
-    ghost invariant = { λ s. (s.tick_bytes < 4) × (s.phase ≤ last_phase) };
+    ghost invariant = { λ s. (s.tick_bytes < tick_size) × (s.phase ≤ last_phase) };
 }
 
 impl Startup {
@@ -66,7 +69,7 @@ impl Startup {
         let Some(cor0) = self.begun_with else {
             return;
         };
-        if self.tick_bytes < 3 {
+        if self.tick_bytes < LAST_OF_TICK {
             self.tick_bytes += 1;
             return;
         }
@@ -87,7 +90,7 @@ impl Startup {
         let Some(cor0) = self.begun_with else {
             return;
         };
-        let tick_bytes = self.tick_bytes + (count % 4) as u8;
+        let tick_bytes = u64::from(self.tick_bytes) + count % TICK_SIZE;
         let reached = Reached {
             ticks: self.ticks,
             phase: self.phase,
@@ -95,11 +98,11 @@ impl Startup {
         let next = pass_ticks(
             cor0,
             reached,
-            count / 4 + u64::from(tick_bytes / 4),
+            count / TICK_SIZE + tick_bytes / TICK_SIZE,
             lock_ticks,
             match_ticks,
         );
-        self.tick_bytes = tick_bytes % 4;
+        self.tick_bytes = (tick_bytes % TICK_SIZE) as u8;
         self.ticks = next.ticks;
         self.phase = next.phase;
     }

@@ -1,6 +1,6 @@
 //! The configuration watchdog (UG470, watchdog): it counts the bytes at which it is on.
 ghost use Rattle.std.specs.Prelude.{◌≡◌, ◌<◌, ◌≤◌, ◌^◌, ◌+◌, ◌-◌, ◌*◌, ◌==◌, ◌&&◌, ◌↔◌, ◌∷◌, ◌++◌, not, min, ℕ, IsTrue, [], IfSome, IfNone, if◌then◌else◌};
-ghost use Rattle.x7_startup.specs.Watchdog.{FiredAt, NoneFired, OfCalls, Load, Reload, Watched, Watch, WatchesFor, Fires, full_count};
+ghost use Rattle.x7_startup.specs.Watchdog.{FiredAt, NoneFired, OfCalls, Load, Reload, Watched, WatchdogState, WatchesFor, FiresNext, full_count};
 
 use std::marker::Model;
 
@@ -10,6 +10,9 @@ const CFG_MON: u32 = 30;
 /// The bits of TIMER that are its value.
 const TIMER_VALUE: u32 = 0x3FFF_FFFF;
 
+/// How many counted bytes are one of TIMER's value (this project's choice).
+const TIMER_STEP: u32 = 4;
+
 /// The number up to which bytes are counted, the last of 32 bits, which is above each count at which a watchdog fires.
 const COUNT_LIMIT: u64 = 0xFFFF_FFFF;
 
@@ -18,14 +21,14 @@ const COUNT_LIMIT: u64 = 0xFFFF_FFFF;
 pub struct Watchdog {
     // whether the attempt has no watchdog
     off: bool,
-    // the count at which it fires: four times TIMER's value, or 0 where TIMER or the attempt has it off
+    // the count at which it fires: `TIMER_STEP` times TIMER's value, or 0 where TIMER or the attempt has it off
     limit: u32,
     // how many bytes it counted since its count began anew, up to `COUNT_LIMIT`
     count: u32,
 }
 
 impl Model for Watchdog {
-    ghost Value = { Watch };
+    ghost Value = { WatchdogState };
 
     ghost view = { λ w. record { off = w.off; limit = w.limit; count = w.count } };
 
@@ -73,7 +76,7 @@ impl Watchdog {
     /// One byte more was taken, with EOS (end of startup, phase 7) as `eos` says: whether the watchdog fires at it.
     pub fn byte(&mut self, eos: bool) -> bool
         ensures stands { OfCalls self.old (λ off first calls. WatchesFor off first self.new (calls ++ Watched eos ∷ [])) }
-        ensures fires { OfCalls self.old (λ off first calls. (IsTrue result ↔ Fires off first calls eos)) }
+        ensures fires { OfCalls self.old (λ off first calls. (IsTrue result ↔ FiresNext off first calls eos)) }
     {
         if !is_on(self.limit, eos) {
             return false;
@@ -101,12 +104,13 @@ impl Watchdog {
     }
 }
 
-/// The count at which the watchdog fires: four times TIMER's value, and 0 where TIMER or the attempt has it off.
+/// The count at which the watchdog fires: `TIMER_STEP` times TIMER's value, and 0 where TIMER or the attempt has it
+/// off.
 fn limit_of(off: bool, timer: u32) -> u32
     ensures { result ≡ full_count off timer }
 {
     if timer >> CFG_MON & 1 == 1 && !off {
-        (timer & TIMER_VALUE) * 4
+        (timer & TIMER_VALUE) * TIMER_STEP
     } else {
         0
     }

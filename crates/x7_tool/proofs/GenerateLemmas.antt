@@ -34,7 +34,7 @@ use Rattle.x7_effects.specs.Played.{PlaysFull, device_after}
 use Rattle.x7_effects.proofs.LawLemmas.{new_law}
 use Rattle.x7_tool.specs.Generate.{count_line, counted, gen_text, generated, gen_line, least_planned, next_number, planned_summary, played_summary, row_by, rows_after, sum_line, summary_text, words_sum}
 use Rattle.x7_forms.specs.Known.{reads_limit}
-use Rattle.x7_playing.specs.Playing.{HasPlayed, HasPlayedBy, PlayState, Plays, PlaysOn}
+use Rattle.x7_playing.specs.Playing.{HasPlayed, HasPlayedBy, PlayState, DevicePlayed, PlaysOn}
 use Rattle.x7_playing.specs.declared.player.Player.{Player}
 
 -- ---- frames that count up
@@ -126,7 +126,7 @@ sum_same m n (x ∷ fars) same = ap (λ (o : Option (List ℕ)). sum (unwrap_or 
 -- ---- a stream that was played
 
 -- where few words are read out, a player that was given the bytes isn't over
-pub sure : (over : Bool) (part : PartData) (bytes : List ℕ) (s : PlayState) → length (reads_of part on_the_bench bytes) ≤ reads_limit → HasPlayedBy over part bytes s → Plays part bytes s.device s.reads × NoWordDue s.device
+pub sure : (over : Bool) (part : PartData) (bytes : List ℕ) (s : PlayState) → length (reads_of part on_the_bench bytes) ≤ reads_limit → HasPlayedBy over part bytes s → DevicePlayed part bytes s.device s.reads × NoWordDue s.device
 sure true part bytes s few h = let many = h.many in absurd (omega (arith, few, many))
 sure false part bytes s few h = (h.0, h.1)
 

@@ -4,21 +4,22 @@ ghost use Rattle.x7_packets.specs.Cutter.{between};
 ghost use Rattle.x7_engine.specs.UntilRead.{RoomBefore};
 ghost use Rattle.x7_engine.specs.SoonestEnd.{soonest_end};
 ghost use Rattle.x7_engine.specs.Standing.{CanBeGiven, HasBegun, HasStopped, NoWordDue, fed_more, fed_of};
-ghost use Rattle.x7_engine.specs.Turns.{MayTake, TookTurn};
+ghost use Rattle.x7_engine.specs.Turns.{MayTakePiece, TurnAnswers};
 ghost use Rattle.x7_engine.specs.UntilStarted.{HasNotBegun, NoneBegun, NoneStarted, says_started, taken_until};
 ghost use Rattle.x7_engine.specs.declared.until_started.UntilStarted.TheVariants as until;
-ghost use Rattle.x7_engine.specs.Past.{AnswersUntilFor, OfPast, TakesJust, GivesWordsNext, later, prefix_taken_until, started_at, state_at, stop_at, reads_given_at};
+ghost use Rattle.x7_engine.specs.Past.{AnswersUntilFor, OfPast, TakesJust, TakesNothing, GivesWordsNext, later, prefix_taken_until, started_at, state_at, stop_at, reads_given_at};
 
-use super::{Device, WORD_BYTES, answer_at_stop};
+use super::{Device, answer_at_stop};
 use crate::fed::Fed;
 use crate::read_buffer::ReadBuf;
 use crate::until_started::UntilStarted;
+use x7_startup::{LAST_PHASE, TICK_SIZE};
 
 /// The least number of bytes more after which the last phase may have come, of a device in this phase.
 fn soonest_end(phase: u8) -> usize
     ensures { result ≡ soonest_end phase }
 {
-    WORD_BYTES * 6usize.saturating_sub(phase as usize) + 1
+    TICK_SIZE as usize * usize::from((LAST_PHASE - 1).saturating_sub(phase)) + 1
 }
 
 /// What is answered where a piece is used up, or a stop has come, at place `at` of the piece.
@@ -51,8 +52,8 @@ impl Device {
     /// Takes the next turn of a piece, up to a byte at which startup may end, and moves `at` past it. The answer is
     /// `true` only where the piece is used up; after `false` the next turn may find nothing left.
     fn turn_until_started(&mut self, piece: &[u8], at: &mut usize) -> bool
-        requires { MayTake self.old piece.now at.old }
-        ensures took { TookTurn self.old self.new piece.now at.old at.new result }
+        requires { MayTakePiece self.old piece.now at.old }
+        ensures took { TurnAnswers self.old self.new piece.now at.old at.new result }
         ensures first { OfPast self.old (λ p. started_at p ≡ false → NoneStarted p.part p.kept p.bytes (between piece.now at.old at.new) (at.new - at.old)) }
     {
         let end = self.turn_end(*at, piece.len());
@@ -76,8 +77,8 @@ impl Device {
         ensures answer { AnswersUntilFor self.old self.new (prefix_taken_until piece.now result) read.new result }
         ensures reads { GivesWordsNext self.old self.new (prefix_taken_until piece.now result) read.old read.new }
         ensures room { OfPast self.old (λ p. RoomBefore p piece.now (taken_until (length piece.now) result) (reads_given_at self.old p) read.old) }
-        ensures stopped { OfPast self.old (λ p. IsSome (stop_at p) → (self.new ≡ self.old) × (read.new ≡ read.old) × (taken_until (length piece.now) result ≡ 0)) }
-        ensures stays { HasStopped self.old → (self.new ≡ self.old) × (read.new ≡ read.old) × (taken_until (length piece.now) result ≡ 0) }
+        ensures stopped { OfPast self.old (λ p. IsSome (stop_at p) → TakesNothing self.old self.new read.old read.new (taken_until (length piece.now) result)) }
+        ensures stays { HasStopped self.old → TakesNothing self.old self.new read.old read.new (taken_until (length piece.now) result) }
     {
         let mut at = 0;
         'runs: loop {

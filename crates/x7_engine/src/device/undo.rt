@@ -4,9 +4,9 @@ ghost use Rattle.x7_flow.specs.Standing.{FramesFit};
 ghost use Rattle.x7_engine.specs.Kept.{on_the_bench};
 ghost use Rattle.x7_engine.specs.ReadBuffer.{dropping};
 ghost use Rattle.x7_engine.specs.declared.stop.StopCause.{StopCause};
-ghost use Rattle.x7_engine.specs.Standing.{CanBeGiven, DeviceState, DeviceStandsFor, NoWordDue, answer_at_stop, fed_more, fed_of, taken_in};
-ghost use Rattle.x7_engine.specs.Undo.{AreEqual, Back, IsUndoOf, SavesDevice, TookFewSince, device_saved};
-ghost use Rattle.x7_engine.specs.Past.{AnswersFor, OfPast, TakesJust, prefix_taken, stop_at, HasPast, Past, later};
+ghost use Rattle.x7_engine.specs.Standing.{CanBeGiven, DeviceState, DeviceStandsFor, HasStopped, NoWordDue, answer_at_stop, fed_more, fed_of, taken_in};
+ghost use Rattle.x7_engine.specs.Undo.{AreEqual, IsUndoOf, SavesDevice, TookFewSince, UndoLeadsBack, device_saved, undo_reach};
+ghost use Rattle.x7_engine.specs.Past.{AnswersFor, OfPast, TakesJust, TakesNothing, prefix_taken, stop_at, HasPast, Past, later};
 
 use super::Device;
 use crate::fed::Fed;
@@ -18,6 +18,9 @@ use x7_packets::Cutter;
 use x7_part::Part;
 use x7_pipeline::Saved;
 use x7_words::NoMemory;
+
+/// How many bytes can be taken back at most.
+pub const UNDO_REACH: u64 = 4;
 
 /// A device as it stood, saved so that the bytes that it takes next, up to four, can be taken back.
 #[derive(Drop)]
@@ -86,7 +89,7 @@ impl Device {
 
     /// Saves the device, and takes up to four bytes as `feed` does. Words read out are dropped.
     pub fn feed_word(&mut self, piece: &[u8], undo: &mut Undo) -> Fed
-        requires four { length piece.now ≤ 4 }
+        requires within_reach { length piece.now ≤ undo_reach }
         requires fits { CanBeGiven self.old (length piece.now) }
         requires no_word_due { NoWordDue self.old }
         requires undo { IsUndoOf self.old.part undo.old }
@@ -96,10 +99,11 @@ impl Device {
         ensures part { self.new.part ≡ self.old.part }
         ensures taken { self.new.taken ≡ self.old.taken + taken_in (length piece.now) result }
         ensures fed { fed_of self.new ≡ fed_more self.old (taken_in (length piece.now) result) }
-        ensures stays { (why : StopCause) → self.old.registers.stop ≡ Some why → (self.new ≡ self.old) × (result ≡ answer_at_stop why 0) }
+        ensures stopped { OfPast self.old (λ p. IsSome (stop_at p) → TakesNothing self.old self.new dropping dropping (taken_in (length piece.now) result)) }
+        ensures stays { HasStopped self.old → TakesNothing self.old self.new dropping dropping (taken_in (length piece.now) result) }
+        ensures answers_stop { (why : StopCause) → self.old.registers.stop ≡ Some why → result ≡ answer_at_stop why 0 }
         ensures saves { SavesDevice undo.new self.old }
-        ensures back { OfPast self.old (λ p. Back undo.new self.new self.old) }
-        ensures stopped { OfPast self.old (λ p. IsSome (stop_at p) → (self.new ≡ self.old) × (taken_in (length piece.now) result ≡ 0)) }
+        ensures back { OfPast self.old (λ p. UndoLeadsBack undo.new self.new self.old) }
         ensures undo { IsUndoOf self.old.part undo.new }
     {
         self.save(undo);
@@ -122,8 +126,8 @@ impl Device {
     pub fn undo(&mut self, undo: &Undo)
         requires undo { IsUndoOf self.old.part undo.now }
         requires back { TookFewSince undo.now self.old }
-        ensures back { (old : DeviceState) → Back undo.now self.old old → AreEqual self.new old }
-        ensures after_more { (p : Past) (more : List ℕ) (old : DeviceState) → SavesDevice undo.now old → NoWordDue old → length more ≤ 4
+        ensures back { (old : DeviceState) → UndoLeadsBack undo.now self.old old → AreEqual self.new old }
+        ensures after_more { (p : Past) (more : List ℕ) (old : DeviceState) → SavesDevice undo.now old → NoWordDue old → length more ≤ undo_reach
             → HasPast old p → HasPast self.old (later p more) → AreEqual self.new old }
         ensures part { self.new.part ≡ self.old.part }
         ensures fed { fed_of self.new ≡ fed_of self.old }
@@ -136,7 +140,7 @@ impl Device {
     fn go_back(&mut self, undo: &Undo)
         requires undo { IsUndoOf self.old.part undo.now }
         requires back { TookFewSince undo.now self.old }
-        ensures back { (old : DeviceState) → Back undo.now self.old old → AreEqual self.new old }
+        ensures back { (old : DeviceState) → UndoLeadsBack undo.now self.old old → AreEqual self.new old }
         ensures part { self.new.part ≡ self.old.part }
         ensures fed { fed_of self.new ≡ fed_of self.old }
     {

@@ -18,7 +18,8 @@ loop-device-preserved c =
     let next : to ≡ before + 4 = omega (arith, c.feed_recorded.ensures.at_position.there.taken, c.taken-next.ensures.stored) in
     record {
       comes = comes_here c.args.stream.now c.args.device.now c.feed_recorded.new.device c.feed_recorded.new.journal (c.taken-next.result + 4)
-          (comes_on c.args.stream.now c.args.device.now c.loop-device.device c.feed_recorded.new.device c.loop-device.journal c.feed_recorded.new.journal before (c.taken-next.result + 4) c.loop-device.invariant.since (omega (arith, next)) c.loop-device.invariant.comes c.feed_recorded.ensures.at_position);
+          (comes_on c.args.stream.now c.args.device.now c.loop-device.device c.feed_recorded.new.device c.loop-device.journal c.feed_recorded.new.journal
+          before (c.taken-next.result + 4) c.loop-device.invariant.since (omega (arith, next)) c.loop-device.invariant.comes c.feed_recorded.ensures.at_position);
       within = omega (arith, next, c.loop-device-test.true, c.taken.ensures.stored);
       since = omega (arith, next, c.loop-device.invariant.since);
       reaches = subst (Reaches c.args.device.now.taken to) (sym c.feed_recorded.ensures.recorded.2)

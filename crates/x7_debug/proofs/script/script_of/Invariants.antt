@@ -1,10 +1,10 @@
 use Rattle.std.proofs.Common.{◌+◌, ◌≤◌, length}
-use Rattle.x7_debug.proofs.ScriptLemmas.{Goes}
+use Rattle.x7_debug.proofs.ScriptLemmas.{HasReadLines}
 use Rattle.x7_debug.proofs.script.script_of.Given as goal
 
 abbrev pub invariant-loop-orders : goal.invariant-loop-orders
 invariant-loop-orders l = record {
-  goes : Goes l.text l.rest l.orders.items l.line_number;
+  read : HasReadLines l.text l.rest l.orders.items l.line_number;
   short : l.line_number + length l.rest ≤ length l.text;
 }
 

@@ -3,7 +3,7 @@ use Rattle.std.proofs.lemmas.List.{take-append-drop}
 use Rattle.x7_debug.specs.declared.order.Order.{Order}
 use Rattle.x7_debug.specs.declared.order.Order.TheVariants as order
 use Rattle.x7_debug.specs.Session.{MovesTo}
-use Rattle.x7_debug.specs.Showing.{FollowsSome, final_position, order_shown}
+use Rattle.x7_debug.specs.Showing.{FollowsSomeOrders, final_position, order_shown}
 use Rattle.x7_debug.proofs.ShowingLemmas.{moves_on, position_more, shows, text_more}
 use Rattle.x7_debug.proofs.showing.transcript.Goals as goal
 
@@ -16,7 +16,7 @@ returns-in_err-show-clause-some_orders c =
     let o : Order = get_or items i (order.Step 0) in
     let same : items ≡ orders = c.orders-order-items.ensures in
     let below : i < length orders = omega (arith, ap length same, c.loop-order-test.true) in
-    let some : FollowsSome old c.follow.new.self orders = (
+    let some : FollowsSomeOrders old c.follow.new.self orders = (
       take (i + 1) orders,
       drop (i + 1) orders,
       sym (take-append-drop (i + 1) orders),

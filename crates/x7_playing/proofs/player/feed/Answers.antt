@@ -4,7 +4,7 @@ use Rattle.x7_words.specs.Word.{AreBytes}
 use Rattle.x7_words.proofs.ListLemmas.{all_from_places}
 use Rattle.x7_engine.specs.Kept.{on_the_bench}
 use Rattle.x7_engine.specs.Standing.{taken_in}
-use Rattle.x7_playing.specs.Playing.{Plays, reads_room}
+use Rattle.x7_playing.specs.Playing.{DevicePlayed, reads_room}
 use Rattle.x7_playing.proofs.PlayLemmas.{emptied_again, full_words, is_end, most_is, words_are}
 use Rattle.x7_playing.proofs.PlayerLemmas.{may_feed, turn_end, turn_full, turn_over}
 use Rattle.x7_playing.proofs.player.feed.Goals as goal
@@ -51,7 +51,7 @@ returns-in_default-clause-prefix c =
       prefix = take at piece;
       left = drop at piece;
       split = sym (take-append-drop at piece);
-      holds = λ part bytes h. subst (λ (reads : List ℕ). Plays part (bytes ++ take at piece) c.feeds.device reads) (sym c.reserve.ensures.items) (c.feeds.invariant.plays part bytes h);
+      holds = λ part bytes h. subst (λ (reads : List ℕ). DevicePlayed part (bytes ++ take at piece) c.feeds.device reads) (sym c.reserve.ensures.items) (c.feeds.invariant.plays part bytes h);
     }
 
 pub feeds-smaller : goal.feeds-smaller

@@ -51,7 +51,15 @@ loop-turn-preserved g c =
     }
 
 pub loop-turn-init : goal.loop-turn-init
-loop-turn-init g c = record { selected = c.requires.selected; inputs = stays_at _; ends = omega arith; left = omega arith; piece = c.requires.buffer; may = c.requires.may_play; known = ([], (omega arith, on_none c.args.player.now, reads_none (g.I.Inputs.state c.args.inputs.now) c.requires.selected)) }
+loop-turn-init g c = record {
+  selected = c.requires.selected;
+  inputs = stays_at _;
+  ends = omega arith;
+  left = omega arith;
+  piece = c.requires.buffer;
+  may = c.requires.may_play;
+  known = ([], (omega arith, on_none c.args.player.now, reads_none (g.I.Inputs.state c.args.inputs.now) c.requires.selected));
+}
 
 pub returns-in_err-turn-clause-gives_few : goal.returns-in_err-turn-clause-gives_few
 returns-in_err-turn-clause-gives_few g c =

@@ -54,7 +54,8 @@ returns-else-is_err-clause-played g c =
       within = omega (arith, p.1, within, size, length-append slice more, length-take (count - start) (drop start buf));
       plays = on_on c.args.player.now c.play.new.self c.play_rest.new.player slice more plays p.2;
       reads = λ flash. subst (λ (bytes : List ℕ). IsCaused (with_inputs contents flash) C (λ t. stream_known t c.args.limit name) (Ok (record { bytes = bytes; room = left }))) bytes
-          (stream_read contents flash C name first more (drop start first) (i.state c.next_turn.new.inputs).rest (i.state c.play_rest.new.inputs).rest c.args.limit left c.in_ok-first.first.last select p.3.0 p.3.1 c.in_ok-first.ensures.end long fits (omega (arith, p.1, size)) within c.in-Ok.ensures.data);
+          (stream_read contents flash C name first more (drop start first) (i.state c.next_turn.new.inputs).rest (i.state c.play_rest.new.inputs).rest
+          c.args.limit left c.in_ok-first.first.last select p.3.0 p.3.1 c.in_ok-first.ensures.end long fits (omega (arith, p.1, size)) within c.in-Ok.ensures.data);
     }) c.play_rest.ensures.played
 
 pub returns-in_err-open-clause-refused : goal.returns-in_err-open-clause-refused
@@ -89,7 +90,8 @@ returns-in_err-skip_rest-in-Err-clause-refused g c = rw (handed_on c.from_residu
     let reads = reads_first (i.state c.open.new.inputs) (i.state c.next_turn.new.inputs) first c.in_ok-first.ensures.takes c.next_turn.ensures.asked c.next_turn.ensures.inputs in
     stream_unread (i.state c.args.inputs.now) (i.state c.open.new.inputs) (i.state c.skip_rest.new.inputs) flash c.args.name.now c.args.limit (event_of c.in_err-skip_rest-in-Err.field-0.0)
     c.open.ensures.inputs c.in_ok-open.ensures.opened.found c.open.ensures.asks
-    (want_or_rest (i.state c.open.new.inputs) (i.state c.next_turn.new.inputs) (i.state c.skip_rest.new.inputs) c.args.name.now first c.args.limit (c.args.limit - count) (event_of c.in_err-skip_rest-in-Err.field-0.0) reads (omega (arith, size, c.in_ok-first.ensures.within.0)) (inr c.in_err-skip_rest-in-Err.ensures.refused)))
+    (want_or_rest (i.state c.open.new.inputs) (i.state c.next_turn.new.inputs) (i.state c.skip_rest.new.inputs)
+    c.args.name.now first c.args.limit (c.args.limit - count) (event_of c.in_err-skip_rest-in-Err.field-0.0) reads (omega (arith, size, c.in_ok-first.ensures.within.0)) (inr c.in_err-skip_rest-in-Err.ensures.refused)))
 
 pub returns-in_ok-skip_rest-in-Err-clause-refused : goal.returns-in_ok-skip_rest-in-Err-clause-refused
 returns-in_ok-skip_rest-in-Err-clause-refused g c = λ flash.
@@ -106,7 +108,8 @@ returns-in_ok-skip_rest-in-Err-clause-refused g c = λ flash.
     let select : RestIsWhole contents name (preceded first (i.state c.next_turn.new.inputs).rest) = subst (λ r. RestIsWhole contents name r) c.in_ok-first.ensures.takes.taken c.in_ok-open.ensures.opened.found in
     let C = CameIn (step_over (name ∷ []) (i.state c.args.inputs.now) (i.state c.skip_rest.new.inputs)) in
     let p = c.in_ok-skip_rest-in-Err.ensures.read in
-    stream_refused contents flash C name first p.0 (i.state c.next_turn.new.inputs).rest (i.state c.skip_rest.new.inputs).rest c.args.limit c.in_ok-first.first.last (event_of c.in-Err.refusal) select p.2.0 p.2.1 c.in_ok-first.ensures.end long fits (omega (arith, p.1, size)) within c.in-Err.ensures.data
+    stream_refused contents flash C name first p.0 (i.state c.next_turn.new.inputs).rest (i.state c.skip_rest.new.inputs).rest
+    c.args.limit c.in_ok-first.first.last (event_of c.in-Err.refusal) select p.2.0 p.2.1 c.in_ok-first.ensures.end long fits (omega (arith, p.1, size)) within c.in-Err.ensures.data
 
 pub returns-in_err-open-clause-named : goal.returns-in_err-open-clause-named
 returns-in_err-open-clause-named g c = rw (handed_on c.from_residual.result c.in_err-open.field-0.0 c.from_residual.ensures) (let i = g.I.Inputs in

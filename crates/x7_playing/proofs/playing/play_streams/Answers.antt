@@ -68,7 +68,8 @@ returns-clause-played g c =
     )
 
 pub returns-in_err-left-clause-named : goal.returns-in_err-left-clause-named
-returns-in_err-left-clause-named g c = rw (handed_on c.from_residual.result c.in_err-left.field-0.0 c.from_residual.ensures) (one_unplayed string_bytes c.args.streams.now c.loop-name.name-index c.name-item.result c.as_str.result.now (event_of c.in_err-left.field-0.0) c.loop-name-test.true c.name-item.is c.as_str.ensures.value c.in_err-left.ensures.named)
+returns-in_err-left-clause-named g c = rw (handed_on c.from_residual.result c.in_err-left.field-0.0 c.from_residual.ensures)
+    (one_unplayed string_bytes c.args.streams.now c.loop-name.name-index c.name-item.result c.as_str.result.now (event_of c.in_err-left.field-0.0) c.loop-name-test.true c.name-item.is c.as_str.ensures.value c.in_err-left.ensures.named)
 
 pub returns-in_err-left-clause-stops : goal.returns-in_err-left-clause-stops
 returns-in_err-left-clause-stops g c = rw (handed_on c.from_residual.result c.in_err-left.field-0.0 c.from_residual.ensures) (let i = g.I.Inputs in

@@ -4,7 +4,7 @@ use Rattle.x7_engine.specs.UntilRead.{RoomBefore}
 use Rattle.x7_engine.specs.declared.fed.Fed.{Fed}
 use Rattle.x7_engine.specs.declared.stop.StopCause.{StopCause}
 use Rattle.x7_engine.specs.ReadBuffer.{with_words}
-use Rattle.x7_engine.specs.Past.{Answers, past_of}
+use Rattle.x7_engine.specs.Past.{AnswersAt, past_of}
 use Rattle.x7_engine.specs.Standing.{DeviceStandsFor, DeviceState, NoWordDue, answer_at_stop, taken_in, reads_given}
 use Rattle.x7_engine.specs.Stop.{stopped_at}
 use Rattle.x7_engine.proofs.FeedLemmas.{answers_stop, now_given, read_here, stands_on, taken_by_stop, words_none}
@@ -28,8 +28,8 @@ runs-init c = record {
 pub returns-in-Some-clause-answer : goal.returns-in-Some-clause-answer
 returns-in-Some-clause-answer c = λ part kept wrapped bytes s.
     let piece : List ℕ = c.args.piece.now in
-    subst (λ (r : Fed). Answers (past_of part kept wrapped (bytes ++ take (taken_in (length piece) r) piece)) c.runs.self c.runs.read r) (sym c.answer_at_stop.ensures)
-    (subst (λ (k : ℕ). Answers (past_of part kept wrapped (bytes ++ take k piece)) c.runs.self c.runs.read (answer_at_stop c.in-Some.stop c.runs.at)) (sym (taken_by_stop c.in-Some.stop (length piece) c.runs.at))
+    subst (λ (r : Fed). AnswersAt (past_of part kept wrapped (bytes ++ take (taken_in (length piece) r) piece)) c.runs.self c.runs.read r) (sym c.answer_at_stop.ensures)
+    (subst (λ (k : ℕ). AnswersAt (past_of part kept wrapped (bytes ++ take k piece)) c.runs.self c.runs.read (answer_at_stop c.in-Some.stop c.runs.at)) (sym (taken_by_stop c.in-Some.stop (length piece) c.runs.at))
     (answers_stop part kept wrapped c.runs.self (bytes ++ take c.runs.at piece) c.runs.read c.in-Some.stop c.runs.at (c.runs.invariant.stands part kept wrapped bytes s) c.in-Some.ensures))
 
 pub returns-in-Some-clause-takes : goal.returns-in-Some-clause-takes

@@ -4,7 +4,7 @@ use Rattle.x7_engine.specs.UntilRead.{RoomBefore}
 use Rattle.x7_engine.specs.declared.fed.Fed.TheVariants as fed
 use Rattle.x7_engine.specs.declared.stop.StopCause.{StopCause}
 use Rattle.x7_engine.specs.ReadBuffer.{with_words}
-use Rattle.x7_engine.specs.Past.{Answers, AnswersUntil, past_of}
+use Rattle.x7_engine.specs.Past.{AnswersAt, AnswersUntilAt, past_of}
 use Rattle.x7_engine.specs.Standing.{DeviceStandsFor, DeviceState, NoWordDue, taken_in, reads_given}
 use Rattle.x7_engine.specs.Stop.{stopped_at}
 use Rattle.x7_engine.specs.UntilStarted.{NoneStarted, has_started, says_started, taken_until}
@@ -51,10 +51,10 @@ pub returns-in-Some-clause-answer : goal.returns-in-Some-clause-answer
 returns-in-Some-clause-answer c = λ part kept wrapped bytes s.
     let piece : List ℕ = c.args.piece.now in
     let here : DeviceStandsFor part kept wrapped c.runs.self (bytes ++ take c.runs.at piece) = c.runs.invariant.stands part kept wrapped bytes s in
-    let answers : Answers (past_of part kept wrapped (bytes ++ take c.runs.at piece)) c.runs.self c.runs.read c.answer_at_stop.result =
-    subst (Answers (past_of part kept wrapped (bytes ++ take c.runs.at piece)) c.runs.self c.runs.read) (sym c.answer_at_stop.ensures) (answers_stop part kept wrapped c.runs.self (bytes ++ take c.runs.at piece) c.runs.read c.in-Some.stop c.runs.at here c.in-Some.ensures) in
-    subst (λ (k : ℕ). AnswersUntil (past_of part kept wrapped (bytes ++ take k piece)) c.runs.self c.runs.read c.answer.result) (sym (stop_count c))
-    (subst (AnswersUntil (past_of part kept wrapped (bytes ++ take c.runs.at piece)) c.runs.self c.runs.read) (sym c.answer.ensures)
+    let answers : AnswersAt (past_of part kept wrapped (bytes ++ take c.runs.at piece)) c.runs.self c.runs.read c.answer_at_stop.result =
+    subst (AnswersAt (past_of part kept wrapped (bytes ++ take c.runs.at piece)) c.runs.self c.runs.read) (sym c.answer_at_stop.ensures) (answers_stop part kept wrapped c.runs.self (bytes ++ take c.runs.at piece) c.runs.read c.in-Some.stop c.runs.at here c.in-Some.ensures) in
+    subst (λ (k : ℕ). AnswersUntilAt (past_of part kept wrapped (bytes ++ take k piece)) c.runs.self c.runs.read c.answer.result) (sym (stop_count c))
+    (subst (AnswersUntilAt (past_of part kept wrapped (bytes ++ take c.runs.at piece)) c.runs.self c.runs.read) (sym c.answer.ensures)
     (answers_until (past_of part kept wrapped (bytes ++ take c.runs.at piece)) c.runs.self c.runs.read c.started.result c.answer_at_stop.result c.runs.at (here.none_due_at_stop c.in-Some.stop (sym c.in-Some.ensures)) answers))
 
 pub returns-in-Some-clause-reads : goal.returns-in-Some-clause-reads
@@ -144,8 +144,8 @@ returns-then-turn_until_started-clause-answer c = λ part kept wrapped bytes s.
     let given = c.give.ensures.given part kept wrapped taken (c.runs.invariant.stands part kept wrapped bytes s) in
     let here : DeviceStandsFor part kept wrapped c.turn_until_started.new.self all =
     stands_on part kept wrapped c.give.new.self c.turn_until_started.new.self bytes piece c.runs.at at c.turn_until_started.ensures.took.turned.forward (c.turn_until_started.ensures.took.turned.turn.takes part kept wrapped) given.stands in
-    subst (λ (k : ℕ). AnswersUntil (past_of part kept wrapped (bytes ++ take k piece)) c.turn_until_started.new.self c.give.new.read c.answer-then-turn_until_started.result) (sym count)
-    (subst (AnswersUntil (past_of part kept wrapped all) c.turn_until_started.new.self c.give.new.read) (sym c.answer-then-turn_until_started.ensures)
+    subst (λ (k : ℕ). AnswersUntilAt (past_of part kept wrapped (bytes ++ take k piece)) c.turn_until_started.new.self c.give.new.read c.answer-then-turn_until_started.result) (sym count)
+    (subst (AnswersUntilAt (past_of part kept wrapped all) c.turn_until_started.new.self c.give.new.read) (sym c.answer-then-turn_until_started.ensures)
     (answers_until (past_of part kept wrapped all) c.turn_until_started.new.self c.give.new.read c.started-then-turn_until_started.result fed.All at used.no_word_due (here.stop_is ∙ ap (stopped_at (length all)) used.going, used.no_word_due)))
 
 pub returns-then-turn_until_started-clause-reads : goal.returns-then-turn_until_started-clause-reads
@@ -156,19 +156,22 @@ returns-then-turn_until_started-clause-reads c = λ part kept wrapped bytes s.
     let count : taken_until (length piece) c.answer-then-turn_until_started.result ≡ at = count_is c.answer-then-turn_until_started.result c.started-then-turn_until_started.result fed.All (length piece) at c.answer-then-turn_until_started.ensures (sym used.all) in
     let known : (more : List ℕ) × (c.give.new.read ≡ with_words c.args.read.now more) × (reads_given part kept c.turn_until_started.new.self (bytes ++ take at piece) ≡ reads_given part kept c.args.self.now bytes ++ more) =
     read_here part kept wrapped c.runs.self c.give.new.self c.turn_until_started.new.self c.args.read.now c.runs.read c.give.new.read bytes piece (reads_given part kept c.args.self.now bytes) c.runs.at at
-    (c.give.ensures.given part kept wrapped (bytes ++ take c.runs.at piece) (c.runs.invariant.stands part kept wrapped bytes s)) c.turn_until_started.ensures.took.turned.forward (c.turn_until_started.ensures.took.turned.turn.silent part kept wrapped) (c.runs.invariant.reads part kept wrapped bytes s) in
+    (c.give.ensures.given part kept wrapped (bytes ++ take c.runs.at piece) (c.runs.invariant.stands part kept wrapped bytes s)) c.turn_until_started.ensures.took.turned.forward
+    (c.turn_until_started.ensures.took.turned.turn.silent part kept wrapped) (c.runs.invariant.reads part kept wrapped bytes s) in
     (known.0, known.1, ap (λ (k : ℕ). reads_given part kept c.turn_until_started.new.self (bytes ++ take k piece)) count ∙ known.2)
 
 pub returns-then-turn_until_started-clause-room : goal.returns-then-turn_until_started-clause-room
 returns-then-turn_until_started-clause-room c = λ part kept wrapped bytes s.
     let piece : List ℕ = c.args.piece.now in
     let used = c.turn_until_started.ensures.took.used_up c.if-turn_until_started.true in
-    let count : taken_until (length piece) c.answer-then-turn_until_started.result ≡ c.turn_until_started.new.at = count_is c.answer-then-turn_until_started.result c.started-then-turn_until_started.result fed.All (length piece) c.turn_until_started.new.at c.answer-then-turn_until_started.ensures (sym used.all) in
+    let count : taken_until (length piece) c.answer-then-turn_until_started.result ≡ c.turn_until_started.new.at =
+    count_is c.answer-then-turn_until_started.result c.started-then-turn_until_started.result fed.All (length piece) c.turn_until_started.new.at c.answer-then-turn_until_started.ensures (sym used.all) in
     subst (λ (k : ℕ). RoomBefore (record { part = part; kept = kept; wrapped = wrapped; bytes = bytes }) piece k (reads_given part kept c.args.self.now bytes) c.args.read.now) (sym count) (
     let taken : List ℕ = bytes ++ take c.runs.at c.args.piece.now in
     let gives = c.give.ensures.given part kept wrapped taken (c.runs.invariant.stands part kept wrapped bytes s) in
     let due : NoWordDue c.give.new.self = c.give.ensures.none_left.0 c.if-not-give.false in
-    room_read_on part kept wrapped c.give.new.self c.turn_until_started.new.self c.args.read.now c.give.new.read bytes c.args.piece.now (reads_given part kept c.args.self.now bytes) c.runs.at c.turn_until_started.new.at c.turn_until_started.ensures.took.turned.forward c.turn_until_started.ensures.took.turned.within
+    room_read_on part kept wrapped c.give.new.self c.turn_until_started.new.self c.args.read.now c.give.new.read bytes c.args.piece.now
+    (reads_given part kept c.args.self.now bytes) c.runs.at c.turn_until_started.new.at c.turn_until_started.ensures.took.turned.forward c.turn_until_started.ensures.took.turned.within
     c.give.ensures.going due gives.stands (c.turn_until_started.ensures.took.turned.turn.takes part kept wrapped taken gives.stands) (c.turn_until_started.ensures.took.turned.turn.commands part kept wrapped taken gives.stands) c.give.ensures.within_most
     (now_given part kept wrapped c.runs.self c.give.new.self c.args.read.now c.runs.read c.give.new.read taken (reads_given part kept c.args.self.now bytes) gives (c.runs.invariant.reads part kept wrapped bytes s))
     (c.runs.invariant.room part kept wrapped bytes s))
@@ -196,12 +199,14 @@ runs-preserved c =
           none_on part kept bytes piece c.runs.at at c.turn_until_started.ensures.took.turned.forward (c.runs.invariant.first part kept wrapped bytes s) (c.turn_until_started.ensures.first part kept wrapped taken given.stands not);
       reads = λ part kept wrapped bytes s.
           read_here part kept wrapped c.runs.self c.give.new.self c.turn_until_started.new.self c.args.read.now c.runs.read c.give.new.read bytes piece (reads_given part kept c.args.self.now bytes) c.runs.at at
-          (c.give.ensures.given part kept wrapped (bytes ++ take c.runs.at piece) (c.runs.invariant.stands part kept wrapped bytes s)) c.turn_until_started.ensures.took.turned.forward (c.turn_until_started.ensures.took.turned.turn.silent part kept wrapped) (c.runs.invariant.reads part kept wrapped bytes s);
+          (c.give.ensures.given part kept wrapped (bytes ++ take c.runs.at piece) (c.runs.invariant.stands part kept wrapped bytes s)) c.turn_until_started.ensures.took.turned.forward
+          (c.turn_until_started.ensures.took.turned.turn.silent part kept wrapped) (c.runs.invariant.reads part kept wrapped bytes s);
       room = λ part kept wrapped bytes s. (
           let taken : List ℕ = bytes ++ take c.runs.at c.args.piece.now in
           let gives = c.give.ensures.given part kept wrapped taken (c.runs.invariant.stands part kept wrapped bytes s) in
           let due : NoWordDue c.give.new.self = c.give.ensures.none_left.0 c.if-not-give.false in
-          room_read_on part kept wrapped c.give.new.self c.turn_until_started.new.self c.args.read.now c.give.new.read bytes c.args.piece.now (reads_given part kept c.args.self.now bytes) c.runs.at c.turn_until_started.new.at c.turn_until_started.ensures.took.turned.forward c.turn_until_started.ensures.took.turned.within
+          room_read_on part kept wrapped c.give.new.self c.turn_until_started.new.self c.args.read.now c.give.new.read bytes c.args.piece.now
+          (reads_given part kept c.args.self.now bytes) c.runs.at c.turn_until_started.new.at c.turn_until_started.ensures.took.turned.forward c.turn_until_started.ensures.took.turned.within
           c.give.ensures.going due gives.stands (c.turn_until_started.ensures.took.turned.turn.takes part kept wrapped taken gives.stands) (c.turn_until_started.ensures.took.turned.turn.commands part kept wrapped taken gives.stands) c.give.ensures.within_most
           (now_given part kept wrapped c.runs.self c.give.new.self c.args.read.now c.runs.read c.give.new.read taken (reads_given part kept c.args.self.now bytes) gives (c.runs.invariant.reads part kept wrapped bytes s))
           (c.runs.invariant.room part kept wrapped bytes s));

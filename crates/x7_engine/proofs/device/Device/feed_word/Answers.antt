@@ -1,4 +1,4 @@
-use Rattle.std.proofs.Common.{◌≤◌, ◌++◌, ℕ, List, length, take, arith}
+use Rattle.std.proofs.Common.{◌≤◌, ◌++◌, ℕ, List, length, take, refl, arith}
 use Rattle.std.proofs.lemmas.List.{length-take}
 use Rattle.x7_engine.specs.Past.{past_of}
 use Rattle.x7_engine.specs.Standing.{taken_in}
@@ -16,11 +16,14 @@ pub returns-clause-back : goal.returns-clause-back
 returns-clause-back c = λ part kept wrapped bytes s.
     let piece : List ℕ = c.args.piece.now in
     let taken : ℕ = taken_in (length piece) c.feed-fed.result in
-    let few : length (take taken piece) ≤ 4 = omega (arith, length-take taken piece, c.requires.four) in
+    let few : length (take taken piece) ≤ 4 = omega (arith, length-take taken piece, c.requires.within_reach) in
     leads_back part kept wrapped c.save.new.undo c.args.self.now c.feed-fed.new.self bytes (take taken piece) c.save.ensures.saves c.frames_fit.ensures c.requires.no_word_due few s (c.feed-fed.ensures.takes part kept wrapped bytes s)
 
 pub returns-clause-stopped : goal.returns-clause-stopped
-returns-clause-stopped c = λ part kept wrapped bytes s e. let same = c.feed-fed.ensures.stopped part kept wrapped bytes s e in (same.0, same.2)
+returns-clause-stopped c = λ part kept wrapped bytes s e. let same = c.feed-fed.ensures.stopped part kept wrapped bytes s e in (same.0, refl, same.2)
 
 pub returns-clause-stays : goal.returns-clause-stays
-returns-clause-stays c = λ why e. let same = c.feed-fed.ensures.stays why e in (same.0, same.2)
+returns-clause-stays c = λ e. let same = c.feed-fed.ensures.stays e in (same.0, refl, same.2)
+
+pub returns-clause-answers_stop : goal.returns-clause-answers_stop
+returns-clause-answers_stop c = c.feed-fed.ensures.answers_stop

@@ -4,7 +4,7 @@ use Rattle.x7_pipeline.specs.Saved.{SavedState}
 use Rattle.x7_flow.specs.Saved.{FramesBack}
 use Rattle.x7_flow.specs.Standing.{FramesFit, FramesState}
 use Rattle.x7_engine.specs.Standing.{DeviceState, registers_in}
-use Rattle.x7_engine.specs.Undo.{Back, UndoState}
+use Rattle.x7_engine.specs.Undo.{UndoLeadsBack, UndoState}
 use Rattle.x7_engine.proofs.PastLemmas.{past_back}
 use Rattle.x7_engine.proofs.UndoLemmas.{leads_back}
 use Rattle.x7_engine.proofs.device.Device.go_back.Goals as goal
@@ -15,7 +15,7 @@ invariant_of-self c =
     let u : UndoState = c.args.undo.now in
     let now : DeviceState = c.args.self.now in
     let fit : FramesFit now.part now.registers.frames = subst (λ (d : DeviceState). FramesFit d.part d.registers.frames) c.self.view_is c.self.invariant.frames in
-    let back : Back u now b.old = leads_back b.past.part b.past.kept b.past.wrapped u b.old now b.past.bytes b.more b.saves fit b.no_word_due b.few b.had b.has in
+    let back : UndoLeadsBack u now b.old = leads_back b.past.part b.past.kept b.past.wrapped u b.old now b.past.bytes b.more b.saves fit b.no_word_due b.few b.had b.has in
     let here : c.self.inside.part ≡ b.old.part = ap (λ (d : DeviceState). d.part) c.self.view_is ∙ back.part in
     let frames : FramesBack c.self.inside.part c.undo.inside.frames c.self.inside.registers.frames b.old.registers.frames =
     subst (λ (q : PartData). FramesBack q c.undo.inside.frames c.self.inside.registers.frames b.old.registers.frames) (sym here)

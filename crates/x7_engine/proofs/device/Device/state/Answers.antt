@@ -53,7 +53,27 @@ returns-clause-owing c = λ given kept wrapped bytes s.
     let bootsts : c.boot_status.result ≡ register_value course wrapped (stop_fault (why_of (stop_in part kept bytes))) reg.Bootsts = c.boot_status.ensures part kept wrapped bytes now in
     let ctl1 : c.value-13.result ≡ register_value course wrapped (stop_fault (why_of (stop_in part kept bytes))) reg.Ctl1 = c.value-13.ensures kept h n regs ∙ shown reg.Ctl1 in
     let bspi : c.value-14.result ≡ register_value course wrapped (stop_fault (why_of (stop_in part kept bytes))) reg.Bspi = c.value-14.ensures kept h n regs ∙ shown reg.Bspi in
-    let all : _ ≡ state_owing part kept wrapped bytes due = λ i. record { taken = taken i; end = end i; phase = phase i; lines = lines i; crc = crc i; far = far i; cmd = cmd i; ctl0 = ctl0 i; mask = mask i; stat = stat i; cor0 = cor0 i; idcode = idcode i; axss = axss i; cor1 = cor1 i; wbstar = wbstar i; timer = timer i; bootsts = bootsts i; ctl1 = ctl1 i; bspi = bspi i } in
+    let all : _ ≡ state_owing part kept wrapped bytes due = λ i. record {
+      taken = taken i;
+      end = end i;
+      phase = phase i;
+      lines = lines i;
+      crc = crc i;
+      far = far i;
+      cmd = cmd i;
+      ctl0 = ctl0 i;
+      mask = mask i;
+      stat = stat i;
+      cor0 = cor0 i;
+      idcode = idcode i;
+      axss = axss i;
+      cor1 = cor1 i;
+      wbstar = wbstar i;
+      timer = timer i;
+      bootsts = bootsts i;
+      ctl1 = ctl1 i;
+      bspi = bspi i;
+    } in
     all ∙ ap (λ (p : PartData). state_owing p kept wrapped bytes due) here
     ∙ ap (λ (d : DeviceState). state_owing given kept wrapped bytes (frames_due d.registers.due)) c.self.view_is
 

@@ -3,7 +3,7 @@ use Rattle.std.specs.Option.{is_some}
 use Rattle.x7_packets.specs.Cutter.{CutterState, between, calls_left}
 use Rattle.x7_engine.specs.declared.stop.StopCause.{StopCause}
 use Rattle.x7_engine.specs.Standing.{DeviceStandsFor, reads_given}
-use Rattle.x7_engine.specs.Turns.{TakesTurn}
+use Rattle.x7_engine.specs.Turns.{TurnTakes}
 use Rattle.x7_engine.specs.UntilStarted.{CommandsLast}
 use Rattle.x7_engine.proofs.PassLemmas.{between_join}
 use Rattle.x7_engine.proofs.UntilLemmas.{then_commands}
@@ -16,7 +16,7 @@ joined c bytes =
     append_assoc bytes (between c.args.piece.now c.args.at.now c.pass_nops.new.at) (between c.args.piece.now c.pass_nops.new.at c.take_run.new.at)
     ∙ ap (λ (t : List ℕ). bytes ++ t) (between_join c.args.piece.now c.args.at.now c.pass_nops.new.at c.take_run.new.at c.pass_nops.ensures.turned.forward c.take_run.ensures.turned.forward)
 
-turn_taken : (c : goal.After-take_run) → TakesTurn c.args.self.now c.take_run.new.self (between c.args.piece.now c.args.at.now c.take_run.new.at)
+turn_taken : (c : goal.After-take_run) → TurnTakes c.args.self.now c.take_run.new.self (between c.args.piece.now c.args.at.now c.take_run.new.at)
 turn_taken c =
     let nops : List ℕ = between c.args.piece.now c.args.at.now c.pass_nops.new.at in
     let run : List ℕ = between c.args.piece.now c.pass_nops.new.at c.take_run.new.at in

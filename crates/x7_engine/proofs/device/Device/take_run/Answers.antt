@@ -7,15 +7,15 @@ use Rattle.x7_engine.specs.declared.kept.Kept.{Kept}
 use Rattle.x7_engine.specs.Past.{HasSomePast}
 use Rattle.x7_engine.specs.Standing.{DeviceStandsFor, DeviceState, IsCutterOf, HasNoWord, registers_in, words_still_due}
 use Rattle.x7_engine.specs.State.{history_taken, reads_of}
-use Rattle.x7_engine.specs.Turns.{TakesTurn}
+use Rattle.x7_engine.specs.Turns.{TurnTakes}
 use Rattle.x7_engine.proofs.DeviceLemmas.{between_prefix, holds_run, length_between, given_by, turned}
 use Rattle.x7_engine.proofs.FrameLemmas.{no_word_due}
 use Rattle.x7_engine.proofs.PastLemmas.{past_later}
 use Rattle.x7_engine.proofs.UntilLemmas.{prefix_commands, run_commands}
 use Rattle.x7_engine.proofs.device.Device.take_run.Goals as goal
 
-pub run-left-requires-clause-holds : goal.run-left-requires-clause-holds
-run-left-requires-clause-holds c =
+pub take_run-left-requires-clause-holds : goal.take_run-left-requires-clause-holds
+take_run-left-requires-clause-holds c =
     let cut : List ℕ = between c.args.piece.now c.args.at.now c.cut-run.new.at in
     holds_run c.self.inside.cutter c.cut-run.new.self c.cut-run.result (length c.args.piece.now - c.args.at.now) (c.cut-run.new.at - c.args.at.now) cut c.cut-run.ensures.lent c.cut-run.ensures.joined
     (sym (length_between c.args.piece.now c.args.at.now c.cut-run.new.at c.cut-run.ensures.forward c.cut-run.ensures.within))
@@ -28,24 +28,24 @@ abbrev device_after : goal.After-is_done → DeviceState
 device_after c = record {
   part = c.self.inside.part;
   cutter = c.cut-run.new.self;
-  registers = registers_in c.run-left.new.self;
+  registers = registers_in c.take_run-left.new.self;
   wrapped = c.self.inside.wrapped;
-  taken = c.self.inside.taken + (c.cut-run.new.at - c.run-left.result - c.args.at.now);
+  taken = c.self.inside.taken + (c.cut-run.new.at - c.take_run-left.result - c.args.at.now);
   fed = c.saturating_add-self-inside.result;
 }
 
 turned_here : (c : goal.After-is_done) (kept : Kept) (wrapped : Bool) (bytes : List ℕ) → (let part : PartData = c.self.inside.part in DeviceStandsFor part kept wrapped c.args.self.now bytes
-    → (let more : List ℕ = between c.args.piece.now c.args.at.now (c.cut-run.new.at - c.run-left.result) in
+    → (let more : List ℕ = between c.args.piece.now c.args.at.now (c.cut-run.new.at - c.take_run-left.result) in
     DeviceStandsFor part kept wrapped (device_after c) (bytes ++ more)
-    × (reads_of part kept (bytes ++ more) ≡ reads_of part kept bytes ++ words_still_due part (history_taken part kept (bytes ++ more)) c.run-left.new.self.due)))
+    × (reads_of part kept (bytes ++ more) ≡ reads_of part kept bytes ++ words_still_due part (history_taken part kept (bytes ++ more)) c.take_run-left.new.self.due)))
 turned_here c kept wrapped bytes s =
     let piece : List ℕ = c.args.piece.now in
     let from : ℕ = c.args.at.now in
     let at : ℕ = c.cut-run.new.at in
-    let left : ℕ = c.run-left.result in
+    let left : ℕ = c.take_run-left.result in
     let cut : List ℕ = between piece from at in
     let more : List ℕ = between piece from (at - left) in
-    let some : left ≤ at - from = c.run-left.ensures.left.within in
+    let some : left ≤ at - from = c.take_run-left.ensures.left.within in
     let onward : from ≤ at = c.cut-run.ensures.forward in
     let forward : from ≤ at - left = omega (arith, some, onward) in
     let all : length cut ≡ at - from = length_between piece from at c.cut-run.ensures.forward c.cut-run.ensures.within in
@@ -53,23 +53,23 @@ turned_here c kept wrapped bytes s =
     let inside : DeviceStandsFor c.self.inside.part kept wrapped (device_before c) bytes = subst (λ (d : DeviceState). DeviceStandsFor c.self.inside.part kept wrapped d bytes) (sym c.self.view_is) s in
     turned c.self.inside.part kept wrapped (device_before c) (device_after c) bytes cut more (drop (at - left - from) cut) c.cut-run.result (at - from) left (length piece - from) inside
     (ap (λ (d : DeviceState). d.registers.stop) c.self.view_is ∙ c.requires.going)
-    (c.cut-run.ensures.adds bytes) (c.run-left.ensures.enters kept) (c.run-left.ensures.reads kept)
+    (c.cut-run.ensures.adds bytes) (c.take_run-left.ensures.enters kept) (c.take_run-left.ensures.reads kept)
     (sym all) (between_prefix piece from at left forward) (length-drop (at - left - from) cut ∙ omega (arith, all, some)) c.cut-run.ensures.run c.cut-run.ensures.lent
-    c.run-left.ensures.left.goes_on c.run-left.ensures.none_due_at_stop.none_due_at_stop refl refl (omega (arith, taken))
+    c.take_run-left.ensures.left.goes_on c.take_run-left.ensures.none_due_at_stop.none_due_at_stop refl refl (omega (arith, taken))
 
-turn_taken : (c : goal.After-is_done) → TakesTurn c.args.self.now (device_after c) (between c.args.piece.now c.args.at.now (c.cut-run.new.at - c.run-left.result))
+turn_taken : (c : goal.After-is_done) → TurnTakes c.args.self.now (device_after c) (between c.args.piece.now c.args.at.now (c.cut-run.new.at - c.take_run-left.result))
 turn_taken c = record {
   part = ap (λ (d : DeviceState). d.part) c.self.view_is;
   takes = λ part kept wrapped bytes s. (
       let here : c.self.inside.part ≡ part = ap (λ (d : DeviceState). d.part) c.self.view_is ∙ s.part_is in
-      let more : List ℕ = between c.args.piece.now c.args.at.now (c.cut-run.new.at - c.run-left.result) in
+      let more : List ℕ = between c.args.piece.now c.args.at.now (c.cut-run.new.at - c.take_run-left.result) in
       subst (λ (p : PartData). DeviceStandsFor p kept wrapped (device_after c) (bytes ++ more)) here
       (turned_here c kept wrapped bytes (subst (λ (p : PartData). DeviceStandsFor p kept wrapped c.args.self.now bytes) (sym here) s)).0);
   silent = λ part kept wrapped bytes s. (
       let here : c.self.inside.part ≡ part = ap (λ (d : DeviceState). d.part) c.self.view_is ∙ s.part_is in
-      let more : List ℕ = between c.args.piece.now c.args.at.now (c.cut-run.new.at - c.run-left.result) in
-      let reads : reads_of part kept (bytes ++ more) ≡ reads_of part kept bytes ++ words_still_due part (history_taken part kept (bytes ++ more)) c.run-left.new.self.due =
-      subst (λ (p : PartData). reads_of p kept (bytes ++ more) ≡ reads_of p kept bytes ++ words_still_due p (history_taken p kept (bytes ++ more)) c.run-left.new.self.due) here
+      let more : List ℕ = between c.args.piece.now c.args.at.now (c.cut-run.new.at - c.take_run-left.result) in
+      let reads : reads_of part kept (bytes ++ more) ≡ reads_of part kept bytes ++ words_still_due part (history_taken part kept (bytes ++ more)) c.take_run-left.new.self.due =
+      subst (λ (p : PartData). reads_of p kept (bytes ++ more) ≡ reads_of p kept bytes ++ words_still_due p (history_taken p kept (bytes ++ more)) c.take_run-left.new.self.due) here
       (turned_here c kept wrapped bytes (subst (λ (p : PartData). DeviceStandsFor p kept wrapped c.args.self.now bytes) (sym here) s)).1 in
       given_by part kept (device_after c) (bytes ++ more) (reads_of part kept bytes) (history_taken part kept (bytes ++ more)) reads
       ∙ sym (given_by part kept c.args.self.now bytes (reads_of part kept bytes) [] (no_word_due (reads_of part kept bytes) part [] c.args.self.now.registers.due c.requires.no_word_due)));
@@ -77,10 +77,10 @@ turn_taken c = record {
       let piece : List ℕ = c.args.piece.now in
       let from : ℕ = c.args.at.now in
       let at : ℕ = c.cut-run.new.at in
-      let left : ℕ = c.run-left.result in
+      let left : ℕ = c.take_run-left.result in
       let inside : DeviceStandsFor part kept wrapped (device_before c) bytes = subst (λ (d : DeviceState). DeviceStandsFor part kept wrapped d bytes) (sym c.self.view_is) s in
       let cutter : IsCutterOf c.self.inside.cutter bytes = inside.cutter_is (ap (λ (d : DeviceState). d.registers.stop) c.self.view_is ∙ c.requires.going) in
-      let some : left ≤ at - from = c.run-left.ensures.left.within in
+      let some : left ≤ at - from = c.take_run-left.ensures.left.within in
       let onward : from ≤ at = c.cut-run.ensures.forward in
       prefix_commands bytes (between piece from at) (between piece from (at - left)) (drop (at - left - from) (between piece from at)) (between_prefix piece from at left (omega (arith, some, onward)))
       (run_commands c.self.inside.cutter c.cut-run.new.self bytes (between piece from at) cutter.sessions cutter.place c.cut-run.result (length piece - from) cutter.stands
@@ -89,8 +89,8 @@ turn_taken c = record {
 
 pub invariant_of-self : goal.invariant_of-self
 invariant_of-self c = record {
-  frames = c.run-left.ensures.none_due_at_stop.frames;
-  past = past_later c.args.self.now (device_after c) (between c.args.piece.now c.args.at.now (c.cut-run.new.at - c.run-left.result)) (turn_taken c).takes (subst HasSomePast c.self.view_is c.self.invariant.past);
+  frames = c.take_run-left.ensures.none_due_at_stop.frames;
+  past = past_later c.args.self.now (device_after c) (between c.args.piece.now c.args.at.now (c.cut-run.new.at - c.take_run-left.result)) (turn_taken c).takes (subst HasSomePast c.self.view_is c.self.invariant.past);
 }
 
 -- a run that says that the piece is used up leaves nothing of it, and tells of no word; any other comes nearer to that
@@ -129,13 +129,13 @@ returns c = record {
   };
   used_up = λ e. (
       let done = c.is_done.ensures.yes e in
-      let going : c.run-left.new.self.stop ≡ None = sym c.stop.ensures ∙ done.1 in
+      let going : c.take_run-left.new.self.stop ≡ None = sym c.stop.ensures ∙ done.1 in
       let need : IsNeed c.cut-run.result = c.is_need-used_up.ensures.0 done.0 in
       let all : length c.args.piece.now - c.cut-run.new.at ≡ 0 = all_used c.cut-run.result _ _ _ need c.cut-run.ensures.nearer in
       record {
-        all = omega (arith, all, c.cut-run.ensures.within, c.run-left.ensures.left.goes_on going);
+        all = omega (arith, all, c.cut-run.ensures.within, c.take_run-left.ensures.left.goes_on going);
         going = going;
-        no_word_due = c.run-left.ensures.no_word_due (tells_nothing c.cut-run.result need);
+        no_word_due = c.take_run-left.ensures.no_word_due (tells_nothing c.cut-run.result need);
       });
   goes_on = λ e f. (
       let unused : c.is_need-used_up.result ≡ false = c.is_done.ensures.no e (c.stop.ensures ∙ f) in
@@ -143,5 +143,5 @@ returns c = record {
       let nearer : calls_left c.cut-run.new.self (piece - c.cut-run.new.at) < calls_left c.self.inside.cutter (piece - c.args.at.now) =
       comes_nearer c.cut-run.result _ _ _ (λ n. absurd (let both : true ≡ false = sym (c.is_need-used_up.ensures.1 n) ∙ unused in cc)) c.cut-run.ensures.nearer in
       let same : calls_left c.self.inside.cutter (piece - c.args.at.now) ≡ calls_left c.args.self.now.cutter (piece - c.args.at.now) = ap (λ (d : DeviceState). calls_left d.cutter (piece - c.args.at.now)) c.self.view_is in
-      omega (arith, nearer, same, c.run-left.ensures.left.goes_on f));
+      omega (arith, nearer, same, c.take_run-left.ensures.left.goes_on f));
 }

@@ -3,11 +3,11 @@ use Rattle.x7_packets.specs.Cutter.{between}
 use Rattle.x7_packets.specs.History.{Write, entry}
 use Rattle.x7_part.specs.Part.{PartData}
 use Rattle.x7_engine.specs.declared.kept.Kept.{Kept}
-use Rattle.x7_engine.specs.Entering.{Change, EntersAt}
+use Rattle.x7_engine.specs.Entering.{Change, EntersHistoryAt}
 use Rattle.x7_engine.specs.Past.{HasSomePast}
 use Rattle.x7_engine.specs.Standing.{DeviceStandsFor, DeviceState, due_count, registers_in}
 use Rattle.x7_engine.specs.State.{reads_of}
-use Rattle.x7_engine.specs.Turns.{TakesTurn}
+use Rattle.x7_engine.specs.Turns.{TurnTakes}
 use Rattle.x7_engine.specs.UntilStarted.{CommandsLast}
 use Rattle.x7_engine.proofs.PassLemmas.{given_same}
 use Rattle.x7_engine.proofs.PastLemmas.{past_later}
@@ -48,9 +48,9 @@ written_here c given kept wrapped bytes s =
     (write_at part kept wrapped (device_before c) (device_after c) bytes c.args.piece.now c.args.at.now c.in-Some.register c.in-Some.word inside
     (ap (λ (d : DeviceState). d.registers.stop) c.self.view_is ∙ c.requires.going)
     (c.is_idle.ensures.not_begun c.if-not-is_idle.false) (c.is_idle.ensures.no_limit c.if-not-is_idle.false)
-    c.in-Some.ensures.writes (subst (λ (r : ℕ). EntersAt (wrote c) (λ place h. entry (Write r c.in-Some.word) place ∷ h)) c.numbered.ensures c.write_to.ensures.enters kept) c.write_to.ensures.counts (no_word_due c) refl refl refl)
+    c.in-Some.ensures.writes (subst (λ (r : ℕ). EntersHistoryAt (wrote c) (λ place h. entry (Write r c.in-Some.word) place ∷ h)) c.numbered.ensures c.write_to.ensures.enters kept) c.write_to.ensures.counts (no_word_due c) refl refl refl)
 
-turn_taken : (c : goal.After-self-2-1) → TakesTurn c.args.self.now (device_after c) (between c.args.piece.now c.args.at.now (c.args.at.now + 8))
+turn_taken : (c : goal.After-self-2-1) → TurnTakes c.args.self.now (device_after c) (between c.args.piece.now c.args.at.now (c.args.at.now + 8))
 turn_taken c = record {
   part = ap (λ (d : DeviceState). d.part) c.self.view_is;
   takes = λ part kept wrapped bytes s. (written_here c part kept wrapped bytes s).0;

@@ -25,7 +25,8 @@ returns c = λ part ready. record {
         clock = clock_plain part kept (registers_in c.args.self.now).clock h c.args.plain.register c.args.word place q s.clock;
         stop = stop_of_access part kept h (Write c.args.plain.register c.args.word) place going ∙ ap (stopped_at place) (sym (why_none part kept h c.args.plain.register c.args.word p)) ∙ sym (ap (stopped_at place) ready.going);
         frames = frames_none part c.args.self.now.frames c.args.self.now.stop (entry (Write c.args.plain.register c.args.word) place ∷ h) c.args.self.now.due ready.going ready.no_word_due
-            (other_access part c.args.self.now.frames h (entry (Write c.args.plain.register c.args.word) place) (plain_asks part.idcode h c.args.plain.register c.args.word p) (standing_frames part c.args.self.now.frames c.args.self.now.stop h c.args.self.now.due ready.going ready.no_word_due s.frames));
+            (other_access part c.args.self.now.frames h (entry (Write c.args.plain.register c.args.word) place)
+            (plain_asks part.idcode h c.args.plain.register c.args.word p) (standing_frames part c.args.self.now.frames c.args.self.now.stop h c.args.self.now.due ready.going ready.no_word_due s.frames));
         due_kind = none_among c.args.self.now.due (entry (Write c.args.plain.register c.args.word) place ∷ h) ready.no_word_due;
       });
   counts = λ n. ap (λ (o : Option StopCause). counted_in o n) ready.going;

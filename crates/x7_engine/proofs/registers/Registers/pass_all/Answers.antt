@@ -55,7 +55,8 @@ returns c = record {
         before = t.before;
         clock = clocked.clock;
         stop = clocked.stop;
-        frames = plain_are part c.take_bytes-left.new.self.frames c.take_bytes-left.new.self.stop c.args.plain.register n prefix h c.take_bytes-left.new.self.due p (ticks_on c.take_bytes-left.new.self.stop _ c.take_bytes-left.ensures.fired) (ap due_count c.take_bytes-left.ensures.due ∙ c.requires.may_take.no_word_due) t.frames;
+        frames = plain_are part c.take_bytes-left.new.self.frames c.take_bytes-left.new.self.stop c.args.plain.register n prefix h c.take_bytes-left.new.self.due p
+            (ticks_on c.take_bytes-left.new.self.stop _ c.take_bytes-left.ensures.fired) (ap due_count c.take_bytes-left.ensures.due ∙ c.requires.may_take.no_word_due) t.frames;
         due_kind = none_among c.take_bytes-left.new.self.due (entered_all n (payload_steps c.args.plain.register prefix) h) (ap due_count c.take_bytes-left.ensures.due ∙ c.requires.may_take.no_word_due);
       });
 }

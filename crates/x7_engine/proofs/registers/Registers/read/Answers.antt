@@ -21,7 +21,8 @@ use Rattle.x7_engine.proofs.registers.Registers.read.Goals as goal
 read_why : (part : PartData) (kept : Kept) (h : History) (register count : ℕ) (result : Option RunFault) → frame_fault part h (Read register count) ≡ result → why_at part kept h (Read register count) ≡ why_by_frames result
 read_why part kept h register count result e = ap why_by_frames e
 
-answered : (part : PartData) (kept : Kept) (h : History) (register count place : ℕ) (why : Option StopCause) → why_at part kept h (Read register count) ≡ why → words_read_by part kept h (Read register count) place ≡ (if is_some why then [] else words_of_read (course_at part kept h place) register count)
+answered : (part : PartData) (kept : Kept) (h : History) (register count place : ℕ) (why : Option StopCause)
+    → why_at part kept h (Read register count) ≡ why → words_read_by part kept h (Read register count) place ≡ (if is_some why then [] else words_of_read (course_at part kept h place) register count)
 answered part kept h register count place why e = ap (λ (o : Option StopCause). if is_some o then [] else words_of_read (course_at part kept h place) register count) e
 
 pub returns-then-not-reads_frames-clause-enters : goal.returns-then-not-reads_frames-clause-enters

@@ -20,7 +20,7 @@ use Rattle.x7_engine.proofs.FiringLemmas.{firing_less, ticks_quiet}
 use Rattle.x7_engine.proofs.FrameLemmas.{frames_none, standing_frames, none_among}
 use Rattle.x7_engine.proofs.PlainLemmas.{Clocked, IsQuiet, clocked_all, controls_stay, words_prefix}
 use Rattle.x7_engine.proofs.TurnLemmas.{newest_within, ticked}
-use Rattle.x7_engine.proofs.registers.Registers.frame_words.Goals as goal
+use Rattle.x7_engine.proofs.registers.Registers.take_frame_words.Goals as goal
 
 pub returns : goal.returns
 returns c = record {

@@ -6,7 +6,7 @@ use Rattle.x7_regs.specs.Register.{number_of}
 use Rattle.x7_engine.specs.declared.stop.StopCause.{StopCause}
 use Rattle.x7_engine.proofs.BodyLemmas.{chunk_word, chunks_are, length_of_words, word_after, word_on, words_all}
 use Rattle.x7_engine.proofs.TurnLemmas.{none_there}
-use Rattle.x7_engine.proofs.registers.Registers.words_one_by_one.Goals as goal
+use Rattle.x7_engine.proofs.registers.Registers.take_words_one_by_one.Goals as goal
 
 pub loop-word-init : goal.loop-word-init
 loop-word-init c = record {
@@ -23,17 +23,17 @@ returns-then-is_some c = record {
     within = (
         let all : length (words_of_bytes c.args.bytes.now) ≡ length c.as_chunks.result.0.now = chunks_are c.args.bytes.now c.as_chunks.result.0.now c.as_chunks.ensures.front in
         omega (arith, all, length_of_words c.args.bytes.now, c.loop-word-test.true, c.loop-word.invariant.count));
-    takes_some = λ l. let some : c.word-left.result < 4 = c.word-left.ensures.takes_some (omega arith) in omega (arith, some);
+    takes_some = λ l. let some : c.take_word-left.result < 4 = c.take_word-left.ensures.takes_some (omega arith) in omega (arith, some);
     goes_on = λ e. absurd (let both : true ≡ false = sym c.if-is_some.true ∙ c.is_some.ensures ∙ ap (λ (o : Option StopCause). is_some o) e in cc);
   };
-  leaves = record { due = c.word-left.ensures.leaves.due ∙ c.loop-word.invariant.due; frames = c.word-left.ensures.leaves.frames };
+  leaves = record { due = c.take_word-left.ensures.leaves.due ∙ c.loop-word.invariant.due; frames = c.take_word-left.ensures.leaves.frames };
   enters = λ kept h n s. (
       let ws : List ℕ = words_of_bytes c.args.bytes.now in
       let word : take (c.loop-word.word-index + 1) ws ≡ take c.loop-word.word-index ws ++ c.word_of.result ∷ [] =
       chunk_word c.args.bytes.now c.as_chunks.result.0.now c.loop-word.word-index c.word_of.result c.as_chunks.ensures.front c.loop-word-test.true c.word_of.ensures.value in
       let few : c.loop-word.word-index < length ws = let all : length ws ≡ length c.as_chunks.result.0.now = chunks_are c.args.bytes.now c.as_chunks.result.0.now c.as_chunks.ensures.front in omega (arith, all, c.loop-word-test.true) in
-      word_after c.args.part.now kept (registers_in c.loop-word.self) (registers_in c.word-left.new.self) (number_of c.args.reg) n c.loop-word.word-index c.word_of.result c.word-left.result c.loop-word.taken (n + (c.loop-word.taken + (4 - c.word-left.result))) ws h
-      word few c.loop-word.invariant.count c.word-left.ensures.left.within refl (c.word-left.ensures.enters kept) (c.loop-word.invariant.stands kept h n s));
+      word_after c.args.part.now kept (registers_in c.loop-word.self) (registers_in c.take_word-left.new.self) (number_of c.args.reg) n c.loop-word.word-index c.word_of.result c.take_word-left.result c.loop-word.taken (n + (c.loop-word.taken + (4 - c.take_word-left.result))) ws h
+      word few c.loop-word.invariant.count c.take_word-left.ensures.left.within refl (c.take_word-left.ensures.enters kept) (c.loop-word.invariant.stands kept h n s));
 }
 
 pub loop-word-preserved : goal.loop-word-preserved
@@ -42,16 +42,16 @@ loop-word-preserved c =
     let word : take (c.loop-word.word-index + 1) ws ≡ take c.loop-word.word-index ws ++ c.word_of.result ∷ [] =
     chunk_word c.args.bytes.now c.as_chunks.result.0.now c.loop-word.word-index c.word_of.result c.as_chunks.ensures.front c.loop-word-test.true c.word_of.ensures.value in
     let few : c.loop-word.word-index < length ws = let all : length ws ≡ length c.as_chunks.result.0.now = chunks_are c.args.bytes.now c.as_chunks.result.0.now c.as_chunks.ensures.front in omega (arith, all, c.loop-word-test.true) in
-    let going : c.word-left.new.self.stop ≡ None = none_there c.word-left.new.self.stop (sym c.is_some.ensures ∙ c.if-is_some.false) in
-    let none : c.word-left.result ≡ 0 = c.word-left.ensures.left.goes_on going in
+    let going : c.take_word-left.new.self.stop ≡ None = none_there c.take_word-left.new.self.stop (sym c.is_some.ensures ∙ c.if-is_some.false) in
+    let none : c.take_word-left.result ≡ 0 = c.take_word-left.ensures.left.goes_on going in
     record {
       going = going;
       count = omega (arith, c.loop-word.invariant.count, none);
-      due = c.word-left.ensures.leaves.due ∙ c.loop-word.invariant.due;
-      frames = c.word-left.ensures.leaves.frames;
+      due = c.take_word-left.ensures.leaves.due ∙ c.loop-word.invariant.due;
+      frames = c.take_word-left.ensures.leaves.frames;
       stands = λ kept h n s.
-          word_on c.args.part.now kept (registers_in c.loop-word.self) (registers_in c.word-left.new.self) (number_of c.args.reg) n c.loop-word.word-index c.word_of.result c.word-left.result c.loop-word.taken (n + (c.loop-word.taken + (4 - c.word-left.result))) ws h
-          word few c.loop-word.invariant.count none refl going (c.word-left.ensures.enters kept) (c.loop-word.invariant.stands kept h n s);
+          word_on c.args.part.now kept (registers_in c.loop-word.self) (registers_in c.take_word-left.new.self) (number_of c.args.reg) n c.loop-word.word-index c.word_of.result c.take_word-left.result c.loop-word.taken (n + (c.loop-word.taken + (4 - c.take_word-left.result))) ws h
+          word few c.loop-word.invariant.count none refl going (c.take_word-left.ensures.enters kept) (c.loop-word.invariant.stands kept h n s);
     }
 
 pub returns : goal.returns

@@ -5,7 +5,7 @@ use Rattle.x7_flow.specs.Standing.{FramesFit}
 use Rattle.x7_engine.specs.Standing.{RegistersStandFor, counted_in, registers_in}
 use Rattle.x7_engine.specs.Targets.{target_number}
 use Rattle.x7_engine.proofs.TurnLemmas.{all_counted, fired_until, next_at, none_there}
-use Rattle.x7_engine.proofs.registers.Registers.word.Goals as goal
+use Rattle.x7_engine.proofs.registers.Registers.take_word.Goals as goal
 
 pub returns-then-is_some-clause-enters : goal.returns-then-is_some-clause-enters
 returns-then-is_some-clause-enters c = λ kept h n some s.

@@ -4,7 +4,7 @@ use Rattle.x7_engine.specs.Standing.{RegistersStandFor, counted_in, due_count, r
 use Rattle.x7_engine.specs.Value.{read_out}
 use Rattle.x7_engine.proofs.TurnLemmas.{all_counted, fired_until, next_at, none_there, until_all}
 use Rattle.x7_engine.proofs.FrameLemmas.{no_word_due}
-use Rattle.x7_engine.proofs.registers.Registers.header.Goals as goal
+use Rattle.x7_engine.proofs.registers.Registers.take_header.Goals as goal
 
 pub returns-then-is_some-clause-enters : goal.returns-then-is_some-clause-enters
 returns-then-is_some-clause-enters c = λ kept h n some s.

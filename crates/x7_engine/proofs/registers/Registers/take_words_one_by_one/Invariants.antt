@@ -6,7 +6,7 @@ use Rattle.x7_flow.specs.Standing.{FramesFit}
 use Rattle.x7_regs.specs.Register.{number_of}
 use Rattle.x7_engine.specs.declared.kept.Kept.{Kept}
 use Rattle.x7_engine.specs.Standing.{RegistersStandFor, registers_in}
-use Rattle.x7_engine.proofs.registers.Registers.words_one_by_one.Given as goal
+use Rattle.x7_engine.proofs.registers.Registers.take_words_one_by_one.Given as goal
 
 abbrev pub invariant-loop-word : goal.invariant-loop-word
 invariant-loop-word l = record {

@@ -5,7 +5,7 @@ use Rattle.x7_packets.specs.Packet.{payload_steps}
 use Rattle.x7_words.proofs.WordLemmas.{words_by_chunks}
 use Rattle.x7_engine.specs.Registers.{word_held}
 use Rattle.x7_engine.proofs.PlainLemmas.{word_held_all, words_last}
-use Rattle.x7_engine.proofs.words.Words.pass_all.Goals as goal
+use Rattle.x7_engine.proofs.words.LastWords.pass_all.Goals as goal
 
 pub returns-in-Some : goal.returns-in-Some
 returns-in-Some c = λ kept h n s.
