@@ -5,7 +5,7 @@ ghost use Rattle.x7_regs.specs.Register.{number_of, reg_number_count};
 ghost use Rattle.x7_packets.specs.Cutter.{IsRun, run_steps};
 ghost use Rattle.x7_packets.specs.History.{command_held, entered_all, entry, History, Write};
 ghost use Rattle.x7_packets.specs.Packet.{payload_steps};
-ghost use Rattle.x7_crc.specs.Checker.{check_of_bytes, IsCheckState, Checks, HasTaken, KeepsCheckOf, steers_check};
+ghost use Rattle.x7_crc.specs.Checker.{check_of_bytes, IsCheckState, HaveChecked, HasTaken, KeepsCheckOf, steers_check};
 
 use crate::check::{fold, fold_slice};
 use crate::written::{check_after_write, executed};
@@ -200,7 +200,7 @@ impl Checker {
 
 /// The check state after all runs of a piece, which the cutter takes.
 fn after_piece(cutter: &mut Cutter, state: CheckState, piece: &[u8]) -> CheckState
-    ensures { (bytes : List ℕ) → Checks cutter.old state.check state.held bytes → Checks cutter.new result.check result.held (bytes ++ piece.now) }
+    ensures { (bytes : List ℕ) → HaveChecked cutter.old state.check state.held bytes → HaveChecked cutter.new result.check result.held (bytes ++ piece.now) }
 {
     let mut now = state;
     let mut at = 0;

@@ -6,7 +6,7 @@ use Rattle.x7_words.specs.Word.{bytes_of_word}
 use Rattle.x7_packets.specs.SyncWord.{sync_bytes}
 use Rattle.x7_packets.specs.ByHand.{before_last_four, Reading, reading_of}
 use Rattle.x7_packets.specs.Packet.{Packet, named_by, stepped, words}
-use Rattle.x7_packets.specs.Reading.{Place, Searching, Synced, Session, IsPlace, IsSession, packet_bytes, place_bytes, session_bytes}
+use Rattle.x7_packets.specs.Reading.{Place, Searching, Synced, EndedSession, IsPlace, IsEndedSession, packet_bytes, place_bytes, session_bytes}
 use Rattle.x7_packets.specs.declared.header.Step.{Step}
 use Rattle.x7_packets.specs.declared.header.Step.TheVariants.{Payload, Filler, Nop, Open, Read, Bad}
 use Rattle.x7_text.specs.Digits.{hex_byte}
@@ -91,7 +91,7 @@ session_long gap packets =
     gap_long : (gap : List ℕ) → length gap ≤ length (bytes_text gap)
     gap_long gap = omega (arith, bytes_long 0 gap, ap length (bytes_closed gap), length-append (open_text 32 (codes "bytes ") hex_byte 0 gap) (close (in_line_after 32 0 gap)))
 
-ended_long : (s : Session) → IsSession s → length (session_bytes s) ≤ length (session_text s)
+ended_long : (s : EndedSession) → IsEndedSession s → length (session_bytes s) ≤ length (session_text s)
 ended_long s is =
     let over = session_over s.gap s.packets is.packets in
     let sure : List ℕ = bytes_text s.gap ++ codes "sync\n" ++ open_words 0 (flat_map stepped s.packets) in
@@ -99,7 +99,7 @@ ended_long s is =
     let bytes : length (session_bytes s) ≡ length ((s.gap ++ sync_bytes) ++ packet_bytes s.packets) = refl in
     omega (arith, session_long s.gap s.packets, text, bytes, length-append sure over.0, length-append (s.gap ++ sync_bytes) (packet_bytes s.packets), length-append s.gap sync_bytes)
 
-sessions_long : (ss : List Session) → AllByRecursion IsSession ss → length (flat_map session_bytes ss) ≤ length (flat_map session_text ss)
+sessions_long : (ss : List EndedSession) → AllByRecursion IsEndedSession ss → length (flat_map session_bytes ss) ≤ length (flat_map session_text ss)
 sessions_long [] all = omega arith
 sessions_long (s ∷ ss) all = omega (arith, ended_long s all.0, sessions_long ss all.1, length-append (session_bytes s) (flat_map session_bytes ss), length-append (session_text s) (flat_map session_text ss))
 

@@ -6,7 +6,7 @@ use Rattle.x7_words.specs.Word.{AreBytes, AreWords, bytes_of_word}
 use Rattle.x7_words.proofs.ListLemmas.{all_append, all_back, all_prefix}
 use Rattle.x7_packets.specs.Packet.{named_by, Packet, register_of, type_and_opcode_of, words}
 use Rattle.x7_packets.specs.PacketWords.{no_op, sync_word, type1_read_header, type1_write_header, type2_read_kind, type2_write_kind}
-use Rattle.x7_packets.specs.Reading.{IsPlace, IsReading, IsSession, packet_bytes, Place, place_bytes, Searching, Session, session_bytes, Synced}
+use Rattle.x7_packets.specs.Reading.{IsPlace, IsReading, IsEndedSession, packet_bytes, Place, place_bytes, Searching, EndedSession, session_bytes, Synced}
 use Rattle.x7_packets.specs.SyncWord.{sync_bytes}
 use Rattle.x7_packets.specs.ByHand.{reading_of}
 use Rattle.x7_packets.specs.declared.header.Step.{Step}
@@ -120,11 +120,11 @@ packets_stand (p ∷ ps) a =
 session_stands : (gap : List ℕ) (ps : List Packet) → AreBytes gap → AreWords (flat_map words ps) → Stands (packets_lines gap ps) (gap ++ (sync_bytes ++ packet_bytes ps))
 session_stands gap ps g a = both_stand (gap_lines gap) (Sync ∷ flat_map packet_lines ps) gap (sync_bytes ++ packet_bytes ps) (gap_stands gap g) (one_stands Sync (flat_map packet_lines ps) sync_bytes (packet_bytes ps) refl (tt, tt) (packets_stand ps a))
 
-ended_session : (s : Session) → AreBytes (session_bytes s) → AreWords (flat_map words s.packets) → Stands (session_lines s) (session_bytes s)
+ended_session : (s : EndedSession) → AreBytes (session_bytes s) → AreWords (flat_map words s.packets) → Stands (session_lines s) (session_bytes s)
 ended_session s b a = stands_for (session_lines s) (s.gap ++ (sync_bytes ++ packet_bytes s.packets)) (session_bytes s) (sym (append_assoc s.gap sync_bytes (packet_bytes s.packets)))
     (session_stands s.gap s.packets (all_prefix (λ x. x < 256) s.gap (sync_bytes ++ packet_bytes s.packets) (subst (λ t. AreBytes t) (append_assoc s.gap sync_bytes (packet_bytes s.packets)) b)) a)
 
-sessions_stand : (ss : List Session) → AreBytes (flat_map session_bytes ss) → AllByRecursion IsSession ss → Stands (flat_map session_lines ss) (flat_map session_bytes ss)
+sessions_stand : (ss : List EndedSession) → AreBytes (flat_map session_bytes ss) → AllByRecursion IsEndedSession ss → Stands (flat_map session_lines ss) (flat_map session_bytes ss)
 sessions_stand [] b a = none_stand
 sessions_stand (s ∷ ss) b a =
     both_stand (session_lines s) (flat_map session_lines ss) (session_bytes s) (flat_map session_bytes ss) (ended_session s (all_prefix (λ x. x < 256) (session_bytes s) (flat_map session_bytes ss) b) (each_fits None s.packets a.0.packets))
@@ -140,7 +140,7 @@ place_stands (Synced gap ps tail) b i =
     (session_stands gap ps (all_prefix (λ x. x < 256) gap (sync_bytes ++ packet_bytes ps) prefix) (each_fits None ps i.1))
     (gap_stands tail (all_back (λ x. x < 256) (gap ++ sync_bytes ++ packet_bytes ps) tail b)))
 
-pub reading_stands : (bytes : List ℕ) (ss : List Session) (p : Place) → IsReading bytes ss p → Stands (flat_map session_lines ss ++ place_lines p) bytes
+pub reading_stands : (bytes : List ℕ) (ss : List EndedSession) (p : Place) → IsReading bytes ss p → Stands (flat_map session_lines ss ++ place_lines p) bytes
 reading_stands bytes ss p r =
     let b : AreBytes (flat_map session_bytes ss ++ place_bytes p) = subst (λ t. AreBytes t) r.joined r.fits in
     stands_for (flat_map session_lines ss ++ place_lines p) (flat_map session_bytes ss ++ place_bytes p) bytes (sym r.joined)

@@ -14,7 +14,7 @@ use Rattle.x7_header.specs.declared.fault.HeaderFault.{HeaderFault}
 use Rattle.x7_header.specs.declared.fault.HeaderFault.TheVariants as fault
 use Rattle.x7_header.proofs.HeaderLemmas.{header_takes, IsPrefix}
 use Rattle.x7_packets.specs.Packet.{Packet, named_by}
-use Rattle.x7_packets.specs.Reading.{Place, Searching, Session, Synced}
+use Rattle.x7_packets.specs.Reading.{Place, Searching, EndedSession, Synced}
 use Rattle.x7_packets.specs.ByHand.{reading_of}
 use Rattle.x7_regs.specs.Command.{code_of, command_by, command_name_of}
 use Rattle.x7_regs.specs.declared.command.Command.{Command}
@@ -168,7 +168,7 @@ session_short gap packets a =
     let four : length (flat_map (line_bytes 0) (Sync ∷ ls)) ≡ 4 + length (flat_map (line_bytes 0) ls) = length-append (line_bytes 0 Sync) (flat_map (line_bytes 0) ls) in
     omega (arith, gap_short gap, lines_short ls more.1 (packets_whole packets), sync, four, texts_long (gap_lines gap) (Sync ∷ ls), bytes_long (gap_lines gap) (Sync ∷ ls))
 
-sessions_short : (ss : List Session) → AllByRecursion Listed (flat_map session_lines ss) → length (ended_texts (flat_map session_lines ss)) ≤ 5 * length (flat_map (line_bytes 0) (flat_map session_lines ss))
+sessions_short : (ss : List EndedSession) → AllByRecursion Listed (flat_map session_lines ss) → length (ended_texts (flat_map session_lines ss)) ≤ 5 * length (flat_map (line_bytes 0) (flat_map session_lines ss))
 sessions_short [] a = omega arith
 sessions_short (s ∷ ss) a =
     omega (arith, session_short s.gap s.packets (all_prefix Listed (session_lines s) (flat_map session_lines ss) a), sessions_short ss (all_back Listed (session_lines s) (flat_map session_lines ss) a), texts_long (session_lines s) (flat_map session_lines ss), bytes_long (session_lines s) (flat_map session_lines ss))
@@ -181,7 +181,7 @@ place_short (Synced gap packets tail) a =
 listing_short : (bytes : List ℕ) → AreBytes bytes → length (listing_of bytes) ≤ 5 * length bytes + 4
 listing_short bytes fits =
     let s = listing_stands bytes fits in
-    let ss : List Session = (reading_of bytes).sessions in
+    let ss : List EndedSession = (reading_of bytes).sessions in
     let p : Place = (reading_of bytes).place in
     let one : List Line = flat_map session_lines (reading_of bytes).sessions in
     let two : List Line = place_lines (reading_of bytes).place in

@@ -3,8 +3,8 @@ use Rattle.std.specs.Prelude.{◌≡◌, ℕ, ◌==◌, ◌⊎◌, ◌≤◌, Bo
 use Rattle.std.specs.List.{flat_map}
 use Rattle.x7_packets.specs.SyncWord.{sync_bytes}
 use Rattle.x7_packets.specs.Packet.{Packet, stepped}
-use Rattle.x7_packets.specs.Reading.{Place, Searching, Synced, Session, IsReading, tail_of}
-use Rattle.x7_packets.specs.Cutter.{CutterState, CutterStandsFor, Adds, ChangesMode, IsRun}
+use Rattle.x7_packets.specs.Reading.{Place, Searching, Synced, EndedSession, IsReading, tail_of}
+use Rattle.x7_packets.specs.Cutter.{CutterState, CutterStandsFor, CutAdds, ChangesMode, IsRun}
 use Rattle.x7_packets.specs.declared.header.Step.{Step}
 use Rattle.x7_packets.specs.declared.header.Step.TheVariants.{Payload}
 use Rattle.x7_packets.specs.declared.cutter.Cut.{Cut}
@@ -84,11 +84,11 @@ abbrev pub HasListedAt : WrittenSoFar → List ℕ → Place → Mode → Type 0
 HasListedAt w start place m = HasListedBy w.is_synced w start place m
 
 -- what is written are the listings before, and then what is listed of these ended sessions and this place
-abbrev pub HasListed : WrittenSoFar → List ℕ → List Session → Place → Mode → Type 0
+abbrev pub HasListed : WrittenSoFar → List ℕ → List EndedSession → Place → Mode → Type 0
 HasListed w before sessions place m = HasListedAt w (before ++ flat_map session_text sessions) place m
 
 -- all of a reading was listed but what is left for its end: no sync word is still to be listed
-pub record HasListedAll (w : WrittenSoFar) (before : List ℕ) (sessions : List Session) (place : Place) : Type 0 where
+pub record HasListedAll (w : WrittenSoFar) (before : List ℕ) (sessions : List EndedSession) (place : Place) : Type 0 where
   pub bytes : List ℕ
   pub reading : IsReading bytes sessions place
   pub mode : Mode
@@ -98,8 +98,8 @@ pub record HasListedAll (w : WrittenSoFar) (before : List ℕ) (sessions : List 
 -- the run was listed: where a reading was listed before it, the reading with what the run adds is listed after it
 abbrev pub WritesRun : Cut → WrittenSoFar → WrittenSoFar → Type 0
 WritesRun run w w2 =
-    (before bytes : List ℕ) (sessions new_sessions : List Session) (place new_place : Place) (old new : Mode)
-    → HasListed w before sessions place old → Adds run sessions place new_sessions new_place → ChangesMode run old new new_place → IsRun run
+    (before bytes : List ℕ) (sessions new_sessions : List EndedSession) (place new_place : Place) (old new : Mode)
+    → HasListed w before sessions place old → CutAdds run sessions place new_sessions new_place → ChangesMode run old new new_place → IsRun run
     → IsReading bytes new_sessions new_place → HasListed w2 before new_sessions new_place new
 
 -- a lister: its cutter, what stands in its open line or is held, and its text
@@ -124,7 +124,7 @@ listing_written l given = written_of l.is_synced l.in_line l.held (given ++ l.te
 
 -- The texts given and the lister's are those of listings before, and then what is listed of these bytes.
 pub record HasListedJust (l : ListerState) (given before bytes : List ℕ) : Type 0 where
-  pub sessions : List Session
+  pub sessions : List EndedSession
   pub at : Place
   pub cut : CutterStandsFor l.cutter bytes sessions at
   pub listed : HasListed (listing_written l given) before sessions at l.cutter.mode
@@ -139,7 +139,7 @@ pub record ListerStandsFor (l : ListerState) (given before bytes : List ℕ) : T
 -- then what is listed of these bytes, a sync word being due to be listed or not. Its own cutter took no byte,
 -- and the bytes of no whole word are held.
 pub record TakerStandsFor (l : ListerState) (given before bytes : List ℕ) (due : Mode) : Type 0 where
-  pub sessions : List Session
+  pub sessions : List EndedSession
   pub at : Place
   pub reading : IsReading bytes sessions at
   pub listed : HasListed (listing_written l given) before sessions at due
@@ -148,7 +148,7 @@ pub record TakerStandsFor (l : ListerState) (given before bytes : List ℕ) (due
 
 -- The texts given and the lister's text are those of listings before and the listing of these bytes, and a
 -- new listing begins, of bytes or of runs.
-pub record Finished (l : ListerState) (given before bytes : List ℕ) : Type 0 where
+pub record HasFinished (l : ListerState) (given before bytes : List ℕ) : Type 0 where
   pub listing : List ℕ
   pub listing_is : IsListing bytes listing
   pub listed : given ++ l.text ≡ before ++ listing

@@ -2,7 +2,7 @@
 use Rattle.std.specs.Prelude.{◌≡◌, ℕ, ◌==◌, if◌then◌else◌, List, ◌++◌, codes}
 use Rattle.std.specs.List.{flat_map}
 use Rattle.x7_packets.specs.Packet.{Packet, named_by}
-use Rattle.x7_packets.specs.Reading.{Place, Searching, Synced, Session, IsReading}
+use Rattle.x7_packets.specs.Reading.{Place, Searching, Synced, EndedSession, IsReading}
 use Rattle.x7_packets.specs.ByHand.{reading_of}
 use Rattle.x7_regs.specs.Register.{number_of}
 use Rattle.x7_regs.specs.declared.register.Reg.TheVariants.{Cmd}
@@ -22,7 +22,7 @@ abbrev pub packets_text : List ℕ → List Packet → List ℕ
 packets_text gap packets = bytes_text gap ++ codes "sync\n" ++ flat_map packet_text packets
 
 -- the lines of a session that ended
-abbrev pub session_text : Session → List ℕ
+abbrev pub session_text : EndedSession → List ℕ
 session_text s = packets_text s.gap s.packets
 
 -- the lines of the place where the bytes end: a gap, or a session with its bytes of no whole word
@@ -31,12 +31,12 @@ place_text (Searching gap) = bytes_text gap
 place_text (Synced gap packets tail) = packets_text gap packets ++ bytes_text tail
 
 -- the listing of a reading
-abbrev pub reading_text : List Session → Place → List ℕ
+abbrev pub reading_text : List EndedSession → Place → List ℕ
 reading_text sessions place = flat_map session_text sessions ++ place_text place
 
 -- the text is the listing of the bytes
 pub record IsListing (bytes text : List ℕ) : Type 0 where
-  pub sessions : List Session
+  pub sessions : List EndedSession
   pub place : Place
   pub reading : IsReading bytes sessions place
   pub text_is : text ≡ reading_text sessions place

@@ -6,7 +6,7 @@ use Rattle.x7_words.proofs.ListLemmas.{all_append}
 use Rattle.x7_packets.specs.declared.header.Step.{Step}
 use Rattle.x7_packets.specs.declared.header.Step.TheVariants.{Filler, Nop, Open, Payload, Read, Bad}
 use Rattle.x7_packets.specs.Packet.{Packet, EachPacket, IsPacket, type_and_opcode_of, register_of, type2_meaning, meaning, named_by, payload_steps, stepped, latest_after}
-use Rattle.x7_packets.specs.Reading.{Place, Searching, Synced, Session, IsReading, IsSession, IsPlace, session_bytes}
+use Rattle.x7_packets.specs.Reading.{Place, Searching, Synced, EndedSession, IsReading, IsEndedSession, IsPlace, session_bytes}
 use Rattle.x7_packets.specs.History as access
 use Rattle.x7_packets.specs.History.{History, AllFit, entry, entered, entered_all, entered_sessions, entered_place, history}
 
@@ -91,7 +91,7 @@ all_enter_fits : (place : ℕ) (ss : List (ℕ × Step)) (h : History) → AllSt
 all_enter_fits place [] h f a = a
 all_enter_fits place (s ∷ ss) h f a = all_enter_fits (place + 4) ss (entered (place + 4) s.1 h) f.1 (entered_fits (place + 4) s.1 h f.0 a)
 
-sessions_fit : (place : ℕ) (ss : List Session) (h : History) → AllByRecursion IsSession ss → AllFit h → AllFit (entered_sessions place ss h)
+sessions_fit : (place : ℕ) (ss : List EndedSession) (h : History) → AllByRecursion IsEndedSession ss → AllFit h → AllFit (entered_sessions place ss h)
 sessions_fit place [] h i a = a
 sessions_fit place (s ∷ ss) h i a = sessions_fit (place + length (session_bytes s)) ss _ i.1 (all_enter_fits (place + length s.gap + 4) (flat_map stepped s.packets) h (packets_fit None s.packets tt i.0.packets) a)
 
@@ -99,5 +99,5 @@ place_fits : (n : ℕ) (place : Place) (h : History) → IsPlace place → AllFi
 place_fits n (Searching gap) h i a = a
 place_fits n (Synced gap packets tail) h i a = all_enter_fits (n + length gap + 4) (flat_map stepped packets) h (packets_fit None packets tt i.1) a
 
-pub accesses_fit : (bytes : List ℕ) (sessions : List Session) (place : Place) → IsReading bytes sessions place → AllFit (history sessions place)
+pub accesses_fit : (bytes : List ℕ) (sessions : List EndedSession) (place : Place) → IsReading bytes sessions place → AllFit (history sessions place)
 accesses_fit bytes sessions place r = place_fits (length (flat_map session_bytes sessions)) place _ r.ends (sessions_fit 0 sessions [] r.each tt)

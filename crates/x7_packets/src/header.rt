@@ -7,7 +7,7 @@ ghost use Rattle.x7_packets.specs.Machine.{is_end};
 
 use crate::packet_words::{
     DUMMY_WORD, NO_OP_KIND, SYNC_WORD, TYPE1_READ_KIND, TYPE1_WRITE_KIND, TYPE2_READ_KIND,
-    TYPE2_WRITE_KIND, kind_in, register_in, type1_count_in, type2_count_in,
+    TYPE2_WRITE_KIND, kind_in, packet_type_in, register_in, type1_count_in, type2_count_in,
 };
 use x7_regs::{Command, Reg, command_code_of};
 
@@ -33,7 +33,7 @@ pub enum Step {
 pub(crate) fn meaning(latest: Option<u8>, w: u32) -> Step
     ensures { result ≡ meaning latest w }
 {
-    if w == SYNC_WORD || w == DUMMY_WORD || w >> 29 == 0 {
+    if w == SYNC_WORD || w == DUMMY_WORD || packet_type_in(w) == 0 {
         return Step::Filler;
     }
     match kind_in(w) {

@@ -5,7 +5,7 @@ ghost use Rattle.x7_packets.specs.Cutter.{IsNeed};
 ghost use Rattle.x7_packets.specs.Mode.{Mode};
 ghost use Rattle.x7_packets.specs.FoundRun.{FoundRun, found_of};
 ghost use Rattle.x7_packets.specs.PacketsState.{PacketsState, piece_size};
-ghost use Rattle.x7_packets.specs.Stream.{CallsOn, CutsNext, Fills, GivesRun, GivesUp, IsFoundRun, IsLastFound, MayCall, PacketsStandFor};
+ghost use Rattle.x7_packets.specs.Stream.{CallsOn, CutsNext, ReadsPiece, GivesRun, GivesUp, IsFoundRun, IsLastFound, MayCall, PacketsStandFor};
 
 use crate::cutter::{Cut, Cutter};
 use crate::header::Step;
@@ -223,7 +223,7 @@ impl Packets {
         requires selected { (I.state inputs.old).selected ≡ true }
         requires none_left { self.old.left ≡ [] }
         requires count { self.old.taken + piece_size < 2 ^ 64 }
-        ensures fills { IfOk result (λ gave_bytes. Fills self.old self.new (I.state inputs.old).rest (I.state inputs.new).rest gave_bytes) }
+        ensures fills { IfOk result (λ gave_bytes. ReadsPiece self.old self.new (I.state inputs.old).rest (I.state inputs.new).rest gave_bytes) }
         ensures loses_bytes { OnErr result (self.new ≡ record self.old { bytes = []; has_failed = true }) }
         ensures failed { OnErr result (InputsFail (I.state inputs.old) (I.state inputs.new)) }
         ensures selected { OnOk result ((I.state inputs.new).selected ≡ true) }

@@ -4,7 +4,7 @@ ghost use Rattle.x7_words.specs.Word.{bytes_of_word};
 ghost use Rattle.x7_regs.specs.Command.{code_of, command_name_of};
 ghost use Rattle.x7_regs.specs.Register.{reg_name, reg_number_count};
 ghost use Rattle.x7_regs.specs.declared.command.Command.{Command};
-ghost use Rattle.x7_packets.specs.PacketWords.{type1_read_header, type1_write_header, type2_read_header, type2_write_header};
+ghost use Rattle.x7_packets.specs.PacketWords.{type1_read_header, type1_write_header, type2_counts, type2_read_header, type2_write_header};
 ghost use Rattle.x7_text.specs.Appends.{Appends};
 ghost use Rattle.x7_text.specs.Digits.{hex_word};
 ghost use Rattle.x7_listing.specs.Assembling.{HasRoomForLine};
@@ -16,7 +16,8 @@ ghost use Rattle.x7_text.specs.Reads.{Reads, StaysWithin};
 ghost use Rattle.x7_text.specs.Row.{bytes_row_size};
 
 use x7_packets::{
-    NO_OP, SYNC_WORD, type1_read_header, type1_write_header, type2_read_header, type2_write_header,
+    NO_OP, SYNC_WORD, TYPE1_COUNTS, TYPE2_COUNTS, type1_read_header, type1_write_header,
+    type2_read_header, type2_write_header,
 };
 use x7_regs::{Reg, command_named, reg_named};
 use x7_text::{after, decimal_below, put, put_byte_row, put_word_row, word_of_hex};
@@ -24,12 +25,6 @@ use x7_words::{bytes_of, is_same};
 
 /// How many bytes the row of a line has at most; a line of another kind stands for fewer.
 pub(crate) const MOST_ROW_SIZE: usize = 32;
-
-/// How many word counts a type 1 header can say: each is below this (UG470, packet types).
-const TYPE1_COUNTS: u32 = 1 << 11;
-
-/// How many word counts a type 2 header can say: each is below this (UG470, packet types).
-const TYPE2_COUNTS: u32 = 1 << 27;
 
 /// How many bytes are searched for the space after a register's name: more than the longest name has.
 const NAME_SEARCH_SIZE: usize = 10;
@@ -125,7 +120,7 @@ fn command_word(name: &[u8]) -> Option<u32>
 
 /// The header of a type 2 write, by the digits of its word count; `None` for any other text.
 fn write2_of(digits: &[u8]) -> Option<u32>
-    ensures { IsWordOf (λ n. n < 2 ^ 27) decimal type2_write_header digits.now result }
+    ensures { IsWordOf (λ n. n < type2_counts) decimal type2_write_header digits.now result }
 {
     let Some(count) = decimal_below(digits, TYPE2_COUNTS) else {
         return None;
@@ -135,7 +130,7 @@ fn write2_of(digits: &[u8]) -> Option<u32>
 
 /// The header of a type 2 read, by the digits of its word count; `None` for any other text.
 fn read2_of(digits: &[u8]) -> Option<u32>
-    ensures { IsWordOf (λ n. n < 2 ^ 27) decimal type2_read_header digits.now result }
+    ensures { IsWordOf (λ n. n < type2_counts) decimal type2_read_header digits.now result }
 {
     let Some(count) = decimal_below(digits, TYPE2_COUNTS) else {
         return None;

@@ -2,7 +2,7 @@
 ghost use Rattle.std.specs.Prelude.{◌≡◌, ℕ, ◌+◌, ◌*◌, List, [], ◌++◌, OnOk, OnErr, length};
 ghost use Rattle.x7_packets.specs.Mode.{Mode};
 ghost use Rattle.x7_text.specs.Appends.{HasSpareRoom};
-ghost use Rattle.x7_listing.specs.Lister.{TakerStandsFor, Finished, ListerStandsFor};
+ghost use Rattle.x7_listing.specs.Lister.{TakerStandsFor, HasFinished, ListerStandsFor};
 ghost use Rattle.x7_listing.specs.Pens.{ListsMoreAndRests, lister_with};
 
 mod runs;
@@ -112,7 +112,7 @@ impl Lister {
 
     /// Ends the listing of the bytes that were fed, and begins a new one. `NoMemory` changes nothing.
     pub fn finish(&mut self) -> Result<(), NoMemory>
-        ensures finished { OnOk result ((given before bytes : List ℕ) → ListerStandsFor self.old given before bytes → Finished self.new given before bytes) }
+        ensures finished { OnOk result ((given before bytes : List ℕ) → ListerStandsFor self.old given before bytes → HasFinished self.new given before bytes) }
         ensures unchanged { OnErr result (self.new ≡ self.old) }
     {
         self.text.reserve(CALL_ROOM)?;

@@ -1,6 +1,6 @@
 use Rattle.std.proofs.Common.{inl, inr, [], ◌∷◌, arith, sym, ◌∙◌, refl, subst}
 use Rattle.std.proofs.lemmas.Bool.{cases_eq}
-use Rattle.x7_packets.specs.Machine.{Grows, MachineStandsFor, MachineState}
+use Rattle.x7_packets.specs.Machine.{HasTakenWords, MachineStandsFor, MachineState}
 use Rattle.x7_packets.proofs.PacketLemmas.{no_payload}
 use Rattle.x7_packets.proofs.TakeLemmas.{payload_goes, payload_ends, header_whole, header_opens, no_count, same_latest}
 use Rattle.x7_packets.proofs.machine.Machine.take.Goals as goal
@@ -38,6 +38,6 @@ returns-in_default-clause-register c = λ register x e. absurd (no_payload c.sel
 pub returns-in_default-clause-grows : goal.returns-in_default-clause-grows
 returns-in_default-clause-grows c = λ ps s. elim (subst (λ m. MachineStandsFor m ps) (sym c.self.view_is) s) [
   | inl a ↦ let h = c.in_default in let v : MachineState = record { due = c.self.inside.due; register = c.self.inside.register; latest = c.self.inside.latest } in
-      subst (λ m. Grows ps ((c.args.w, c.meaning-step.result) ∷ []) m) c.self.view_is (header_whole v v ps c.args.w _ (omega (arith, c.ranges.w)) a c.meaning-step.ensures (no_count _ h.not-Open) (same_latest _ _ h.not-Open h.not-Read) a.due)
+      subst (λ m. HasTakenWords ps ((c.args.w, c.meaning-step.result) ∷ []) m) c.self.view_is (header_whole v v ps c.args.w _ (omega (arith, c.ranges.w)) a c.meaning-step.ensures (no_count _ h.not-Open) (same_latest _ _ h.not-Open h.not-Read) a.due)
   | inr a ↦ absurd (omega (arith, a.more))
 ]
