@@ -173,7 +173,7 @@ fn read_of(text: &[u8]) -> Option<u32>
 
 /// Appends the bytes of a line that is empty, `sync` or `crc`, where the bytes of the lines before have this check.
 /// `false`: the line is none of these.
-fn put_plain(out: &mut Vec<u8>, check: u32, line: &[u8]) -> bool
+fn read_plain(out: &mut Vec<u8>, check: u32, line: &[u8]) -> bool
     requires { HasRoomForLine out.old }
     ensures reads { Reads IsPlain text_of (line_bytes check) result line.now out.old.items out.new.items }
     ensures room { StaysWithin out.old out.new bytes_row_size }
@@ -195,7 +195,7 @@ fn put_plain(out: &mut Vec<u8>, check: u32, line: &[u8]) -> bool
 
 /// Appends the bytes of a line, where the bytes of the lines before have this check. `false`: the text is that of no
 /// line.
-pub(crate) fn put_line(out: &mut Vec<u8>, check: u32, line: &[u8]) -> bool
+pub(crate) fn read_line(out: &mut Vec<u8>, check: u32, line: &[u8]) -> bool
     requires { HasRoomForLine out.old }
     ensures reads { Reads FitsLine text_of (line_bytes check) result line.now out.old.items out.new.items }
     ensures room { StaysWithin out.old out.new bytes_row_size }
@@ -231,5 +231,5 @@ pub(crate) fn put_line(out: &mut Vec<u8>, check: u32, line: &[u8]) -> bool
     if after(line, b"#").is_some() {
         return true;
     }
-    put_plain(out, check, line)
+    read_plain(out, check, line)
 }

@@ -5,7 +5,7 @@ use Rattle.x7_listing.specs.Assembling.{TextsAreRead, IsSoundOutput, asm_state}
 use Rattle.x7_listing.specs.BitLine.{bit_text, IsHeaderOf, FitsHeader}
 use Rattle.x7_listing.proofs.asm.AsmLinesLemmas.{err_weaker, goes_header, goes_plain, header_sound, if_some}
 use Rattle.x7_listing.proofs.BitLemmas.{none_of, some_of}
-use Rattle.x7_listing.proofs.asm.lines.AsmLines.put_first.Goals as goal
+use Rattle.x7_listing.proofs.asm.lines.AsmLines.read_first.Goals as goal
 
 pub invariant_of-self : goal.invariant_of-self
 invariant_of-self c =
@@ -21,16 +21,16 @@ returns-in-Some-clause-reads c = λ all left u.
     (goes_header all left c.args.line.now b.out c.in-Some.header.items b.start c.len-self-inside.result 1 0 b.checker c.new-self-inside.result h (omega (arith, short, c.in-Some.header.ok.0)) (omega (arith, c.len-self-inside.ensures, c.in-Some.header.ok.0)) refl c.new-self-inside.ensures u)
 
 pub returns-clause-reads : goal.returns-clause-reads
-returns-clause-reads c = on_ok_weaker c.put_one.result (λ h all left u.
+returns-clause-reads c = on_ok_weaker c.read_one.result (λ h all left u.
     let b = c.args.self.now in
     let none : (x : Contents) → FitsHeader x → c.args.line.now ≡ bit_text x → ⊥ = none_of _ _ c.in_ok-header.field-0 c.in_default.is c.in_ok-header.ensures.found in
-    h all left 0 refl (goes_plain all left c.args.line.now b.out b.start 0 b.checker none u)) c.put_one.ensures.reads
+    h all left 0 refl (goes_plain all left c.args.line.now b.out b.start 0 b.checker none u)) c.read_one.ensures.reads
 
 pub returns-clause-fault : goal.returns-clause-fault
-returns-clause-fault c = err_weaker c.put_one.result (λ f. elim [
+returns-clause-fault c = err_weaker c.read_one.result (λ f. elim [
   | inl none ↦ inl none
   | inr h ↦ inr (λ all left u.
       let b = c.args.self.now in
       let none : (x : Contents) → FitsHeader x → c.args.line.now ≡ bit_text x → ⊥ = none_of _ _ c.in_ok-header.field-0 c.in_default.is c.in_ok-header.ensures.found in
       h all left 0 refl (goes_plain all left c.args.line.now b.out b.start 0 b.checker none u))
-]) c.put_one.ensures.fault
+]) c.read_one.ensures.fault

@@ -2,7 +2,7 @@ use Rattle.std.proofs.Common.{ℕ, ◌+◌, ◌-◌, ◌++◌, refl, arith, ap, 
 use Rattle.x7_words.specs.Word.{bytes_of_word}
 use Rattle.x7_listing.specs.Line.{Write}
 use Rattle.x7_listing.proofs.asm.fast.QuickLemmas.{stays, takes_line}
-use Rattle.x7_listing.proofs.asm.fast.quick.put_write_line.Goals as goal
+use Rattle.x7_listing.proofs.asm.fast.quick.read_write_line.Goals as goal
 
 pub returns : goal.returns
 returns c =

@@ -1,7 +1,7 @@
 use Rattle.std.proofs.Common.{◌+◌, ◌*◌, ◌/◌, arith}
 use Rattle.x7_listing.proofs.asm.fast.QuickLemmas.{stays_cut}
 use Rattle.x7_listing.proofs.asm.fast.WordsAtLemmas.{takes_words}
-use Rattle.x7_listing.proofs.asm.fast.quick.put_data_row.Goals as goal
+use Rattle.x7_listing.proofs.asm.fast.quick.read_data_line.Goals as goal
 
 pub returns : goal.returns
 returns c =

@@ -1,6 +1,6 @@
 use Rattle.std.proofs.Common.{◌≤◌, ◌+◌, ◌-◌, drop, length, vec_capacity, vec_len}
 use Rattle.x7_listing.specs.Assembling.{AppendsLines}
-use Rattle.x7_listing.proofs.asm.fast.quick.put_quick.Given as goal
+use Rattle.x7_listing.proofs.asm.fast.quick.read_quick.Given as goal
 
 abbrev pub invariant-loop-all : goal.invariant-loop-all
 invariant-loop-all l = record {

@@ -3,7 +3,7 @@ use Rattle.x7_words.specs.Word.{bytes_of_word}
 use Rattle.x7_packets.specs.PacketWords.{type1_write_header}
 use Rattle.x7_listing.proofs.asm.fast.QuickLemmas.{stays}
 use Rattle.x7_listing.proofs.asm.fast.WritePairsLemmas.{takes_command}
-use Rattle.x7_listing.proofs.asm.fast.write_pairs.put_command_pair.Goals as goal
+use Rattle.x7_listing.proofs.asm.fast.write_pairs.read_command_pair.Goals as goal
 
 pub returns : goal.returns
 returns c = record {

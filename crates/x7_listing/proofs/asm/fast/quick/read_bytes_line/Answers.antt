@@ -3,7 +3,7 @@ use Rattle.std.proofs.lemmas.List.{take_all}
 use Rattle.x7_listing.specs.Assembling.{AppendsFirstLines}
 use Rattle.x7_listing.proofs.asm.fast.QuickLemmas.{stays, stays_cut}
 use Rattle.x7_listing.proofs.asm.fast.WordsAtLemmas.{takes_prefix}
-use Rattle.x7_listing.proofs.asm.fast.quick.put_bytes.Goals as goal
+use Rattle.x7_listing.proofs.asm.fast.quick.read_bytes_line.Goals as goal
 
 pub returns-then-text-eq10 : goal.returns-then-text-eq10
 returns-then-text-eq10 c =

@@ -3,7 +3,7 @@ use Rattle.std.proofs.lemmas.List.{take-append-drop}
 use Rattle.x7_listing.specs.Line.{Nop}
 use Rattle.x7_listing.proofs.asm.fast.QuickLemmas.{stays}
 use Rattle.x7_listing.proofs.asm.fast.WritePairsLemmas.{same_by_mask}
-use Rattle.x7_listing.proofs.asm.fast.quick.put_nops.Goals as goal
+use Rattle.x7_listing.proofs.asm.fast.quick.read_nops.Goals as goal
 
 pub returns : goal.returns
 returns c =

@@ -1,7 +1,7 @@
 use Rattle.std.proofs.Common.{IsTrue, subst, sym}
 use Rattle.x7_listing.specs.Line.{Nop}
 use Rattle.x7_listing.proofs.LineLemmas.{data_line, bytes_line, word_line, cmd_line, write_line, read_line, write2_line, read2_line, is_comment, is_none, only_plain, plain_line}
-use Rattle.x7_listing.proofs.asm.reading.put_line.Goals as goal
+use Rattle.x7_listing.proofs.asm.reading.read_line.Goals as goal
 
 pub returns-in-Some-clause-reads : goal.returns-in-Some-clause-reads
 returns-in-Some-clause-reads c = data_line c.args.check c.put_word_row.result c.args.line.now c.in-Some.words.now c.args.out.now.items c.put_word_row.new.out.items c.in-Some.ensures c.put_word_row.ensures.reads
@@ -31,10 +31,10 @@ pub returns-then-is_some-clause-reads : goal.returns-then-is_some-clause-reads
 returns-then-is_some-clause-reads c = is_comment c.after-9.result c.args.check c.args.line.now c.args.out.now.items (sym c.if-is_some.ensures) c.after-9.ensures
 
 pub returns-clause-reads : goal.returns-clause-reads
-returns-clause-reads c = plain_line c.args.check c.put_plain.result c.args.line.now c.args.out.now.items c.put_plain.new.out.items
+returns-clause-reads c = plain_line c.args.check c.read_plain.result c.args.line.now c.args.out.now.items c.read_plain.new.out.items
     (only_plain c.args.line.now c.in_default.ensures c.in_default-after-3.ensures c.in_default-after-4.ensures c.in_default-after-2.ensures c.in_default-after.ensures c.in_default-after-5.ensures c.in_default-after-6.ensures c.in_default-after-7.ensures
     (is_none c.after-9.result _ _ (sym c.if-is_some.ensures) c.after-9.ensures) (λ e. absurd (let f = subst IsTrue c.if-is_same.false (c.is_same.ensures.1 e) in cc)))
-    c.put_plain.ensures.reads
+    c.read_plain.ensures.reads
 
 pub returns-then-is_same-clause-reads : goal.returns-then-is_same-clause-reads
 returns-then-is_same-clause-reads c = (Nop, tt, c.is_same.ensures.0 c.if-is_same.true, c.put_word_bytes.ensures.appends.items)

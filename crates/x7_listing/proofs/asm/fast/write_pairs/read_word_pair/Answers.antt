@@ -2,7 +2,7 @@ use Rattle.std.proofs.Common.{ℕ, ◌+◌, ◌-◌, ◌++◌, arith, ap, ◌∙
 use Rattle.x7_words.specs.Word.{bytes_of_word}
 use Rattle.x7_listing.proofs.asm.fast.QuickLemmas.{stays}
 use Rattle.x7_listing.proofs.asm.fast.WritePairsLemmas.{takes_word}
-use Rattle.x7_listing.proofs.asm.fast.write_pairs.put_word_pair.Goals as goal
+use Rattle.x7_listing.proofs.asm.fast.write_pairs.read_word_pair.Goals as goal
 
 pub returns : goal.returns
 returns c =

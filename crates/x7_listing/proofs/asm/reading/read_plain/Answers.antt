@@ -3,7 +3,7 @@ use Rattle.x7_words.specs.Word.{bytes_of_word}
 use Rattle.x7_packets.specs.PacketWords.{type1_write_header}
 use Rattle.x7_listing.specs.Line.{Check, Empty, Sync}
 use Rattle.x7_listing.proofs.LineLemmas.{two_words}
-use Rattle.x7_listing.proofs.asm.reading.put_plain.Goals as goal
+use Rattle.x7_listing.proofs.asm.reading.read_plain.Goals as goal
 
 pub returns-then-is_same-clause-reads : goal.returns-then-is_same-clause-reads
 returns-then-is_same-clause-reads c = (Empty, tt, c.is_same.ensures.0 c.if-is_same.true, sym (append-nil c.args.out.now.items))
