@@ -51,21 +51,21 @@ impl Machine {
 
     /// Takes a word, and says what the word is. After a word that ends the session the machine is as new.
     #[inline(always)]
-    pub fn take(&mut self, w: u32) -> Step
-        ensures payload { 0 < self.old.due → result ≡ Step.Payload self.old.register w }
-        ensures register { (register x : ℕ) → result ≡ Step.Payload register x → (x ≡ w) × (register < reg_number_count) × (0 < self.old.due) }
-        ensures grows { (ps : List Packet) → MachineStandsFor self.old ps → HasTakenWords ps ((w, result) ∷ []) self.new }
+    pub fn take(&mut self, word: u32) -> Step
+        ensures payload { 0 < self.old.due → result ≡ Step.Payload self.old.register word }
+        ensures register { (register x : ℕ) → result ≡ Step.Payload register x → (x ≡ word) × (register < reg_number_count) × (0 < self.old.due) }
+        ensures grows { (ps : List Packet) → MachineStandsFor self.old ps → HasTakenWords ps ((word, result) ∷ []) self.new }
     {
         if self.due > 0 {
             let register = self.register;
-            if ends_session(register, w) {
+            if ends_session(register, word) {
                 *self = Machine::new();
             } else {
                 self.due -= 1;
             }
-            return Step::Payload(register, w);
+            return Step::Payload(register, word);
         }
-        let step = meaning(self.latest, w);
+        let step = meaning(self.latest, word);
         match step {
             Step::Open(register, count) => {
                 self.due = count;
@@ -116,14 +116,14 @@ impl Machine {
 
     /// Takes the header and the word of a write of one word at once, and says whether the word ends the session.
     #[inline(always)]
-    pub(crate) fn take_write_of_one(&mut self, register: u8, w: u32) -> bool
+    pub(crate) fn take_write_of_one(&mut self, register: u8, word: u32) -> bool
         requires at_header { self.old.due ≡ 0 }
         requires register { register < reg_number_count }
-        ensures ends { result ≡ ends_session register w }
+        ensures ends { result ≡ ends_session register word }
         ensures head { (ps : List Packet) → MachineStandsFor self.old ps → HasTakenWords ps ((type1_write_header register 1, Step.Open register 1) ∷ []) (in_write register 1) }
-        ensures word { (ps : List Packet) → MachineStandsFor (in_write register 1) ps → HasTakenWords ps ((w, Step.Payload register w) ∷ []) self.new }
+        ensures word { (ps : List Packet) → MachineStandsFor (in_write register 1) ps → HasTakenWords ps ((word, Step.Payload register word) ∷ []) self.new }
     {
-        if ends_session(register, w) {
+        if ends_session(register, word) {
             *self = Machine::new();
             return true;
         }

@@ -11,28 +11,28 @@ const BLOCK_WORDS: usize = 8;
 /// How many bytes a block has.
 const BLOCK_SIZE: usize = 32;
 
-/// How many of the first words are `w`, one after the other, counted word by word.
+/// How many of the first words are `word`, one after the other, counted word by word.
 #[inline(always)]
-fn count_words(bytes: &[u8], w: u32) -> usize
+fn count_words(bytes: &[u8], word: u32) -> usize
     ensures within { 4 * result ≤ length bytes.now }
-    ensures equal { take (4 * result) bytes.now ≡ equal_bytes w result }
+    ensures equal { take (4 * result) bytes.now ≡ equal_bytes word result }
 {
     let (words, _) = bytes.as_chunks::<4>();
-    for (i, word) in words.iter().enumerate() {
-        if word_of(*word) != w {
+    for (i, next) in words.iter().enumerate() {
+        if word_of(*next) != word {
             return i;
         }
     }
     words.len()
 }
 
-/// A block that has no word but `w`.
+/// A block that has no word but `word`.
 #[inline(always)]
-fn block_of(w: u32) -> [u8; BLOCK_SIZE]
-    ensures { result ≡ equal_bytes w BLOCK_WORDS }
+fn block_of(word: u32) -> [u8; BLOCK_SIZE]
+    ensures { result ≡ equal_bytes word BLOCK_WORDS }
 {
     let mut block = [0; BLOCK_SIZE];
-    block.copy_from_slice([bytes_of(w); BLOCK_WORDS].as_flattened());
+    block.copy_from_slice([bytes_of(word); BLOCK_WORDS].as_flattened());
     block
 }
 
@@ -47,13 +47,13 @@ fn are_equal(a: &[u8; BLOCK_SIZE], b: &[u8; BLOCK_SIZE]) -> bool
         == 0
 }
 
-/// How many of the first blocks have no word but `w`, one after the other.
+/// How many of the first blocks have no word but `word`, one after the other.
 #[inline(always)]
-fn count_blocks(bytes: &[u8], w: u32) -> usize
+fn count_blocks(bytes: &[u8], word: u32) -> usize
     ensures within { BLOCK_SIZE * result ≤ length bytes.now }
-    ensures equal { take (BLOCK_SIZE * result) bytes.now ≡ equal_bytes w (BLOCK_WORDS * result) }
+    ensures equal { take (BLOCK_SIZE * result) bytes.now ≡ equal_bytes word (BLOCK_WORDS * result) }
 {
-    let block = block_of(w);
+    let block = block_of(word);
     let (blocks, _) = bytes.as_chunks::<BLOCK_SIZE>();
     for (i, next) in blocks.iter().enumerate() {
         if !are_equal(next, &block) {
@@ -63,16 +63,16 @@ fn count_blocks(bytes: &[u8], w: u32) -> usize
     blocks.len()
 }
 
-/// How many of the first words are `w`, one after the other. That the next one isn't is not promised.
+/// How many of the first words are `word`, one after the other. That the next one isn't is not promised.
 #[inline(always)]
-pub(crate) fn count_equal(bytes: &[u8], w: u32) -> usize
+pub(crate) fn count_equal(bytes: &[u8], word: u32) -> usize
     ensures within { 4 * result ≤ length bytes.now }
-    ensures equal { take (4 * result) bytes.now ≡ equal_bytes w result }
+    ensures equal { take (4 * result) bytes.now ≡ equal_bytes word result }
 {
-    let near = count_words(&bytes[..bytes.len().min(BLOCK_SIZE)], w);
+    let near = count_words(&bytes[..bytes.len().min(BLOCK_SIZE)], word);
     if near < BLOCK_WORDS {
         return near;
     }
-    let blocks = count_blocks(bytes, w);
-    BLOCK_WORDS * blocks + count_words(&bytes[BLOCK_SIZE * blocks..], w)
+    let blocks = count_blocks(bytes, word);
+    BLOCK_WORDS * blocks + count_words(&bytes[BLOCK_SIZE * blocks..], word)
 }
