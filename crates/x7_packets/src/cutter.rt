@@ -13,9 +13,9 @@ ghost use Rattle.x7_packets.specs.Mode.{Mode, mode_of};
 
 mod copied;
 
+use crate::fast::count_equal;
 use crate::header::{Step, is_cmd};
 use crate::machine::Machine;
-use crate::nops::count_equal;
 use crate::packet_words::{NO_OP, register_in, type1_count_in, type1_write_header};
 use crate::sync::{Matcher, near_sync};
 use std::marker::Model;

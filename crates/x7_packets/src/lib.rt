@@ -4,12 +4,11 @@
 mod appended;
 mod cutter;
 mod examples;
+mod fast;
 mod header;
 mod laws;
 mod machine;
-mod nops;
 mod packet_words;
-mod places;
 mod slot;
 mod stream;
 mod sync;

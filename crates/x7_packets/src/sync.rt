@@ -4,7 +4,7 @@ ghost use Rattle.x7_packets.specs.AtOnce.{longest_gap_and_sync};
 ghost use Rattle.x7_packets.specs.SyncWord.{EndsWithSync, HasNoSync, sync_bytes};
 ghost use Rattle.x7_packets.specs.Matching.{IsClear, IsFirstSync, MatcherStandsFor, IsSearchOutcome, places_reach};
 
-use crate::places::{PLACES_REACH, first_of_places, first_sync};
+use crate::fast::{PLACES_REACH, first_of_places, first_sync};
 use std::marker::Model;
 
 /// How many bytes the sync word has.
