@@ -75,7 +75,8 @@ written_of is_synced in_line held text = record { is_synced = is_synced; in_line
 -- the lines of the session, or those of the gap but for what is held
 abbrev pub HasListedBy : Bool → WrittenSoFar → List ℕ → Place → Mode → Type 0
 HasListedBy false w start (Searching gap) m = GapListed w.text start w.in_line w.held gap
-HasListedBy false w start (Synced gap packets tail) m = (m ≡ Mode.SyncFound) × (packets ≡ []) × (tail ≡ []) × GapListed w.text start w.in_line w.held (gap ++ sync_bytes)
+HasListedBy false w start (Synced gap packets tail) m = (m ≡ Mode.SyncFound) × (packets ≡ []) × (tail ≡ [])
+    × GapListed w.text start w.in_line w.held (gap ++ sync_bytes)
 HasListedBy true w start (Searching gap) m = (gap ≡ []) × (w.in_line ≡ 0) × (w.text ≡ start)
 HasListedBy true w start (Synced gap packets tail) m = (m ≡ Mode.SyncFound → ⊥) × SessionListed w.text start w.in_line gap packets
 

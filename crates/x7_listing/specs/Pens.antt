@@ -58,13 +58,15 @@ gap_written gap text = written_of false gap.in_line (take gap.count gap.held) te
 
 -- more bytes of a gap are listed but for those that are held, whatever texts were given
 abbrev pub GapGoesOn : WrittenSoFar → WrittenSoFar → List ℕ → Type 0
-GapGoesOn old new more = (given start gap : List ℕ) → GapListed (given ++ old.text) start old.in_line old.held gap → GapListed (given ++ new.text) start new.in_line new.held (gap ++ more)
+GapGoesOn old new more = (given start gap : List ℕ) → GapListed (given ++ old.text) start old.in_line old.held gap
+    → GapListed (given ++ new.text) start new.in_line new.held (gap ++ more)
 
 -- with this text a listing is whole, whatever texts were given before: it is what is written, then what is held, and
 -- these bytes of no whole word at the end
 abbrev pub EndsWith : WrittenSoFar → List ℕ → List ℕ → Type 0
 EndsWith w kept text = (given before : List ℕ) (sessions : List EndedSession) (place : Place)
-    → HasListedAll (written_of w.is_synced w.in_line w.held (given ++ w.text)) before sessions place → kept ≡ tail_of place → given ++ text ≡ before ++ reading_text sessions place
+    → HasListedAll (written_of w.is_synced w.in_line w.held (given ++ w.text)) before sessions place → kept ≡ tail_of place
+    → given ++ text ≡ before ++ reading_text sessions place
 
 -- with this text a listing is whole, whatever texts were given before: it is what is written, and then what is held,
 -- which in a session are the bytes of no whole word at the end

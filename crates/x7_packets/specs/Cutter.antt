@@ -80,7 +80,8 @@ GoesOnBy more old new = GoesOnAt more old.sessions old.place new
 abbrev pub CutAdds : Cut → List EndedSession → Place → List EndedSession → Place → Type 0
 CutAdds Need sessions (Searching gap) new_sessions new = (new_sessions ≡ sessions) × (new ≡ Searching gap)
 CutAdds Need sessions (Synced gap packets tail) new_sessions new = (new_sessions ≡ sessions) × (more : List ℕ) × (new ≡ Synced gap packets (tail ++ more))
-CutAdds (Skip bytes) sessions (Searching gap) new_sessions new = (new_sessions ≡ sessions) × ((new ≡ Searching (gap ++ bytes.now)) ⊎ ((prefix : List ℕ) × (gap ++ bytes.now ≡ prefix ++ sync_bytes) × (new ≡ Synced prefix [] [])))
+CutAdds (Skip bytes) sessions (Searching gap) new_sessions new = (new_sessions ≡ sessions)
+    × ((new ≡ Searching (gap ++ bytes.now)) ⊎ ((prefix : List ℕ) × (gap ++ bytes.now ≡ prefix ++ sync_bytes) × (new ≡ Synced prefix [] [])))
 CutAdds (Skip bytes) sessions (Synced gap packets tail) new_sessions new = ⊥
 CutAdds Sync sessions (Searching gap) new_sessions new = ⊥
 CutAdds Sync sessions (Synced gap packets tail) new_sessions new = (packets ≡ []) × (tail ≡ []) × (new_sessions ≡ sessions) × (new ≡ Synced gap [] [])
@@ -111,7 +112,8 @@ ChangesMode (Body register bytes) old new place = IsNotSyncFound old × IsNotSyn
 abbrev pub IsRun : Cut → Type 0
 IsRun (Head w (Payload register x)) = ⊥
 IsRun (Word register w) = register < reg_number_count
-IsRun (Body register bytes) = (register < reg_number_count) × (0 < length bytes.now) × (length bytes.now ≡ 4 * (length bytes.now / 4)) × (register ≡ number_of Cmd → length bytes.now ≡ 4)
+IsRun (Body register bytes) = (register < reg_number_count) × (0 < length bytes.now) × (length bytes.now ≡ 4 * (length bytes.now / 4))
+    × (register ≡ number_of Cmd → length bytes.now ≡ 4)
 IsRun (Skip bytes) = 0 < length bytes.now
 IsRun _ = Unit {0}
 
@@ -119,7 +121,8 @@ IsRun _ = Unit {0}
 -- CMD); a word whose bytes lie in two pieces or more comes by itself
 abbrev pub IsLent : CutterState → ℕ → Cut → Type 0
 IsLent c bytes_left (Word register w) = 0 < length c.kept
-IsLent c bytes_left (Body register bytes) = (c.kept ≡ []) × (length bytes.now ≡ 4 * min (min c.machine.due (bytes_left / 4)) (if register == number_of Cmd then 1 else bytes_left / 4))
+IsLent c bytes_left (Body register bytes) = (c.kept ≡ [])
+    × (length bytes.now ≡ 4 * min (min c.machine.due (bytes_left / 4)) (if register == number_of Cmd then 1 else bytes_left / 4))
 IsLent c bytes_left _ = Unit {0}
 
 -- a gap's bytes are lent all, or up to the end of the sync word, which is then due to be given
@@ -185,7 +188,8 @@ pub record AfterRun (old new : CutterState) (bytes : List ℕ) (sessions : List 
 
 -- the bytes `taken`, taken as one run, turn the old cutter into the new one, whatever bytes came before
 abbrev pub TakesAsOneRun : CutterState → CutterState → List ℕ → Cut → Type 0
-TakesAsOneRun old new taken run = (bytes : List ℕ) (sessions : List EndedSession) (place : Place) → CutterStandsFor old bytes sessions place → AfterRun old new (bytes ++ taken) sessions place run
+TakesAsOneRun old new taken run = (bytes : List ℕ) (sessions : List EndedSession) (place : Place) → CutterStandsFor old bytes sessions place
+    → AfterRun old new (bytes ++ taken) sessions place run
 
 -- some cutter that stood for bytes with this reading took more in a call, as this run
 pub record HasCut (bytes more : List ℕ) (r : Reading) (run : Cut) : Type 0 where

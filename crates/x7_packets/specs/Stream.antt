@@ -100,7 +100,8 @@ SameSyncFound old new = (old ≡ Mode.SyncFound) ↔ (new ≡ Mode.SyncFound)
 -- the reader took more bytes of the input, and gave none
 pub record TookBytes (old new : PacketsState) (more : List ℕ) : Type 0 where
   pub count : new.taken ≡ old.taken + length more
-  pub stands : (bytes given : List ℕ) → PacketsStandFor old bytes given → PacketsStandFor new (bytes ++ more) given × SameSyncFound old.cutter.mode new.cutter.mode
+  pub stands : (bytes given : List ℕ) → PacketsStandFor old bytes given
+      → PacketsStandFor new (bytes ++ more) given × SameSyncFound old.cutter.mode new.cutter.mode
 
 -- The run was cut of all bytes in the buffer: its bytes and those left after it are the ones that were kept and left
 -- before, after what was read; payload words and a gap's bytes among them are lent at once.
@@ -114,7 +115,8 @@ pub record LendsRun (old new : PacketsState) (more : List ℕ) (r : Run) : Type 
 -- the reader took more bytes of the input, and gave those of a run
 pub record ReadsAndGives (old new : PacketsState) (more : List ℕ) (r : Run) : Type 0 where
   pub count : new.taken ≡ old.taken + length more
-  pub stands : (bytes given : List ℕ) → PacketsStandFor old bytes given → PacketsStandFor new (bytes ++ more) (given ++ bytes_of_run r) × IsNext given old.cutter.mode r new.cutter.mode
+  pub stands : (bytes given : List ℕ) → PacketsStandFor old bytes given
+      → PacketsStandFor new (bytes ++ more) (given ++ bytes_of_run r) × IsNext given old.cutter.mode r new.cutter.mode
   pub all : is_last r ≡ true → (bytes given : List ℕ) → PacketsStandFor old bytes given → given ++ bytes_of_run r ≡ bytes ++ more
   pub lends : is_last r ≡ false → (bytes given : List ℕ) → PacketsStandFor old bytes given → LendsRun old new more r
   pub done : new.is_done ≡ is_last r

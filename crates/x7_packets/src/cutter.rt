@@ -157,7 +157,8 @@ impl Cutter {
     pub fn kept(&self) -> &[u8]
         ensures kept { result.now ≡ self.now.kept }
         ensures most { length result.now ≤ 3 }
-        ensures tail { (bytes : List ℕ) (sessions : List EndedSession) (place : Place) → CutterStandsFor self.now bytes sessions place → result.now ≡ tail_of place }
+        ensures tail { (bytes : List ℕ) (sessions : List EndedSession) (place : Place) → CutterStandsFor self.now bytes sessions place
+            → result.now ≡ tail_of place }
     {
         &self.kept[..self.count]
     }
@@ -165,7 +166,8 @@ impl Cutter {
     /// The bytes that the cutter keeps are the tail of the bytes taken. The call is for proofs alone, and does nothing.
     #[inline(always)]
     pub(crate) fn keeps_the_tail(&self)
-        ensures { (bytes : List ℕ) (sessions : List EndedSession) (place : Place) → CutterStandsFor self.now bytes sessions place → self.now.kept ≡ tail_of place }
+        ensures { (bytes : List ℕ) (sessions : List EndedSession) (place : Place) → CutterStandsFor self.now bytes sessions place
+            → self.now.kept ≡ tail_of place }
     {
         let _ = &self.stage;
     }
@@ -173,7 +175,8 @@ impl Cutter {
     /// Whether the bytes taken end in a session. A session begins just after its
     /// sync word, before the sync word is given.
     pub fn is_synced(&self) -> bool
-        ensures synced { (bytes : List ℕ) (sessions : List EndedSession) (place : Place) → CutterStandsFor self.now bytes sessions place → result ≡ is_synced place }
+        ensures synced { (bytes : List ℕ) (sessions : List EndedSession) (place : Place) → CutterStandsFor self.now bytes sessions place
+            → result ≡ is_synced place }
     {
         match self.stage {
             Stage::Searching => false,
@@ -303,7 +306,8 @@ impl Cutter {
         requires { at.old ≤ length piece.now }
         ensures forward { at.old ≤ at.new }
         ensures within { at.new ≤ length piece.now }
-        ensures nearer { ComesNearer result (length piece.now - at.new) (calls_left self.old (length piece.now - at.old)) (calls_left self.new (length piece.now - at.new)) }
+        ensures nearer { ComesNearer result (length piece.now - at.new) (calls_left self.old (length piece.now - at.old))
+            (calls_left self.new (length piece.now - at.new)) }
         ensures need { IsNeed result ↔ CompletesNone self.old self.old.mode (length piece.now - at.old) }
         ensures joined { self.old.kept ++ between piece.now at.old at.new ≡ run_bytes result ++ self.new.kept }
         ensures run { IsRun result }

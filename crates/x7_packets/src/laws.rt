@@ -48,7 +48,8 @@ pub fn words_enter()
         → next_word sessions place + length (tail_of place) ≡ length bytes }
     ensures cut { (bytes more : List ℕ) (r : Reading) (run : Cut) → HasCut bytes more r run
         → history_of (bytes ++ more) ≡ entered_all (next_in r) (run_steps run) (history_of bytes) }
-    ensures history { (bytes : List ℕ) (sessions : List EndedSession) (place : Place) → IsReading bytes sessions place → history sessions place ≡ history_of bytes }
+    ensures history { (bytes : List ℕ) (sessions : List EndedSession) (place : Place) → IsReading bytes sessions place
+        → history sessions place ≡ history_of bytes }
 {}
 
 /// Words enter the same accesses in one go and in two parts: those of the second part stand before those of the first,

@@ -103,7 +103,8 @@ impl Machine {
         requires within_due { length body.now / 4 ≤ self.old.due }
         requires one_word_of_cmd { self.old.register ≡ number_of Cmd → length body.now ≡ 4 }
         ensures ends { result ≡ ends_by (payload_steps self.old.register (words_of_bytes body.now)) }
-        ensures grows { (ps : List Packet) → MachineStandsFor self.old ps → HasTakenWords ps (payload_steps self.old.register (words_of_bytes body.now)) self.new }
+        ensures grows { (ps : List Packet) → MachineStandsFor self.old ps
+            → HasTakenWords ps (payload_steps self.old.register (words_of_bytes body.now)) self.new }
     {
         if is_cmd(self.register) {
             return self
@@ -120,7 +121,8 @@ impl Machine {
         requires at_header { self.old.due ≡ 0 }
         requires register { register < reg_number_count }
         ensures ends { result ≡ ends_session register word }
-        ensures head { (ps : List Packet) → MachineStandsFor self.old ps → HasTakenWords ps ((type1_write_header register 1, Step.Open register 1) ∷ []) (in_write register 1) }
+        ensures head { (ps : List Packet) → MachineStandsFor self.old ps
+            → HasTakenWords ps ((type1_write_header register 1, Step.Open register 1) ∷ []) (in_write register 1) }
         ensures word { (ps : List Packet) → MachineStandsFor (in_write register 1) ps → HasTakenWords ps ((word, Step.Payload register word) ∷ []) self.new }
     {
         if ends_session(register, word) {

@@ -157,7 +157,8 @@ impl Packets {
     /// Finds the next run: reads and cuts until one was cut, or the tail or the end is next.
     fn advance<I: Inputs>(&mut self, inputs: &mut I) -> Result<(), Failed>
         requires { MayCall self.old (I.state inputs.old) }
-        ensures gives_run { OnOk result ((r : Run) → IsLastFound self.new r → GivesRun self.old self.new (I.state inputs.old).rest (I.state inputs.new).rest r) }
+        ensures gives_run { OnOk result ((r : Run) → IsLastFound self.new r
+            → GivesRun self.old self.new (I.state inputs.old).rest (I.state inputs.new).rest r) }
         ensures gives_up { OnErr result (GivesUp self.old self.new) }
         ensures call { CallsOn self.old (I.state inputs.old) (I.state inputs.new) result }
         ensures reads_no_more { self.old.is_done ≡ true → inputs.new ≡ inputs.old }

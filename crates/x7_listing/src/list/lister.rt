@@ -88,15 +88,18 @@ impl Lister {
     /// Clears the text, which from then on counts as given.
     pub fn clear_text(&mut self)
         ensures cleared { self.new.text ≡ [] }
-        ensures given { (given before bytes : List ℕ) → ListerStandsFor self.old given before bytes → ListerStandsFor self.new (given ++ self.old.text) before bytes }
-        ensures taken { (given before bytes : List ℕ) (due : Mode) → TakerStandsFor self.old given before bytes due → TakerStandsFor self.new (given ++ self.old.text) before bytes due }
+        ensures given { (given before bytes : List ℕ) → ListerStandsFor self.old given before bytes
+            → ListerStandsFor self.new (given ++ self.old.text) before bytes }
+        ensures taken { (given before bytes : List ℕ) (due : Mode) → TakerStandsFor self.old given before bytes due
+            → TakerStandsFor self.new (given ++ self.old.text) before bytes due }
     {
         self.text.clear();
     }
 
     /// Takes a piece. `NoMemory` changes nothing.
     pub fn feed(&mut self, piece: &[u8]) -> Result<(), NoMemory>
-        ensures stands { OnOk result ((given before bytes : List ℕ) → ListerStandsFor self.old given before bytes → ListerStandsFor self.new given before (bytes ++ piece.now)) }
+        ensures stands { OnOk result ((given before bytes : List ℕ) → ListerStandsFor self.old given before bytes
+            → ListerStandsFor self.new given before (bytes ++ piece.now)) }
         ensures unchanged { OnErr result (self.new ≡ self.old) }
     {
         let Some(room) = piece.len().checked_mul(BYTE_ROOM) else {

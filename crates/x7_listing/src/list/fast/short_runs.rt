@@ -331,7 +331,8 @@ fn take_next(
 ) -> Option<PutRun>
     requires room { len + FREE_SIZE ≤ SHEET_SIZE }
     ensures takes { IfSome result (λ n. TakesOnSheet cutter.old cutter.new rest.now n.size len n.len) }
-    ensures listed { IfSome result (λ n. ListsMoreAfter (on_sheet cutter.old in_line sheet.old len) (on_sheet cutter.new n.in_line sheet.new n.len) (take n.size rest.now)) }
+    ensures listed { IfSome result (λ n. ListsMoreAfter (on_sheet cutter.old in_line sheet.old len)
+        (on_sheet cutter.new n.in_line sheet.new n.len) (take n.size rest.now)) }
     ensures unchanged { IfNone result ((cutter.new ≡ cutter.old) × (sheet.new ≡ sheet.old)) }
 {
     if let Some((register, w)) = cutter.take_write(rest) {
@@ -386,7 +387,8 @@ pub(crate) fn take_short(
 ) -> Option<Taken>
     requires { HasSpareRoom text.old (BYTE_ROOM * length rest.now) }
     ensures takes { IfSome result (λ t. TakesAtOnce cutter.old cutter.new rest.now t.size (vec_len text.old) (vec_len text.new)) }
-    ensures listed { IfSome result (λ t. ListsMore (lister_with cutter.old pen text.old.items) (lister_with cutter.new (Pen.Session t.in_line) text.new.items) (take t.size rest.now)) }
+    ensures listed { IfSome result (λ t. ListsMore (lister_with cutter.old pen text.old.items)
+        (lister_with cutter.new (Pen.Session t.in_line) text.new.items) (take t.size rest.now)) }
     ensures same_cutter { IfNone result (cutter.new ≡ cutter.old) }
     ensures same_text { IfNone result (text.new ≡ text.old) }
     ensures room { vec_capacity text.old ≤ vec_capacity text.new }
