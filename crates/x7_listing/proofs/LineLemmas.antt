@@ -49,19 +49,28 @@ module _ (check : ℕ) (b : Bool) (t rest old new : List ℕ) where
     word_line e i = lift (λ w. w < 2 ^ 32) hex_word bytes_of_word check (codes "word ") Word b t rest old new e (λ x h. h) (λ x h. h) (λ x. refl) (λ x. refl) (λ l i. (word_value rest, line_is _ l i)) (found_read (λ w. w < 2 ^ 32) hex_word (λ w. w) found b rest old new i put)
 
     pub cmd_line : t ≡ codes "cmd " ++ rest → IsWordOf (λ (c : Command). Unit {0}) command_name_of code_of rest found → Reads FitsLine text_of (line_bytes check) b t old new
-    cmd_line e i = lift (λ (c : Command). Unit {0}) command_name_of (λ c. bytes_of_word (code_of c)) check (codes "cmd ") Cmd b t rest old new e (λ x h. h) (λ x h. h) (λ x. refl) (λ x. refl) (λ l i. (command_with (place_in command_names rest), line_is _ l i)) (found_read (λ (c : Command). Unit {0}) command_name_of code_of found b rest old new i put)
+    cmd_line e i = lift (λ (c : Command). Unit {0}) command_name_of (λ c. bytes_of_word (code_of c)) check (codes "cmd ") Cmd b t rest old new e (λ x h. h)
+        (λ x h. h) (λ x. refl) (λ x. refl) (λ l i. (command_with (place_in command_names rest), line_is _ l i))
+        (found_read (λ (c : Command). Unit {0}) command_name_of code_of found b rest old new i put)
 
     pub write_line : t ≡ codes "write " ++ rest → IsWordOf IsType1 type1_text (λ (a : ℕ × ℕ). type1_write_header a.0 a.1) rest found → Reads FitsLine text_of (line_bytes check) b t old new
-    write_line e i = lift IsType1 type1_text (λ (a : ℕ × ℕ). bytes_of_word (type1_write_header a.0 a.1)) check (codes "write ") (λ (a : ℕ × ℕ). Write a.0 a.1) b t rest old new e (λ x h. h) (λ x h. h) (λ x. refl) (λ x. refl) (λ l i. ((register_in rest, count_in rest), line_is _ l i)) (found_read IsType1 type1_text (λ (a : ℕ × ℕ). type1_write_header a.0 a.1) found b rest old new i put)
+    write_line e i = lift IsType1 type1_text (λ (a : ℕ × ℕ). bytes_of_word (type1_write_header a.0 a.1)) check (codes "write ") (λ (a : ℕ × ℕ). Write a.0 a.1) b t
+        rest old new e (λ x h. h) (λ x h. h) (λ x. refl) (λ x. refl) (λ l i. ((register_in rest, count_in rest), line_is _ l i))
+        (found_read IsType1 type1_text (λ (a : ℕ × ℕ). type1_write_header a.0 a.1) found b rest old new i put)
 
     pub read_line : t ≡ codes "read " ++ rest → IsWordOf IsType1 type1_text (λ (a : ℕ × ℕ). type1_read_header a.0 a.1) rest found → Reads FitsLine text_of (line_bytes check) b t old new
-    read_line e i = lift IsType1 type1_text (λ (a : ℕ × ℕ). bytes_of_word (type1_read_header a.0 a.1)) check (codes "read ") (λ (a : ℕ × ℕ). Read a.0 a.1) b t rest old new e (λ x h. h) (λ x h. h) (λ x. refl) (λ x. refl) (λ l i. ((register_in rest, count_in rest), line_is _ l i)) (found_read IsType1 type1_text (λ (a : ℕ × ℕ). type1_read_header a.0 a.1) found b rest old new i put)
+    read_line e i = lift IsType1 type1_text (λ (a : ℕ × ℕ). bytes_of_word (type1_read_header a.0 a.1)) check (codes "read ") (λ (a : ℕ × ℕ). Read a.0 a.1) b t rest
+        old new e (λ x h. h) (λ x h. h) (λ x. refl) (λ x. refl) (λ l i. ((register_in rest, count_in rest), line_is _ l i))
+        (found_read IsType1 type1_text (λ (a : ℕ × ℕ). type1_read_header a.0 a.1) found b rest old new i put)
 
     pub write2_line : t ≡ codes "write2 " ++ rest → IsWordOf (λ n. n < 2 ^ 27) decimal type2_write_header rest found → Reads FitsLine text_of (line_bytes check) b t old new
-    write2_line e i = lift (λ n. n < 2 ^ 27) decimal (λ n. bytes_of_word (type2_write_header n)) check (codes "write2 ") Write2 b t rest old new e (λ x h. h) (λ x h. h) (λ x. refl) (λ x. refl) (λ l i. (decimal_after 0 rest, line_is _ l i)) (found_read (λ n. n < 2 ^ 27) decimal type2_write_header found b rest old new i put)
+    write2_line e i = lift (λ n. n < 2 ^ 27) decimal (λ n. bytes_of_word (type2_write_header n)) check (codes "write2 ") Write2 b t rest old new e (λ x h. h)
+        (λ x h. h) (λ x. refl) (λ x. refl) (λ l i. (decimal_after 0 rest, line_is _ l i))
+        (found_read (λ n. n < 2 ^ 27) decimal type2_write_header found b rest old new i put)
 
     pub read2_line : t ≡ codes "read2 " ++ rest → IsWordOf (λ n. n < 2 ^ 27) decimal type2_read_header rest found → Reads FitsLine text_of (line_bytes check) b t old new
-    read2_line e i = lift (λ n. n < 2 ^ 27) decimal (λ n. bytes_of_word (type2_read_header n)) check (codes "read2 ") Read2 b t rest old new e (λ x h. h) (λ x h. h) (λ x. refl) (λ x. refl) (λ l i. (decimal_after 0 rest, line_is _ l i)) (found_read (λ n. n < 2 ^ 27) decimal type2_read_header found b rest old new i put)
+    read2_line e i = lift (λ n. n < 2 ^ 27) decimal (λ n. bytes_of_word (type2_read_header n)) check (codes "read2 ") Read2 b t rest old new e (λ x h. h) (λ x h. h)
+        (λ x. refl) (λ x. refl) (λ l i. (decimal_after 0 rest, line_is _ l i)) (found_read (λ n. n < 2 ^ 27) decimal type2_read_header found b rest old new i put)
 
 -- the text begins with this word
 abbrev pub NotAfter : List ℕ → List ℕ → Type 0

@@ -99,7 +99,9 @@ by_skip run part synced s2 line l1 l2 held h1 h2 given old new is e f k g =
 listed_at : (w : WrittenSoFar) (before : List ℕ) (sessions new_sessions : List EndedSession) (spot np : Place) (m : Mode) → new_sessions ≡ sessions → np ≡ spot → HasListed w before sessions spot m → HasListed w before new_sessions np m
 listed_at w before sessions new_sessions spot np m e f t = subst (λ (p : Place). HasListed w before new_sessions p m) (sym f) (subst (λ (s : List EndedSession). HasListed w before s spot m) (sym e) t)
 
-pub need_adds : (synced : Bool) (line : ℕ) (held all before : List ℕ) (sessions new_sessions : List EndedSession) (spot np : Place) (o n : Mode) → HasListed (written_of synced line held all) before sessions spot o → CutAdds Need sessions spot new_sessions np → ChangesMode Need o n np → HasListed (written_of synced line held all) before new_sessions np n
+pub need_adds : (synced : Bool) (line : ℕ) (held all before : List ℕ) (sessions new_sessions : List EndedSession) (spot np : Place) (o n : Mode)
+    → HasListed (written_of synced line held all) before sessions spot o → CutAdds Need sessions spot new_sessions np → ChangesMode Need o n np
+    → HasListed (written_of synced line held all) before new_sessions np n
 need_adds false line held all before sessions new_sessions (Searching gap) np o n t a m = listed_at (written_of false line held all) before sessions new_sessions (Searching gap) np n a.0 a.1 t
 need_adds true line held all before sessions new_sessions (Searching gap) np o n t a m = listed_at (written_of true line held all) before sessions new_sessions (Searching gap) np n a.0 a.1 t
 need_adds false line held all before sessions new_sessions (Synced gap packets tail) np o n t a m = absurd (m.0 t.0)

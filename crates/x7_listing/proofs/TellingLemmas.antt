@@ -31,7 +31,9 @@ skipped line2 held2 all2 start gap run sessions new_sessions np old new a m g = 
   | inr f ↦ subst (λ p. ChangesMode (Skip run) old new p → HasListedAt (written_of false line2 held2 all2) start p new) (sym f.2) (λ k. (k, refl, refl, subst (λ t. GapListed all2 start line2 held2 t) f.1 g)) m
 ]
 
-same_sessions : (synced : Bool) (line : ℕ) (held all before : List ℕ) (sessions new_sessions : List EndedSession) (np : Place) (new : Mode) → new_sessions ≡ sessions → HasListedAt (written_of synced line held all) (before ++ flat_map session_text sessions) np new → HasListed (written_of synced line held all) before new_sessions np new
+same_sessions : (synced : Bool) (line : ℕ) (held all before : List ℕ) (sessions new_sessions : List EndedSession) (np : Place) (new : Mode) → new_sessions ≡ sessions
+    → HasListedAt (written_of synced line held all) (before ++ flat_map session_text sessions) np new
+    → HasListed (written_of synced line held all) before new_sessions np new
 same_sessions synced line held all before sessions new_sessions np new e a = subst (λ s. HasListedAt (written_of synced line held all) (before ++ flat_map session_text s) np new) (sym e) a
 
 pub skip_listed : (synced : Bool) (line line2 : ℕ) (held held2 all all2 before : List ℕ) (sessions new_sessions : List EndedSession) (at np : Place) (old new : Mode) (run : Bor (List ℕ))
@@ -146,7 +148,9 @@ pub gap_ended : (all all2 before : List ℕ) (line : ℕ) (held bytes : List ℕ
 gap_ended all all2 before line held bytes sessions (Synced gap packets tail) m t d e = absurd (d t.0)
 gap_ended all all2 before line held bytes sessions (Searching gap) m t d e =
     let start : List ℕ = before ++ flat_map session_text sessions in
-    let listed : all ++ B line held ≡ start ++ B 0 gap = ap (λ t. t ++ B line held) t.listed ∙ append_assoc start (B 0 t.prefix) (B line held) ∙ ap (λ k. start ++ (B 0 t.prefix ++ B k held)) t.count ∙ ap (λ t. start ++ t) (sym (open_text_append 32 (codes "bytes ") hex_byte 0 t.prefix held)) ∙ ap (λ t. start ++ B 0 t) (sym t.split) in
+    let listed : all ++ B line held ≡ start ++ B 0 gap = ap (λ t. t ++ B line held) t.listed ∙ append_assoc start (B 0 t.prefix) (B line held)
+    ∙ ap (λ k. start ++ (B 0 t.prefix ++ B k held)) t.count ∙ ap (λ t. start ++ t) (sym (open_text_append 32 (codes "bytes ") hex_byte 0 t.prefix held))
+    ∙ ap (λ t. start ++ B 0 t) (sym t.split) in
     let count : in_line_after 32 line held ≡ in_line_after 32 0 gap = ap (λ k. in_line_after 32 k held) t.count ∙ sym (in_line_after_append 32 0 t.prefix held) ∙ ap (in_line_after 32 0) (sym t.split) in
     e ∙ gap_closed (all ++ B line held) start (in_line_after 32 line held) gap listed count ∙ append_assoc before (flat_map session_text sessions) (bytes_text gap)
 

@@ -109,7 +109,9 @@ begins_write bytes head word rest register h w a r b long e f g range fits = rec
   are = take-add 4 4 bytes ∙ ap (λ t. t ++ take 4 (drop 4 bytes)) (sym a ∙ sym e ∙ ap bytes_of_word g) ∙ ap (λ t. bytes_of_word (type1_write_header register 1) ++ t) (ap (take 4) (sym r) ∙ sym b ∙ sym f);
 }
 
-pub writes_one : (old new : CutterState) (bs : List ℕ) (register w : ℕ) → old.mode ≡ Mode.Synced → new.mode ≡ (if ends_session register w then Mode.Searching else Mode.Synced) → (ends_session register w ≡ true → MatcherStandsFor new.matcher []) → old.kept ≡ [] → new.kept ≡ [] → BeginsWrite bs register w
+pub writes_one : (old new : CutterState) (bs : List ℕ) (register w : ℕ) → old.mode ≡ Mode.Synced
+    → new.mode ≡ (if ends_session register w then Mode.Searching else Mode.Synced) → (ends_session register w ≡ true → MatcherStandsFor new.matcher [])
+    → old.kept ≡ [] → new.kept ≡ [] → BeginsWrite bs register w
     → ((ps : List Packet) → MachineStandsFor old.machine ps → HasTakenWords ps ((type1_write_header register 1, Open register 1) ∷ []) (in_write register 1))
     → ((ps : List Packet) → MachineStandsFor (in_write register 1) ps → HasTakenWords ps ((w, Payload register w) ∷ []) new.machine)
     → WritesOne old new bs register w

@@ -144,7 +144,9 @@ one_of [] [] p q a b c d e = record { sessions = refl; place = one_place p q b d
 one_of [] (t ∷ ts) p q a b c d e = absurd (no_session p t _ b c.0 (e ∙ append_assoc (session_bytes t) (flat_map session_bytes ts) (place_bytes q)))
 one_of (s ∷ ss) [] p q a b c d e = absurd (no_session q s _ d a.0 (sym e ∙ append_assoc (session_bytes s) (flat_map session_bytes ss) (place_bytes p)))
 one_of (s ∷ ss) (t ∷ ts) p q a b c d e =
-    let m : (s ≡ t) × (flat_map session_bytes ss ++ place_bytes p ≡ flat_map session_bytes ts ++ place_bytes q) = one_session s t _ _ a.0 c.0 (sym (append_assoc (session_bytes s) (flat_map session_bytes ss) (place_bytes p)) ∙ e ∙ append_assoc (session_bytes t) (flat_map session_bytes ts) (place_bytes q)) in
+    let m : (s ≡ t) × (flat_map session_bytes ss ++ place_bytes p ≡ flat_map session_bytes ts ++ place_bytes q) = one_session s t _ _ a.0 c.0
+    (sym (append_assoc (session_bytes s) (flat_map session_bytes ss) (place_bytes p)) ∙ e
+    ∙ append_assoc (session_bytes t) (flat_map session_bytes ts) (place_bytes q)) in
     let n : One ss ts p q = one_of ss ts p q a.1 b c.1 d m.1 in
     record { sessions = ap (λ x. x ∷ ss) m.0 ∙ ap (λ xs. t ∷ xs) n.sessions; place = n.place }
 

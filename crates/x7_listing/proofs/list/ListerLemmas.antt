@@ -75,7 +75,8 @@ ended_gap synced line held given old new before bytes sessions spot m is t d e =
     gap_ended (given ++ old) (given ++ new) before line held bytes sessions spot m t2 d
     (ap (λ x. given ++ x) e ∙ sym (append_assoc given (old ++ B) (close (in_line_after 32 line held))) ∙ ap (λ x. x ++ close (in_line_after 32 line held)) (sym (append_assoc given old B)))
 
-pub ended_session : (synced : Bool) (line : ℕ) (held kept given old new before bytes : List ℕ) (sessions : List EndedSession) (spot : Place) (m : Mode) → synced ≡ true → HasListed (written_of synced line held (given ++ old)) before sessions spot m → IsReading bytes sessions spot → kept ≡ tail_of spot
+pub ended_session : (synced : Bool) (line : ℕ) (held kept given old new before bytes : List ℕ) (sessions : List EndedSession) (spot : Place) (m : Mode)
+    → synced ≡ true → HasListed (written_of synced line held (given ++ old)) before sessions spot m → IsReading bytes sessions spot → kept ≡ tail_of spot
     → new ≡ old ++ close line ++ open_text 32 (codes "bytes ") hex_byte 0 kept ++ close (in_line_after 32 0 kept) → given ++ new ≡ before ++ reading_text sessions spot
 ended_session synced line held kept given old new before bytes sessions spot m is t r k e =
     let t2 : HasListed (written_of true line held (given ++ old)) before sessions spot m = subst (λ s. HasListed (written_of s line held (given ++ old)) before sessions spot m) is t in
@@ -93,7 +94,9 @@ begins c synced line held text given before s e f g t d =
         sessions = [];
         at = Searching [];
         cut = s;
-        listed = subst (λ x. HasListed (written_of x line held (given ++ text)) before [] (Searching []) c.mode) (sym e) (subst (λ x. HasListed (written_of false x held (given ++ text)) before [] (Searching []) c.mode) (sym f) (subst (λ x. HasListed (written_of false 0 x (given ++ text)) before [] (Searching []) c.mode) (sym g)
+        listed = subst (λ x. HasListed (written_of x line held (given ++ text)) before [] (Searching []) c.mode) (sym e)
+            (subst (λ x. HasListed (written_of false x held (given ++ text)) before [] (Searching []) c.mode) (sym f)
+            (subst (λ x. HasListed (written_of false 0 x (given ++ text)) before [] (Searching []) c.mode) (sym g)
             (fresh_gap (given ++ text) (before ++ []) [] refl (t ∙ sym (append-nil before)))));
       };
       ready = d;

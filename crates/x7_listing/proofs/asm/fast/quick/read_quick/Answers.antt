@@ -19,7 +19,8 @@ overflow_add-all-in-loop-all c =
 pub loop-all-preserved : goal.loop-all-preserved
 loop-all-preserved c =
     let t = takes_seen _ _ _ _ 77 c.in-Some-read_some.taken.size c.in-Some-read_some.taken.count c.in-Some.ensures.cases.0 c.in-Some-read_some.ensures.takes in
-    let p = takes_more c.args.text.now c.args.out.now.items c.reserve.new.self.items c.read_some.new.out.items c.loop-all.all.size c.in-Some-read_some.taken.size c.loop-all.all.count c.in-Some-read_some.taken.count c.loop-all.invariant.within (rw c.reserve.ensures.items c.loop-all.invariant.takes) t in
+    let p = takes_more c.args.text.now c.args.out.now.items c.reserve.new.self.items c.read_some.new.out.items c.loop-all.all.size c.in-Some-read_some.taken.size
+    c.loop-all.all.count c.in-Some-read_some.taken.count c.loop-all.invariant.within (rw c.reserve.ensures.items c.loop-all.invariant.takes) t in
     record {
       within = p.0;
       counted = omega (arith, t.counted, c.loop-all.invariant.counted);
