@@ -1,5 +1,5 @@
 //! The running check of a stream's bytes, as they come.
-ghost use Rattle.std.specs.Prelude.{◌≡◌, ℕ, List, [], ◌∷◌, ◌++◌, ◌<◌, ◌%◌, false, length, IfNone, IfSome};
+ghost use Rattle.std.specs.Prelude.{◌≡◌, ℕ, List, [], ◌∷◌, ◌++◌, ◌<◌, false, IfNone, IfSome};
 ghost use Rattle.x7_words.specs.Word.{AreWholeWords, words_of_bytes};
 ghost use Rattle.x7_regs.specs.Register.{number_of, reg_number_count};
 ghost use Rattle.x7_packets.specs.Cutter.{IsRun, run_steps};

@@ -1,10 +1,10 @@
 -- The lines of a listing stand for the bytes that it is of.
-use Rattle.std.proofs.Common.{◌≡◌, ℕ, ◌/◌, ◌%◌, ◌^◌, ◌<◌, ◌==◌, if◌then◌else◌, Bool, true, false, List, [], ◌∷◌, ◌++◌, None, map, refl, ap, ap₂, sym, subst, ◌∙◌, arith, append_assoc}
+use Rattle.std.proofs.Common.{◌≡◌, ℕ, ◌^◌, ◌<◌, ◌==◌, if◌then◌else◌, Bool, true, false, List, [], ◌∷◌, ◌++◌, None, map, refl, ap, ap₂, sym, subst, ◌∙◌, arith, append_assoc}
 use Rattle.std.proofs.lemmas.Grind.{flat_map-append}
 use Rattle.std.specs.List.{AllByRecursion, flat_map}
 use Rattle.x7_words.specs.Word.{AreBytes, AreWords, bytes_of_word}
 use Rattle.x7_words.proofs.ListLemmas.{all_append, all_back, all_prefix}
-use Rattle.x7_packets.specs.Packet.{named_by, Packet, register_of, type_and_opcode_of, words}
+use Rattle.x7_packets.specs.Packet.{named_by, Packet, register_of, type_and_opcode_of, words, type1_count_of, type2_count_of}
 use Rattle.x7_packets.specs.PacketWords.{no_op, sync_word, type1_read_header, type1_write_header, type2_read_kind, type2_write_kind}
 use Rattle.x7_packets.specs.Reading.{IsPlace, IsReading, IsEndedSession, packet_bytes, Place, place_bytes, Searching, EndedSession, session_bytes, Synced}
 use Rattle.x7_packets.specs.SyncWord.{sync_bytes}
@@ -21,6 +21,7 @@ use Rattle.x7_listing.specs.declared.line.head_line.HeadLine.TheVariants as head
 use Rattle.x7_listing.specs.Line.{Line, Bytes, Sync, Data, line_bytes, cmd_line}
 use Rattle.x7_listing.specs.Listed.{gap_lines, listing_lines, packet_lines, packets_lines, payload_lines, place_lines, session_lines}
 use Rattle.x7_listing.proofs.line.LineTextLemmas.{Listed, IsLineOf, cmd_stands, is_eq}
+use Rattle.x7_regs.specs.Register.{reg_number_count}
 
 -- each is a line of a listing, and these are their bytes
 pub record Stands (lines : List Line) (bytes : List ℕ) : Type 0 where
@@ -91,13 +92,13 @@ pick P false x y f g = g
 
 best : (w : ℕ) → w < 2 ^ 32 → IsHeadOf w (best_line w)
 best w h =
-    let r : register_of w < 32 = omega arith in
+    let r : register_of w < reg_number_count = omega arith in
     pick (IsHeadOf w) (w == no_op) head.Nop _ (λ e. (sym (is_eq w no_op e), (tt, tt)))
     (pick (IsHeadOf w) (w == sync_word) head.Sync _ (λ e. (sym (is_eq w sync_word e), (tt, tt)))
-    (pick (IsHeadOf w) (w == type1_write_header (register_of w) (w % 2 ^ 11)) (head.Write (register_of w) (w % 2 ^ 11)) _ (λ e. (sym (is_eq w (type1_write_header (register_of w) (w % 2 ^ 11)) e), ((r, omega arith), tt)))
-    (pick (IsHeadOf w) (w == type1_read_header (register_of w) (w % 2 ^ 11)) (head.Read (register_of w) (w % 2 ^ 11)) _ (λ e. (sym (is_eq w (type1_read_header (register_of w) (w % 2 ^ 11)) e), ((r, omega arith), tt)))
-    (pick (IsHeadOf w) (type_and_opcode_of w == type2_write_kind) (head.Write2 (w % 2 ^ 27)) _ (λ e. let k : w / 2 ^ 27 ≡ 10 = is_eq (w / 2 ^ 27) 10 e in (omega arith, (omega arith, tt)))
-    (pick (IsHeadOf w) (type_and_opcode_of w == type2_read_kind) (head.Read2 (w % 2 ^ 27)) (head.Word w) (λ e. let k : w / 2 ^ 27 ≡ 9 = is_eq (w / 2 ^ 27) 9 e in (omega arith, (omega arith, tt))) (refl, (h, tt)))))))
+    (pick (IsHeadOf w) (w == type1_write_header (register_of w) (type1_count_of w)) (head.Write (register_of w) (type1_count_of w)) _ (λ e. (sym (is_eq w (type1_write_header (register_of w) (type1_count_of w)) e), ((r, omega arith), tt)))
+    (pick (IsHeadOf w) (w == type1_read_header (register_of w) (type1_count_of w)) (head.Read (register_of w) (type1_count_of w)) _ (λ e. (sym (is_eq w (type1_read_header (register_of w) (type1_count_of w)) e), ((r, omega arith), tt)))
+    (pick (IsHeadOf w) (type_and_opcode_of w == type2_write_kind) (head.Write2 (type2_count_of w)) _ (λ e. let k : type_and_opcode_of w ≡ type2_write_kind = is_eq (type_and_opcode_of w) type2_write_kind e in (omega arith, (omega arith, tt)))
+    (pick (IsHeadOf w) (type_and_opcode_of w == type2_read_kind) (head.Read2 (type2_count_of w)) (head.Word w) (λ e. let k : type_and_opcode_of w ≡ type2_read_kind = is_eq (type_and_opcode_of w) type2_read_kind e in (omega arith, (omega arith, tt))) (refl, (h, tt)))))))
 
 head_of : (s : Step) (w : ℕ) → w < 2 ^ 32 → IsHeadOf w (line_of_head s w)
 head_of (step.Bad x) w h = (refl, (h, tt))

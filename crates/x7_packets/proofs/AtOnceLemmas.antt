@@ -1,5 +1,5 @@
 -- Lemmas on specs/AtOnce.
-use Rattle.std.proofs.Common.{◌≡◌, ℕ, ◌/◌, ◌%◌, ◌^◌, ◌<◌, ◌≤◌, ◌+◌, ◌*◌, ◌==◌, Bool, Bor, List, [], ◌∷◌, ◌++◌, Option, Some, true, false, if◌then◌else◌, inl, inr, get_or, length, length-drop, length-take-le, take, take-add, drop, map, refl, ap, sym, subst, ◌∙◌, append-nil, arith}
+use Rattle.std.proofs.Common.{◌≡◌, ℕ, ◌^◌, ◌<◌, ◌≤◌, ◌+◌, ◌*◌, ◌==◌, Bool, Bor, List, [], ◌∷◌, ◌++◌, Option, Some, true, false, if◌then◌else◌, inl, inr, get_or, length, length-drop, length-take-le, take, take-add, drop, map, refl, ap, sym, subst, ◌∙◌, append-nil, arith}
 use Rattle.std.proofs.lemmas.List.{take-append-drop}
 use Rattle.std.proofs.lemmas.Bool.Decides.{nat_tests}
 use Rattle.std.specs.List.{flat_map}
@@ -14,8 +14,8 @@ use Rattle.x7_packets.specs.declared.cutter.Cut.TheVariants.{Body, Head, Skip}
 use Rattle.x7_packets.specs.Mode.{Mode}
 use Rattle.x7_packets.specs.AtOnce.{BeginsWrite, EndsGap, in_write, longest_gap_and_sync, longest_short_write, most_short_words, short_gap_room, WritesShort, WritesOne}
 use Rattle.x7_packets.specs.Cutter.{AtPlace, CutterState, CutterStandsFor, LongerSession, AfterRun, TakesAsOneRun}
-use Rattle.x7_packets.specs.PacketWords.{dummy_word, no_op, sync_word, type1_write_header, type1_write_kind}
-use Rattle.x7_packets.specs.Packet.{Packet, ends_session, meaning, payload_steps, register_of}
+use Rattle.x7_packets.specs.PacketWords.{dummy_word, no_op, sync_word, type1_write_header, type1_write_kind, type1_counts}
+use Rattle.x7_packets.specs.Packet.{Packet, ends_session, meaning, payload_steps, register_of, packet_type_of, type_and_opcode_of, type1_count_of}
 use Rattle.x7_packets.specs.Reading.{Place, Searching, EndedSession, Synced, packet_bytes, session_bytes}
 use Rattle.x7_packets.specs.Machine.{HasTakenWords, MachineStandsFor, MachineState, ends_by, is_end}
 use Rattle.x7_packets.proofs.CutLemmas.{body_more, joined_more, packet_bytes_grown, skip_found, sync_given, word_more}
@@ -23,20 +23,21 @@ use Rattle.x7_packets.proofs.NopLemmas.{nop_grows}
 use Rattle.x7_packets.proofs.PacketLemmas.{words_of_payload}
 use Rattle.x7_packets.proofs.SearchLemmas.{found_clear, up_to_sync}
 use Rattle.x7_packets.proofs.TakeLemmas.{calm_words, header_opens, payload_ends, payload_goes, payload_goes_on}
+use Rattle.x7_regs.specs.Register.{reg_number_count}
 
 -- ---- a machine
 
-write_means : (latest : Option ℕ) (register count : ℕ) → register < 32 → count < 2 ^ 11 → Open register count ≡ meaning latest (type1_write_header register count)
+write_means : (latest : Option ℕ) (register count : ℕ) → register < reg_number_count → count < type1_counts → Open register count ≡ meaning latest (type1_write_header register count)
 write_means latest register count h k =
     let sync : (type1_write_header register count == sync_word) ≡ false = grind (arith, nat_tests) in
     let ones : (type1_write_header register count == dummy_word) ≡ false = grind (arith, nat_tests) in
-    let zero_type : (type1_write_header register count / 2 ^ 29 == 0) ≡ false = grind (arith, nat_tests) in
-    let kind : type1_write_header register count / 2 ^ 27 ≡ type1_write_kind = omega arith in
+    let zero_type : (packet_type_of (type1_write_header register count) == 0) ≡ false = grind (arith, nat_tests) in
+    let kind : type_and_opcode_of (type1_write_header register count) ≡ type1_write_kind = omega arith in
     let named : register_of (type1_write_header register count) ≡ register = omega arith in
-    let number : type1_write_header register count % 2 ^ 11 ≡ count = omega arith in
+    let number : type1_count_of (type1_write_header register count) ≡ count = omega arith in
     rw (sync, ones, zero_type, kind, named, number) refl
 
-pub write_opens : (m : MachineState) (ps : List Packet) (register count : ℕ) → register < 32 → 0 < count → count < 2 ^ 11 → m.due ≡ 0 → MachineStandsFor m ps
+pub write_opens : (m : MachineState) (ps : List Packet) (register count : ℕ) → register < reg_number_count → 0 < count → count < type1_counts → m.due ≡ 0 → MachineStandsFor m ps
     → HasTakenWords ps ((type1_write_header register count, Open register count) ∷ []) (in_write register count)
 write_opens m ps register count h some few none (inl a) = header_opens m (in_write register count) ps (type1_write_header register count) register count (omega arith) a (write_means m.latest register count h few) some refl refl refl
 write_opens m ps register count h some few none (inr a) = absurd (omega (arith, none, a.more))
@@ -101,7 +102,7 @@ pub takes_nop : (c : CutterState) → c.mode ≡ Mode.Synced → c.kept ≡ [] �
 takes_nop c is none due = takes_head c c no_op Nop is is none none refl (λ ps s. nop_grows c.machine ps due s)
 
 -- a header and a word that begin bytes
-pub begins_write : (bytes head word rest : List ℕ) (register h w : ℕ) → head ≡ take 4 bytes → rest ≡ drop 4 bytes → word ≡ take 4 rest → 8 ≤ length bytes → bytes_of_word h ≡ head → bytes_of_word w ≡ word → h ≡ type1_write_header register 1 → register < 32 → w < 2 ^ 32 → BeginsWrite bytes register w
+pub begins_write : (bytes head word rest : List ℕ) (register h w : ℕ) → head ≡ take 4 bytes → rest ≡ drop 4 bytes → word ≡ take 4 rest → 8 ≤ length bytes → bytes_of_word h ≡ head → bytes_of_word w ≡ word → h ≡ type1_write_header register 1 → register < reg_number_count → w < 2 ^ 32 → BeginsWrite bytes register w
 begins_write bytes head word rest register h w a r b long e f g range fits = record {
   range = range;
   fits = fits;
@@ -150,8 +151,8 @@ takes_words c n register count run is to none none2 fits long some other machine
     body_more c n bytes run.now sessions place register run s is all fits word none2 (to ∙ ap (λ (b : Bool). if b then Mode.Searching else Mode.Synced) (sym calm)) (λ e. absurd (let f : true ≡ false = sym e ∙ calm in cc))
 
 pub writes_short : (old new : CutterState) (bs : List ℕ) (head register count : ℕ) → old.mode ≡ Mode.Synced → new.mode ≡ Mode.Synced → old.kept ≡ [] → new.kept ≡ [] → longest_short_write ≤ length bs → AreBytes bs
-    → bytes_of_word head ≡ get_or bs 0 0 ∷ get_or bs 1 0 ∷ get_or bs 2 0 ∷ get_or bs 3 0 ∷ [] → head ≡ type1_write_header register count → register < 32 → (register ≡ 4 → ⊥) → 0 < count → count ≤ most_short_words
-    → ((ps : List Packet) (n : ℕ) → 0 < n → n < 2 ^ 11 → MachineStandsFor old.machine ps → HasTakenWords ps ((type1_write_header register n, Open register n) ∷ []) (in_write register n))
+    → bytes_of_word head ≡ get_or bs 0 0 ∷ get_or bs 1 0 ∷ get_or bs 2 0 ∷ get_or bs 3 0 ∷ [] → head ≡ type1_write_header register count → register < reg_number_count → (register ≡ 4 → ⊥) → 0 < count → count ≤ most_short_words
+    → ((ps : List Packet) (n : ℕ) → 0 < n → n < type1_counts → MachineStandsFor old.machine ps → HasTakenWords ps ((type1_write_header register n, Open register n) ∷ []) (in_write register n))
     → ((ps : List Packet) (ws : List ℕ) → AreWords ws → 0 < length ws → MachineStandsFor (in_write register (length ws)) ps → HasTakenWords ps (payload_steps register ws) new.machine)
     → WritesShort old new bs register count
 writes_short old new bs head register count is to none none2 long fits e g range other some few opens goes =

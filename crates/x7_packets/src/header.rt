@@ -1,5 +1,5 @@
 //! Header words (UG470, packet types).
-ghost use Rattle.std.specs.Prelude.{◌≡◌, ◌<◌, ◌==◌};
+ghost use Rattle.std.specs.Prelude.{◌≡◌, ◌==◌};
 ghost use Rattle.x7_regs.specs.Register.{number_of};
 ghost use Rattle.x7_regs.specs.declared.register.Reg.TheVariants.{Cmd};
 ghost use Rattle.x7_packets.specs.Packet.{ends_session, meaning};

@@ -1,5 +1,5 @@
 //! The bytes of a text's lines, as the lines come.
-ghost use Rattle.std.specs.Prelude.{◌≡◌, ℕ, List, [], ◌∷◌, ◌++◌, ◌+◌, ◌≤◌, drop, length, vec_len, vec_capacity, Ok, IfErr, OnOk, MatchResult};
+ghost use Rattle.std.specs.Prelude.{◌≡◌, ℕ, List, [], ◌∷◌, ◌++◌, ◌+◌, ◌≤◌, drop, length, vec_capacity, Ok, IfErr, OnOk, MatchResult};
 ghost use Rattle.x7_text.specs.Reads.{Reads};
 ghost use Rattle.x7_crc.specs.Checker.{check_of_bytes, KeepsCheckOf};
 ghost use Rattle.x7_listing.specs.Assembly.{AreHeadedAsm};
