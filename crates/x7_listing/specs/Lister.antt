@@ -13,6 +13,7 @@ use Rattle.x7_regs.specs.Register.{number_of}
 use Rattle.x7_regs.specs.declared.register.Reg.TheVariants.{Cmd}
 use Rattle.x7_text.specs.Row.{bytes_text, close, element_text, in_line_after, next_in_line, spaced, open_bytes, bytes_row_size, row_words}
 use Rattle.x7_listing.specs.HeadLine.{command_line, text_of_head}
+use Rattle.x7_listing.specs.Line.{sync_line}
 use Rattle.x7_listing.specs.Listing.{IsListing, session_text}
 
 -- the text that a payload word adds where i words stand in an open `data` line (0: none is open)
@@ -54,7 +55,7 @@ pub record GapListed (all start : List ℕ) (in_line : ℕ) (held gap : List ℕ
 
 -- the words of a session are listed, and the last line is open
 pub record SessionListed (all start : List ℕ) (in_line : ℕ) (gap : List ℕ) (packets : List Packet) : Type 0 where
-  pub listed : all ≡ start ++ bytes_text gap ++ codes "sync\n" ++ open_words 0 (flat_map stepped packets)
+  pub listed : all ≡ start ++ bytes_text gap ++ sync_line ++ open_words 0 (flat_map stepped packets)
   pub count : in_line ≡ in_line_after_words 0 (flat_map stepped packets)
 
 -- what is written of a listing: its text so far, and what stands in its open line or is held

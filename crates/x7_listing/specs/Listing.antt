@@ -1,5 +1,5 @@
 -- The listing of a reading (this project's choice).
-use Rattle.std.specs.Prelude.{◌≡◌, ℕ, ◌==◌, if◌then◌else◌, List, ◌++◌, codes}
+use Rattle.std.specs.Prelude.{◌≡◌, ℕ, ◌==◌, if◌then◌else◌, List, ◌++◌}
 use Rattle.std.specs.List.{flat_map}
 use Rattle.x7_packets.specs.Packet.{Packet, named_by}
 use Rattle.x7_packets.specs.Reading.{Place, Searching, Synced, EndedSession, IsReading}
@@ -8,6 +8,7 @@ use Rattle.x7_regs.specs.Register.{number_of}
 use Rattle.x7_regs.specs.declared.register.Reg.TheVariants.{Cmd}
 use Rattle.x7_text.specs.Row.{bytes_text, data_text}
 use Rattle.x7_listing.specs.HeadLine.{command_line, text_of_head}
+use Rattle.x7_listing.specs.Line.{sync_line}
 
 -- the lines of a payload: one a word where the register is CMD, else eight words a line
 abbrev pub payload_text : ℕ → List ℕ → List ℕ
@@ -19,7 +20,7 @@ packet_text p = text_of_head p.step p.head ++ payload_text (named_by p.step) p.p
 
 -- the lines of a gap, the sync word after it and packets
 abbrev pub packets_text : List ℕ → List Packet → List ℕ
-packets_text gap packets = bytes_text gap ++ codes "sync\n" ++ flat_map packet_text packets
+packets_text gap packets = bytes_text gap ++ sync_line ++ flat_map packet_text packets
 
 -- the lines of a session that ended
 abbrev pub session_text : EndedSession → List ℕ

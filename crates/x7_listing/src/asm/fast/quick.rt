@@ -11,6 +11,7 @@ ghost use Rattle.x7_listing.specs.Fast.Looking.{AppendsFoundLines, ReadsAtOnce};
 use super::write_pairs::{differences, read_pair};
 use crate::asm::reading::{MOST_ROW_SIZE, put_word_bytes, type1_at};
 use crate::assembler::ASM_LIMIT;
+use crate::line::{BYTES_SIZE, DATA_SIZE, SPACED_WORD_SIZE};
 use std::simd::prelude::*;
 use x7_packets::type1_write_header;
 use x7_text::{prefix_of_hex, put};
@@ -25,15 +26,6 @@ const NOP_BYTES: &[u8; 32] =
 
 /// How many bytes of a text are looked at: as many as the longest line that is read at once has, with its end.
 pub(crate) const LOOK_SIZE: usize = 77;
-
-/// How many bytes the word `data` has.
-const DATA_SIZE: usize = 4;
-
-/// How many bytes a word has in a `data` line: a space and eight digits.
-const SPACED_WORD_SIZE: usize = 9;
-
-/// How many bytes the word `bytes` and the space after it have.
-const BYTES_SIZE: usize = 6;
 
 /// How many digits the bytes of a full `bytes` line have.
 const FULL_DIGITS: usize = 64;
