@@ -10,7 +10,7 @@ use Rattle.x7_words.specs.Word.{AreBytes, AreWords, bytes_of_word, word_of_bytes
 use Rattle.x7_words.proofs.ListLemmas.{all_append, all_prefix, all_back, flat_map_last}
 use Rattle.x7_words.proofs.WordLemmas.{bytes_words, words_fit}
 use Rattle.x7_packets.specs.SyncWord.{sync_bytes, EndsWithSync}
-use Rattle.x7_packets.specs.Packet.{Packet, Packets, EachPacket, IsPacket, IsWhole, OnlyLastEnds, NoneEnds, latest_after, count_of, named_by, words, ended, last_ends}
+use Rattle.x7_packets.specs.Packet.{Packet, HavePackets, EachPacket, IsPacket, IsWhole, OnlyLastEnds, NoneEnds, latest_after, count_of, named_by, words, ended, last_ends}
 use Rattle.x7_packets.specs.Reading.{Place, Searching, Synced, EndedSession, IsReading, IsEndedSession, packet_bytes, session_bytes}
 use Rattle.x7_packets.specs.ByHand.{header_packet, with_payload_word, with_word_after, packets_with_word, packets_of, AreOfOneSession, is_sync, last_four, before_last_four, Reading, with_session_byte, with_byte_at, with_byte, reading_of}
 use Rattle.x7_packets.proofs.PacketLemmas.{only_more, one_list}
@@ -62,39 +62,39 @@ word_joined latest (p ∷ []) w = last_joined latest p w (nat_lt (length p.paylo
 word_joined latest (p ∷ q ∷ ps) w = ap (λ t. words p ++ t) (word_joined (latest_after latest p.step) (q ∷ ps) w) ∙ sym (append_assoc (words p) (flat_map words (q ∷ ps)) (w ∷ []))
 
 -- words after those of packets that were found
-words_after : (prefix back : List ℕ) (ps : List Packet) → AreWords back → ((more rest : List ℕ) (w : ℕ) → back ≡ more ++ w ∷ rest → ended (fold packets_with_word ps more) ≡ false) → Packets prefix ps → Packets (prefix ++ back) (fold packets_with_word ps back)
+words_after : (prefix back : List ℕ) (ps : List Packet) → AreWords back → ((more rest : List ℕ) (w : ℕ) → back ≡ more ++ w ∷ rest → ended (fold packets_with_word ps more) ≡ false) → HavePackets prefix ps → HavePackets (prefix ++ back) (fold packets_with_word ps back)
 words_after prefix [] ps f o a = rw append-nil a
 words_after prefix (w ∷ back) ps f o a =
-    let next : Packets (prefix ++ w ∷ []) (packets_with_word ps w) = record { joined = ap (λ t. t ++ w ∷ []) a.joined ∙ sym (word_joined None ps w); each = word_each None ps w f.0 a.each (o [] back w refl) } in
-    let all : Packets ((prefix ++ w ∷ []) ++ back) (fold packets_with_word (packets_with_word ps w) back) = words_after (prefix ++ w ∷ []) back (packets_with_word ps w) f.1 (λ more rest x e. o (w ∷ more) rest x (ap (λ t. w ∷ t) e)) next in
+    let next : HavePackets (prefix ++ w ∷ []) (packets_with_word ps w) = record { joined = ap (λ t. t ++ w ∷ []) a.joined ∙ sym (word_joined None ps w); each = word_each None ps w f.0 a.each (o [] back w refl) } in
+    let all : HavePackets ((prefix ++ w ∷ []) ++ back) (fold packets_with_word (packets_with_word ps w) back) = words_after (prefix ++ w ∷ []) back (packets_with_word ps w) f.1 (λ more rest x e. o (w ∷ more) rest x (ap (λ t. w ∷ t) e)) next in
     rw append_assoc at all
 
-pub packets_are_found : (ws : List ℕ) → AreWords ws → AreOfOneSession ws → Packets ws (packets_of ws)
+pub packets_are_found : (ws : List ℕ) → AreWords ws → AreOfOneSession ws → HavePackets ws (packets_of ws)
 packets_are_found ws f o = words_after [] ws [] f o (record { joined = refl; each = tt })
 
 -- the word that ends a session is the last of the words of packets
-goes_on : (ws prefix rest : List ℕ) (w : ℕ) (ps qs : List Packet) (b : Bool) → ended ps ≡ b → Packets ws qs → ws ≡ prefix ++ w ∷ rest → Packets prefix ps → ended ps ≡ false
+goes_on : (ws prefix rest : List ℕ) (w : ℕ) (ps qs : List Packet) (b : Bool) → ended ps ≡ b → HavePackets ws qs → ws ≡ prefix ++ w ∷ rest → HavePackets prefix ps → ended ps ≡ false
 goes_on ws prefix rest w ps qs true t a e b = absurd (let none : w ∷ rest ≡ [] = after_end None ps qs (w ∷ rest) b.each t a.each (ap (λ xs. xs ++ w ∷ rest) (sym b.joined) ∙ sym e ∙ a.joined) in cc)
 goes_on ws prefix rest w ps qs false t a e b = t
 
-none_early : (ws prefix back rest : List ℕ) (w : ℕ) (ps qs : List Packet) → Packets ws qs → ws ≡ prefix ++ (back ++ w ∷ rest) → AreWords back → Packets prefix ps → ended (fold packets_with_word ps back) ≡ false
+none_early : (ws prefix back rest : List ℕ) (w : ℕ) (ps qs : List Packet) → HavePackets ws qs → ws ≡ prefix ++ (back ++ w ∷ rest) → AreWords back → HavePackets prefix ps → ended (fold packets_with_word ps back) ≡ false
 none_early ws prefix [] rest w ps qs a e f b = goes_on ws prefix rest w ps qs (ended ps) refl a e b
 none_early ws prefix (x ∷ back) rest w ps qs a e f b =
     let calm : ended ps ≡ false = goes_on ws prefix (back ++ w ∷ rest) x ps qs (ended ps) refl a e b in
-    let next : Packets (prefix ++ x ∷ []) (packets_with_word ps x) = record { joined = ap (λ t. t ++ x ∷ []) b.joined ∙ sym (word_joined None ps x); each = word_each None ps x f.0 b.each calm } in
+    let next : HavePackets (prefix ++ x ∷ []) (packets_with_word ps x) = record { joined = ap (λ t. t ++ x ∷ []) b.joined ∙ sym (word_joined None ps x); each = word_each None ps x f.0 b.each calm } in
     none_early ws (prefix ++ x ∷ []) back rest w (packets_with_word ps x) qs a (e ∙ sym (append_assoc prefix (x ∷ []) (back ++ w ∷ rest))) f.1 next
 
-words_of_packets_fit : (ws : List ℕ) (ps : List Packet) → Packets ws ps → AreWords ws
+words_of_packets_fit : (ws : List ℕ) (ps : List Packet) → HavePackets ws ps → AreWords ws
 words_of_packets_fit ws ps a = rw a.joined (each_fits None ps a.each)
 
-pub one_session : (ws : List ℕ) (ps : List Packet) → Packets ws ps → AreOfOneSession ws
+pub one_session : (ws : List ℕ) (ps : List Packet) → HavePackets ws ps → AreOfOneSession ws
 one_session ws ps a prefix back w e =
     let fits : AreWords (prefix ++ w ∷ back) = rw e at (words_of_packets_fit ws ps a) in
     none_early ws [] prefix back w [] ps a e (all_prefix (λ x. x < 2 ^ 32) prefix (w ∷ back) fits) (record { joined = refl; each = tt })
 
-pub packets_are : (ws : List ℕ) (ps : List Packet) → Packets ws ps → ps ≡ packets_of ws
+pub packets_are : (ws : List ℕ) (ps : List Packet) → HavePackets ws ps → ps ≡ packets_of ws
 packets_are ws ps a =
-    let found : Packets ws (packets_of ws) = packets_are_found ws (words_of_packets_fit ws ps a) (one_session ws ps a) in
+    let found : HavePackets ws (packets_of ws) = packets_are_found ws (words_of_packets_fit ws ps a) (one_session ws ps a) in
     one_list None ps (packets_of ws) a.each found.each (sym a.joined ∙ found.joined)
 
 -- the four bytes of a list that is_sync takes are the sync word

@@ -123,7 +123,7 @@ EachPacket latest (p ∷ []) = IsPacket latest p
 EachPacket latest (p ∷ q ∷ ps) = IsPacket latest p × IsWhole p × EachPacket (latest_after latest p.step) (q ∷ ps)
 
 -- the words are those of these packets
-pub record Packets (ws : List ℕ) (ps : List Packet) : Type 0 where
+pub record HavePackets (ws : List ℕ) (ps : List Packet) : Type 0 where
   pub joined : ws ≡ flat_map words ps
   pub each : EachPacket None ps
 

@@ -6,14 +6,14 @@ ghost use Rattle.x7_packets.specs.ByHand.{AreOfOneSession, Reading, packets_of, 
 ghost use Rattle.x7_packets.specs.Cutter.{CutAdds, GoesOnBy, HasCut, run_steps};
 ghost use Rattle.x7_packets.specs.Ended.{HasEnded};
 ghost use Rattle.x7_packets.specs.History.{Access, AllFit, EntersNewer, EntersNone, EntersOne, Entry, entered_all, entry, History, history, history_in, history_of, next_in, next_word, Placed, until};
-ghost use Rattle.x7_packets.specs.Packet.{Packet, Packets};
+ghost use Rattle.x7_packets.specs.Packet.{Packet, HavePackets};
 ghost use Rattle.x7_packets.specs.Reading.{IsReading, Place, Searching, EndedSession, Synced, is_synced, tail_of};
 ghost use Rattle.x7_packets.specs.declared.cutter.Cut.{Cut};
 ghost use Rattle.x7_packets.specs.declared.header.Step.{Step};
 
 /// A list of words has at most one list of packets.
 pub fn one_list_of_packets()
-    ensures { (ws : List ℕ) (ps qs : List Packet) → Packets ws ps → Packets ws qs → ps ≡ qs }
+    ensures { (ws : List ℕ) (ps qs : List Packet) → HavePackets ws ps → HavePackets ws qs → ps ≡ qs }
 {}
 
 /// A list of bytes has at most one reading.
@@ -23,8 +23,8 @@ pub fn one_reading()
 
 /// Words have packets exactly where none follows a word that ends the session, and they are those found by hand.
 pub fn packets_are_found()
-    ensures found { (ws : List ℕ) → AreWords ws → AreOfOneSession ws → Packets ws (packets_of ws) }
-    ensures unique { (ws : List ℕ) (ps : List Packet) → Packets ws ps → AreOfOneSession ws × (ps ≡ packets_of ws) }
+    ensures found { (ws : List ℕ) → AreWords ws → AreOfOneSession ws → HavePackets ws (packets_of ws) }
+    ensures unique { (ws : List ℕ) (ps : List Packet) → HavePackets ws ps → AreOfOneSession ws × (ps ≡ packets_of ws) }
 {}
 
 /// Bytes have a reading, and it is the one found by hand.
