@@ -115,9 +115,16 @@ pub few_held : (l : ListerState) (given before bytes : List ℕ) → ListerStand
 few_held l given before bytes s =
     let t = s.has_listed in
     let r = t.cut.reading in
-    omega (arith, ap length (listed_after l given before bytes s), length-append (before ++ flat_map session_text t.sessions) (sure_place t.at),
-    length-append before (flat_map session_text t.sessions), ap length r.joined, length-append (flat_map session_bytes t.sessions) (place_bytes t.at),
-    sessions_long t.sessions r.each, place_long t.at r.ends)
+    omega (
+      arith,
+      ap length (listed_after l given before bytes s),
+      length-append (before ++ flat_map session_text t.sessions) (sure_place t.at),
+      length-append before (flat_map session_text t.sessions),
+      ap length r.joined,
+      length-append (flat_map session_bytes t.sessions) (place_bytes t.at),
+      sessions_long t.sessions r.each,
+      place_long t.at r.ends,
+    )
 
 -- a sync word is not listed yet: it stands in the gap's bytes, of which all but those that are held are listed
 due_long : (all start : List ℕ) (line : ℕ) (held gap : List ℕ) → GapListed all start line held (gap ++ sync_bytes) → length start + length (gap ++ sync_bytes) ≤ length all + 4
@@ -140,9 +147,14 @@ listed_long true line held all start place m t p = omega (arith, ap length (sure
 pub few_taken : (l : ListerState) (given before bytes : List ℕ) (due : Mode) → TakerStandsFor l given before bytes due → length before + length bytes ≤ length (given ++ l.text) + 4
 few_taken l given before bytes due t =
     let r = t.reading in
-    omega (arith, listed_long l.is_synced l.in_line l.held (given ++ l.text) (before ++ flat_map session_text t.sessions) t.at due t.listed r.ends,
-    length-append before (flat_map session_text t.sessions), ap length r.joined, length-append (flat_map session_bytes t.sessions) (place_bytes t.at),
-    sessions_long t.sessions r.each)
+    omega (
+      arith,
+      listed_long l.is_synced l.in_line l.held (given ++ l.text) (before ++ flat_map session_text t.sessions) t.at due t.listed r.ends,
+      length-append before (flat_map session_text t.sessions),
+      ap length r.joined,
+      length-append (flat_map session_bytes t.sessions) (place_bytes t.at),
+      sessions_long t.sessions r.each,
+    )
 
 -- ---- how little is held back
 

@@ -172,9 +172,13 @@ session_short gap packets a =
 sessions_short : (ss : List EndedSession) → AllByRecursion Listed (flat_map session_lines ss) → length (ended_texts (flat_map session_lines ss)) ≤ 5 * length (flat_map (line_bytes 0) (flat_map session_lines ss))
 sessions_short [] a = omega arith
 sessions_short (s ∷ ss) a =
-    omega (arith, session_short s.gap s.packets (all_prefix Listed (session_lines s) (flat_map session_lines ss) a),
-    sessions_short ss (all_back Listed (session_lines s) (flat_map session_lines ss) a), texts_long (session_lines s) (flat_map session_lines ss),
-    bytes_long (session_lines s) (flat_map session_lines ss))
+    omega (
+      arith,
+      session_short s.gap s.packets (all_prefix Listed (session_lines s) (flat_map session_lines ss) a),
+      sessions_short ss (all_back Listed (session_lines s) (flat_map session_lines ss) a),
+      texts_long (session_lines s) (flat_map session_lines ss),
+      bytes_long (session_lines s) (flat_map session_lines ss),
+    )
 
 place_short : (p : Place) → AllByRecursion Listed (place_lines p) → length (ended_texts (place_lines p)) ≤ 5 * length (flat_map (line_bytes 0) (place_lines p)) + 4
 place_short (Searching gap) a = gap_short gap

@@ -78,9 +78,20 @@ payload_goes m n ps w f a e r l d =
       end = ended_more a.prefix p ∙ ap (λ x. last_ends x p.payload) same_register ∙ last_ends_more m.register a.last.payload w;
       stands = rw e (elim (cases_eq n.due 0) [
         | inl z ↦ inl (record { whole = whole_more None a.prefix p a.whole i (record { all = omega (arith, a.due); none_ends = rw same_register none }); latest = l ∙ a.latest ∙ sym (latest_more None a.prefix p ∙ ap (latest_after (latest_of None a.prefix)) a.opens); due = z })
-        | inr z ↦ inr (record { prefix = a.prefix; last = p; split = refl; whole = a.whole; fits = fits; means = a.means; count = a.count;
-            opens = a.opens ∙ ap (λ x. Open x a.count) (sym r); latest = l ∙ a.latest ∙ ap (λ x. Some x) (sym r); due = omega (arith, a.due); more = omega arith;
-            none_ends = rw r none })
+        | inr z ↦ inr (record {
+          prefix = a.prefix;
+          last = p;
+          split = refl;
+          whole = a.whole;
+          fits = fits;
+          means = a.means;
+          count = a.count;
+          opens = a.opens ∙ ap (λ x. Open x a.count) (sym r);
+          latest = l ∙ a.latest ∙ ap (λ x. Some x) (sym r);
+          due = omega (arith, a.due);
+          more = omega arith;
+          none_ends = rw r none;
+        })
       ]);
     }
 

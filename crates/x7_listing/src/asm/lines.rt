@@ -107,7 +107,7 @@ impl AsmLines {
     fn read_next(&mut self, n: u64, line: &[u8]) -> Result<(), AsmFault>
         ensures read { (lines : List (List ℕ)) → n ≡ length lines + 1 → HasReadWithRoom self.old lines
             → MatchResult result (λ _. HasReadWithRoom self.new (lines ++ line.now ∷ []))
-                (λ f. (left : List (List ℕ)) → HasAsmFault f (lines ++ line.now ∷ left)) }
+            (λ f. (left : List (List ℕ)) → HasAsmFault f (lines ++ line.now ∷ left)) }
         ensures memory { (lines : List (List ℕ)) → n ≡ length lines + 1 → HasReadWithRoom self.old lines
             → IfErr result (λ fault. fault ≡ AsmFault.NoMemory → IsFirstOrGood lines line.now) }
     {
