@@ -138,7 +138,7 @@ pub record MayCall (p : PacketsState) (input : InputsState) : Type 0 where
 
 -- what holds of the inputs and of a call's result: an input is still selected after a run, and the call fails only
 -- where a read failed in it or an earlier call failed; after an earlier failure it always fails
-pub record CallsOn {T : Type 0} (p : PacketsState) (old new : InputsState) (result : Result T Failed) : Type 0 where
+pub record IsCallResult {T : Type 0} (p : PacketsState) (old new : InputsState) (result : Result T Failed) : Type 0 where
   pub failed : OnErr result ((p.has_failed ≡ true) ⊎ InputsFail old new)
   pub selected : OnOk result (new.selected ≡ true)
   pub stays : p.has_failed ≡ true → OnOk result ⊥

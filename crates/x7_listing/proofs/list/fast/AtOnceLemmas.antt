@@ -17,13 +17,13 @@ use Rattle.x7_packets.specs.Packet.{payload_steps, register_of, type1_count_of}
 use Rattle.x7_packets.specs.declared.cutter.Cut.{Cut}
 use Rattle.x7_packets.specs.declared.cutter.Cut.TheVariants.{Body, Head, Skip, Sync, Word}
 use Rattle.x7_packets.specs.declared.header.Step.{Step}
-use Rattle.x7_packets.specs.declared.header.Step.TheVariants.{Open}
+use Rattle.x7_packets.specs.declared.header.Step.TheVariants.{Nop, Open}
 use Rattle.x7_text.specs.Digits.{hex_byte, hex_word}
 use Rattle.x7_text.specs.Row.{bytes_text, close, in_line_after, open_text}
 use Rattle.x7_text.proofs.LineLemmas.{bytes_closed}
 use Rattle.x7_regs.specs.Register.{reg_name, reg_number_count}
 use Rattle.x7_listing.specs.declared.line.head_line.HeadLine.TheVariants.{Write}
-use Rattle.x7_listing.specs.Fast.AtOnce.{command_lines, equal_lines, write_line, write_name, write_start}
+use Rattle.x7_listing.specs.Fast.AtOnce.{command_lines, write_line, write_name, write_start}
 use Rattle.x7_listing.specs.HeadLine.{best_line, command_line, text_of_head, line_text}
 use Rattle.x7_listing.specs.Lister.{GapListed, HasListedJust, in_line_after_words, open_words, WritesRun, lister_of, written_of}
 use Rattle.x7_listing.proofs.GapLemmas.{listed_more}
@@ -31,6 +31,15 @@ use Rattle.x7_listing.proofs.RunLemmas.{by_body, by_head, by_skip, by_sync, by_w
 use Rattle.x7_listing.proofs.SessionLemmas.{data_listed, is_data}
 
 -- ---- texts
+
+-- the lines of a word in a header's place, this many times
+abbrev pub equal_lines : Step → ℕ → ℕ → List ℕ
+equal_lines step w zero = []
+equal_lines step w (suc n) = text_of_head step w ++ equal_lines step w n
+
+-- the lines of this many no-ops
+abbrev pub nop_lines : ℕ → List ℕ
+nop_lines n = equal_lines Nop no_op n
 
 pub equal_block : (step : Step) (w n : ℕ) (line : List ℕ) → text_of_head step w ≡ line → flat_map (λ x. x) (replicate n line) ≡ equal_lines step w n
 equal_block step w zero line e = refl

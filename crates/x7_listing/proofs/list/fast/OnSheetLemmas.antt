@@ -8,9 +8,9 @@ use Rattle.x7_regs.specs.declared.command.Command.{Command}
 use Rattle.x7_regs.specs.declared.command.Command.TheVariants.{Null, Wcfg, Mfw, Lfrm, Rcfg, Start, Rcap, Rcrc, Aghigh, Switch, Grestore, Shutdown, Gcapture, Desync, Iprog, Crcc, Ltimer, BspiRead, FallEdge}
 use Rattle.x7_text.specs.Digits.{hex_word}
 use Rattle.x7_text.specs.Row.{close}
-use Rattle.x7_listing.specs.Fast.AtOnce.{command_lines, nop_lines, write_line, write_name, write_start}
+use Rattle.x7_listing.specs.Fast.AtOnce.{command_lines, write_line, write_name, write_start}
 use Rattle.x7_listing.specs.HeadLine.{command_line, text_of_head}
-use Rattle.x7_listing.proofs.list.fast.AtOnceLemmas.{equal_block, equal_prefix, short_line_is}
+use Rattle.x7_listing.proofs.list.fast.AtOnceLemmas.{equal_block, equal_prefix, nop_lines, short_line_is}
 use Rattle.x7_listing.proofs.line.LineTextLemmas.{no_command_line}
 use Rattle.x7_regs.specs.Register.{reg_number_count}
 
