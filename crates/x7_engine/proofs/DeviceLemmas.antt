@@ -12,7 +12,7 @@ use Rattle.x7_packets.specs.declared.header.Step.TheVariants as step
 use Rattle.x7_packets.specs.Cutter.{AtPlace, between, CutterState, CutterStandsFor, IsLent, IsRun, LongerSession, AfterRun, run_bytes, run_steps, syncs_to_give}
 use Rattle.x7_packets.specs.History.{History, Placed, entered_all, history_of, next_word, until}
 use Rattle.x7_packets.specs.Packet.{Packet, payload_steps}
-use Rattle.x7_packets.specs.Reading.{IsReading, Place, Searching, EndedSession, Synced, tail_of}
+use Rattle.x7_packets.specs.Reading.{EndedSession, IsReading, Place, Searching, Synced, tail_of}
 use Rattle.x7_packets.proofs.GrowthLemmas.{prefix_of, placed_of}
 use Rattle.x7_packets.proofs.HistoryLemmas.{cut_enters, next_word_is, words_end}
 use Rattle.x7_part.specs.Part.{PartData}

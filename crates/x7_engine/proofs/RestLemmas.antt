@@ -6,7 +6,7 @@ use Rattle.x7_words.specs.Word.{AreBytes}
 use Rattle.x7_words.proofs.ListLemmas.{all_prefix}
 use Rattle.x7_packets.specs.ByHand.{reading_of}
 use Rattle.x7_packets.specs.History.{History, history_of}
-use Rattle.x7_packets.specs.Reading.{IsReading, Place, Searching, EndedSession, is_synced, session_bytes}
+use Rattle.x7_packets.specs.Reading.{EndedSession, IsReading, Place, Searching, is_synced, session_bytes}
 use Rattle.x7_packets.proofs.ByHandLemmas.{reading_is, reading_is_found}
 use Rattle.x7_packets.proofs.GrowthLemmas.{placed_of}
 use Rattle.x7_packets.proofs.HistoryLemmas.{history_is}

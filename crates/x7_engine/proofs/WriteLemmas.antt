@@ -8,7 +8,7 @@ use Rattle.x7_packets.specs.declared.header.Step.TheVariants as step
 use Rattle.x7_packets.specs.AtOnce.{WritesOne}
 use Rattle.x7_packets.specs.Cutter.{CutterState, CutterStandsFor, AfterRun, between}
 use Rattle.x7_packets.specs.History.{History, Placed, Write, entry, history_of, next_word, until}
-use Rattle.x7_packets.specs.Reading.{Place, Searching, EndedSession, Synced}
+use Rattle.x7_packets.specs.Reading.{EndedSession, Place, Searching, Synced}
 use Rattle.x7_packets.proofs.GrowthLemmas.{prefix_of, until_placed}
 use Rattle.x7_packets.proofs.HistoryLemmas.{cut_enters, next_word_is}
 use Rattle.x7_part.specs.Part.{PartData}

@@ -9,7 +9,7 @@ use Rattle.x7_regs.specs.Command.{code_of, command_name_of, command_with}
 use Rattle.x7_regs.specs.declared.command.Command.{Command}
 use Rattle.x7_text.specs.Digits.{hex_byte, hex_word}
 use Rattle.x7_text.specs.Row.{spaced}
-use Rattle.x7_packets.specs.PacketWords.{type1_read_header, type1_write_header, type2_read_header, type2_write_header, type1_counts, type2_counts}
+use Rattle.x7_packets.specs.PacketWords.{type1_counts, type1_read_header, type1_write_header, type2_counts, type2_read_header, type2_write_header}
 use Rattle.x7_listing.specs.Line.{Line, Empty, Comment, Bytes, Sync, Nop, Write, Read, Write2, Read2, Word, Data, Cmd, Check, type1_text, line_bytes, FitsLine, IsType1, IsLine, IsPlain, text_of}
 use Rattle.x7_listing.specs.OneWord.{IsWordOf, PutsWord}
 use Rattle.x7_text.specs.Row.{IsByteRow, IsWordRow}

@@ -4,9 +4,9 @@ use Rattle.std.proofs.lemmas.Grind.{flat_map-append}
 use Rattle.std.specs.List.{AllByRecursion, flat_map}
 use Rattle.x7_words.specs.Word.{AreBytes, AreWords, bytes_of_word}
 use Rattle.x7_words.proofs.ListLemmas.{all_append, all_back, all_prefix}
-use Rattle.x7_packets.specs.Packet.{named_by, Packet, register_of, type_and_opcode_of, words, type1_count_of, type2_count_of}
+use Rattle.x7_packets.specs.Packet.{named_by, Packet, register_of, type1_count_of, type2_count_of, type_and_opcode_of, words}
 use Rattle.x7_packets.specs.PacketWords.{no_op, sync_word, type1_read_header, type1_write_header, type2_read_kind, type2_write_kind}
-use Rattle.x7_packets.specs.Reading.{IsPlace, IsReading, IsEndedSession, packet_bytes, Place, place_bytes, Searching, EndedSession, session_bytes, Synced}
+use Rattle.x7_packets.specs.Reading.{EndedSession, IsEndedSession, IsPlace, IsReading, packet_bytes, Place, place_bytes, Searching, session_bytes, Synced}
 use Rattle.x7_packets.specs.SyncWord.{sync_bytes}
 use Rattle.x7_packets.specs.ByHand.{reading_of}
 use Rattle.x7_packets.specs.declared.header.Step.{Step}

@@ -14,7 +14,7 @@ use Rattle.x7_header.specs.declared.fault.HeaderFault.{HeaderFault}
 use Rattle.x7_header.specs.declared.fault.HeaderFault.TheVariants as fault
 use Rattle.x7_header.proofs.HeaderLemmas.{header_takes, IsPrefix}
 use Rattle.x7_packets.specs.Packet.{Packet, named_by}
-use Rattle.x7_packets.specs.Reading.{Place, Searching, EndedSession, Synced}
+use Rattle.x7_packets.specs.Reading.{EndedSession, Place, Searching, Synced}
 use Rattle.x7_packets.specs.ByHand.{reading_of}
 use Rattle.x7_regs.specs.Command.{code_of, command_by, command_name_of}
 use Rattle.x7_regs.specs.declared.command.Command.{Command}

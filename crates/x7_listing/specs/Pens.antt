@@ -6,7 +6,7 @@ use Rattle.x7_packets.specs.AtOnce.{TakesAsOneRun}
 use Rattle.x7_packets.specs.Cutter.{CutterState}
 use Rattle.x7_packets.specs.declared.cutter.Cut.TheVariants.{Head}
 use Rattle.x7_packets.specs.declared.header.Step.{Step}
-use Rattle.x7_packets.specs.Reading.{Place, EndedSession, tail_of}
+use Rattle.x7_packets.specs.Reading.{EndedSession, Place, tail_of}
 use Rattle.x7_listing.specs.Listing.{reading_text}
 use Rattle.x7_listing.specs.Lister.{GapListed, HasListedAll, ListerState, ListerStandsFor, HasListedJust, WrittenSoFar, lister_of, written_of}
 use Rattle.x7_listing.specs.declared.list.pen.state.GapPen.{GapPen}

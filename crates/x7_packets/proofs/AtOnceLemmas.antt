@@ -14,9 +14,9 @@ use Rattle.x7_packets.specs.declared.cutter.Cut.TheVariants.{Body, Head, Skip}
 use Rattle.x7_packets.specs.Mode.{Mode}
 use Rattle.x7_packets.specs.AtOnce.{BeginsWrite, EndsGap, in_write, longest_gap_and_sync, longest_short_write, most_short_words, short_gap_room, WritesShort, WritesOne}
 use Rattle.x7_packets.specs.Cutter.{AtPlace, CutterState, CutterStandsFor, LongerSession, AfterRun, TakesAsOneRun}
-use Rattle.x7_packets.specs.PacketWords.{dummy_word, no_op, sync_word, type1_write_header, type1_write_kind, type1_counts}
-use Rattle.x7_packets.specs.Packet.{Packet, ends_session, meaning, payload_steps, register_of, packet_type_of, type_and_opcode_of, type1_count_of}
-use Rattle.x7_packets.specs.Reading.{Place, Searching, EndedSession, Synced, packet_bytes, session_bytes}
+use Rattle.x7_packets.specs.PacketWords.{dummy_word, no_op, sync_word, type1_counts, type1_write_header, type1_write_kind}
+use Rattle.x7_packets.specs.Packet.{Packet, ends_session, meaning, packet_type_of, payload_steps, register_of, type1_count_of, type_and_opcode_of}
+use Rattle.x7_packets.specs.Reading.{EndedSession, Place, Searching, Synced, packet_bytes, session_bytes}
 use Rattle.x7_packets.specs.Machine.{HasTakenWords, MachineStandsFor, MachineState, ends_by, is_end}
 use Rattle.x7_packets.proofs.CutLemmas.{body_more, joined_more, packet_bytes_grown, skip_found, sync_given, word_more}
 use Rattle.x7_packets.proofs.NopLemmas.{nop_grows}

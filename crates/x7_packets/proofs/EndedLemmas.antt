@@ -6,7 +6,7 @@ use Rattle.x7_packets.specs.Ended.{HasEnded, newest_ends}
 use Rattle.x7_packets.specs.ByHand.{reading_of}
 use Rattle.x7_packets.specs.History.{History, Write, entered, entered_all, entered_sessions, entry, history, history_of}
 use Rattle.x7_packets.specs.Packet.{Packet, ended, last_ends, named_by, payload_steps, stepped}
-use Rattle.x7_packets.specs.Reading.{IsEndedSession, Place, Searching, EndedSession, Synced, is_synced, session_bytes}
+use Rattle.x7_packets.specs.Reading.{EndedSession, IsEndedSession, Place, Searching, Synced, is_synced, session_bytes}
 use Rattle.x7_packets.proofs.ByHandLemmas.{reading_is_found}
 use Rattle.x7_packets.proofs.HistoryLemmas.{entered_all_append}
 

@@ -14,7 +14,7 @@ use Rattle.x7_packets.specs.History.{history}
 use Rattle.x7_packets.specs.Nops.{IdlesThrough, equal_bytes, nop_bytes}
 use Rattle.x7_packets.specs.PacketWords.{no_op}
 use Rattle.x7_packets.specs.Packet.{Packet}
-use Rattle.x7_packets.specs.Reading.{Place, Searching, EndedSession, Synced, packet_bytes, session_bytes}
+use Rattle.x7_packets.specs.Reading.{EndedSession, Place, Searching, Synced, packet_bytes, session_bytes}
 use Rattle.x7_packets.specs.Machine.{HasTakenWords, MachineStandsFor, MachineState}
 use Rattle.x7_packets.proofs.CutLemmas.{joined_more, packet_bytes_grown}
 use Rattle.x7_packets.proofs.HistoryLemmas.{grown_goes_on}

@@ -6,7 +6,7 @@ use Rattle.memchr.specs.Find.{OccursAt}
 use Rattle.memchr.proofs.lemmas.MatchLemmas.{OccursAt-part, OccursAt-from_part}
 use Rattle.x7_words.proofs.ListLemmas.{prefixes_of, shorter_prefix, IsFront}
 use Rattle.x7_packets.specs.SyncWord.{EndsWithSync, HasNoSync, IsBeforeSync, sync_bytes}
-use Rattle.x7_packets.specs.Matching.{IsClear, IsFirstSync, LastThree, MatcherStandsFor, IsSearchOutcome}
+use Rattle.x7_packets.specs.Matching.{IsClear, IsFirstSync, IsSearchOutcome, LastThree, MatcherStandsFor}
 use Rattle.x7_packets.proofs.SyncLemmas.{ends_so, first_here, none_yet, took_one}
 
 -- bytes that begin with some and the sync word have the sync word there

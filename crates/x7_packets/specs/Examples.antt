@@ -7,7 +7,7 @@ use Rattle.x7_packets.specs.declared.header.Step.TheVariants.{Bad, Filler, Nop, 
 use Rattle.x7_packets.specs.Packet.{Packet}
 use Rattle.x7_packets.specs.History.{Entry, Write, entry}
 use Rattle.x7_packets.specs.History as access
-use Rattle.x7_packets.specs.Reading.{Place, Searching, EndedSession, Synced}
+use Rattle.x7_packets.specs.Reading.{EndedSession, Place, Searching, Synced}
 use Rattle.x7_packets.specs.ByHand.{Reading}
 use Rattle.x7_packets.specs.CheckedWrites.{RegisterWrite}
 

@@ -6,7 +6,7 @@ ghost use Rattle.x7_packets.specs.Appended.{MayComeNext, MayFollow, after, histo
 ghost use Rattle.x7_packets.specs.ByHand.{reading_of};
 ghost use Rattle.x7_packets.specs.Gap.{AreAlike, AreGaps, NoneBegins};
 ghost use Rattle.x7_packets.specs.History.{history_of};
-ghost use Rattle.x7_packets.specs.Packet.{IsWhole, Packet, HavePackets, words};
+ghost use Rattle.x7_packets.specs.Packet.{HavePackets, IsWhole, Packet, words};
 ghost use Rattle.x7_packets.specs.Reading.{Searching, is_synced, tail_of};
 ghost use Rattle.x7_packets.specs.SyncWord.{HasNoSync, sync_bytes};
 ghost use Rattle.x7_packets.specs.Machine.{AllWhole};

@@ -8,7 +8,7 @@ ghost use Rattle.x7_packets.specs.Cutter.{between, calls_left, CompletesNone, Cu
 ghost use Rattle.x7_packets.specs.Matching.{IsClear};
 ghost use Rattle.x7_packets.specs.Nops.{IdlesThrough, nop_bytes};
 ghost use Rattle.x7_packets.specs.PacketWords.{no_op};
-ghost use Rattle.x7_packets.specs.Reading.{is_synced, Place, EndedSession, tail_of};
+ghost use Rattle.x7_packets.specs.Reading.{EndedSession, is_synced, Place, tail_of};
 ghost use Rattle.x7_packets.specs.Mode.{Mode, mode_of};
 
 mod copied;

@@ -7,7 +7,7 @@ ghost use Rattle.x7_packets.specs.Cutter.{CutAdds, GoesOnBy, HasCut, run_steps};
 ghost use Rattle.x7_packets.specs.Ended.{HasEnded};
 ghost use Rattle.x7_packets.specs.History.{Access, AllFit, EntersNewer, EntersNone, EntersOne, Entry, entered_all, entry, History, history, history_in, history_of, next_in, next_word, Placed, until};
 ghost use Rattle.x7_packets.specs.Packet.{Packet, HavePackets};
-ghost use Rattle.x7_packets.specs.Reading.{IsReading, Place, Searching, EndedSession, Synced, is_synced, tail_of};
+ghost use Rattle.x7_packets.specs.Reading.{EndedSession, IsReading, Place, Searching, Synced, is_synced, tail_of};
 ghost use Rattle.x7_packets.specs.declared.cutter.Cut.{Cut};
 ghost use Rattle.x7_packets.specs.declared.header.Step.{Step};
 

@@ -5,7 +5,7 @@ ghost use Rattle.x7_packets.specs.Cutter.{IsNeed};
 ghost use Rattle.x7_packets.specs.Mode.{Mode};
 ghost use Rattle.x7_packets.specs.FoundRun.{FoundRun, found_of};
 ghost use Rattle.x7_packets.specs.PacketsState.{PacketsState, piece_size};
-ghost use Rattle.x7_packets.specs.Stream.{IsCallResult, CutsNext, ReadsPiece, GivesRun, GivesUp, IsFoundRun, IsLastFound, MayCall, PacketsStandFor};
+ghost use Rattle.x7_packets.specs.Stream.{CutsNext, GivesRun, GivesUp, IsCallResult, IsFoundRun, IsLastFound, MayCall, PacketsStandFor, ReadsPiece};
 
 use crate::cutter::{Cut, Cutter};
 use crate::header::Step;

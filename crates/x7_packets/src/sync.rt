@@ -2,7 +2,7 @@
 ghost use Rattle.std.specs.Prelude.{◌≡◌, ℕ, List, [], ◌∷◌, ◌++◌, ◌<◌, ◌≤◌, ◌+◌, ◌↔◌, length, IsTrue, IfSome, if◌then◌else◌};
 ghost use Rattle.x7_packets.specs.AtOnce.{longest_gap_and_sync};
 ghost use Rattle.x7_packets.specs.SyncWord.{EndsWithSync, HasNoSync, sync_bytes};
-ghost use Rattle.x7_packets.specs.Matching.{IsClear, IsFirstSync, MatcherStandsFor, IsSearchOutcome, places_reach};
+ghost use Rattle.x7_packets.specs.Matching.{IsClear, IsFirstSync, IsSearchOutcome, MatcherStandsFor, places_reach};
 
 use crate::fast::{PLACES_REACH, first_of_places, first_sync};
 use std::marker::Model;

@@ -3,7 +3,7 @@ use Rattle.std.proofs.Common.{◌≡◌, ◌≢◌, ℕ, ◌==◌, if◌then◌e
 use Rattle.std.proofs.lemmas.Grind.{common_steps}
 use Rattle.x7_regs.specs.declared.command.Command.{Command}
 use Rattle.x7_regs.specs.declared.command.Command.TheVariants.{Null, Wcfg, Mfw, Lfrm, Rcfg, Start, Rcap, Rcrc, Aghigh, Switch, Grestore, Shutdown, Gcapture, Desync, Iprog, Crcc, Ltimer, BspiRead, FallEdge}
-use Rattle.x7_regs.specs.Command.{code_of, command_by, command_with, command_code_of}
+use Rattle.x7_regs.specs.Command.{code_of, command_by, command_code_of, command_with}
 
 command_with_code_of : (c : Command) → command_with (code_of c) ≡ c
 command_with_code_of Null = refl

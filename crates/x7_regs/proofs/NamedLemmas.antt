@@ -3,7 +3,7 @@ use Rattle.std.proofs.Common.{◌≡◌, ℕ, zero, suc, ◌<◌, ◌==◌, Bool
 use Rattle.std.proofs.lemmas.Bool.{cases_lt}
 use Rattle.std.proofs.lemmas.Grind.{common_steps}
 use Rattle.x7_regs.specs.Register.{reg_name, reg_number_count}
-use Rattle.x7_regs.specs.Command.{code_of, command_by, command_name_of, command_code_of}
+use Rattle.x7_regs.specs.Command.{code_of, command_by, command_code_of, command_name_of}
 use Rattle.x7_regs.specs.Named.{place_of_name}
 use Rattle.x7_regs.specs.declared.command.Command.{Command}
 use Rattle.x7_regs.specs.declared.command.Command.TheVariants.{Null, Wcfg, Mfw, Lfrm, Rcfg, Start, Rcap, Rcrc, Aghigh, Switch, Grestore, Shutdown, Gcapture, Desync, Iprog, Crcc, Ltimer, BspiRead, FallEdge}
