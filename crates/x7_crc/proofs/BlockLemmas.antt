@@ -13,9 +13,10 @@ use Rattle.x7_crc.specs.ShiftRegister.{advanced}
 use Rattle.x7_crc.proofs.CheckLemmas.{advanced_by_write, check_after_append, check_after_fits, check_after_none}
 use Rattle.x7_crc.proofs.ShiftLemmas.{advanced_xor}
 use Rattle.x7_crc.proofs.TableLemmas.{advanced_add}
+use Rattle.x7_regs.specs.Register.{reg_number_count}
 
 -- one write: the check and the word move by 37 bits, the register by five
-pub one_write : (v register word : ℕ) → v < 2 ^ 32 → register < 2 ^ 5 → word < 2 ^ 32 →
+pub one_write : (v register word : ℕ) → v < 2 ^ 32 → register < reg_number_count → word < 2 ^ 32 →
     check_after_one v register word ≡ bit_xor (advanced 37 (bit_xor v word)) (advanced 5 register)
 one_write v register word h k l =
     advanced_by_write v register word h k l
@@ -26,7 +27,7 @@ swapped : (a b c : ℕ) → bit_xor (bit_xor a b) c ≡ bit_xor (bit_xor a c) b
 swapped a b c = xor_assoc a b c ∙ ap (bit_xor a) (xor_comm b c) ∙ sym (xor_assoc a c b)
 
 -- a check in two parts: one of them goes on as if the words were 0
-parted : (v x z register word : ℕ) → v < 2 ^ 32 → z < 2 ^ 32 → register < 2 ^ 5 → word < 2 ^ 32 → v ≡ bit_xor x z →
+parted : (v x z register word : ℕ) → v < 2 ^ 32 → z < 2 ^ 32 → register < reg_number_count → word < 2 ^ 32 → v ≡ bit_xor x z →
     check_after_one v register word ≡ bit_xor (advanced 37 (bit_xor x word)) (check_after_one z register 0)
 parted v x z register word h hz k l e =
     let k5 = advanced 5 register in
@@ -65,7 +66,7 @@ first_of_five a b c d e =
     ∙ ap (λ t. bit_xor t e) (sym (xor_assoc a (bit_xor b c) d) ∙ ap (λ t. bit_xor t d) (sym (xor_assoc a b c)))
 
 -- four writes
-pub four_writes : (v register a b c d none : ℕ) → v < 2 ^ 32 → register < 2 ^ 5 → a < 2 ^ 32 → b < 2 ^ 32 → c < 2 ^ 32 → d < 2 ^ 32 →
+pub four_writes : (v register a b c d none : ℕ) → v < 2 ^ 32 → register < reg_number_count → a < 2 ^ 32 → b < 2 ^ 32 → c < 2 ^ 32 → d < 2 ^ 32 →
     none ≡ check_after 0 (writes_to register (0 ∷ 0 ∷ 0 ∷ 0 ∷ [])) →
     bit_xor (bit_xor (bit_xor (bit_xor (advanced 148 (bit_xor v a)) (advanced 111 b)) (advanced 74 c)) (advanced 37 d)) none
     ≡ check_after v (writes_to register (a ∷ b ∷ c ∷ d ∷ []))
@@ -94,7 +95,7 @@ four_writes v register a b c d none h k ha hb hc hd e =
     ∙ sym (whole ∙ e4)
 
 -- the check after four writes to one register, as the code adds what each byte gives
-pub four_at_once : (v register a b c d none : ℕ) → v < 2 ^ 32 → register < 2 ^ 5 → a < 2 ^ 32 → b < 2 ^ 32 → c < 2 ^ 32 → d < 2 ^ 32 →
+pub four_at_once : (v register a b c d none : ℕ) → v < 2 ^ 32 → register < reg_number_count → a < 2 ^ 32 → b < 2 ^ 32 → c < 2 ^ 32 → d < 2 ^ 32 →
     none ≡ check_after 0 (writes_to register (0 ∷ 0 ∷ 0 ∷ 0 ∷ [])) →
     bit_xor (advanced 148 (bit_xor v a)) (bit_xor (bit_xor (bit_xor (advanced 111 b) (advanced 74 c)) (advanced 37 d)) none)
     ≡ check_after v (writes_to register (a ∷ b ∷ c ∷ d ∷ []))

@@ -11,6 +11,7 @@ use Rattle.x7_crc.specs.Check.{bits_of_write, bits_of_writes, check_after, check
 use Rattle.x7_crc.specs.ShiftRegister.{shifted_all, advanced}
 use Rattle.x7_crc.proofs.PolynomialLemmas.{mirrored_lt, mirrored_same, one_remainder}
 use Rattle.x7_crc.proofs.ShiftLemmas.{divided_shifted, shifted_all_append, shifted_all_divides, shifted_all_low}
+use Rattle.x7_regs.specs.Register.{reg_number_count}
 
 pub check_after_shifted : (v : ℕ) (writes : List RegisterWrite) → v < 2 ^ 32 → check_after v writes ≡ shifted_all v (bits_of_writes writes)
 unfolding check_after
@@ -64,13 +65,13 @@ check_after_write v register word h =
     ∙ shifted_all_append v (low_bits 32 word) (low_bits 5 register)
 
 -- the check after one write by the bits of word and register at once, as tables give it
-pub advanced_by_write : (v register word : ℕ) → v < 2 ^ 32 → register < 2 ^ 5 → word < 2 ^ 32 →
+pub advanced_by_write : (v register word : ℕ) → v < 2 ^ 32 → register < reg_number_count → word < 2 ^ 32 →
     check_after_one v register word ≡ advanced 5 (bit_xor (advanced 32 (bit_xor v word)) register)
 advanced_by_write v register word h k l =
     check_after_write v register word h ∙ shifted_all_low 5 (shifted_all v (low_bits 32 word)) register k
     ∙ ap (λ x. advanced 5 (bit_xor x register)) (shifted_all_low 32 v word l)
 
-pub check_after_linear : (v register word : ℕ) → v < 2 ^ 32 → register < 2 ^ 5 → word < 2 ^ 32 →
+pub check_after_linear : (v register word : ℕ) → v < 2 ^ 32 → register < reg_number_count → word < 2 ^ 32 →
     check_after_one v register word ≡ check_after_one 0 register (bit_xor word v)
 check_after_linear v register word h k l =
     advanced_by_write v register word h k l

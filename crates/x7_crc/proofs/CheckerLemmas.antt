@@ -5,7 +5,7 @@ use Rattle.x7_words.proofs.ListLemmas.{take_up_to}
 use Rattle.x7_packets.specs.Cutter.{between, CutterState, CutterStandsFor, ComesNearer, run_steps, AfterRun}
 use Rattle.x7_packets.specs.History.{command_held, entered_all, entry, executes, History, history_of, next_word, Write}
 use Rattle.x7_packets.specs.Packet.{payload_steps}
-use Rattle.x7_packets.specs.Reading.{Place, Session}
+use Rattle.x7_packets.specs.Reading.{Place, EndedSession}
 use Rattle.x7_packets.specs.CheckedWrites.{clears, checked_writes}
 use Rattle.x7_packets.specs.declared.cutter.Cut.{Cut}
 use Rattle.x7_packets.specs.declared.cutter.Cut.TheVariants.{Need}
@@ -13,7 +13,7 @@ use Rattle.x7_packets.proofs.HistoryLemmas.{cut_enters, next_word_is}
 use Rattle.x7_crc.specs.RunningCheck.{in_order, running_check}
 use Rattle.x7_crc.specs.Check.{check_after, check_after_one, write_to, writes_to}
 use Rattle.x7_crc.proofs.CheckLemmas.{check_after_append, check_after_none, check_after_fits, check_of_more}
-use Rattle.x7_crc.specs.Checker.{steers_check, Checks, HasTaken, IsCheckState, CheckerState, KeepsCheckOf}
+use Rattle.x7_crc.specs.Checker.{steers_check, HaveChecked, HasTaken, IsCheckState, CheckerState, KeepsCheckOf}
 
 pub check_none : running_check [] ≡ 0
 check_none = check_after_none 0 (lit< tt)
@@ -36,10 +36,10 @@ entered_more register n (v ∷ ws) w h = let e : n + 4 + 4 * length ws + 4 ≡ n
 
 -- a call of the cutter, and the state after its run
 pub took : (c d : CutterState) (run : Cut) (check held check2 held2 at to : ℕ) (bytes piece : List ℕ)
-    → Checks c check held (bytes ++ take at piece) → at ≤ to
-    → ((bs : List ℕ) (sessions : List Session) (spot : Place) → CutterStandsFor c bs sessions spot → AfterRun c d (bs ++ between piece at to) sessions spot run)
+    → HaveChecked c check held (bytes ++ take at piece) → at ≤ to
+    → ((bs : List ℕ) (sessions : List EndedSession) (spot : Place) → CutterStandsFor c bs sessions spot → AfterRun c d (bs ++ between piece at to) sessions spot run)
     → ((h : History) (n : ℕ) → IsCheckState check held h → IsCheckState check2 held2 (entered_all n (run_steps run) h))
-    → Checks d check2 held2 (bytes ++ take to piece)
+    → HaveChecked d check2 held2 (bytes ++ take to piece)
 took c d run check held check2 held2 at to bytes piece s h went after =
     let old : List ℕ = bytes ++ take at piece in
     let more : List ℕ = between piece at to in
@@ -48,23 +48,23 @@ took c d run check held check2 held2 at to bytes piece s h went after =
     let grown : history_of (bytes ++ take at piece ++ between piece at to) ≡ entered_all (next_word s.sessions s.place) (run_steps run) (history_of (bytes ++ take at piece)) =
     cut_enters c d (bytes ++ take at piece) (between piece at to) s.sessions s.place run (next_word s.sessions s.place) s.stands w (next_word_is (bytes ++ take at piece) s.sessions s.place s.stands.reading) in
     let e : bytes ++ take at piece ++ between piece at to ≡ bytes ++ take to piece = append_assoc bytes (take at piece) (between piece at to) ∙ ap (λ t. bytes ++ t) (take_up_to piece at to h) in
-    let all : Checks d check2 held2 (bytes ++ take at piece ++ between piece at to) = record {
+    let all : HaveChecked d check2 held2 (bytes ++ take at piece ++ between piece at to) = record {
       sessions = w.new_sessions;
       place = w.new_place;
       stands = w.stands;
       state = subst (λ (g : History). IsCheckState check2 held2 g) (sym grown) (after (history_of (bytes ++ take at piece)) (next_word s.sessions s.place) s.state);
     } in
-    subst (λ t. Checks d check2 held2 t) e all
+    subst (λ t. HaveChecked d check2 held2 t) e all
 
 -- the last call, with the piece used up
 pub took_all : (c d : CutterState) (run : Cut) (check held at to : ℕ) (bytes piece : List ℕ)
-    → Checks c check held (bytes ++ take at piece) → at ≤ to → length piece ≤ to → run ≡ Need
-    → ((bs : List ℕ) (sessions : List Session) (spot : Place) → CutterStandsFor c bs sessions spot → AfterRun c d (bs ++ between piece at to) sessions spot run)
-    → Checks d check held (bytes ++ piece)
+    → HaveChecked c check held (bytes ++ take at piece) → at ≤ to → length piece ≤ to → run ≡ Need
+    → ((bs : List ℕ) (sessions : List EndedSession) (spot : Place) → CutterStandsFor c bs sessions spot → AfterRun c d (bs ++ between piece at to) sessions spot run)
+    → HaveChecked d check held (bytes ++ piece)
 took_all c d run check held at to bytes piece s h full is went =
-    let went2 : (bs : List ℕ) (sessions : List Session) (spot : Place) → CutterStandsFor c bs sessions spot → AfterRun c d (bs ++ between piece at to) sessions spot Need =
+    let went2 : (bs : List ℕ) (sessions : List EndedSession) (spot : Place) → CutterStandsFor c bs sessions spot → AfterRun c d (bs ++ between piece at to) sessions spot Need =
     λ bs sessions spot t. subst (λ r. AfterRun c d (bs ++ between piece at to) sessions spot r) is (went bs sessions spot t) in
-    subst (λ t. Checks d check held (bytes ++ t)) (take_all to piece full) (took c d Need check held check held at to bytes piece s h went2 (λ g n t. t))
+    subst (λ t. HaveChecked d check held (bytes ++ t)) (take_all to piece full) (took c d Need check held check held at to bytes piece s h went2 (λ g n t. t))
 
 -- the bytes after those taken are taken, and so all are
 pub caught_up : (c d : CheckerState) (bytes : List ℕ) → d.taken ≡ length bytes → KeepsCheckOf c bytes

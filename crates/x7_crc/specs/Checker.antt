@@ -5,7 +5,7 @@ use Rattle.x7_regs.specs.Register.{number_of}
 use Rattle.x7_regs.specs.declared.register.Reg.TheVariants.{Cmd, Crc, Far, Lout}
 use Rattle.x7_packets.specs.Cutter.{CutterState, CutterStandsFor}
 use Rattle.x7_packets.specs.History.{command_held, History, history_of}
-use Rattle.x7_packets.specs.Reading.{Place, Session}
+use Rattle.x7_packets.specs.Reading.{Place, EndedSession}
 use Rattle.x7_crc.specs.RunningCheck.{running_check}
 
 -- the running check of all writes of the bytes
@@ -20,8 +20,8 @@ pub record IsCheckState (check held : ℕ) (h : History) : Type 0 where
 
 -- the cutter took these bytes, `check` is the running check of all their writes, and `held` the command that CMD holds
 -- after them
-pub record Checks (cutter : CutterState) (check held : ℕ) (bytes : List ℕ) : Type 0 where
-  pub sessions : List Session
+pub record HaveChecked (cutter : CutterState) (check held : ℕ) (bytes : List ℕ) : Type 0 where
+  pub sessions : List EndedSession
   pub place : Place
   pub stands : CutterStandsFor cutter bytes sessions place
   pub state : IsCheckState check held (history_of bytes)
@@ -34,7 +34,7 @@ pub record PieceCheckerState : Type 0 where
 
 -- the checker of pieces has taken these bytes, and keeps their check
 abbrev pub HasTaken : PieceCheckerState → List ℕ → Type 0
-HasTaken c bytes = Checks c.cutter c.check c.held bytes
+HasTaken c bytes = HaveChecked c.cutter c.check c.held bytes
 
 -- what a checker of bytes that grow keeps
 pub record CheckerState : Type 0 where

@@ -14,7 +14,7 @@ in_order [] = []
 in_order (write ∷ before) = in_order before ++ write ∷ []
 
 -- a write after this history is one that the check is over: it does not clear the check, and is none of LOUT
-pub record Folds (h : History) (register word : ℕ) : Type 0 where
+pub record IsCheckedWrite (h : History) (register word : ℕ) : Type 0 where
   pub goes_on : clears h (Write register word) ≡ false
   pub other : register ≢ number_of Lout
 

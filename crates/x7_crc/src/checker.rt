@@ -1,11 +1,11 @@
 //! The running check of a stream's bytes, as they come.
-ghost use Rattle.std.specs.Prelude.{◌≡◌, ℕ, List, [], ◌∷◌, ◌++◌, ◌<◌, ◌%◌, false, length, IfNone, IfSome};
+ghost use Rattle.std.specs.Prelude.{◌≡◌, ℕ, List, [], ◌∷◌, ◌++◌, ◌<◌, false, IfNone, IfSome};
 ghost use Rattle.x7_words.specs.Word.{AreWholeWords, words_of_bytes};
 ghost use Rattle.x7_regs.specs.Register.{number_of, reg_number_count};
 ghost use Rattle.x7_packets.specs.Cutter.{IsRun, run_steps};
 ghost use Rattle.x7_packets.specs.History.{command_held, entered_all, entry, History, Write};
 ghost use Rattle.x7_packets.specs.Packet.{payload_steps};
-ghost use Rattle.x7_crc.specs.Checker.{check_of_bytes, IsCheckState, Checks, HasTaken, KeepsCheckOf, steers_check};
+ghost use Rattle.x7_crc.specs.Checker.{check_of_bytes, IsCheckState, HaveChecked, HasTaken, KeepsCheckOf, steers_check};
 
 use crate::check::{fold, fold_slice};
 use crate::written::{check_after_write, executed};
@@ -33,7 +33,8 @@ fn held_after(held: u8, reg: Reg, word: u32) -> u8
 
 /// The check state after a word written to a register to which a write may do more than lengthen the check.
 fn after_steering_word(state: CheckState, reg: Reg, word: u32) -> CheckState
-    ensures { (h : History) (place : ℕ) → IsCheckState state.check state.held h → IsCheckState result.check result.held (entry (Write (number_of reg) word) place ∷ h) }
+    ensures { (h : History) (place : ℕ) → IsCheckState state.check state.held h
+        → IsCheckState result.check result.held (entry (Write (number_of reg) word) place ∷ h) }
 {
     let executed = executed(state.held, reg, word);
     CheckState {
@@ -46,7 +47,8 @@ fn after_steering_word(state: CheckState, reg: Reg, word: u32) -> CheckState
 /// by word: four bytes each.
 fn after_steering_words(state: CheckState, reg: Reg, bytes: &[u8]) -> CheckState
     requires whole { AreWholeWords bytes.now }
-    ensures { (h : History) (place : ℕ) → IsCheckState state.check state.held h → IsCheckState result.check result.held (entered_all place (payload_steps (number_of reg) (words_of_bytes bytes.now)) h) }
+    ensures { (h : History) (place : ℕ) → IsCheckState state.check state.held h
+        → IsCheckState result.check result.held (entered_all place (payload_steps (number_of reg) (words_of_bytes bytes.now)) h) }
 {
     let (words, _) = bytes.as_chunks::<4>();
     let mut now = state;
@@ -80,7 +82,8 @@ fn steering_register(register: u8) -> Option<Reg>
 /// The check state after a word written to the register with this number.
 fn after_word(state: CheckState, register: u8, word: u32) -> CheckState
     requires { register < reg_number_count }
-    ensures { (h : History) (place : ℕ) → IsCheckState state.check state.held h → IsCheckState result.check result.held (entry (Write register word) place ∷ h) }
+    ensures { (h : History) (place : ℕ) → IsCheckState state.check state.held h
+        → IsCheckState result.check result.held (entry (Write register word) place ∷ h) }
 {
     let Some(reg) = steering_register(register) else {
         return CheckState {
@@ -95,7 +98,8 @@ fn after_word(state: CheckState, register: u8, word: u32) -> CheckState
 fn after_words(state: CheckState, register: u8, bytes: &[u8]) -> CheckState
     requires register { register < reg_number_count }
     requires whole { AreWholeWords bytes.now }
-    ensures { (h : History) (place : ℕ) → IsCheckState state.check state.held h → IsCheckState result.check result.held (entered_all place (payload_steps register (words_of_bytes bytes.now)) h) }
+    ensures { (h : History) (place : ℕ) → IsCheckState state.check state.held h
+        → IsCheckState result.check result.held (entered_all place (payload_steps register (words_of_bytes bytes.now)) h) }
 {
     let Some(reg) = steering_register(register) else {
         return CheckState {
@@ -109,7 +113,8 @@ fn after_words(state: CheckState, register: u8, bytes: &[u8]) -> CheckState
 /// The check state after the words of a run.
 fn after_run(state: CheckState, run: Cut) -> CheckState
     requires { IsRun run }
-    ensures { (h : History) (place : ℕ) → IsCheckState state.check state.held h → IsCheckState result.check result.held (entered_all place (run_steps run.entry) h) }
+    ensures { (h : History) (place : ℕ) → IsCheckState state.check state.held h
+        → IsCheckState result.check result.held (entered_all place (run_steps run.entry) h) }
 {
     match run {
         Cut::Word(register, word) => after_word(state, register, word),
@@ -200,7 +205,7 @@ impl Checker {
 
 /// The check state after all runs of a piece, which the cutter takes.
 fn after_piece(cutter: &mut Cutter, state: CheckState, piece: &[u8]) -> CheckState
-    ensures { (bytes : List ℕ) → Checks cutter.old state.check state.held bytes → Checks cutter.new result.check result.held (bytes ++ piece.now) }
+    ensures { (bytes : List ℕ) → HaveChecked cutter.old state.check state.held bytes → HaveChecked cutter.new result.check result.held (bytes ++ piece.now) }
 {
     let mut now = state;
     let mut at = 0;

@@ -33,7 +33,8 @@ pub(crate) fn fold_four(
     third: u32,
     last: u32,
 ) -> u32
-    ensures { (register : ℕ) → register < reg_number_count → zeros ≡ check_of_zeros register → result ≡ check_after before (writes_to register (first ∷ second ∷ third ∷ last ∷ [])) }
+    ensures { (register : ℕ) → register < reg_number_count → zeros ≡ check_of_zeros register
+        → result ≡ check_after before (writes_to register (first ∷ second ∷ third ∷ last ∷ [])) }
 {
     // What doesn't wait for the check before comes first.
     let late = advance_second(second) ^ advance_third(third) ^ advance_last(last) ^ zeros;

@@ -40,7 +40,8 @@ pub fn is_command(command: Command, executed: Option<u8>) -> bool
 /// The running check after a written word, which executes a command or none. RCRC and a write to CRC clear it, and LOUT
 /// is not folded (this project's choice).
 pub fn check_after_write(check: u32, reg: Reg, word: u32, executed: Option<u8>) -> u32
-    ensures { (h : History) (place : ℕ) → check ≡ running_check h → executed ≡ executed_after h reg word → result ≡ running_check (entry (Write (number_of reg) word) place ∷ h) }
+    ensures { (h : History) (place : ℕ) → check ≡ running_check h → executed ≡ executed_after h reg word
+        → result ≡ running_check (entry (Write (number_of reg) word) place ∷ h) }
 {
     match reg {
         Reg::Crc => 0,

@@ -9,7 +9,7 @@ use Rattle.x7_packets.specs.PacketWords.{no_op, sync_word, type1_write_header}
 use Rattle.x7_packets.specs.declared.header.Step.TheVariants as step
 use Rattle.x7_packets.specs.Packet.{Packet, IsPacket, words, stepped, latest_of}
 use Rattle.x7_packets.specs.Machine.{AllWhole}
-use Rattle.x7_packets.specs.Reading.{Searching, Synced, Session, IsReading, IsSession, packet_bytes, is_synced}
+use Rattle.x7_packets.specs.Reading.{Searching, Synced, EndedSession, IsReading, IsEndedSession, packet_bytes, is_synced}
 use Rattle.x7_packets.specs.ByHand.{reading_of}
 use Rattle.x7_packets.specs.History as access
 use Rattle.x7_packets.specs.History.{History, entry, entered_all, history, history_of}
@@ -60,10 +60,10 @@ is_last : (l : Option ℕ) → IsPacket l (packet (type1_write_header 4 1) (step
 is_last l = record { fits = (omega arith, (omega arith, tt)); means = sym (write_means l 4 1 (omega arith) (omega arith)); most = omega arith; goes_on = tt }
 
 -- the session of items that DESYNC ends
-abbrev pub session_of : List ℕ → List Item → Session
+abbrev pub session_of : List ℕ → List Item → EndedSession
 session_of leading items = record { gap = bytes_of_words leading; packets = items_packets items ++ packet (type1_write_header 4 1) (step.Open 4 1) (13 ∷ []) ∷ [] }
 
-is_session : (leading : List ℕ) (items : List Item) → MayLead leading → AreItems items → IsSession (session_of leading items)
+is_session : (leading : List ℕ) (items : List Item) → MayLead leading → AreItems items → IsEndedSession (session_of leading items)
 is_session leading items m f = record {
   first = first_without (bytes_of_words leading) m.lacks;
   packets = each_more None (items_packets items) (packet (type1_write_header 4 1) (step.Open 4 1) (13 ∷ [])) (items_whole None items f) (is_last (latest_of None (items_packets items)));

@@ -12,7 +12,7 @@ use Rattle.x7_packets.specs.declared.header.Step.TheVariants as step
 use Rattle.x7_packets.specs.Cutter.{AtPlace, between, CutterState, CutterStandsFor, IsLent, IsRun, LongerSession, AfterRun, run_bytes, run_steps, syncs_to_give}
 use Rattle.x7_packets.specs.History.{History, Placed, entered_all, history_of, next_word, until}
 use Rattle.x7_packets.specs.Packet.{Packet, payload_steps}
-use Rattle.x7_packets.specs.Reading.{IsReading, Place, Searching, Session, Synced, tail_of}
+use Rattle.x7_packets.specs.Reading.{EndedSession, IsReading, Place, Searching, Synced, tail_of}
 use Rattle.x7_packets.proofs.GrowthLemmas.{prefix_of, placed_of}
 use Rattle.x7_packets.proofs.HistoryLemmas.{cut_enters, next_word_is, words_end}
 use Rattle.x7_part.specs.Part.{PartData}
@@ -68,7 +68,7 @@ no_tail c Mode.SyncFound gap tail packets a e = a.1
 no_tail c Mode.Synced gap tail packets a e = a.1 ∙ e
 
 -- a session's words end where the bytes do
-words_place : (n : CutterState) (bytes gap tail : List ℕ) (packets : List Packet) (more : List (ℕ × Step)) (sessions new_sessions : List Session) (new : Place) → CutterStandsFor n bytes new_sessions new → LongerSession gap packets more sessions new_sessions new
+words_place : (n : CutterState) (bytes gap tail : List ℕ) (packets : List Packet) (more : List (ℕ × Step)) (sessions new_sessions : List EndedSession) (new : Place) → CutterStandsFor n bytes new_sessions new → LongerSession gap packets more sessions new_sessions new
     → length bytes ≡ next_word sessions (Synced gap packets tail) + 4 * length more
 words_place n bytes gap tail packets more sessions new_sessions new s l =
     let ends : (next_word new_sessions new ≡ next_word sessions (Synced gap packets tail) + 4 * length more) × (tail_of new ≡ []) = words_end gap tail packets more sessions new_sessions new l in
@@ -77,14 +77,14 @@ words_place n bytes gap tail packets more sessions new_sessions new s l =
 body_words : (register : ℕ) (bs : List ℕ) → length (payload_steps register (words_of_bytes bs)) ≡ length bs / 4
 body_words register bs = length-map (words_of_bytes bs) _ ∙ length_of_words bs
 
-pub one_word_ends : (n : CutterState) (bytes cut gap tail : List ℕ) (packets : List Packet) (s : ℕ × Step) (sessions new_sessions : List Session) (new : Place) → IsReading bytes sessions (Synced gap packets tail) → CutterStandsFor n (bytes ++ cut) new_sessions new
+pub one_word_ends : (n : CutterState) (bytes cut gap tail : List ℕ) (packets : List Packet) (s : ℕ × Step) (sessions new_sessions : List EndedSession) (new : Place) → IsReading bytes sessions (Synced gap packets tail) → CutterStandsFor n (bytes ++ cut) new_sessions new
     → LongerSession gap packets (s ∷ []) sessions new_sessions new → (let from : ℕ = next_word sessions (Synced gap packets tail) in (length bytes < from + 4) × (from + 4 ≡ length bytes + length cut))
 one_word_ends n bytes cut gap tail packets s sessions new_sessions new r k l =
     let few : length tail < 4 = r.ends.3 in
     (omega (arith, next_word_is bytes sessions (Synced gap packets tail) r, few), omega (arith, words_place n (bytes ++ cut) gap tail packets (s ∷ []) sessions new_sessions new k l, length-append bytes cut))
 
 -- the words of a run end where its bytes do
-pub ends_words : (c n : CutterState) (bytes cut : List ℕ) (sessions : List Session) (place : Place) (run : Cut) (left : ℕ) → CutterStandsFor c bytes sessions place → AfterRun c n (bytes ++ cut) sessions place run → IsRun run → IsLent c left run
+pub ends_words : (c n : CutterState) (bytes cut : List ℕ) (sessions : List EndedSession) (place : Place) (run : Cut) (left : ℕ) → CutterStandsFor c bytes sessions place → AfterRun c n (bytes ++ cut) sessions place run → IsRun run → IsLent c left run
     → EndsWords run (next_word sessions place) (length bytes) (length cut)
 ends_words c n bytes cut sessions place Need left s w r k = tt
 ends_words c n bytes cut sessions place (Skip bs) left s w r k = tt
@@ -107,7 +107,7 @@ going_taken part kept bytes e = ap (λ (o : Option Stopped). history_by o (histo
 
 -- a run more
 pub turned : (part : PartData) (kept : Kept) (wrapped : Bool) (d e : DeviceState) (bytes cut more rest : List ℕ) (run : Cut) (count left room : ℕ) → DeviceStandsFor part kept wrapped d bytes → d.registers.stop ≡ None
-    → ((sessions : List Session) (place : Place) → CutterStandsFor d.cutter bytes sessions place → AfterRun d.cutter e.cutter (bytes ++ cut) sessions place run)
+    → ((sessions : List EndedSession) (place : Place) → CutterStandsFor d.cutter bytes sessions place → AfterRun d.cutter e.cutter (bytes ++ cut) sessions place run)
     → ((h : History) (from n : ℕ) → EndsWords run from n count → RegistersStandFor part kept d.registers h n → RegistersStandFor part kept e.registers (until (counted_in e.registers.stop (n + (count - left))) (entered_all from (run_steps run) h)) (n + (count - left)))
     → ((h : History) (from n : ℕ) → EndsWords run from n count → RegistersStandFor part kept d.registers h n
     → read_out part kept (until (counted_in e.registers.stop (n + (count - left))) (entered_all from (run_steps run) h))

@@ -6,8 +6,8 @@ use Rattle.x7_words.specs.Word.{AreBytes}
 use Rattle.x7_words.proofs.ListLemmas.{all_prefix}
 use Rattle.x7_packets.specs.Cutter.{CutterState, CutterStandsFor, between}
 use Rattle.x7_packets.specs.History.{History, Placed, history_of, until}
-use Rattle.x7_packets.specs.Nops.{Idles}
-use Rattle.x7_packets.specs.Reading.{Place, Session}
+use Rattle.x7_packets.specs.Nops.{IdlesThrough}
+use Rattle.x7_packets.specs.Reading.{Place, EndedSession}
 use Rattle.x7_packets.proofs.GrowthLemmas.{prefix_of, placed_of, placed_within, until_placed}
 use Rattle.x7_packets.proofs.HistoryLemmas.{history_is}
 use Rattle.x7_part.specs.Part.{PartData}
@@ -34,7 +34,7 @@ between_join piece from at to l m =
     ∙ ap (λ (k : ℕ). take k (drop from piece)) sum
 
 pub passed : (part : PartData) (kept : Kept) (wrapped : Bool) (d e : DeviceState) (bytes cut more rest : List ℕ) (count left : ℕ) → DeviceStandsFor part kept wrapped d bytes → d.registers.stop ≡ None → due_count d.registers.due ≡ 0
-    → ((sessions : List Session) (place : Place) → CutterStandsFor d.cutter bytes sessions place → Idles d.cutter (bytes ++ cut) sessions place)
+    → ((sessions : List EndedSession) (place : Place) → CutterStandsFor d.cutter bytes sessions place → IdlesThrough d.cutter (bytes ++ cut) sessions place)
     → ((h : History) (n : ℕ) → RegistersStandFor part kept d.registers h n → RegistersStandFor part kept e.registers h (n + (count - left)))
     → count ≡ length cut → cut ≡ more ++ rest → length rest ≡ left → (e.registers.stop ≡ None → left ≡ 0)
     → ((why : StopCause) → e.registers.stop ≡ Some why → (why ≡ stop.Fault fault.Watchdog) × (left < count))
@@ -46,7 +46,7 @@ passed part kept wrapped d e bytes cut more rest count left s going quiet idles 
     let old : history_taken part kept bytes ≡ h = going_taken part kept bytes none in
     let before : RegistersStandFor part kept d.registers h (length bytes) = subst (λ (x : History). RegistersStandFor part kept d.registers x (length bytes)) old s.registers_are in
     let cutter : IsCutterOf d.cutter bytes = s.cutter_is going in
-    let i : Idles d.cutter (bytes ++ cut) cutter.sessions cutter.place = idles cutter.sessions cutter.place cutter.stands in
+    let i : IdlesThrough d.cutter (bytes ++ cut) cutter.sessions cutter.place = idles cutter.sessions cutter.place cutter.stands in
     let whole : history_of (bytes ++ cut) ≡ h = sym (history_is (bytes ++ cut) cutter.sessions i.new_place i.stands.reading) ∙ i.nothing ∙ history_is bytes cutter.sessions cutter.place cutter.stands.reading in
     let joined : (bytes ++ more) ++ rest ≡ bytes ++ cut = append_assoc bytes more rest ∙ ap (λ b. bytes ++ b) (sym j) in
     let fits : AreBytes ((bytes ++ more) ++ rest) = subst AreBytes (sym joined) i.stands.reading.fits in

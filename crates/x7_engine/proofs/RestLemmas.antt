@@ -6,7 +6,7 @@ use Rattle.x7_words.specs.Word.{AreBytes}
 use Rattle.x7_words.proofs.ListLemmas.{all_prefix}
 use Rattle.x7_packets.specs.ByHand.{reading_of}
 use Rattle.x7_packets.specs.History.{History, history_of}
-use Rattle.x7_packets.specs.Reading.{IsReading, Place, Searching, Session, is_synced, session_bytes}
+use Rattle.x7_packets.specs.Reading.{EndedSession, IsReading, Place, Searching, is_synced, session_bytes}
 use Rattle.x7_packets.proofs.ByHandLemmas.{reading_is, reading_is_found}
 use Rattle.x7_packets.proofs.GrowthLemmas.{placed_of}
 use Rattle.x7_packets.proofs.HistoryLemmas.{history_is}
@@ -32,7 +32,7 @@ use Rattle.x7_engine.proofs.TurnLemmas.{newest_within}
 
 reading_on : (bytes more : List ℕ) → AreBytes (bytes ++ more) → (g : LastGapGoesOn bytes more) → IsReading (bytes ++ more) (reading_of bytes).sessions (Searching (g.gap ++ more))
 reading_on bytes more fits g =
-    let sessions : List Session = (reading_of bytes).sessions in
+    let sessions : List EndedSession = (reading_of bytes).sessions in
     let now : IsReading bytes sessions (Searching g.gap) = subst (λ (p : Place). IsReading bytes sessions p) g.searching (reading_is_found bytes (all_prefix (λ b. b < 256) bytes more fits)) in
     record {
       fits = fits;
@@ -43,7 +43,7 @@ reading_on bytes more fits g =
 
 pub history_on : (bytes more : List ℕ) → AreBytes (bytes ++ more) → LastGapGoesOn bytes more → history_of (bytes ++ more) ≡ history_of bytes
 history_on bytes more fits g =
-    let sessions : List Session = (reading_of bytes).sessions in
+    let sessions : List EndedSession = (reading_of bytes).sessions in
     let now : IsReading bytes sessions (Searching g.gap) = subst (λ (p : Place). IsReading bytes sessions p) g.searching (reading_is_found bytes (all_prefix (λ b. b < 256) bytes more fits)) in
     sym (history_is (bytes ++ more) sessions (Searching (g.gap ++ more)) (reading_on bytes more fits g)) ∙ history_is bytes sessions (Searching g.gap) now
 

@@ -14,7 +14,7 @@ use Rattle.x7_packets.specs.declared.header.Step.TheVariants as step
 use Rattle.x7_packets.specs.Cutter.{CutterState, CutterStandsFor, IsLent, IsRun, AfterRun, between, run_steps}
 use Rattle.x7_packets.specs.History.{Access, Bad, History, Placed, Read, Write, command_held, entered_all, entry, executes, history_of, is_command, last_word, next_word, until, writes}
 use Rattle.x7_packets.specs.Packet.{payload_steps}
-use Rattle.x7_packets.specs.Reading.{Place, Session}
+use Rattle.x7_packets.specs.Reading.{Place, EndedSession}
 use Rattle.x7_packets.proofs.GrowthLemmas.{prefix_of, placed_of, placed_within, until_placed}
 use Rattle.x7_packets.proofs.HistoryLemmas.{cut_enters, kept_all, next_word_is}
 use Rattle.x7_part.specs.Part.{PartData}
@@ -134,7 +134,7 @@ quieter_run (Body register bs) from n count m h p l k r e = by (register == 4) r
         let q : IsQuieter h all = quieter_body register from (words_of_bytes bs.now) h f in
         subst (λ (x : History). IsQuieter h (until m x)) (sym q.1) (quieter_until m q.0 h here q.2)
 
-pub run_commands : (c n : CutterState) (bytes cut : List ℕ) (sessions : List Session) (place : Place) (run : Cut) (left : ℕ) → CutterStandsFor c bytes sessions place → AfterRun c n (bytes ++ cut) sessions place run → IsRun run → IsLent c left run
+pub run_commands : (c n : CutterState) (bytes cut : List ℕ) (sessions : List EndedSession) (place : Place) (run : Cut) (left : ℕ) → CutterStandsFor c bytes sessions place → AfterRun c n (bytes ++ cut) sessions place run → IsRun run → IsLent c left run
     → CommandsLast bytes cut
 run_commands c n bytes cut sessions place run left s w r i = λ k l.
     let from : ℕ = next_word sessions place in

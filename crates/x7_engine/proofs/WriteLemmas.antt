@@ -8,7 +8,7 @@ use Rattle.x7_packets.specs.declared.header.Step.TheVariants as step
 use Rattle.x7_packets.specs.AtOnce.{WritesOne}
 use Rattle.x7_packets.specs.Cutter.{CutterState, CutterStandsFor, AfterRun, between}
 use Rattle.x7_packets.specs.History.{History, Placed, Write, entry, history_of, next_word, until}
-use Rattle.x7_packets.specs.Reading.{Place, Searching, Session, Synced}
+use Rattle.x7_packets.specs.Reading.{EndedSession, Place, Searching, Synced}
 use Rattle.x7_packets.proofs.GrowthLemmas.{prefix_of, until_placed}
 use Rattle.x7_packets.proofs.HistoryLemmas.{cut_enters, next_word_is}
 use Rattle.x7_part.specs.Part.{PartData}
@@ -24,7 +24,7 @@ use Rattle.x7_engine.proofs.FrameLemmas.{no_word_due}
 use Rattle.x7_engine.proofs.TurnLemmas.{history_until, newest_within, next_at, step_until, ticked}
 
 -- a payload word ends where its bytes do
-word_ends : (c n : CutterState) (bytes cut : List ℕ) (sessions : List Session) (place : Place) (register w : ℕ) → CutterStandsFor c bytes sessions place → AfterRun c n (bytes ++ cut) sessions place (run.Word register w)
+word_ends : (c n : CutterState) (bytes cut : List ℕ) (sessions : List EndedSession) (place : Place) (register w : ℕ) → CutterStandsFor c bytes sessions place → AfterRun c n (bytes ++ cut) sessions place (run.Word register w)
     → next_word sessions place + 4 ≡ length bytes + length cut
 word_ends c n bytes cut sessions (Searching gap) register w s t = absurd t.adds
 word_ends c n bytes cut sessions (Synced gap packets tail) register w s t =

@@ -9,7 +9,7 @@ use Rattle.x7_packets.specs.declared.cutter.Cut.TheVariants.{Body, Head, Need, S
 use Rattle.x7_packets.specs.declared.header.Step.{Step}
 use Rattle.x7_packets.specs.declared.header.Step.TheVariants.{Payload}
 use Rattle.x7_packets.specs.History.{History, Placed}
-use Rattle.x7_packets.specs.Reading.{Place, Session}
+use Rattle.x7_packets.specs.Reading.{Place, EndedSession}
 use Rattle.x7_crc.specs.RunningCheck.{running_check}
 use Rattle.x7_part.specs.Part.{PartData}
 use Rattle.x7_regs.specs.declared.boot_status.Attempt.{Attempt}
@@ -259,7 +259,7 @@ MayWrap d = MayWrapWith d.registers
 
 -- the cutter is one that took these bytes
 pub record IsCutterOf (c : CutterState) (bytes : List ℕ) : Type 0 where
-  pub sessions : List Session
+  pub sessions : List EndedSession
   pub place : Place
   pub stands : CutterStandsFor c bytes sessions place
 

@@ -3,7 +3,7 @@ use Rattle.std.proofs.Common.{◌≡◌, inl, inr, ℕ, ◌+◌, ◌-◌, ◌<�
 use Rattle.std.proofs.lemmas.List.{drop-append-le, length-take-le, take-append-drop, take-append-le}
 use Rattle.std.proofs.lemmas.List.Sums.{fold-append}
 use Rattle.x7_words.proofs.ListLemmas.{all_append, map_append}
-use Rattle.x7_listing.specs.Assembly.{AreHeadedAsm, Assembles, assembled, BeginsWithLines, IsFirstBadText, PassesLimitAt, with_line}
+use Rattle.x7_listing.specs.Assembly.{AreHeadedAsm, AssembleTo, assembled, BeginsWithLines, IsFirstBadText, PassesLimitAt, with_line}
 use Rattle.x7_listing.specs.Assembling.{asm_state, TextsAreRead, OpensText, LinesAreRead}
 use Rattle.x7_listing.specs.declared.assembler.AsmFault.TheVariants as fault
 use Rattle.x7_crc.specs.Checker.{check_of_bytes}
@@ -55,7 +55,7 @@ module _ (limit : ℕ) (texts : List (List ℕ)) (t old new : List ℕ) (left : 
 pub went_nothing : (limit : ℕ) (texts : List (List ℕ)) → LinesAreRead limit texts texts [] 0
 went_nothing limit texts = record { lines = []; begins = record { texts = refl; fits = tt; within = omega arith }; bytes_are = refl; count = refl }
 
-pub went_all : (limit : ℕ) (texts : List (List ℕ)) (bytes : List ℕ) (n : ℕ) → LinesAreRead limit texts [] bytes n → Assembles limit texts bytes
+pub went_all : (limit : ℕ) (texts : List (List ℕ)) (bytes : List ℕ) (n : ℕ) → LinesAreRead limit texts [] bytes n → AssembleTo limit texts bytes
 went_all limit texts bytes n g = record { lines = g.lines; begins = g.begins; bytes_are = g.bytes_are }
 
 -- a line is read after a header's bytes as it is without them
@@ -68,7 +68,7 @@ prefix_stays start a true t old new h r = (ap (take start) r.3 ∙ take-append-l
 prefix_stays start a false t old new h r = (ap (take start) r.1, omega (arith, h, ap length r.1))
 
 -- what texts come to after those of a header, or of none
-pub close_ok : (all others : List (List ℕ)) (prefix out : List ℕ) (start first : ℕ) → start ≡ length prefix → OpensText all others prefix first → Assembles (67108864 - start) others (drop start out) → take start out ≡ prefix → AreHeadedAsm all (Ok out)
+pub close_ok : (all others : List (List ℕ)) (prefix out : List ℕ) (start first : ℕ) → start ≡ length prefix → OpensText all others prefix first → AssembleTo (67108864 - start) others (drop start out) → take start out ≡ prefix → AreHeadedAsm all (Ok out)
 close_ok all others prefix out start first n (inl h) a same = inl (record {
   header = h.header;
   fits = h.fits;
@@ -76,15 +76,15 @@ close_ok all others prefix out start first n (inl h) a same = inl (record {
   texts = h.texts;
   follows = record {
     rest = Ok (drop start out);
-    lines = subst (λ (k : ℕ). Assembles (67108864 - k) others (drop start out)) (n ∙ ap length h.prefix_is) a;
+    lines = subst (λ (k : ℕ). AssembleTo (67108864 - k) others (drop start out)) (n ∙ ap length h.prefix_is) a;
     outcome_is = ap Ok (sym (take-append-drop start out) ∙ ap (λ t. t ++ drop start out) (same ∙ h.prefix_is));
   };
 })
 close_ok all others prefix out start first n (inr p) a same =
     let zero : start ≡ 0 = n ∙ ap length p.prefix_is in
     let is : drop start out ≡ out = ap (λ (k : ℕ). drop k out) zero in
-    let b : Assembles 67108864 others (drop start out) = subst (λ (k : ℕ). Assembles (67108864 - k) others (drop start out)) zero a in
-    inr (p.no_head, subst (λ (t : List (List ℕ)). Assembles 67108864 t out) (sym p.texts) (subst (Assembles 67108864 others) is b))
+    let b : AssembleTo 67108864 others (drop start out) = subst (λ (k : ℕ). AssembleTo (67108864 - k) others (drop start out)) zero a in
+    inr (p.no_head, subst (λ (t : List (List ℕ)). AssembleTo 67108864 t out) (sym p.texts) (subst (AssembleTo 67108864 others) is b))
 
 pub close_bad : (all others : List (List ℕ)) (prefix : List ℕ) (start first m n : ℕ) → start ≡ length prefix → OpensText all others prefix first → IsFirstBadText (67108864 - start) others m → n ≡ first + m → AreHeadedAsm all (Err (fault.Line n))
 close_bad all others prefix start first m n s (inl h) b e =

@@ -6,7 +6,7 @@ use Rattle.x7_words.specs.Word.{bytes_of_word}
 use Rattle.x7_packets.specs.SyncWord.{sync_bytes}
 use Rattle.x7_packets.specs.ByHand.{before_last_four, Reading, reading_of}
 use Rattle.x7_packets.specs.Packet.{Packet, named_by, stepped, words}
-use Rattle.x7_packets.specs.Reading.{Place, Searching, Synced, Session, IsPlace, IsSession, packet_bytes, place_bytes, session_bytes}
+use Rattle.x7_packets.specs.Reading.{Place, Searching, Synced, EndedSession, IsPlace, IsEndedSession, packet_bytes, place_bytes, session_bytes}
 use Rattle.x7_packets.specs.declared.header.Step.{Step}
 use Rattle.x7_packets.specs.declared.header.Step.TheVariants.{Payload, Filler, Nop, Open, Read, Bad}
 use Rattle.x7_text.specs.Digits.{hex_byte}
@@ -91,7 +91,7 @@ session_long gap packets =
     gap_long : (gap : List ℕ) → length gap ≤ length (bytes_text gap)
     gap_long gap = omega (arith, bytes_long 0 gap, ap length (bytes_closed gap), length-append (open_text 32 (codes "bytes ") hex_byte 0 gap) (close (in_line_after 32 0 gap)))
 
-ended_long : (s : Session) → IsSession s → length (session_bytes s) ≤ length (session_text s)
+ended_long : (s : EndedSession) → IsEndedSession s → length (session_bytes s) ≤ length (session_text s)
 ended_long s is =
     let over = session_over s.gap s.packets is.packets in
     let sure : List ℕ = bytes_text s.gap ++ codes "sync\n" ++ open_words 0 (flat_map stepped s.packets) in
@@ -99,7 +99,7 @@ ended_long s is =
     let bytes : length (session_bytes s) ≡ length ((s.gap ++ sync_bytes) ++ packet_bytes s.packets) = refl in
     omega (arith, session_long s.gap s.packets, text, bytes, length-append sure over.0, length-append (s.gap ++ sync_bytes) (packet_bytes s.packets), length-append s.gap sync_bytes)
 
-sessions_long : (ss : List Session) → AllByRecursion IsSession ss → length (flat_map session_bytes ss) ≤ length (flat_map session_text ss)
+sessions_long : (ss : List EndedSession) → AllByRecursion IsEndedSession ss → length (flat_map session_bytes ss) ≤ length (flat_map session_text ss)
 sessions_long [] all = omega arith
 sessions_long (s ∷ ss) all = omega (arith, ended_long s all.0, sessions_long ss all.1, length-append (session_bytes s) (flat_map session_bytes ss), length-append (session_text s) (flat_map session_text ss))
 
@@ -115,7 +115,16 @@ pub few_held : (l : ListerState) (given before bytes : List ℕ) → ListerStand
 few_held l given before bytes s =
     let t = s.has_listed in
     let r = t.cut.reading in
-    omega (arith, ap length (listed_after l given before bytes s), length-append (before ++ flat_map session_text t.sessions) (sure_place t.at), length-append before (flat_map session_text t.sessions), ap length r.joined, length-append (flat_map session_bytes t.sessions) (place_bytes t.at), sessions_long t.sessions r.each, place_long t.at r.ends)
+    omega (
+      arith,
+      ap length (listed_after l given before bytes s),
+      length-append (before ++ flat_map session_text t.sessions) (sure_place t.at),
+      length-append before (flat_map session_text t.sessions),
+      ap length r.joined,
+      length-append (flat_map session_bytes t.sessions) (place_bytes t.at),
+      sessions_long t.sessions r.each,
+      place_long t.at r.ends,
+    )
 
 -- a sync word is not listed yet: it stands in the gap's bytes, of which all but those that are held are listed
 due_long : (all start : List ℕ) (line : ℕ) (held gap : List ℕ) → GapListed all start line held (gap ++ sync_bytes) → length start + length (gap ++ sync_bytes) ≤ length all + 4
@@ -138,7 +147,14 @@ listed_long true line held all start place m t p = omega (arith, ap length (sure
 pub few_taken : (l : ListerState) (given before bytes : List ℕ) (due : Mode) → TakerStandsFor l given before bytes due → length before + length bytes ≤ length (given ++ l.text) + 4
 few_taken l given before bytes due t =
     let r = t.reading in
-    omega (arith, listed_long l.is_synced l.in_line l.held (given ++ l.text) (before ++ flat_map session_text t.sessions) t.at due t.listed r.ends, length-append before (flat_map session_text t.sessions), ap length r.joined, length-append (flat_map session_bytes t.sessions) (place_bytes t.at), sessions_long t.sessions r.each)
+    omega (
+      arith,
+      listed_long l.is_synced l.in_line l.held (given ++ l.text) (before ++ flat_map session_text t.sessions) t.at due t.listed r.ends,
+      length-append before (flat_map session_text t.sessions),
+      ap length r.joined,
+      length-append (flat_map session_bytes t.sessions) (place_bytes t.at),
+      sessions_long t.sessions r.each,
+    )
 
 -- ---- how little is held back
 

@@ -16,6 +16,8 @@ use Rattle.x7_listing.specs.declared.assembler.AsmFault.TheVariants as fault
 use Rattle.x7_listing.proofs.AssemblingLemmas.{begins_at, begins_more}
 use Rattle.x7_listing.proofs.BitLemmas.{header_by, header_is}
 use Rattle.x7_listing.proofs.GuessLemmas.{guess, line_is}
+use Rattle.x7_regs.specs.Register.{reg_number_count}
+use Rattle.x7_packets.specs.PacketWords.{type1_counts, type2_counts}
 
 -- ---- what is decided
 
@@ -68,10 +70,10 @@ fits_or (Comment text) = inl tt
 fits_or (Bytes bytes) = row_or 256 32 bytes
 fits_or Sync = inl tt
 fits_or Nop = inl tt
-fits_or (Write register count) = both_or (below_or register 32) (below_or count (2 ^ 11))
-fits_or (Read register count) = both_or (below_or register 32) (below_or count (2 ^ 11))
-fits_or (Write2 count) = below_or count (2 ^ 27)
-fits_or (Read2 count) = below_or count (2 ^ 27)
+fits_or (Write register count) = both_or (below_or register reg_number_count) (below_or count type1_counts)
+fits_or (Read register count) = both_or (below_or register reg_number_count) (below_or count type1_counts)
+fits_or (Write2 count) = below_or count type2_counts
+fits_or (Read2 count) = below_or count type2_counts
 fits_or (Word word) = below_or word (2 ^ 32)
 fits_or (Data words) = row_or (2 ^ 32) 8 words
 fits_or (Cmd command) = inl tt

@@ -9,7 +9,7 @@ use Rattle.std.specs.List.{flat_map}
 use Rattle.std.specs.Prelude.{unwrap_or, option_map}
 use Rattle.std.specs.Str.{all_ascii_digits, bytes_eq}
 use Rattle.x7_words.specs.Word.{AreWords}
-use Rattle.x7_regs.specs.Register.{reg_name, reg_names}
+use Rattle.x7_regs.specs.Register.{reg_name, reg_names, reg_number_count}
 use Rattle.x7_regs.specs.Command.{command_name_of, command_with}
 use Rattle.x7_regs.specs.declared.command.Command.{Command}
 use Rattle.x7_regs.specs.declared.command.Command.TheVariants as command
@@ -145,18 +145,18 @@ all_free : each_name free 32 ≡ true
 unfolding each_name free
 all_free = refl
 
-pub name_place : (n : ℕ) → n < 32 → place_in reg_names (reg_name n) ≡ n
+pub name_place : (n : ℕ) → n < reg_number_count → place_in reg_names (reg_name n) ≡ n
 unfolding in_place
 name_place n h = equal_numbers _ _ (each_holds in_place 32 n h all_in_place)
 
-pub name_free : (n : ℕ) → n < 32 → has_no_space (reg_name n) ≡ true
+pub name_free : (n : ℕ) → n < reg_number_count → has_no_space (reg_name n) ≡ true
 unfolding free
 name_free n h = each_holds free 32 n h all_free
 
-pub register_back : (n : ℕ) (ds : List ℕ) → n < 32 → register_in (reg_name n ++ 32 ∷ ds) ≡ n
+pub register_back : (n : ℕ) (ds : List ℕ) → n < reg_number_count → register_in (reg_name n ++ 32 ∷ ds) ≡ n
 register_back n ds h = ap (place_in reg_names) (name_before_space (reg_name n) ds (name_free n h)) ∙ name_place n h
 
-pub count_back : (n c : ℕ) → n < 32 → c < 2 ^ 64 → count_in (reg_name n ++ 32 ∷ decimal c) ≡ c
+pub count_back : (n c : ℕ) → n < reg_number_count → c < 2 ^ 64 → count_in (reg_name n ++ 32 ∷ decimal c) ≡ c
 count_back n c h k = ap (decimal_after 0) (digits_after_space (reg_name n) (decimal c) (name_free n h)) ∙ decimal_back c k
 
 pub command_back : (c : Command) → command_with (place_in command_names (command_name_of c)) ≡ c

@@ -4,12 +4,12 @@ use Rattle.std.proofs.lemmas.List.{append_cancel_left}
 use Rattle.std.specs.Fmt.{decimal}
 use Rattle.std.specs.List.{flat_map}
 use Rattle.x7_words.specs.Word.{bytes_of_word}
-use Rattle.x7_regs.specs.Register.{reg_name}
+use Rattle.x7_regs.specs.Register.{reg_name, reg_number_count}
 use Rattle.x7_regs.specs.Command.{code_of, command_name_of, command_with}
 use Rattle.x7_regs.specs.declared.command.Command.{Command}
 use Rattle.x7_text.specs.Digits.{hex_byte, hex_word}
 use Rattle.x7_text.specs.Row.{spaced}
-use Rattle.x7_packets.specs.PacketWords.{type1_read_header, type1_write_header, type2_read_header, type2_write_header}
+use Rattle.x7_packets.specs.PacketWords.{type1_counts, type1_read_header, type1_write_header, type2_counts, type2_read_header, type2_write_header}
 use Rattle.x7_listing.specs.Line.{Line, Empty, Comment, Bytes, Sync, Nop, Write, Read, Write2, Read2, Word, Data, Cmd, Check, type1_text, line_bytes, FitsLine, IsType1, IsLine, IsPlain, text_of}
 use Rattle.x7_listing.specs.OneWord.{IsWordOf, PutsWord}
 use Rattle.x7_text.specs.Row.{IsByteRow, IsWordRow}
@@ -49,19 +49,28 @@ module _ (check : ℕ) (b : Bool) (t rest old new : List ℕ) where
     word_line e i = lift (λ w. w < 2 ^ 32) hex_word bytes_of_word check (codes "word ") Word b t rest old new e (λ x h. h) (λ x h. h) (λ x. refl) (λ x. refl) (λ l i. (word_value rest, line_is _ l i)) (found_read (λ w. w < 2 ^ 32) hex_word (λ w. w) found b rest old new i put)
 
     pub cmd_line : t ≡ codes "cmd " ++ rest → IsWordOf (λ (c : Command). Unit {0}) command_name_of code_of rest found → AppendsIfRead FitsLine text_of (line_bytes check) b t old new
-    cmd_line e i = lift (λ (c : Command). Unit {0}) command_name_of (λ c. bytes_of_word (code_of c)) check (codes "cmd ") Cmd b t rest old new e (λ x h. h) (λ x h. h) (λ x. refl) (λ x. refl) (λ l i. (command_with (place_in command_names rest), line_is _ l i)) (found_read (λ (c : Command). Unit {0}) command_name_of code_of found b rest old new i put)
+    cmd_line e i = lift (λ (c : Command). Unit {0}) command_name_of (λ c. bytes_of_word (code_of c)) check (codes "cmd ") Cmd b t rest old new e (λ x h. h)
+        (λ x h. h) (λ x. refl) (λ x. refl) (λ l i. (command_with (place_in command_names rest), line_is _ l i))
+        (found_read (λ (c : Command). Unit {0}) command_name_of code_of found b rest old new i put)
 
     pub write_line : t ≡ codes "write " ++ rest → IsWordOf IsType1 type1_text (λ (a : ℕ × ℕ). type1_write_header a.0 a.1) rest found → AppendsIfRead FitsLine text_of (line_bytes check) b t old new
-    write_line e i = lift IsType1 type1_text (λ (a : ℕ × ℕ). bytes_of_word (type1_write_header a.0 a.1)) check (codes "write ") (λ (a : ℕ × ℕ). Write a.0 a.1) b t rest old new e (λ x h. h) (λ x h. h) (λ x. refl) (λ x. refl) (λ l i. ((register_in rest, count_in rest), line_is _ l i)) (found_read IsType1 type1_text (λ (a : ℕ × ℕ). type1_write_header a.0 a.1) found b rest old new i put)
+    write_line e i = lift IsType1 type1_text (λ (a : ℕ × ℕ). bytes_of_word (type1_write_header a.0 a.1)) check (codes "write ") (λ (a : ℕ × ℕ). Write a.0 a.1) b t
+        rest old new e (λ x h. h) (λ x h. h) (λ x. refl) (λ x. refl) (λ l i. ((register_in rest, count_in rest), line_is _ l i))
+        (found_read IsType1 type1_text (λ (a : ℕ × ℕ). type1_write_header a.0 a.1) found b rest old new i put)
 
     pub read_line : t ≡ codes "read " ++ rest → IsWordOf IsType1 type1_text (λ (a : ℕ × ℕ). type1_read_header a.0 a.1) rest found → AppendsIfRead FitsLine text_of (line_bytes check) b t old new
-    read_line e i = lift IsType1 type1_text (λ (a : ℕ × ℕ). bytes_of_word (type1_read_header a.0 a.1)) check (codes "read ") (λ (a : ℕ × ℕ). Read a.0 a.1) b t rest old new e (λ x h. h) (λ x h. h) (λ x. refl) (λ x. refl) (λ l i. ((register_in rest, count_in rest), line_is _ l i)) (found_read IsType1 type1_text (λ (a : ℕ × ℕ). type1_read_header a.0 a.1) found b rest old new i put)
+    read_line e i = lift IsType1 type1_text (λ (a : ℕ × ℕ). bytes_of_word (type1_read_header a.0 a.1)) check (codes "read ") (λ (a : ℕ × ℕ). Read a.0 a.1) b t rest
+        old new e (λ x h. h) (λ x h. h) (λ x. refl) (λ x. refl) (λ l i. ((register_in rest, count_in rest), line_is _ l i))
+        (found_read IsType1 type1_text (λ (a : ℕ × ℕ). type1_read_header a.0 a.1) found b rest old new i put)
 
-    pub write2_line : t ≡ codes "write2 " ++ rest → IsWordOf (λ n. n < 2 ^ 27) decimal type2_write_header rest found → AppendsIfRead FitsLine text_of (line_bytes check) b t old new
-    write2_line e i = lift (λ n. n < 2 ^ 27) decimal (λ n. bytes_of_word (type2_write_header n)) check (codes "write2 ") Write2 b t rest old new e (λ x h. h) (λ x h. h) (λ x. refl) (λ x. refl) (λ l i. (decimal_after 0 rest, line_is _ l i)) (found_read (λ n. n < 2 ^ 27) decimal type2_write_header found b rest old new i put)
+    pub write2_line : t ≡ codes "write2 " ++ rest → IsWordOf (λ n. n < type2_counts) decimal type2_write_header rest found → AppendsIfRead FitsLine text_of (line_bytes check) b t old new
+    write2_line e i = lift (λ n. n < type2_counts) decimal (λ n. bytes_of_word (type2_write_header n)) check (codes "write2 ") Write2 b t rest old new e (λ x h. h)
+        (λ x h. h) (λ x. refl) (λ x. refl) (λ l i. (decimal_after 0 rest, line_is _ l i))
+        (found_read (λ n. n < type2_counts) decimal type2_write_header found b rest old new i put)
 
-    pub read2_line : t ≡ codes "read2 " ++ rest → IsWordOf (λ n. n < 2 ^ 27) decimal type2_read_header rest found → AppendsIfRead FitsLine text_of (line_bytes check) b t old new
-    read2_line e i = lift (λ n. n < 2 ^ 27) decimal (λ n. bytes_of_word (type2_read_header n)) check (codes "read2 ") Read2 b t rest old new e (λ x h. h) (λ x h. h) (λ x. refl) (λ x. refl) (λ l i. (decimal_after 0 rest, line_is _ l i)) (found_read (λ n. n < 2 ^ 27) decimal type2_read_header found b rest old new i put)
+    pub read2_line : t ≡ codes "read2 " ++ rest → IsWordOf (λ n. n < type2_counts) decimal type2_read_header rest found → AppendsIfRead FitsLine text_of (line_bytes check) b t old new
+    read2_line e i = lift (λ n. n < type2_counts) decimal (λ n. bytes_of_word (type2_read_header n)) check (codes "read2 ") Read2 b t rest old new e (λ x h. h) (λ x h. h)
+        (λ x. refl) (λ x. refl) (λ l i. (decimal_after 0 rest, line_is _ l i)) (found_read (λ n. n < type2_counts) decimal type2_read_header found b rest old new i put)
 
 -- the text begins with this word
 abbrev pub NotAfter : List ℕ → List ℕ → Type 0
@@ -103,7 +112,7 @@ pub plain_line : (check : ℕ) (b : Bool) (t old new : List ℕ) → ((l : Line)
 plain_line check true t old new only r = (r.0, plain_fits r.0 r.1, r.2, r.3)
 plain_line check false t old new only r = (λ l h e. r.0 l (only l h e) e, r.1)
 
-pub no_type1 : (t ds : List ℕ) (r : ℕ) → r < 32 → t ≡ reg_name r ++ 32 ∷ ds → ((n : ℕ) → n < 2048 → ds ≢ decimal n) → (a : ℕ × ℕ) → IsType1 a → t ≡ type1_text a → ⊥
+pub no_type1 : (t ds : List ℕ) (r : ℕ) → r < reg_number_count → t ≡ reg_name r ++ 32 ∷ ds → ((n : ℕ) → n < type1_counts → ds ≢ decimal n) → (a : ℕ × ℕ) → IsType1 a → t ≡ type1_text a → ⊥
 no_type1 t ds r h e none a i k =
     none a.1 i.1 (sym (digits_after_space (reg_name r) ds (name_free r h)) ∙ ap after_space (sym e ∙ k) ∙ digits_after_space (reg_name a.0) (decimal a.1) (name_free a.0 i.0))
 

@@ -1,12 +1,12 @@
 -- The lines of a listing stand for the bytes that it is of.
-use Rattle.std.proofs.Common.{◌≡◌, ℕ, ◌/◌, ◌%◌, ◌^◌, ◌<◌, ◌==◌, if◌then◌else◌, Bool, true, false, List, [], ◌∷◌, ◌++◌, None, map, refl, ap, ap₂, sym, subst, ◌∙◌, arith, append_assoc}
+use Rattle.std.proofs.Common.{◌≡◌, ℕ, ◌^◌, ◌<◌, ◌==◌, if◌then◌else◌, Bool, true, false, List, [], ◌∷◌, ◌++◌, None, map, refl, ap, ap₂, sym, subst, ◌∙◌, arith, append_assoc}
 use Rattle.std.proofs.lemmas.Grind.{flat_map-append}
 use Rattle.std.specs.List.{AllByRecursion, flat_map}
 use Rattle.x7_words.specs.Word.{AreBytes, AreWords, bytes_of_word}
 use Rattle.x7_words.proofs.ListLemmas.{all_append, all_back, all_prefix}
-use Rattle.x7_packets.specs.Packet.{named_by, Packet, register_of, type_and_opcode_of, words}
+use Rattle.x7_packets.specs.Packet.{named_by, Packet, register_of, type1_count_of, type2_count_of, type_and_opcode_of, words}
 use Rattle.x7_packets.specs.PacketWords.{no_op, sync_word, type1_read_header, type1_write_header, type2_read_kind, type2_write_kind}
-use Rattle.x7_packets.specs.Reading.{IsPlace, IsReading, IsSession, packet_bytes, Place, place_bytes, Searching, Session, session_bytes, Synced}
+use Rattle.x7_packets.specs.Reading.{EndedSession, IsEndedSession, IsPlace, IsReading, packet_bytes, Place, place_bytes, Searching, session_bytes, Synced}
 use Rattle.x7_packets.specs.SyncWord.{sync_bytes}
 use Rattle.x7_packets.specs.ByHand.{reading_of}
 use Rattle.x7_packets.specs.declared.header.Step.{Step}
@@ -21,6 +21,7 @@ use Rattle.x7_listing.specs.declared.line.head_line.HeadLine.TheVariants as head
 use Rattle.x7_listing.specs.Line.{Line, Bytes, Sync, Data, line_bytes, cmd_line}
 use Rattle.x7_listing.specs.Listed.{gap_lines, listing_lines, packet_lines, packets_lines, payload_lines, place_lines, session_lines}
 use Rattle.x7_listing.proofs.line.LineTextLemmas.{Listed, IsLineOf, cmd_stands, is_eq}
+use Rattle.x7_regs.specs.Register.{reg_number_count}
 
 -- each is a line of a listing, and these are their bytes
 pub record Stands (lines : List Line) (bytes : List ℕ) : Type 0 where
@@ -91,13 +92,13 @@ pick P false x y f g = g
 
 best : (w : ℕ) → w < 2 ^ 32 → IsHeadOf w (best_line w)
 best w h =
-    let r : register_of w < 32 = omega arith in
+    let r : register_of w < reg_number_count = omega arith in
     pick (IsHeadOf w) (w == no_op) head.Nop _ (λ e. (sym (is_eq w no_op e), (tt, tt)))
     (pick (IsHeadOf w) (w == sync_word) head.Sync _ (λ e. (sym (is_eq w sync_word e), (tt, tt)))
-    (pick (IsHeadOf w) (w == type1_write_header (register_of w) (w % 2 ^ 11)) (head.Write (register_of w) (w % 2 ^ 11)) _ (λ e. (sym (is_eq w (type1_write_header (register_of w) (w % 2 ^ 11)) e), ((r, omega arith), tt)))
-    (pick (IsHeadOf w) (w == type1_read_header (register_of w) (w % 2 ^ 11)) (head.Read (register_of w) (w % 2 ^ 11)) _ (λ e. (sym (is_eq w (type1_read_header (register_of w) (w % 2 ^ 11)) e), ((r, omega arith), tt)))
-    (pick (IsHeadOf w) (type_and_opcode_of w == type2_write_kind) (head.Write2 (w % 2 ^ 27)) _ (λ e. let k : w / 2 ^ 27 ≡ 10 = is_eq (w / 2 ^ 27) 10 e in (omega arith, (omega arith, tt)))
-    (pick (IsHeadOf w) (type_and_opcode_of w == type2_read_kind) (head.Read2 (w % 2 ^ 27)) (head.Word w) (λ e. let k : w / 2 ^ 27 ≡ 9 = is_eq (w / 2 ^ 27) 9 e in (omega arith, (omega arith, tt))) (refl, (h, tt)))))))
+    (pick (IsHeadOf w) (w == type1_write_header (register_of w) (type1_count_of w)) (head.Write (register_of w) (type1_count_of w)) _ (λ e. (sym (is_eq w (type1_write_header (register_of w) (type1_count_of w)) e), ((r, omega arith), tt)))
+    (pick (IsHeadOf w) (w == type1_read_header (register_of w) (type1_count_of w)) (head.Read (register_of w) (type1_count_of w)) _ (λ e. (sym (is_eq w (type1_read_header (register_of w) (type1_count_of w)) e), ((r, omega arith), tt)))
+    (pick (IsHeadOf w) (type_and_opcode_of w == type2_write_kind) (head.Write2 (type2_count_of w)) _ (λ e. let k : type_and_opcode_of w ≡ type2_write_kind = is_eq (type_and_opcode_of w) type2_write_kind e in (omega arith, (omega arith, tt)))
+    (pick (IsHeadOf w) (type_and_opcode_of w == type2_read_kind) (head.Read2 (type2_count_of w)) (head.Word w) (λ e. let k : type_and_opcode_of w ≡ type2_read_kind = is_eq (type_and_opcode_of w) type2_read_kind e in (omega arith, (omega arith, tt))) (refl, (h, tt)))))))
 
 head_of : (s : Step) (w : ℕ) → w < 2 ^ 32 → IsHeadOf w (line_of_head s w)
 head_of (step.Bad x) w h = (refl, (h, tt))
@@ -120,11 +121,11 @@ packets_stand (p ∷ ps) a =
 session_stands : (gap : List ℕ) (ps : List Packet) → AreBytes gap → AreWords (flat_map words ps) → Stands (packets_lines gap ps) (gap ++ (sync_bytes ++ packet_bytes ps))
 session_stands gap ps g a = both_stand (gap_lines gap) (Sync ∷ flat_map packet_lines ps) gap (sync_bytes ++ packet_bytes ps) (gap_stands gap g) (one_stands Sync (flat_map packet_lines ps) sync_bytes (packet_bytes ps) refl (tt, tt) (packets_stand ps a))
 
-ended_session : (s : Session) → AreBytes (session_bytes s) → AreWords (flat_map words s.packets) → Stands (session_lines s) (session_bytes s)
+ended_session : (s : EndedSession) → AreBytes (session_bytes s) → AreWords (flat_map words s.packets) → Stands (session_lines s) (session_bytes s)
 ended_session s b a = stands_for (session_lines s) (s.gap ++ (sync_bytes ++ packet_bytes s.packets)) (session_bytes s) (sym (append_assoc s.gap sync_bytes (packet_bytes s.packets)))
     (session_stands s.gap s.packets (all_prefix (λ x. x < 256) s.gap (sync_bytes ++ packet_bytes s.packets) (subst (λ t. AreBytes t) (append_assoc s.gap sync_bytes (packet_bytes s.packets)) b)) a)
 
-sessions_stand : (ss : List Session) → AreBytes (flat_map session_bytes ss) → AllByRecursion IsSession ss → Stands (flat_map session_lines ss) (flat_map session_bytes ss)
+sessions_stand : (ss : List EndedSession) → AreBytes (flat_map session_bytes ss) → AllByRecursion IsEndedSession ss → Stands (flat_map session_lines ss) (flat_map session_bytes ss)
 sessions_stand [] b a = none_stand
 sessions_stand (s ∷ ss) b a =
     both_stand (session_lines s) (flat_map session_lines ss) (session_bytes s) (flat_map session_bytes ss) (ended_session s (all_prefix (λ x. x < 256) (session_bytes s) (flat_map session_bytes ss) b) (each_fits None s.packets a.0.packets))
@@ -140,7 +141,7 @@ place_stands (Synced gap ps tail) b i =
     (session_stands gap ps (all_prefix (λ x. x < 256) gap (sync_bytes ++ packet_bytes ps) prefix) (each_fits None ps i.1))
     (gap_stands tail (all_back (λ x. x < 256) (gap ++ sync_bytes ++ packet_bytes ps) tail b)))
 
-pub reading_stands : (bytes : List ℕ) (ss : List Session) (p : Place) → IsReading bytes ss p → Stands (flat_map session_lines ss ++ place_lines p) bytes
+pub reading_stands : (bytes : List ℕ) (ss : List EndedSession) (p : Place) → IsReading bytes ss p → Stands (flat_map session_lines ss ++ place_lines p) bytes
 reading_stands bytes ss p r =
     let b : AreBytes (flat_map session_bytes ss ++ place_bytes p) = subst (λ t. AreBytes t) r.joined r.fits in
     stands_for (flat_map session_lines ss ++ place_lines p) (flat_map session_bytes ss ++ place_bytes p) bytes (sym r.joined)

@@ -4,7 +4,7 @@ use Rattle.std.proofs.lemmas.Grind.{flat_map-append}
 use Rattle.std.proofs.lemmas.List.Folds.{flat_map-map}
 use Rattle.std.specs.List.{flat_map}
 use Rattle.x7_packets.specs.Packet.{Packet, named_by}
-use Rattle.x7_packets.specs.Reading.{Place, Searching, Synced, Session}
+use Rattle.x7_packets.specs.Reading.{Place, Searching, Synced, EndedSession}
 use Rattle.x7_packets.specs.ByHand.{reading_of}
 use Rattle.x7_text.specs.Row.{bytes_text, data_text, rows}
 use Rattle.x7_listing.specs.HeadLine.{command_line, line_of_head, line_text, line_as}
@@ -55,14 +55,14 @@ packets_joined gap packets =
     ∙ ap₂ (λ (a b : List ℕ). a ++ (codes "sync\n" ++ b)) (gap_text gap) (texts_joined packet_lines packet_text packet_text_is packets)
     ∙ sym (append_assoc (bytes_text gap) (codes "sync\n") (flat_map packet_text packets))
 
-session_text_is : (s : Session) → ended_texts (session_lines s) ≡ session_text s
+session_text_is : (s : EndedSession) → ended_texts (session_lines s) ≡ session_text s
 session_text_is s = packets_joined s.gap s.packets
 
 place_text_is : (p : Place) → ended_texts (place_lines p) ≡ place_text p
 place_text_is (Searching gap) = gap_text gap
 place_text_is (Synced gap packets tail) = flat_map-append ended_text (packets_lines gap packets) (gap_lines tail) ∙ ap₂ (λ (a b : List ℕ). a ++ b) (packets_joined gap packets) (gap_text tail)
 
-pub reading_text_is : (sessions : List Session) (place : Place) → ended_texts (flat_map session_lines sessions ++ place_lines place) ≡ flat_map session_text sessions ++ place_text place
+pub reading_text_is : (sessions : List EndedSession) (place : Place) → ended_texts (flat_map session_lines sessions ++ place_lines place) ≡ flat_map session_text sessions ++ place_text place
 reading_text_is sessions place = flat_map-append ended_text (flat_map session_lines sessions) (place_lines place) ∙ ap₂ (λ (a b : List ℕ). a ++ b) (texts_joined session_lines session_text session_text_is sessions) (place_text_is place)
 
 pub listing_text_is : (bytes : List ℕ) → ended_texts (listing_lines bytes) ≡ listing_of bytes

@@ -1,5 +1,5 @@
 -- A listing has at most five bytes for each byte of its stream, and four more.
-use Rattle.std.proofs.Common.{◌≡◌, ◌==◌, ℕ, ◌+◌, ◌*◌, ◌<◌, ◌≤◌, ◌^◌, Bool, true, false, if◌then◌else◌, List, [], ◌∷◌, ◌++◌, Result, Ok, Err, length, map, drop, refl, ap, subst, ◌∙◌, arith, codes, length-append}
+use Rattle.std.proofs.Common.{◌≡◌, ◌==◌, ℕ, ◌+◌, ◌*◌, ◌<◌, ◌≤◌, Bool, true, false, if◌then◌else◌, List, [], ◌∷◌, ◌++◌, Result, Ok, Err, length, map, drop, refl, ap, subst, ◌∙◌, arith, codes, length-append}
 use Rattle.std.specs.Prelude.{nat_lt}
 use Rattle.std.specs.List.{AllByRecursion, flat_map}
 use Rattle.std.specs.Fmt.{decimal}
@@ -14,12 +14,12 @@ use Rattle.x7_header.specs.declared.fault.HeaderFault.{HeaderFault}
 use Rattle.x7_header.specs.declared.fault.HeaderFault.TheVariants as fault
 use Rattle.x7_header.proofs.HeaderLemmas.{header_takes, IsPrefix}
 use Rattle.x7_packets.specs.Packet.{Packet, named_by}
-use Rattle.x7_packets.specs.Reading.{Place, Searching, Session, Synced}
+use Rattle.x7_packets.specs.Reading.{EndedSession, Place, Searching, Synced}
 use Rattle.x7_packets.specs.ByHand.{reading_of}
 use Rattle.x7_regs.specs.Command.{code_of, command_by, command_name_of}
 use Rattle.x7_regs.specs.declared.command.Command.{Command}
 use Rattle.x7_regs.specs.declared.command.Command.TheVariants as command
-use Rattle.x7_regs.specs.Register.{reg_name}
+use Rattle.x7_regs.specs.Register.{reg_name, reg_number_count}
 use Rattle.x7_text.specs.Digits.{hex_byte}
 use Rattle.x7_text.specs.Row.{AreFullButLast, rows, spaced}
 use Rattle.x7_text.proofs.ReadRowLemmas.{length_spaced}
@@ -37,6 +37,7 @@ use Rattle.x7_listing.proofs.GuessLemmas.{each_holds, each_name}
 use Rattle.x7_listing.proofs.ListedLemmas.{listing_text_is}
 use Rattle.x7_listing.proofs.ListedBytesLemmas.{listing_stands}
 use Rattle.x7_listing.proofs.line.LineTextLemmas.{Listed}
+use Rattle.x7_packets.specs.PacketWords.{type1_counts, type2_counts}
 
 -- names are short
 few : List ℕ → ℕ → Bool
@@ -49,7 +50,7 @@ all_few = refl
 below_by : (a b : ℕ) → nat_lt a b ≡ true → a < b
 below_by a b e = grind (arith, nat_tests)
 
-name_few : (n : ℕ) → n < 32 → length (reg_name n) < 8
+name_few : (n : ℕ) → n < reg_number_count → length (reg_name n) < 8
 unfolding few
 name_few n h = below_by (length (reg_name n)) 8 (each_holds few 32 n h all_few)
 
@@ -86,10 +87,10 @@ IsWhole (Bytes bytes) = ⊥
 IsWhole Check = ⊥
 IsWhole _ = Unit {0}
 
-access_few : (word : List ℕ) (n c : ℕ) → length word ≤ 6 → n < 32 → c < 2 ^ 11 → length ((word ++ (reg_name n ++ 32 ∷ decimal c)) ++ 10 ∷ []) ≤ 20
+access_few : (word : List ℕ) (n c : ℕ) → length word ≤ 6 → n < reg_number_count → c < type1_counts → length ((word ++ (reg_name n ++ 32 ∷ decimal c)) ++ 10 ∷ []) ≤ 20
 access_few word n c l h k = omega (arith, l, name_few n h, length-decimal-le 4 c (omega arith) (omega (arith, k)) (omega (arith, k)), length-append (word ++ (reg_name n ++ 32 ∷ decimal c)) (10 ∷ []), length-append word (reg_name n ++ 32 ∷ decimal c), length-append (reg_name n) (32 ∷ decimal c))
 
-count_few : (word : List ℕ) (c : ℕ) → length word ≤ 7 → c < 2 ^ 27 → length ((word ++ decimal c) ++ 10 ∷ []) ≤ 20
+count_few : (word : List ℕ) (c : ℕ) → length word ≤ 7 → c < type2_counts → length ((word ++ decimal c) ++ 10 ∷ []) ≤ 20
 count_few word c l k = omega (arith, l, length-decimal-le 9 c (omega arith) (omega (arith, k)) (omega (arith, k)), length-append (word ++ decimal c) (10 ∷ []), length-append word (decimal c))
 
 line_short : (l : Line) → FitsLine l → IsWhole l → length (ended_text l) ≤ 5 * length (line_bytes 0 l)
@@ -168,10 +169,16 @@ session_short gap packets a =
     let four : length (flat_map (line_bytes 0) (Sync ∷ ls)) ≡ 4 + length (flat_map (line_bytes 0) ls) = length-append (line_bytes 0 Sync) (flat_map (line_bytes 0) ls) in
     omega (arith, gap_short gap, lines_short ls more.1 (packets_whole packets), sync, four, texts_long (gap_lines gap) (Sync ∷ ls), bytes_long (gap_lines gap) (Sync ∷ ls))
 
-sessions_short : (ss : List Session) → AllByRecursion Listed (flat_map session_lines ss) → length (ended_texts (flat_map session_lines ss)) ≤ 5 * length (flat_map (line_bytes 0) (flat_map session_lines ss))
+sessions_short : (ss : List EndedSession) → AllByRecursion Listed (flat_map session_lines ss) → length (ended_texts (flat_map session_lines ss)) ≤ 5 * length (flat_map (line_bytes 0) (flat_map session_lines ss))
 sessions_short [] a = omega arith
 sessions_short (s ∷ ss) a =
-    omega (arith, session_short s.gap s.packets (all_prefix Listed (session_lines s) (flat_map session_lines ss) a), sessions_short ss (all_back Listed (session_lines s) (flat_map session_lines ss) a), texts_long (session_lines s) (flat_map session_lines ss), bytes_long (session_lines s) (flat_map session_lines ss))
+    omega (
+      arith,
+      session_short s.gap s.packets (all_prefix Listed (session_lines s) (flat_map session_lines ss) a),
+      sessions_short ss (all_back Listed (session_lines s) (flat_map session_lines ss) a),
+      texts_long (session_lines s) (flat_map session_lines ss),
+      bytes_long (session_lines s) (flat_map session_lines ss),
+    )
 
 place_short : (p : Place) → AllByRecursion Listed (place_lines p) → length (ended_texts (place_lines p)) ≤ 5 * length (flat_map (line_bytes 0) (place_lines p)) + 4
 place_short (Searching gap) a = gap_short gap
@@ -181,7 +188,7 @@ place_short (Synced gap packets tail) a =
 listing_short : (bytes : List ℕ) → AreBytes bytes → length (listing_of bytes) ≤ 5 * length bytes + 4
 listing_short bytes fits =
     let s = listing_stands bytes fits in
-    let ss : List Session = (reading_of bytes).sessions in
+    let ss : List EndedSession = (reading_of bytes).sessions in
     let p : Place = (reading_of bytes).place in
     let one : List Line = flat_map session_lines (reading_of bytes).sessions in
     let two : List Line = place_lines (reading_of bytes).place in

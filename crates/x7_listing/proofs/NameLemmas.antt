@@ -2,7 +2,7 @@
 use Rattle.std.proofs.Common.{◌≡◌, ◌==◌, ℕ, zero, suc, ◌+◌, ◌-◌, ◌<◌, ◌≤◌, Bool, true, false, if◌then◌else◌, List, [], ◌∷◌, ◌++◌, length, take, drop, get_or, refl, ap, sym, ◌∙◌, arith, length-append, length-drop, take_all}
 use Rattle.x7_listing.specs.BitLine.{has_no_space, IsCutAtSpace}
 use Rattle.std.proofs.lemmas.Grind.{common_steps}
-use Rattle.x7_regs.specs.Register.{reg_name}
+use Rattle.x7_regs.specs.Register.{reg_name, reg_number_count}
 use Rattle.x7_regs.proofs.NamedLemmas.{register_place}
 use Rattle.x7_listing.proofs.GuessLemmas.{before_space, name_before_space, name_free}
 
@@ -11,7 +11,7 @@ space_at [] rest = refl
 space_at (c ∷ cs) rest = space_at cs rest
 
 -- a text without a space where a register's name would end
-pub no_space : (t : List ℕ) → ((j : ℕ) → j < 10 → j < length t → get_or t j 0 ≡ 32 → ⊥) → (n : ℕ) (rest : List ℕ) → n < 32 → t ≡ reg_name n ++ 32 ∷ rest → ⊥
+pub no_space : (t : List ℕ) → ((j : ℕ) → j < 10 → j < length t → get_or t j 0 ≡ 32 → ⊥) → (n : ℕ) (rest : List ℕ) → n < reg_number_count → t ≡ reg_name n ++ 32 ∷ rest → ⊥
 no_space t h n rest k e =
     let at : get_or t (length (reg_name n)) 0 ≡ 32 = ap (λ (s : List ℕ). get_or s (length (reg_name n)) 0) e ∙ space_at (reg_name n) rest in
     h (length (reg_name n)) (register_place n k).2 (omega (arith, ap length e, length-append (reg_name n) (32 ∷ rest))) at
@@ -34,7 +34,7 @@ first_space (c ∷ cs) zero h l e = at_space (c == 32) c cs (ap (λ d. d == 32) 
 first_space (c ∷ cs) (suc k) h l e = before_it (c == 32) c cs (take k cs) (λ f. h 0 (omega arith) (equal_numbers c 32 f)) (first_space cs k (λ j i. h (suc j) (omega arith)) (omega arith) e)
 
 -- a text whose first word is no register's name
-pub no_register : (t : List ℕ) (k : ℕ) → before_space t ≡ take k t → ((n : ℕ) → n < 32 → take k t ≡ reg_name n → ⊥) → (n : ℕ) (rest : List ℕ) → n < 32 → t ≡ reg_name n ++ 32 ∷ rest → ⊥
+pub no_register : (t : List ℕ) (k : ℕ) → before_space t ≡ take k t → ((n : ℕ) → n < reg_number_count → take k t ≡ reg_name n → ⊥) → (n : ℕ) (rest : List ℕ) → n < reg_number_count → t ≡ reg_name n ++ 32 ∷ rest → ⊥
 no_register t k e none n rest h is = none n h (sym e ∙ ap before_space is ∙ name_before_space (reg_name n) rest (name_free n h))
 
 -- a text without a space

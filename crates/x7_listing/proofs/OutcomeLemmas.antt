@@ -2,7 +2,7 @@
 use Rattle.std.proofs.Common.{◌≡◌, ◌⊎◌, ℕ, ◌+◌, ◌-◌, ◌<◌, ◌≤◌, List, [], ◌∷◌, ◌++◌, inl, inr, Result, Ok, Err, MatchResult, length, map, fold, refl, ap, sym, subst, ◌∙◌, arith, append_assoc, append-nil, length-append}
 use Rattle.std.proofs.lemmas.Grind.{fold-append}
 use Rattle.std.specs.List.{AllByRecursion}
-use Rattle.x7_listing.specs.Assembly.{asm_limit, Assembles, assembled, BeginsWithLines, AreAsm, after_one_line, Follows, HasNoHeaderLine, IsFirstBadText, IsAsm, IsHeaded, PassesLimitAt, with_line}
+use Rattle.x7_listing.specs.Assembly.{asm_limit, AssembleTo, assembled, BeginsWithLines, AreAsm, after_one_line, IsOutcomeAfter, HasNoHeaderLine, IsFirstBadText, IsAsm, IsHeaded, PassesLimitAt, with_line}
 use Rattle.x7_text.specs.Lines.{split}
 use Rattle.x7_header.specs.Header.{header_bytes}
 use Rattle.x7_listing.specs.BitLine.{bit_text}
@@ -95,14 +95,14 @@ unfolding Stops
 long_stops limit texts ls last left h p = λ ms there b f. long_after limit ls ms f.more last left there f.fits h f.lines f.texts p b.within
 
 module _ (limit : ℕ) (texts : List (List ℕ)) where
-  pub one_bytes : (x y : List ℕ) → Assembles limit texts x → Assembles limit texts y → x ≡ y
+  pub one_bytes : (x y : List ℕ) → AssembleTo limit texts x → AssembleTo limit texts y → x ≡ y
   one_bytes x y a b = let p = one_place limit texts a.lines b.lines [] [] a.begins b.begins (end_stops limit texts a.lines) (end_stops limit texts b.lines) in a.bytes_are ∙ ap assembled p.0 ∙ sym b.bytes_are
 
-  pub not_bad : (x : List ℕ) (n : ℕ) → Assembles limit texts x → IsFirstBadText limit texts n → ⊥
+  pub not_bad : (x : List ℕ) (n : ℕ) → AssembleTo limit texts x → IsFirstBadText limit texts n → ⊥
   not_bad x n a b = let p = one_place limit texts a.lines b.lines [] (b.bad ∷ b.left) a.begins b.begins (end_stops limit texts a.lines) (bad_stops limit texts b.lines b.bad b.left b.no_line) in
       let e : ◌≡◌ {A = List (List ℕ)} [] (b.bad ∷ b.left) = p.1 in cc
 
-  pub not_long : (x : List ℕ) (n : ℕ) → Assembles limit texts x → PassesLimitAt limit texts n → ⊥
+  pub not_long : (x : List ℕ) (n : ℕ) → AssembleTo limit texts x → PassesLimitAt limit texts n → ⊥
   not_long x n a b = let p = one_place limit texts a.lines b.lines [] (text_of b.last ∷ b.left) a.begins b.begins (end_stops limit texts a.lines) (long_stops limit texts b.lines b.last b.left b.fits b.passes) in
       let e : ◌≡◌ {A = List (List ℕ)} [] (text_of b.last ∷ b.left) = p.1 in cc
 
@@ -135,7 +135,7 @@ same_asm limit texts (Err (fault.TooLong m)) (Err (fault.TooLong n)) h k = ap (�
 same_asm limit texts (Err (fault.TooLong m)) (Err fault.NoMemory) h k = absurd k
 same_asm limit texts (Err fault.NoMemory) b h k = absurd h
 
-same_follows : (prefix : List ℕ) (others : List (List ℕ)) (a b : Result (List ℕ) AsmFault) → Follows prefix others a → Follows prefix others b → a ≡ b
+same_follows : (prefix : List ℕ) (others : List (List ℕ)) (a b : Result (List ℕ) AsmFault) → IsOutcomeAfter prefix others a → IsOutcomeAfter prefix others b → a ≡ b
 same_follows prefix others a b h k = h.outcome_is ∙ ap (after_one_line prefix) (same_asm (asm_limit - length prefix) others h.rest k.rest h.lines k.lines) ∙ sym k.outcome_is
 
 same_headed : (texts : List (List ℕ)) (a b : Result (List ℕ) AsmFault) → IsHeaded texts a → IsHeaded texts b → a ≡ b
@@ -144,7 +144,7 @@ same_headed texts a b h k =
     let text : bit_text h.header ≡ bit_text k.header = cc in
     let others : h.others ≡ k.others = cc in
     let header : h.header ≡ k.header = one_header h.header k.header h.fits k.fits text in
-    same_follows (header_bytes k.header) k.others a b (subst (λ (o : List (List ℕ)). Follows (header_bytes k.header) o a) others (subst (λ x. Follows (header_bytes x) h.others a) header h.follows)) k.follows
+    same_follows (header_bytes k.header) k.others a b (subst (λ (o : List (List ℕ)). IsOutcomeAfter (header_bytes k.header) o a) others (subst (λ x. IsOutcomeAfter (header_bytes x) h.others a) header h.follows)) k.follows
 
 not_headed : (texts : List (List ℕ)) (a : Result (List ℕ) AsmFault) → IsHeaded texts a → HasNoHeaderLine texts → ⊥
 not_headed texts a h k = k h.header h.others h.fits h.texts

@@ -8,7 +8,7 @@ use Rattle.x7_words.specs.Word.{AreBytes, word_of_bytes}
 use Rattle.x7_words.proofs.ListLemmas.{all_back, all_prefix, flat_map_last, map_append}
 use Rattle.x7_packets.specs.ByHand.{before_last_four, header_packet, is_sync, last_four, Reading, reading_of, with_byte, with_byte_at, with_payload_word, with_session_byte, packets_with_word, with_word_after}
 use Rattle.x7_packets.specs.Packet.{Packet, count_of, EachPacket, ended, latest_after, meaning, named_by, payload_steps, stepped}
-use Rattle.x7_packets.specs.Reading.{Place, Searching, Synced, Session, IsReading, IsSession}
+use Rattle.x7_packets.specs.Reading.{Place, Searching, Synced, EndedSession, IsReading, IsEndedSession}
 use Rattle.x7_packets.specs.declared.header.Step.{Step}
 use Rattle.x7_packets.specs.declared.header.Step.TheVariants.{Payload}
 use Rattle.x7_packets.specs.Mode.{Mode}
@@ -129,24 +129,24 @@ session_longer : (gap : List ℕ) (packets all : List Packet) → IsPrefixOf (W 
 session_longer gap packets all f = prefix_after (bytes_text gap ++ codes "sync\n") (W packets) (W all) f
 
 -- a session with a word more, by whether the word ends it
-word_goes_on : (sessions : List Session) (bytes gap : List ℕ) (packets all : List Packet) (b : Bool) → IsPrefixOf (W packets) (W all)
+word_goes_on : (sessions : List EndedSession) (bytes gap : List ℕ) (packets all : List Packet) (b : Bool) → IsPrefixOf (W packets) (W all)
     → (let r : Reading = if b then record { sessions = sessions ++ record { gap = gap; packets = all } ∷ []; place = Searching [] } else record { sessions = sessions; place = Synced gap all [] } in
     IsReading bytes r.sessions r.place → IsPrefixOf (flat_map session_text sessions ++ sure_session gap packets) (sure_of r))
 word_goes_on sessions bytes gap packets all true f is =
     let start : List ℕ = flat_map session_text sessions in
-    let session : Session = record { gap = gap; packets = all } in
-    let last : IsSession session = (all_back IsSession sessions (session ∷ []) is.each).0 in
+    let session : EndedSession = record { gap = gap; packets = all } in
+    let last : IsEndedSession session = (all_back IsEndedSession sessions (session ∷ []) is.each).0 in
     let old : List ℕ = sure_session gap packets in
     let lines : List ℕ = packets_text gap all in
     let over : IsPrefixOf old lines = prefix_then old (sure_session gap all) lines (session_longer gap packets all f) (session_over gap all last.packets) in
-    let next : List Session = sessions ++ session ∷ [] in
+    let next : List EndedSession = sessions ++ session ∷ [] in
     let same : start ++ lines ≡ flat_map session_text next ++ [] = sym (flat_map_last session_text sessions session) ∙ sym (append-nil (flat_map session_text next)) in
     subst (λ t. IsPrefixOf (start ++ old) t) same (prefix_after start old lines over)
 word_goes_on sessions bytes gap packets all false f is =
     prefix_after (flat_map session_text sessions) (sure_session gap packets) (sure_session gap all) (session_longer gap packets all f)
 
 -- a session with a byte more
-session_goes_on : (sessions : List Session) (bytes gap tail : List ℕ) (packets : List Packet) (byte : ℕ)
+session_goes_on : (sessions : List EndedSession) (bytes gap tail : List ℕ) (packets : List Packet) (byte : ℕ)
     → IsReading bytes (with_session_byte sessions gap packets tail byte).sessions (with_session_byte sessions gap packets tail byte).place
     → IsPrefixOf (flat_map session_text sessions ++ sure_session gap packets) (sure_of (with_session_byte sessions gap packets tail byte))
 session_goes_on sessions bytes gap [] packets byte is = prefix_self (flat_map session_text sessions ++ sure_session gap packets)
@@ -158,7 +158,7 @@ session_goes_on sessions bytes gap (x ∷ y ∷ z ∷ []) packets byte is =
 session_goes_on sessions bytes gap (x ∷ y ∷ z ∷ u ∷ tail) packets byte is = prefix_self (flat_map session_text sessions ++ sure_session gap packets)
 
 -- ended sessions and a place with a byte more
-byte_goes_on : (sessions : List Session) (place : Place) (bytes : List ℕ) (byte : ℕ) → IsReading bytes (with_byte_at sessions place byte).sessions (with_byte_at sessions place byte).place
+byte_goes_on : (sessions : List EndedSession) (place : Place) (bytes : List ℕ) (byte : ℕ) → IsReading bytes (with_byte_at sessions place byte).sessions (with_byte_at sessions place byte).place
     → IsPrefixOf (flat_map session_text sessions ++ sure_place place) (sure_of (with_byte_at sessions place byte))
 byte_goes_on sessions (Searching gap) bytes byte is =
     let b : Bool = is_sync (last_four (gap ++ byte ∷ [])) in
@@ -192,7 +192,7 @@ sure_goes_on bytes (byte ∷ rest) f =
     (prefix_then (sure_text bytes) (sure_text (bytes ++ byte ∷ [])) (sure_text ((bytes ++ byte ∷ []) ++ rest)) one more)
 
 -- the sure text at a place is a prefix of the place's lines
-place_over : (bytes : List ℕ) (sessions : List Session) (place : Place) → IsReading bytes sessions place → IsPrefixOf (sure_place place) (place_text place)
+place_over : (bytes : List ℕ) (sessions : List EndedSession) (place : Place) → IsReading bytes sessions place → IsPrefixOf (sure_place place) (place_text place)
 place_over bytes sessions (Searching gap) is =
     let k : ℕ = length gap - 4 in
     let grown : IsPrefixOf (B 0 (take k gap)) (B 0 gap) = subst (λ t. IsPrefixOf (B 0 (take k gap)) (B 0 t)) (take-append-drop k gap) (gap_goes_on (take k gap) (drop k gap)) in

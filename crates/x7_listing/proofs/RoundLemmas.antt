@@ -6,7 +6,7 @@ use Rattle.x7_words.specs.Word.{AreBytes}
 use Rattle.x7_words.proofs.ListLemmas.{all_append, map_append}
 use Rattle.x7_text.proofs.SplitLemmas.{split_line}
 use Rattle.x7_listing.specs.Listing.{listing_of}
-use Rattle.x7_listing.specs.Assembly.{Assembles, assembled, with_line}
+use Rattle.x7_listing.specs.Assembly.{AssembleTo, assembled, with_line}
 use Rattle.x7_crc.specs.Checker.{check_of_bytes}
 use Rattle.x7_text.specs.Lines.{split}
 use Rattle.x7_listing.specs.Line.{Line, Empty, line_bytes, FitsLine, text_of, ended_texts}
@@ -30,7 +30,7 @@ fit_all : (ls : List Line) → AllByRecursion Listed ls → AllByRecursion FitsL
 fit_all [] a = tt
 fit_all (l ∷ ls) a = (a.0.0, fit_all ls a.1)
 
-pub round_trip : (limit : ℕ) (bytes : List ℕ) → AreBytes bytes → length bytes ≤ limit → Assembles limit (split (listing_of bytes)) bytes
+pub round_trip : (limit : ℕ) (bytes : List ℕ) → AreBytes bytes → length bytes ≤ limit → AssembleTo limit (split (listing_of bytes)) bytes
 round_trip limit bytes a h =
     let ls : List Line = listing_lines bytes in
     let s : Stands (listing_lines bytes) bytes = listing_stands bytes a in

@@ -4,8 +4,8 @@ use Rattle.x7_words.specs.Word.{words_of_bytes}
 use Rattle.x7_packets.specs.Packet.{payload_steps}
 use Rattle.x7_packets.specs.declared.header.Step.{Step}
 use Rattle.x7_packets.specs.declared.header.Step.TheVariants.{Filler, Nop, Open, Payload, Read, Bad}
-use Rattle.x7_packets.specs.Reading.{Place, Searching, Synced, Session, IsReading}
-use Rattle.x7_packets.specs.Cutter.{Adds, IsRun, ChangesMode}
+use Rattle.x7_packets.specs.Reading.{Place, Searching, Synced, EndedSession, IsReading}
+use Rattle.x7_packets.specs.Cutter.{CutAdds, IsRun, ChangesMode}
 use Rattle.x7_packets.specs.Mode.{Mode}
 use Rattle.x7_packets.specs.declared.cutter.Cut.{Cut}
 use Rattle.x7_packets.specs.declared.cutter.Cut.TheVariants.{Need, Skip, Sync, Head, Word, Body}
@@ -41,22 +41,22 @@ not_payload w (Open a b) h r x e = absurd (cc)
 not_payload w (Read a b) h r x e = absurd (cc)
 not_payload w (Bad a) h r x e = absurd (cc)
 
-head_adds : (synced : Bool) (line l2 : ℕ) (held h2 all all2 before bytes : List ℕ) (sessions new_sessions : List Session) (spot np : Place) (o n : Mode) (w : ℕ) (step : Step)
-    → HasListed (written_of synced line held all) before sessions spot o → Adds (Head w step) sessions spot new_sessions np → (o ≡ Mode.SyncFound → ⊥) → (n ≡ Mode.SyncFound → ⊥) → IsReading bytes new_sessions np
+head_adds : (synced : Bool) (line l2 : ℕ) (held h2 all all2 before bytes : List ℕ) (sessions new_sessions : List EndedSession) (spot np : Place) (o n : Mode) (w : ℕ) (step : Step)
+    → HasListed (written_of synced line held all) before sessions spot o → CutAdds (Head w step) sessions spot new_sessions np → (o ≡ Mode.SyncFound → ⊥) → (n ≡ Mode.SyncFound → ⊥) → IsReading bytes new_sessions np
     → (synced ≡ true → (all2 ≡ all ++ open_words line ((w, step) ∷ [])) × (l2 ≡ in_line_after_words line ((w, step) ∷ []))) → HasListed (written_of true l2 h2 all2) before new_sessions np n
 head_adds synced line l2 held h2 all all2 before bytes sessions new_sessions (Searching gap) np o n w step t a p q r h = absurd a
 head_adds synced line l2 held h2 all all2 before bytes sessions new_sessions (Synced gap packets tail) np o n w step t a p q r h =
     words_listed_at synced line l2 held h2 all all2 before bytes sessions new_sessions gap tail packets np o n ((w, step) ∷ []) t p q a r h
 
-word_adds : (synced : Bool) (line l2 : ℕ) (held h2 all all2 before bytes : List ℕ) (sessions new_sessions : List Session) (spot np : Place) (o n : Mode) (register w : ℕ)
-    → HasListed (written_of synced line held all) before sessions spot o → Adds (Word register w) sessions spot new_sessions np → (o ≡ Mode.SyncFound → ⊥) → (n ≡ Mode.SyncFound → ⊥) → IsReading bytes new_sessions np
+word_adds : (synced : Bool) (line l2 : ℕ) (held h2 all all2 before bytes : List ℕ) (sessions new_sessions : List EndedSession) (spot np : Place) (o n : Mode) (register w : ℕ)
+    → HasListed (written_of synced line held all) before sessions spot o → CutAdds (Word register w) sessions spot new_sessions np → (o ≡ Mode.SyncFound → ⊥) → (n ≡ Mode.SyncFound → ⊥) → IsReading bytes new_sessions np
     → (synced ≡ true → (all2 ≡ all ++ open_words line (payload_steps register (w ∷ []))) × (l2 ≡ in_line_after_words line (payload_steps register (w ∷ [])))) → HasListed (written_of true l2 h2 all2) before new_sessions np n
 word_adds synced line l2 held h2 all all2 before bytes sessions new_sessions (Searching gap) np o n register w t a p q r h = absurd a
 word_adds synced line l2 held h2 all all2 before bytes sessions new_sessions (Synced gap packets tail) np o n register w t a p q r h =
     words_listed_at synced line l2 held h2 all all2 before bytes sessions new_sessions gap tail packets np o n (payload_steps register (w ∷ [])) t p q a r h
 
-body_adds : (synced : Bool) (line l2 : ℕ) (held h2 all all2 before bytes : List ℕ) (sessions new_sessions : List Session) (spot np : Place) (o n : Mode) (register : ℕ) (body : Bor (List ℕ))
-    → HasListed (written_of synced line held all) before sessions spot o → Adds (Body register body) sessions spot new_sessions np → (o ≡ Mode.SyncFound → ⊥) → (n ≡ Mode.SyncFound → ⊥) → IsReading bytes new_sessions np
+body_adds : (synced : Bool) (line l2 : ℕ) (held h2 all all2 before bytes : List ℕ) (sessions new_sessions : List EndedSession) (spot np : Place) (o n : Mode) (register : ℕ) (body : Bor (List ℕ))
+    → HasListed (written_of synced line held all) before sessions spot o → CutAdds (Body register body) sessions spot new_sessions np → (o ≡ Mode.SyncFound → ⊥) → (n ≡ Mode.SyncFound → ⊥) → IsReading bytes new_sessions np
     → (synced ≡ true → (all2 ≡ all ++ open_words line (payload_steps register (words_of_bytes body.now))) × (l2 ≡ in_line_after_words line (payload_steps register (words_of_bytes body.now)))) → HasListed (written_of true l2 h2 all2) before new_sessions np n
 body_adds synced line l2 held h2 all all2 before bytes sessions new_sessions (Searching gap) np o n register body t a p q r h = absurd a
 body_adds synced line l2 held h2 all all2 before bytes sessions new_sessions (Synced gap packets tail) np o n register body t a p q r h =
@@ -96,10 +96,12 @@ by_skip run part synced s2 line l1 l2 held h1 h2 given old new is e f k g =
     (λ start gap t. g given start gap (subst (λ l. GapListed (given ++ old) start l h1 gap) (sym f) (subst (λ h. GapListed (given ++ old) start (if synced then 0 else line) h gap) (sym k) t)))))
 
 -- what was listed at a place after sessions was listed at an equal place after equal sessions
-listed_at : (w : WrittenSoFar) (before : List ℕ) (sessions new_sessions : List Session) (spot np : Place) (m : Mode) → new_sessions ≡ sessions → np ≡ spot → HasListed w before sessions spot m → HasListed w before new_sessions np m
-listed_at w before sessions new_sessions spot np m e f t = subst (λ (p : Place). HasListed w before new_sessions p m) (sym f) (subst (λ (s : List Session). HasListed w before s spot m) (sym e) t)
+listed_at : (w : WrittenSoFar) (before : List ℕ) (sessions new_sessions : List EndedSession) (spot np : Place) (m : Mode) → new_sessions ≡ sessions → np ≡ spot → HasListed w before sessions spot m → HasListed w before new_sessions np m
+listed_at w before sessions new_sessions spot np m e f t = subst (λ (p : Place). HasListed w before new_sessions p m) (sym f) (subst (λ (s : List EndedSession). HasListed w before s spot m) (sym e) t)
 
-pub need_adds : (synced : Bool) (line : ℕ) (held all before : List ℕ) (sessions new_sessions : List Session) (spot np : Place) (o n : Mode) → HasListed (written_of synced line held all) before sessions spot o → Adds Need sessions spot new_sessions np → ChangesMode Need o n np → HasListed (written_of synced line held all) before new_sessions np n
+pub need_adds : (synced : Bool) (line : ℕ) (held all before : List ℕ) (sessions new_sessions : List EndedSession) (spot np : Place) (o n : Mode)
+    → HasListed (written_of synced line held all) before sessions spot o → CutAdds Need sessions spot new_sessions np → ChangesMode Need o n np
+    → HasListed (written_of synced line held all) before new_sessions np n
 need_adds false line held all before sessions new_sessions (Searching gap) np o n t a m = listed_at (written_of false line held all) before sessions new_sessions (Searching gap) np n a.0 a.1 t
 need_adds true line held all before sessions new_sessions (Searching gap) np o n t a m = listed_at (written_of true line held all) before sessions new_sessions (Searching gap) np n a.0 a.1 t
 need_adds false line held all before sessions new_sessions (Synced gap packets tail) np o n t a m = absurd (m.0 t.0)

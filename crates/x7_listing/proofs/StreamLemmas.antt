@@ -12,7 +12,7 @@ use Rattle.x7_header.proofs.HeaderLemmas.{header_takes, IsPrefix}
 use Rattle.x7_text.specs.Lines.{has_no_end, split}
 use Rattle.x7_text.proofs.PieceLemmas.{free_both, hex_free}
 use Rattle.x7_text.proofs.SplitLemmas.{split_line}
-use Rattle.x7_listing.specs.Assembly.{asm_limit, Assembles, HasNoHeaderLine, IsAsm, IsHeaded}
+use Rattle.x7_listing.specs.Assembly.{asm_limit, AssembleTo, HasNoHeaderLine, IsAsm, IsHeaded}
 use Rattle.x7_listing.specs.BitLine.{bit_text, field_text, FitsHeader}
 use Rattle.x7_listing.specs.Line.{Line, FitsLine, text_of}
 use Rattle.x7_listing.specs.Listing.{listing_of}
@@ -61,7 +61,7 @@ none_first (l ∷ ls) texts a e x others h is =
     let parts : text_of l ∷ (map text_of ls ++ []) ≡ bit_text x ∷ others = sym e ∙ is in
     let same : bit_text x ≡ text_of l = cc in no_line x l (record { fits = a.0; text_is = same })
 
-pub no_head : (limit : ℕ) (texts : List (List ℕ)) (bytes : List ℕ) → Assembles limit texts bytes → HasNoHeaderLine texts
+pub no_head : (limit : ℕ) (texts : List (List ℕ)) (bytes : List ℕ) → AssembleTo limit texts bytes → HasNoHeaderLine texts
 no_head limit texts bytes h = none_first h.lines texts h.begins.fits h.begins.texts
 
 headed : (b : List ℕ) (head : HeaderContents × ℕ) → IsPrefix b head → AreBytes b → length b ≤ asm_limit → IsHeaded (split (bit_text head.0 ++ 10 ∷ listing_of (drop head.1 b))) (Ok b)

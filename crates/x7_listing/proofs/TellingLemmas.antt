@@ -6,8 +6,8 @@ use Rattle.x7_words.proofs.ListLemmas.{all_back, same_prefix}
 use Rattle.x7_packets.specs.SyncWord.{sync_bytes}
 use Rattle.x7_packets.specs.Packet.{Packet, EachPacket, ended, stepped}
 use Rattle.x7_packets.specs.Machine.{ends_by, is_end}
-use Rattle.x7_packets.specs.Reading.{Place, Searching, Synced, Session, IsReading, IsSession, tail_of}
-use Rattle.x7_packets.specs.Cutter.{Adds, LongerSession, ChangesMode}
+use Rattle.x7_packets.specs.Reading.{Place, Searching, Synced, EndedSession, IsReading, IsEndedSession, tail_of}
+use Rattle.x7_packets.specs.Cutter.{CutAdds, LongerSession, ChangesMode}
 use Rattle.x7_packets.specs.declared.header.Step.{Step}
 use Rattle.x7_packets.specs.declared.header.Step.TheVariants.{Filler, Nop, Open, Payload, Read, Bad}
 use Rattle.x7_packets.specs.Mode.{Mode}
@@ -24,18 +24,20 @@ use Rattle.x7_listing.proofs.SessionLemmas.{session_closed, words_place_append, 
 abbrev B : ℕ → List ℕ → List ℕ
 B i xs = open_text 32 (codes "bytes ") hex_byte i xs
 
-skipped : (line2 : ℕ) (held2 all2 start gap : List ℕ) (run : Bor (List ℕ)) (sessions new_sessions : List Session) (np : Place) (old new : Mode)
-    → Adds (Skip run) sessions (Searching gap) new_sessions np → ChangesMode (Skip run) old new np → GapListed all2 start line2 held2 (gap ++ run.now) → HasListedAt (written_of false line2 held2 all2) start np new
+skipped : (line2 : ℕ) (held2 all2 start gap : List ℕ) (run : Bor (List ℕ)) (sessions new_sessions : List EndedSession) (np : Place) (old new : Mode)
+    → CutAdds (Skip run) sessions (Searching gap) new_sessions np → ChangesMode (Skip run) old new np → GapListed all2 start line2 held2 (gap ++ run.now) → HasListedAt (written_of false line2 held2 all2) start np new
 skipped line2 held2 all2 start gap run sessions new_sessions np old new a m g = elim a.1 [
   | inl e ↦ subst (λ p. HasListedAt (written_of false line2 held2 all2) start p new) (sym e) g
   | inr f ↦ subst (λ p. ChangesMode (Skip run) old new p → HasListedAt (written_of false line2 held2 all2) start p new) (sym f.2) (λ k. (k, refl, refl, subst (λ t. GapListed all2 start line2 held2 t) f.1 g)) m
 ]
 
-same_sessions : (synced : Bool) (line : ℕ) (held all before : List ℕ) (sessions new_sessions : List Session) (np : Place) (new : Mode) → new_sessions ≡ sessions → HasListedAt (written_of synced line held all) (before ++ flat_map session_text sessions) np new → HasListed (written_of synced line held all) before new_sessions np new
+same_sessions : (synced : Bool) (line : ℕ) (held all before : List ℕ) (sessions new_sessions : List EndedSession) (np : Place) (new : Mode) → new_sessions ≡ sessions
+    → HasListedAt (written_of synced line held all) (before ++ flat_map session_text sessions) np new
+    → HasListed (written_of synced line held all) before new_sessions np new
 same_sessions synced line held all before sessions new_sessions np new e a = subst (λ s. HasListedAt (written_of synced line held all) (before ++ flat_map session_text s) np new) (sym e) a
 
-pub skip_listed : (synced : Bool) (line line2 : ℕ) (held held2 all all2 before : List ℕ) (sessions new_sessions : List Session) (at np : Place) (old new : Mode) (run : Bor (List ℕ))
-    → HasListed (written_of synced line held all) before sessions at old → Adds (Skip run) sessions at new_sessions np → ChangesMode (Skip run) old new np
+pub skip_listed : (synced : Bool) (line line2 : ℕ) (held held2 all all2 before : List ℕ) (sessions new_sessions : List EndedSession) (at np : Place) (old new : Mode) (run : Bor (List ℕ))
+    → HasListed (written_of synced line held all) before sessions at old → CutAdds (Skip run) sessions at new_sessions np → ChangesMode (Skip run) old new np
     → ((start gap : List ℕ) → GapListed all start (if synced then 0 else line) (if synced then [] else held) gap → GapListed all2 start line2 held2 (gap ++ run.now))
     → HasListed (written_of false line2 held2 all2) before new_sessions np new
 skip_listed synced line line2 held held2 all all2 before sessions new_sessions (Synced gap packets tail) np old new run t a m g = absurd a
@@ -60,8 +62,8 @@ found_gap all start line held gap g =
     let same : gap ≡ g.prefix = same_prefix gap g.prefix sync_bytes held long g.split in
     gap_closed all start line g.prefix g.listed g.count ∙ ap (λ t. start ++ bytes_text t) (sym same)
 
-pub sync_listed : (synced : Bool) (line : ℕ) (held held2 all all2 before : List ℕ) (sessions new_sessions : List Session) (at np : Place) (old new : Mode)
-    → HasListed (written_of synced line held all) before sessions at old → Adds Sync sessions at new_sessions np → ChangesMode Sync old new np → (synced ≡ false → all2 ≡ all ++ close line ++ codes "sync\n") → HasListed (written_of true 0 held2 all2) before new_sessions np new
+pub sync_listed : (synced : Bool) (line : ℕ) (held held2 all all2 before : List ℕ) (sessions new_sessions : List EndedSession) (at np : Place) (old new : Mode)
+    → HasListed (written_of synced line held all) before sessions at old → CutAdds Sync sessions at new_sessions np → ChangesMode Sync old new np → (synced ≡ false → all2 ≡ all ++ close line ++ codes "sync\n") → HasListed (written_of true 0 held2 all2) before new_sessions np new
 sync_listed synced line held held2 all all2 before sessions new_sessions (Searching gap) np old new t a m e = absurd a
 sync_listed true line held held2 all all2 before sessions new_sessions (Synced gap packets tail) np old new t a m e = absurd (t.0 m.0)
 sync_listed false line held held2 all all2 before sessions new_sessions (Synced gap packets tail) np old new t a m e =
@@ -109,18 +111,18 @@ session_ended all start line gap packets s each =
     let X : List ℕ = start ++ bytes_text gap ++ codes "sync\n" in
     ap (λ t. t ++ close line) s.listed ∙ append_assoc X (open_words 0 ss) (close line) ∙ ap (λ k. X ++ (open_words 0 ss ++ close k)) s.count ∙ ap (λ t. X ++ t) (session_closed None 0 packets each) ∙ simp append_assoc
 
-words_by : (line line2 : ℕ) (held2 all all2 before bytes : List ℕ) (sessions new_sessions : List Session) (gap : List ℕ) (packets all_packets : List Packet) (np : Place) (new : Mode) (more : List (ℕ × Step)) (b : Bool)
+words_by : (line line2 : ℕ) (held2 all all2 before bytes : List ℕ) (sessions new_sessions : List EndedSession) (gap : List ℕ) (packets all_packets : List Packet) (np : Place) (new : Mode) (more : List (ℕ × Step)) (b : Bool)
     → ended all_packets ≡ b → (b ≡ true → line2 ≡ 0)
     → SessionListed all2 (before ++ flat_map session_text sessions) line2 gap all_packets → (new ≡ Mode.SyncFound → ⊥)
     → (b ≡ true → (new_sessions ≡ sessions ++ record { gap = gap; packets = all_packets } ∷ []) × (np ≡ Searching []))
     → (b ≡ false → (new_sessions ≡ sessions) × (np ≡ Synced gap all_packets []))
     → IsReading bytes new_sessions np → HasListed (written_of true line2 held2 all2) before new_sessions np new
 words_by line line2 held2 all all2 before bytes sessions new_sessions gap packets all_packets np new more true is n s due over goes r =
-    let session : Session = record { gap = gap; packets = all_packets } in
+    let session : EndedSession = record { gap = gap; packets = all_packets } in
     let e = over refl in
     let zero : line2 ≡ 0 = n refl in
-    let all_sessions : AllByRecursion IsSession (sessions ++ session ∷ []) = subst (λ x. AllByRecursion IsSession x) e.0 r.each in
-    let last : IsSession session = (all_back IsSession sessions (session ∷ []) all_sessions).0 in
+    let all_sessions : AllByRecursion IsEndedSession (sessions ++ session ∷ []) = subst (λ x. AllByRecursion IsEndedSession x) e.0 r.each in
+    let last : IsEndedSession session = (all_back IsEndedSession sessions (session ∷ []) all_sessions).0 in
     let listed : all2 ≡ before ++ flat_map session_text sessions ++ packets_text gap all_packets = sym (append-nil all2) ∙ ap (λ k. all2 ++ close k) (sym zero) ∙ session_ended all2 (before ++ flat_map session_text sessions) line2 gap all_packets s last.packets in
     let joined : before ++ flat_map session_text sessions ++ packets_text gap all_packets ≡ before ++ flat_map session_text (sessions ++ session ∷ []) =
     append_assoc before (flat_map session_text sessions) (packets_text gap all_packets) ∙ ap (λ t. before ++ (flat_map session_text sessions ++ t)) (sym (append-nil (packets_text gap all_packets))) ∙ ap (λ t. before ++ t) (sym (flat_map-append session_text sessions (session ∷ []))) in
@@ -130,7 +132,7 @@ words_by line line2 held2 all all2 before bytes sessions new_sessions gap packet
     same_sessions true line2 held2 all2 before sessions new_sessions np new e.0 (subst (λ p. HasListedAt (written_of true line2 held2 all2) (before ++ flat_map session_text sessions) p new) (sym e.1) (due, s))
 
 -- words more of a session are listed: a header's word, or payload words
-pub words_listed_at : (synced : Bool) (line line2 : ℕ) (held held2 all all2 before bytes : List ℕ) (sessions new_sessions : List Session) (gap tail : List ℕ) (packets : List Packet) (np : Place) (old new : Mode) (more : List (ℕ × Step))
+pub words_listed_at : (synced : Bool) (line line2 : ℕ) (held held2 all all2 before bytes : List ℕ) (sessions new_sessions : List EndedSession) (gap tail : List ℕ) (packets : List Packet) (np : Place) (old new : Mode) (more : List (ℕ × Step))
     → HasListed (written_of synced line held all) before sessions (Synced gap packets tail) old → (old ≡ Mode.SyncFound → ⊥) → (new ≡ Mode.SyncFound → ⊥) → LongerSession gap packets more sessions new_sessions np → IsReading bytes new_sessions np
     → (synced ≡ true → (all2 ≡ all ++ open_words line more) × (line2 ≡ in_line_after_words line more)) → HasListed (written_of true line2 held2 all2) before new_sessions np new
 words_listed_at false line line2 held held2 all all2 before bytes sessions new_sessions gap tail packets np old new more t o n l r h = absurd (o t.0)
@@ -141,17 +143,19 @@ words_listed_at true line line2 held held2 all all2 before bytes sessions new_se
     (session_words all all2 (before ++ flat_map session_text sessions) line line2 gap packets l.all more t.1 l.grown e.0 e.1) n l.ends l.goes_on r
 
 -- the end of a listing in a gap
-pub gap_ended : (all all2 before : List ℕ) (line : ℕ) (held bytes : List ℕ) (sessions : List Session) (at : Place) (m : Mode) → HasListed (written_of false line held all) before sessions at m → (m ≡ Mode.SyncFound → ⊥)
+pub gap_ended : (all all2 before : List ℕ) (line : ℕ) (held bytes : List ℕ) (sessions : List EndedSession) (at : Place) (m : Mode) → HasListed (written_of false line held all) before sessions at m → (m ≡ Mode.SyncFound → ⊥)
     → all2 ≡ all ++ B line held ++ close (in_line_after 32 line held) → all2 ≡ before ++ reading_text sessions at
 gap_ended all all2 before line held bytes sessions (Synced gap packets tail) m t d e = absurd (d t.0)
 gap_ended all all2 before line held bytes sessions (Searching gap) m t d e =
     let start : List ℕ = before ++ flat_map session_text sessions in
-    let listed : all ++ B line held ≡ start ++ B 0 gap = ap (λ t. t ++ B line held) t.listed ∙ append_assoc start (B 0 t.prefix) (B line held) ∙ ap (λ k. start ++ (B 0 t.prefix ++ B k held)) t.count ∙ ap (λ t. start ++ t) (sym (open_text_append 32 (codes "bytes ") hex_byte 0 t.prefix held)) ∙ ap (λ t. start ++ B 0 t) (sym t.split) in
+    let listed : all ++ B line held ≡ start ++ B 0 gap = ap (λ t. t ++ B line held) t.listed ∙ append_assoc start (B 0 t.prefix) (B line held)
+    ∙ ap (λ k. start ++ (B 0 t.prefix ++ B k held)) t.count ∙ ap (λ t. start ++ t) (sym (open_text_append 32 (codes "bytes ") hex_byte 0 t.prefix held))
+    ∙ ap (λ t. start ++ B 0 t) (sym t.split) in
     let count : in_line_after 32 line held ≡ in_line_after 32 0 gap = ap (λ k. in_line_after 32 k held) t.count ∙ sym (in_line_after_append 32 0 t.prefix held) ∙ ap (in_line_after 32 0) (sym t.split) in
     e ∙ gap_closed (all ++ B line held) start (in_line_after 32 line held) gap listed count ∙ append_assoc before (flat_map session_text sessions) (bytes_text gap)
 
 -- the end of a listing in a session
-pub session_over : (all all2 before : List ℕ) (line : ℕ) (held kept bytes : List ℕ) (sessions : List Session) (at : Place) (m : Mode) → HasListed (written_of true line held all) before sessions at m → IsReading bytes sessions at → kept ≡ tail_of at
+pub session_over : (all all2 before : List ℕ) (line : ℕ) (held kept bytes : List ℕ) (sessions : List EndedSession) (at : Place) (m : Mode) → HasListed (written_of true line held all) before sessions at m → IsReading bytes sessions at → kept ≡ tail_of at
     → all2 ≡ all ++ close line ++ B 0 kept ++ close (in_line_after 32 0 kept) → all2 ≡ before ++ reading_text sessions at
 session_over all all2 before line held kept bytes sessions (Searching gap) m t r k e =
     rw (e, k, t.1, t.2, t.0) (simp (append_assoc, append-nil))

@@ -151,9 +151,11 @@ FailsFirst old line f = (f ≡ fault.NoMemory) ⊎ ((all left : List (List ℕ))
 
 -- line n, counted from 1, is read after others, whatever lines follow
 abbrev pub ReadsNext : Output → Output → ℕ → List ℕ → Type 0
-ReadsNext old new n line = (all left : List (List ℕ)) (k : ℕ) → n ≡ k + 1 → TextsAreRead all (line ∷ left) (state_of_output old k) → TextsAreRead all left (state_of_output new n)
+ReadsNext old new n line = (all left : List (List ℕ)) (k : ℕ) → n ≡ k + 1 → TextsAreRead all (line ∷ left) (state_of_output old k)
+    → TextsAreRead all left (state_of_output new n)
 
 -- line n, counted from 1, is refused after others: each text that they begin has this fault; want of memory says
 -- nothing
 abbrev pub FailsNext : Output → ℕ → List ℕ → AsmFault → Type 0
-FailsNext old n line f = (f ≡ fault.NoMemory) ⊎ ((all left : List (List ℕ)) (k : ℕ) → n ≡ k + 1 → TextsAreRead all (line ∷ left) (state_of_output old k) → AreHeadedAsm all (Err f))
+FailsNext old n line f = (f ≡ fault.NoMemory) ⊎ ((all left : List (List ℕ)) (k : ℕ) → n ≡ k + 1
+    → TextsAreRead all (line ∷ left) (state_of_output old k) → AreHeadedAsm all (Err f))

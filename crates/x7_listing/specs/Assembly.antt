@@ -25,7 +25,7 @@ pub record BeginsWithLines (limit : ℕ) (all : List (List ℕ)) (lines : List L
   pub within : length (assembled lines) ≤ limit
 
 -- the texts are those of lines, and these are their bytes
-pub record Assembles (limit : ℕ) (all : List (List ℕ)) (bytes : List ℕ) : Type 0 where
+pub record AssembleTo (limit : ℕ) (all : List (List ℕ)) (bytes : List ℕ) : Type 0 where
   pub lines : List Line
   pub begins : BeginsWithLines limit all lines []
   pub bytes_are : bytes ≡ assembled lines
@@ -51,7 +51,7 @@ pub record PassesLimitAt (limit : ℕ) (all : List (List ℕ)) (n : ℕ) : Type 
 
 -- what texts of lines assemble to: their bytes, or their first fault; want of memory is never theirs
 abbrev pub AreAsm : ℕ → List (List ℕ) → Result (List ℕ) AsmFault → Type 0
-AreAsm limit all (Ok bytes) = Assembles limit all bytes
+AreAsm limit all (Ok bytes) = AssembleTo limit all bytes
 AreAsm limit all (Err (fault.Line n)) = IsFirstBadText limit all n
 AreAsm limit all (Err (fault.TooLong n)) = PassesLimitAt limit all n
 AreAsm limit all (Err fault.NoMemory) = ⊥
@@ -68,7 +68,7 @@ after_one_line prefix (Err (fault.TooLong n)) = Err (fault.TooLong (n + 1))
 after_one_line prefix (Err fault.NoMemory) = Err fault.NoMemory
 
 -- the outcome of texts of lines after a line that stands for these bytes
-pub record Follows (prefix : List ℕ) (others : List (List ℕ)) (outcome : Result (List ℕ) AsmFault) : Type 0 where
+pub record IsOutcomeAfter (prefix : List ℕ) (others : List (List ℕ)) (outcome : Result (List ℕ) AsmFault) : Type 0 where
   pub rest : Result (List ℕ) AsmFault
   pub lines : AreAsm (asm_limit - length prefix) others rest
   pub outcome_is : outcome ≡ after_one_line prefix rest
@@ -79,7 +79,7 @@ pub record IsHeaded (all : List (List ℕ)) (outcome : Result (List ℕ) AsmFaul
   pub fits : FitsHeader header
   pub others : List (List ℕ)
   pub texts : all ≡ bit_text header ∷ others
-  pub follows : Follows (header_bytes header) others outcome
+  pub follows : IsOutcomeAfter (header_bytes header) others outcome
 
 -- the first text is no header's line
 abbrev pub HasNoHeaderLine : List (List ℕ) → Type 0

@@ -13,7 +13,9 @@ field_text (x ∷ xs) = flat_map hex_byte (x ∷ xs)
 
 -- the text of a header's line, without its end: the four fields and the length of the data in bytes
 abbrev pub bit_text : HeaderContents → List ℕ
-bit_text x = codes "bit " ++ (field_text x.a ++ space_byte ∷ (field_text x.b ++ space_byte ∷ (field_text x.c ++ space_byte ∷ (field_text x.d ++ space_byte ∷ decimal x.data_length))))
+bit_text x =
+    codes "bit " ++ (field_text x.a ++ space_byte ∷ (field_text x.b ++ space_byte ∷ (field_text x.c ++ space_byte
+    ∷ (field_text x.d ++ space_byte ∷ decimal x.data_length))))
 
 -- a header can hold these contents: each field fits its length, and is of bytes
 pub record FitsHeader (x : HeaderContents) : Type 0 where

@@ -6,7 +6,7 @@ use Rattle.x7_regs.specs.Register.{number_of, reg_name, reg_number_count}
 use Rattle.x7_regs.specs.Command.{code_of, command_by, command_name_of}
 use Rattle.x7_regs.specs.declared.command.Command.{Command}
 use Rattle.x7_regs.specs.declared.register.Reg.TheVariants.{Crc}
-use Rattle.x7_packets.specs.PacketWords.{no_op, sync_word, type1_read_header, type1_write_header, type2_read_header, type2_write_header}
+use Rattle.x7_packets.specs.PacketWords.{no_op, sync_word, type1_counts, type1_read_header, type1_write_header, type2_counts, type2_read_header, type2_write_header}
 use Rattle.x7_text.specs.Digits.{hex_byte, hex_word}
 use Rattle.x7_words.specs.Characters.{line_end_byte, space_byte}
 use Rattle.x7_text.specs.Row.{IsByteRow, IsWordRow, spaced}
@@ -30,7 +30,7 @@ pub data Line : Type 0 where
 
 -- the fields of a type 1 header, a register's number and a word count, are each within their bits
 abbrev pub IsType1 : ℕ × ℕ → Type 0
-IsType1 a = (a.0 < reg_number_count) × (a.1 < 2 ^ 11)
+IsType1 a = (a.0 < reg_number_count) × (a.1 < type1_counts)
 
 -- the fields of a type 1 header as text: the register's name, a space and the word count
 abbrev pub type1_text : ℕ × ℕ → List ℕ
@@ -65,8 +65,8 @@ abbrev pub FitsLine : Line → Type 0
 FitsLine (Bytes bytes) = IsByteRow bytes
 FitsLine (Write register count) = IsType1 (register, count)
 FitsLine (Read register count) = IsType1 (register, count)
-FitsLine (Write2 count) = count < 2 ^ 27
-FitsLine (Read2 count) = count < 2 ^ 27
+FitsLine (Write2 count) = count < type2_counts
+FitsLine (Read2 count) = count < type2_counts
 FitsLine (Word word) = word < 2 ^ 32
 FitsLine (Data words) = IsWordRow words
 FitsLine _ = Unit {0}
@@ -105,6 +105,10 @@ cmd_line w = if code_of (command_by w) == w then Cmd (command_by w) else Data (w
 -- the text of a line with its end
 abbrev pub ended_text : Line → List ℕ
 ended_text l = text_of l ++ line_end_byte ∷ []
+
+-- the line of a sync word, with its end
+abbrev pub sync_line : List ℕ
+sync_line = codes "sync\n"
 
 -- the texts of lines, each with its end
 abbrev pub ended_texts : List Line → List ℕ

@@ -2,7 +2,7 @@
 use Rattle.std.specs.Prelude.{ℕ, ◌==◌, if◌then◌else◌, List, ◌∷◌, ◌++◌, map}
 use Rattle.std.specs.List.{flat_map}
 use Rattle.x7_packets.specs.Packet.{Packet, named_by}
-use Rattle.x7_packets.specs.Reading.{Place, Searching, Synced, Session}
+use Rattle.x7_packets.specs.Reading.{Place, Searching, Synced, EndedSession}
 use Rattle.x7_packets.specs.ByHand.{reading_of}
 use Rattle.x7_regs.specs.Register.{number_of}
 use Rattle.x7_regs.specs.declared.register.Reg.TheVariants.{Cmd}
@@ -27,7 +27,7 @@ abbrev pub packets_lines : List ℕ → List Packet → List Line
 packets_lines gap packets = gap_lines gap ++ Sync ∷ flat_map packet_lines packets
 
 -- the lines of a session that ended
-abbrev pub session_lines : Session → List Line
+abbrev pub session_lines : EndedSession → List Line
 session_lines s = packets_lines s.gap s.packets
 
 -- the lines of the place where the bytes end: a gap, or a session with its bytes of no whole word
@@ -36,7 +36,7 @@ place_lines (Searching gap) = gap_lines gap
 place_lines (Synced gap packets tail) = packets_lines gap packets ++ gap_lines tail
 
 -- the lines of a reading
-abbrev pub reading_lines : List Session → Place → List Line
+abbrev pub reading_lines : List EndedSession → Place → List Line
 reading_lines sessions place = flat_map session_lines sessions ++ place_lines place
 
 -- the lines of the listing of bytes

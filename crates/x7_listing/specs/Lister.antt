@@ -3,8 +3,8 @@ use Rattle.std.specs.Prelude.{◌≡◌, ℕ, ◌==◌, ◌⊎◌, ◌≤◌, Bo
 use Rattle.std.specs.List.{flat_map}
 use Rattle.x7_packets.specs.SyncWord.{sync_bytes}
 use Rattle.x7_packets.specs.Packet.{Packet, stepped}
-use Rattle.x7_packets.specs.Reading.{Place, Searching, Synced, Session, IsReading, tail_of}
-use Rattle.x7_packets.specs.Cutter.{CutterState, CutterStandsFor, Adds, ChangesMode, IsRun}
+use Rattle.x7_packets.specs.Reading.{Place, Searching, Synced, EndedSession, IsReading, tail_of}
+use Rattle.x7_packets.specs.Cutter.{CutterState, CutterStandsFor, CutAdds, ChangesMode, IsRun}
 use Rattle.x7_packets.specs.declared.header.Step.{Step}
 use Rattle.x7_packets.specs.declared.header.Step.TheVariants.{Payload}
 use Rattle.x7_packets.specs.declared.cutter.Cut.{Cut}
@@ -13,6 +13,7 @@ use Rattle.x7_regs.specs.Register.{number_of}
 use Rattle.x7_regs.specs.declared.register.Reg.TheVariants.{Cmd}
 use Rattle.x7_text.specs.Row.{bytes_text, close, element_text, in_line_after, next_in_line, spaced, open_bytes, bytes_row_size, row_words}
 use Rattle.x7_listing.specs.HeadLine.{command_line, text_of_head}
+use Rattle.x7_listing.specs.Line.{sync_line}
 use Rattle.x7_listing.specs.Listing.{IsListing, session_text}
 
 -- the text that a payload word adds where i words stand in an open `data` line (0: none is open)
@@ -54,7 +55,7 @@ pub record GapListed (all start : List ℕ) (in_line : ℕ) (held gap : List ℕ
 
 -- the words of a session are listed, and the last line is open
 pub record SessionListed (all start : List ℕ) (in_line : ℕ) (gap : List ℕ) (packets : List Packet) : Type 0 where
-  pub listed : all ≡ start ++ bytes_text gap ++ codes "sync\n" ++ open_words 0 (flat_map stepped packets)
+  pub listed : all ≡ start ++ bytes_text gap ++ sync_line ++ open_words 0 (flat_map stepped packets)
   pub count : in_line ≡ in_line_after_words 0 (flat_map stepped packets)
 
 -- what is written of a listing: its text so far, and what stands in its open line or is held
@@ -75,7 +76,8 @@ written_of is_synced in_line held text = record { is_synced = is_synced; in_line
 -- the lines of the session, or those of the gap but for what is held
 abbrev pub HasListedBy : Bool → WrittenSoFar → List ℕ → Place → Mode → Type 0
 HasListedBy false w start (Searching gap) m = GapListed w.text start w.in_line w.held gap
-HasListedBy false w start (Synced gap packets tail) m = (m ≡ Mode.SyncFound) × (packets ≡ []) × (tail ≡ []) × GapListed w.text start w.in_line w.held (gap ++ sync_bytes)
+HasListedBy false w start (Synced gap packets tail) m = (m ≡ Mode.SyncFound) × (packets ≡ []) × (tail ≡ [])
+    × GapListed w.text start w.in_line w.held (gap ++ sync_bytes)
 HasListedBy true w start (Searching gap) m = (gap ≡ []) × (w.in_line ≡ 0) × (w.text ≡ start)
 HasListedBy true w start (Synced gap packets tail) m = (m ≡ Mode.SyncFound → ⊥) × SessionListed w.text start w.in_line gap packets
 
@@ -84,11 +86,11 @@ abbrev pub HasListedAt : WrittenSoFar → List ℕ → Place → Mode → Type 0
 HasListedAt w start place m = HasListedBy w.is_synced w start place m
 
 -- what is written are the listings before, and then what is listed of these ended sessions and this place
-abbrev pub HasListed : WrittenSoFar → List ℕ → List Session → Place → Mode → Type 0
+abbrev pub HasListed : WrittenSoFar → List ℕ → List EndedSession → Place → Mode → Type 0
 HasListed w before sessions place m = HasListedAt w (before ++ flat_map session_text sessions) place m
 
 -- all of a reading was listed but what is left for its end: no sync word is still to be listed
-pub record HasListedAll (w : WrittenSoFar) (before : List ℕ) (sessions : List Session) (place : Place) : Type 0 where
+pub record HasListedAll (w : WrittenSoFar) (before : List ℕ) (sessions : List EndedSession) (place : Place) : Type 0 where
   pub bytes : List ℕ
   pub reading : IsReading bytes sessions place
   pub mode : Mode
@@ -98,8 +100,8 @@ pub record HasListedAll (w : WrittenSoFar) (before : List ℕ) (sessions : List 
 -- the run was listed: where a reading was listed before it, the reading with what the run adds is listed after it
 abbrev pub WritesRun : Cut → WrittenSoFar → WrittenSoFar → Type 0
 WritesRun run w w2 =
-    (before bytes : List ℕ) (sessions new_sessions : List Session) (place new_place : Place) (old new : Mode)
-    → HasListed w before sessions place old → Adds run sessions place new_sessions new_place → ChangesMode run old new new_place → IsRun run
+    (before bytes : List ℕ) (sessions new_sessions : List EndedSession) (place new_place : Place) (old new : Mode)
+    → HasListed w before sessions place old → CutAdds run sessions place new_sessions new_place → ChangesMode run old new new_place → IsRun run
     → IsReading bytes new_sessions new_place → HasListed w2 before new_sessions new_place new
 
 -- a lister: its cutter, what stands in its open line or is held, and its text
@@ -124,7 +126,7 @@ listing_written l given = written_of l.is_synced l.in_line l.held (given ++ l.te
 
 -- The texts given and the lister's are those of listings before, and then what is listed of these bytes.
 pub record HasListedJust (l : ListerState) (given before bytes : List ℕ) : Type 0 where
-  pub sessions : List Session
+  pub sessions : List EndedSession
   pub at : Place
   pub cut : CutterStandsFor l.cutter bytes sessions at
   pub listed : HasListed (listing_written l given) before sessions at l.cutter.mode
@@ -139,7 +141,7 @@ pub record ListerStandsFor (l : ListerState) (given before bytes : List ℕ) : T
 -- then what is listed of these bytes, a sync word being due to be listed or not. Its own cutter took no byte,
 -- and the bytes of no whole word are held.
 pub record TakerStandsFor (l : ListerState) (given before bytes : List ℕ) (due : Mode) : Type 0 where
-  pub sessions : List Session
+  pub sessions : List EndedSession
   pub at : Place
   pub reading : IsReading bytes sessions at
   pub listed : HasListed (listing_written l given) before sessions at due
@@ -148,7 +150,7 @@ pub record TakerStandsFor (l : ListerState) (given before bytes : List ℕ) (due
 
 -- The texts given and the lister's text are those of listings before and the listing of these bytes, and a
 -- new listing begins, of bytes or of runs.
-pub record Finished (l : ListerState) (given before bytes : List ℕ) : Type 0 where
+pub record HasFinished (l : ListerState) (given before bytes : List ℕ) : Type 0 where
   pub listing : List ℕ
   pub listing_is : IsListing bytes listing
   pub listed : given ++ l.text ≡ before ++ listing

@@ -4,7 +4,7 @@ use Rattle.x7_packets.specs.Mode.{Mode}
 use Rattle.x7_packets.specs.Run.{IsNext, bytes_of_run}
 use Rattle.x7_packets.specs.declared.stream.Run.{Run}
 use Rattle.x7_packets.specs.declared.stream.Run.TheVariants as run
-use Rattle.x7_listing.specs.Lister.{Finished, ListerState, TakerStandsFor}
+use Rattle.x7_listing.specs.Lister.{HasFinished, ListerState, TakerStandsFor}
 
 -- what a lister of runs has listed: the texts given before its own, the listings before, the bytes of the runs, and
 -- where a cutter stands after them
@@ -20,7 +20,7 @@ runs_listed given before bytes due = record { given = given; before = before; by
 
 -- a run was taken, with which these bytes are listed; the end ends the listing
 abbrev pub TakesRun : Run → ListerState → RunsListed → Type 0
-TakesRun run.End l listed = Finished l listed.given listed.before listed.bytes
+TakesRun run.End l listed = HasFinished l listed.given listed.before listed.bytes
 TakesRun r l listed = TakerStandsFor l listed.given listed.before listed.bytes listed.due
 
 -- the next run of a stream is taken

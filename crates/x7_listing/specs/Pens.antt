@@ -6,7 +6,7 @@ use Rattle.x7_packets.specs.AtOnce.{TakesAsOneRun}
 use Rattle.x7_packets.specs.Cutter.{CutterState}
 use Rattle.x7_packets.specs.declared.cutter.Cut.TheVariants.{Head}
 use Rattle.x7_packets.specs.declared.header.Step.{Step}
-use Rattle.x7_packets.specs.Reading.{Place, Session, tail_of}
+use Rattle.x7_packets.specs.Reading.{EndedSession, Place, tail_of}
 use Rattle.x7_listing.specs.Listing.{reading_text}
 use Rattle.x7_listing.specs.Lister.{GapListed, HasListedAll, ListerState, ListerStandsFor, HasListedJust, WrittenSoFar, lister_of, written_of}
 use Rattle.x7_listing.specs.declared.list.pen.state.GapPen.{GapPen}
@@ -58,17 +58,19 @@ gap_written gap text = written_of false gap.in_line (take gap.count gap.held) te
 
 -- more bytes of a gap are listed but for those that are held, whatever texts were given
 abbrev pub GapGoesOn : WrittenSoFar → WrittenSoFar → List ℕ → Type 0
-GapGoesOn old new more = (given start gap : List ℕ) → GapListed (given ++ old.text) start old.in_line old.held gap → GapListed (given ++ new.text) start new.in_line new.held (gap ++ more)
+GapGoesOn old new more = (given start gap : List ℕ) → GapListed (given ++ old.text) start old.in_line old.held gap
+    → GapListed (given ++ new.text) start new.in_line new.held (gap ++ more)
 
 -- with this text a listing is whole, whatever texts were given before: it is what is written, then what is held, and
 -- these bytes of no whole word at the end
 abbrev pub EndsWith : WrittenSoFar → List ℕ → List ℕ → Type 0
-EndsWith w kept text = (given before : List ℕ) (sessions : List Session) (place : Place)
-    → HasListedAll (written_of w.is_synced w.in_line w.held (given ++ w.text)) before sessions place → kept ≡ tail_of place → given ++ text ≡ before ++ reading_text sessions place
+EndsWith w kept text = (given before : List ℕ) (sessions : List EndedSession) (place : Place)
+    → HasListedAll (written_of w.is_synced w.in_line w.held (given ++ w.text)) before sessions place → kept ≡ tail_of place
+    → given ++ text ≡ before ++ reading_text sessions place
 
 -- with this text a listing is whole, whatever texts were given before: it is what is written, and then what is held,
 -- which in a session are the bytes of no whole word at the end
 abbrev pub EndsHeld : WrittenSoFar → List ℕ → Type 0
-EndsHeld w text = (given before : List ℕ) (sessions : List Session) (place : Place)
+EndsHeld w text = (given before : List ℕ) (sessions : List EndedSession) (place : Place)
     → HasListedAll (written_of w.is_synced w.in_line w.held (given ++ w.text)) before sessions place → (w.is_synced ≡ true → w.held ≡ tail_of place)
     → given ++ text ≡ before ++ reading_text sessions place

@@ -9,7 +9,7 @@ use Rattle.x7_packets.specs.declared.header.Step.{Step}
 use Rattle.x7_packets.specs.declared.header.Step.TheVariants as step
 use Rattle.x7_packets.specs.Packet.{stepped}
 use Rattle.x7_packets.specs.Gap.{NoneBegins}
-use Rattle.x7_packets.specs.Reading.{Place, Searching, Synced, Session, IsPlace, IsReading, IsSession, session_bytes, place_bytes, packet_bytes, is_synced, tail_of}
+use Rattle.x7_packets.specs.Reading.{Place, Searching, Synced, EndedSession, IsPlace, IsReading, IsEndedSession, session_bytes, place_bytes, packet_bytes, is_synced, tail_of}
 use Rattle.x7_packets.specs.ByHand.{Reading, reading_of}
 use Rattle.x7_packets.specs.History.{History, Read, Write, Bad, entry, entered, entered_all, entered_sessions, entered_place, history, history_of}
 use Rattle.x7_packets.proofs.ByHandLemmas.{reading_is, reading_is_found}
@@ -22,7 +22,7 @@ abbrev Reads : List ℕ → Reading → Type 0
 Reads bytes r = IsReading bytes r.sessions r.place
 
 -- bytes after a gap in which no sync word begins are read as they are alone
-joined : (a b gap : List ℕ) (ss ts : List Session) (q : Place) → AreBytes (a ++ b) → IsReading a ss (Searching gap) → IsReading b ts q → NoneBegins gap b → Reads (a ++ b) (after_gap ss gap ts q)
+joined : (a b gap : List ℕ) (ss ts : List EndedSession) (q : Place) → AreBytes (a ++ b) → IsReading a ss (Searching gap) → IsReading b ts q → NoneBegins gap b → Reads (a ++ b) (after_gap ss gap ts q)
 joined a b gap ss [] (Searching g) f r s n = record {
   fits = f;
   joined = ap (λ t. t ++ b) r.joined ∙ ap (λ t. (flat_map session_bytes ss ++ gap) ++ t) s.joined ∙ append_assoc (flat_map session_bytes ss) gap g;
@@ -43,19 +43,19 @@ joined a b gap ss [] (Synced g packets tail) f r s n =
 joined a b gap ss (t ∷ ts) q f r s n =
     let prefix : List ℕ = flat_map session_bytes ss in
     let rest : List ℕ = packet_bytes t.packets ++ (flat_map session_bytes ts ++ place_bytes q) in
-    let first : Session = record { gap = gap ++ t.gap; packets = t.packets } in
+    let first : EndedSession = record { gap = gap ++ t.gap; packets = t.packets } in
     let whole : b ≡ t.gap ++ (sync_bytes ++ rest) = s.joined ∙ simp append_assoc in
     let regrouped : (prefix ++ gap) ++ (t.gap ++ (sync_bytes ++ rest)) ≡ (prefix ++ (session_bytes first ++ flat_map session_bytes ts)) ++ place_bytes q = simp append_assoc in
     record {
       fits = f;
       joined = ap (λ t. t ++ b) r.joined ∙ ap (λ t. (prefix ++ gap) ++ t) whole ∙ regrouped
           ∙ ap (λ t. t ++ place_bytes q) (sym (flat_map-append session_bytes ss (first ∷ ts)));
-      each = all_append IsSession ss (first ∷ ts) r.each (record { first = first_after gap t.gap rest (subst (NoneBegins gap) whole n) s.each.0.first; packets = s.each.0.packets; ended = s.each.0.ended }, s.each.1);
+      each = all_append IsEndedSession ss (first ∷ ts) r.each (record { first = first_after gap t.gap rest (subst (NoneBegins gap) whole n) s.each.0.first; packets = s.each.0.packets; ended = s.each.0.ended }, s.each.1);
       ends = s.ends;
     }
 
 same_reading : (r s : Reading) → r.sessions ≡ s.sessions → r.place ≡ s.place → r ≡ s
-same_reading r s e f = ap (λ (x : List Session). record { sessions = x; place = r.place }) e ∙ ap (λ (x : Place). record { sessions = s.sessions; place = x }) f
+same_reading r s e f = ap (λ (x : List EndedSession). record { sessions = x; place = r.place }) e ∙ ap (λ (x : Place). record { sessions = s.sessions; place = x }) f
 
 -- more bytes stand after those that end at this place: these end searching, and no sync word begins in the open gap
 pub record ComesAfter (place : Place) (more : List ℕ) : Type 0 where
@@ -71,7 +71,7 @@ may_stand place more is m = record { searching = m.searching; none = by place is
     by (Searching gap) is e (inr dummy) = none_before_dummy gap more is dummy
     by (Synced gap packets tail) is e (inr dummy) = absurd (cc)
 
-by_place : (a b : List ℕ) (ss : List Session) (p : Place) → AreBytes (a ++ b) → IsReading a ss p → ComesAfter p b → reading_of (a ++ b) ≡ after (record { sessions = ss; place = p }) (reading_of b)
+by_place : (a b : List ℕ) (ss : List EndedSession) (p : Place) → AreBytes (a ++ b) → IsReading a ss p → ComesAfter p b → reading_of (a ++ b) ≡ after (record { sessions = ss; place = p }) (reading_of b)
 by_place a b ss (Searching gap) f r d =
     let found : IsReading b (reading_of b).sessions (reading_of b).place = reading_is_found b (all_back (λ x. x < 256) a b f) in
     let all : Reading = after_gap ss gap (reading_of b).sessions (reading_of b).place in
@@ -82,12 +82,12 @@ by_place a b ss (Synced gap packets tail) f r d = absurd (let e : true ≡ false
 read_appended : (a b : List ℕ) → AreBytes (a ++ b) → ComesAfter (reading_of a).place b → reading_of (a ++ b) ≡ after (reading_of a) (reading_of b)
 read_appended a b f d = by_place a b (reading_of a).sessions (reading_of a).place f (reading_is_found a (all_prefix (λ x. x < 256) a b f)) d
 
-synced_same : (before : List Session) (prefix : List ℕ) (ts : List Session) (q : Place) → is_synced (after_gap before prefix ts q).place ≡ is_synced q
+synced_same : (before : List EndedSession) (prefix : List ℕ) (ts : List EndedSession) (q : Place) → is_synced (after_gap before prefix ts q).place ≡ is_synced q
 synced_same before prefix [] (Searching gap) = refl
 synced_same before prefix [] (Synced gap packets tail) = refl
 synced_same before prefix (t ∷ ts) q = refl
 
-tail_same : (before : List Session) (prefix : List ℕ) (ts : List Session) (q : Place) → tail_of (after_gap before prefix ts q).place ≡ tail_of q
+tail_same : (before : List EndedSession) (prefix : List ℕ) (ts : List EndedSession) (q : Place) → tail_of (after_gap before prefix ts q).place ≡ tail_of q
 tail_same before prefix [] (Searching gap) = refl
 tail_same before prefix [] (Synced gap packets tail) = refl
 tail_same before prefix (t ∷ ts) q = refl
@@ -114,7 +114,7 @@ all_moved n place k (s ∷ ss) h g e =
     ap (λ (t : History). entered_all (k + 4) ss t) (entered_moved n (place + 4) (k + 4) s.1 h g (omega arith))
     ∙ all_moved n (place + 4) (k + 4) ss (entered (place + 4) s.1 h) g (omega arith)
 
-sessions_moved : (n place k : ℕ) (ss : List Session) (h g : History) → k ≡ n + place → entered_sessions k ss (moved n h ++ g) ≡ moved n (entered_sessions place ss h) ++ g
+sessions_moved : (n place k : ℕ) (ss : List EndedSession) (h g : History) → k ≡ n + place → entered_sessions k ss (moved n h ++ g) ≡ moved n (entered_sessions place ss h) ++ g
 sessions_moved n place k [] h g e = refl
 sessions_moved n place k (s ∷ ss) h g e =
     ap (λ (t : History). entered_sessions (k + length (session_bytes s)) ss t) (all_moved n (place + length s.gap + 4) (k + length s.gap + 4) (flat_map stepped s.packets) h g (omega arith))
@@ -124,20 +124,20 @@ place_moved : (n place k : ℕ) (q : Place) (h g : History) → k ≡ n + place 
 place_moved n place k (Searching gap) h g e = refl
 place_moved n place k (Synced gap packets tail) h g e = all_moved n (place + length gap + 4) (k + length gap + 4) (flat_map stepped packets) h g (omega arith)
 
-sessions_after : (n : ℕ) (ss ts : List Session) (h : History) → entered_sessions n (ss ++ ts) h ≡ entered_sessions (n + length (flat_map session_bytes ss)) ts (entered_sessions n ss h)
+sessions_after : (n : ℕ) (ss ts : List EndedSession) (h : History) → entered_sessions n (ss ++ ts) h ≡ entered_sessions (n + length (flat_map session_bytes ss)) ts (entered_sessions n ss h)
 sessions_after n [] ts h = ap (λ (x : ℕ). entered_sessions x ts h) (omega arith)
 sessions_after n (s ∷ ss) ts h =
     sessions_after (n + length (session_bytes s)) ss ts (entered_all (n + length s.gap + 4) (flat_map stepped s.packets) h)
     ∙ ap (λ (x : ℕ). entered_sessions x ts (entered_sessions (n + length (session_bytes s)) ss (entered_all (n + length s.gap + 4) (flat_map stepped s.packets) h))) (omega (arith, length-append (session_bytes s) (flat_map session_bytes ss)))
 
 -- the history of a reading after one that ends searching
-pub history_joined : (n : ℕ) (gap : List ℕ) (ss ts : List Session) (q : Place) → n ≡ length (flat_map session_bytes ss) + length gap
+pub history_joined : (n : ℕ) (gap : List ℕ) (ss ts : List EndedSession) (q : Place) → n ≡ length (flat_map session_bytes ss) + length gap
     → (let r : Reading = after_gap ss gap ts q in history r.sessions r.place ≡ moved n (history ts q) ++ entered_sessions 0 ss [])
 history_joined n gap ss [] (Searching g) e = refl
 history_joined n gap ss [] (Synced g packets tail) e =
     all_moved n (0 + length g + 4) (length (flat_map session_bytes ss) + length (gap ++ g) + 4) (flat_map stepped packets) [] (entered_sessions 0 ss []) (omega (arith, length-append gap g))
 history_joined n gap ss (t ∷ ts) q e =
-    let first : Session = record { gap = gap ++ t.gap; packets = t.packets } in
+    let first : EndedSession = record { gap = gap ++ t.gap; packets = t.packets } in
     let old : History = entered_sessions 0 ss [] in
     let l : ℕ = length (flat_map session_bytes ss) in
     let steps : List (ℕ × Step) = flat_map stepped t.packets in
@@ -152,7 +152,7 @@ history_joined n gap ss (t ∷ ts) q e =
     ap (λ (x : History). entered_place (length (flat_map session_bytes (ss ++ first ∷ ts))) q x) one
     ∙ place_moved n (length (flat_map session_bytes (t ∷ ts))) (length (flat_map session_bytes (ss ++ first ∷ ts))) q (entered_sessions 0 (t ∷ ts) []) old whole
 
-history_by_place : (a b : List ℕ) (ss : List Session) (p : Place) → IsReading a ss p → is_synced p ≡ false → (let r : Reading = after (record { sessions = ss; place = p }) (reading_of b) in history r.sessions r.place) ≡ moved (length a) (history_of b) ++ history ss p
+history_by_place : (a b : List ℕ) (ss : List EndedSession) (p : Place) → IsReading a ss p → is_synced p ≡ false → (let r : Reading = after (record { sessions = ss; place = p }) (reading_of b) in history r.sessions r.place) ≡ moved (length a) (history_of b) ++ history ss p
 history_by_place a b ss (Searching gap) r e = history_joined (length a) gap ss (reading_of b).sessions (reading_of b).place (ap length r.joined ∙ length-append (flat_map session_bytes ss) gap)
 history_by_place a b ss (Synced gap packets tail) r e = absurd (cc)
 

@@ -1,5 +1,5 @@
 -- Lemmas on specs/AtOnce.
-use Rattle.std.proofs.Common.{◌≡◌, ℕ, ◌/◌, ◌%◌, ◌^◌, ◌<◌, ◌≤◌, ◌+◌, ◌*◌, ◌==◌, Bool, Bor, List, [], ◌∷◌, ◌++◌, Option, Some, true, false, if◌then◌else◌, inl, inr, get_or, length, length-drop, length-take-le, take, take-add, drop, map, refl, ap, sym, subst, ◌∙◌, append-nil, arith}
+use Rattle.std.proofs.Common.{◌≡◌, ℕ, ◌^◌, ◌<◌, ◌≤◌, ◌+◌, ◌*◌, ◌==◌, Bool, Bor, List, [], ◌∷◌, ◌++◌, Option, Some, true, false, if◌then◌else◌, inl, inr, get_or, length, length-drop, length-take-le, take, take-add, drop, map, refl, ap, sym, subst, ◌∙◌, append-nil, arith}
 use Rattle.std.proofs.lemmas.List.{take-append-drop}
 use Rattle.std.proofs.lemmas.Bool.Decides.{nat_tests}
 use Rattle.std.specs.List.{flat_map}
@@ -14,44 +14,45 @@ use Rattle.x7_packets.specs.declared.cutter.Cut.TheVariants.{Body, Head, Skip}
 use Rattle.x7_packets.specs.Mode.{Mode}
 use Rattle.x7_packets.specs.AtOnce.{BeginsWrite, EndsGap, in_write, longest_gap_and_sync, longest_short_write, most_short_words, short_gap_room, WritesShort, WritesOne}
 use Rattle.x7_packets.specs.Cutter.{AtPlace, CutterState, CutterStandsFor, LongerSession, AfterRun, TakesAsOneRun}
-use Rattle.x7_packets.specs.PacketWords.{dummy_word, no_op, sync_word, type1_write_header, type1_write_kind}
-use Rattle.x7_packets.specs.Packet.{Packet, ends_session, meaning, payload_steps, register_of}
-use Rattle.x7_packets.specs.Reading.{Place, Searching, Session, Synced, packet_bytes, session_bytes}
-use Rattle.x7_packets.specs.Machine.{Grows, MachineStandsFor, MachineState, ends_by, is_end}
+use Rattle.x7_packets.specs.PacketWords.{dummy_word, no_op, sync_word, type1_counts, type1_write_header, type1_write_kind}
+use Rattle.x7_packets.specs.Packet.{Packet, ends_session, meaning, packet_type_of, payload_steps, register_of, type1_count_of, type_and_opcode_of}
+use Rattle.x7_packets.specs.Reading.{EndedSession, Place, Searching, Synced, packet_bytes, session_bytes}
+use Rattle.x7_packets.specs.Machine.{HasTakenWords, MachineStandsFor, MachineState, ends_by, is_end}
 use Rattle.x7_packets.proofs.CutLemmas.{body_more, joined_more, packet_bytes_grown, skip_found, sync_given, word_more}
 use Rattle.x7_packets.proofs.NopLemmas.{nop_grows}
 use Rattle.x7_packets.proofs.PacketLemmas.{words_of_payload}
 use Rattle.x7_packets.proofs.SearchLemmas.{found_clear, up_to_sync}
 use Rattle.x7_packets.proofs.TakeLemmas.{calm_words, header_opens, payload_ends, payload_goes, payload_goes_on}
+use Rattle.x7_regs.specs.Register.{reg_number_count}
 
 -- ---- a machine
 
-write_means : (latest : Option ℕ) (register count : ℕ) → register < 32 → count < 2 ^ 11 → Open register count ≡ meaning latest (type1_write_header register count)
+write_means : (latest : Option ℕ) (register count : ℕ) → register < reg_number_count → count < type1_counts → Open register count ≡ meaning latest (type1_write_header register count)
 write_means latest register count h k =
     let sync : (type1_write_header register count == sync_word) ≡ false = grind (arith, nat_tests) in
     let ones : (type1_write_header register count == dummy_word) ≡ false = grind (arith, nat_tests) in
-    let zero_type : (type1_write_header register count / 2 ^ 29 == 0) ≡ false = grind (arith, nat_tests) in
-    let kind : type1_write_header register count / 2 ^ 27 ≡ type1_write_kind = omega arith in
+    let zero_type : (packet_type_of (type1_write_header register count) == 0) ≡ false = grind (arith, nat_tests) in
+    let kind : type_and_opcode_of (type1_write_header register count) ≡ type1_write_kind = omega arith in
     let named : register_of (type1_write_header register count) ≡ register = omega arith in
-    let number : type1_write_header register count % 2 ^ 11 ≡ count = omega arith in
+    let number : type1_count_of (type1_write_header register count) ≡ count = omega arith in
     rw (sync, ones, zero_type, kind, named, number) refl
 
-pub write_opens : (m : MachineState) (ps : List Packet) (register count : ℕ) → register < 32 → 0 < count → count < 2 ^ 11 → m.due ≡ 0 → MachineStandsFor m ps
-    → Grows ps ((type1_write_header register count, Open register count) ∷ []) (in_write register count)
+pub write_opens : (m : MachineState) (ps : List Packet) (register count : ℕ) → register < reg_number_count → 0 < count → count < type1_counts → m.due ≡ 0 → MachineStandsFor m ps
+    → HasTakenWords ps ((type1_write_header register count, Open register count) ∷ []) (in_write register count)
 write_opens m ps register count h some few none (inl a) = header_opens m (in_write register count) ps (type1_write_header register count) register count (omega arith) a (write_means m.latest register count h few) some refl refl refl
 write_opens m ps register count h some few none (inr a) = absurd (omega (arith, none, a.more))
 
 pub write_goes_on : (n : MachineState) (ps : List Packet) (register w : ℕ) → w < 2 ^ 32 → ends_session register w ≡ false → n.latest ≡ Some register → n.register ≡ register → n.due ≡ 0
-    → MachineStandsFor (in_write register 1) ps → Grows ps ((w, Payload register w) ∷ []) n
+    → MachineStandsFor (in_write register 1) ps → HasTakenWords ps ((w, Payload register w) ∷ []) n
 write_goes_on n ps register w f e l r d (inl a) = absurd (omega (arith, a.due))
 write_goes_on n ps register w f e l r d (inr a) = payload_goes (in_write register 1) n ps w f a e r l (omega arith)
 
-pub write_closes : (n : MachineState) (ps : List Packet) (register w : ℕ) → w < 2 ^ 32 → ends_session register w ≡ true → MachineStandsFor n [] → MachineStandsFor (in_write register 1) ps → Grows ps ((w, Payload register w) ∷ []) n
+pub write_closes : (n : MachineState) (ps : List Packet) (register w : ℕ) → w < 2 ^ 32 → ends_session register w ≡ true → MachineStandsFor n [] → MachineStandsFor (in_write register 1) ps → HasTakenWords ps ((w, Payload register w) ∷ []) n
 write_closes n ps register w f e s (inl a) = absurd (omega (arith, a.due))
 write_closes n ps register w f e s (inr a) = payload_ends (in_write register 1) n ps w f a e s
 
 pub words_go_on : (n : MachineState) (ps : List Packet) (register : ℕ) (ws : List ℕ) → AreWords ws → (register ≡ 4 → ⊥) → 0 < length ws → n.latest ≡ Some register → n.register ≡ register → n.due ≡ 0
-    → MachineStandsFor (in_write register (length ws)) ps → Grows ps (payload_steps register ws) n
+    → MachineStandsFor (in_write register (length ws)) ps → HasTakenWords ps (payload_steps register ws) n
 words_go_on n ps register ws f other some l r d (inl a) = absurd (omega (arith, a.due, some))
 words_go_on n ps register ws f other some l r d (inr a) = payload_goes_on (in_write register (length ws)) n ps ws f a other some r l (omega (arith, d))
 
@@ -61,17 +62,17 @@ fits_word : (w : ℕ) → AreBytes (bytes_of_word w)
 fits_word w = (omega arith, (omega arith, (omega arith, (omega arith, tt))))
 
 -- what a word more comes to, which goes on
-record GoesOn (n : CutterState) (bytes : List ℕ) (sessions : List Session) (gap : List ℕ) (packets : List Packet) (more : List (ℕ × Step)) : Type 0 where
+record GoesOn (n : CutterState) (bytes : List ℕ) (sessions : List EndedSession) (gap : List ℕ) (packets : List Packet) (more : List (ℕ × Step)) : Type 0 where
   new : Place
   stands : CutterStandsFor n bytes sessions new
   longer : LongerSession gap packets more sessions sessions new
 
-goes_on : (c n : CutterState) (w : ℕ) (step : Step) (bytes : List ℕ) (sessions : List Session) (gap tail : List ℕ) (packets : List Packet) → c.mode ≡ Mode.Synced → n.mode ≡ Mode.Synced → c.kept ≡ [] → n.kept ≡ []
-    → is_end step ≡ false → ((ps : List Packet) → MachineStandsFor c.machine ps → Grows ps ((w, step) ∷ []) n.machine)
+goes_on : (c n : CutterState) (w : ℕ) (step : Step) (bytes : List ℕ) (sessions : List EndedSession) (gap tail : List ℕ) (packets : List Packet) → c.mode ≡ Mode.Synced → n.mode ≡ Mode.Synced → c.kept ≡ [] → n.kept ≡ []
+    → is_end step ≡ false → ((ps : List Packet) → MachineStandsFor c.machine ps → HasTakenWords ps ((w, step) ∷ []) n.machine)
     → CutterStandsFor c bytes sessions (Synced gap packets tail) → GoesOn n (bytes ++ bytes_of_word w) sessions gap packets ((w, step) ∷ [])
 goes_on c n w step bytes sessions gap tail packets is to none none2 calm grows s =
     let h : MachineStandsFor c.machine packets × (tail ≡ c.kept) = rw is at s.at in
-    let g : Grows packets ((w, step) ∷ []) n.machine = grows packets h.0 in
+    let g : HasTakenWords packets ((w, step) ∷ []) n.machine = grows packets h.0 in
     let goes : MachineStandsFor n.machine g.packets = rw calm at g.stands in
     let joined : bytes ++ bytes_of_word w ≡ flat_map session_bytes sessions ++ (gap ++ sync_bytes ++ packet_bytes g.packets) =
     joined_more (flat_map session_bytes sessions) bytes gap tail (bytes_of_word w) (packet_bytes g.packets) (packet_bytes packets) (bytes_of_word w) s.reading.joined
@@ -91,7 +92,7 @@ goes_on c n w step bytes sessions gap tail packets is to none none2 calm grows s
     }
 
 pub takes_head : (c n : CutterState) (w : ℕ) (step : Step) → c.mode ≡ Mode.Synced → n.mode ≡ Mode.Synced → c.kept ≡ [] → n.kept ≡ [] → is_end step ≡ false
-    → ((ps : List Packet) → MachineStandsFor c.machine ps → Grows ps ((w, step) ∷ []) n.machine) → TakesAsOneRun c n (bytes_of_word w) (Head w step)
+    → ((ps : List Packet) → MachineStandsFor c.machine ps → HasTakenWords ps ((w, step) ∷ []) n.machine) → TakesAsOneRun c n (bytes_of_word w) (Head w step)
 takes_head c n w step is to none none2 calm grows bytes sessions (Searching gap) s = absurd (let h : AtPlace c Mode.Synced (Searching gap) = rw is at s.at in h)
 takes_head c n w step is to none none2 calm grows bytes sessions (Synced gap packets tail) s =
     let g : GoesOn n (bytes ++ bytes_of_word w) sessions gap packets ((w, step) ∷ []) = goes_on c n w step bytes sessions gap tail packets is to none none2 calm grows s in
@@ -101,7 +102,7 @@ pub takes_nop : (c : CutterState) → c.mode ≡ Mode.Synced → c.kept ≡ [] �
 takes_nop c is none due = takes_head c c no_op Nop is is none none refl (λ ps s. nop_grows c.machine ps due s)
 
 -- a header and a word that begin bytes
-pub begins_write : (bytes head word rest : List ℕ) (register h w : ℕ) → head ≡ take 4 bytes → rest ≡ drop 4 bytes → word ≡ take 4 rest → 8 ≤ length bytes → bytes_of_word h ≡ head → bytes_of_word w ≡ word → h ≡ type1_write_header register 1 → register < 32 → w < 2 ^ 32 → BeginsWrite bytes register w
+pub begins_write : (bytes head word rest : List ℕ) (register h w : ℕ) → head ≡ take 4 bytes → rest ≡ drop 4 bytes → word ≡ take 4 rest → 8 ≤ length bytes → bytes_of_word h ≡ head → bytes_of_word w ≡ word → h ≡ type1_write_header register 1 → register < reg_number_count → w < 2 ^ 32 → BeginsWrite bytes register w
 begins_write bytes head word rest register h w a r b long e f g range fits = record {
   range = range;
   fits = fits;
@@ -109,9 +110,11 @@ begins_write bytes head word rest register h w a r b long e f g range fits = rec
   are = take-add 4 4 bytes ∙ ap (λ t. t ++ take 4 (drop 4 bytes)) (sym a ∙ sym e ∙ ap bytes_of_word g) ∙ ap (λ t. bytes_of_word (type1_write_header register 1) ++ t) (ap (take 4) (sym r) ∙ sym b ∙ sym f);
 }
 
-pub writes_one : (old new : CutterState) (bs : List ℕ) (register w : ℕ) → old.mode ≡ Mode.Synced → new.mode ≡ (if ends_session register w then Mode.Searching else Mode.Synced) → (ends_session register w ≡ true → MatcherStandsFor new.matcher []) → old.kept ≡ [] → new.kept ≡ [] → BeginsWrite bs register w
-    → ((ps : List Packet) → MachineStandsFor old.machine ps → Grows ps ((type1_write_header register 1, Open register 1) ∷ []) (in_write register 1))
-    → ((ps : List Packet) → MachineStandsFor (in_write register 1) ps → Grows ps ((w, Payload register w) ∷ []) new.machine)
+pub writes_one : (old new : CutterState) (bs : List ℕ) (register w : ℕ) → old.mode ≡ Mode.Synced
+    → new.mode ≡ (if ends_session register w then Mode.Searching else Mode.Synced) → (ends_session register w ≡ true → MatcherStandsFor new.matcher [])
+    → old.kept ≡ [] → new.kept ≡ [] → BeginsWrite bs register w
+    → ((ps : List Packet) → MachineStandsFor old.machine ps → HasTakenWords ps ((type1_write_header register 1, Open register 1) ∷ []) (in_write register 1))
+    → ((ps : List Packet) → MachineStandsFor (in_write register 1) ps → HasTakenWords ps ((w, Payload register w) ∷ []) new.machine)
     → WritesOne old new bs register w
 writes_one old new bs register w is to matcher none none2 begins opens ends =
     let middle : CutterState = record { mode = Mode.Synced; matcher = old.matcher; machine = in_write register 1; kept = [] } in
@@ -135,12 +138,12 @@ first_four (a ∷ b ∷ c ∷ d ∷ bs) l = refl
 
 -- payload words of a register other than CMD, all that are due
 takes_words : (c n : CutterState) (register count : ℕ) (run : Bor (List ℕ)) → c.mode ≡ Mode.Synced → n.mode ≡ Mode.Synced → c.kept ≡ [] → n.kept ≡ [] → AreBytes run.now → length run.now ≡ 4 * count → 0 < count → (register ≡ 4 → ⊥)
-    → c.machine ≡ in_write register count → ((ps : List Packet) (ws : List ℕ) → AreWords ws → 0 < length ws → MachineStandsFor (in_write register (length ws)) ps → Grows ps (payload_steps register ws) n.machine) → TakesAsOneRun c n run.now (Body register run)
+    → c.machine ≡ in_write register count → ((ps : List Packet) (ws : List ℕ) → AreWords ws → 0 < length ws → MachineStandsFor (in_write register (length ws)) ps → HasTakenWords ps (payload_steps register ws) n.machine) → TakesAsOneRun c n run.now (Body register run)
 takes_words c n register count run is to none none2 fits long some other machine grows bytes sessions place s =
     let ws : List ℕ = words_of_bytes run.now in
     let number : length (words_of_bytes run.now) ≡ count = length_words run.now count long in
     let same : c.machine ≡ in_write register (length (words_of_bytes run.now)) = machine ∙ ap (in_write register) (sym number) in
-    let all : (ps : List Packet) → MachineStandsFor c.machine ps → Grows ps (payload_steps register (words_of_bytes run.now)) n.machine =
+    let all : (ps : List Packet) → MachineStandsFor c.machine ps → HasTakenWords ps (payload_steps register (words_of_bytes run.now)) n.machine =
     λ ps t. grows ps (words_of_bytes run.now) (words_fit run.now fits) (omega (arith, number, some)) (subst (λ (m : MachineState). MachineStandsFor m ps) same t) in
     let word : flat_map bytes_of_word (map (λ (x : ℕ × Step). x.0) (payload_steps register (words_of_bytes run.now))) ≡ c.kept ++ run.now =
     ap (flat_map bytes_of_word) (words_of_payload register (words_of_bytes run.now)) ∙ bytes_words run.now count fits long ∙ ap (λ t. t ++ run.now) (sym none) in
@@ -148,9 +151,9 @@ takes_words c n register count run is to none none2 fits long some other machine
     body_more c n bytes run.now sessions place register run s is all fits word none2 (to ∙ ap (λ (b : Bool). if b then Mode.Searching else Mode.Synced) (sym calm)) (λ e. absurd (let f : true ≡ false = sym e ∙ calm in cc))
 
 pub writes_short : (old new : CutterState) (bs : List ℕ) (head register count : ℕ) → old.mode ≡ Mode.Synced → new.mode ≡ Mode.Synced → old.kept ≡ [] → new.kept ≡ [] → longest_short_write ≤ length bs → AreBytes bs
-    → bytes_of_word head ≡ get_or bs 0 0 ∷ get_or bs 1 0 ∷ get_or bs 2 0 ∷ get_or bs 3 0 ∷ [] → head ≡ type1_write_header register count → register < 32 → (register ≡ 4 → ⊥) → 0 < count → count ≤ most_short_words
-    → ((ps : List Packet) (n : ℕ) → 0 < n → n < 2 ^ 11 → MachineStandsFor old.machine ps → Grows ps ((type1_write_header register n, Open register n) ∷ []) (in_write register n))
-    → ((ps : List Packet) (ws : List ℕ) → AreWords ws → 0 < length ws → MachineStandsFor (in_write register (length ws)) ps → Grows ps (payload_steps register ws) new.machine)
+    → bytes_of_word head ≡ get_or bs 0 0 ∷ get_or bs 1 0 ∷ get_or bs 2 0 ∷ get_or bs 3 0 ∷ [] → head ≡ type1_write_header register count → register < reg_number_count → (register ≡ 4 → ⊥) → 0 < count → count ≤ most_short_words
+    → ((ps : List Packet) (n : ℕ) → 0 < n → n < type1_counts → MachineStandsFor old.machine ps → HasTakenWords ps ((type1_write_header register n, Open register n) ∷ []) (in_write register n))
+    → ((ps : List Packet) (ws : List ℕ) → AreWords ws → 0 < length ws → MachineStandsFor (in_write register (length ws)) ps → HasTakenWords ps (payload_steps register ws) new.machine)
     → WritesShort old new bs register count
 writes_short old new bs head register count is to none none2 long fits e g range other some few opens goes =
     let middle : CutterState = record { mode = Mode.Synced; matcher = old.matcher; machine = in_write register count; kept = [] } in

@@ -10,8 +10,8 @@ use Rattle.x7_words.specs.Word.{AreBytes, AreWords, bytes_of_word, word_of_bytes
 use Rattle.x7_words.proofs.ListLemmas.{all_append, all_prefix, all_back, flat_map_last}
 use Rattle.x7_words.proofs.WordLemmas.{bytes_words, words_fit}
 use Rattle.x7_packets.specs.SyncWord.{sync_bytes, EndsWithSync}
-use Rattle.x7_packets.specs.Packet.{Packet, Packets, EachPacket, IsPacket, IsWhole, OnlyLastEnds, NoneEnds, latest_after, count_of, named_by, words, ended, last_ends}
-use Rattle.x7_packets.specs.Reading.{Place, Searching, Synced, Session, IsReading, IsSession, packet_bytes, session_bytes}
+use Rattle.x7_packets.specs.Packet.{Packet, HavePackets, EachPacket, IsPacket, IsWhole, OnlyLastEnds, NoneEnds, latest_after, count_of, named_by, words, ended, last_ends}
+use Rattle.x7_packets.specs.Reading.{Place, Searching, Synced, EndedSession, IsReading, IsEndedSession, packet_bytes, session_bytes}
 use Rattle.x7_packets.specs.ByHand.{header_packet, with_payload_word, with_word_after, packets_with_word, packets_of, AreOfOneSession, is_sync, last_four, before_last_four, Reading, with_session_byte, with_byte_at, with_byte, reading_of}
 use Rattle.x7_packets.proofs.PacketLemmas.{only_more, one_list}
 use Rattle.x7_packets.proofs.SyncLemmas.{none_yet, first_here, none_empty}
@@ -62,39 +62,39 @@ word_joined latest (p ∷ []) w = last_joined latest p w (nat_lt (length p.paylo
 word_joined latest (p ∷ q ∷ ps) w = ap (λ t. words p ++ t) (word_joined (latest_after latest p.step) (q ∷ ps) w) ∙ sym (append_assoc (words p) (flat_map words (q ∷ ps)) (w ∷ []))
 
 -- words after those of packets that were found
-words_after : (prefix back : List ℕ) (ps : List Packet) → AreWords back → ((more rest : List ℕ) (w : ℕ) → back ≡ more ++ w ∷ rest → ended (fold packets_with_word ps more) ≡ false) → Packets prefix ps → Packets (prefix ++ back) (fold packets_with_word ps back)
+words_after : (prefix back : List ℕ) (ps : List Packet) → AreWords back → ((more rest : List ℕ) (w : ℕ) → back ≡ more ++ w ∷ rest → ended (fold packets_with_word ps more) ≡ false) → HavePackets prefix ps → HavePackets (prefix ++ back) (fold packets_with_word ps back)
 words_after prefix [] ps f o a = rw append-nil a
 words_after prefix (w ∷ back) ps f o a =
-    let next : Packets (prefix ++ w ∷ []) (packets_with_word ps w) = record { joined = ap (λ t. t ++ w ∷ []) a.joined ∙ sym (word_joined None ps w); each = word_each None ps w f.0 a.each (o [] back w refl) } in
-    let all : Packets ((prefix ++ w ∷ []) ++ back) (fold packets_with_word (packets_with_word ps w) back) = words_after (prefix ++ w ∷ []) back (packets_with_word ps w) f.1 (λ more rest x e. o (w ∷ more) rest x (ap (λ t. w ∷ t) e)) next in
+    let next : HavePackets (prefix ++ w ∷ []) (packets_with_word ps w) = record { joined = ap (λ t. t ++ w ∷ []) a.joined ∙ sym (word_joined None ps w); each = word_each None ps w f.0 a.each (o [] back w refl) } in
+    let all : HavePackets ((prefix ++ w ∷ []) ++ back) (fold packets_with_word (packets_with_word ps w) back) = words_after (prefix ++ w ∷ []) back (packets_with_word ps w) f.1 (λ more rest x e. o (w ∷ more) rest x (ap (λ t. w ∷ t) e)) next in
     rw append_assoc at all
 
-pub packets_are_found : (ws : List ℕ) → AreWords ws → AreOfOneSession ws → Packets ws (packets_of ws)
+pub packets_are_found : (ws : List ℕ) → AreWords ws → AreOfOneSession ws → HavePackets ws (packets_of ws)
 packets_are_found ws f o = words_after [] ws [] f o (record { joined = refl; each = tt })
 
 -- the word that ends a session is the last of the words of packets
-goes_on : (ws prefix rest : List ℕ) (w : ℕ) (ps qs : List Packet) (b : Bool) → ended ps ≡ b → Packets ws qs → ws ≡ prefix ++ w ∷ rest → Packets prefix ps → ended ps ≡ false
+goes_on : (ws prefix rest : List ℕ) (w : ℕ) (ps qs : List Packet) (b : Bool) → ended ps ≡ b → HavePackets ws qs → ws ≡ prefix ++ w ∷ rest → HavePackets prefix ps → ended ps ≡ false
 goes_on ws prefix rest w ps qs true t a e b = absurd (let none : w ∷ rest ≡ [] = after_end None ps qs (w ∷ rest) b.each t a.each (ap (λ xs. xs ++ w ∷ rest) (sym b.joined) ∙ sym e ∙ a.joined) in cc)
 goes_on ws prefix rest w ps qs false t a e b = t
 
-none_early : (ws prefix back rest : List ℕ) (w : ℕ) (ps qs : List Packet) → Packets ws qs → ws ≡ prefix ++ (back ++ w ∷ rest) → AreWords back → Packets prefix ps → ended (fold packets_with_word ps back) ≡ false
+none_early : (ws prefix back rest : List ℕ) (w : ℕ) (ps qs : List Packet) → HavePackets ws qs → ws ≡ prefix ++ (back ++ w ∷ rest) → AreWords back → HavePackets prefix ps → ended (fold packets_with_word ps back) ≡ false
 none_early ws prefix [] rest w ps qs a e f b = goes_on ws prefix rest w ps qs (ended ps) refl a e b
 none_early ws prefix (x ∷ back) rest w ps qs a e f b =
     let calm : ended ps ≡ false = goes_on ws prefix (back ++ w ∷ rest) x ps qs (ended ps) refl a e b in
-    let next : Packets (prefix ++ x ∷ []) (packets_with_word ps x) = record { joined = ap (λ t. t ++ x ∷ []) b.joined ∙ sym (word_joined None ps x); each = word_each None ps x f.0 b.each calm } in
+    let next : HavePackets (prefix ++ x ∷ []) (packets_with_word ps x) = record { joined = ap (λ t. t ++ x ∷ []) b.joined ∙ sym (word_joined None ps x); each = word_each None ps x f.0 b.each calm } in
     none_early ws (prefix ++ x ∷ []) back rest w (packets_with_word ps x) qs a (e ∙ sym (append_assoc prefix (x ∷ []) (back ++ w ∷ rest))) f.1 next
 
-words_of_packets_fit : (ws : List ℕ) (ps : List Packet) → Packets ws ps → AreWords ws
+words_of_packets_fit : (ws : List ℕ) (ps : List Packet) → HavePackets ws ps → AreWords ws
 words_of_packets_fit ws ps a = rw a.joined (each_fits None ps a.each)
 
-pub one_session : (ws : List ℕ) (ps : List Packet) → Packets ws ps → AreOfOneSession ws
+pub one_session : (ws : List ℕ) (ps : List Packet) → HavePackets ws ps → AreOfOneSession ws
 one_session ws ps a prefix back w e =
     let fits : AreWords (prefix ++ w ∷ back) = rw e at (words_of_packets_fit ws ps a) in
     none_early ws [] prefix back w [] ps a e (all_prefix (λ x. x < 2 ^ 32) prefix (w ∷ back) fits) (record { joined = refl; each = tt })
 
-pub packets_are : (ws : List ℕ) (ps : List Packet) → Packets ws ps → ps ≡ packets_of ws
+pub packets_are : (ws : List ℕ) (ps : List Packet) → HavePackets ws ps → ps ≡ packets_of ws
 packets_are ws ps a =
-    let found : Packets ws (packets_of ws) = packets_are_found ws (words_of_packets_fit ws ps a) (one_session ws ps a) in
+    let found : HavePackets ws (packets_of ws) = packets_are_found ws (words_of_packets_fit ws ps a) (one_session ws ps a) in
     one_list None ps (packets_of ws) a.each found.each (sym a.joined ∙ found.joined)
 
 -- the four bytes of a list that is_sync takes are the sync word
@@ -122,7 +122,7 @@ abbrev Reads : List ℕ → Reading → Type 0
 Reads bytes r = IsReading bytes r.sessions r.place
 
 -- a gap with a byte more, by whether it ends with the sync word
-gap_more : (sessions : List Session) (bytes gap : List ℕ) (byte : ℕ) (b : Bool) → is_sync (last_four (gap ++ byte ∷ [])) ≡ b → AreBytes (bytes ++ byte ∷ []) → IsReading bytes sessions (Searching gap)
+gap_more : (sessions : List EndedSession) (bytes gap : List ℕ) (byte : ℕ) (b : Bool) → is_sync (last_four (gap ++ byte ∷ [])) ≡ b → AreBytes (bytes ++ byte ∷ []) → IsReading bytes sessions (Searching gap)
     → IsReading (bytes ++ byte ∷ []) sessions (if b then Synced (before_last_four (gap ++ byte ∷ [])) [] [] else Searching (gap ++ byte ∷ []))
 gap_more sessions bytes gap byte true e f r =
     let prefix : List ℕ = before_last_four (gap ++ byte ∷ []) in
@@ -142,7 +142,7 @@ gap_more sessions bytes gap byte false e f r = record {
 }
 
 -- a tail with a byte more that completes no word
-tail_more : (sessions : List Session) (bytes gap tail : List ℕ) (packets : List Packet) (byte : ℕ) → length tail < 3 → AreBytes (bytes ++ byte ∷ []) → IsReading bytes sessions (Synced gap packets tail)
+tail_more : (sessions : List EndedSession) (bytes gap tail : List ℕ) (packets : List Packet) (byte : ℕ) → length tail < 3 → AreBytes (bytes ++ byte ∷ []) → IsReading bytes sessions (Synced gap packets tail)
     → IsReading (bytes ++ byte ∷ []) sessions (Synced gap packets (tail ++ byte ∷ []))
 tail_more sessions bytes gap tail packets byte l f r = record {
   fits = f;
@@ -156,19 +156,19 @@ word_bytes : (packets : List Packet) (w : ℕ) → packet_bytes (packets_with_wo
 word_bytes packets w = ap (flat_map bytes_of_word) (word_joined None packets w) ∙ flat_map_last bytes_of_word (flat_map words packets) w
 
 -- a session with a word more, by whether the word ends it
-word_more : (sessions : List Session) (bytes gap tail : List ℕ) (packets : List Packet) (byte w : ℕ) (b : Bool) → ended (packets_with_word packets w) ≡ b → w < 2 ^ 32 → bytes_of_word w ≡ tail ++ byte ∷ []
+word_more : (sessions : List EndedSession) (bytes gap tail : List ℕ) (packets : List Packet) (byte w : ℕ) (b : Bool) → ended (packets_with_word packets w) ≡ b → w < 2 ^ 32 → bytes_of_word w ≡ tail ++ byte ∷ []
     → AreBytes (bytes ++ byte ∷ []) → IsReading bytes sessions (Synced gap packets tail)
     → Reads (bytes ++ byte ∷ []) (if b then record { sessions = sessions ++ record { gap = gap; packets = packets_with_word packets w } ∷ []; place = Searching [] } else record { sessions = sessions; place = Synced gap (packets_with_word packets w) [] })
 word_more sessions bytes gap tail packets byte w true e f four fits r =
     let all : List Packet = packets_with_word packets w in
     let grown : packet_bytes all ≡ packet_bytes packets ++ bytes_of_word w = word_bytes packets w in
     let joined : bytes ++ byte ∷ [] ≡ flat_map session_bytes sessions ++ (gap ++ sync_bytes ++ packet_bytes all) = joined_more (flat_map session_bytes sessions) bytes gap tail (byte ∷ []) (packet_bytes all) (packet_bytes packets) (bytes_of_word w) r.joined grown four in
-    let session : Session = record { gap = gap; packets = all } in
+    let session : EndedSession = record { gap = gap; packets = all } in
     let sessions_are : flat_map session_bytes (sessions ++ session ∷ []) ≡ flat_map session_bytes sessions ++ (gap ++ sync_bytes ++ packet_bytes all) = flat_map_last session_bytes sessions session in
     record {
       fits = fits;
       joined = joined ∙ sym sessions_are ∙ sym (append-nil (flat_map session_bytes (sessions ++ session ∷ [])));
-      each = all_append IsSession sessions (session ∷ []) r.each (record { first = r.ends.0; packets = word_each None packets w f r.ends.1 r.ends.2; ended = e }, tt);
+      each = all_append IsEndedSession sessions (session ∷ []) r.each (record { first = r.ends.0; packets = word_each None packets w f r.ends.1 r.ends.2; ended = e }, tt);
       ends = none_empty;
     }
 word_more sessions bytes gap tail packets byte w false e f four fits r =
@@ -183,7 +183,7 @@ word_more sessions bytes gap tail packets byte w false e f four fits r =
     }
 
 -- a session with a byte more
-session_more : (sessions : List Session) (bytes gap tail : List ℕ) (packets : List Packet) (byte : ℕ) → AreBytes tail → byte < 256 → length tail < 4 → AreBytes (bytes ++ byte ∷ []) → IsReading bytes sessions (Synced gap packets tail)
+session_more : (sessions : List EndedSession) (bytes gap tail : List ℕ) (packets : List Packet) (byte : ℕ) → AreBytes tail → byte < 256 → length tail < 4 → AreBytes (bytes ++ byte ∷ []) → IsReading bytes sessions (Synced gap packets tail)
     → Reads (bytes ++ byte ∷ []) (with_session_byte sessions gap packets tail byte)
 session_more sessions bytes gap [] packets byte t b l f r = tail_more sessions bytes gap [] packets byte (omega arith) f r
 session_more sessions bytes gap (x ∷ []) packets byte t b l f r = tail_more sessions bytes gap (x ∷ []) packets byte (omega arith) f r
@@ -196,7 +196,7 @@ session_more sessions bytes gap (x ∷ y ∷ z ∷ []) packets byte t b l f r =
     word_more sessions bytes gap (x ∷ y ∷ z ∷ []) packets byte w (ended (packets_with_word packets w)) refl small.0 four f r
 session_more sessions bytes gap (x ∷ y ∷ z ∷ u ∷ tail) packets byte t b l f r = absurd (omega arith)
 
-byte_more : (bytes : List ℕ) (sessions : List Session) (place : Place) (byte : ℕ) → byte < 256 → IsReading bytes sessions place → Reads (bytes ++ byte ∷ []) (with_byte_at sessions place byte)
+byte_more : (bytes : List ℕ) (sessions : List EndedSession) (place : Place) (byte : ℕ) → byte < 256 → IsReading bytes sessions place → Reads (bytes ++ byte ∷ []) (with_byte_at sessions place byte)
 byte_more bytes sessions (Searching gap) byte b r =
     gap_more sessions bytes gap byte (is_sync (last_four (gap ++ byte ∷ []))) refl (all_append (λ x. x < 256) bytes (byte ∷ []) r.fits (b, tt)) r
 byte_more bytes sessions (Synced gap packets tail) byte b r =
@@ -214,5 +214,5 @@ pub reading_is_found : (bytes : List ℕ) → AreBytes bytes → IsReading bytes
 reading_is_found bytes f = bytes_after [] bytes (record { sessions = []; place = Searching [] }) f (record { fits = tt; joined = refl; each = tt; ends = none_empty })
 
 -- the reading of bytes is the one that is found by hand
-pub reading_is : (bytes : List ℕ) (ss : List Session) (p : Place) → IsReading bytes ss p → (ss ≡ (reading_of bytes).sessions) × (p ≡ (reading_of bytes).place)
+pub reading_is : (bytes : List ℕ) (ss : List EndedSession) (p : Place) → IsReading bytes ss p → (ss ≡ (reading_of bytes).sessions) × (p ≡ (reading_of bytes).place)
 reading_is bytes ss p r = one_reading bytes ss (reading_of bytes).sessions p (reading_of bytes).place r (reading_is_found bytes r.fits)

@@ -5,11 +5,11 @@ use Rattle.std.proofs.lemmas.Grind.{flat_map-append}
 use Rattle.x7_words.specs.Word.{AreBytes, bytes_of_word}
 use Rattle.x7_words.proofs.ListLemmas.{all_append}
 use Rattle.x7_packets.specs.SyncWord.{sync_bytes, HasNoSync}
-use Rattle.x7_packets.specs.Matching.{MatcherStandsFor, Searched}
+use Rattle.x7_packets.specs.Matching.{MatcherStandsFor, IsSearchOutcome}
 use Rattle.x7_packets.specs.Packet.{Packet, words, stepped}
-use Rattle.x7_packets.specs.Machine.{MachineStandsFor, Grows, ends_by}
-use Rattle.x7_packets.specs.Reading.{Place, Searching, Synced, Session, IsReading, IsSession, packet_bytes, session_bytes}
-use Rattle.x7_packets.specs.Cutter.{CutterState, CutterStandsFor, AtPlace, Cuts, KeepsNone, LongerSession, AfterRun, run_steps}
+use Rattle.x7_packets.specs.Machine.{MachineStandsFor, HasTakenWords, ends_by}
+use Rattle.x7_packets.specs.Reading.{Place, Searching, Synced, EndedSession, IsReading, IsEndedSession, packet_bytes, session_bytes}
+use Rattle.x7_packets.specs.Cutter.{CutterState, CutterStandsFor, AtPlace, CutsRun, KeepsNone, LongerSession, AfterRun, run_steps}
 use Rattle.x7_packets.specs.declared.header.Step.{Step}
 use Rattle.x7_packets.specs.declared.header.Step.TheVariants.{Payload}
 use Rattle.x7_packets.specs.Mode.{Mode}
@@ -25,7 +25,7 @@ more_bytes : (bytes more : List ℕ) → AreBytes bytes → AreBytes more → Ar
 more_bytes = all_append (λ b. b < 256)
 
 -- fewer bytes than a word lacks
-pub kept_more : (c n : CutterState) (bytes more : List ℕ) (sessions : List Session) (place : Place) → CutterStandsFor c bytes sessions place
+pub kept_more : (c n : CutterState) (bytes more : List ℕ) (sessions : List EndedSession) (place : Place) → CutterStandsFor c bytes sessions place
     → c.mode ≡ Mode.Synced → n.mode ≡ Mode.Synced → n.machine ≡ c.machine → n.kept ≡ c.kept ++ more → length c.kept + length more < 4 → AreBytes more
     → AfterRun c n (bytes ++ more) sessions place Need
 kept_more c n bytes more sessions (Searching gap) s is to same kept short fits = absurd (let h : AtPlace c Mode.Synced (Searching gap) = rw is at s.at in h)
@@ -48,7 +48,7 @@ kept_more c n bytes more sessions (Synced gap packets tail) s is to same kept sh
     }
 
 -- the sync word is given
-pub sync_given : (c n : CutterState) (bytes : List ℕ) (sessions : List Session) (place : Place) → CutterStandsFor c bytes sessions place
+pub sync_given : (c n : CutterState) (bytes : List ℕ) (sessions : List EndedSession) (place : Place) → CutterStandsFor c bytes sessions place
     → c.mode ≡ Mode.SyncFound → n.mode ≡ Mode.Synced → n.machine ≡ c.machine → n.kept ≡ []
     → AfterRun c n (bytes ++ []) sessions place Sync
 sync_given c n bytes sessions (Searching gap) s is to same none = absurd (let h : AtPlace c Mode.SyncFound (Searching gap) = rw is at s.at in h)
@@ -66,14 +66,14 @@ sync_given c n bytes sessions (Synced gap packets tail) s is to same none =
     }
 
 -- bytes taken while searching, up to and including a sync word
-pub skip_found : (c n : CutterState) (bytes rest : List ℕ) (run : Bor (List ℕ)) (count : ℕ) (sessions : List Session) (place : Place)
+pub skip_found : (c n : CutterState) (bytes rest : List ℕ) (run : Bor (List ℕ)) (count : ℕ) (sessions : List EndedSession) (place : Place)
     → CutterStandsFor c bytes sessions place → c.mode ≡ Mode.Searching → n.mode ≡ Mode.SyncFound → n.machine ≡ c.machine
-    → ((gap : List ℕ) → MatcherStandsFor c.matcher gap → HasNoSync gap → Searched gap rest (Some count) n.matcher) → run.now ≡ take count rest → AreBytes (take count rest)
+    → ((gap : List ℕ) → MatcherStandsFor c.matcher gap → HasNoSync gap → IsSearchOutcome gap rest (Some count) n.matcher) → run.now ≡ take count rest → AreBytes (take count rest)
     → AfterRun c n (bytes ++ take count rest) sessions place (Skip run)
 skip_found c n bytes rest run count sessions (Synced gap packets tail) s is to same after e fits = absurd (let h : AtPlace c Mode.Searching (Synced gap packets tail) = rw is at s.at in h)
 skip_found c n bytes rest run count sessions (Searching gap) s is to same after e fits =
     let h : MatcherStandsFor c.matcher gap × MachineStandsFor c.machine [] = rw is at s.at in
-    let a : Searched gap rest (Some count) n.matcher = after gap h.0 s.reading.ends in
+    let a : IsSearchOutcome gap rest (Some count) n.matcher = after gap h.0 s.reading.ends in
     let taken : List ℕ = take count rest in
     let joined : bytes ++ take count rest ≡ flat_map session_bytes sessions ++ (a.0 ++ sync_bytes ++ [] ++ []) =
     ap (λ t. t ++ take count rest) s.reading.joined ∙ append_assoc (flat_map session_bytes sessions) gap (take count rest)
@@ -90,14 +90,14 @@ skip_found c n bytes rest run count sessions (Searching gap) s is to same after 
     }
 
 -- bytes taken while searching, without a sync word
-pub skip_all : (c n : CutterState) (bytes rest : List ℕ) (run : Bor (List ℕ)) (sessions : List Session) (place : Place)
+pub skip_all : (c n : CutterState) (bytes rest : List ℕ) (run : Bor (List ℕ)) (sessions : List EndedSession) (place : Place)
     → CutterStandsFor c bytes sessions place → c.mode ≡ Mode.Searching → n.mode ≡ Mode.Searching → n.machine ≡ c.machine
-    → ((gap : List ℕ) → MatcherStandsFor c.matcher gap → HasNoSync gap → Searched gap rest None n.matcher) → run.now ≡ rest → AreBytes rest
+    → ((gap : List ℕ) → MatcherStandsFor c.matcher gap → HasNoSync gap → IsSearchOutcome gap rest None n.matcher) → run.now ≡ rest → AreBytes rest
     → AfterRun c n (bytes ++ rest) sessions place (Skip run)
 skip_all c n bytes rest run sessions (Synced gap packets tail) s is to same after e fits = absurd (let h : AtPlace c Mode.Searching (Synced gap packets tail) = rw is at s.at in h)
 skip_all c n bytes rest run sessions (Searching gap) s is to same after e fits =
     let h : MatcherStandsFor c.matcher gap × MachineStandsFor c.machine [] = rw is at s.at in
-    let a : Searched gap rest None n.matcher = after gap h.0 s.reading.ends in
+    let a : IsSearchOutcome gap rest None n.matcher = after gap h.0 s.reading.ends in
     record {
       new_sessions = sessions;
       new_place = Searching (gap ++ rest);
@@ -118,20 +118,20 @@ not_sync_found true e f = absurd (cc)
 not_sync_found false e f = absurd (cc)
 
 -- what words more come to
-abbrev WordsMore : CutterState → List ℕ → List Session → List ℕ → List Packet → List (ℕ × Step) → Type 0
-WordsMore n bytes sessions gap packets more = (new_sessions : List Session) × (new : Place) × CutterStandsFor n bytes new_sessions new × LongerSession gap packets more sessions new_sessions new
+abbrev WordsMore : CutterState → List ℕ → List EndedSession → List ℕ → List Packet → List (ℕ × Step) → Type 0
+WordsMore n bytes sessions gap packets more = (new_sessions : List EndedSession) × (new : Place) × CutterStandsFor n bytes new_sessions new × LongerSession gap packets more sessions new_sessions new
 
 pub joined_more : (r bytes gap tail new new_session session word : List ℕ) → bytes ≡ r ++ (gap ++ sync_bytes ++ session ++ tail) → new_session ≡ session ++ word → word ≡ tail ++ new → bytes ++ new ≡ r ++ (gap ++ sync_bytes ++ new_session)
 joined_more r bytes gap tail new new_session session word e f g = rw (e, f, g) (simp append_assoc)
 
-by_end : (n : CutterState) (bytes new : List ℕ) (sessions : List Session) (gap tail : List ℕ) (packets : List Packet) (more : List (ℕ × Step)) (b : Bool)
-    → ends_by more ≡ b → IsReading bytes sessions (Synced gap packets tail) → (g : Grows packets more n.machine) → AreBytes new
+by_end : (n : CutterState) (bytes new : List ℕ) (sessions : List EndedSession) (gap tail : List ℕ) (packets : List Packet) (more : List (ℕ × Step)) (b : Bool)
+    → ends_by more ≡ b → IsReading bytes sessions (Synced gap packets tail) → (g : HasTakenWords packets more n.machine) → AreBytes new
     → flat_map bytes_of_word (map (λ (s : ℕ × Step). s.0) more) ≡ tail ++ new → n.kept ≡ [] → n.mode ≡ (if b then Mode.Searching else Mode.Synced) → (b ≡ true → MatcherStandsFor n.matcher [])
     → WordsMore n (bytes ++ new) sessions gap packets more
 by_end n bytes new sessions gap tail packets more true q r g fits word none to matcher =
     let joined : bytes ++ new ≡ flat_map session_bytes sessions ++ (gap ++ sync_bytes ++ packet_bytes g.packets) =
     joined_more (flat_map session_bytes sessions) bytes gap tail new _ _ _ r.joined (packet_bytes_grown packets g.packets more g.grown) word in
-    let session : Session = record { gap = gap; packets = g.packets } in
+    let session : EndedSession = record { gap = gap; packets = g.packets } in
     let sessions_are : flat_map session_bytes (sessions ++ session ∷ []) ≡ flat_map session_bytes sessions ++ (gap ++ sync_bytes ++ packet_bytes g.packets) =
     flat_map-append session_bytes sessions (session ∷ []) ∙ ap (λ t. flat_map session_bytes sessions ++ t) (append-nil _) in (
       sessions ++ session ∷ [],
@@ -140,7 +140,7 @@ by_end n bytes new sessions gap tail packets more true q r g fits word none to m
         reading = record {
           fits = more_bytes bytes new r.fits fits;
           joined = joined ∙ sym sessions_are ∙ sym (append-nil (flat_map session_bytes (sessions ++ session ∷ [])));
-          each = all_append IsSession sessions (session ∷ []) r.each (record { first = r.ends.0; packets = g.each; ended = g.end ∙ q }, tt);
+          each = all_append IsEndedSession sessions (session ∷ []) r.each (record { first = r.ends.0; packets = g.each; ended = g.end ∙ q }, tt);
           ends = none_empty;
         };
         at = rw to (matcher refl, (let h : MachineStandsFor n.machine [] = rw q at g.stands in h));
@@ -164,9 +164,9 @@ by_end n bytes new sessions gap tail packets more false q r g fits word none to 
       record { all = g.packets; grown = g.grown; end = g.end; ends = λ e. absurd (let f : false ≡ true = sym (g.end ∙ q) ∙ e in cc); goes_on = λ e. (refl, refl) },
     )
 
-words_more : (c n : CutterState) (bytes new : List ℕ) (sessions : List Session) (gap tail : List ℕ) (packets : List Packet) (more : List (ℕ × Step))
+words_more : (c n : CutterState) (bytes new : List ℕ) (sessions : List EndedSession) (gap tail : List ℕ) (packets : List Packet) (more : List (ℕ × Step))
     → CutterStandsFor c bytes sessions (Synced gap packets tail) → c.mode ≡ Mode.Synced
-    → ((ps : List Packet) → MachineStandsFor c.machine ps → Grows ps more n.machine) → AreBytes new
+    → ((ps : List Packet) → MachineStandsFor c.machine ps → HasTakenWords ps more n.machine) → AreBytes new
     → flat_map bytes_of_word (map (λ (s : ℕ × Step). s.0) more) ≡ c.kept ++ new → n.kept ≡ []
     → n.mode ≡ (if ends_by more then Mode.Searching else Mode.Synced) → (ends_by more ≡ true → MatcherStandsFor n.matcher [])
     → WordsMore n (bytes ++ new) sessions gap packets more
@@ -174,9 +174,9 @@ words_more c n bytes new sessions gap tail packets more s is grows fits word non
     let h : MachineStandsFor c.machine packets × (tail ≡ c.kept) = rw is at s.at in
     by_end n bytes new sessions gap tail packets more (ends_by more) refl s.reading (grows packets h.0) fits (word ∙ ap (λ t. t ++ new) (sym h.1)) none to matcher
 
-pub head_more : (c n : CutterState) (bytes new : List ℕ) (sessions : List Session) (place : Place) (w : ℕ) (step : Step)
+pub head_more : (c n : CutterState) (bytes new : List ℕ) (sessions : List EndedSession) (place : Place) (w : ℕ) (step : Step)
     → CutterStandsFor c bytes sessions place → c.mode ≡ Mode.Synced
-    → ((ps : List Packet) → MachineStandsFor c.machine ps → Grows ps ((w, step) ∷ []) n.machine) → AreBytes new
+    → ((ps : List Packet) → MachineStandsFor c.machine ps → HasTakenWords ps ((w, step) ∷ []) n.machine) → AreBytes new
     → bytes_of_word w ≡ c.kept ++ new → n.kept ≡ [] → n.mode ≡ (if ends_by ((w, step) ∷ []) then Mode.Searching else Mode.Synced) → (ends_by ((w, step) ∷ []) ≡ true → MatcherStandsFor n.matcher [])
     → AfterRun c n (bytes ++ new) sessions place (Head w step)
 head_more c n bytes new sessions (Searching gap) w step s is grows fits word none to matcher = absurd (let h : AtPlace c Mode.Synced (Searching gap) = rw is at s.at in h)
@@ -184,9 +184,9 @@ head_more c n bytes new sessions (Synced gap packets tail) w step s is grows fit
     let m = words_more c n bytes new sessions gap tail packets ((w, step) ∷ []) s is grows fits (append-nil (bytes_of_word w) ∙ word) none to matcher in
     record { new_sessions = m.0; new_place = m.1; stands = m.2; adds = m.3; mode_changes = (λ e. absurd (let f : Mode.Synced ≡ Mode.SyncFound = sym is ∙ e in cc), λ e. absurd (not_sync_found (ends_by ((w, step) ∷ [])) to e)) }
 
-pub word_more : (c n : CutterState) (bytes new : List ℕ) (sessions : List Session) (place : Place) (register w : ℕ)
+pub word_more : (c n : CutterState) (bytes new : List ℕ) (sessions : List EndedSession) (place : Place) (register w : ℕ)
     → CutterStandsFor c bytes sessions place → c.mode ≡ Mode.Synced
-    → ((ps : List Packet) → MachineStandsFor c.machine ps → Grows ps ((w, Payload register w) ∷ []) n.machine) → AreBytes new
+    → ((ps : List Packet) → MachineStandsFor c.machine ps → HasTakenWords ps ((w, Payload register w) ∷ []) n.machine) → AreBytes new
     → bytes_of_word w ≡ c.kept ++ new → n.kept ≡ [] → n.mode ≡ (if ends_by ((w, Payload register w) ∷ []) then Mode.Searching else Mode.Synced) → (ends_by ((w, Payload register w) ∷ []) ≡ true → MatcherStandsFor n.matcher [])
     → AfterRun c n (bytes ++ new) sessions place (Word register w)
 word_more c n bytes new sessions (Searching gap) register w s is grows fits word none to matcher = absurd (let h : AtPlace c Mode.Synced (Searching gap) = rw is at s.at in h)
@@ -194,9 +194,9 @@ word_more c n bytes new sessions (Synced gap packets tail) register w s is grows
     let m = words_more c n bytes new sessions gap tail packets ((w, Payload register w) ∷ []) s is grows fits (append-nil (bytes_of_word w) ∙ word) none to matcher in
     record { new_sessions = m.0; new_place = m.1; stands = m.2; adds = m.3; mode_changes = (λ e. absurd (let f : Mode.Synced ≡ Mode.SyncFound = sym is ∙ e in cc), λ e. absurd (not_sync_found (ends_by ((w, Payload register w) ∷ [])) to e)) }
 
-pub body_more : (c n : CutterState) (bytes new : List ℕ) (sessions : List Session) (place : Place) (register : ℕ) (run : Bor (List ℕ))
+pub body_more : (c n : CutterState) (bytes new : List ℕ) (sessions : List EndedSession) (place : Place) (register : ℕ) (run : Bor (List ℕ))
     → CutterStandsFor c bytes sessions place → c.mode ≡ Mode.Synced
-    → ((ps : List Packet) → MachineStandsFor c.machine ps → Grows ps (run_steps (Body register run)) n.machine) → AreBytes new
+    → ((ps : List Packet) → MachineStandsFor c.machine ps → HasTakenWords ps (run_steps (Body register run)) n.machine) → AreBytes new
     → flat_map bytes_of_word (map (λ (s : ℕ × Step). s.0) (run_steps (Body register run))) ≡ c.kept ++ new → n.kept ≡ [] → n.mode ≡ (if ends_by (run_steps (Body register run)) then Mode.Searching else Mode.Synced) → (ends_by (run_steps (Body register run)) ≡ true → MatcherStandsFor n.matcher [])
     → AfterRun c n (bytes ++ new) sessions place (Body register run)
 body_more c n bytes new sessions (Searching gap) register run s is grows fits word none to matcher = absurd (let h : AtPlace c Mode.Synced (Searching gap) = rw is at s.at in h)
@@ -207,8 +207,8 @@ body_more c n bytes new sessions (Synced gap packets tail) register run s is gro
 -- a call that skipped bytes, up to and including a sync word
 pub cuts_found : (c n : CutterState) (rest : List ℕ) (run : Bor (List ℕ)) (count taken : ℕ)
     → c.mode ≡ Mode.Searching → n.mode ≡ Mode.SyncFound → n.machine ≡ c.machine → c.kept ≡ [] → n.kept ≡ [] → 0 < count → count ≤ length rest → taken ≡ count
-    → ((gap : List ℕ) → MatcherStandsFor c.matcher gap → HasNoSync gap → Searched gap rest (Some count) n.matcher) → run.now ≡ take count rest → AreBytes (take count rest)
-    → Cuts c n rest taken (Skip run)
+    → ((gap : List ℕ) → MatcherStandsFor c.matcher gap → HasNoSync gap → IsSearchOutcome gap rest (Some count) n.matcher) → run.now ≡ take count rest → AreBytes (take count rest)
+    → CutsRun c n rest taken (Skip run)
 cuts_found c n rest run count taken is to same none none2 some most t after e fits =
     let long : length run.now ≡ count = ap length e ∙ length-take-le count rest most in
     rw t (record {
@@ -224,8 +224,8 @@ cuts_found c n rest run count taken is to same none none2 some most t after e fi
 -- a call that skipped all bytes
 pub cuts_all : (c n : CutterState) (rest : List ℕ) (run : Bor (List ℕ)) (taken : ℕ)
     → c.mode ≡ Mode.Searching → n.mode ≡ Mode.Searching → n.machine ≡ c.machine → c.kept ≡ [] → n.kept ≡ [] → 0 < length rest → taken ≡ length rest
-    → ((gap : List ℕ) → MatcherStandsFor c.matcher gap → HasNoSync gap → Searched gap rest None n.matcher) → run.now ≡ rest → AreBytes rest
-    → Cuts c n rest taken (Skip run)
+    → ((gap : List ℕ) → MatcherStandsFor c.matcher gap → HasNoSync gap → IsSearchOutcome gap rest None n.matcher) → run.now ≡ rest → AreBytes rest
+    → CutsRun c n rest taken (Skip run)
 cuts_all c n rest run taken is to same none none2 some t after e fits =
     let long : length run.now ≡ length rest = ap length e in
     let all : take (length rest) rest ≡ rest = take_all (length rest) rest (omega arith) in

@@ -6,7 +6,7 @@ use Rattle.x7_packets.specs.Ended.{HasEnded, newest_ends}
 use Rattle.x7_packets.specs.ByHand.{reading_of}
 use Rattle.x7_packets.specs.History.{History, Write, entered, entered_all, entered_sessions, entry, history, history_of}
 use Rattle.x7_packets.specs.Packet.{Packet, ended, last_ends, named_by, payload_steps, stepped}
-use Rattle.x7_packets.specs.Reading.{IsSession, Place, Searching, Session, Synced, is_synced, session_bytes}
+use Rattle.x7_packets.specs.Reading.{EndedSession, IsEndedSession, Place, Searching, Synced, is_synced, session_bytes}
 use Rattle.x7_packets.proofs.ByHandLemmas.{reading_is_found}
 use Rattle.x7_packets.proofs.HistoryLemmas.{entered_all_append}
 
@@ -23,13 +23,13 @@ packets_end n (p ∷ q ∷ packets) h e =
     ap newest_ends (entered_all_append n (stepped p) (flat_map stepped (q ∷ packets)) h)
     ∙ packets_end (n + 4 * length (stepped p)) (q ∷ packets) (entered_all n (stepped p) h) e
 
-sessions_end : (n : ℕ) (sessions : List Session) (h : History) → AllByRecursion IsSession sessions → HasEnded h → HasEnded (entered_sessions n sessions h)
+sessions_end : (n : ℕ) (sessions : List EndedSession) (h : History) → AllByRecursion IsEndedSession sessions → HasEnded h → HasEnded (entered_sessions n sessions h)
 sessions_end n [] h a e = e
 sessions_end n (s ∷ sessions) h a e =
     sessions_end (n + length (session_bytes s)) sessions (entered_all (n + length s.gap + 4) (flat_map stepped s.packets) h) a.1
     (inr (packets_end (n + length s.gap + 4) s.packets h a.0.ended))
 
-searching_ended : (sessions : List Session) (place : Place) → AllByRecursion IsSession sessions → is_synced place ≡ false → HasEnded (history sessions place)
+searching_ended : (sessions : List EndedSession) (place : Place) → AllByRecursion IsEndedSession sessions → is_synced place ≡ false → HasEnded (history sessions place)
 searching_ended sessions (Searching gap) a e = sessions_end 0 sessions [] a (inl refl)
 searching_ended sessions (Synced gap packets tail) a e = absurd (cc)
 

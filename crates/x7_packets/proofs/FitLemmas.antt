@@ -1,26 +1,28 @@
 -- The accesses of a reading have registers of five bits and words of 32.
-use Rattle.std.proofs.Common.{ℕ, ◌+◌, ◌/◌, ◌%◌, ◌^◌, ◌<◌, ◌==◌, ◌||◌, Bool, true, false, if◌then◌else◌, List, [], ◌∷◌, Option, None, Some, length, arith}
+use Rattle.std.proofs.Common.{ℕ, ◌+◌, ◌^◌, ◌<◌, ◌==◌, ◌||◌, Bool, true, false, if◌then◌else◌, List, [], ◌∷◌, Option, None, Some, length, arith}
 use Rattle.std.specs.List.{flat_map, AllByRecursion}
 use Rattle.x7_words.specs.Word.{AreWords}
 use Rattle.x7_words.proofs.ListLemmas.{all_append}
 use Rattle.x7_packets.specs.declared.header.Step.{Step}
 use Rattle.x7_packets.specs.declared.header.Step.TheVariants.{Filler, Nop, Open, Payload, Read, Bad}
-use Rattle.x7_packets.specs.Packet.{Packet, EachPacket, IsPacket, type_and_opcode_of, register_of, type2_meaning, meaning, named_by, payload_steps, stepped, latest_after}
-use Rattle.x7_packets.specs.Reading.{Place, Searching, Synced, Session, IsReading, IsSession, IsPlace, session_bytes}
+use Rattle.x7_packets.specs.Packet.{Packet, EachPacket, IsPacket, type_and_opcode_of, register_of, type2_meaning, meaning, named_by, payload_steps, stepped, latest_after, packet_type_of, type1_count_of, type2_count_of}
+use Rattle.x7_packets.specs.Reading.{Place, Searching, Synced, EndedSession, IsReading, IsEndedSession, IsPlace, session_bytes}
 use Rattle.x7_packets.specs.History as access
 use Rattle.x7_packets.specs.History.{History, AllFit, entry, entered, entered_all, entered_sessions, entered_place, history}
+use Rattle.x7_regs.specs.Register.{reg_number_count}
+use Rattle.x7_packets.specs.PacketWords.{type2_counts, sync_word, dummy_word, no_op_kind, type1_write_kind, type1_read_kind, type2_write_kind, type2_read_kind}
 
 -- the step can come of words of 32 bits
 abbrev FitsStep : Step → Type 0
-FitsStep (Open register count) = register < 2 ^ 5
-FitsStep (Payload register w) = (register < 2 ^ 5) × (w < 2 ^ 32)
-FitsStep (Read register count) = (register < 2 ^ 5) × (count < 2 ^ 27)
+FitsStep (Open register count) = register < reg_number_count
+FitsStep (Payload register w) = (register < reg_number_count) × (w < 2 ^ 32)
+FitsStep (Read register count) = (register < reg_number_count) × (count < type2_counts)
 FitsStep (Bad w) = w < 2 ^ 32
 FitsStep _ = Unit {0}
 
 abbrev FitsLatest : Option ℕ → Type 0
 FitsLatest None = Unit {0}
-FitsLatest (Some register) = register < 2 ^ 5
+FitsLatest (Some register) = register < reg_number_count
 
 abbrev AllSteps : List (ℕ × Step) → Type 0
 AllSteps = AllByRecursion (λ (s : ℕ × Step). FitsStep s.1)
@@ -32,15 +34,15 @@ by_test false s t f g = g
 long_fits : (latest : Option ℕ) (w : ℕ) → w < 2 ^ 32 → FitsLatest latest → FitsStep (type2_meaning latest w)
 long_fits None w f l = f
 long_fits (Some register) w f l =
-    by_test (type_and_opcode_of w == 10) (Open register (w % 2 ^ 27)) _ l
-    (by_test (type_and_opcode_of w == 9) (Read register (w % 2 ^ 27)) (Bad w) (l, omega arith) f)
+    by_test (type_and_opcode_of w == type2_write_kind) (Open register (type2_count_of w)) _ l
+    (by_test (type_and_opcode_of w == type2_read_kind) (Read register (type2_count_of w)) (Bad w) (l, omega arith) f)
 
 meaning_fits : (latest : Option ℕ) (w : ℕ) → w < 2 ^ 32 → FitsLatest latest → FitsStep (meaning latest w)
 meaning_fits latest w f l =
-    by_test (w == 0xAA995566 || w == 0xFFFFFFFF || w / 2 ^ 29 == 0) Filler _ tt
-    (by_test (type_and_opcode_of w == 4) Nop _ tt
-    (by_test (type_and_opcode_of w == 6) (Open (register_of w) (w % 2 ^ 11)) _ (omega arith)
-    (by_test (type_and_opcode_of w == 5) (Read (register_of w) (w % 2 ^ 11)) _ (omega arith, omega arith) (long_fits latest w f l))))
+    by_test (w == sync_word || w == dummy_word || packet_type_of w == 0) Filler _ tt
+    (by_test (type_and_opcode_of w == no_op_kind) Nop _ tt
+    (by_test (type_and_opcode_of w == type1_write_kind) (Open (register_of w) (type1_count_of w)) _ (omega arith)
+    (by_test (type_and_opcode_of w == type1_read_kind) (Read (register_of w) (type1_count_of w)) _ (omega arith, omega arith) (long_fits latest w f l))))
 
 latest_fits : (latest : Option ℕ) (s : Step) → FitsLatest latest → FitsStep s → FitsLatest (latest_after latest s)
 latest_fits latest (Open register count) l f = f
@@ -50,11 +52,11 @@ latest_fits latest (Bad w) l f = l
 latest_fits latest Filler l f = l
 latest_fits latest Nop l f = l
 
-payload_fits : (register : ℕ) (ws : List ℕ) → register < 2 ^ 5 → AreWords ws → AllSteps (payload_steps register ws)
+payload_fits : (register : ℕ) (ws : List ℕ) → register < reg_number_count → AreWords ws → AllSteps (payload_steps register ws)
 payload_fits register [] r f = tt
 payload_fits register (w ∷ ws) r f = ((r, f.0), payload_fits register ws r f.1)
 
-named_fits : (s : Step) → FitsStep s → named_by s < 2 ^ 5
+named_fits : (s : Step) → FitsStep s → named_by s < reg_number_count
 named_fits (Open register count) f = f
 named_fits (Payload register w) f = omega arith
 named_fits (Read register count) f = f.0
@@ -91,7 +93,7 @@ all_enter_fits : (place : ℕ) (ss : List (ℕ × Step)) (h : History) → AllSt
 all_enter_fits place [] h f a = a
 all_enter_fits place (s ∷ ss) h f a = all_enter_fits (place + 4) ss (entered (place + 4) s.1 h) f.1 (entered_fits (place + 4) s.1 h f.0 a)
 
-sessions_fit : (place : ℕ) (ss : List Session) (h : History) → AllByRecursion IsSession ss → AllFit h → AllFit (entered_sessions place ss h)
+sessions_fit : (place : ℕ) (ss : List EndedSession) (h : History) → AllByRecursion IsEndedSession ss → AllFit h → AllFit (entered_sessions place ss h)
 sessions_fit place [] h i a = a
 sessions_fit place (s ∷ ss) h i a = sessions_fit (place + length (session_bytes s)) ss _ i.1 (all_enter_fits (place + length s.gap + 4) (flat_map stepped s.packets) h (packets_fit None s.packets tt i.0.packets) a)
 
@@ -99,5 +101,5 @@ place_fits : (n : ℕ) (place : Place) (h : History) → IsPlace place → AllFi
 place_fits n (Searching gap) h i a = a
 place_fits n (Synced gap packets tail) h i a = all_enter_fits (n + length gap + 4) (flat_map stepped packets) h (packets_fit None packets tt i.1) a
 
-pub accesses_fit : (bytes : List ℕ) (sessions : List Session) (place : Place) → IsReading bytes sessions place → AllFit (history sessions place)
+pub accesses_fit : (bytes : List ℕ) (sessions : List EndedSession) (place : Place) → IsReading bytes sessions place → AllFit (history sessions place)
 accesses_fit bytes sessions place r = place_fits (length (flat_map session_bytes sessions)) place _ r.ends (sessions_fit 0 sessions [] r.each tt)

@@ -9,7 +9,7 @@ use Rattle.x7_words.proofs.ListLemmas.{all_prefix}
 use Rattle.x7_packets.specs.declared.header.Step.{Step}
 use Rattle.x7_packets.specs.declared.header.Step.TheVariants as step
 use Rattle.x7_packets.specs.Packet.{Packet, count_of, ended, latest_after, meaning, named_by, stepped}
-use Rattle.x7_packets.specs.Reading.{Place, Searching, Synced, Session, IsReading}
+use Rattle.x7_packets.specs.Reading.{Place, Searching, Synced, EndedSession, IsReading}
 use Rattle.x7_packets.specs.ByHand.{before_last_four, header_packet, is_sync, last_four, Reading, reading_of, with_byte, with_byte_at, with_payload_word, with_session_byte, packets_with_word, with_word_after}
 use Rattle.x7_packets.specs.History.{Access, AllAfter, Bad, entered, entered_all, entered_sessions, entry, History, history, history_of, next_word, Placed, Read, until, Write}
 use Rattle.x7_packets.proofs.ByHandLemmas.{reading_is_found}
@@ -50,14 +50,14 @@ packets_grow latest (p ∷ q ∷ ps) w =
     (r.0, ap (λ t. stepped p ++ t) r.1 ∙ sym (append_assoc (stepped p) (flat_map stepped (q ∷ ps)) (r.0 ∷ [])))
 
 -- a session with one word more, by whether the word ends it
-closed_enters : (sessions : List Session) (gap tail : List ℕ) (packets all : List Packet) (place : ℕ) (b : Bool) → OneWordMore packets all → next_word sessions (Synced gap packets tail) + 4 ≡ place
+closed_enters : (sessions : List EndedSession) (gap tail : List ℕ) (packets all : List Packet) (place : ℕ) (b : Bool) → OneWordMore packets all → next_word sessions (Synced gap packets tail) + 4 ≡ place
     → (let r : Reading = if b then record { sessions = sessions ++ record { gap = gap; packets = all } ∷ []; place = Searching [] } else record { sessions = sessions; place = Synced gap all [] } in
     OneMore place (history sessions (Synced gap packets tail)) (history r.sessions r.place))
 closed_enters sessions gap tail packets all place true g e = word_enters (next_word sessions (Synced gap packets tail)) place g.0 _ _ (grown_ends gap tail packets all (g.0 ∷ []) sessions g.1) e
 closed_enters sessions gap tail packets all place false g e = word_enters (next_word sessions (Synced gap packets tail)) place g.0 _ _ (grown_goes_on gap tail packets all (g.0 ∷ []) sessions g.1) e
 
 -- a session with one byte more
-session_enters : (bytes : List ℕ) (sessions : List Session) (gap tail : List ℕ) (packets : List Packet) (x : ℕ) → IsReading bytes sessions (Synced gap packets tail)
+session_enters : (bytes : List ℕ) (sessions : List EndedSession) (gap tail : List ℕ) (packets : List Packet) (x : ℕ) → IsReading bytes sessions (Synced gap packets tail)
     → (let r : Reading = with_session_byte sessions gap packets tail x in OneMore (length bytes + 1) (history sessions (Synced gap packets tail)) (history r.sessions r.place))
 session_enters bytes sessions gap [] packets x r = inl refl
 session_enters bytes sessions gap (a ∷ []) packets x r = inl refl
@@ -69,11 +69,11 @@ session_enters bytes sessions gap (a ∷ b ∷ c ∷ []) packets x r =
 session_enters bytes sessions gap (a ∷ b ∷ c ∷ d ∷ tail) packets x r = inl refl
 
 -- a gap enters nothing, whether it ends with the sync word or not
-gap_enters : (sessions : List Session) (prefix gap : List ℕ) (b : Bool) → history sessions (if b then Synced prefix [] [] else Searching gap) ≡ entered_sessions 0 sessions []
+gap_enters : (sessions : List EndedSession) (prefix gap : List ℕ) (b : Bool) → history sessions (if b then Synced prefix [] [] else Searching gap) ≡ entered_sessions 0 sessions []
 gap_enters sessions prefix gap true = refl
 gap_enters sessions prefix gap false = refl
 
-place_enters : (bytes : List ℕ) (sessions : List Session) (place : Place) (x : ℕ) → IsReading bytes sessions place
+place_enters : (bytes : List ℕ) (sessions : List EndedSession) (place : Place) (x : ℕ) → IsReading bytes sessions place
     → (let r : Reading = with_byte_at sessions place x in OneMore (length bytes + 1) (history sessions place) (history r.sessions r.place))
 place_enters bytes sessions (Searching gap) x r = inl (gap_enters sessions (before_last_four (gap ++ x ∷ [])) (gap ++ x ∷ []) (is_sync (last_four (gap ++ x ∷ []))))
 place_enters bytes sessions (Synced gap packets tail) x r = session_enters bytes sessions gap tail packets x r

@@ -11,11 +11,11 @@ use Rattle.x7_packets.specs.declared.header.Step.TheVariants.{Nop}
 use Rattle.x7_packets.specs.Mode.{Mode}
 use Rattle.x7_packets.specs.Cutter.{AtPlace, CutterState, CutterStandsFor}
 use Rattle.x7_packets.specs.History.{history}
-use Rattle.x7_packets.specs.Nops.{Idles, equal_bytes, nop_bytes}
+use Rattle.x7_packets.specs.Nops.{IdlesThrough, equal_bytes, nop_bytes}
 use Rattle.x7_packets.specs.PacketWords.{no_op}
 use Rattle.x7_packets.specs.Packet.{Packet}
-use Rattle.x7_packets.specs.Reading.{Place, Searching, Session, Synced, packet_bytes, session_bytes}
-use Rattle.x7_packets.specs.Machine.{Grows, MachineStandsFor, MachineState}
+use Rattle.x7_packets.specs.Reading.{EndedSession, Place, Searching, Synced, packet_bytes, session_bytes}
+use Rattle.x7_packets.specs.Machine.{HasTakenWords, MachineStandsFor, MachineState}
 use Rattle.x7_packets.proofs.CutLemmas.{joined_more, packet_bytes_grown}
 use Rattle.x7_packets.proofs.HistoryLemmas.{grown_goes_on}
 use Rattle.x7_packets.proofs.TakeLemmas.{header_whole}
@@ -40,23 +40,23 @@ equal_taken k w bytes fits l e =
 
 -- ---- a machine in a header's place
 
-pub nop_grows : (m : MachineState) (ps : List Packet) → m.due ≡ 0 → MachineStandsFor m ps → Grows ps ((no_op, Nop) ∷ []) m
+pub nop_grows : (m : MachineState) (ps : List Packet) → m.due ≡ 0 → MachineStandsFor m ps → HasTakenWords ps ((no_op, Nop) ∷ []) m
 nop_grows m ps none (inl a) = header_whole m m ps no_op Nop (omega arith) a refl refl refl none
 nop_grows m ps none (inr a) = absurd (omega (arith, none, a.more))
 
 -- ---- a cutter
 
-record AfterNops (c : CutterState) (bytes : List ℕ) (sessions : List Session) (gap : List ℕ) (packets : List Packet) : Type 0 where
+record AfterNops (c : CutterState) (bytes : List ℕ) (sessions : List EndedSession) (gap : List ℕ) (packets : List Packet) : Type 0 where
   all : List Packet
   stands : CutterStandsFor c bytes sessions (Synced gap all [])
   nothing : history sessions (Synced gap all []) ≡ history sessions (Synced gap packets [])
 
-one_nop : (c : CutterState) (bytes : List ℕ) (sessions : List Session) (gap : List ℕ) (packets : List Packet) → c.mode ≡ Mode.Synced → c.machine.due ≡ 0
+one_nop : (c : CutterState) (bytes : List ℕ) (sessions : List EndedSession) (gap : List ℕ) (packets : List Packet) → c.mode ≡ Mode.Synced → c.machine.due ≡ 0
     → CutterStandsFor c bytes sessions (Synced gap packets []) → AfterNops c (bytes ++ bytes_of_word no_op) sessions gap packets
 one_nop c bytes sessions gap packets synced none s =
     let word : List ℕ = bytes_of_word no_op in
     let h : MachineStandsFor c.machine packets × ([] ≡ c.kept) = rw synced at s.at in
-    let g : Grows packets ((no_op, Nop) ∷ []) c.machine = nop_grows c.machine packets none h.0 in
+    let g : HasTakenWords packets ((no_op, Nop) ∷ []) c.machine = nop_grows c.machine packets none h.0 in
     let fits : AreBytes word = (omega arith, (omega arith, (omega arith, (omega arith, tt)))) in
     let joined : bytes ++ word ≡ flat_map session_bytes sessions ++ (gap ++ sync_bytes ++ packet_bytes g.packets) =
     joined_more (flat_map session_bytes sessions) bytes gap [] word (packet_bytes g.packets) (packet_bytes packets) word s.reading.joined
@@ -75,7 +75,7 @@ one_nop c bytes sessions gap packets synced none s =
       nothing = grown_goes_on gap [] packets g.packets ((no_op, Nop) ∷ []) sessions g.grown;
     }
 
-all_nops : (k : ℕ) (c : CutterState) (bytes : List ℕ) (sessions : List Session) (gap : List ℕ) (packets : List Packet) → c.mode ≡ Mode.Synced → c.machine.due ≡ 0
+all_nops : (k : ℕ) (c : CutterState) (bytes : List ℕ) (sessions : List EndedSession) (gap : List ℕ) (packets : List Packet) → c.mode ≡ Mode.Synced → c.machine.due ≡ 0
     → CutterStandsFor c bytes sessions (Synced gap packets []) → AfterNops c (bytes ++ nop_bytes k) sessions gap packets
 all_nops zero c bytes sessions gap packets synced none s = record { all = packets; stands = subst (λ (b : List ℕ). CutterStandsFor c b sessions (Synced gap packets [])) (sym (append-nil bytes)) s; nothing = refl }
 all_nops (suc k) c bytes sessions gap packets synced none s =
@@ -87,7 +87,7 @@ all_nops (suc k) c bytes sessions gap packets synced none s =
       nothing = more.nothing ∙ one.nothing;
     }
 
-pub idles_nops : (k : ℕ) (c : CutterState) (bytes : List ℕ) (sessions : List Session) (place : Place) → c.mode ≡ Mode.Synced → c.kept ≡ [] → c.machine.due ≡ 0 → CutterStandsFor c bytes sessions place → Idles c (bytes ++ nop_bytes k) sessions place
+pub idles_nops : (k : ℕ) (c : CutterState) (bytes : List ℕ) (sessions : List EndedSession) (place : Place) → c.mode ≡ Mode.Synced → c.kept ≡ [] → c.machine.due ≡ 0 → CutterStandsFor c bytes sessions place → IdlesThrough c (bytes ++ nop_bytes k) sessions place
 idles_nops k c bytes sessions (Searching gap) synced empty none s = absurd (let h : AtPlace c Mode.Synced (Searching gap) = rw synced at s.at in h)
 idles_nops k c bytes sessions (Synced gap packets tail) synced empty none s =
     let h : MachineStandsFor c.machine packets × (tail ≡ c.kept) = rw synced at s.at in

@@ -4,7 +4,7 @@ use Rattle.std.proofs.lemmas.List.Sums.{fold-append}
 use Rattle.x7_words.specs.Word.{AreBytes, word_of_bytes}
 use Rattle.x7_words.proofs.ListLemmas.{all_prefix}
 use Rattle.x7_packets.specs.Packet.{Packet, ended}
-use Rattle.x7_packets.specs.Reading.{Place, Searching, Synced, Session, tail_of}
+use Rattle.x7_packets.specs.Reading.{Place, Searching, Synced, EndedSession, tail_of}
 use Rattle.x7_packets.specs.ByHand.{Reading, before_last_four, is_sync, last_four, reading_of, with_byte, with_byte_at, packets_with_word}
 use Rattle.x7_packets.specs.History.{Entry, History, entry, history, history_of}
 use Rattle.x7_packets.proofs.GrowthLemmas.{byte_enters}
@@ -20,16 +20,16 @@ history_in r = history r.sessions r.place
 abbrev CutsNext : Reading → Reading → Type 0
 CutsNext old new = ((history_in new ≡ history_in old) × (left_of new ≤ left_of old + 1)) ⊎ ((left_of old ≡ 3) × (left_of new ≡ 0))
 
-gap_steps : (sessions : List Session) (gap prefix more : List ℕ) (b : Bool) → CutsNext (record { sessions = sessions; place = Searching gap }) (record { sessions = sessions; place = if b then Synced prefix [] [] else Searching more })
+gap_steps : (sessions : List EndedSession) (gap prefix more : List ℕ) (b : Bool) → CutsNext (record { sessions = sessions; place = Searching gap }) (record { sessions = sessions; place = if b then Synced prefix [] [] else Searching more })
 gap_steps sessions gap prefix more true = inl (refl, omega arith)
 gap_steps sessions gap prefix more false = inl (refl, omega arith)
 
-word_steps : (sessions : List Session) (gap : List ℕ) (all : List Packet) (b : Bool)
+word_steps : (sessions : List EndedSession) (gap : List ℕ) (all : List Packet) (b : Bool)
     → (let r : Reading = if b then record { sessions = sessions ++ record { gap = gap; packets = all } ∷ []; place = Searching [] } else record { sessions = sessions; place = Synced gap all [] } in left_of r ≡ 0)
 word_steps sessions gap all true = refl
 word_steps sessions gap all false = refl
 
-place_steps : (sessions : List Session) (place : Place) (x : ℕ) → CutsNext (record { sessions = sessions; place = place }) (with_byte_at sessions place x)
+place_steps : (sessions : List EndedSession) (place : Place) (x : ℕ) → CutsNext (record { sessions = sessions; place = place }) (with_byte_at sessions place x)
 place_steps sessions (Searching gap) x = gap_steps sessions gap (before_last_four (gap ++ x ∷ [])) (gap ++ x ∷ []) (is_sync (last_four (gap ++ x ∷ [])))
 place_steps sessions (Synced gap packets []) x = inl (refl, omega arith)
 place_steps sessions (Synced gap packets (a ∷ [])) x = inl (refl, omega arith)

@@ -6,7 +6,7 @@ use Rattle.std.specs.List.{flat_map}
 use Rattle.x7_words.proofs.ListLemmas.{flat_map_last, same_prefix, map_append}
 use Rattle.x7_packets.specs.declared.header.Step.{Step}
 use Rattle.x7_packets.specs.declared.header.Step.TheVariants.{Payload}
-use Rattle.x7_packets.specs.Packet.{Packet, Packets, EachPacket, IsPacket, IsWhole, OnlyLastEnds, NoneEnds, latest_of, latest_after, count_of, named_by, words, payload_steps, stepped, meaning, ends_session, ended, last_ends}
+use Rattle.x7_packets.specs.Packet.{Packet, HavePackets, EachPacket, IsPacket, IsWhole, OnlyLastEnds, NoneEnds, latest_of, latest_after, count_of, named_by, words, payload_steps, stepped, meaning, ends_session, ended, last_ends}
 use Rattle.x7_packets.specs.Machine.{AllWhole, is_end}
 
 pub whole_more : (l : Option ℕ) (ps : List Packet) (p : Packet) → AllWhole l ps → IsPacket (latest_of l ps) p → IsWhole p → AllWhole l (ps ++ p ∷ [])
@@ -19,7 +19,7 @@ each_more l (q ∷ []) p a i = (a.0, a.1, i)
 each_more l (q ∷ r ∷ ps) p a i = (a.0, a.1, each_more (latest_after l q.step) (r ∷ ps) p a.2 i)
 
 -- a packet more at the end of packets that are all whole
-pub packet_more : (ws : List ℕ) (ps : List Packet) (p : Packet) → Packets ws ps → AllWhole None ps → IsPacket (latest_of None ps) p → Packets (ws ++ words p) (ps ++ p ∷ [])
+pub packet_more : (ws : List ℕ) (ps : List Packet) (p : Packet) → HavePackets ws ps → AllWhole None ps → IsPacket (latest_of None ps) p → HavePackets (ws ++ words p) (ps ++ p ∷ [])
 packet_more ws ps p a w i = record { joined = ap (λ t. t ++ words p) a.joined ∙ sym (flat_map_last words ps p); each = each_more None ps p w i }
 
 pub whole_after : (ps : List Packet) (p : Packet) → AllWhole None ps → IsPacket (latest_of None ps) p → IsWhole p → AllWhole None (ps ++ p ∷ [])

@@ -6,7 +6,7 @@ use Rattle.memchr.specs.Find.{OccursAt}
 use Rattle.memchr.proofs.lemmas.MatchLemmas.{OccursAt-part, OccursAt-from_part}
 use Rattle.x7_words.proofs.ListLemmas.{prefixes_of, shorter_prefix, IsFront}
 use Rattle.x7_packets.specs.SyncWord.{EndsWithSync, HasNoSync, IsBeforeSync, sync_bytes}
-use Rattle.x7_packets.specs.Matching.{IsClear, IsFirstSync, LastThree, MatcherStandsFor, Searched}
+use Rattle.x7_packets.specs.Matching.{IsClear, IsFirstSync, IsSearchOutcome, LastThree, MatcherStandsFor}
 use Rattle.x7_packets.proofs.SyncLemmas.{ends_so, first_here, none_yet, took_one}
 
 -- bytes that begin with some and the sync word have the sync word there
@@ -47,7 +47,7 @@ pub passed : (gap bytes : List ℕ) (i : ℕ) → i < length bytes → gap ++ ta
 passed gap bytes i h = ap (λ t. gap ++ t) (take_more bytes i 0 h) ∙ sym (append_assoc gap (take i bytes) (get_or bytes i 0 ∷ []))
 
 -- a search in the first bytes that found the sync word
-pub found_near : (gap bytes : List ℕ) (near : ℕ) (r : Option ℕ) (m : LastThree) → is_some r ≡ true → IfSome r (λ n. (0 < n) × (n ≤ length (take near bytes))) → Searched gap (take near bytes) r m → Searched gap bytes r m
+pub found_near : (gap bytes : List ℕ) (near : ℕ) (r : Option ℕ) (m : LastThree) → is_some r ≡ true → IfSome r (λ n. (0 < n) × (n ≤ length (take near bytes))) → IsSearchOutcome gap (take near bytes) r m → IsSearchOutcome gap bytes r m
 found_near gap bytes near None m e w s = absurd (cc)
 found_near gap bytes near (Some n) m e w s =
     let few : n ≤ near = omega (arith, w.1, length-take near bytes) in
@@ -55,7 +55,7 @@ found_near gap bytes near (Some n) m e w s =
     (s.0, ap (λ t. gap ++ t) (sym same) ∙ s.1, s.2)
 
 -- a search in the first bytes, three at least, that found none
-pub none_near : (gap bytes : List ℕ) (near : ℕ) (r : Option ℕ) (m : LastThree) → 3 ≤ near → is_some r ≡ false → Searched gap (take near bytes) r m → HasNoSync (gap ++ take 3 bytes)
+pub none_near : (gap bytes : List ℕ) (near : ℕ) (r : Option ℕ) (m : LastThree) → 3 ≤ near → is_some r ≡ false → IsSearchOutcome gap (take near bytes) r m → HasNoSync (gap ++ take 3 bytes)
 none_near gap bytes near None m h e s =
     let parts : take near bytes ≡ take 3 bytes ++ drop 3 (take near bytes) = sym (take-append-drop 3 (take near bytes)) ∙ ap (λ t. t ++ drop 3 (take near bytes)) (take-take 3 near bytes h) in
     record {
@@ -168,7 +168,7 @@ three_more gap (a ∷ b ∷ c ∷ bytes) m h e f g s n =
     subst HasNoSync (append_assoc (gap ++ a ∷ []) (b ∷ []) (c ∷ []) ∙ append_assoc gap (a ∷ []) (b ∷ c ∷ [])) (clear_seam m gap a b c e f g s n)
 
 -- the first sync word of bytes after three zeros
-pub found_clear : (m n : LastThree) (gap bytes : List ℕ) (at : ℕ) → IsClear m → IsFirstSync bytes at → MatcherStandsFor m gap → HasNoSync gap → Searched gap bytes (Some (at + 4)) n
+pub found_clear : (m n : LastThree) (gap bytes : List ℕ) (at : ℕ) → IsClear m → IsFirstSync bytes at → MatcherStandsFor m gap → HasNoSync gap → IsSearchOutcome gap bytes (Some (at + 4)) n
 found_clear m n gap bytes at e i s none =
     found_in_piece gap bytes at (three_more gap bytes m (omega (arith, i.here.fits)) e.0 e.1 e.2 s none) i.here (λ k z l o. i.first k l o)
 

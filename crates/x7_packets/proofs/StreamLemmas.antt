@@ -7,8 +7,8 @@ use Rattle.x7_words.proofs.InputLemmas.{preceded_nil}
 use Rattle.x7_words.specs.Word.{words_of_bytes}
 use Rattle.x7_packets.specs.SyncWord.{sync_bytes}
 use Rattle.x7_packets.specs.Packet.{Packet, ended, payload_steps}
-use Rattle.x7_packets.specs.Reading.{Place, Searching, Synced, Session, IsPlace, IsReading, tail_of}
-use Rattle.x7_packets.specs.Cutter.{Adds, AtPlace, CompletesNone, CutterState, CutterStandsFor, Cuts, ComesNearer, IsLent, IsNeed, IsRun, SkipsAll, LongerSession, ChangesMode, AfterRun, TakesAsOneRun, between, calls_left, run_bytes}
+use Rattle.x7_packets.specs.Reading.{Place, Searching, Synced, EndedSession, IsPlace, IsReading, tail_of}
+use Rattle.x7_packets.specs.Cutter.{CutAdds, AtPlace, CompletesNone, CutterState, CutterStandsFor, CutsRun, ComesNearer, IsLent, IsNeed, IsRun, SkipsAll, LongerSession, ChangesMode, AfterRun, TakesAsOneRun, between, calls_left, run_bytes}
 use Rattle.x7_packets.specs.declared.header.Step.{Step}
 use Rattle.x7_packets.specs.declared.cutter.Cut.{Cut}
 use Rattle.x7_packets.specs.declared.cutter.Cut.TheVariants as cut
@@ -37,11 +37,11 @@ with_tail_twice t u (Synced gap packets tail) = refl
 
 -- ---- what a run adds, whatever bytes are kept after the words before it
 
-longer_bare : {gap : List ℕ} {packets : List Packet} {more : List (ℕ × Step)} {sessions new_sessions : List Session} {new : Place} (b : Bool) (l : LongerSession gap packets more sessions new_sessions new) → ended l.all ≡ b → tail_of new ≡ []
+longer_bare : {gap : List ℕ} {packets : List Packet} {more : List (ℕ × Step)} {sessions new_sessions : List EndedSession} {new : Place} (b : Bool) (l : LongerSession gap packets more sessions new_sessions new) → ended l.all ≡ b → tail_of new ≡ []
 longer_bare true l e = ap tail_of (l.ends e).1
 longer_bare false l e = ap tail_of (l.goes_on e).1
 
-pub bare_after : (c : Cut) (sessions : List Session) (place : Place) (new_sessions : List Session) (new : Place) → (IsNeed c → ⊥) → Adds c sessions place new_sessions new → tail_of new ≡ []
+pub bare_after : (c : Cut) (sessions : List EndedSession) (place : Place) (new_sessions : List EndedSession) (new : Place) → (IsNeed c → ⊥) → CutAdds c sessions place new_sessions new → tail_of new ≡ []
 bare_after cut.Need sessions place ns n never a = absurd (never tt)
 bare_after (cut.Skip bytes) sessions (Searching gap) ns n never a = elim a.1 [
   | inl e ↦ ap tail_of e
@@ -57,7 +57,7 @@ bare_after (cut.Word register w) sessions (Synced gap packets tail) ns n never a
 bare_after (cut.Body register bytes) sessions (Searching gap) ns n never a = absurd a
 bare_after (cut.Body register bytes) sessions (Synced gap packets tail) ns n never a = longer_bare (ended a.all) a refl
 
-adds_bare : (c : Cut) (t : List ℕ) (sessions : List Session) (place : Place) (new_sessions : List Session) (new : Place) → (IsNeed c → ⊥) → tail_of place ≡ [] → Adds c sessions (with_tail t place) new_sessions new → Adds c sessions place new_sessions new
+adds_bare : (c : Cut) (t : List ℕ) (sessions : List EndedSession) (place : Place) (new_sessions : List EndedSession) (new : Place) → (IsNeed c → ⊥) → tail_of place ≡ [] → CutAdds c sessions (with_tail t place) new_sessions new → CutAdds c sessions place new_sessions new
 adds_bare cut.Need t sessions place ns n never e a = absurd (never tt)
 adds_bare (cut.Skip bytes) t sessions (Searching gap) ns n never e a = a
 adds_bare (cut.Skip bytes) t sessions (Synced gap packets tail) ns n never e a = absurd a
@@ -75,12 +75,12 @@ adds_bare (cut.Body register bytes) t sessions (Synced gap packets tail) ns n ne
 -- the run tells what was cut
 record Same (c : Cut) (r : Run) : Type 0 where
   bytes : bytes_of_run r ≡ run_bytes c
-  adds : (sessions new_sessions : List Session) (place new : Place) → Adds c sessions place new_sessions new → RunAdds r sessions place new_sessions new
+  adds : (sessions new_sessions : List EndedSession) (place new : Place) → CutAdds c sessions place new_sessions new → RunAdds r sessions place new_sessions new
   mode_changes : (old new : Mode) (place : Place) → ChangesMode c old new place → ChangesMode (cut_of r) old new place
   is : IsRun c → FitsRun r
   goes_on : is_last r ≡ false
 
-skip_alike : (a b : Bor (List ℕ)) (sessions new_sessions : List Session) (place new : Place) → b.now ≡ a.now → Adds (cut.Skip a) sessions place new_sessions new → Adds (cut.Skip b) sessions place new_sessions new
+skip_alike : (a b : Bor (List ℕ)) (sessions new_sessions : List EndedSession) (place new : Place) → b.now ≡ a.now → CutAdds (cut.Skip a) sessions place new_sessions new → CutAdds (cut.Skip b) sessions place new_sessions new
 skip_alike a b sessions ns (Searching gap) new e h = subst (λ t. (ns ≡ sessions) × ((new ≡ Searching (gap ++ t)) ⊎ ((prefix : List ℕ) × (gap ++ t ≡ prefix ++ sync_bytes) × (new ≡ Synced prefix [] [])))) (sym e) h
 skip_alike a b sessions ns (Synced gap packets tail) new e h = absurd h
 
@@ -88,7 +88,7 @@ skip_turns : (a b : Bor (List ℕ)) (old new : Mode) (place : Place) → Changes
 skip_turns a b old new (Searching gap) h = h
 skip_turns a b old new (Synced gap packets tail) h = h
 
-body_alike : (register : ℕ) (a b : Bor (List ℕ)) (sessions new_sessions : List Session) (place new : Place) → b.now ≡ a.now → Adds (cut.Body register a) sessions place new_sessions new → Adds (cut.Body register b) sessions place new_sessions new
+body_alike : (register : ℕ) (a b : Bor (List ℕ)) (sessions new_sessions : List EndedSession) (place new : Place) → b.now ≡ a.now → CutAdds (cut.Body register a) sessions place new_sessions new → CutAdds (cut.Body register b) sessions place new_sessions new
 body_alike register a b sessions ns (Searching gap) new e h = absurd h
 body_alike register a b sessions ns (Synced gap packets tail) new e h = subst (λ t. LongerSession gap packets (payload_steps register (words_of_bytes t)) sessions ns new) (sym e) h
 
@@ -159,7 +159,7 @@ found_needs_none FoundRun.End c i n = i
 -- a call of the cutter on all bytes that are left
 pub cuts_whole : (c n : CutterState) (rest : List ℕ) (count : ℕ) (r : Cut) → ComesNearer r (length rest - count) (calls_left c (length rest - 0)) (calls_left n (length rest - count))
     → (IsNeed r ↔ CompletesNone c c.mode (length rest - 0)) → c.kept ++ between rest 0 count ≡ run_bytes r ++ n.kept → IsRun r → IsLent c (length rest - 0) r → SkipsAll n (length rest - 0) r
-    → TakesAsOneRun c n (between rest 0 count) r → Cuts c n rest count r
+    → TakesAsOneRun c n (between rest 0 count) r → CutsRun c n rest count r
 cuts_whole c n rest count r g nd j i l k a =
     let all : length rest - 0 ≡ length rest = omega arith in
     let from : count - 0 ≡ count = omega arith in
@@ -189,7 +189,7 @@ taken_of items at end n h =
     ap (λ k. take k (drop at items)) count ∙ sym (take-take n (end - at) (drop at items) (omega (arith, h)))
 
 -- where no byte is kept before and after it, a run's bytes are those that were taken
-lends : (old new : CutterState) (left taken : List ℕ) (count : ℕ) (c : Cut) (sessions new_sessions : List Session) (place new_place : Place) → IsLent old count c → Adds c sessions place new_sessions new_place
+lends : (old new : CutterState) (left taken : List ℕ) (count : ℕ) (c : Cut) (sessions new_sessions : List EndedSession) (place new_place : Place) → IsLent old count c → CutAdds c sessions place new_sessions new_place
     → old.kept ≡ tail_of place → new.kept ≡ [] → old.kept ++ taken ≡ run_bytes c ++ new.kept → Lends c taken
 lends old new left taken count (cut.Skip b) sessions ns (Searching gap) np l a k none j = sym (append-nil b.now) ∙ ap (λ t. b.now ++ t) (sym none) ∙ sym j ∙ ap (λ t. t ++ taken) k
 lends old new left taken count (cut.Skip b) sessions ns (Synced gap packets tail) np l a k none j = absurd a
@@ -209,7 +209,7 @@ same_due_turns (cut.Word register w) old now new place s t = (λ e. t.0 (s.0 e),
 same_due_turns (cut.Body register bytes) old now new place s t = (λ e. t.0 (s.0 e), t.1)
 
 -- the cutter's place with what it keeps after bytes more of no whole word
-need_place : (c : Cut) (sessions new_sessions : List Session) (place new : Place) (kept new_kept : List ℕ) → IsNeed c → Adds c sessions (with_tail kept place) new_sessions new → new_kept ≡ tail_of new → (new_sessions ≡ sessions) × (new ≡ with_tail new_kept place)
+need_place : (c : Cut) (sessions new_sessions : List EndedSession) (place new : Place) (kept new_kept : List ℕ) → IsNeed c → CutAdds c sessions (with_tail kept place) new_sessions new → new_kept ≡ tail_of new → (new_sessions ≡ sessions) × (new ≡ with_tail new_kept place)
 need_place cut.Need sessions ns (Searching gap) new kept nk n a k = (a.0, a.1)
 need_place cut.Need sessions ns (Synced gap packets tail) new kept nk n a k = (a.0, a.2 ∙ ap (Synced gap packets) (sym (k ∙ ap tail_of a.2)))
 need_place (cut.Skip bytes) sessions ns place new kept nk n a k = absurd n
@@ -443,7 +443,7 @@ run_is_not_last old new r s last = not_last r (kind_goes_on new.found s.run r ne
 
 -- ---- the end
 
-tail_adds : (bytes : Bor (List ℕ)) (kept : List ℕ) (sessions : List Session) (place : Place) → bytes.now ≡ kept → 0 < length kept → kept ≡ tail_of (with_tail kept place) → tail_of place ≡ [] → RunAdds (run.Tail bytes) sessions place sessions (with_tail kept place)
+tail_adds : (bytes : Bor (List ℕ)) (kept : List ℕ) (sessions : List EndedSession) (place : Place) → bytes.now ≡ kept → 0 < length kept → kept ≡ tail_of (with_tail kept place) → tail_of place ≡ [] → RunAdds (run.Tail bytes) sessions place sessions (with_tail kept place)
 tail_adds bytes kept sessions (Searching gap) e s k b = absurd (omega (arith, ap length k))
 tail_adds bytes kept sessions (Synced gap packets tail) e s k b = (refl, b, ap (Synced gap packets) (sym e))
 

@@ -8,11 +8,11 @@ use Rattle.x7_words.proofs.ListLemmas.{flat_map_last, map_append, all_append}
 use Rattle.x7_packets.specs.declared.header.Step.{Step}
 use Rattle.x7_packets.specs.declared.header.Step.TheVariants.{Filler, Nop, Open, Payload, Read, Bad}
 use Rattle.x7_packets.specs.Packet.{Packet, IsPacket, IsWhole, NoneEnds, latest_of, latest_after, count_of, named_by, words, payload_steps, stepped, meaning, ends_session, last_ends}
-use Rattle.x7_packets.specs.Machine.{MachineState, MachineStandsFor, AtHeader, InPayload, Grows, is_end, ends_by}
+use Rattle.x7_packets.specs.Machine.{MachineState, MachineStandsFor, AtHeader, InPayload, HasTakenWords, is_end, ends_by}
 use Rattle.x7_packets.proofs.PacketLemmas.{whole_more, each_more, latest_more, none_more, only_more, header_ends, last_ends_more, ended_more}
 
 -- a header whose packet is whole at once
-pub header_whole : (m n : MachineState) (ps : List Packet) (w : ℕ) (s : Step) → w < 2 ^ 32 → AtHeader m ps → s ≡ meaning m.latest w → count_of s ≡ 0 → n.latest ≡ latest_after m.latest s → n.due ≡ 0 → Grows ps ((w, s) ∷ []) n
+pub header_whole : (m n : MachineState) (ps : List Packet) (w : ℕ) (s : Step) → w < 2 ^ 32 → AtHeader m ps → s ≡ meaning m.latest w → count_of s ≡ 0 → n.latest ≡ latest_after m.latest s → n.due ≡ 0 → HasTakenWords ps ((w, s) ∷ []) n
 header_whole m n ps w s f a e z l d =
     let p : Packet = record { head = w; step = s; payload = [] } in
     let i : IsPacket (latest_of None ps) p = record { fits = (f, tt); means = e ∙ ap (λ o. meaning o w) a.latest; most = omega arith; goes_on = tt } in
@@ -27,7 +27,7 @@ header_whole m n ps w s f a e z l d =
     }
 
 -- a write's header with a payload to come
-pub header_opens : (m n : MachineState) (ps : List Packet) (w register count : ℕ) → w < 2 ^ 32 → AtHeader m ps → Open register count ≡ meaning m.latest w → 0 < count → n.latest ≡ Some register → n.due ≡ count → n.register ≡ register → Grows ps ((w, Open register count) ∷ []) n
+pub header_opens : (m n : MachineState) (ps : List Packet) (w register count : ℕ) → w < 2 ^ 32 → AtHeader m ps → Open register count ≡ meaning m.latest w → 0 < count → n.latest ≡ Some register → n.due ≡ count → n.register ≡ register → HasTakenWords ps ((w, Open register count) ∷ []) n
 header_opens m n ps w register count f a e z l d r =
     let p : Packet = record { head = w; step = Open register count; payload = [] } in
     let means : Open register count ≡ meaning (latest_of None ps) w = e ∙ ap (λ o. meaning o w) a.latest in
@@ -62,7 +62,7 @@ fits_more : (p : Packet) (w : ℕ) → AreWords (words p) → w < 2 ^ 32 → Are
 fits_more p w a f = all_append (λ x. x < 2 ^ 32) (words p) (w ∷ []) a (f, tt)
 
 -- a payload word that goes on
-pub payload_goes : (m n : MachineState) (ps : List Packet) (w : ℕ) → w < 2 ^ 32 → InPayload m ps → ends_session m.register w ≡ false → n.register ≡ m.register → n.latest ≡ m.latest → n.due + 1 ≡ m.due → Grows ps ((w, Payload m.register w) ∷ []) n
+pub payload_goes : (m n : MachineState) (ps : List Packet) (w : ℕ) → w < 2 ^ 32 → InPayload m ps → ends_session m.register w ≡ false → n.register ≡ m.register → n.latest ≡ m.latest → n.due + 1 ≡ m.due → HasTakenWords ps ((w, Payload m.register w) ∷ []) n
 payload_goes m n ps w f a e r l d =
     let p : Packet = extended a.last w in
     let same_register : named_by a.last.step ≡ m.register = ap named_by a.opens in
@@ -78,12 +78,25 @@ payload_goes m n ps w f a e r l d =
       end = ended_more a.prefix p ∙ ap (λ x. last_ends x p.payload) same_register ∙ last_ends_more m.register a.last.payload w;
       stands = rw e (elim (cases_eq n.due 0) [
         | inl z ↦ inl (record { whole = whole_more None a.prefix p a.whole i (record { all = omega (arith, a.due); none_ends = rw same_register none }); latest = l ∙ a.latest ∙ sym (latest_more None a.prefix p ∙ ap (latest_after (latest_of None a.prefix)) a.opens); due = z })
-        | inr z ↦ inr (record { prefix = a.prefix; last = p; split = refl; whole = a.whole; fits = fits; means = a.means; count = a.count; opens = a.opens ∙ ap (λ x. Open x a.count) (sym r); latest = l ∙ a.latest ∙ ap (λ x. Some x) (sym r); due = omega (arith, a.due); more = omega arith; none_ends = rw r none })
+        | inr z ↦ inr (record {
+          prefix = a.prefix;
+          last = p;
+          split = refl;
+          whole = a.whole;
+          fits = fits;
+          means = a.means;
+          count = a.count;
+          opens = a.opens ∙ ap (λ x. Open x a.count) (sym r);
+          latest = l ∙ a.latest ∙ ap (λ x. Some x) (sym r);
+          due = omega (arith, a.due);
+          more = omega arith;
+          none_ends = rw r none;
+        })
       ]);
     }
 
 -- a payload word that ends the session
-pub payload_ends : (m n : MachineState) (ps : List Packet) (w : ℕ) → w < 2 ^ 32 → InPayload m ps → ends_session m.register w ≡ true → MachineStandsFor n [] → Grows ps ((w, Payload m.register w) ∷ []) n
+pub payload_ends : (m n : MachineState) (ps : List Packet) (w : ℕ) → w < 2 ^ 32 → InPayload m ps → ends_session m.register w ≡ true → MachineStandsFor n [] → HasTakenWords ps ((w, Payload m.register w) ∷ []) n
 payload_ends m n ps w f a e s =
     let p : Packet = extended a.last w in
     let same_register : named_by a.last.step ≡ m.register = ap named_by a.opens in
@@ -124,16 +137,16 @@ calm_words register (w ∷ []) c = calm_word register w c
 calm_words register (w ∷ x ∷ ws) c = calm_words register (x ∷ ws) c
 
 -- payload words that go on, of a register other than CMD
-pub payload_goes_on : (m n : MachineState) (ps : List Packet) (ws : List ℕ) → AreWords ws → InPayload m ps → (m.register ≡ 4 → ⊥) → 0 < length ws → n.register ≡ m.register → n.latest ≡ m.latest → n.due + length ws ≡ m.due → Grows ps (payload_steps m.register ws) n
+pub payload_goes_on : (m n : MachineState) (ps : List Packet) (ws : List ℕ) → AreWords ws → InPayload m ps → (m.register ≡ 4 → ⊥) → 0 < length ws → n.register ≡ m.register → n.latest ≡ m.latest → n.due + length ws ≡ m.due → HasTakenWords ps (payload_steps m.register ws) n
 payload_goes_on m n ps [] f a c h r l d = absurd (omega arith)
 payload_goes_on m n ps (w ∷ []) f a c h r l d = payload_goes m n ps w f.0 a (calm_word m.register w c) r l (omega (arith, d))
 payload_goes_on m n ps (w ∷ x ∷ ws) f a c h r l d =
     let next : MachineState = record { due = m.due - 1; register = m.register; latest = m.latest } in
     let e : ends_session m.register w ≡ false = calm_word m.register w c in
-    let g : Grows ps ((w, Payload m.register w) ∷ []) next = payload_goes m next ps w f.0 a e refl refl (omega (arith, d)) in
+    let g : HasTakenWords ps ((w, Payload m.register w) ∷ []) next = payload_goes m next ps w f.0 a e refl refl (omega (arith, d)) in
     let stands : MachineStandsFor next g.packets = rw e at g.stands in
     let again : InPayload next g.packets = elim stands [ inl b ↦ absurd (let z : m.due - 1 ≡ 0 = b.due in omega (arith, d)) | inr b ↦ b ] in
-    let rest : Grows g.packets (payload_steps m.register (x ∷ ws)) n = payload_goes_on next n g.packets (x ∷ ws) f.1 again c (omega arith) r l (omega (arith, d)) in
+    let rest : HasTakenWords g.packets (payload_steps m.register (x ∷ ws)) n = payload_goes_on next n g.packets (x ∷ ws) f.1 again c (omega arith) r l (omega (arith, d)) in
     record {
       packets = rest.packets;
       each = rest.each;

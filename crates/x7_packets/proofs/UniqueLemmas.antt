@@ -6,7 +6,7 @@ use Rattle.x7_words.specs.Word.{AreWords, bytes_of_word}
 use Rattle.x7_words.proofs.ListLemmas.{IsFront, prefixes_of, all_append}
 use Rattle.x7_packets.specs.SyncWord.{sync_bytes, IsBeforeSync}
 use Rattle.x7_packets.specs.Packet.{Packet, EachPacket, words, ended, latest_after}
-use Rattle.x7_packets.specs.Reading.{Place, Searching, Synced, Session, IsReading, IsSession, IsPlace, session_bytes, place_bytes, packet_bytes}
+use Rattle.x7_packets.specs.Reading.{Place, Searching, Synced, EndedSession, IsReading, IsEndedSession, IsPlace, session_bytes, place_bytes, packet_bytes}
 use Rattle.x7_packets.proofs.PacketLemmas.{one_list}
 use Rattle.x7_packets.proofs.EndLemmas.{after_end}
 use Rattle.std.proofs.Common.{Option}
@@ -109,7 +109,7 @@ ended_open ps qs cs ds a d b k h e = elim (words_prefixes (flat_map words ps) (f
   | inr l ↦ (let s : SamePackets qs ps ds cs = open_more qs ps ds cs b a h l in let t : ended qs ≡ ended ps = ap ended s.packets in cc)
 ]
 
-record One (ss ts : List Session) (p q : Place) : Type 0 where
+record One (ss ts : List EndedSession) (p q : Place) : Type 0 where
   sessions : ss ≡ ts
   place : p ≡ q
 
@@ -126,28 +126,30 @@ one_place (Synced g ps t) (Synced h qs u) a b e =
     ap (λ x. Synced x ps t) s.gap ∙ ap (λ x. Synced h x t) r.packets ∙ ap (λ x. Synced h qs x) r.rest
 
 -- no place has the bytes of a session that ended
-no_session : (p : Place) (s : Session) (rest : List ℕ) → IsPlace p → IsSession s → place_bytes p ≡ session_bytes s ++ rest → ⊥
+no_session : (p : Place) (s : EndedSession) (rest : List ℕ) → IsPlace p → IsEndedSession s → place_bytes p ≡ session_bytes s ++ rest → ⊥
 no_session (Searching g) s rest a b e = a.none s.gap (packet_bytes s.packets ++ rest) (e ∙ regroup s.gap (packet_bytes s.packets) rest)
 no_session (Synced g ps t) s rest a b e =
     let m : Same g s.gap (packet_bytes ps ++ t) (packet_bytes s.packets ++ rest) = one_gap g s.gap _ _ a.0 b.first (sym (regroup g (packet_bytes ps) t) ∙ e ∙ regroup s.gap (packet_bytes s.packets) rest) in
     ended_open s.packets ps rest t b.packets b.ended a.1 a.2 a.3 (sym m.rest)
 
-one_session : (r s : Session) (cs ds : List ℕ) → IsSession r → IsSession s → session_bytes r ++ cs ≡ session_bytes s ++ ds → (r ≡ s) × (cs ≡ ds)
+one_session : (r s : EndedSession) (cs ds : List ℕ) → IsEndedSession r → IsEndedSession s → session_bytes r ++ cs ≡ session_bytes s ++ ds → (r ≡ s) × (cs ≡ ds)
 one_session r s cs ds a b e =
     let m : Same r.gap s.gap (packet_bytes r.packets ++ cs) (packet_bytes s.packets ++ ds) = one_gap r.gap s.gap _ _ a.first b.first (sym (regroup r.gap (packet_bytes r.packets) cs) ∙ e ∙ regroup s.gap (packet_bytes s.packets) ds) in
     let n : SamePackets r.packets s.packets cs ds = both_ended r.packets s.packets cs ds a.packets a.ended b.packets b.ended m.rest in
     (ap (λ (x : List ℕ). record { gap = x; packets = r.packets }) m.gap ∙ ap (λ (x : List Packet). record { gap = s.gap; packets = x }) n.packets, n.rest)
 
-one_of : (ss ts : List Session) (p q : Place) → AllByRecursion IsSession ss → IsPlace p → AllByRecursion IsSession ts → IsPlace q
+one_of : (ss ts : List EndedSession) (p q : Place) → AllByRecursion IsEndedSession ss → IsPlace p → AllByRecursion IsEndedSession ts → IsPlace q
     → flat_map session_bytes ss ++ place_bytes p ≡ flat_map session_bytes ts ++ place_bytes q → One ss ts p q
 one_of [] [] p q a b c d e = record { sessions = refl; place = one_place p q b d e }
 one_of [] (t ∷ ts) p q a b c d e = absurd (no_session p t _ b c.0 (e ∙ append_assoc (session_bytes t) (flat_map session_bytes ts) (place_bytes q)))
 one_of (s ∷ ss) [] p q a b c d e = absurd (no_session q s _ d a.0 (sym e ∙ append_assoc (session_bytes s) (flat_map session_bytes ss) (place_bytes p)))
 one_of (s ∷ ss) (t ∷ ts) p q a b c d e =
-    let m : (s ≡ t) × (flat_map session_bytes ss ++ place_bytes p ≡ flat_map session_bytes ts ++ place_bytes q) = one_session s t _ _ a.0 c.0 (sym (append_assoc (session_bytes s) (flat_map session_bytes ss) (place_bytes p)) ∙ e ∙ append_assoc (session_bytes t) (flat_map session_bytes ts) (place_bytes q)) in
+    let m : (s ≡ t) × (flat_map session_bytes ss ++ place_bytes p ≡ flat_map session_bytes ts ++ place_bytes q) = one_session s t _ _ a.0 c.0
+    (sym (append_assoc (session_bytes s) (flat_map session_bytes ss) (place_bytes p)) ∙ e
+    ∙ append_assoc (session_bytes t) (flat_map session_bytes ts) (place_bytes q)) in
     let n : One ss ts p q = one_of ss ts p q a.1 b c.1 d m.1 in
     record { sessions = ap (λ x. x ∷ ss) m.0 ∙ ap (λ xs. t ∷ xs) n.sessions; place = n.place }
 
-pub one_reading : (bytes : List ℕ) (ss ts : List Session) (p q : Place) → IsReading bytes ss p → IsReading bytes ts q → (ss ≡ ts) × (p ≡ q)
+pub one_reading : (bytes : List ℕ) (ss ts : List EndedSession) (p q : Place) → IsReading bytes ss p → IsReading bytes ts q → (ss ≡ ts) × (p ≡ q)
 one_reading bytes ss ts p q a b =
     let o : One ss ts p q = one_of ss ts p q a.each a.ends b.each b.ends (sym a.joined ∙ b.joined) in (o.sessions, o.place)

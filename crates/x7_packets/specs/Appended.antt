@@ -2,7 +2,7 @@
 -- of both is what is read of each, and so is what they ask.
 use Rattle.std.specs.Prelude.{◌≡◌, ℕ, ◌+◌, ◌==◌, ◌⊎◌, List, [], ◌∷◌, ◌++◌, length, None, false}
 use Rattle.std.specs.List.{AllByRecursion}
-use Rattle.x7_packets.specs.Reading.{Place, Searching, Synced, Session, is_synced}
+use Rattle.x7_packets.specs.Reading.{Place, Searching, Synced, EndedSession, is_synced}
 use Rattle.x7_packets.specs.ByHand.{Reading}
 use Rattle.x7_packets.specs.History.{History, entry, history_of}
 use Rattle.x7_packets.specs.Packet.{IsPacket, Packet, latest_of}
@@ -37,7 +37,7 @@ gap_with prefix (Searching gap) = Searching (prefix ++ gap)
 gap_with prefix (Synced gap packets tail) = Synced (prefix ++ gap) packets tail
 
 -- sessions and a place after ended sessions and an open gap, which the first of the later gaps goes on
-abbrev pub after_gap : List Session → List ℕ → List Session → Place → Reading
+abbrev pub after_gap : List EndedSession → List ℕ → List EndedSession → Place → Reading
 after_gap before prefix [] place = record { sessions = before; place = gap_with prefix place }
 after_gap before prefix (s ∷ sessions) place = record { sessions = before ++ record { gap = prefix ++ s.gap; packets = s.packets } ∷ sessions; place = place }
 

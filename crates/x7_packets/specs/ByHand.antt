@@ -4,7 +4,7 @@ use Rattle.std.specs.Prelude.{◌≡◌, ℕ, ◌-◌, ◌==◌, ◌&&◌, nat_l
 use Rattle.std.specs.List.{fold}
 use Rattle.x7_words.specs.Word.{word_of_bytes}
 use Rattle.x7_packets.specs.Packet.{Packet, meaning, count_of, latest_after, ended}
-use Rattle.x7_packets.specs.Reading.{Place, Searching, Synced, Session}
+use Rattle.x7_packets.specs.Reading.{Place, Searching, Synced, EndedSession}
 
 -- a header word with its meaning, where the nearest type 1 read or write named this register
 abbrev pub header_packet : Option ℕ → ℕ → Packet
@@ -49,26 +49,26 @@ last_four bytes = drop (length bytes - 4) bytes
 
 -- ended sessions, and the place after them
 pub record Reading : Type 0 where
-  pub sessions : List Session
+  pub sessions : List EndedSession
   pub place : Place
 
 -- the reading of bytes after ended sessions, which have no sync word or end with the first one
-abbrev pub searched : List Session → List ℕ → Reading
+abbrev pub searched : List EndedSession → List ℕ → Reading
 searched sessions bytes = record { sessions = sessions; place = if is_sync (last_four bytes) then Synced (before_last_four bytes) [] [] else Searching bytes }
 
 -- a session of packets after ended sessions and a gap: where the packets end the session, an empty gap follows
-abbrev pub closed : List Session → List ℕ → List Packet → Reading
+abbrev pub closed : List EndedSession → List ℕ → List Packet → Reading
 closed sessions gap packets =
     if ended packets then record { sessions = sessions ++ record { gap = gap; packets = packets } ∷ []; place = Searching [] } else
     record { sessions = sessions; place = Synced gap packets [] }
 
 -- a session with one byte more: its tail grows to a word, which goes to the packets
-abbrev pub with_session_byte : List Session → List ℕ → List Packet → List ℕ → ℕ → Reading
+abbrev pub with_session_byte : List EndedSession → List ℕ → List Packet → List ℕ → ℕ → Reading
 with_session_byte sessions gap packets (a ∷ b ∷ c ∷ []) d = closed sessions gap (packets_with_word packets (word_of_bytes (a ∷ b ∷ c ∷ d ∷ [])))
 with_session_byte sessions gap packets tail byte = record { sessions = sessions; place = Synced gap packets (tail ++ byte ∷ []) }
 
 -- ended sessions and a place with one byte more
-abbrev pub with_byte_at : List Session → Place → ℕ → Reading
+abbrev pub with_byte_at : List EndedSession → Place → ℕ → Reading
 with_byte_at sessions (Searching gap) byte = searched sessions (gap ++ byte ∷ [])
 with_byte_at sessions (Synced gap packets tail) byte = with_session_byte sessions gap packets tail byte
 

@@ -10,7 +10,7 @@ use Rattle.x7_packets.specs.Matching.{LastThree, MatcherStandsFor}
 use Rattle.x7_packets.specs.Packet.{Packet, stepped, ended, payload_steps}
 use Rattle.x7_packets.specs.Machine.{ends_by, MachineState, MachineStandsFor}
 use Rattle.x7_packets.specs.ByHand.{Reading}
-use Rattle.x7_packets.specs.Reading.{Place, Searching, Synced, Session, IsReading}
+use Rattle.x7_packets.specs.Reading.{Place, Searching, Synced, EndedSession, IsReading}
 use Rattle.x7_packets.specs.declared.header.Step.{Step}
 use Rattle.x7_packets.specs.declared.header.Step.TheVariants.{Payload}
 use Rattle.x7_packets.specs.Mode.{Mode}
@@ -35,7 +35,7 @@ AtPlace c Mode.SyncFound (Searching gap) = ⊥
 AtPlace c Mode.Synced (Searching gap) = ⊥
 
 -- the cutter took these bytes, and this is their reading
-pub record CutterStandsFor (c : CutterState) (bytes : List ℕ) (sessions : List Session) (place : Place) : Type 0 where
+pub record CutterStandsFor (c : CutterState) (bytes : List ℕ) (sessions : List EndedSession) (place : Place) : Type 0 where
   pub reading : IsReading bytes sessions place
   pub at : AtPlace c c.mode place
 
@@ -60,7 +60,7 @@ run_steps (Body register bytes) = payload_steps register (words_of_bytes bytes.n
 run_steps _ = []
 
 -- a session has these words more, each with its step: it goes on, or the last word ends it and a gap begins
-pub record LongerSession (gap : List ℕ) (packets : List Packet) (more : List (ℕ × Step)) (sessions new_sessions : List Session) (new : Place) : Type 0 where
+pub record LongerSession (gap : List ℕ) (packets : List Packet) (more : List (ℕ × Step)) (sessions new_sessions : List EndedSession) (new : Place) : Type 0 where
   pub all : List Packet
   pub grown : flat_map stepped all ≡ flat_map stepped packets ++ more
   pub end : ended all ≡ ends_by more
@@ -68,7 +68,7 @@ pub record LongerSession (gap : List ℕ) (packets : List Packet) (more : List (
   pub goes_on : ended all ≡ false → (new_sessions ≡ sessions) × (new ≡ Synced gap all [])
 
 -- a reading in a session goes on by these words, each with its step
-abbrev pub GoesOnAt : List (ℕ × Step) → List Session → Place → Reading → Type 0
+abbrev pub GoesOnAt : List (ℕ × Step) → List EndedSession → Place → Reading → Type 0
 GoesOnAt more sessions (Searching gap) new = ⊥
 GoesOnAt more sessions (Synced gap packets tail) new = LongerSession gap packets more sessions new.sessions new.place
 
@@ -77,19 +77,20 @@ abbrev pub GoesOnBy : List (ℕ × Step) → Reading → Reading → Type 0
 GoesOnBy more old new = GoesOnAt more old.sessions old.place new
 
 -- what a run adds to the reading of the bytes before it: ended sessions and a place become new ones
-abbrev pub Adds : Cut → List Session → Place → List Session → Place → Type 0
-Adds Need sessions (Searching gap) new_sessions new = (new_sessions ≡ sessions) × (new ≡ Searching gap)
-Adds Need sessions (Synced gap packets tail) new_sessions new = (new_sessions ≡ sessions) × (more : List ℕ) × (new ≡ Synced gap packets (tail ++ more))
-Adds (Skip bytes) sessions (Searching gap) new_sessions new = (new_sessions ≡ sessions) × ((new ≡ Searching (gap ++ bytes.now)) ⊎ ((prefix : List ℕ) × (gap ++ bytes.now ≡ prefix ++ sync_bytes) × (new ≡ Synced prefix [] [])))
-Adds (Skip bytes) sessions (Synced gap packets tail) new_sessions new = ⊥
-Adds Sync sessions (Searching gap) new_sessions new = ⊥
-Adds Sync sessions (Synced gap packets tail) new_sessions new = (packets ≡ []) × (tail ≡ []) × (new_sessions ≡ sessions) × (new ≡ Synced gap [] [])
-Adds (Head w step) sessions (Searching gap) new_sessions new = ⊥
-Adds (Head w step) sessions (Synced gap packets tail) new_sessions new = LongerSession gap packets (run_steps (Head w step)) sessions new_sessions new
-Adds (Word register w) sessions (Searching gap) new_sessions new = ⊥
-Adds (Word register w) sessions (Synced gap packets tail) new_sessions new = LongerSession gap packets (run_steps (Word register w)) sessions new_sessions new
-Adds (Body register bytes) sessions (Searching gap) new_sessions new = ⊥
-Adds (Body register bytes) sessions (Synced gap packets tail) new_sessions new = LongerSession gap packets (run_steps (Body register bytes)) sessions new_sessions new
+abbrev pub CutAdds : Cut → List EndedSession → Place → List EndedSession → Place → Type 0
+CutAdds Need sessions (Searching gap) new_sessions new = (new_sessions ≡ sessions) × (new ≡ Searching gap)
+CutAdds Need sessions (Synced gap packets tail) new_sessions new = (new_sessions ≡ sessions) × (more : List ℕ) × (new ≡ Synced gap packets (tail ++ more))
+CutAdds (Skip bytes) sessions (Searching gap) new_sessions new = (new_sessions ≡ sessions)
+    × ((new ≡ Searching (gap ++ bytes.now)) ⊎ ((prefix : List ℕ) × (gap ++ bytes.now ≡ prefix ++ sync_bytes) × (new ≡ Synced prefix [] [])))
+CutAdds (Skip bytes) sessions (Synced gap packets tail) new_sessions new = ⊥
+CutAdds Sync sessions (Searching gap) new_sessions new = ⊥
+CutAdds Sync sessions (Synced gap packets tail) new_sessions new = (packets ≡ []) × (tail ≡ []) × (new_sessions ≡ sessions) × (new ≡ Synced gap [] [])
+CutAdds (Head w step) sessions (Searching gap) new_sessions new = ⊥
+CutAdds (Head w step) sessions (Synced gap packets tail) new_sessions new = LongerSession gap packets (run_steps (Head w step)) sessions new_sessions new
+CutAdds (Word register w) sessions (Searching gap) new_sessions new = ⊥
+CutAdds (Word register w) sessions (Synced gap packets tail) new_sessions new = LongerSession gap packets (run_steps (Word register w)) sessions new_sessions new
+CutAdds (Body register bytes) sessions (Searching gap) new_sessions new = ⊥
+CutAdds (Body register bytes) sessions (Synced gap packets tail) new_sessions new = LongerSession gap packets (run_steps (Body register bytes)) sessions new_sessions new
 
 -- no sync word was found that is still to be given
 abbrev pub IsNotSyncFound : Mode → Type 0
@@ -111,7 +112,8 @@ ChangesMode (Body register bytes) old new place = IsNotSyncFound old × IsNotSyn
 abbrev pub IsRun : Cut → Type 0
 IsRun (Head w (Payload register x)) = ⊥
 IsRun (Word register w) = register < reg_number_count
-IsRun (Body register bytes) = (register < reg_number_count) × (0 < length bytes.now) × (length bytes.now ≡ 4 * (length bytes.now / 4)) × (register ≡ number_of Cmd → length bytes.now ≡ 4)
+IsRun (Body register bytes) = (register < reg_number_count) × (0 < length bytes.now) × (length bytes.now ≡ 4 * (length bytes.now / 4))
+    × (register ≡ number_of Cmd → length bytes.now ≡ 4)
 IsRun (Skip bytes) = 0 < length bytes.now
 IsRun _ = Unit {0}
 
@@ -119,7 +121,8 @@ IsRun _ = Unit {0}
 -- CMD); a word whose bytes lie in two pieces or more comes by itself
 abbrev pub IsLent : CutterState → ℕ → Cut → Type 0
 IsLent c bytes_left (Word register w) = 0 < length c.kept
-IsLent c bytes_left (Body register bytes) = (c.kept ≡ []) × (length bytes.now ≡ 4 * min (min c.machine.due (bytes_left / 4)) (if register == number_of Cmd then 1 else bytes_left / 4))
+IsLent c bytes_left (Body register bytes) = (c.kept ≡ [])
+    × (length bytes.now ≡ 4 * min (min c.machine.due (bytes_left / 4)) (if register == number_of Cmd then 1 else bytes_left / 4))
 IsLent c bytes_left _ = Unit {0}
 
 -- a gap's bytes are lent all, or up to the end of the sync word, which is then due to be given
@@ -176,16 +179,17 @@ ComesNearer Need bytes_left calls_before calls = bytes_left ≡ 0
 ComesNearer _ bytes_left calls_before calls = calls < calls_before
 
 -- the cutter after a call that gave this run: it stands for `bytes`, and the run added to the reading before
-pub record AfterRun (old new : CutterState) (bytes : List ℕ) (sessions : List Session) (place : Place) (run : Cut) : Type 0 where
-  pub new_sessions : List Session
+pub record AfterRun (old new : CutterState) (bytes : List ℕ) (sessions : List EndedSession) (place : Place) (run : Cut) : Type 0 where
+  pub new_sessions : List EndedSession
   pub new_place : Place
   pub stands : CutterStandsFor new bytes new_sessions new_place
-  pub adds : Adds run sessions place new_sessions new_place
+  pub adds : CutAdds run sessions place new_sessions new_place
   pub mode_changes : ChangesMode run old.mode new.mode new_place
 
 -- the bytes `taken`, taken as one run, turn the old cutter into the new one, whatever bytes came before
 abbrev pub TakesAsOneRun : CutterState → CutterState → List ℕ → Cut → Type 0
-TakesAsOneRun old new taken run = (bytes : List ℕ) (sessions : List Session) (place : Place) → CutterStandsFor old bytes sessions place → AfterRun old new (bytes ++ taken) sessions place run
+TakesAsOneRun old new taken run = (bytes : List ℕ) (sessions : List EndedSession) (place : Place) → CutterStandsFor old bytes sessions place
+    → AfterRun old new (bytes ++ taken) sessions place run
 
 -- some cutter that stood for bytes with this reading took more in a call, as this run
 pub record HasCut (bytes more : List ℕ) (r : Reading) (run : Cut) : Type 0 where
@@ -195,7 +199,7 @@ pub record HasCut (bytes more : List ℕ) (r : Reading) (run : Cut) : Type 0 whe
   pub went : AfterRun old new (bytes ++ more) r.sessions r.place run
 
 -- one call of a cutter on the bytes that are left of a piece, of which it took `taken`
-pub record Cuts (old new : CutterState) (rest : List ℕ) (taken : ℕ) (cut : Cut) : Type 0 where
+pub record CutsRun (old new : CutterState) (rest : List ℕ) (taken : ℕ) (cut : Cut) : Type 0 where
   pub nearer : ComesNearer cut (length rest - taken) (calls_left old (length rest)) (calls_left new (length rest - taken))
   pub need : IsNeed cut ↔ CompletesNone old old.mode (length rest)
   pub joined : old.kept ++ take taken rest ≡ run_bytes cut ++ new.kept
@@ -209,4 +213,4 @@ pub record Cuts (old new : CutterState) (rest : List ℕ) (taken : ℕ) (cut : C
 pub record MovesPast (old new : CutterState) (rest : List ℕ) (at at_now : ℕ) (cut : Cut) : Type 0 where
   pub forward : at ≤ at_now
   pub within : at_now ≤ at + length rest
-  pub cuts : Cuts old new rest (at_now - at) cut
+  pub cuts : CutsRun old new rest (at_now - at) cut

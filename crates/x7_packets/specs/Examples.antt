@@ -7,7 +7,7 @@ use Rattle.x7_packets.specs.declared.header.Step.TheVariants.{Bad, Filler, Nop, 
 use Rattle.x7_packets.specs.Packet.{Packet}
 use Rattle.x7_packets.specs.History.{Entry, Write, entry}
 use Rattle.x7_packets.specs.History as access
-use Rattle.x7_packets.specs.Reading.{Place, Searching, Session, Synced}
+use Rattle.x7_packets.specs.Reading.{EndedSession, Place, Searching, Synced}
 use Rattle.x7_packets.specs.ByHand.{Reading}
 use Rattle.x7_packets.specs.CheckedWrites.{RegisterWrite}
 
@@ -64,15 +64,15 @@ abbrev pub desync_packet : Packet
 desync_packet = write_packet 0x30008001 4 13
 
 -- a session after this gap
-abbrev pub session_with : List ℕ → List Packet → Session
+abbrev pub session_with : List ℕ → List Packet → EndedSession
 session_with gap packets = record { gap = gap; packets = packets }
 
 -- a session after this gap that DESYNC ended
-abbrev pub desynced : List ℕ → List Packet → Session
+abbrev pub desynced : List ℕ → List Packet → EndedSession
 desynced gap packets = session_with gap (packets ++ desync_packet ∷ [])
 
 -- ended sessions, and the place after them
-abbrev pub reading_with : List Session → Place → Reading
+abbrev pub reading_with : List EndedSession → Place → Reading
 reading_with sessions place = record { sessions = sessions; place = place }
 
 -- a place after no ended session
@@ -88,7 +88,7 @@ abbrev pub session_with_tail : List Packet → List ℕ → Reading
 session_with_tail packets tail = reading_of_place (Synced [] packets tail)
 
 -- ended sessions, and the gap after them
-abbrev pub then_gap : List Session → List ℕ → Reading
+abbrev pub then_gap : List EndedSession → List ℕ → Reading
 then_gap sessions gap = reading_with sessions (Searching gap)
 
 -- a write of a word, with the number of bytes up to and including its last one

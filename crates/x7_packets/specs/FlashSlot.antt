@@ -21,4 +21,5 @@ flash_slot_count = 2048
 -- WBSTAR, IPROG, and then DESYNC for a fallback, which ignores IPROG
 abbrev pub flash_slot : List ℕ → List ℕ → List ℕ
 flash_slot switch start =
-    switch ++ (bytes_of_word no_op ++ (bytes_of_word (type1_write_header (number_of Wbstar) 1) ++ (start ++ flat_map bytes_of_word (command Iprog ++ command Desync))))
+    switch ++ (bytes_of_word no_op ++ (bytes_of_word (type1_write_header (number_of Wbstar) 1)
+    ++ (start ++ flat_map bytes_of_word (command Iprog ++ command Desync))))

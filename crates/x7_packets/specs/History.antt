@@ -3,14 +3,15 @@
 -- choice where the guide leaves them open.
 use Rattle.std.specs.Prelude.{◌≡◌, ℕ, ◌+◌, ◌*◌, ◌-◌, ◌^◌, ◌<◌, ◌≤◌, ◌==◌, nat_lt, ◌&&◌, ◌||◌, Bool, false, not, if◌then◌else◌, List, [], ◌∷◌, ◌++◌, length, Option, Some, None}
 use Rattle.std.specs.List.{flat_map}
-use Rattle.x7_regs.specs.Register.{number_of}
+use Rattle.x7_regs.specs.Register.{number_of, reg_number_count}
 use Rattle.x7_regs.specs.Command.{code_of, command_code_of}
 use Rattle.x7_regs.specs.declared.register.Reg.TheVariants.{Cmd, Far}
 use Rattle.x7_regs.specs.declared.command.Command.TheVariants.{Desync, Iprog, Null}
 use Rattle.x7_packets.specs.declared.header.Step.{Step}
 use Rattle.x7_packets.specs.declared.header.Step.TheVariants as step
 use Rattle.x7_packets.specs.Packet.{stepped}
-use Rattle.x7_packets.specs.Reading.{Place, Searching, Synced, Session, session_bytes}
+use Rattle.x7_packets.specs.PacketWords.{type2_counts}
+use Rattle.x7_packets.specs.Reading.{Place, Searching, Synced, EndedSession, session_bytes}
 use Rattle.x7_packets.specs.ByHand.{Reading, reading_of}
 
 -- what a stream asks of the registers: a word written, a read of some words, or a
@@ -48,7 +49,7 @@ entered_all place [] h = h
 entered_all place (s ∷ more) h = entered_all (place + 4) more (entered (place + 4) s.1 h)
 
 -- a history with the accesses of ended sessions, the first of which begins with its gap at this place
-abbrev pub entered_sessions : ℕ → List Session → History → History
+abbrev pub entered_sessions : ℕ → List EndedSession → History → History
 entered_sessions place [] h = h
 entered_sessions place (s ∷ sessions) h =
     entered_sessions (place + length (session_bytes s)) sessions (entered_all (place + length s.gap + 4) (flat_map stepped s.packets) h)
@@ -59,7 +60,7 @@ entered_place place (Searching gap) h = h
 entered_place place (Synced gap packets tail) h = entered_all (place + length gap + 4) (flat_map stepped packets) h
 
 -- the history of ended sessions and of the place after them
-abbrev pub history : List Session → Place → History
+abbrev pub history : List EndedSession → Place → History
 history sessions place = entered_place (length (flat_map session_bytes sessions)) place (entered_sessions 0 sessions [])
 
 -- the history of bytes
@@ -67,7 +68,7 @@ abbrev pub history_of : List ℕ → History
 history_of bytes = history (reading_of bytes).sessions (reading_of bytes).place
 
 -- the place where the next word begins: the number of bytes without those of no whole word at the end
-abbrev pub next_word : List Session → Place → ℕ
+abbrev pub next_word : List EndedSession → Place → ℕ
 next_word sessions (Searching gap) = length (flat_map session_bytes sessions) + length gap
 next_word sessions (Synced gap packets tail) = length (flat_map session_bytes sessions) + length gap + 4 + 4 * length (flat_map stepped packets)
 
@@ -135,8 +136,8 @@ executed (e ∷ h) = with_command (executed_by (command_held h) e.access) (execu
 
 -- the access can come of words of 32 bits: a register's number has five bits, and a count at most 27
 abbrev pub FitsAccess : Access → Type 0
-FitsAccess (Write register w) = (register < 2 ^ 5) × (w < 2 ^ 32)
-FitsAccess (Read register count) = (register < 2 ^ 5) × (count < 2 ^ 27)
+FitsAccess (Write register w) = (register < reg_number_count) × (w < 2 ^ 32)
+FitsAccess (Read register count) = (register < reg_number_count) × (count < type2_counts)
 FitsAccess (Bad w) = w < 2 ^ 32
 
 -- each access of a history can come of words of 32 bits

@@ -55,7 +55,7 @@ ends_by (s ∷ []) = is_end s.1
 ends_by (s ∷ t ∷ more) = ends_by (t ∷ more)
 
 -- what the machine `m` has after more words, each with its step: its packets are those before and just these words
-pub record Grows (ps : List Packet) (more : List (ℕ × Step)) (m : MachineState) : Type 0 where
+pub record HasTakenWords (ps : List Packet) (more : List (ℕ × Step)) (m : MachineState) : Type 0 where
   pub packets : List Packet
   pub each : EachPacket None packets
   pub grown : flat_map stepped packets ≡ flat_map stepped ps ++ more

@@ -21,9 +21,9 @@ pub record MatcherStandsFor (m : LastThree) (bytes : List ℕ) : Type 0 where
 
 -- the outcome of a search through bytes after a gap: no sync word ends in them, and the matcher took them all, or the
 -- first one ends after the first n of them
-abbrev pub Searched : List ℕ → List ℕ → Option ℕ → LastThree → Type 0
-Searched gap bytes None m = HasNoSync (gap ++ bytes) × MatcherStandsFor m (gap ++ bytes)
-Searched gap bytes (Some n) m = (prefix : List ℕ) × (gap ++ take n bytes ≡ prefix ++ sync_bytes) × IsBeforeSync prefix
+abbrev pub IsSearchOutcome : List ℕ → List ℕ → Option ℕ → LastThree → Type 0
+IsSearchOutcome gap bytes None m = HasNoSync (gap ++ bytes) × MatcherStandsFor m (gap ++ bytes)
+IsSearchOutcome gap bytes (Some n) m = (prefix : List ℕ) × (gap ++ take n bytes ≡ prefix ++ sync_bytes) × IsBeforeSync prefix
 
 -- how many bytes the sync words at 32 places, one after the other, reach over: 32 and three more
 abbrev pub places_reach : ℕ

@@ -8,9 +8,13 @@ use Rattle.x7_regs.specs.Register.{number_of}
 use Rattle.x7_regs.specs.Command.{code_of, command_code_of}
 use Rattle.x7_regs.specs.declared.register.Reg.TheVariants.{Cmd}
 use Rattle.x7_regs.specs.declared.command.Command.TheVariants.{Desync}
-use Rattle.x7_packets.specs.PacketWords.{dummy_word, no_op_kind, sync_word, type1_read_kind, type1_write_kind, type2_read_kind, type2_write_kind}
+use Rattle.x7_packets.specs.PacketWords.{dummy_word, no_op_kind, sync_word, type1_counts, type1_read_kind, type1_write_kind, type2_counts, type2_read_kind, type2_write_kind}
 use Rattle.x7_packets.specs.declared.header.Step.{Step}
 use Rattle.x7_packets.specs.declared.header.Step.TheVariants.{Filler, Nop, Open, Payload, Read, Bad}
+
+-- packet type 31:29 of a word in a header's place
+abbrev pub packet_type_of : ℕ → ℕ
+packet_type_of word = word / 2 ^ 29
 
 -- packet type 31:29 and opcode 28:27 of a header word, as one number
 abbrev pub type_and_opcode_of : ℕ → ℕ
@@ -22,11 +26,11 @@ register_of = field_of 13 5
 
 -- word count 10:0 of a type 1 header
 abbrev pub type1_count_of : ℕ → ℕ
-type1_count_of word = word % 2 ^ 11
+type1_count_of word = word % type1_counts
 
 -- word count 26:0 of a type 2 header
 abbrev pub type2_count_of : ℕ → ℕ
-type2_count_of word = word % 2 ^ 27
+type2_count_of word = word % type2_counts
 
 -- what a word in a header's place means as a type 2 header, where the nearest type 1 read or write named this register
 abbrev pub type2_meaning : Option ℕ → ℕ → Step
@@ -38,7 +42,7 @@ type2_meaning (Some register) w =
 -- what a word in a header's place means, where the nearest type 1 read or write named this register
 abbrev pub meaning : Option ℕ → ℕ → Step
 meaning latest w =
-    if w == sync_word || w == dummy_word || w / 2 ^ 29 == 0 then Filler else
+    if w == sync_word || w == dummy_word || packet_type_of w == 0 then Filler else
     if type_and_opcode_of w == no_op_kind then Nop else
     if type_and_opcode_of w == type1_write_kind then Open (register_of w) (type1_count_of w) else
     if type_and_opcode_of w == type1_read_kind then Read (register_of w) (type1_count_of w) else
@@ -119,7 +123,7 @@ EachPacket latest (p ∷ []) = IsPacket latest p
 EachPacket latest (p ∷ q ∷ ps) = IsPacket latest p × IsWhole p × EachPacket (latest_after latest p.step) (q ∷ ps)
 
 -- the words are those of these packets
-pub record Packets (ws : List ℕ) (ps : List Packet) : Type 0 where
+pub record HavePackets (ws : List ℕ) (ps : List Packet) : Type 0 where
   pub joined : ws ≡ flat_map words ps
   pub each : EachPacket None ps
 

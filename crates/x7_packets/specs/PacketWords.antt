@@ -28,6 +28,14 @@ bus_width_detect = 0x11220044
 
 -- ---- headers
 
+-- how many word counts a type 1 header can say: each is below this
+abbrev pub type1_counts : ℕ
+type1_counts = 2 ^ 11
+
+-- how many word counts a type 2 header can say: each is below this
+abbrev pub type2_counts : ℕ
+type2_counts = 2 ^ 27
+
 -- the packet type and the opcode of a no-op as one number, bits 31:27
 abbrev pub no_op_kind : ℕ
 no_op_kind = 4

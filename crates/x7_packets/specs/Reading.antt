@@ -7,7 +7,7 @@ use Rattle.x7_packets.specs.SyncWord.{sync_bytes, HasNoSync, IsBeforeSync}
 use Rattle.x7_packets.specs.Packet.{Packet, EachPacket, words, ended}
 
 -- a session that a DESYNC word ended, with the gap before its sync word
-pub record Session : Type 0 where
+pub record EndedSession : Type 0 where
   pub gap : List ℕ
   pub packets : List Packet
 
@@ -21,7 +21,7 @@ abbrev pub packet_bytes : List Packet → List ℕ
 packet_bytes ps = flat_map bytes_of_word (flat_map words ps)
 
 -- the bytes of a session: its gap, the sync word and its packets
-abbrev pub session_bytes : Session → List ℕ
+abbrev pub session_bytes : EndedSession → List ℕ
 session_bytes s = s.gap ++ sync_bytes ++ packet_bytes s.packets
 
 -- the bytes of a place: of a gap, or of a session that goes on
@@ -30,7 +30,7 @@ place_bytes (Searching gap) = gap
 place_bytes (Synced gap packets tail) = gap ++ sync_bytes ++ packet_bytes packets ++ tail
 
 -- the session is one that ended
-pub record IsSession (s : Session) : Type 0 where
+pub record IsEndedSession (s : EndedSession) : Type 0 where
   pub first : IsBeforeSync s.gap
   pub packets : EachPacket None s.packets
   pub ended : ended s.packets ≡ true
@@ -41,10 +41,10 @@ IsPlace (Searching gap) = HasNoSync gap
 IsPlace (Synced gap packets tail) = IsBeforeSync gap × EachPacket None packets × (ended packets ≡ false) × (length tail < 4)
 
 -- the bytes are those of these ended sessions and then of this place
-pub record IsReading (bytes : List ℕ) (sessions : List Session) (place : Place) : Type 0 where
+pub record IsReading (bytes : List ℕ) (sessions : List EndedSession) (place : Place) : Type 0 where
   pub fits : AreBytes bytes
   pub joined : bytes ≡ flat_map session_bytes sessions ++ place_bytes place
-  pub each : AllByRecursion IsSession sessions
+  pub each : AllByRecursion IsEndedSession sessions
   pub ends : IsPlace place
 
 -- the bytes of no whole word at the end

@@ -1,7 +1,7 @@
 -- The runs of a stream, as they come one after another (this project's choice).
 use Rattle.std.specs.Prelude.{◌≡◌, ℕ, ◌<◌, List, [], ◌++◌, length, Bool, true, false}
-use Rattle.x7_packets.specs.Reading.{Place, Searching, Synced, Session, IsReading}
-use Rattle.x7_packets.specs.Cutter.{Adds, IsRun, ChangesMode, run_bytes}
+use Rattle.x7_packets.specs.Reading.{Place, Searching, Synced, EndedSession, IsReading}
+use Rattle.x7_packets.specs.Cutter.{CutAdds, IsRun, ChangesMode, run_bytes}
 use Rattle.x7_packets.specs.declared.cutter.Cut.{Cut}
 use Rattle.x7_packets.specs.declared.cutter.Cut.TheVariants as cut
 use Rattle.x7_packets.specs.Mode.{Mode}
@@ -30,11 +30,11 @@ is_last run.End = true
 is_last r = false
 
 -- what a run adds to the reading of the bytes given before it: the tail adds bytes of no whole word, the end nothing
-abbrev pub RunAdds : Run → List Session → Place → List Session → Place → Type 0
+abbrev pub RunAdds : Run → List EndedSession → Place → List EndedSession → Place → Type 0
 RunAdds (run.Tail bytes) sessions (Searching gap) new_sessions new = ⊥
 RunAdds (run.Tail bytes) sessions (Synced gap packets tail) new_sessions new = (new_sessions ≡ sessions) × (tail ≡ []) × (new ≡ Synced gap packets bytes.now)
 RunAdds run.End sessions place new_sessions new = (new_sessions ≡ sessions) × (new ≡ place)
-RunAdds r sessions place new_sessions new = Adds (cut_of r) sessions place new_sessions new
+RunAdds r sessions place new_sessions new = CutAdds (cut_of r) sessions place new_sessions new
 
 -- what holds of a run by itself, whatever the reading: the tail has one to three bytes
 abbrev pub FitsRun : Run → Type 0
@@ -43,9 +43,9 @@ FitsRun r = IsRun (cut_of r)
 
 -- the run is what comes next after these bytes; `old` and `new` say where the cutter stands before and after it
 pub record IsNext (bytes : List ℕ) (old : Mode) (r : Run) (new : Mode) : Type 0 where
-  pub sessions : List Session
+  pub sessions : List EndedSession
   pub place : Place
-  pub new_sessions : List Session
+  pub new_sessions : List EndedSession
   pub new_place : Place
   pub before : IsReading bytes sessions place
   pub after : IsReading (bytes ++ bytes_of_run r) new_sessions new_place

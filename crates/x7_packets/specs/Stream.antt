@@ -5,8 +5,8 @@ use Rattle.std.specs.Borrow.{Bor, Fml, MutBor}
 use Rattle.std.specs.Io.BufRead.{Rests}
 use Rattle.x7_words.specs.Input.{AtEnd, InputsFail, InputsState, InputsStay, preceded, taken_bytes_limit}
 use Rattle.x7_words.specs.declared.input.Failed.{Failed}
-use Rattle.x7_packets.specs.Reading.{Place, Searching, Synced, Session, IsReading, tail_of}
-use Rattle.x7_packets.specs.Cutter.{CutterStandsFor, Cuts, IsLent, IsNeed, SkipsAll}
+use Rattle.x7_packets.specs.Reading.{Place, Searching, Synced, EndedSession, IsReading, tail_of}
+use Rattle.x7_packets.specs.Cutter.{CutterStandsFor, CutsRun, IsLent, IsNeed, SkipsAll}
 use Rattle.x7_packets.specs.declared.cutter.Cut.{Cut}
 use Rattle.x7_packets.specs.declared.cutter.Cut.TheVariants as cut
 use Rattle.x7_packets.specs.Mode.{Mode}
@@ -29,7 +29,7 @@ not_given p = if p.is_done then [] else p.cutter.kept
 -- The reader stands for these bytes: those that its runs gave, those that its cutter keeps, and those in
 -- the buffer that the cutter hasn't taken.
 pub record PacketsStandFor (p : PacketsState) (bytes given : List ℕ) : Type 0 where
-  pub sessions : List Session
+  pub sessions : List EndedSession
   pub place : Place
   pub split : bytes ≡ given ++ (not_given p ++ p.left)
   pub reading : IsReading given sessions place
@@ -71,8 +71,8 @@ IsRunOrNeed false f c = IsNeed c
 pub record CutsNext (old new : PacketsState) (found_run : Bool) : Type 0 where
   pub run : Cut
   pub count : ℕ
-  pub cuts : Cuts old.cutter new.cutter old.left count run
-  pub kept : (bytes : List ℕ) (sessions : List Session) (place : Place) → CutterStandsFor new.cutter bytes sessions place → new.cutter.kept ≡ tail_of place
+  pub cuts : CutsRun old.cutter new.cutter old.left count run
+  pub kept : (bytes : List ℕ) (sessions : List EndedSession) (place : Place) → CutterStandsFor new.cutter bytes sessions place → new.cutter.kept ≡ tail_of place
   pub left : new.left ≡ drop count old.left
   pub bytes : new.bytes ≡ take count old.left
   pub is : IsRunOrNeed found_run new.found run
@@ -85,7 +85,7 @@ abbrev pub filled : PacketsState → List ℕ → PacketsState
 filled p piece = record p { left = piece; bytes = []; taken = p.taken + length piece }
 
 -- one read: a piece of some bytes, or the end of the input
-pub record Fills (old new : PacketsState) (rest rest_now : Option (List ℕ)) (gave_bytes : Bool) : Type 0 where
+pub record ReadsPiece (old new : PacketsState) (rest rest_now : Option (List ℕ)) (gave_bytes : Bool) : Type 0 where
   pub piece : List ℕ
   pub taken : rest ≡ preceded piece rest_now
   pub is : new ≡ filled old piece
@@ -100,7 +100,8 @@ SameSyncFound old new = (old ≡ Mode.SyncFound) ↔ (new ≡ Mode.SyncFound)
 -- the reader took more bytes of the input, and gave none
 pub record TookBytes (old new : PacketsState) (more : List ℕ) : Type 0 where
   pub count : new.taken ≡ old.taken + length more
-  pub stands : (bytes given : List ℕ) → PacketsStandFor old bytes given → PacketsStandFor new (bytes ++ more) given × SameSyncFound old.cutter.mode new.cutter.mode
+  pub stands : (bytes given : List ℕ) → PacketsStandFor old bytes given
+      → PacketsStandFor new (bytes ++ more) given × SameSyncFound old.cutter.mode new.cutter.mode
 
 -- The run was cut of all bytes in the buffer: its bytes and those left after it are the ones that were kept and left
 -- before, after what was read; payload words and a gap's bytes among them are lent at once.
@@ -114,7 +115,8 @@ pub record LendsRun (old new : PacketsState) (more : List ℕ) (r : Run) : Type 
 -- the reader took more bytes of the input, and gave those of a run
 pub record ReadsAndGives (old new : PacketsState) (more : List ℕ) (r : Run) : Type 0 where
   pub count : new.taken ≡ old.taken + length more
-  pub stands : (bytes given : List ℕ) → PacketsStandFor old bytes given → PacketsStandFor new (bytes ++ more) (given ++ bytes_of_run r) × IsNext given old.cutter.mode r new.cutter.mode
+  pub stands : (bytes given : List ℕ) → PacketsStandFor old bytes given
+      → PacketsStandFor new (bytes ++ more) (given ++ bytes_of_run r) × IsNext given old.cutter.mode r new.cutter.mode
   pub all : is_last r ≡ true → (bytes given : List ℕ) → PacketsStandFor old bytes given → given ++ bytes_of_run r ≡ bytes ++ more
   pub lends : is_last r ≡ false → (bytes given : List ℕ) → PacketsStandFor old bytes given → LendsRun old new more r
   pub done : new.is_done ≡ is_last r
@@ -136,7 +138,7 @@ pub record MayCall (p : PacketsState) (input : InputsState) : Type 0 where
 
 -- what holds of the inputs and of a call's result: an input is still selected after a run, and the call fails only
 -- where a read failed in it or an earlier call failed; after an earlier failure it always fails
-pub record CallsOn {T : Type 0} (p : PacketsState) (old new : InputsState) (result : Result T Failed) : Type 0 where
+pub record IsCallResult {T : Type 0} (p : PacketsState) (old new : InputsState) (result : Result T Failed) : Type 0 where
   pub failed : OnErr result ((p.has_failed ≡ true) ⊎ InputsFail old new)
   pub selected : OnOk result (new.selected ≡ true)
   pub stays : p.has_failed ≡ true → OnOk result ⊥

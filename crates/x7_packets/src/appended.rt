@@ -6,7 +6,7 @@ ghost use Rattle.x7_packets.specs.Appended.{MayComeNext, MayFollow, after, histo
 ghost use Rattle.x7_packets.specs.ByHand.{reading_of};
 ghost use Rattle.x7_packets.specs.Gap.{AreAlike, AreGaps, NoneBegins};
 ghost use Rattle.x7_packets.specs.History.{history_of};
-ghost use Rattle.x7_packets.specs.Packet.{IsWhole, Packet, Packets, words};
+ghost use Rattle.x7_packets.specs.Packet.{HavePackets, IsWhole, Packet, words};
 ghost use Rattle.x7_packets.specs.Reading.{Searching, is_synced, tail_of};
 ghost use Rattle.x7_packets.specs.SyncWord.{HasNoSync, sync_bytes};
 ghost use Rattle.x7_packets.specs.Machine.{AllWhole};
@@ -46,8 +46,8 @@ pub fn gaps_are_passed()
 /// Words that end in no open payload, and then those of a packet that may come next: the packets are one more, and end
 /// in no open payload where that packet is whole.
 pub fn packets_append()
-    ensures packets { (ws : List ℕ) (packets : List Packet) (packet : Packet) → Packets ws packets → AllWhole None packets → MayComeNext packets packet
-        → Packets (ws ++ words packet) (packets ++ packet ∷ []) }
+    ensures packets { (ws : List ℕ) (packets : List Packet) (packet : Packet) → HavePackets ws packets → AllWhole None packets → MayComeNext packets packet
+        → HavePackets (ws ++ words packet) (packets ++ packet ∷ []) }
     ensures whole { (packets : List Packet) (packet : Packet) → AllWhole None packets → MayComeNext packets packet → IsWhole packet
         → AllWhole None (packets ++ packet ∷ []) }
 {}

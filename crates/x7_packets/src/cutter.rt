@@ -6,16 +6,16 @@ ghost use Rattle.x7_regs.specs.declared.register.Reg.TheVariants.{Cmd};
 ghost use Rattle.x7_packets.specs.AtOnce.{BeginsWrite, EndsGap, WritesShort, WritesOne};
 ghost use Rattle.x7_packets.specs.Cutter.{between, calls_left, CompletesNone, CutterStandsFor, ComesNearer, EndsWithWord, IsBody, IsLent, IsNeed, IsOneWord, IsRun, MovesPast, run_bytes, SkipsAll, TakesAsOneRun};
 ghost use Rattle.x7_packets.specs.Matching.{IsClear};
-ghost use Rattle.x7_packets.specs.Nops.{Idles, nop_bytes};
+ghost use Rattle.x7_packets.specs.Nops.{IdlesThrough, nop_bytes};
 ghost use Rattle.x7_packets.specs.PacketWords.{no_op};
-ghost use Rattle.x7_packets.specs.Reading.{is_synced, Place, Session, tail_of};
+ghost use Rattle.x7_packets.specs.Reading.{EndedSession, is_synced, Place, tail_of};
 ghost use Rattle.x7_packets.specs.Mode.{Mode, mode_of};
 
 mod copied;
 
+use crate::fast::count_equal;
 use crate::header::{Step, is_cmd};
 use crate::machine::Machine;
-use crate::nops::count_equal;
 use crate::packet_words::{NO_OP, register_in, type1_count_in, type1_write_header};
 use crate::sync::{Matcher, near_sync};
 use std::marker::Model;
@@ -157,7 +157,8 @@ impl Cutter {
     pub fn kept(&self) -> &[u8]
         ensures kept { result.now ≡ self.now.kept }
         ensures most { length result.now ≤ 3 }
-        ensures tail { (bytes : List ℕ) (sessions : List Session) (place : Place) → CutterStandsFor self.now bytes sessions place → result.now ≡ tail_of place }
+        ensures tail { (bytes : List ℕ) (sessions : List EndedSession) (place : Place) → CutterStandsFor self.now bytes sessions place
+            → result.now ≡ tail_of place }
     {
         &self.kept[..self.count]
     }
@@ -165,7 +166,8 @@ impl Cutter {
     /// The bytes that the cutter keeps are the tail of the bytes taken. The call is for proofs alone, and does nothing.
     #[inline(always)]
     pub(crate) fn keeps_the_tail(&self)
-        ensures { (bytes : List ℕ) (sessions : List Session) (place : Place) → CutterStandsFor self.now bytes sessions place → self.now.kept ≡ tail_of place }
+        ensures { (bytes : List ℕ) (sessions : List EndedSession) (place : Place) → CutterStandsFor self.now bytes sessions place
+            → self.now.kept ≡ tail_of place }
     {
         let _ = &self.stage;
     }
@@ -173,7 +175,8 @@ impl Cutter {
     /// Whether the bytes taken end in a session. A session begins just after its
     /// sync word, before the sync word is given.
     pub fn is_synced(&self) -> bool
-        ensures synced { (bytes : List ℕ) (sessions : List Session) (place : Place) → CutterStandsFor self.now bytes sessions place → result ≡ is_synced place }
+        ensures synced { (bytes : List ℕ) (sessions : List EndedSession) (place : Place) → CutterStandsFor self.now bytes sessions place
+            → result ≡ is_synced place }
     {
         match self.stage {
             Stage::Searching => false,
@@ -188,8 +191,8 @@ impl Cutter {
         ensures within { 4 * result ≤ length rest.now }
         ensures nops { take (4 * result) rest.now ≡ nop_bytes result }
         ensures takes_no_op { 0 < result → TakesAsOneRun self.now self.now (bytes_of_word no_op) (Cut.Head no_op Step.Nop) }
-        ensures idles { (bytes : List ℕ) (sessions : List Session) (place : Place) → CutterStandsFor self.now bytes sessions place
-            → Idles self.now (bytes ++ take (4 * result) rest.now) sessions place }
+        ensures idles { (bytes : List ℕ) (sessions : List EndedSession) (place : Place) → CutterStandsFor self.now bytes sessions place
+            → IdlesThrough self.now (bytes ++ take (4 * result) rest.now) sessions place }
     {
         if !self.is_at_header() {
             return 0;
@@ -303,7 +306,8 @@ impl Cutter {
         requires { at.old ≤ length piece.now }
         ensures forward { at.old ≤ at.new }
         ensures within { at.new ≤ length piece.now }
-        ensures nearer { ComesNearer result (length piece.now - at.new) (calls_left self.old (length piece.now - at.old)) (calls_left self.new (length piece.now - at.new)) }
+        ensures nearer { ComesNearer result (length piece.now - at.new) (calls_left self.old (length piece.now - at.old))
+            (calls_left self.new (length piece.now - at.new)) }
         ensures need { IsNeed result ↔ CompletesNone self.old self.old.mode (length piece.now - at.old) }
         ensures joined { self.old.kept ++ between piece.now at.old at.new ≡ run_bytes result ++ self.new.kept }
         ensures run { IsRun result }

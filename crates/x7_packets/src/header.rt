@@ -1,5 +1,5 @@
 //! Header words (UG470, packet types).
-ghost use Rattle.std.specs.Prelude.{◌≡◌, ◌<◌, ◌==◌};
+ghost use Rattle.std.specs.Prelude.{◌≡◌, ◌==◌};
 ghost use Rattle.x7_regs.specs.Register.{number_of};
 ghost use Rattle.x7_regs.specs.declared.register.Reg.TheVariants.{Cmd};
 ghost use Rattle.x7_packets.specs.Packet.{ends_session, meaning};
@@ -7,7 +7,7 @@ ghost use Rattle.x7_packets.specs.Machine.{is_end};
 
 use crate::packet_words::{
     DUMMY_WORD, NO_OP_KIND, SYNC_WORD, TYPE1_READ_KIND, TYPE1_WRITE_KIND, TYPE2_READ_KIND,
-    TYPE2_WRITE_KIND, kind_in, register_in, type1_count_in, type2_count_in,
+    TYPE2_WRITE_KIND, kind_in, packet_type_in, register_in, type1_count_in, type2_count_in,
 };
 use x7_regs::{Command, Reg, command_code_of};
 
@@ -30,22 +30,22 @@ pub enum Step {
 
 /// What a word in a header's place means, where the nearest type 1 read or write named the register `latest`. The sync
 /// word, the dummy word and words of packet type 0 have no effect (this project's choice).
-pub(crate) fn meaning(latest: Option<u8>, w: u32) -> Step
-    ensures { result ≡ meaning latest w }
+pub(crate) fn meaning(latest: Option<u8>, word: u32) -> Step
+    ensures { result ≡ meaning latest word }
 {
-    if w == SYNC_WORD || w == DUMMY_WORD || w >> 29 == 0 {
+    if word == SYNC_WORD || word == DUMMY_WORD || packet_type_in(word) == 0 {
         return Step::Filler;
     }
-    match kind_in(w) {
+    match kind_in(word) {
         NO_OP_KIND => Step::Nop,
-        TYPE1_WRITE_KIND => Step::Open(register_in(w), type1_count_in(w)),
-        TYPE1_READ_KIND => Step::Read(register_in(w), type1_count_in(w)),
+        TYPE1_WRITE_KIND => Step::Open(register_in(word), type1_count_in(word)),
+        TYPE1_READ_KIND => Step::Read(register_in(word), type1_count_in(word)),
         kind => match latest {
-            None => Step::Bad(w),
+            None => Step::Bad(word),
             Some(register) => match kind {
-                TYPE2_WRITE_KIND => Step::Open(register, type2_count_in(w)),
-                TYPE2_READ_KIND => Step::Read(register, type2_count_in(w)),
-                _ => Step::Bad(w),
+                TYPE2_WRITE_KIND => Step::Open(register, type2_count_in(word)),
+                TYPE2_READ_KIND => Step::Read(register, type2_count_in(word)),
+                _ => Step::Bad(word),
             },
         },
     }
@@ -60,10 +60,10 @@ pub fn is_cmd(register: u8) -> bool
 }
 
 /// Whether a word written to the register ends the session: DESYNC written to CMD.
-pub(crate) fn ends_session(register: u8, w: u32) -> bool
-    ensures { result ≡ ends_session register w }
+pub(crate) fn ends_session(register: u8, word: u32) -> bool
+    ensures { result ≡ ends_session register word }
 {
-    is_cmd(register) && command_code_of(w) == Command::Desync.code()
+    is_cmd(register) && command_code_of(word) == Command::Desync.code()
 }
 
 impl Step {

@@ -3,34 +3,34 @@
 ghost use Rattle.std.specs.Prelude.{◌≡◌, ℕ, ◌+◌, ◌*◌, ◌≤◌, ◌⊎◌, List, [], ◌∷◌, ◌++◌, false, length};
 ghost use Rattle.x7_words.specs.Word.{AreBytes, AreWords};
 ghost use Rattle.x7_packets.specs.ByHand.{AreOfOneSession, Reading, packets_of, reading_of};
-ghost use Rattle.x7_packets.specs.Cutter.{Adds, GoesOnBy, HasCut, run_steps};
+ghost use Rattle.x7_packets.specs.Cutter.{CutAdds, GoesOnBy, HasCut, run_steps};
 ghost use Rattle.x7_packets.specs.Ended.{HasEnded};
 ghost use Rattle.x7_packets.specs.History.{Access, AllFit, EntersNewer, EntersNone, EntersOne, Entry, entered_all, entry, History, history, history_in, history_of, next_in, next_word, Placed, until};
-ghost use Rattle.x7_packets.specs.Packet.{Packet, Packets};
-ghost use Rattle.x7_packets.specs.Reading.{IsReading, Place, Searching, Session, Synced, is_synced, tail_of};
+ghost use Rattle.x7_packets.specs.Packet.{Packet, HavePackets};
+ghost use Rattle.x7_packets.specs.Reading.{EndedSession, IsReading, Place, Searching, Synced, is_synced, tail_of};
 ghost use Rattle.x7_packets.specs.declared.cutter.Cut.{Cut};
 ghost use Rattle.x7_packets.specs.declared.header.Step.{Step};
 
 /// A list of words has at most one list of packets.
 pub fn one_list_of_packets()
-    ensures { (ws : List ℕ) (ps qs : List Packet) → Packets ws ps → Packets ws qs → ps ≡ qs }
+    ensures { (ws : List ℕ) (ps qs : List Packet) → HavePackets ws ps → HavePackets ws qs → ps ≡ qs }
 {}
 
 /// A list of bytes has at most one reading.
 pub fn one_reading()
-    ensures { (bytes : List ℕ) (ss ts : List Session) (p q : Place) → IsReading bytes ss p → IsReading bytes ts q → (ss ≡ ts) × (p ≡ q) }
+    ensures { (bytes : List ℕ) (ss ts : List EndedSession) (p q : Place) → IsReading bytes ss p → IsReading bytes ts q → (ss ≡ ts) × (p ≡ q) }
 {}
 
 /// Words have packets exactly where none follows a word that ends the session, and they are those found by hand.
 pub fn packets_are_found()
-    ensures found { (ws : List ℕ) → AreWords ws → AreOfOneSession ws → Packets ws (packets_of ws) }
-    ensures unique { (ws : List ℕ) (ps : List Packet) → Packets ws ps → AreOfOneSession ws × (ps ≡ packets_of ws) }
+    ensures found { (ws : List ℕ) → AreWords ws → AreOfOneSession ws → HavePackets ws (packets_of ws) }
+    ensures unique { (ws : List ℕ) (ps : List Packet) → HavePackets ws ps → AreOfOneSession ws × (ps ≡ packets_of ws) }
 {}
 
 /// Bytes have a reading, and it is the one found by hand.
 pub fn reading_is_found()
     ensures found { (bytes : List ℕ) → AreBytes bytes → IsReading bytes (reading_of bytes).sessions (reading_of bytes).place }
-    ensures unique { (bytes : List ℕ) (ss : List Session) (p : Place) → IsReading bytes ss p
+    ensures unique { (bytes : List ℕ) (ss : List EndedSession) (p : Place) → IsReading bytes ss p
         → (ss ≡ (reading_of bytes).sessions) × (p ≡ (reading_of bytes).place) }
 {}
 
@@ -42,13 +42,14 @@ pub fn words_enter()
     ensures words { (old new : Reading) (more : List (ℕ × Step)) → GoesOnBy more old new → history_in new ≡ entered_all (next_in old) more (history_in old) }
     ensures next { (old new : Reading) (more : List (ℕ × Step)) → GoesOnBy more old new → next_in new ≡ next_in old + 4 * length more }
     ensures tail { (old new : Reading) (more : List (ℕ × Step)) → GoesOnBy more old new → tail_of new.place ≡ [] }
-    ensures run { (run : Cut) (old new : Reading) → Adds run old.sessions old.place new.sessions new.place
+    ensures run { (run : Cut) (old new : Reading) → CutAdds run old.sessions old.place new.sessions new.place
         → history_in new ≡ entered_all (next_in old) (run_steps run) (history_in old) }
-    ensures place { (bytes : List ℕ) (sessions : List Session) (place : Place) → IsReading bytes sessions place
+    ensures place { (bytes : List ℕ) (sessions : List EndedSession) (place : Place) → IsReading bytes sessions place
         → next_word sessions place + length (tail_of place) ≡ length bytes }
     ensures cut { (bytes more : List ℕ) (r : Reading) (run : Cut) → HasCut bytes more r run
         → history_of (bytes ++ more) ≡ entered_all (next_in r) (run_steps run) (history_of bytes) }
-    ensures history { (bytes : List ℕ) (sessions : List Session) (place : Place) → IsReading bytes sessions place → history sessions place ≡ history_of bytes }
+    ensures history { (bytes : List ℕ) (sessions : List EndedSession) (place : Place) → IsReading bytes sessions place
+        → history sessions place ≡ history_of bytes }
 {}
 
 /// Words enter the same accesses in one go and in two parts: those of the second part stand before those of the first,
@@ -60,15 +61,15 @@ pub fn words_after()
 
 /// Bytes of a gap, the sync word and bytes of no whole word enter nothing.
 pub fn nothing_enters()
-    ensures gap { (sessions : List Session) (gap more : List ℕ) → history sessions (Searching (gap ++ more)) ≡ history sessions (Searching gap) }
-    ensures sync { (sessions : List Session) (gap prefix : List ℕ) → history sessions (Synced prefix [] []) ≡ history sessions (Searching gap) }
-    ensures tail { (sessions : List Session) (gap tail more : List ℕ) (packets : List Packet)
+    ensures gap { (sessions : List EndedSession) (gap more : List ℕ) → history sessions (Searching (gap ++ more)) ≡ history sessions (Searching gap) }
+    ensures sync { (sessions : List EndedSession) (gap prefix : List ℕ) → history sessions (Synced prefix [] []) ≡ history sessions (Searching gap) }
+    ensures tail { (sessions : List EndedSession) (gap tail more : List ℕ) (packets : List Packet)
         → history sessions (Synced gap packets (tail ++ more)) ≡ history sessions (Synced gap packets tail) }
 {}
 
 /// Each access of a reading has a register of five bits, and a word of 32 bits or a count of 27.
 pub fn accesses_fit()
-    ensures { (bytes : List ℕ) (sessions : List Session) (place : Place) → IsReading bytes sessions place → AllFit (history sessions place) }
+    ensures { (bytes : List ℕ) (sessions : List EndedSession) (place : Place) → IsReading bytes sessions place → AllFit (history sessions place) }
 {}
 
 /// The history of bytes grows byte by byte: by one access at most, which that byte ends. Further bytes enter newer

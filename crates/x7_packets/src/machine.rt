@@ -1,12 +1,12 @@
 //! The words of a session as packets (UG470, packet types).
-ghost use Rattle.std.specs.Prelude.{◌≡◌, ℕ, List, [], ◌∷◌, ◌≤◌, ◌<◌, ◌*◌, ◌/◌, ◌^◌, ◌==◌, length, min, if◌then◌else◌};
+ghost use Rattle.std.specs.Prelude.{◌≡◌, ℕ, List, [], ◌∷◌, ◌≤◌, ◌<◌, ◌*◌, ◌/◌, ◌==◌, length, min, if◌then◌else◌};
 ghost use Rattle.x7_words.specs.Word.{AreWords, words_of_bytes};
 ghost use Rattle.x7_regs.specs.Register.{number_of, reg_number_count};
 ghost use Rattle.x7_regs.specs.declared.register.Reg.TheVariants.{Cmd};
 ghost use Rattle.x7_packets.specs.AtOnce.{in_write};
-ghost use Rattle.x7_packets.specs.PacketWords.{type1_write_header};
+ghost use Rattle.x7_packets.specs.PacketWords.{type1_counts, type1_write_header};
 ghost use Rattle.x7_packets.specs.Packet.{Packet, ends_session, payload_steps};
-ghost use Rattle.x7_packets.specs.Machine.{ends_by, Grows, MachineStandsFor};
+ghost use Rattle.x7_packets.specs.Machine.{ends_by, HasTakenWords, MachineStandsFor};
 
 use crate::header::{Step, ends_session, is_cmd, meaning};
 use std::marker::Model;
@@ -51,21 +51,21 @@ impl Machine {
 
     /// Takes a word, and says what the word is. After a word that ends the session the machine is as new.
     #[inline(always)]
-    pub fn take(&mut self, w: u32) -> Step
-        ensures payload { 0 < self.old.due → result ≡ Step.Payload self.old.register w }
-        ensures register { (register x : ℕ) → result ≡ Step.Payload register x → (x ≡ w) × (register < reg_number_count) × (0 < self.old.due) }
-        ensures grows { (ps : List Packet) → MachineStandsFor self.old ps → Grows ps ((w, result) ∷ []) self.new }
+    pub fn take(&mut self, word: u32) -> Step
+        ensures payload { 0 < self.old.due → result ≡ Step.Payload self.old.register word }
+        ensures register { (register x : ℕ) → result ≡ Step.Payload register x → (x ≡ word) × (register < reg_number_count) × (0 < self.old.due) }
+        ensures grows { (ps : List Packet) → MachineStandsFor self.old ps → HasTakenWords ps ((word, result) ∷ []) self.new }
     {
         if self.due > 0 {
             let register = self.register;
-            if ends_session(register, w) {
+            if ends_session(register, word) {
                 *self = Machine::new();
             } else {
                 self.due -= 1;
             }
-            return Step::Payload(register, w);
+            return Step::Payload(register, word);
         }
-        let step = meaning(self.latest, w);
+        let step = meaning(self.latest, word);
         match step {
             Step::Open(register, count) => {
                 self.due = count;
@@ -103,7 +103,8 @@ impl Machine {
         requires within_due { length body.now / 4 ≤ self.old.due }
         requires one_word_of_cmd { self.old.register ≡ number_of Cmd → length body.now ≡ 4 }
         ensures ends { result ≡ ends_by (payload_steps self.old.register (words_of_bytes body.now)) }
-        ensures grows { (ps : List Packet) → MachineStandsFor self.old ps → Grows ps (payload_steps self.old.register (words_of_bytes body.now)) self.new }
+        ensures grows { (ps : List Packet) → MachineStandsFor self.old ps
+            → HasTakenWords ps (payload_steps self.old.register (words_of_bytes body.now)) self.new }
     {
         if is_cmd(self.register) {
             return self
@@ -116,14 +117,15 @@ impl Machine {
 
     /// Takes the header and the word of a write of one word at once, and says whether the word ends the session.
     #[inline(always)]
-    pub(crate) fn take_write_of_one(&mut self, register: u8, w: u32) -> bool
+    pub(crate) fn take_write_of_one(&mut self, register: u8, word: u32) -> bool
         requires at_header { self.old.due ≡ 0 }
         requires register { register < reg_number_count }
-        ensures ends { result ≡ ends_session register w }
-        ensures head { (ps : List Packet) → MachineStandsFor self.old ps → Grows ps ((type1_write_header register 1, Step.Open register 1) ∷ []) (in_write register 1) }
-        ensures word { (ps : List Packet) → MachineStandsFor (in_write register 1) ps → Grows ps ((w, Step.Payload register w) ∷ []) self.new }
+        ensures ends { result ≡ ends_session register word }
+        ensures head { (ps : List Packet) → MachineStandsFor self.old ps
+            → HasTakenWords ps ((type1_write_header register 1, Step.Open register 1) ∷ []) (in_write register 1) }
+        ensures word { (ps : List Packet) → MachineStandsFor (in_write register 1) ps → HasTakenWords ps ((word, Step.Payload register word) ∷ []) self.new }
     {
-        if ends_session(register, w) {
+        if ends_session(register, word) {
             *self = Machine::new();
             return true;
         }
@@ -138,10 +140,10 @@ impl Machine {
         requires at_header { self.old.due ≡ 0 }
         requires register { register < reg_number_count }
         requires not_cmd { register ≡ number_of Cmd → ⊥ }
-        ensures head { (ps : List Packet) (count : ℕ) → 0 < count → count < 2 ^ 11 → MachineStandsFor self.old ps
-            → Grows ps ((type1_write_header register count, Step.Open register count) ∷ []) (in_write register count) }
+        ensures head { (ps : List Packet) (count : ℕ) → 0 < count → count < type1_counts → MachineStandsFor self.old ps
+            → HasTakenWords ps ((type1_write_header register count, Step.Open register count) ∷ []) (in_write register count) }
         ensures words { (ps : List Packet) (ws : List ℕ) → AreWords ws → 0 < length ws → MachineStandsFor (in_write register (length ws)) ps
-            → Grows ps (payload_steps register ws) self.new }
+            → HasTakenWords ps (payload_steps register ws) self.new }
     {
         self.register = register;
         self.latest = Some(register);

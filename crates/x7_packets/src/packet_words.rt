@@ -1,8 +1,8 @@
 //! The words of packets, and those that stand between packets (UG470, packet types; configuration sequence).
-ghost use Rattle.std.specs.Prelude.{◌≡◌, ◌<◌, ◌^◌};
+ghost use Rattle.std.specs.Prelude.{◌≡◌, ◌<◌};
 ghost use Rattle.x7_regs.specs.Register.{reg_number_count};
-ghost use Rattle.x7_packets.specs.Packet.{register_of, type1_count_of, type2_count_of, type_and_opcode_of};
-ghost use Rattle.x7_packets.specs.PacketWords.{command, frame_data_headers, frame_read_headers, type1_read_header, type1_write_header, type2_read_header, type2_write_header, write_one};
+ghost use Rattle.x7_packets.specs.Packet.{packet_type_of, register_of, type1_count_of, type2_count_of, type_and_opcode_of};
+ghost use Rattle.x7_packets.specs.PacketWords.{command, frame_data_headers, frame_read_headers, type1_counts, type1_read_header, type1_write_header, type2_counts, type2_read_header, type2_write_header, write_one};
 
 use x7_regs::{Command, Reg};
 
@@ -39,6 +39,15 @@ pub const TYPE2_READ_KIND: u32 = 9;
 /// The packet type and the opcode of a type 2 write as one number, bits 31:27 of its header.
 pub const TYPE2_WRITE_KIND: u32 = 10;
 
+/// How many word counts a type 1 header can say: each is below this.
+pub const TYPE1_COUNTS: u32 = 1 << 11;
+
+/// How many word counts a type 2 header can say: each is below this.
+pub const TYPE2_COUNTS: u32 = 1 << 27;
+
+/// How many bits of a header stand below its packet type.
+const BELOW_TYPE: u32 = 29;
+
 /// How many bits of a header stand below its packet type and its opcode.
 const BELOW_KIND: u32 = 27;
 
@@ -53,6 +62,14 @@ const TYPE1_COUNT_BITS: u32 = 0x7FF;
 
 /// The bits of a type 2 header that are its word count, 26:0.
 const TYPE2_COUNT_BITS: u32 = 0x7FF_FFFF;
+
+/// The packet type of a word in a header's place, bits 31:29.
+#[inline(always)]
+pub(crate) fn packet_type_in(word: u32) -> u32
+    ensures { result ≡ packet_type_of word }
+{
+    word >> BELOW_TYPE
+}
 
 /// The packet type and the opcode of a header as one number, bits 31:27.
 #[inline(always)]
@@ -75,7 +92,7 @@ pub fn register_in(header: u32) -> u8
 #[inline(always)]
 pub fn type1_count_in(header: u32) -> u32
     ensures value { result ≡ type1_count_of header }
-    ensures most { result < 2 ^ 11 }
+    ensures most { result < type1_counts }
 {
     header & TYPE1_COUNT_BITS
 }
@@ -84,7 +101,7 @@ pub fn type1_count_in(header: u32) -> u32
 #[inline(always)]
 pub fn type2_count_in(header: u32) -> u32
     ensures value { result ≡ type2_count_of header }
-    ensures most { result < 2 ^ 27 }
+    ensures most { result < type2_counts }
 {
     header & TYPE2_COUNT_BITS
 }
@@ -93,7 +110,7 @@ pub fn type2_count_in(header: u32) -> u32
 #[inline(always)]
 pub fn type1_read_header(register: u8, count: u32) -> u32
     requires register { register < reg_number_count }
-    requires count { count < 2 ^ 11 }
+    requires count { count < type1_counts }
     ensures { result ≡ type1_read_header register count }
 {
     (TYPE1_READ_KIND << BELOW_KIND) + (u32::from(register) << BELOW_REGISTER) + count
@@ -103,7 +120,7 @@ pub fn type1_read_header(register: u8, count: u32) -> u32
 #[inline(always)]
 pub fn type1_write_header(register: u8, count: u32) -> u32
     requires register { register < reg_number_count }
-    requires count { count < 2 ^ 11 }
+    requires count { count < type1_counts }
     ensures { result ≡ type1_write_header register count }
 {
     (TYPE1_WRITE_KIND << BELOW_KIND) + (u32::from(register) << BELOW_REGISTER) + count
@@ -112,7 +129,7 @@ pub fn type1_write_header(register: u8, count: u32) -> u32
 /// The header of a type 2 read of `count` words.
 #[inline(always)]
 pub fn type2_read_header(count: u32) -> u32
-    requires { count < 2 ^ 27 }
+    requires { count < type2_counts }
     ensures { result ≡ type2_read_header count }
 {
     (TYPE2_READ_KIND << BELOW_KIND) + count
@@ -121,7 +138,7 @@ pub fn type2_read_header(count: u32) -> u32
 /// The header of a type 2 write of `count` words.
 #[inline(always)]
 pub fn type2_write_header(count: u32) -> u32
-    requires { count < 2 ^ 27 }
+    requires { count < type2_counts }
     ensures { result ≡ type2_write_header count }
 {
     (TYPE2_WRITE_KIND << BELOW_KIND) + count
@@ -146,7 +163,7 @@ pub fn command(c: Command) -> [u32; 2]
 /// The headers of a write of `count` words to FDRI: an empty type 1 packet, and a type 2 packet.
 #[inline(always)]
 pub fn frame_data_headers(count: u32) -> [u32; 2]
-    requires { count < 2 ^ 27 }
+    requires { count < type2_counts }
     ensures { result ≡ frame_data_headers count }
 {
     [
@@ -158,7 +175,7 @@ pub fn frame_data_headers(count: u32) -> [u32; 2]
 /// The headers of a read of `count` words from FDRO: an empty type 1 packet, and a type 2 packet.
 #[inline(always)]
 pub fn frame_read_headers(count: u32) -> [u32; 2]
-    requires { count < 2 ^ 27 }
+    requires { count < type2_counts }
     ensures { result ≡ frame_read_headers count }
 {
     [

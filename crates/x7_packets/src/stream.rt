@@ -5,7 +5,7 @@ ghost use Rattle.x7_packets.specs.Cutter.{IsNeed};
 ghost use Rattle.x7_packets.specs.Mode.{Mode};
 ghost use Rattle.x7_packets.specs.FoundRun.{FoundRun, found_of};
 ghost use Rattle.x7_packets.specs.PacketsState.{PacketsState, piece_size};
-ghost use Rattle.x7_packets.specs.Stream.{CallsOn, CutsNext, Fills, GivesRun, GivesUp, IsFoundRun, IsLastFound, MayCall, PacketsStandFor};
+ghost use Rattle.x7_packets.specs.Stream.{CutsNext, GivesRun, GivesUp, IsCallResult, IsFoundRun, IsLastFound, MayCall, PacketsStandFor, ReadsPiece};
 
 use crate::cutter::{Cut, Cutter};
 use crate::header::Step;
@@ -63,7 +63,7 @@ fn last_run_of(cut: Cut) -> Option<LastRun>
     }
 }
 
-/// A buffer of 65,536 bytes that begins with these; `NoMemory` where there is no memory for it.
+/// A buffer of `PIECE_SIZE` bytes that begins with these; `NoMemory` where there is no memory for it.
 fn buffer_of(alloc: Global, first: &[u8]) -> Result<Vec<u8>, NoMemory>
     requires { length first.now ≤ piece_size }
     ensures items { IfOk result (λ buffer. take (length first.now) buffer.items ≡ first.now) }
@@ -157,9 +157,10 @@ impl Packets {
     /// Finds the next run: reads and cuts until one was cut, or the tail or the end is next.
     fn advance<I: Inputs>(&mut self, inputs: &mut I) -> Result<(), Failed>
         requires { MayCall self.old (I.state inputs.old) }
-        ensures gives_run { OnOk result ((r : Run) → IsLastFound self.new r → GivesRun self.old self.new (I.state inputs.old).rest (I.state inputs.new).rest r) }
+        ensures gives_run { OnOk result ((r : Run) → IsLastFound self.new r
+            → GivesRun self.old self.new (I.state inputs.old).rest (I.state inputs.new).rest r) }
         ensures gives_up { OnErr result (GivesUp self.old self.new) }
-        ensures call { CallsOn self.old (I.state inputs.old) (I.state inputs.new) result }
+        ensures call { IsCallResult self.old (I.state inputs.old) (I.state inputs.new) result }
         ensures reads_no_more { self.old.is_done ≡ true → inputs.new ≡ inputs.old }
     {
         if self.has_failed {
@@ -223,7 +224,7 @@ impl Packets {
         requires selected { (I.state inputs.old).selected ≡ true }
         requires none_left { self.old.left ≡ [] }
         requires count { self.old.taken + piece_size < 2 ^ 64 }
-        ensures fills { IfOk result (λ gave_bytes. Fills self.old self.new (I.state inputs.old).rest (I.state inputs.new).rest gave_bytes) }
+        ensures fills { IfOk result (λ gave_bytes. ReadsPiece self.old self.new (I.state inputs.old).rest (I.state inputs.new).rest gave_bytes) }
         ensures loses_bytes { OnErr result (self.new ≡ record self.old { bytes = []; has_failed = true }) }
         ensures failed { OnErr result (InputsFail (I.state inputs.old) (I.state inputs.new)) }
         ensures selected { OnOk result ((I.state inputs.new).selected ≡ true) }

@@ -2,9 +2,9 @@
 ghost use Rattle.std.specs.Prelude.{◌≡◌, ℕ, List, [], ◌∷◌, ◌++◌, ◌<◌, ◌≤◌, ◌+◌, ◌↔◌, length, IsTrue, IfSome, if◌then◌else◌};
 ghost use Rattle.x7_packets.specs.AtOnce.{longest_gap_and_sync};
 ghost use Rattle.x7_packets.specs.SyncWord.{EndsWithSync, HasNoSync, sync_bytes};
-ghost use Rattle.x7_packets.specs.Matching.{IsClear, IsFirstSync, MatcherStandsFor, Searched, places_reach};
+ghost use Rattle.x7_packets.specs.Matching.{IsClear, IsFirstSync, IsSearchOutcome, MatcherStandsFor, places_reach};
 
-use crate::places::{PLACES_REACH, first_of_places, first_sync};
+use crate::fast::{PLACES_REACH, first_of_places, first_sync};
 use std::marker::Model;
 
 /// How many bytes the sync word has.
@@ -104,7 +104,7 @@ impl Matcher {
     /// sync word ends in them.
     pub(crate) fn search(&mut self, bytes: &[u8]) -> Option<usize>
         ensures within { IfSome result (λ n. (0 < n) × (n ≤ length bytes.now)) }
-        ensures found { (gap : List ℕ) → MatcherStandsFor self.old gap → HasNoSync gap → Searched gap bytes.now result self.new }
+        ensures found { (gap : List ℕ) → MatcherStandsFor self.old gap → HasNoSync gap → IsSearchOutcome gap bytes.now result self.new }
     {
         if bytes.len() < PLACES_REACH {
             return self.search_bytewise(bytes);
@@ -127,7 +127,7 @@ impl Matcher {
     /// all, where no sync word ends in them.
     fn search_bytewise(&mut self, bytes: &[u8]) -> Option<usize>
         ensures within { IfSome result (λ n. (0 < n) × (n ≤ length bytes.now)) }
-        ensures found { (gap : List ℕ) → MatcherStandsFor self.old gap → HasNoSync gap → Searched gap bytes.now result self.new }
+        ensures found { (gap : List ℕ) → MatcherStandsFor self.old gap → HasNoSync gap → IsSearchOutcome gap bytes.now result self.new }
     {
         for (i, byte) in bytes.iter().enumerate() {
             if self.feed(*byte) {

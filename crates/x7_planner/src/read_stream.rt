@@ -1,5 +1,6 @@
 //! The stream of a readback.
-ghost use Rattle.std.specs.Prelude.{◌≡◌, ◌⊎◌, ◌^◌, ◌<◌, IfOk, IfErr};
+ghost use Rattle.std.specs.Prelude.{◌≡◌, ◌⊎◌, ◌<◌, IfOk, IfErr};
+ghost use Rattle.x7_packets.specs.PacketWords.{type2_counts};
 ghost use Rattle.x7_planner.specs.ReadStream.{read_stream, read_of_words};
 ghost use Rattle.x7_planner.specs.Fault.{CanRead, IsReadFault};
 ghost use Rattle.x7_planner.specs.declared.fault.PlanFault.{PlanFault};
@@ -17,7 +18,7 @@ const READ_STREAM_WORDS: usize = 25;
 
 /// The stream that reads `word_count` words from an address on.
 fn read_of(alloc: Global, far: u32, word_count: u32) -> Result<Vec<u8>, NoMemory>
-    requires { word_count < 2 ^ 27 }
+    requires { word_count < type2_counts }
     ensures { IfOk result (λ bytes. bytes.items ≡ read_of_words far word_count) }
 {
     let mut writer = Writer::new(alloc, READ_STREAM_WORDS)?;

@@ -2,7 +2,7 @@
 use Rattle.std.proofs.Common.{◌≡◌, ℕ, zero, suc, ◌+◌, ◌<◌, ◌==◌, Bool, true, false, ◌&&◌, if◌then◌else◌, List, [], ◌∷◌, refl, ap, sym, ◌∙◌, arith, inl, inr, subst}
 use Rattle.std.proofs.lemmas.Bool.{cases_lt}
 use Rattle.std.proofs.lemmas.Grind.{common_steps}
-use Rattle.x7_regs.specs.Register.{reg_name, reg_names}
+use Rattle.x7_regs.specs.Register.{reg_name, reg_names, reg_number_count}
 
 same_text : List ℕ → List ℕ → Bool
 same_text [] [] = true
@@ -42,5 +42,5 @@ place_is (suc k) n h e =
       | inr above ↦ let same : k ≡ n = omega arith in let P : ℕ → Type 0 = λ j. place_in reg_names (reg_name j) ≡ j in subst P same (equal_numbers (place_in reg_names (reg_name k)) k parts.0)
     ]
 
-pub reg_name_distinct : (m n : ℕ) → m < 32 → n < 32 → reg_name m ≡ reg_name n → m ≡ n
+pub reg_name_distinct : (m n : ℕ) → m < reg_number_count → n < reg_number_count → reg_name m ≡ reg_name n → m ≡ n
 reg_name_distinct m n h k e = sym (place_is 32 m h all_stand) ∙ ap (place_in reg_names) e ∙ place_is 32 n k all_stand

@@ -1,9 +1,9 @@
 -- Each name stands at its own place in the tables, by a computed test.
-use Rattle.std.proofs.Common.{◌≡◌, ℕ, zero, suc, ◌<◌, ◌==◌, ◌%◌, ◌^◌, Bool, true, false, ◌&&◌, List, [], ◌∷◌, length, get_or, nat_lt, refl, ap, sym, ◌∙◌, arith, inl, inr, subst}
+use Rattle.std.proofs.Common.{◌≡◌, ℕ, zero, suc, ◌<◌, ◌==◌, Bool, true, false, ◌&&◌, List, [], ◌∷◌, length, get_or, nat_lt, refl, ap, sym, ◌∙◌, arith, inl, inr, subst}
 use Rattle.std.proofs.lemmas.Bool.{cases_lt}
 use Rattle.std.proofs.lemmas.Grind.{common_steps}
-use Rattle.x7_regs.specs.Register.{reg_name}
-use Rattle.x7_regs.specs.Command.{code_of, command_by, command_name_of}
+use Rattle.x7_regs.specs.Register.{reg_name, reg_number_count}
+use Rattle.x7_regs.specs.Command.{code_of, command_by, command_code_of, command_name_of}
 use Rattle.x7_regs.specs.Named.{place_of_name}
 use Rattle.x7_regs.specs.declared.command.Command.{Command}
 use Rattle.x7_regs.specs.declared.command.Command.TheVariants.{Null, Wcfg, Mfw, Lfrm, Rcfg, Start, Rcap, Rcrc, Aghigh, Switch, Grestore, Shutdown, Gcapture, Desync, Iprog, Crcc, Ltimer, BspiRead, FallEdge}
@@ -44,7 +44,7 @@ equal_numbers a b e = grind (arith, common_steps)
 less : (a b : ℕ) → nat_lt a b ≡ true → a < b
 less a b e = grind (arith, common_steps)
 
-pub register_place : (n : ℕ) → n < 32 → (get_or REGISTERS (place_of_name (reg_name n)) 0 ≡ n) × (1 < length (reg_name n)) × (length (reg_name n) < 10)
+pub register_place : (n : ℕ) → n < reg_number_count → (get_or REGISTERS (place_of_name (reg_name n)) 0 ≡ n) × (1 < length (reg_name n)) × (length (reg_name n) < 10)
 unfolding is_found
 register_place n h =
     let parts = both (get_or REGISTERS (place_of_name (reg_name n)) 0 == n) (nat_lt 1 (length (reg_name n)) && nat_lt (length (reg_name n)) 10) (each_holds is_found 32 n h all_found) in
@@ -60,13 +60,13 @@ all_below : are_below REGISTERS ≡ true
 unfolding are_below
 all_below = refl
 
-below_at : (xs : List ℕ) (k : ℕ) → are_below xs ≡ true → get_or xs k 0 < 32
+below_at : (xs : List ℕ) (k : ℕ) → are_below xs ≡ true → get_or xs k 0 < reg_number_count
 unfolding are_below
 below_at [] k e = omega arith
 below_at (x ∷ xs) zero e = less x 32 (both (nat_lt x 32) (are_below xs) e).0
 below_at (x ∷ xs) (suc k) e = below_at xs k (both (nat_lt x 32) (are_below xs) e).1
 
-pub register_below : (k : ℕ) → get_or REGISTERS k 0 < 32
+pub register_below : (k : ℕ) → get_or REGISTERS k 0 < reg_number_count
 register_below k = below_at REGISTERS k all_below
 
 pub command_place : (c : Command) → (get_or COMMANDS (place_of_name (command_name_of c)) 0 ≡ code_of c) × (1 < length (command_name_of c)) × (length (command_name_of c) < 10)
@@ -91,15 +91,15 @@ command_place BspiRead = (refl, omega arith, omega arith)
 command_place FallEdge = (refl, omega arith, omega arith)
 
 -- no name of a register, by its length
-pub no_register_length : (text : List ℕ) → (1 < length text → length text < 10 → ⊥) → (n : ℕ) → n < 32 → text ≡ reg_name n → ⊥
+pub no_register_length : (text : List ℕ) → (1 < length text → length text < 10 → ⊥) → (n : ℕ) → n < reg_number_count → text ≡ reg_name n → ⊥
 no_register_length text h n b e = let p = register_place n b in let l : length text ≡ length (reg_name n) = ap length e in h (omega (arith, p.1)) (omega (arith, p.2))
 
 -- no name of a register, where that of the table is another
-pub no_register : (text name : List ℕ) (k : ℕ) → k ≡ get_or REGISTERS (place_of_name text) 0 → name ≡ reg_name k → (name ≡ text → ⊥) → (n : ℕ) → n < 32 → text ≡ reg_name n → ⊥
+pub no_register : (text name : List ℕ) (k : ℕ) → k ≡ get_or REGISTERS (place_of_name text) 0 → name ≡ reg_name k → (name ≡ text → ⊥) → (n : ℕ) → n < reg_number_count → text ≡ reg_name n → ⊥
 no_register text name k found is other n b e =
     other (is ∙ ap reg_name (found ∙ ap (λ t. get_or REGISTERS (place_of_name t) 0) e ∙ (register_place n b).0) ∙ sym e)
 
-small : (c : Command) → code_of c % 2 ^ 5 ≡ code_of c
+small : (c : Command) → command_code_of (code_of c) ≡ code_of c
 small Null = refl
 small Wcfg = refl
 small Mfw = refl

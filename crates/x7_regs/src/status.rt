@@ -67,45 +67,45 @@ fn startup_state(phase: u8) -> u32
 /// The word of the status register.
 #[rattlefmt::skip]
 #[tactic(auto, unfolding(crate::specs::Status::status_of))]
-pub fn stat_word(p: &StatParts) -> u32
-    requires mode { p.now.mode < 8 }
-    requires phase { p.now.phase < 8 }
-    requires bus_width { p.now.bus_width < 4 }
-    ensures value { result ≡ status_of p.now }
-    ensures crc_error { field_of 0 1 result ≡ flag_of p.now.crc_error }
+pub fn stat_word(parts: &StatParts) -> u32
+    requires mode { parts.now.mode < 8 }
+    requires phase { parts.now.phase < 8 }
+    requires bus_width { parts.now.bus_width < 4 }
+    ensures value { result ≡ status_of parts.now }
+    ensures crc_error { field_of 0 1 result ≡ flag_of parts.now.crc_error }
     ensures part_secured { field_of 1 1 result ≡ 0 }
-    ensures lock { field_of 2 1 result ≡ flag_of p.now.lock }
-    ensures matched { field_of 3 1 result ≡ flag_of p.now.matched }
-    ensures eos { field_of 4 1 result ≡ flag_of p.now.eos }
-    ensures gts { field_of 5 1 result ≡ flag_of p.now.gts }
-    ensures gwe { field_of 6 1 result ≡ flag_of p.now.gwe }
-    ensures ghigh { field_of 7 1 result ≡ flag_of p.now.ghigh }
-    ensures mode { field_of 8 3 result ≡ p.now.mode }
+    ensures lock { field_of 2 1 result ≡ flag_of parts.now.lock }
+    ensures matched { field_of 3 1 result ≡ flag_of parts.now.matched }
+    ensures eos { field_of 4 1 result ≡ flag_of parts.now.eos }
+    ensures gts { field_of 5 1 result ≡ flag_of parts.now.gts }
+    ensures gwe { field_of 6 1 result ≡ flag_of parts.now.gwe }
+    ensures ghigh { field_of 7 1 result ≡ flag_of parts.now.ghigh }
+    ensures mode { field_of 8 3 result ≡ parts.now.mode }
     ensures init_complete { field_of 11 1 result ≡ 1 }
-    ensures init_b { field_of 12 1 result ≡ flag_of p.now.init_b }
-    ensures release_done { field_of 13 1 result ≡ flag_of p.now.done }
-    ensures done { field_of 14 1 result ≡ flag_of p.now.done }
-    ensures id_error { field_of 15 1 result ≡ flag_of p.now.id_error }
+    ensures init_b { field_of 12 1 result ≡ flag_of parts.now.init_b }
+    ensures release_done { field_of 13 1 result ≡ flag_of parts.now.done }
+    ensures done { field_of 14 1 result ≡ flag_of parts.now.done }
+    ensures id_error { field_of 15 1 result ≡ flag_of parts.now.id_error }
     ensures dec_error { field_of 16 1 result ≡ 0 }
     ensures over_temperature { field_of 17 1 result ≡ 0 }
-    ensures startup_state { field_of 18 3 result ≡ startup_state_of p.now.phase }
+    ensures startup_state { field_of 18 3 result ≡ startup_state_of parts.now.phase }
     ensures reserved { field_of 21 4 result ≡ 0 }
-    ensures bus_width { field_of 25 2 result ≡ p.now.bus_width }
+    ensures bus_width { field_of 25 2 result ≡ parts.now.bus_width }
     ensures upper { field_of 27 5 result ≡ 0 }
 {
-    flag(p.crc_error, 0)
-        + flag(p.lock, 2)
-        + flag(p.matched, 3)
-        + flag(p.eos, 4)
-        + flag(p.gts, 5)
-        + flag(p.gwe, 6)
-        + flag(p.ghigh, 7)
-        + u32::from(p.mode) * (1 << 8)
+    flag(parts.crc_error, 0)
+        + flag(parts.lock, 2)
+        + flag(parts.matched, 3)
+        + flag(parts.eos, 4)
+        + flag(parts.gts, 5)
+        + flag(parts.gwe, 6)
+        + flag(parts.ghigh, 7)
+        + u32::from(parts.mode) * (1 << 8)
         + (1 << 11)
-        + flag(p.init_b, 12)
-        + flag(p.done, 13)
-        + flag(p.done, 14)
-        + flag(p.id_error, 15)
-        + startup_state(p.phase) * (1 << 18)
-        + u32::from(p.bus_width) * (1 << 25)
+        + flag(parts.init_b, 12)
+        + flag(parts.done, 13)
+        + flag(parts.done, 14)
+        + flag(parts.id_error, 15)
+        + startup_state(parts.phase) * (1 << 18)
+        + u32::from(parts.bus_width) * (1 << 25)
 }

@@ -7,7 +7,7 @@ use Rattle.x7_packets.specs.ByHand.{reading_of}
 use Rattle.x7_packets.proofs.ByHandLemmas.{reading_is}
 use Rattle.x7_listing.specs.Listing.{IsListing, listing_of, reading_text}
 use Rattle.x7_listing.specs.StreamListing.{stream_listing}
-use Rattle.x7_listing.specs.Lister.{Finished, ListerStandsFor, ListerState}
+use Rattle.x7_listing.specs.Lister.{HasFinished, ListerStandsFor, ListerState}
 use Rattle.x7_listing.proofs.PrefixLemmas.{listed_prefix}
 use Rattle.x7_words.specs.Input.{InputsState, AtEnd, RestIsWhole, InputsStay, preceded}
 use Rattle.x7_words.proofs.ListLemmas.{all_append, all_back}
@@ -69,7 +69,7 @@ lists_part l fed first mid now bytes piece rest text t feeds same prefix fits =
 
 -- the end of a listing was written
 pub end_put : (l done : ListerState) (first mid now : Option (List ℕ)) (bytes text : List ℕ) → Lists l first mid bytes
-    → ((given before taken : List ℕ) → ListerStandsFor l given before taken → Finished done given before taken) → text ≡ done.text → now ≡ appended mid text → now ≡ appended first (listing_of bytes)
+    → ((given before taken : List ℕ) → ListerStandsFor l given before taken → HasFinished done given before taken) → text ≡ done.text → now ≡ appended mid text → now ≡ appended first (listing_of bytes)
 end_put l done first mid now bytes text t ends same put =
     let f = ends t.given [] bytes t.stands in
     let whole : t.given ++ text ≡ listing_of bytes = ap (λ x. t.given ++ x) same ∙ f.listed ∙ listing_is bytes f.listing f.listing_is in
@@ -77,7 +77,7 @@ end_put l done first mid now bytes text t ends same put =
 
 -- the end of a listing was written in part
 pub end_part : (l done : ListerState) (first mid now : Option (List ℕ)) (bytes text : List ℕ) → Lists l first mid bytes
-    → ((given before taken : List ℕ) → ListerStandsFor l given before taken → Finished done given before taken) → text ≡ done.text → PutsPrefix mid text now → PutsPrefix first (listing_of bytes) now
+    → ((given before taken : List ℕ) → ListerStandsFor l given before taken → HasFinished done given before taken) → text ≡ done.text → PutsPrefix mid text now → PutsPrefix first (listing_of bytes) now
 end_part l done first mid now bytes text t ends same prefix =
     let f = ends t.given [] bytes t.stands in
     let whole : listing_of bytes ≡ t.given ++ (text ++ []) = sym (ap (λ x. t.given ++ x) (append-nil text ∙ same) ∙ f.listed ∙ listing_is bytes f.listing f.listing_is) in
@@ -85,7 +85,7 @@ end_part l done first mid now bytes text t ends same prefix =
 
 -- what a lister that was fed all of a stream's data lists
 pub whole_text : (l fed done : ListerState) (content text : List ℕ) → ListerStandsFor l [] [] [] → ((given before taken : List ℕ) → ListerStandsFor l given before taken → ListerStandsFor fed given before (taken ++ content))
-    → ((given before taken : List ℕ) → ListerStandsFor fed given before taken → Finished done given before taken) → text ≡ done.text → text ≡ listing_of content
+    → ((given before taken : List ℕ) → ListerStandsFor fed given before taken → HasFinished done given before taken) → text ≡ done.text → text ≡ listing_of content
 whole_text l fed done content text stands feeds ends same =
     let f = ends [] [] content (feeds [] [] [] stands) in
     same ∙ f.listed ∙ listing_is content f.listing f.listing_is

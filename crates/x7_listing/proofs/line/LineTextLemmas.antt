@@ -7,7 +7,7 @@ use Rattle.std.specs.Fmt.{decimal}
 use Rattle.std.specs.List.{flat_map}
 use Rattle.std.specs.Str.{all_ascii_digits}
 use Rattle.x7_words.specs.Word.{bytes_of_word}
-use Rattle.x7_regs.specs.Register.{reg_name}
+use Rattle.x7_regs.specs.Register.{reg_name, reg_number_count}
 use Rattle.x7_regs.specs.Command.{code_of, command_by, command_name_of}
 use Rattle.x7_regs.specs.declared.command.Command.{Command}
 use Rattle.x7_regs.specs.declared.command.Command.TheVariants as command
@@ -18,6 +18,7 @@ use Rattle.x7_text.proofs.PieceLemmas.{free_both, free_more, hex_free, word_free
 use Rattle.x7_listing.specs.HeadLine.{command_line}
 use Rattle.x7_listing.specs.Line.{Line, Empty, Comment, Bytes, Sync, Nop, Write, Read, Write2, Read2, Word, Data, Cmd, Check, cmd_line, ended_text, line_bytes, FitsLine, IsListed, text_of}
 use Rattle.x7_listing.proofs.GuessLemmas.{own, each_name, each_holds}
+use Rattle.x7_packets.specs.PacketWords.{type1_counts}
 
 -- texts that hold no line end
 words_free : (ws : List ℕ) → has_no_end (flat_map spaced ws) ≡ true
@@ -41,7 +42,7 @@ all_no_end : each_name no_end 32 ≡ true
 unfolding each_name no_end
 all_no_end = refl
 
-name_free : (n : ℕ) → n < 32 → has_no_end (reg_name n) ≡ true
+name_free : (n : ℕ) → n < reg_number_count → has_no_end (reg_name n) ≡ true
 unfolding no_end
 name_free n h = each_holds no_end 32 n h all_no_end
 
@@ -66,7 +67,7 @@ command_free command.Ltimer = refl
 command_free command.BspiRead = refl
 command_free command.FallEdge = refl
 
-type1_free : (n c : ℕ) → n < 32 → c < 2 ^ 11 → has_no_end (reg_name n ++ 32 ∷ decimal c) ≡ true
+type1_free : (n c : ℕ) → n < reg_number_count → c < type1_counts → has_no_end (reg_name n ++ 32 ∷ decimal c) ≡ true
 type1_free n c h k = free_both (reg_name n) (32 ∷ decimal c) (name_free n h) (decimal_free c (omega arith))
 
 pub line_free : (l : Line) → FitsLine l → IsListed l → has_no_end (text_of l) ≡ true

@@ -1,7 +1,7 @@
 -- What a lister of pieces stands for after a run, after a piece, and at the end of a listing.
 use Rattle.std.proofs.Common.{◌≡◌, ℕ, ◌+◌, ◌-◌, ◌<◌, ◌≤◌, Bool, true, false, List, [], ◌++◌, length, take, drop, take-add, take_all, length-take-le, length-drop, length-append, refl, ap, sym, subst, ◌∙◌, append_assoc, append-nil, arith, codes, Vec}
 use Rattle.std.specs.declared.alloc.Global.{Global}
-use Rattle.x7_packets.specs.Reading.{Place, Searching, Session, IsReading, tail_of}
+use Rattle.x7_packets.specs.Reading.{Place, Searching, EndedSession, IsReading, tail_of}
 use Rattle.x7_packets.specs.Cutter.{between, CutterState, CutterStandsFor, ComesNearer, IsRun, syncs_to_give, AfterRun}
 use Rattle.x7_packets.specs.Mode.{Mode}
 use Rattle.x7_packets.specs.declared.cutter.Cut.{Cut}
@@ -25,7 +25,7 @@ reached piece at to h = let e : at + (to - at) ≡ to = omega arith in sym (take
 -- a call of the cutter, and what its run writes
 pub took : (c d : CutterState) (run : Cut) (synced s2 : Bool) (line l2 at to : ℕ) (held h2 text text2 given before bytes piece : List ℕ)
     → HasListedJust (lister_of c synced line held text) given before (bytes ++ take at piece) → at ≤ to
-    → ((bs : List ℕ) (sessions : List Session) (spot : Place) → CutterStandsFor c bs sessions spot → AfterRun c d (bs ++ between piece at to) sessions spot run)
+    → ((bs : List ℕ) (sessions : List EndedSession) (spot : Place) → CutterStandsFor c bs sessions spot → AfterRun c d (bs ++ between piece at to) sessions spot run)
     → IsRun run → WritesRun run (written_of synced line held (given ++ text)) (written_of s2 l2 h2 (given ++ text2))
     → HasListedJust (lister_of d s2 l2 h2 text2) given before (bytes ++ take to piece)
 took c d run synced s2 line l2 at to held h2 text text2 given before bytes piece s h went is writes =
@@ -47,7 +47,7 @@ listed_as c d t u synced line held given before bytes e f s =
 -- the last call of the cutter, with the piece used up
 pub took_all : (c d : CutterState) (run : Cut) (synced : Bool) (line at to : ℕ) (held text given before bytes piece : List ℕ)
     → HasListedJust (lister_of c synced line held text) given before (bytes ++ take at piece) → at ≤ to → length piece ≤ to → run ≡ Need
-    → ((bs : List ℕ) (sessions : List Session) (spot : Place) → CutterStandsFor c bs sessions spot → AfterRun c d (bs ++ between piece at to) sessions spot run)
+    → ((bs : List ℕ) (sessions : List EndedSession) (spot : Place) → CutterStandsFor c bs sessions spot → AfterRun c d (bs ++ between piece at to) sessions spot run)
     → ListerStandsFor (lister_of d synced line held text) given before (bytes ++ piece)
 took_all c d run synced line at to held text given before bytes piece s h full is went =
     let w0 : AfterRun c d (bytes ++ take at piece ++ between piece at to) s.sessions s.at run = went (bytes ++ take at piece) s.sessions s.at s.cut in
@@ -67,7 +67,7 @@ not_gap (pen.Gap gap) n = absurd (n gap refl)
 not_gap (pen.Session words) n = refl
 not_gap (pen.Tail words tail) n = refl
 
-pub ended_gap : (synced : Bool) (line : ℕ) (held given old new before bytes : List ℕ) (sessions : List Session) (spot : Place) (m : Mode) → synced ≡ false → HasListed (written_of synced line held (given ++ old)) before sessions spot m → (m ≡ Mode.SyncFound → ⊥)
+pub ended_gap : (synced : Bool) (line : ℕ) (held given old new before bytes : List ℕ) (sessions : List EndedSession) (spot : Place) (m : Mode) → synced ≡ false → HasListed (written_of synced line held (given ++ old)) before sessions spot m → (m ≡ Mode.SyncFound → ⊥)
     → new ≡ old ++ open_text 32 (codes "bytes ") hex_byte line held ++ close (in_line_after 32 line held) → given ++ new ≡ before ++ reading_text sessions spot
 ended_gap synced line held given old new before bytes sessions spot m is t d e =
     let t2 : HasListed (written_of false line held (given ++ old)) before sessions spot m = subst (λ s. HasListed (written_of s line held (given ++ old)) before sessions spot m) is t in
@@ -75,7 +75,8 @@ ended_gap synced line held given old new before bytes sessions spot m is t d e =
     gap_ended (given ++ old) (given ++ new) before line held bytes sessions spot m t2 d
     (ap (λ x. given ++ x) e ∙ sym (append_assoc given (old ++ B) (close (in_line_after 32 line held))) ∙ ap (λ x. x ++ close (in_line_after 32 line held)) (sym (append_assoc given old B)))
 
-pub ended_session : (synced : Bool) (line : ℕ) (held kept given old new before bytes : List ℕ) (sessions : List Session) (spot : Place) (m : Mode) → synced ≡ true → HasListed (written_of synced line held (given ++ old)) before sessions spot m → IsReading bytes sessions spot → kept ≡ tail_of spot
+pub ended_session : (synced : Bool) (line : ℕ) (held kept given old new before bytes : List ℕ) (sessions : List EndedSession) (spot : Place) (m : Mode)
+    → synced ≡ true → HasListed (written_of synced line held (given ++ old)) before sessions spot m → IsReading bytes sessions spot → kept ≡ tail_of spot
     → new ≡ old ++ close line ++ open_text 32 (codes "bytes ") hex_byte 0 kept ++ close (in_line_after 32 0 kept) → given ++ new ≡ before ++ reading_text sessions spot
 ended_session synced line held kept given old new before bytes sessions spot m is t r k e =
     let t2 : HasListed (written_of true line held (given ++ old)) before sessions spot m = subst (λ s. HasListed (written_of s line held (given ++ old)) before sessions spot m) is t in
@@ -93,7 +94,9 @@ begins c synced line held text given before s e f g t d =
         sessions = [];
         at = Searching [];
         cut = s;
-        listed = subst (λ x. HasListed (written_of x line held (given ++ text)) before [] (Searching []) c.mode) (sym e) (subst (λ x. HasListed (written_of false x held (given ++ text)) before [] (Searching []) c.mode) (sym f) (subst (λ x. HasListed (written_of false 0 x (given ++ text)) before [] (Searching []) c.mode) (sym g)
+        listed = subst (λ x. HasListed (written_of x line held (given ++ text)) before [] (Searching []) c.mode) (sym e)
+            (subst (λ x. HasListed (written_of false x held (given ++ text)) before [] (Searching []) c.mode) (sym f)
+            (subst (λ x. HasListed (written_of false 0 x (given ++ text)) before [] (Searching []) c.mode) (sym g)
             (fresh_gap (given ++ text) (before ++ []) [] refl (t ∙ sym (append-nil before)))));
       };
       ready = d;
@@ -116,7 +119,7 @@ moved c synced line held text given before bytes r =
       ready = r.ready;
     }
 
-same_text : (ss ts : List Session) (p q : Place) → ss ≡ ts → p ≡ q → reading_text ss p ≡ reading_text ts q
+same_text : (ss ts : List EndedSession) (p q : Place) → ss ≡ ts → p ≡ q → reading_text ss p ≡ reading_text ts q
 same_text ss ts p q e f = ap (λ x. reading_text x p) e ∙ ap (reading_text ts) f
 
 pub one_listing : (bytes t u : List ℕ) → IsListing bytes t → IsListing bytes u → t ≡ u

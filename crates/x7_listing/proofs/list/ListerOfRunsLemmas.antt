@@ -1,8 +1,8 @@
 -- Lemmas on specs/ListerOfRuns.
 use Rattle.std.proofs.Common.{◌≡◌, ℕ, Bool, true, false, List, [], ◌++◌, Bor, if◌then◌else◌, refl, ap, sym, subst, ◌∙◌, append-nil}
 use Rattle.std.specs.List.{flat_map}
-use Rattle.x7_packets.specs.Reading.{Place, Searching, Synced, Session, IsReading, tail_of}
-use Rattle.x7_packets.specs.Cutter.{Adds, CutterStandsFor, IsNeed, IsRun}
+use Rattle.x7_packets.specs.Reading.{Place, Searching, Synced, EndedSession, IsReading, tail_of}
+use Rattle.x7_packets.specs.Cutter.{CutAdds, CutterStandsFor, IsNeed, IsRun}
 use Rattle.x7_packets.specs.Run.{FitsRun, IsNext, RunAdds, cut_of, is_last, bytes_of_run}
 use Rattle.x7_packets.specs.declared.cutter.Cut.{Cut}
 use Rattle.x7_packets.specs.Mode.{Mode}
@@ -11,7 +11,7 @@ use Rattle.x7_packets.specs.declared.stream.Run.TheVariants as run
 use Rattle.x7_packets.proofs.StreamLemmas.{bare_after}
 use Rattle.x7_packets.proofs.UniqueLemmas.{one_reading}
 use Rattle.x7_listing.specs.Listing.{reading_text, session_text}
-use Rattle.x7_listing.specs.Lister.{Finished, ListerState, TakerStandsFor, SessionListed, HasListed, HasListedAt, WritesRun, written_of}
+use Rattle.x7_listing.specs.Lister.{HasFinished, ListerState, TakerStandsFor, SessionListed, HasListed, HasListedAt, WritesRun, written_of}
 use Rattle.x7_listing.specs.ListerOfRuns.{TakesRun, runs_listed}
 use Rattle.x7_listing.proofs.GapLemmas.{fresh_gap}
 use Rattle.x7_listing.proofs.list.ListerLemmas.{begins, not_sync_found}
@@ -27,7 +27,7 @@ goes_on (run.Body register bytes) e n = n
 goes_on (run.Tail bytes) e n = let f : true ≡ false = e in cc
 goes_on run.End e n = let f : true ≡ false = e in cc
 
-cut_adds : (r : Run) (sessions new_sessions : List Session) (place new : Place) → is_last r ≡ false → RunAdds r sessions place new_sessions new → Adds (cut_of r) sessions place new_sessions new
+cut_adds : (r : Run) (sessions new_sessions : List EndedSession) (place new : Place) → is_last r ≡ false → RunAdds r sessions place new_sessions new → CutAdds (cut_of r) sessions place new_sessions new
 cut_adds (run.Skip bytes) s ns p n e a = a
 cut_adds run.Sync s ns p n e a = a
 cut_adds (run.Head w step) s ns p n e a = a
@@ -57,11 +57,11 @@ takes_as run.End l given before bytes due e t = absurd (let g : true ≡ false =
 -- ---- a run
 
 -- what was listed of bytes, by any reading of them
-listed_by : (l : ListerState) (given before bytes : List ℕ) (due : Mode) (t : TakerStandsFor l given before bytes due) (sessions : List Session) (place : Place) → IsReading bytes sessions place
+listed_by : (l : ListerState) (given before bytes : List ℕ) (due : Mode) (t : TakerStandsFor l given before bytes due) (sessions : List EndedSession) (place : Place) → IsReading bytes sessions place
     → HasListed (written_of l.is_synced l.in_line l.held (given ++ l.text)) before sessions place due × (t.at ≡ place)
 listed_by l given before bytes due t sessions place r =
     let e : (t.sessions ≡ sessions) × (t.at ≡ place) = one_reading bytes t.sessions sessions t.at place t.reading r in (
-      subst (λ p. HasListed (written_of l.is_synced l.in_line l.held (given ++ l.text)) before sessions p due) e.1 (subst (λ (s : List Session). HasListed (written_of l.is_synced l.in_line l.held (given ++ l.text)) before s t.at due) e.0 t.listed),
+      subst (λ p. HasListed (written_of l.is_synced l.in_line l.held (given ++ l.text)) before sessions p due) e.1 (subst (λ (s : List EndedSession). HasListed (written_of l.is_synced l.in_line l.held (given ++ l.text)) before s t.at due) e.0 t.listed),
       e.1,
     )
 
@@ -70,7 +70,7 @@ pub takes_run : (l n : ListerState) (r : Run) (given before bytes : List ℕ) (d
     → TakerStandsFor l given before bytes due → IsNext bytes due r next → TakesRun r n (runs_listed given before (bytes ++ bytes_of_run r) next)
 takes_run l n r given before bytes due next on same writes none t x =
     let listed = (listed_by l given before bytes due t x.sessions x.place x.before).0 in
-    let adds : Adds (cut_of r) x.sessions x.place x.new_sessions x.new_place = cut_adds r x.sessions x.new_sessions x.place x.new_place on x.adds in
+    let adds : CutAdds (cut_of r) x.sessions x.place x.new_sessions x.new_place = cut_adds r x.sessions x.new_sessions x.place x.new_place on x.adds in
     takes_as r n given before (bytes ++ bytes_of_run r) next on (record {
       sessions = x.new_sessions;
       at = x.new_place;
@@ -100,14 +100,14 @@ takes_cut l n r k given before bytes due next no_tail no_end same e writes none 
 
 -- ---- the tail
 
-listed_tail : (synced : Bool) (line l2 : ℕ) (held all before : List ℕ) (bytes : Bor (List ℕ)) (sessions new_sessions : List Session) (place new : Place) (old next : Mode) → (synced ≡ true → l2 ≡ line)
+listed_tail : (synced : Bool) (line l2 : ℕ) (held all before : List ℕ) (bytes : Bor (List ℕ)) (sessions new_sessions : List EndedSession) (place new : Place) (old next : Mode) → (synced ≡ true → l2 ≡ line)
     → HasListed (written_of synced line held all) before sessions place old → RunAdds (run.Tail bytes) sessions place new_sessions new → (old ≡ Mode.SyncFound → ⊥) → (next ≡ Mode.SyncFound → ⊥)
     → HasListed (written_of true l2 bytes.now all) before new_sessions new next × (tail_of new ≡ bytes.now)
 listed_tail synced line l2 held all before bytes sessions ns (Searching gap) new old next same t a d e = absurd a
 listed_tail false line l2 held all before bytes sessions ns (Synced gap packets tail) new old next same t a d e = absurd (d t.0)
 listed_tail true line l2 held all before bytes sessions ns (Synced gap packets tail) new old next same t a d e = (
   subst (λ p. HasListedAt (written_of true l2 bytes.now all) (before ++ flat_map session_text ns) p next) (sym a.2)
-      (e, subst (λ (l : ℕ). SessionListed all (before ++ flat_map session_text ns) l gap packets) (sym (same refl)) (subst (λ (s : List Session). SessionListed all (before ++ flat_map session_text s) line gap packets) (sym a.0) t.1)),
+      (e, subst (λ (l : ℕ). SessionListed all (before ++ flat_map session_text ns) l gap packets) (sym (same refl)) (subst (λ (s : List EndedSession). SessionListed all (before ++ flat_map session_text s) line gap packets) (sym a.0) t.1)),
   ap tail_of a.2,
 )
 
@@ -139,9 +139,9 @@ starts l given before c s i h e = record {
 }
 
 pub takes_end : (l n : ListerState) (given before bytes : List ℕ) (due next : Mode) → n.cutter ≡ l.cutter → n.is_synced ≡ false → n.in_line ≡ 0 → n.held ≡ []
-    → ((given before bytes : List ℕ) (sessions : List Session) (place : Place) (m : Mode) → HasListed (written_of l.is_synced l.in_line l.held (given ++ l.text)) before sessions place m → (m ≡ Mode.SyncFound → ⊥) → IsReading bytes sessions place
+    → ((given before bytes : List ℕ) (sessions : List EndedSession) (place : Place) (m : Mode) → HasListed (written_of l.is_synced l.in_line l.held (given ++ l.text)) before sessions place m → (m ≡ Mode.SyncFound → ⊥) → IsReading bytes sessions place
     → (l.is_synced ≡ true → l.held ≡ tail_of place) → given ++ n.text ≡ before ++ reading_text sessions place)
-    → TakerStandsFor l given before bytes due → IsNext bytes due run.End next → Finished n given before (bytes ++ [])
+    → TakerStandsFor l given before bytes due → IsNext bytes due run.End next → HasFinished n given before (bytes ++ [])
 takes_end l n given before bytes due next c s i h writes t x =
     let cutter : CutterStandsFor n.cutter [] [] (Searching []) = rw c t.cutter in
     let listing : List ℕ = reading_text t.sessions t.at in
@@ -155,7 +155,7 @@ takes_end l n given before bytes due next c s i h writes t x =
     }
 
 -- the bytes that a pen holds at the end are the tail
-pub last_kept : (synced : Bool) (line : ℕ) (held all before : List ℕ) (sessions : List Session) (place : Place) (m : Mode) → HasListed (written_of synced line held all) before sessions place m
+pub last_kept : (synced : Bool) (line : ℕ) (held all before : List ℕ) (sessions : List EndedSession) (place : Place) (m : Mode) → HasListed (written_of synced line held all) before sessions place m
     → (m ≡ Mode.SyncFound → ⊥) → (synced ≡ true → held ≡ tail_of place) → (if synced then held else []) ≡ tail_of place
 last_kept true line held all before sessions place m t d k = k refl
 last_kept false line held all before sessions (Searching gap) m t d k = refl

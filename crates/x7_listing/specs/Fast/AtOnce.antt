@@ -1,21 +1,11 @@
--- The lines of what is listed at once: no-ops in a row, and short writes; the rows of the tables that hold them; and
--- where a `data` line has its digits (this project's choice).
+-- The lines of short writes, which are listed at once; the rows of the tables that hold them; and where a `data` line
+-- has its digits (this project's choice).
 use Rattle.std.specs.Prelude.{◌≡◌, ◌==◌, Bool, not, ℕ, zero, suc, ◌+◌, List, [], ◌∷◌, ◌++◌, codes, drop, get_or, take}
-use Rattle.x7_packets.specs.PacketWords.{no_op, type1_write_header}
-use Rattle.x7_packets.specs.declared.header.Step.{Step}
-use Rattle.x7_packets.specs.declared.header.Step.TheVariants.{Nop, Open}
+use Rattle.x7_packets.specs.PacketWords.{type1_write_header}
+use Rattle.x7_packets.specs.declared.header.Step.TheVariants.{Open}
 use Rattle.x7_regs.specs.Register.{number_of, reg_name}
 use Rattle.x7_regs.specs.declared.register.Reg.TheVariants.{Cmd}
 use Rattle.x7_listing.specs.HeadLine.{command_line, text_of_head}
-
--- the lines of a word in a header's place, this many times
-abbrev pub equal_lines : Step → ℕ → ℕ → List ℕ
-equal_lines step w zero = []
-equal_lines step w (suc n) = text_of_head step w ++ equal_lines step w n
-
--- the lines of this many no-ops
-abbrev pub nop_lines : ℕ → List ℕ
-nop_lines n = equal_lines Nop no_op n
 
 -- the line, with its end, of the header of a write of `count` words to a register
 abbrev pub write_head_text : ℕ → ℕ → List ℕ

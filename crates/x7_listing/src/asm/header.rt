@@ -71,7 +71,8 @@ fn first_field(alloc: Global, text: &[u8]) -> Result<Option<(Vec<u8>, &[u8])>, N
 
 /// The header whose line this is, as bytes; `None` where the text is no header's line.
 pub(crate) fn header_of_line(alloc: Global, line: &[u8]) -> Result<Option<Vec<u8>>, NoMemory>
-    ensures found { IfOk result (λ found. MatchOption found ((x : HeaderContents) → FitsHeader x → line.now ≢ bit_text x) (λ bytes. IsHeaderOf line.now bytes.items)) }
+    ensures found { IfOk result (λ found. MatchOption found ((x : HeaderContents) → FitsHeader x → line.now ≢ bit_text x)
+        (λ bytes. IsHeaderOf line.now bytes.items)) }
     ensures most { IfOk result (λ found. IfSome found (λ bytes. vec_len bytes ≤ longest_header)) }
 {
     let Some(fields) = after(line, b"bit ") else {

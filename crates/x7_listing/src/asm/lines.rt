@@ -1,5 +1,5 @@
 //! The bytes of a text's lines, as the lines come.
-ghost use Rattle.std.specs.Prelude.{◌≡◌, ℕ, List, [], ◌∷◌, ◌++◌, ◌+◌, ◌≤◌, drop, length, vec_len, vec_capacity, Ok, IfErr, OnOk, MatchResult};
+ghost use Rattle.std.specs.Prelude.{◌≡◌, ℕ, List, [], ◌∷◌, ◌++◌, ◌+◌, ◌≤◌, drop, length, vec_capacity, Ok, IfErr, OnOk, MatchResult};
 ghost use Rattle.x7_text.specs.Reads.{AppendsIfRead};
 ghost use Rattle.x7_crc.specs.Checker.{check_of_bytes, KeepsCheckOf};
 ghost use Rattle.x7_listing.specs.Assembly.{AreHeadedAsm};
@@ -7,9 +7,9 @@ ghost use Rattle.x7_listing.specs.Assembling.{HasReadWithRoom, FailsFirst, Fails
 ghost use Rattle.x7_listing.specs.Line.{line_bytes, FitsLine, text_of};
 ghost use Rattle.x7_listing.specs.declared.assembler.AsmFault.{AsmFault};
 
-use super::fast::{WholeLines, next_line, put_quick_after_first_line};
+use super::fast::{WholeLines, next_line, read_quick_after_first_line};
 use super::header::header_of_line;
-use super::reading::{MOST_ROW_SIZE, put_line};
+use super::reading::{MOST_ROW_SIZE, read_line};
 use crate::assembler::{ASM_LIMIT, AsmFault};
 use std::alloc::Global;
 use std::marker::Model;
@@ -19,7 +19,7 @@ use x7_words::is_same;
 
 /// Appends the bytes of a line to those of the lines before, which stand from `start` on and whose check the checker
 /// keeps. `false`: the text is that of no line.
-fn put_checked(out: &mut Vec<u8>, start: usize, checker: &mut Checker, line: &[u8]) -> bool
+fn read_checked_line(out: &mut Vec<u8>, start: usize, checker: &mut Checker, line: &[u8]) -> bool
     requires room { HasRoomForLine out.old }
     requires start { start ≤ length out.old.items }
     requires keeps { KeepsCheckOf checker.old (drop start out.old.items) }
@@ -28,10 +28,10 @@ fn put_checked(out: &mut Vec<u8>, start: usize, checker: &mut Checker, line: &[u
     ensures keeps { KeepsCheckOf checker.new (drop start out.new.items) }
 {
     if !is_same(line, b"crc") {
-        return put_line(out, 0, line);
+        return read_line(out, 0, line);
     }
     let check = checker.check_of(&out[start..]);
-    put_line(out, check, line)
+    read_line(out, check, line)
 }
 
 /// The bytes that the lines of a text gave so far, the place where those after a header begin, and their check.
@@ -69,14 +69,14 @@ impl AsmLines {
 
     /// Appends the bytes of line `n`, counted from 1, which is no header's, and makes room for those of the next. Where
     /// there was room for those of line `n`, memory is wanting only once that line is read.
-    fn put_one(&mut self, n: u64, line: &[u8]) -> Result<(), AsmFault>
+    fn read_one(&mut self, n: u64, line: &[u8]) -> Result<(), AsmFault>
         ensures reads { OnOk result (ReadsNext self.old self.new n line.now) }
         ensures room { OnOk result (HasLineRoom self.new) }
         ensures fault { IfErr result (FailsNext self.old n line.now) }
         ensures memory { IfErr result (λ fault. fault ≡ AsmFault.NoMemory → HasLineRoom self.old → ReadsNext self.old self.new n line.now) }
     {
         self.out.reserve(MOST_ROW_SIZE)?;
-        if !put_checked(&mut self.out, self.start, &mut self.checker, line) {
+        if !read_checked_line(&mut self.out, self.start, &mut self.checker, line) {
             return Err(AsmFault::Line(n));
         }
         if self.out.len() > ASM_LIMIT {
@@ -87,7 +87,7 @@ impl AsmLines {
     }
 
     /// Appends the bytes of the first line, which may be a header's, and makes room for those of the next.
-    fn put_first(&mut self, line: &[u8]) -> Result<(), AsmFault>
+    fn read_first(&mut self, line: &[u8]) -> Result<(), AsmFault>
         ensures reads { OnOk result (ReadsFirst self.old self.new line.now) }
         ensures room { OnOk result (HasLineRoom self.new) }
         ensures fault { IfErr result (FailsFirst self.old line.now) }
@@ -99,26 +99,27 @@ impl AsmLines {
             self.out.reserve(MOST_ROW_SIZE)?;
             return Ok(());
         }
-        self.put_one(1, line)
+        self.read_one(1, line)
     }
 
     /// Appends the bytes of line `n`, counted from 1. Memory is wanting only at the first line, or where all lines up
     /// to line `n` are good.
-    fn put_next(&mut self, n: u64, line: &[u8]) -> Result<(), AsmFault>
+    fn read_next(&mut self, n: u64, line: &[u8]) -> Result<(), AsmFault>
         ensures read { (lines : List (List ℕ)) → n ≡ length lines + 1 → HasReadWithRoom self.old lines
-            → MatchResult result (λ _. HasReadWithRoom self.new (lines ++ line.now ∷ [])) (λ f. (left : List (List ℕ)) → HasAsmFault f (lines ++ line.now ∷ left)) }
+            → MatchResult result (λ _. HasReadWithRoom self.new (lines ++ line.now ∷ []))
+            (λ f. (left : List (List ℕ)) → HasAsmFault f (lines ++ line.now ∷ left)) }
         ensures memory { (lines : List (List ℕ)) → n ≡ length lines + 1 → HasReadWithRoom self.old lines
             → IfErr result (λ fault. fault ≡ AsmFault.NoMemory → IsFirstOrGood lines line.now) }
     {
         if n == 1 {
-            return self.put_first(line);
+            return self.read_first(line);
         }
-        self.put_one(n, line)
+        self.read_one(n, line)
     }
 
     /// Appends the bytes of the text's first lines after `n` lines, as far as they are read at once. A line that isn't
-    /// is left to `put_next`, and so are those after it.
-    fn put_at_once(&mut self, n: u64, text: &[u8]) -> WholeLines
+    /// is left to `read_next`, and so are those after it.
+    fn read_at_once(&mut self, n: u64, text: &[u8]) -> WholeLines
         ensures appends { AppendsLines text.now (drop result.size text.now) self.old.out self.new.out result.count }
         ensures start { self.new.start ≡ self.old.start }
         ensures room { HasLineRoom self.old → HasLineRoom self.new }
@@ -128,7 +129,7 @@ impl AsmLines {
         ensures most { length self.old.out ≤ ASM_LIMIT → length self.new.out ≤ ASM_LIMIT }
         ensures no_first_line { n ≡ 0 → result.count ≡ 0 }
     {
-        put_quick_after_first_line(&mut self.out, n, text)
+        read_quick_after_first_line(&mut self.out, n, text)
     }
 }
 
@@ -154,7 +155,7 @@ impl TakesLines for AsmLines {
     }
 
     fn take_line(&mut self, line_number: u64, line: &[u8]) -> Result<(), AsmFault> {
-        self.put_next(line_number, line)
+        self.read_next(line_number, line)
     }
 
     fn take_lines<'t>(
@@ -165,21 +166,21 @@ impl TakesLines for AsmLines {
         let mut rest = text;
         let mut count = line_count;
         loop {
-            let quick = self.put_at_once(count, rest);
+            let quick = self.read_at_once(count, rest);
             count = count.saturating_add(quick.count);
             let (line, more) = next_line(&rest[quick.size..]);
             let Some(after) = more else {
                 return Ok((line, count));
             };
             count = count.saturating_add(1);
-            self.put_next(count, line)?;
+            self.read_next(count, line)?;
             rest = after;
         }
     }
 
     fn take_last(self, line_number: u64, line: &[u8]) -> Result<Vec<u8>, AsmFault> {
         let mut last = self;
-        last.put_next(line_number, line)?;
+        last.read_next(line_number, line)?;
         Ok(last.out)
     }
 }

@@ -4,7 +4,7 @@ ghost use Rattle.x7_words.specs.Word.{bytes_of_word};
 ghost use Rattle.x7_regs.specs.Command.{code_of, command_name_of};
 ghost use Rattle.x7_regs.specs.Register.{reg_name, reg_number_count};
 ghost use Rattle.x7_regs.specs.declared.command.Command.{Command};
-ghost use Rattle.x7_packets.specs.PacketWords.{type1_read_header, type1_write_header, type2_read_header, type2_write_header};
+ghost use Rattle.x7_packets.specs.PacketWords.{type1_read_header, type1_write_header, type2_counts, type2_read_header, type2_write_header};
 ghost use Rattle.x7_text.specs.Appends.{Appends};
 ghost use Rattle.x7_text.specs.Digits.{hex_word};
 ghost use Rattle.x7_listing.specs.Assembling.{HasRoomForLine};
@@ -16,7 +16,8 @@ ghost use Rattle.x7_text.specs.Reads.{AppendsIfRead, StaysWithin};
 ghost use Rattle.x7_text.specs.Row.{bytes_row_size};
 
 use x7_packets::{
-    NO_OP, SYNC_WORD, type1_read_header, type1_write_header, type2_read_header, type2_write_header,
+    NO_OP, SYNC_WORD, TYPE1_COUNTS, TYPE2_COUNTS, type1_read_header, type1_write_header,
+    type2_read_header, type2_write_header,
 };
 use x7_regs::{Reg, command_named, reg_named};
 use x7_text::{
@@ -26,12 +27,6 @@ use x7_words::{bytes_of, is_same};
 
 /// The most bytes that a line stands for: those of a full `bytes` line, as many as a full `data` line's words have.
 pub(crate) const MOST_ROW_SIZE: usize = BYTES_ROW_SIZE;
-
-/// How many word counts a type 1 header can say: each is below this (UG470, packet types).
-const TYPE1_COUNTS: u32 = 1 << 11;
-
-/// How many word counts a type 2 header can say: each is below this (UG470, packet types).
-const TYPE2_COUNTS: u32 = 1 << 27;
 
 /// How many bytes are searched for the space after a register's name: more than the longest name has.
 const NAME_SEARCH_SIZE: usize = 10;
@@ -127,7 +122,7 @@ fn command_word(name: &[u8]) -> Option<u32>
 
 /// The header of a type 2 write, by the digits of its word count; `None` for any other text.
 fn write2_of(digits: &[u8]) -> Option<u32>
-    ensures { IsWordOf (λ n. n < 2 ^ 27) decimal type2_write_header digits.now result }
+    ensures { IsWordOf (λ n. n < type2_counts) decimal type2_write_header digits.now result }
 {
     let Some(count) = decimal_below(digits, TYPE2_COUNTS) else {
         return None;
@@ -137,7 +132,7 @@ fn write2_of(digits: &[u8]) -> Option<u32>
 
 /// The header of a type 2 read, by the digits of its word count; `None` for any other text.
 fn read2_of(digits: &[u8]) -> Option<u32>
-    ensures { IsWordOf (λ n. n < 2 ^ 27) decimal type2_read_header digits.now result }
+    ensures { IsWordOf (λ n. n < type2_counts) decimal type2_read_header digits.now result }
 {
     let Some(count) = decimal_below(digits, TYPE2_COUNTS) else {
         return None;
@@ -180,7 +175,7 @@ fn read_of(text: &[u8]) -> Option<u32>
 
 /// Appends the bytes of a line that is empty, `sync` or `crc`, where the bytes of the lines before have this check.
 /// `false`: the line is none of these.
-fn put_plain(out: &mut Vec<u8>, check: u32, line: &[u8]) -> bool
+fn read_plain(out: &mut Vec<u8>, check: u32, line: &[u8]) -> bool
     requires { HasRoomForLine out.old }
     ensures reads { AppendsIfRead IsPlain text_of (line_bytes check) result line.now out.old.items out.new.items }
     ensures room { StaysWithin out.old out.new bytes_row_size }
@@ -202,7 +197,7 @@ fn put_plain(out: &mut Vec<u8>, check: u32, line: &[u8]) -> bool
 
 /// Appends the bytes of a line, where the bytes of the lines before have this check. `false`: the text is that of no
 /// line.
-pub(crate) fn put_line(out: &mut Vec<u8>, check: u32, line: &[u8]) -> bool
+pub(crate) fn read_line(out: &mut Vec<u8>, check: u32, line: &[u8]) -> bool
     requires { HasRoomForLine out.old }
     ensures reads { AppendsIfRead FitsLine text_of (line_bytes check) result line.now out.old.items out.new.items }
     ensures room { StaysWithin out.old out.new bytes_row_size }
@@ -238,5 +233,5 @@ pub(crate) fn put_line(out: &mut Vec<u8>, check: u32, line: &[u8]) -> bool
     if after(line, b"#").is_some() {
         return true;
     }
-    put_plain(out, check, line)
+    read_plain(out, check, line)
 }

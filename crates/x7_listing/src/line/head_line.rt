@@ -1,10 +1,11 @@
 //! The lines of single words, written: of a word in a header's place, a command and a sync word.
-ghost use Rattle.std.specs.Prelude.{◌≡◌, [], ◌∷◌, ◌++◌, ◌<◌, ◌≤◌, ◌+◌, length, codes, decimal};
+ghost use Rattle.std.specs.Prelude.{◌≡◌, [], ◌∷◌, ◌++◌, ◌<◌, ◌≤◌, ◌+◌, length, decimal};
 ghost use Rattle.x7_regs.specs.Register.{reg_name, reg_number_count};
 ghost use Rattle.x7_text.specs.Appends.{Appends, HasSpareRoom};
 ghost use Rattle.x7_text.specs.Digits.{hex_word};
 ghost use Rattle.x7_text.specs.Row.{close};
 ghost use Rattle.x7_listing.specs.HeadLine.{command_line, line_of_head, text_of_head, line_size, type1_keyword_limit, type2_keyword_limit};
+ghost use Rattle.x7_listing.specs.Line.{sync_line};
 ghost use Rattle.x7_words.specs.Characters.{line_end_byte, space_byte};
 
 use x7_packets::{
@@ -145,7 +146,7 @@ pub(crate) fn put_command(text: &mut Vec<u8>, in_line: usize, word: u32)
 /// Appends the line of a sync word, after an open line of `in_line` bytes.
 pub(crate) fn put_sync(text: &mut Vec<u8>, in_line: usize)
     requires { HasSpareRoom text.old (1 + line_size) }
-    ensures appends { Appends text.old text.new (close in_line ++ codes "sync\n") (1 + line_size) }
+    ensures appends { Appends text.old text.new (close in_line ++ sync_line) (1 + line_size) }
 {
     put_close(text, in_line);
     put(text, b"sync\n");

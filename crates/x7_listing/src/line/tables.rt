@@ -12,11 +12,11 @@ pub(crate) const COMMAND_CODES: u32 = 1 << 5;
 
 /// The row of this number in a table, from 0.
 #[inline(always)]
-fn row_in(rows: &[[u8; 32]; 32], n: usize) -> &[u8; 32]
-    requires { n < 32 }
-    ensures { (text : ℕ → List ℕ) → AreRowsFrom text 0 rows.now → row_text result.now ≡ text n }
+fn row_in(rows: &[[u8; 32]; 32], number: usize) -> &[u8; 32]
+    requires { number < 32 }
+    ensures { (text : ℕ → List ℕ) → AreRowsFrom text 0 rows.now → row_text result.now ≡ text number }
 {
-    &rows[n]
+    &rows[number]
 }
 
 /// The row of the lines of a write of one word to a register, up to the word's digits.

@@ -2,7 +2,7 @@
 ghost use Rattle.std.specs.Prelude.{◌≡◌, ℕ, ◌+◌, ◌*◌, List, [], ◌++◌, OnOk, OnErr, length};
 ghost use Rattle.x7_packets.specs.Mode.{Mode};
 ghost use Rattle.x7_text.specs.Appends.{HasSpareRoom};
-ghost use Rattle.x7_listing.specs.Lister.{TakerStandsFor, Finished, ListerStandsFor};
+ghost use Rattle.x7_listing.specs.Lister.{TakerStandsFor, HasFinished, ListerStandsFor};
 ghost use Rattle.x7_listing.specs.Pens.{ListsMoreAndRests, lister_with};
 
 mod runs;
@@ -88,15 +88,18 @@ impl Lister {
     /// Clears the text, which from then on counts as given.
     pub fn clear_text(&mut self)
         ensures cleared { self.new.text ≡ [] }
-        ensures given { (given before bytes : List ℕ) → ListerStandsFor self.old given before bytes → ListerStandsFor self.new (given ++ self.old.text) before bytes }
-        ensures taken { (given before bytes : List ℕ) (due : Mode) → TakerStandsFor self.old given before bytes due → TakerStandsFor self.new (given ++ self.old.text) before bytes due }
+        ensures given { (given before bytes : List ℕ) → ListerStandsFor self.old given before bytes
+            → ListerStandsFor self.new (given ++ self.old.text) before bytes }
+        ensures taken { (given before bytes : List ℕ) (due : Mode) → TakerStandsFor self.old given before bytes due
+            → TakerStandsFor self.new (given ++ self.old.text) before bytes due }
     {
         self.text.clear();
     }
 
     /// Takes a piece. `NoMemory` changes nothing.
     pub fn feed(&mut self, piece: &[u8]) -> Result<(), NoMemory>
-        ensures stands { OnOk result ((given before bytes : List ℕ) → ListerStandsFor self.old given before bytes → ListerStandsFor self.new given before (bytes ++ piece.now)) }
+        ensures stands { OnOk result ((given before bytes : List ℕ) → ListerStandsFor self.old given before bytes
+            → ListerStandsFor self.new given before (bytes ++ piece.now)) }
         ensures unchanged { OnErr result (self.new ≡ self.old) }
     {
         let Some(room) = piece.len().checked_mul(BYTE_ROOM) else {
@@ -112,7 +115,7 @@ impl Lister {
 
     /// Ends the listing of the bytes that were fed, and begins a new one. `NoMemory` changes nothing.
     pub fn finish(&mut self) -> Result<(), NoMemory>
-        ensures finished { OnOk result ((given before bytes : List ℕ) → ListerStandsFor self.old given before bytes → Finished self.new given before bytes) }
+        ensures finished { OnOk result ((given before bytes : List ℕ) → ListerStandsFor self.old given before bytes → HasFinished self.new given before bytes) }
         ensures unchanged { OnErr result (self.new ≡ self.old) }
     {
         self.text.reserve(CALL_ROOM)?;

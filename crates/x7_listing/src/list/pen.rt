@@ -142,7 +142,8 @@ fn put_body(text: &mut Vec<u8>, in_line: OpenWords, register: u8, body: &[u8]) -
     requires one { register ≡ number_of Cmd → length body.now ≡ 4 }
     requires room { HasSpareRoom text.old (CALL_ROOM + 3 * length body.now) }
     ensures count { result.count ≡ in_line_after_words in_line.count (payload_steps register (words_of_bytes body.now)) }
-    ensures appends { Appends text.old text.new (open_words in_line.count (payload_steps register (words_of_bytes body.now))) (CALL_ROOM + 3 * length body.now) }
+    ensures appends { Appends text.old text.new (open_words in_line.count (payload_steps register (words_of_bytes body.now)))
+        (CALL_ROOM + 3 * length body.now) }
 {
     if register == Reg::Cmd.number() {
         return put_payload(
@@ -184,7 +185,8 @@ pub(crate) fn put_run(text: &mut Vec<u8>, pen: Pen, run: Cut) -> Pen
 /// Appends what is left of a gap.
 fn end_gap(text: &mut Vec<u8>, pen: GapPen)
     requires room { HasSpareRoom text.old CALL_ROOM }
-    ensures appends { text.new.items ≡ text.old.items ++ open_bytes pen.in_line (take pen.count pen.held) ++ close (in_line_after bytes_row_size pen.in_line (take pen.count pen.held)) }
+    ensures appends { text.new.items ≡ text.old.items ++ open_bytes pen.in_line (take pen.count pen.held)
+        ++ close (in_line_after bytes_row_size pen.in_line (take pen.count pen.held)) }
 {
     let in_line = put_bytes(text, pen.in_line, &pen.held[..pen.count]);
     put_close(text, in_line);

@@ -54,7 +54,18 @@ in_a_row a b c d e f g h ab cd ef gh low high p q r s t u = rw (t, u, p, q, r, s
 pub row_of : (text low high ab cd ef gh : List ℕ) → 77 ≤ length text → ab ≡ chunk 5 8 text ++ chunk 14 8 text → cd ≡ chunk 23 8 text ++ chunk 32 8 text → ef ≡ chunk 41 8 text ++ chunk 50 8 text → gh ≡ chunk 59 8 text ++ chunk 68 8 text → low ≡ ab ++ cd → high ≡ ef ++ gh
     → pick_l 0 (low ++ high) (range_with_len 0 64) ≡ flat_map (λ (w : List ℕ). w) (words_in_row text 4 8)
 row_of text low high ab cd ef gh long p q r s t u =
-    pick_l_whole 0 (low ++ high) 64 (omega (arith, length-append low high, ap length t, ap length u, length-append ab cd, length-append ef gh, two 5 14 ab (omega (arith, long)) (omega (arith, long)) p, two 23 32 cd (omega (arith, long)) (omega (arith, long)) q, two 41 50 ef (omega (arith, long)) (omega (arith, long)) r, two 59 68 gh (omega (arith, long)) (omega (arith, long)) s))
+    pick_l_whole 0 (low ++ high) 64 (omega (
+      arith,
+      length-append low high,
+      ap length t,
+      ap length u,
+      length-append ab cd,
+      length-append ef gh,
+      two 5 14 ab (omega (arith, long)) (omega (arith, long)) p,
+      two 23 32 cd (omega (arith, long)) (omega (arith, long)) q,
+      two 41 50 ef (omega (arith, long)) (omega (arith, long)) r,
+      two 59 68 gh (omega (arith, long)) (omega (arith, long)) s,
+    ))
     ∙ in_a_row (chunk 5 8 text) (chunk 14 8 text) (chunk 23 8 text) (chunk 32 8 text) (chunk 41 8 text) (chunk 50 8 text) (chunk 59 8 text) (chunk 68 8 text) ab cd ef gh low high p q r s t u
   where
     two : (i j : ℕ) (x : List ℕ) → i + 8 ≤ length text → j + 8 ≤ length text → x ≡ chunk i 8 text ++ chunk j 8 text → length x ≡ 16

@@ -9,7 +9,7 @@ use lib.Lanes.{chunk, mask_l, top, zip2}
 use lib.Count.{count_trailing_zeros}
 use mir.Val.{bits, hbits}
 use Rattle.x7_words.specs.Word.{bytes_of_word}
-use Rattle.x7_regs.specs.Register.{reg_name}
+use Rattle.x7_regs.specs.Register.{reg_name, reg_number_count}
 use Rattle.x7_text.specs.Digits.{hex_word}
 use Rattle.x7_packets.specs.PacketWords.{type1_write_header}
 use Rattle.x7_listing.specs.Assembling.{AppendsFirstLines}
@@ -79,7 +79,7 @@ takes_command w size text old new h within e n =
     takes_two (Write 4 1) (cmd_line w) text old new size within ((omega arith, omega arith), tt) p.1 is (n ∙ ap (λ t. old ++ (bytes_of_word (type1_write_header 4 1) ++ t)) (sym p.0))
 
 -- a write of a word to another register
-pub takes_word : (register w size eight : ℕ) (text old new : List ℕ) → register < 32 → w < 2 ^ 32 → size + 9 ≤ length text → take size text ≡ write_start register → eight ≡ 8 → take eight (drop size text) ≡ hex_word w → get_or text (size + 8) 0 ≡ 10
+pub takes_word : (register w size eight : ℕ) (text old new : List ℕ) → register < reg_number_count → w < 2 ^ 32 → size + 9 ≤ length text → take size text ≡ write_start register → eight ≡ 8 → take eight (drop size text) ≡ hex_word w → get_or text (size + 8) 0 ≡ 10
     → new ≡ old ++ (bytes_of_word (type1_write_header register 1) ++ bytes_of_word w) → AppendsFirstLines text old new (size + 9) 2
 takes_word register w size eight text old new h k within e is_eight digits end n =
     let last : take 1 (drop 8 (drop size text)) ≡ 10 ∷ [] =

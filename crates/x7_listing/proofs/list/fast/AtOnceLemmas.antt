@@ -1,5 +1,5 @@
 -- Lemmas on specs/Fast/AtOnce, and what a lister stands for after what it tells at once.
-use Rattle.std.proofs.Common.{◌≡◌, ℕ, zero, suc, ◌+◌, ◌*◌, ◌/◌, ◌%◌, ◌^◌, ◌-◌, ◌<◌, ◌≤◌, ◌==◌, Bool, true, false, List, [], ◌∷◌, ◌++◌, codes, decimal, get_or, length, drop, take, take-add, take_all, length-drop, replicate, refl, ap, sym, subst, ◌∙◌, append_assoc, append-nil, arith, Bor}
+use Rattle.std.proofs.Common.{◌≡◌, ℕ, zero, suc, ◌+◌, ◌*◌, ◌/◌, ◌%◌, ◌-◌, ◌<◌, ◌≤◌, ◌==◌, Bool, true, false, List, [], ◌∷◌, ◌++◌, codes, decimal, get_or, length, drop, take, take-add, take_all, length-drop, replicate, refl, ap, sym, subst, ◌∙◌, append_assoc, append-nil, arith, Bor}
 use Rattle.std.proofs.Math.Nat.{mul-suc, mul-zero}
 use Rattle.std.proofs.Math.Seq.{take-append-add}
 use Rattle.std.proofs.lemmas.Bool.Decides.{nat_tests}
@@ -13,17 +13,17 @@ use Rattle.x7_packets.specs.PacketWords.{no_op, sync_word, type1_write_header}
 use Rattle.x7_packets.specs.SyncWord.{sync_bytes}
 use Rattle.x7_packets.specs.Cutter.{CutterState, IsRun, AfterRun}
 use Rattle.x7_packets.specs.Nops.{equal_bytes}
-use Rattle.x7_packets.specs.Packet.{payload_steps, register_of}
+use Rattle.x7_packets.specs.Packet.{payload_steps, register_of, type1_count_of}
 use Rattle.x7_packets.specs.declared.cutter.Cut.{Cut}
 use Rattle.x7_packets.specs.declared.cutter.Cut.TheVariants.{Body, Head, Skip, Sync, Word}
 use Rattle.x7_packets.specs.declared.header.Step.{Step}
-use Rattle.x7_packets.specs.declared.header.Step.TheVariants.{Open}
+use Rattle.x7_packets.specs.declared.header.Step.TheVariants.{Nop, Open}
 use Rattle.x7_text.specs.Digits.{hex_byte, hex_word}
 use Rattle.x7_text.specs.Row.{bytes_text, close, in_line_after, open_text}
 use Rattle.x7_text.proofs.LineLemmas.{bytes_closed}
-use Rattle.x7_regs.specs.Register.{reg_name}
+use Rattle.x7_regs.specs.Register.{reg_name, reg_number_count}
 use Rattle.x7_listing.specs.declared.line.head_line.HeadLine.TheVariants.{Write}
-use Rattle.x7_listing.specs.Fast.AtOnce.{command_lines, equal_lines, write_line, write_name, write_start}
+use Rattle.x7_listing.specs.Fast.AtOnce.{command_lines, write_line, write_name, write_start}
 use Rattle.x7_listing.specs.HeadLine.{best_line, command_line, text_of_head, line_text}
 use Rattle.x7_listing.specs.Lister.{GapListed, HasListedJust, in_line_after_words, open_words, WritesRun, lister_of, written_of}
 use Rattle.x7_listing.proofs.GapLemmas.{listed_more}
@@ -31,6 +31,15 @@ use Rattle.x7_listing.proofs.RunLemmas.{by_body, by_head, by_skip, by_sync, by_w
 use Rattle.x7_listing.proofs.SessionLemmas.{data_listed, is_data}
 
 -- ---- texts
+
+-- the lines of a word in a header's place, this many times
+abbrev pub equal_lines : Step → ℕ → ℕ → List ℕ
+equal_lines step w zero = []
+equal_lines step w (suc n) = text_of_head step w ++ equal_lines step w n
+
+-- the lines of this many no-ops
+abbrev pub nop_lines : ℕ → List ℕ
+nop_lines n = equal_lines Nop no_op n
 
 pub equal_block : (step : Step) (w n : ℕ) (line : List ℕ) → text_of_head step w ≡ line → flat_map (λ x. x) (replicate n line) ≡ equal_lines step w n
 equal_block step w zero line e = refl
@@ -46,12 +55,12 @@ equal_prefix step w size (suc n) (suc k) e h =
     ∙ ap (λ t. text_of_head step w ++ t) (equal_prefix step w size n k e (omega (arith, h)))
 
 -- the header's line
-pub write_line_is : (register : ℕ) → register < 32 → text_of_head (Open register 1) (type1_write_header register 1) ≡ write_line register
+pub write_line_is : (register : ℕ) → register < reg_number_count → text_of_head (Open register 1) (type1_write_header register 1) ≡ write_line register
 write_line_is register h =
     let nop : (type1_write_header register 1 == no_op) ≡ false = grind (arith, nat_tests) in
     let sync : (type1_write_header register 1 == sync_word) ≡ false = grind (arith, nat_tests) in
     let named : register_of (type1_write_header register 1) ≡ register = omega arith in
-    let count : type1_write_header register 1 % 2 ^ 11 ≡ 1 = omega arith in
+    let count : type1_count_of (type1_write_header register 1) ≡ 1 = omega arith in
     let same : (type1_write_header register 1 == type1_write_header register 1) ≡ true = grind (arith, nat_tests) in
     let line : best_line (type1_write_header register 1) ≡ Write register 1 = rw (nop, sync, named, count, same) refl in
     ap line_text line ∙ ap (λ t. codes "write " ++ reg_name register ++ 32 ∷ t ++ 10 ∷ []) (decimal_digit 1 (omega arith)) ∙ append_assoc (codes "write " ++ reg_name register) (32 ∷ 49 ∷ []) (10 ∷ [])
@@ -62,7 +71,7 @@ command_row_is line register w e =
     subst (λ (r : ℕ). close line ++ command_lines w ≡ close line ++ text_of_head (Open r 1) (type1_write_header r 1) ++ open_words 0 (payload_steps r (w ∷ []))) (sym e)
     (sym (append_assoc (close line) (write_line 4) (command_line w)) ∙ ap (λ t. close line ++ t ++ command_line w) (sym (write_line_is 4 (omega arith))) ∙ ap (λ t. close line ++ text_of_head (Open 4 1) (type1_write_header 4 1) ++ t) (sym (append-nil (command_line w))))
 
-pub data_row_is : (line register w : ℕ) → register < 32 → (register ≡ 4 → ⊥) → (close line ++ write_start register) ++ hex_word w ≡ close line ++ text_of_head (Open register 1) (type1_write_header register 1) ++ open_words 0 (payload_steps register (w ∷ []))
+pub data_row_is : (line register w : ℕ) → register < reg_number_count → (register ≡ 4 → ⊥) → (close line ++ write_start register) ++ hex_word w ≡ close line ++ text_of_head (Open register 1) (type1_write_header register 1) ++ open_words 0 (payload_steps register (w ∷ []))
 data_row_is line register w h n =
     let H : List ℕ = write_line register in
     let listed : open_words 0 (payload_steps register (w ∷ [])) ≡ codes "data " ++ hex_word w =
@@ -71,12 +80,12 @@ data_row_is line register w h n =
     ∙ ap (λ t. close line ++ t ++ (codes "data " ++ hex_word w)) (sym (write_line_is register h)) ∙ ap (λ t. close line ++ text_of_head (Open register 1) (type1_write_header register 1) ++ t) (sym listed)
 
 -- the header's line of a short write
-pub short_line_is : (register count : ℕ) → register < 32 → count < 20 → text_of_head (Open register count) (type1_write_header register count) ≡ write_name register ++ (decimal count ++ 10 ∷ [])
+pub short_line_is : (register count : ℕ) → register < reg_number_count → count < 20 → text_of_head (Open register count) (type1_write_header register count) ≡ write_name register ++ (decimal count ++ 10 ∷ [])
 short_line_is register count h k =
     let nop : (type1_write_header register count == no_op) ≡ false = grind (arith, nat_tests) in
     let sync : (type1_write_header register count == sync_word) ≡ false = grind (arith, nat_tests) in
     let named : register_of (type1_write_header register count) ≡ register = omega arith in
-    let number : type1_write_header register count % 2 ^ 11 ≡ count = omega arith in
+    let number : type1_count_of (type1_write_header register count) ≡ count = omega arith in
     let same : (type1_write_header register count == type1_write_header register count) ≡ true = grind (arith, nat_tests) in
     let line : best_line (type1_write_header register count) ≡ Write register count = rw (nop, sync, named, number, same) refl in
     ap line_text line ∙ append_assoc (codes "write " ++ reg_name register) (32 ∷ decimal count) (10 ∷ []) ∙ sym (append_assoc (codes "write " ++ reg_name register) (32 ∷ []) (decimal count ++ 10 ∷ []))
@@ -178,7 +187,9 @@ short_listed c d synced s2 line l2 from register count held h2 text text2 given 
     (x.range, omega (arith, size, x.some), omega (arith, size), λ k. absurd (x.other k))
     (by_body (Body register run) true s2 0 l2 0 [] h2 given next text2 register run refl (λ k. refl) e (f ∙ ap (λ (w : List ℕ). in_line_after_words 0 (payload_steps register w)) are)
     (t ∙ ap (λ (w : List ℕ). text ++ (close from ++ text_of_head (Open register count) (type1_write_header register count) ++ open_words 0 (payload_steps register w))) are ∙ sym (append_assoc text (close from ++ H) D))) in
-    subst (HasListedJust (lister_of d s2 l2 h2 text2) given before) (append_assoc bytes (bytes_of_word (type1_write_header register count)) (take (4 * count) (drop 4 rest)) ∙ ap (λ k. bytes ++ (k ++ take (4 * count) (drop 4 rest))) (sym x.bytes) ∙ ap (λ k. bytes ++ k) (sym (take-add 4 (4 * count) rest))) two
+    subst (HasListedJust (lister_of d s2 l2 h2 text2) given before)
+    (append_assoc bytes (bytes_of_word (type1_write_header register count)) (take (4 * count) (drop 4 rest))
+    ∙ ap (λ k. bytes ++ (k ++ take (4 * count) (drop 4 rest))) (sym x.bytes) ∙ ap (λ k. bytes ++ k) (sym (take-add 4 (4 * count) rest))) two
 
 -- bytes of a gap and the sync word, after a session
 gap_begun : (given text text1 start : List ℕ) (gap taken listed : List ℕ) → taken ≡ listed ++ sync_bytes → text1 ≡ text ++ open_text 32 (codes "bytes ") hex_byte 0 listed

@@ -3,15 +3,16 @@ use Rattle.std.proofs.Common.{◌≡◌, ℕ, ◌*◌, ◌<◌, ◌≤◌, List,
 use Rattle.std.specs.List.{flat_map}
 use Rattle.x7_packets.specs.PacketWords.{no_op, type1_write_header}
 use Rattle.x7_packets.specs.declared.header.Step.TheVariants.{Nop, Open}
-use Rattle.x7_regs.specs.Command.{code_of, command_by}
+use Rattle.x7_regs.specs.Command.{code_of, command_by, command_code_count}
 use Rattle.x7_regs.specs.declared.command.Command.{Command}
 use Rattle.x7_regs.specs.declared.command.Command.TheVariants.{Null, Wcfg, Mfw, Lfrm, Rcfg, Start, Rcap, Rcrc, Aghigh, Switch, Grestore, Shutdown, Gcapture, Desync, Iprog, Crcc, Ltimer, BspiRead, FallEdge}
 use Rattle.x7_text.specs.Digits.{hex_word}
 use Rattle.x7_text.specs.Row.{close}
-use Rattle.x7_listing.specs.Fast.AtOnce.{command_lines, nop_lines, write_line, write_name, write_start}
+use Rattle.x7_listing.specs.Fast.AtOnce.{command_lines, write_line, write_name, write_start}
 use Rattle.x7_listing.specs.HeadLine.{command_line, text_of_head}
-use Rattle.x7_listing.proofs.list.fast.AtOnceLemmas.{equal_block, equal_prefix, short_line_is}
+use Rattle.x7_listing.proofs.list.fast.AtOnceLemmas.{equal_block, equal_prefix, nop_lines, short_line_is}
 use Rattle.x7_listing.proofs.line.LineTextLemmas.{no_command_line}
+use Rattle.x7_regs.specs.Register.{reg_number_count}
 
 -- a row after the end of an open line
 pub row_after : (shown begin row all new : List ℕ) (line : ℕ) → begin ≡ shown ++ close line → all ≡ begin ++ new → new ≡ row → all ≡ shown ++ (close line ++ row)
@@ -21,7 +22,7 @@ row_after shown begin row all new line e f g = f ∙ ap (λ t. begin ++ t) g ∙
 pub after_text : (text shown now more : List ℕ) → now ≡ shown ++ more → text ++ now ≡ (text ++ shown) ++ more
 after_text text shown now more e = ap (λ t. text ++ t) e ∙ sym (append_assoc text shown more)
 
-small_code : (c : Command) → code_of c < 32
+small_code : (c : Command) → code_of c < command_code_count
 small_code Null = omega arith
 small_code Wcfg = omega arith
 small_code Mfw = omega arith
@@ -51,7 +52,7 @@ far_command shown line register w e far =
     ∙ ap (λ t. shown ++ t) (append_assoc (close line) (write_start 4) (hex_word w ++ 10 ∷ []) ∙ ap (λ t. close line ++ t) (append_assoc (write_line 4) (codes "data ") (hex_word w ++ 10 ∷ []) ∙ ap (λ t. write_line 4 ++ t) (sym listed)))
 
 -- the line of the header of a short write
-pub head_shown : (shown first all : List ℕ) (line register count : ℕ) → register < 32 → count < 20 → first ≡ shown ++ (close line ++ write_name register) → all ≡ first ++ (decimal count ++ 10 ∷ [])
+pub head_shown : (shown first all : List ℕ) (line register count : ℕ) → register < reg_number_count → count < 20 → first ≡ shown ++ (close line ++ write_name register) → all ≡ first ++ (decimal count ++ 10 ∷ [])
     → all ≡ shown ++ (close line ++ text_of_head (Open register count) (type1_write_header register count))
 head_shown shown first all line register count h k a b =
     b ∙ ap (λ t. t ++ (decimal count ++ 10 ∷ [])) a ∙ append_assoc shown (close line ++ write_name register) (decimal count ++ 10 ∷ [])

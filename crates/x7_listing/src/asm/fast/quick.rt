@@ -8,9 +8,10 @@ ghost use Rattle.x7_listing.specs.Assembling.{HasRoomForLine};
 ghost use Rattle.x7_words.specs.Characters.{space_byte};
 ghost use Rattle.x7_listing.specs.Fast.Looking.{AppendsFoundLines, ReadsAtOnce};
 
-use super::write_pairs::{differences, put_pair};
+use super::write_pairs::{differences, read_pair};
 use crate::asm::reading::{MOST_ROW_SIZE, put_word_bytes, type1_at};
 use crate::assembler::ASM_LIMIT;
+use crate::line::{BYTES_SIZE, DATA_SIZE, SPACED_WORD_SIZE};
 use std::simd::prelude::*;
 use x7_packets::type1_write_header;
 use x7_text::{prefix_of_hex, put};
@@ -25,15 +26,6 @@ const NOP_BYTES: &[u8; 32] =
 
 /// How many bytes of a text are looked at: as many as the longest line that is read at once has, with its end.
 pub(crate) const LOOK_SIZE: usize = 77;
-
-/// How many bytes the word `data` has.
-const DATA_SIZE: usize = 4;
-
-/// How many bytes a word has in a `data` line: a space and eight digits.
-const SPACED_WORD_SIZE: usize = 9;
-
-/// How many bytes the word `bytes` and the space after it have.
-const BYTES_SIZE: usize = 6;
 
 /// How many digits the bytes of a full `bytes` line have.
 const FULL_DIGITS: usize = 64;
@@ -53,7 +45,7 @@ pub(crate) struct WholeLines {
 
 /// Appends the bytes of eight no-ops, if their lines begin the text.
 #[inline(always)]
-fn put_nops(out: &mut Vec<u8>, text: &[u8; LOOK_SIZE]) -> Option<WholeLines>
+fn read_nops(out: &mut Vec<u8>, text: &[u8; LOOK_SIZE]) -> Option<WholeLines>
     requires room { HasRoomForLine out.old }
     ensures { AppendsFoundLines text.now out.old out.new result }
 {
@@ -149,7 +141,7 @@ fn is_data(text: &[u8; LOOK_SIZE]) -> bool
 
 /// Appends the bytes of a `data` line of one to eight words, if one begins the text.
 #[inline(always)]
-fn put_data_row(out: &mut Vec<u8>, text: &[u8; LOOK_SIZE]) -> Option<WholeLines>
+fn read_data_line(out: &mut Vec<u8>, text: &[u8; LOOK_SIZE]) -> Option<WholeLines>
     requires room { HasRoomForLine out.old }
     ensures { AppendsFoundLines text.now out.old out.new result }
 {
@@ -188,7 +180,7 @@ fn bytes_digits(text: &[u8; LOOK_SIZE]) -> [u8; 64]
 
 /// Appends the bytes of a `bytes` line, if one begins the text.
 #[inline(always)]
-fn put_bytes(out: &mut Vec<u8>, text: &[u8; LOOK_SIZE]) -> Option<WholeLines>
+fn read_bytes_line(out: &mut Vec<u8>, text: &[u8; LOOK_SIZE]) -> Option<WholeLines>
     requires room { HasRoomForLine out.old }
     ensures { AppendsFoundLines text.now out.old out.new result }
 {
@@ -230,7 +222,7 @@ fn place_of(byte: u8, bytes: u8x16) -> usize {
 
 /// Appends the bytes of a `write` line with a count of one digit, if one begins the text.
 #[inline(always)]
-fn put_write_line(out: &mut Vec<u8>, text: &[u8; LOOK_SIZE]) -> Option<WholeLines>
+fn read_write_line(out: &mut Vec<u8>, text: &[u8; LOOK_SIZE]) -> Option<WholeLines>
     requires room { HasRoomForLine out.old }
     ensures { AppendsFoundLines text.now out.old out.new result }
 {
@@ -254,34 +246,34 @@ fn put_write_line(out: &mut Vec<u8>, text: &[u8; LOOK_SIZE]) -> Option<WholeLine
 
 /// Appends the bytes of the two lines of a write of one word, or of a `write` line alone, if they begin the text.
 #[inline(always)]
-fn put_pair_or_line(out: &mut Vec<u8>, text: &[u8; LOOK_SIZE]) -> Option<WholeLines>
+fn read_pair_or_line(out: &mut Vec<u8>, text: &[u8; LOOK_SIZE]) -> Option<WholeLines>
     requires room { HasRoomForLine out.old }
     ensures { AppendsFoundLines text.now out.old out.new result }
 {
-    match put_pair(out, text) {
+    match read_pair(out, text) {
         Some(taken) => Some(taken),
-        None => put_write_line(out, text),
+        None => read_write_line(out, text),
     }
 }
 
 /// Appends the bytes of one or more lines that begin the text, if they are of those that are read at once.
 #[inline(always)]
-fn put_some(out: &mut Vec<u8>, text: &[u8; LOOK_SIZE]) -> Option<WholeLines>
+fn read_some(out: &mut Vec<u8>, text: &[u8; LOOK_SIZE]) -> Option<WholeLines>
     requires room { HasRoomForLine out.old }
     ensures { AppendsFoundLines text.now out.old out.new result }
 {
     match text[0] {
-        b'd' => put_data_row(out, text),
-        b'w' => put_pair_or_line(out, text),
-        b'b' => put_bytes(out, text),
-        b'n' => put_nops(out, text),
+        b'd' => read_data_line(out, text),
+        b'w' => read_pair_or_line(out, text),
+        b'b' => read_bytes_line(out, text),
+        b'n' => read_nops(out, text),
         _ => None,
     }
 }
 
 /// Appends the bytes of the text's first lines, as far as they are read at once, there is room for them and a further
 /// line, and their bytes are within the limit.
-fn put_quick(out: &mut Vec<u8>, text: &[u8]) -> WholeLines
+fn read_quick(out: &mut Vec<u8>, text: &[u8]) -> WholeLines
     ensures { ReadsAtOnce text.now out.old out.new result }
 {
     let mut all = WholeLines { size: 0, count: 0 };
@@ -295,7 +287,7 @@ fn put_quick(out: &mut Vec<u8>, text: &[u8]) -> WholeLines
         let Some((first, _)) = text[all.size..].split_first_chunk::<LOOK_SIZE>() else {
             return all;
         };
-        let Some(taken) = put_some(out, first) else {
+        let Some(taken) = read_some(out, first) else {
             return all;
         };
         all = WholeLines {
@@ -308,7 +300,7 @@ fn put_quick(out: &mut Vec<u8>, text: &[u8]) -> WholeLines
 /// Appends the bytes of the text's first lines after `lines_before` lines, as far as they are read at once. Before any
 /// line none is, since the first one may be a header's.
 #[inline(always)]
-pub(crate) fn put_quick_after_first_line(
+pub(crate) fn read_quick_after_first_line(
     out: &mut Vec<u8>,
     lines_before: u64,
     text: &[u8],
@@ -319,5 +311,5 @@ pub(crate) fn put_quick_after_first_line(
     if lines_before == 0 {
         return WholeLines { size: 0, count: 0 };
     }
-    put_quick(out, text)
+    read_quick(out, text)
 }

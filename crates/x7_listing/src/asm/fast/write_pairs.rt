@@ -91,7 +91,7 @@ fn put_two(out: &mut Vec<u8>, one: u32, other: u32)
 
 /// Appends the bytes of a write of one word to this register, if its two lines begin the text.
 #[inline(always)]
-fn put_word_pair(out: &mut Vec<u8>, text: &[u8; LOOK_SIZE], register: u8) -> Option<WholeLines>
+fn read_word_pair(out: &mut Vec<u8>, text: &[u8; LOOK_SIZE], register: u8) -> Option<WholeLines>
     requires register { register < reg_number_count }
     requires room { HasRoomForLine out.old }
     ensures { AppendsFoundLines text.now out.old out.new result }
@@ -114,7 +114,7 @@ fn put_word_pair(out: &mut Vec<u8>, text: &[u8; LOOK_SIZE], register: u8) -> Opt
 
 /// Appends the bytes of a write of this code to CMD, if its two lines begin the text.
 #[inline(always)]
-fn put_command_pair(out: &mut Vec<u8>, text: &[u8; LOOK_SIZE], code: u32) -> Option<WholeLines>
+fn read_command_pair(out: &mut Vec<u8>, text: &[u8; LOOK_SIZE], code: u32) -> Option<WholeLines>
     requires code { code < command_code_count }
     requires room { HasRoomForLine out.old }
     ensures { AppendsFoundLines text.now out.old out.new result }
@@ -128,18 +128,18 @@ fn put_command_pair(out: &mut Vec<u8>, text: &[u8; LOOK_SIZE], code: u32) -> Opt
 
 /// Appends the bytes of a write of one word, if its two lines begin the text.
 #[inline(always)]
-pub(crate) fn put_pair(out: &mut Vec<u8>, text: &[u8; LOOK_SIZE]) -> Option<WholeLines>
+pub(crate) fn read_pair(out: &mut Vec<u8>, text: &[u8; LOOK_SIZE]) -> Option<WholeLines>
     requires room { HasRoomForLine out.old }
     ensures { AppendsFoundLines text.now out.old out.new result }
 {
     let register = number_at(&REGISTERS, text, REGISTER_NAME_AT);
     if register == Reg::Cmd.number() {
-        put_command_pair(
+        read_command_pair(
             out,
             text,
             u32::from(number_at(&COMMANDS, text, COMMAND_NAME_AT)),
         )
     } else {
-        put_word_pair(out, text, register)
+        read_word_pair(out, text, register)
     }
 }

@@ -1,6 +1,6 @@
 //! Short runs, listed at once on a sheet: writes of one word and of up to sixteen, a few no-ops, and
 //! a short gap with the sync word after it.
-ghost use Rattle.std.specs.Prelude.{◌≡◌, ℕ, ◌+◌, ◌*◌, ◌<◌, ◌≤◌, List, [], ◌∷◌, ◌++◌, IfNone, IfSome, codes, decimal, length, take, vec_len, vec_capacity};
+ghost use Rattle.std.specs.Prelude.{◌≡◌, ℕ, ◌+◌, ◌*◌, ◌<◌, ◌≤◌, List, [], ◌∷◌, ◌++◌, IfNone, IfSome, decimal, length, take, vec_len, vec_capacity};
 ghost use Rattle.x7_packets.specs.AtOnce.{EndsGap, WritesOne, WritesShort, longest_gap_and_sync, longest_short_write, most_short_words, short_gap_room};
 ghost use Rattle.x7_packets.specs.Cutter.{CutterState};
 ghost use Rattle.x7_packets.specs.Nops.{nop_bytes};
@@ -15,10 +15,13 @@ ghost use Rattle.x7_listing.specs.Fast.TakingAtOnce.{TakesAtOnce, TakesOnSheet};
 ghost use Rattle.x7_words.specs.Characters.{line_end_byte};
 ghost use Rattle.x7_listing.specs.Pens.{TakesHead, ListsMore, lister_with};
 ghost use Rattle.x7_listing.specs.declared.list.pen.state.Pen.{Pen};
+ghost use Rattle.x7_listing.specs.Line.{sync_line};
 ghost use Rattle.x7_listing.specs.Lister.{in_line_after_words};
 
 use super::sheet::{SHEET_SIZE, put_prefix, put_row, put_whole};
-use crate::line::{COMMAND_CODES, command_row, name_row, write_row};
+use crate::line::{
+    BYTES_SIZE, COMMAND_CODES, DATA_SIZE, SPACED_WORD_SIZE, command_row, name_row, write_row,
+};
 use crate::list::lister::BYTE_ROOM;
 use crate::list::pen::{OpenWords, Pen};
 use x7_packets::{Cutter, Step};
@@ -152,7 +155,7 @@ fn put_in_row(sheet: &mut [u8; SHEET_SIZE], len: usize, bytes: &[u8; 32], count:
         };
     }
     TextEnd {
-        len: put_prefix(sheet, len, &line, 4 + 9 * count),
+        len: put_prefix(sheet, len, &line, DATA_SIZE + SPACED_WORD_SIZE * count),
         in_line: OpenWords { count },
     }
 }
@@ -185,12 +188,12 @@ fn put_bytes_and_sync(
     requires in_row { count < bytes_row_size }
     requires room { len + gap_lines_size ≤ SHEET_SIZE }
     ensures within { result ≤ len + gap_lines_size }
-    ensures appends { take result sheet.new ≡ take len sheet.old ++ (bytes_text (take count bytes.now) ++ codes "sync\n") }
+    ensures appends { take result sheet.new ≡ take len sheet.old ++ (bytes_text (take count bytes.now) ++ sync_line) }
 {
     if count == 0 {
         return put_whole(sheet, len, b"sync\n");
     }
-    let end = put_prefix(sheet, len, &bytes_line(bytes), 6 + 2 * count);
+    let end = put_prefix(sheet, len, &bytes_line(bytes), BYTES_SIZE + 2 * count);
     put_whole(sheet, end, b"\nsync\n")
 }
 
@@ -331,7 +334,8 @@ fn take_next(
 ) -> Option<PutRun>
     requires room { len + FREE_SIZE ≤ SHEET_SIZE }
     ensures takes { IfSome result (λ n. TakesOnSheet cutter.old cutter.new rest.now n.size len n.len) }
-    ensures listed { IfSome result (λ n. ListsMoreAfter (on_sheet cutter.old in_line sheet.old len) (on_sheet cutter.new n.in_line sheet.new n.len) (take n.size rest.now)) }
+    ensures listed { IfSome result (λ n. ListsMoreAfter (on_sheet cutter.old in_line sheet.old len)
+        (on_sheet cutter.new n.in_line sheet.new n.len) (take n.size rest.now)) }
     ensures unchanged { IfNone result ((cutter.new ≡ cutter.old) × (sheet.new ≡ sheet.old)) }
 {
     if let Some((register, w)) = cutter.take_write(rest) {
@@ -386,7 +390,8 @@ pub(crate) fn take_short(
 ) -> Option<Taken>
     requires { HasSpareRoom text.old (BYTE_ROOM * length rest.now) }
     ensures takes { IfSome result (λ t. TakesAtOnce cutter.old cutter.new rest.now t.size (vec_len text.old) (vec_len text.new)) }
-    ensures listed { IfSome result (λ t. ListsMore (lister_with cutter.old pen text.old.items) (lister_with cutter.new (Pen.Session t.in_line) text.new.items) (take t.size rest.now)) }
+    ensures listed { IfSome result (λ t. ListsMore (lister_with cutter.old pen text.old.items)
+        (lister_with cutter.new (Pen.Session t.in_line) text.new.items) (take t.size rest.now)) }
     ensures same_cutter { IfNone result (cutter.new ≡ cutter.old) }
     ensures same_text { IfNone result (text.new ≡ text.old) }
     ensures room { vec_capacity text.old ≤ vec_capacity text.new }

@@ -2,7 +2,7 @@ use Rattle.std.proofs.Common.{◌≡◌, ◌+◌, ◌-◌, ◌*◌, ◌≤◌, �
 use Rattle.std.proofs.lemmas.List.{take_rest}
 use Rattle.x7_packets.specs.Cutter.{between}
 use Rattle.x7_packets.specs.History.{history_of}
-use Rattle.x7_packets.specs.Nops.{Idles}
+use Rattle.x7_packets.specs.Nops.{IdlesThrough}
 use Rattle.x7_part.specs.Part.{PartData}
 use Rattle.x7_flow.specs.Standing.{FramesFit}
 use Rattle.x7_engine.specs.declared.kept.Kept.{Kept}
@@ -54,7 +54,7 @@ passed_here c kept wrapped bytes s =
     passed c.self.inside.part kept wrapped (device_before c) (device_after c) bytes cut more rest count left inside
     (ap (λ (d : DeviceState). d.registers.stop) c.self.view_is ∙ c.requires.going)
     (ap (λ (d : DeviceState). due_count d.registers.due) c.self.view_is ∙ c.requires.no_word_due)
-    (λ sessions place i. subst (λ (b : List ℕ). Idles c.self.inside.cutter (bytes ++ b) sessions place) prefix (c.nop_count-count.ensures.idles bytes sessions place i))
+    (λ sessions place i. subst (λ (b : List ℕ). IdlesThrough c.self.inside.cutter (bytes ++ b) sessions place) prefix (c.nop_count-count.ensures.idles bytes sessions place i))
     (c.take_bytes-left.ensures.enters kept) (sym all) split (length-drop (from + count - left - from) cut ∙ omega (arith, all, few))
     c.take_bytes-left.ensures.left.goes_on c.take_bytes-left.ensures.fired refl refl refl (omega (arith, taken))
     (ap due_count c.take_bytes-left.ensures.due ∙ ap (λ (d : DeviceState). due_count d.registers.due) c.self.view_is ∙ c.requires.no_word_due)

@@ -60,6 +60,10 @@ returns c =
     let b = some_of _ _ c.in_ok-b.field-0 _ c.in-Some-3.is c.in_ok-b.ensures in
     let d = some_of _ _ c.in_ok-c.field-0 _ c.in-Some-4.is c.in_ok-c.ensures in
     let l = some_of _ _ c.in_ok-d.field-0 _ c.in-Some-5.is c.in_ok-d.ensures in
-    let is = lent_header c.in-Some-2.a.items c.in-Some-3.b.items c.in-Some-4.c.items c.in-Some-5.d.items c.deref.result.now c.deref-2.result.now c.deref-3.result.now c.deref-4.result.now c.in-Some-number_of_decimal.length c.in_ok-write_header.field-0.items c.deref.ensures.value c.deref-2.ensures.value c.deref-3.ensures.value c.deref-4.ensures.value c.in_ok-write_header.ensures.bytes in
-    let made = header_made c.args.line.now c.in-Some.fields.now c.in-Some-2.rest.now c.in-Some-3.rest.now c.in-Some-4.rest.now c.in-Some-5.digits.now (contents c.in-Some-2.a.items c.in-Some-3.b.items c.in-Some-4.c.items c.in-Some-5.d.items c.in-Some-number_of_decimal.length) c.in_ok-write_header.field-0.items c.in-Some.ensures a b d l c.in-Some-number_of_decimal.ensures is in
+    let is = lent_header c.in-Some-2.a.items c.in-Some-3.b.items c.in-Some-4.c.items c.in-Some-5.d.items c.deref.result.now c.deref-2.result.now c.deref-3.result.now
+    c.deref-4.result.now c.in-Some-number_of_decimal.length c.in_ok-write_header.field-0.items c.deref.ensures.value c.deref-2.ensures.value c.deref-3.ensures.value
+    c.deref-4.ensures.value c.in_ok-write_header.ensures.bytes in
+    let made = header_made c.args.line.now c.in-Some.fields.now c.in-Some-2.rest.now c.in-Some-3.rest.now c.in-Some-4.rest.now c.in-Some-5.digits.now
+    (contents c.in-Some-2.a.items c.in-Some-3.b.items c.in-Some-4.c.items c.in-Some-5.d.items c.in-Some-number_of_decimal.length) c.in_ok-write_header.field-0.items
+    c.in-Some.ensures a b d l c.in-Some-number_of_decimal.ensures is in
     record { found = made; most = omega (arith, c.in_ok-write_header.field-0.ok.0, header_short c.args.line.now c.in_ok-write_header.field-0.items made) }

@@ -20,7 +20,9 @@ returns-in-Need c = record {
   rests = λ given before bytes s.
       let used = goes_out _ _ _ _ c.in-Need.is c.cut-run.ensures.nearer in
       took_all _ _ _ _ _ _ _ _ _ given before bytes c.args.piece.now
-      (listed_as c.loop-taken.cutter c.take_short.new.cutter c.loop-taken.text c.take_short.new.text _ _ _ given before _ (c.in_default.ensures.same_cutter) (c.in_default.ensures.same_text) (c.loop-taken.invariant.has_listed given before bytes s)) c.cut-run.ensures.forward (omega (arith, used)) c.in-Need.is c.cut-run.ensures.adds;
+      (listed_as c.loop-taken.cutter c.take_short.new.cutter c.loop-taken.text c.take_short.new.text _ _ _ given before _ (c.in_default.ensures.same_cutter)
+      (c.in_default.ensures.same_text) (c.loop-taken.invariant.has_listed given before bytes s)) c.cut-run.ensures.forward (omega (arith, used)) c.in-Need.is
+      c.cut-run.ensures.adds;
 }
 
 pub put_run-now-requires : goal.put_run-now-requires
@@ -42,10 +44,25 @@ loop-taken-preserved c =
     let calls : calls_left c.take_short.new.cutter (length c.args.piece.now - c.loop-taken.at) ≡ calls_left c.loop-taken.cutter (length c.args.piece.now - c.loop-taken.at) = ap (λ (k : CutterState). calls_left k (length c.args.piece.now - c.loop-taken.at)) same in
     record {
       within = c.cut-run.ensures.within;
-      room = omega (arith, long, less, calls, ap (λ (k : CutterState). length k.kept) same, ap (λ (t : Vec ℕ Global). vec_len t) text, ap (λ (t : Vec ℕ Global). vec_capacity t) text, c.cut-run.ensures.within, c.cut-run.ensures.forward, c.loop-taken.invariant.room, c.put_run-now.ensures.room.within, c.put_run-now.ensures.room.room);
+      room = omega (
+        arith,
+        long,
+        less,
+        calls,
+        ap (λ (k : CutterState). length k.kept) same,
+        ap (λ (t : Vec ℕ Global). vec_len t) text,
+        ap (λ (t : Vec ℕ Global). vec_capacity t) text,
+        c.cut-run.ensures.within,
+        c.cut-run.ensures.forward,
+        c.loop-taken.invariant.room,
+        c.put_run-now.ensures.room.within,
+        c.put_run-now.ensures.room.room,
+      );
       has_listed = λ given before bytes s.
           took _ _ _ _ _ _ _ _ _ _ _ _ _ given before bytes c.args.piece.now
-          (listed_as c.loop-taken.cutter c.take_short.new.cutter c.loop-taken.text c.take_short.new.text _ _ _ given before _ (c.in_default.ensures.same_cutter) (c.in_default.ensures.same_text) (c.loop-taken.invariant.has_listed given before bytes s)) c.cut-run.ensures.forward c.cut-run.ensures.adds c.cut-run.ensures.run (c.put_run-now.ensures.listed given);
+          (listed_as c.loop-taken.cutter c.take_short.new.cutter c.loop-taken.text c.take_short.new.text _ _ _ given before _ (c.in_default.ensures.same_cutter)
+          (c.in_default.ensures.same_text) (c.loop-taken.invariant.has_listed given before bytes s)) c.cut-run.ensures.forward c.cut-run.ensures.adds
+          c.cut-run.ensures.run (c.put_run-now.ensures.listed given);
     }
 
 pub loop-taken-preserved-in-Some : goal.loop-taken-preserved-in-Some

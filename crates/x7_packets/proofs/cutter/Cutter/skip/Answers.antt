@@ -19,7 +19,12 @@ returns c =
       | in-Some w ↦
           let within = rw w.in-Some.is at c.search.ensures.within in
           let found = rw w.in-Some.is at c.search.ensures.found in
-          rw (w.self-is, w.count-is) (record { forward = omega arith; within = omega (arith, within.1); cuts = cuts_found old _ c.args.rest.now _ w.in-Some.count _ searching refl refl none none within.0 within.1 (omega arith) found refl (all_take (λ b. b < 256) w.in-Some.count c.args.rest.now fits) })
+          rw (w.self-is, w.count-is) (record {
+            forward = omega arith;
+            within = omega (arith, within.1);
+            cuts = cuts_found old _ c.args.rest.now _ w.in-Some.count _ searching refl refl none none within.0 within.1 (omega arith) found refl
+                (all_take (λ b. b < 256) w.in-Some.count c.args.rest.now fits);
+          })
       | in-None w ↦
           let found = rw w.in-None.is at c.search.ensures.found in
           rw (w.self-is, w.count-is) (record { forward = omega arith; within = omega arith; cuts = cuts_all old _ c.args.rest.now _ _ searching searching refl none none some (omega arith) found (take_all (length c.args.rest.now) c.args.rest.now (omega arith)) fits })

@@ -6,7 +6,7 @@ use Rattle.x7_packets.specs.Mode.{Mode, mode_of}
 use Rattle.x7_packets.specs.declared.header.Step.{Step}
 use Rattle.x7_packets.specs.declared.header.Step.TheVariants.{Payload}
 use Rattle.x7_packets.specs.Packet.{Packet}
-use Rattle.x7_packets.specs.Machine.{Grows, is_end, MachineStandsFor}
+use Rattle.x7_packets.specs.Machine.{HasTakenWords, is_end, MachineStandsFor}
 use Rattle.x7_packets.specs.Cutter.{CutterState, CutterStandsFor, AfterRun}
 use Rattle.x7_packets.proofs.CutLemmas.{head_more, word_more}
 use Rattle.x7_packets.proofs.cutter.Cutter.take_word.Goals.{in-Payload, in_default}
@@ -25,7 +25,7 @@ returns-clause-adds c = λ bytes sessions place s.
     head_more old new bytes c.args.missing.now sessions place c.completed_word-w.result c.take-step.result stands synced c.take-step.ensures.grows fits c.completed_word-w.ensures refl turned (λ _. c.new-self-inside.ensures) in
     let as_payload : (register : ℕ) → c.take-step.result ≡ Payload register c.completed_word-w.result → AfterRun old new (bytes ++ c.args.missing.now) sessions place (Word register c.completed_word-w.result) = λ register e.
     word_more old new bytes c.args.missing.now sessions place register c.completed_word-w.result stands synced
-    (subst (λ (x : Step). (ps : List Packet) → MachineStandsFor c.self.inside.machine ps → Grows ps ((c.completed_word-w.result, x) ∷ []) c.take-step.new.self) e c.take-step.ensures.grows) fits c.completed_word-w.ensures refl
+    (subst (λ (x : Step). (ps : List Packet) → MachineStandsFor c.self.inside.machine ps → HasTakenWords ps ((c.completed_word-w.result, x) ∷ []) c.take-step.new.self) e c.take-step.ensures.grows) fits c.completed_word-w.ensures refl
     (subst (λ (x : Step). mode_of c.stage_after_word-self-inside.result ≡ (if is_end x then Mode.Searching else Mode.Synced)) e turned) (λ _. c.new-self-inside.ensures) in
     subst (λ (o : CutterState). AfterRun o new (bytes ++ c.args.missing.now) sessions place c.match-step.result) c.self.view_is (elim c.match-step.branch [
       | in-Payload b ↦

@@ -3,7 +3,7 @@ use Rattle.x7_words.specs.Word.{words_of_bytes}
 use Rattle.x7_words.proofs.ListLemmas.{all_from_places}
 use Rattle.x7_words.proofs.WordLemmas.{length_words, words_fit}
 use Rattle.x7_packets.specs.Packet.{payload_steps}
-use Rattle.x7_packets.specs.Machine.{Grows, MachineStandsFor, MachineState}
+use Rattle.x7_packets.specs.Machine.{HasTakenWords, MachineStandsFor, MachineState}
 use Rattle.x7_packets.proofs.TakeLemmas.{calm_words, payload_goes_on}
 use Rattle.x7_packets.proofs.AtOnceLemmas.{other_register}
 use Rattle.x7_packets.proofs.machine.Machine.take_payload.Goals as goal
@@ -23,6 +23,6 @@ returns-clause-grows c = λ ps s.
     let fits = words_fit c.args.body.now (all_from_places (λ b. b < 256) c.args.body.now (λ k h. omega (arith, c.type_inv.body k))) in
     elim (subst (λ m. MachineStandsFor m ps) (sym c.self.view_is) s) [
       | inl a ↦ absurd (let z : c.self.inside.due ≡ 0 = a.due in omega (arith, c.requires.within_due, c.requires.not_empty, c.requires.whole))
-      | inr a ↦ subst (λ (m : MachineState). Grows ps (payload_steps m.register (words_of_bytes c.args.body.now)) n) c.self.view_is
+      | inr a ↦ subst (λ (m : MachineState). HasTakenWords ps (payload_steps m.register (words_of_bytes c.args.body.now)) n) c.self.view_is
           (payload_goes_on v n ps (words_of_bytes c.args.body.now) fits a (other_register c.self.inside.register _ c.is_cmd.ensures c.if-is_cmd.false) (omega (arith, count, c.requires.not_empty, c.requires.whole)) refl refl (omega (arith, count, due, c.requires.within_due)))
     ]

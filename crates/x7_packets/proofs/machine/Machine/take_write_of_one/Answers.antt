@@ -7,11 +7,11 @@ pub returns-then-ends_session-clause-head : goal.returns-then-ends_session-claus
 returns-then-ends_session-clause-head c = λ ps s. write_opens c.args.self.now ps c.args.register 1 c.requires.register (omega arith) (omega arith) c.requires.at_header s
 
 pub returns-then-ends_session-clause-word : goal.returns-then-ends_session-clause-word
-returns-then-ends_session-clause-word c = λ ps s. write_closes _ ps c.args.register c.args.w (omega (arith, c.ranges.w)) (sym c.ends_session.ensures ∙ c.if-ends_session.true) (subst (λ (m : MachineState). MachineStandsFor m []) (sym c.self-then-ends_session.view_is) c.new.ensures) s
+returns-then-ends_session-clause-word c = λ ps s. write_closes _ ps c.args.register c.args.word (omega (arith, c.ranges.word)) (sym c.ends_session.ensures ∙ c.if-ends_session.true) (subst (λ (m : MachineState). MachineStandsFor m []) (sym c.self-then-ends_session.view_is) c.new.ensures) s
 
 pub returns-clause-head : goal.returns-clause-head
 returns-clause-head c = λ ps s. write_opens c.args.self.now ps c.args.register 1 c.requires.register (omega arith) (omega arith) c.requires.at_header s
 
 pub returns-clause-word : goal.returns-clause-word
-returns-clause-word c = λ ps s. write_goes_on _ ps c.args.register c.args.w (omega (arith, c.ranges.w)) (sym c.ends_session.ensures ∙ c.if-ends_session.false) refl refl
+returns-clause-word c = λ ps s. write_goes_on _ ps c.args.register c.args.word (omega (arith, c.ranges.word)) (sym c.ends_session.ensures ∙ c.if-ends_session.false) refl refl
     (ap (λ (m : MachineState). m.due) c.self.view_is ∙ c.requires.at_header) s

@@ -1,5 +1,5 @@
 use Rattle.std.proofs.Common.{refl, subst, ◌+◌, ◌≤◌}
-use Rattle.x7_packets.specs.Cutter.{Cuts, between}
+use Rattle.x7_packets.specs.Cutter.{CutsRun, between}
 use Rattle.x7_packets.proofs.StreamLemmas.{cuts_whole, left_after, taken_of, within_piece}
 use Rattle.x7_packets.proofs.stream.Packets.cut_next.Goals as goal
 
@@ -12,7 +12,7 @@ returns-in-Some c =
     rw (← c.self.view_is) (record {
       run = c.cut.result;
       count = c.cut.new.at;
-      cuts = subst (λ t. Cuts i.cutter c.cut.new.self (between t i.at i.end) c.cut.new.at c.cut.result) c.deref.ensures.value (cuts_whole i.cutter c.cut.new.self piece c.cut.new.at c.cut.result e.nearer e.need e.joined e.run e.lent e.skips e.adds);
+      cuts = subst (λ t. CutsRun i.cutter c.cut.new.self (between t i.at i.end) c.cut.new.at c.cut.result) c.deref.ensures.value (cuts_whole i.cutter c.cut.new.self piece c.cut.new.at c.cut.result e.nearer e.need e.joined e.run e.lent e.skips e.adds);
       kept = c.keeps_the_tail.ensures;
       left = left_after i.buffer.items i.at i.end c.cut.new.at within;
       bytes = taken_of i.buffer.items i.at i.end c.cut.new.at within;
@@ -31,7 +31,7 @@ returns-in-None c =
     rw (← c.self.view_is) (record {
       run = c.cut.result;
       count = c.cut.new.at;
-      cuts = subst (λ t. Cuts i.cutter c.cut.new.self (between t i.at i.end) c.cut.new.at c.cut.result) c.deref.ensures.value (cuts_whole i.cutter c.cut.new.self piece c.cut.new.at c.cut.result e.nearer e.need e.joined e.run e.lent e.skips e.adds);
+      cuts = subst (λ t. CutsRun i.cutter c.cut.new.self (between t i.at i.end) c.cut.new.at c.cut.result) c.deref.ensures.value (cuts_whole i.cutter c.cut.new.self piece c.cut.new.at c.cut.result e.nearer e.need e.joined e.run e.lent e.skips e.adds);
       kept = c.keeps_the_tail.ensures;
       left = left_after i.buffer.items i.at i.end c.cut.new.at within;
       bytes = taken_of i.buffer.items i.at i.end c.cut.new.at within;

@@ -13,6 +13,8 @@ returns-clause-shows c =
     let few : c.args.count < 8 = omega (arith, c.requires.in_row, c.if-count-eq8.false) in
     record {
       text = c.put_prefix.ensures.appends
-          ∙ ap (λ (t : List ℕ). take c.args.len c.args.sheet.now ++ t) (first_words [] c.data_line-line.result c.data_line-line.result (take (4 + 9 * c.args.count) c.data_line-line.result) c.args.bytes.now (4 + 9 * c.args.count) c.args.count c.requires.at_least_one few c.told-bytes c.data_line-line.ensures (omega arith) refl refl);
+          ∙ ap (λ (t : List ℕ). take c.args.len c.args.sheet.now ++ t)
+          (first_words [] c.data_line-line.result c.data_line-line.result (take (4 + 9 * c.args.count) c.data_line-line.result) c.args.bytes.now
+          (4 + 9 * c.args.count) c.args.count c.requires.at_least_one few c.told-bytes c.data_line-line.ensures (omega arith) refl refl);
       count = first_words_count c.args.bytes.now c.args.count c.told-bytes few;
     }

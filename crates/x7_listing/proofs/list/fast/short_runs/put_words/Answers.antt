@@ -17,6 +17,8 @@ returns-clause-shows c =
     let first = first_row _ c.args.bytes.now c.told-bytes c.as_chunks.ensures.front in
     let second = second_row _ c.args.bytes.now c.told-bytes c.as_chunks.ensures.front in
     record {
-      text = two_rows c.args.bytes.now _ _ (take c.args.len c.args.sheet.now) (take c.put_whole-start.result c.put_whole-start.new.sheet) _ c.data_line.result c.args.count c.told-bytes (omega (arith, c.if-count-le8.false)) c.requires.in_two_rows first second c.data_line.ensures c.put_whole-start.ensures.appends c.put_in_row-2.ensures.shows.text;
+      text = two_rows c.args.bytes.now _ _ (take c.args.len c.args.sheet.now) (take c.put_whole-start.result c.put_whole-start.new.sheet) _ c.data_line.result
+          c.args.count c.told-bytes (omega (arith, c.if-count-le8.false)) c.requires.in_two_rows first second c.data_line.ensures c.put_whole-start.ensures.appends
+          c.put_in_row-2.ensures.shows.text;
       count = two_rows_count c.args.bytes.now _ _ c.args.count _ c.told-bytes (omega (arith, c.if-count-le8.false)) c.requires.in_two_rows first second c.put_in_row-2.ensures.shows.count;
     }

@@ -1,5 +1,0 @@
-use Rattle.x7_listing.proofs.asm.AsmLinesLemmas.{still_sound}
-use Rattle.x7_listing.proofs.asm.lines.AsmLines.put_at_once.Goals as goal
-
-pub invariant_of-self : goal.invariant_of-self
-invariant_of-self c = still_sound c.self.inside.out.items c.put_quick_after_first_line.new.out.items c.self.inside.start c.self.inside.checker _ c.put_quick_after_first_line.ensures.reads.takes.appended c.self.invariant

@@ -1,6 +1,0 @@
-use Rattle.std.proofs.Common.{◌∙◌}
-use Rattle.x7_packets.proofs.BlockLemmas.{eight_equal}
-use Rattle.x7_packets.proofs.nops.block_of.Goals as goal
-
-pub returns : goal.returns
-returns c = c.copy_from_slice.ensures.after ∙ c.as_flattened.ensures.value ∙ eight_equal 8 c.args.w c.bytes_of.result c.bytes_of.ensures.value
