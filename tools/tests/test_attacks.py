@@ -6,9 +6,7 @@ import os
 import subprocess
 import sys
 
-from casefiles import TOOLS, Tally
-
-TOP = os.path.dirname(TOOLS)
+from casefiles import TOOLS, TOP, Tally
 
 
 def parts_of(edit):

@@ -3,10 +3,9 @@
 import os
 import tempfile
 
-from casefiles import TOOLS, Tally
+from casefiles import TOP, Tally
 from runs import X7, run
 
-TOP = os.path.dirname(TOOLS)
 EXAMPLES = os.path.join(TOP, "examples")
 
 tally = Tally()

@@ -6,16 +6,9 @@ import glob
 import os
 import re
 
-from casefiles import TOOLS, Tally
+from casefiles import TOP, Tally, text_of
 
-TOP = os.path.dirname(TOOLS)
 CRATES = os.path.join(TOP, "crates")
-
-
-def text_of(*path):
-    """The text of a file of the tree."""
-    with open(os.path.join(TOP, *path), encoding="utf-8") as file:
-        return file.read()
 
 
 def crates():

@@ -11,8 +11,8 @@ const READ_FAULT: u64 = 6;
 /// The status of a run in which a write failed.
 const WRITE_FAULT: u64 = 7;
 
-/// Notes where a run differs from the whole run.
-pub(crate) fn compare_spared(notes: &mut Notes, whole: &Ending, came: &Ending) {
+/// Notes where a run in which no call failed differs from the whole run.
+pub(crate) fn compare_alike(notes: &mut Notes, whole: &Ending, came: &Ending) {
     notes.compare_numbers("status", u64::from(whole.status), u64::from(came.status));
     notes.compare_texts("out", &whole.out, &came.out);
     notes.compare_texts("err", &whole.err, &came.err);
@@ -71,9 +71,7 @@ impl Blamed {
             return false;
         };
         let done = self.places.push(place);
-        if done.is_err() {
-            notes.lacks_memory = true;
-        }
+        notes.lacks_memory |= done.is_err();
         true
     }
 
