@@ -94,7 +94,7 @@ def text_of(*path):
         return file.read()
 
 
-def part_text(name, rows, settings=""):
+def made_part_text(name, rows, settings=""):
     """A part file of a made-up device, with the IDCODE of an xc7a35t; a row is its block type, half, row and minors."""
     tables = (f"\n[[row]]\nblock = {block}\nhalf = {half}\nrow = {row}\nminors = {minors}\n" for block, half, row, minors in rows)
     return f'name = "{name}"\nidcode = 0x0362D093\n{settings}' + "".join(tables)

@@ -10,7 +10,7 @@ import tempfile
 import traceback
 from collections import namedtuple
 
-from casefiles import TOOLS, Tally, part_text
+from casefiles import TOOLS, Tally, made_part_text
 import x7formats as x7
 
 SECONDS = 120
@@ -164,4 +164,4 @@ def run_parts(what, *parts):
 
 
 # a made-up device with frames of 101 words, two rows of which have the same columns
-DEVICE = part_text("made", [(0, 0, 0, [4, 6, 3]), (0, 1, 0, [4, 6, 3]), (1, 0, 0, [5])])
+DEVICE = made_part_text("made", [(0, 0, 0, [4, 6, 3]), (0, 1, 0, [4, 6, 3]), (1, 0, 0, [5])])
