@@ -6,7 +6,7 @@ from collections import namedtuple
 
 import x7run
 from x7device import Device
-from x7formats import CMD, CODES, REGISTERS, SYNC, Refused, payload, read_file, steps, stream_of, word_at
+from x7formats import CMD, CODES, REGISTERS, SYNC, Refused, payload, read_file, steps, stream_named, word_at
 from x7parts import is_7_series
 
 # ---- x7
@@ -112,11 +112,7 @@ class Asked:
 
 def asked_of(path):
     """What the stream of a file asks."""
-    raw = read_file(path)
-    try:
-        return Asked(stream_of(raw))
-    except Refused as refused:
-        raise Refused(f"{path}: {refused}") from None
+    return Asked(stream_named(path, read_file(path)))
 
 
 def whole(path):

@@ -91,6 +91,14 @@ def stream_of(raw):
     return Stream(header, raw[header.size :] if header else raw)
 
 
+def stream_named(path, raw):
+    """The stream of the bytes of a file, whose path stands before what is refused."""
+    try:
+        return stream_of(raw)
+    except Refused as refused:
+        raise Refused(f"{path}: {refused}") from None
+
+
 def text_of(field):
     """A text of a header without its closing zero."""
     return field.rstrip(b"\0").decode("ascii", "replace")
@@ -297,6 +305,11 @@ def blocks(file):
         if not block:
             return
         yield block + file.readline()
+
+
+def is_listing(raw):
+    """Whether a file that begins with these bytes is a listing of `x7 list`, and no stream."""
+    return bool(re.match(rb"(bit|bytes|sync|nop|write|read|write2|read2|word|data|cmd)( [^\n]*)?\r?\n", raw))
 
 
 def read_listing(path):
