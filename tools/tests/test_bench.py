@@ -26,7 +26,7 @@ with tempfile.TemporaryDirectory() as folder:
     for name in ("closed", "no_memory", "update"):
         came = run(folder, [os.path.join(BENCH, name)])
         tally.same(f"{name} without x7", (came.status, came.out, came.err.count(b"\n"), b"nowhere" in came.err), (2, b"", 1, True))
-    for name in ("asks", "closed", "name_tables.py", "no_memory", "update", "version"):
+    for name in ("asks", "closed", "full", "groups", "name_tables.py", "no_memory", "run", "svf", "update", "version"):
         came = run(folder, [os.path.join(BENCH, name), "--other"])
         tally.same(f"{name} with other words", (came.status, came.out, came.err.count(b"\n")), (2, b"", 1))
     for name in ("measure.py", "streams.py", "times.py"):

@@ -20,6 +20,10 @@ with tempfile.TemporaryDirectory() as folder:
         files = came.out.decode().split("\n")[:-1]
         tally.check("the pages are put too", b"there/share/doc/x7/BOARD.md\n" in came.out, came.out)
         tally.check("install says what it put", files and all(os.path.isfile(os.path.join(folder, it)) for it in files), files)
+        tools = sorted(it for it in files if it.startswith("there/bin/x7-"))
+        tally.same("the tools that are put", len(tools), 9)
+        for tool in tools:
+            tally.same(f"{tool} --help, status", run(folder, [os.path.join(folder, tool), "--help"]).status, 0)
         os.environ["PATH"] = os.path.join(folder, "there", "bin") + os.pathsep + os.environ["PATH"]
         del os.environ["X7"]
         files = [os.path.join(EXAMPLES, it) for it in ("tiny.part", "first.bin")]
