@@ -2,7 +2,7 @@
 use crate::case::Case;
 use crate::command::Command;
 use crate::comparing::compare;
-use crate::failing::{Blamed, compare_failed, compare_alike};
+use crate::failing::{Blamed, compare_alike, compare_failed};
 use crate::given::Object;
 use crate::named::Named;
 use crate::notes::Notes;
