@@ -6,7 +6,7 @@ from collections import namedtuple
 
 import x7run
 from x7device import Device
-from x7formats import CMD, CODES, REGISTERS, SYNC, Refused, payload, read_file, steps, stream_named, word_at
+from x7formats import CALLED, CMD, CODES, REGISTERS, SYNC, Refused, payload, read_file, steps, stream_named, word_at
 from x7parts import is_7_series
 
 # ---- x7
@@ -69,7 +69,7 @@ class Asked:
         if header and header.length != len(data):
             return f"its header tells of {header.length} bytes of data, and it has {len(data)}"
         if SYNC not in data:
-            return "it has no sync word AA995566: it is no stream (tools/turn knows packed and swapped ones)"
+            return f"it has no sync word AA995566: it is no stream ({CALLED}turn knows packed and swapped ones)"
         if any(not is_7_series(it) for it in self.idcodes):
             return f"{self.idcodes[0]:08X} is the IDCODE of no 7-series device"
         if end == ["synced"]:

@@ -10,7 +10,7 @@ import re
 import struct
 from collections import namedtuple
 
-from x7run import Refused, program, read_file, read_in, run, say, write_file, write_out  # noqa: F401  (for the tools)
+from x7run import CALLED, Refused, program, read_file, read_in, run, say, write_file, write_out  # noqa: F401  (for the tools)
 
 # ---- words, registers and commands (UG470, configuration registers; command register codes)
 

@@ -27,6 +27,12 @@ with tempfile.TemporaryDirectory() as folder:
         os.environ["PATH"] = os.path.join(folder, "there", "bin") + os.pathsep + os.environ["PATH"]
         del os.environ["X7"]
         files = [os.path.join(EXAMPLES, it) for it in ("tiny.part", "first.bin")]
+        came = run(folder, ["x7-turn", "--help"])
+        tally.check("an installed tool calls itself by its name", b"x7-turn FILE > STREAM" in came.out and b"tools/" not in came.out, came)
+        with open(os.path.join(folder, "swapped"), "wb") as file:
+            file.write(bytes.fromhex("665599AA 00000020 01800030 07000000 00000020"))
+        came = run(folder, ["x7-why", "swapped"])
+        tally.check("an installed tool names another by its name", b"\nremedy: x7-turn FILE > NEW\n" in came.out, came)
         came = run(folder, ["x7-why", "--part", *files])
         tally.check("an installed tool plays by the installed program", b"cause: the stream is for a device with IDCODE" in came.out, came)
     else:
