@@ -17,7 +17,7 @@ def program(given=None):
     named = given or os.environ.get("X7")
     path = x7run.program(given)
     if not path:
-        raise Refused(f"x7 isn't at {named}" if named else "there is no x7: ./build proves and builds it, or --x7 or X7 names one")
+        raise Refused(f"x7 isn't at {named}" if named else "there is no x7: ./build proves and builds it, or X7 in the environment names one")
     return path
 
 

@@ -16,20 +16,23 @@ pub(crate) fn compare_alike(notes: &mut Notes, whole: &Ending, came: &Ending) {
     notes.compare_numbers("status", u64::from(whole.status), u64::from(came.status));
     notes.compare_texts("out", &whole.out, &came.out);
     notes.compare_texts("err", &whole.err, &came.err);
+    notes.compare_texts("flash", &whole.flash, &came.flash);
 }
 
-/// Notes where a failed call of `err` took more than an end of its line.
+/// Notes where a failed call of `err` took more than an end of its line, or changed what is left beside it.
 fn compare_err_failed(notes: &mut Notes, whole: &Ending, came: &Ending) {
     notes.compare_numbers("status", u64::from(whole.status), u64::from(came.status));
     notes.compare_texts("out", &whole.out, &came.out);
     notes.compare_prefix("err", &whole.err, &came.err);
+    notes.compare_texts("flash", &whole.flash, &came.flash);
 }
 
-/// Notes where a failed call of `out` left no prefix of the text, or not its message.
+/// Notes where a failed call of `out` left no prefix of the text, not its message, or another flash.
 fn compare_out_failed(notes: &mut Notes, whole: &Ending, came: &Ending) {
     notes.compare_numbers("status", WRITE_FAULT, u64::from(came.status));
     notes.compare_prefix("out", &whole.out, &came.out);
     notes.compare_texts("err", b"x7: write fault\n", &came.err);
+    notes.compare_texts("flash", &whole.flash, &came.flash);
 }
 
 /// The name in the message of a read fault.
