@@ -14,7 +14,8 @@ from casefiles import TOOLS, Tally, made_part_text
 import x7formats as x7
 
 SECONDS = 120
-X7 = os.environ.get("X7", "")
+# the path of x7, empty where it isn't built
+X7 = x7.program() or ""
 Came = namedtuple("Came", "status out err")
 
 

@@ -15,6 +15,7 @@ with tempfile.TemporaryDirectory() as folder:
     tally.same("install -h, status", run(folder, [install, "-h"]).status, 0)
     tally.same("install of another option, status", run(folder, [install, "--other"]).status, 2)
     if X7:
+        os.environ["X7"] = X7
         came = run(folder, [install, "there"])
         tally.same("install, status", came.status, 0)
         files = came.out.decode().split("\n")[:-1]
