@@ -12,6 +12,7 @@ TOP = os.path.dirname(os.path.dirname(os.path.realpath(__file__)))
 sys.path.insert(0, os.path.join(TOP, "tools"))
 sys.dont_write_bytecode = True
 
+from measure import part_text  # noqa: E402
 from x7run import Refused, run  # noqa: E402
 
 SYNC = b"\xaa\x99\x55\x66"
@@ -60,12 +61,6 @@ def compressed():
     return SYNC + write(IDCODE_REGISTER, IDCODE) + b"".join(one + words(WIDTH, 8 + n) + write(CMD, MFW) + places for n in range(rounds))
 
 
-def part():
-    """The part file of these."""
-    minors = ", ".join([str(MINORS)] * COLUMNS)
-    return f'name = "bench"\nidcode = 0x{IDCODE:08X}\nmode = 1\n\n[[row]]\nblock = 0\nhalf = 0\nrow = 0\nminors = [{minors}]\n'
-
-
 def streams():
     """Each stream by its name."""
     count = WORDS - 10
@@ -87,7 +82,7 @@ def main(words):
     folder = pathlib.Path(words[0])
     for name, stream in streams():
         (folder / f"{name}.bin").write_bytes(stream)
-    (folder / "bench.part").write_text(part())
+    (folder / "bench.part").write_text(part_text("bench", COLUMNS, MINORS, IDCODE))
 
 
 run(main, __doc__)

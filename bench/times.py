@@ -12,6 +12,7 @@ TOP = os.path.dirname(os.path.dirname(os.path.realpath(__file__)))
 sys.path.insert(0, os.path.join(TOP, "tools"))
 sys.dont_write_bytecode = True
 
+from measure import seconds_of  # noqa: E402
 from x7run import Refused, run  # noqa: E402
 
 RUNS = 5
@@ -24,28 +25,15 @@ def peak(command):
     return int(ended.stderr.split()[-1]) / 1024
 
 
-def cost(command):
-    """The least processor time in seconds of some runs."""
-    least = None
-    for _ in range(RUNS):
-        child = subprocess.Popen(command, stdout=subprocess.DEVNULL)
-        _, status, usage = os.wait4(child.pid, 0)
-        if status != 0:
-            sys.exit(f"{command} ended with {status}")
-        spent = usage.ru_utime + usage.ru_stime
-        least = spent if least is None else min(least, spent)
-    return least
-
-
 def list_times(folder):
     """Prints the times of the lister beside xxd and cat."""
     print("list     x7 s    xxd s   cat s   xxd/x7  x7/cat  x7 MiB")
     for name in ["long", "writes", "nops", "gap"]:
         stream = str(folder / f"{name}.bin")
         command = [str(folder / "x7"), "list", stream]
-        ours = cost(command)
-        xxd = cost(["xxd", "-p", "-c", "32", stream])
-        cat = cost(["cat", stream])
+        ours = seconds_of(command, RUNS)
+        xxd = seconds_of(["xxd", "-p", "-c", "32", stream], RUNS)
+        cat = seconds_of(["cat", stream], RUNS)
         print(
             f"{name:8} {ours:.3f}   {xxd:.3f}   {cat:.3f}   {xxd / ours:6.1f}  {ours / max(cat, 0.001):6.1f}  {peak(command):6.1f}"
         )
@@ -58,8 +46,8 @@ def play_times(folder, tiny):
         stream = str(folder / f"{name}.bin")
         part = str(folder / "bench.part") if name in ("frames", "compressed") else tiny
         command = [str(folder / "x7"), "play", part, stream]
-        ours = cost(command)
-        md5sum = cost(["md5sum", stream])
+        ours = seconds_of(command, RUNS)
+        md5sum = seconds_of(["md5sum", stream], RUNS)
         print(f"{name:10} {ours:.3f}   {md5sum:.3f}     {ours / md5sum:6.2f}     {peak(command):6.1f}")
 
 

@@ -6,7 +6,7 @@ from collections import namedtuple
 
 import x7run
 from x7device import Device
-from x7formats import CMD, CODES, REGISTERS, SYNC, Refused, payload, read_file, steps, stream_of, word_at
+from x7formats import CALLED, CMD, CODES, REGISTERS, SYNC, Refused, payload, read_file, steps, stream_named, word_at
 from x7parts import is_7_series
 
 # ---- x7
@@ -17,7 +17,7 @@ def program(given=None):
     named = given or os.environ.get("X7")
     path = x7run.program(given)
     if not path:
-        raise Refused(f"x7 isn't at {named}" if named else "there is no x7: ./build proves and builds it, or --x7 or X7 names one")
+        raise Refused(f"x7 isn't at {named}" if named else "there is no x7: ./build proves and builds it, or X7 in the environment names one")
     return path
 
 
@@ -69,7 +69,7 @@ class Asked:
         if header and header.length != len(data):
             return f"its header tells of {header.length} bytes of data, and it has {len(data)}"
         if SYNC not in data:
-            return "it has no sync word AA995566: it is no stream (tools/turn knows packed and swapped ones)"
+            return f"it has no sync word AA995566: it is no stream ({CALLED}turn knows packed and swapped ones)"
         if any(not is_7_series(it) for it in self.idcodes):
             return f"{self.idcodes[0]:08X} is the IDCODE of no 7-series device"
         if end == ["synced"]:
@@ -112,11 +112,7 @@ class Asked:
 
 def asked_of(path):
     """What the stream of a file asks."""
-    raw = read_file(path)
-    try:
-        return Asked(stream_of(raw))
-    except Refused as refused:
-        raise Refused(f"{path}: {refused}") from None
+    return Asked(stream_named(path, read_file(path)))
 
 
 def whole(path):

@@ -132,7 +132,7 @@ def of_kind(source):
     found = x7kinds.turning_of(data)
     if found:
         lead = "no sync word: " if x7.SYNC not in data else "after the sync word stands no packet: "
-        return unsynced(f"{lead}{found.way.what} are {found.way.how}", "tools/turn FILE > NEW", source)
+        return unsynced(f"{lead}{found.way.what} are {found.way.how}", f"{x7.CALLED}turn FILE > NEW", source)
     return of_no_sync(source) if x7.SYNC not in data else None
 
 
@@ -158,7 +158,7 @@ def of_no_sync(source):
             f"no sync word: all bits come {bits} places late, as where a clock was lost or added",
             "send it again; look at the clock's edge", source)
     return unsynced(
-        "no sync word AA995566, nor one in any way that tools/turn knows",
+        f"no sync word AA995566, nor one in any way that {x7.CALLED}turn knows",
         f"look where the file comes from: its first bytes are {data[:16].hex().upper()}", source)
 
 
@@ -686,7 +686,7 @@ def of_svf(subject):
     if report.phase == 0 and not subject.has("START") and subject.device.end[0] == "searching":
         return cause(
             f"{differs}; the stream has no START: the text resets the device, and then sends a partial stream",
-            "send a partial stream without JPROGRAM: tools/svf --partial", PARTIAL_SECTION,
+            f"send a partial stream without JPROGRAM: {x7.CALLED}svf --partial", PARTIAL_SECTION,
         )
     if report.end[0] == "fault":
         found = of_fault(subject)

@@ -10,7 +10,7 @@ import re
 import struct
 from collections import namedtuple
 
-from x7run import Refused, program, read_file, read_in, run, say, write_file, write_out  # noqa: F401  (for the tools)
+from x7run import CALLED, Refused, program, read_file, read_in, run, say, write_file, write_out  # noqa: F401  (for the tools)
 
 # ---- words, registers and commands (UG470, configuration registers; command register codes)
 
@@ -89,6 +89,14 @@ def stream_of(raw):
     """The header and the data of a file's bytes."""
     header = header_of(raw)
     return Stream(header, raw[header.size :] if header else raw)
+
+
+def stream_named(path, raw):
+    """The stream of the bytes of a file, whose path stands before what is refused."""
+    try:
+        return stream_of(raw)
+    except Refused as refused:
+        raise Refused(f"{path}: {refused}") from None
 
 
 def text_of(field):
@@ -297,6 +305,11 @@ def blocks(file):
         if not block:
             return
         yield block + file.readline()
+
+
+def is_listing(raw):
+    """Whether a file that begins with these bytes is a listing of `x7 list`, and no stream."""
+    return bool(re.match(rb"(bit|bytes|sync|nop|write|read|write2|read2|word|data|cmd)( [^\n]*)?\r?\n", raw))
 
 
 def read_listing(path):

@@ -17,7 +17,7 @@ MAGIC = [
     (b"PK\x03\x04", "it is a zip file", "unzip it"),
     (b"7z\xbc\xaf\x27\x1c", "it is a 7z file", "7z x FILE"),
     (b"\x7fELF", "it is a program (ELF)", "take the .bit or .bin file"),
-    (b"Xilinx ASCII Bitstream", "it is a .rbt file, digits 0 and 1 as text", "tools/turn FILE > NEW"),
+    (b"Xilinx ASCII Bitstream", "it is a .rbt file, digits 0 and 1 as text", f"{x7.CALLED}turn FILE > NEW"),
     (b"version https://git-lfs", "it is a pointer of git-lfs, and not the file", "git lfs pull"),
 ]
 TEXTS = [
@@ -27,7 +27,7 @@ TEXTS = [
     (rb"(?i)[0-9a-f]{4,16}(:|  ?)[ 0-9a-f]", "it is a hex dump", "xxd -r FILE NEW"),
     (rb"(?:[!/][^\n]*\n|[ \t\r]*\n)*[ \t]*(?:STATE|SIR|HIR|TRST|ENDIR|FREQUENCY)\s", "it is an SVF text", "x7 svf PART FILE"),
     (rb"(?i)[0-9A-F\s]{64}", "it is hexadecimal digits as text", "xxd -r -p FILE NEW"),
-    (rb"([01]{32}\r?\n){2}", "it is digits 0 and 1 as text", "tools/turn FILE > NEW"),
+    (rb"([01]{32}\r?\n){2}", "it is digits 0 and 1 as text", f"{x7.CALLED}turn FILE > NEW"),
     (rb"[A-Za-z0-9+/\r\n]{64}", "it is base64", "base64 -d FILE > NEW"),
 ]
 RECODED = [

@@ -1,9 +1,14 @@
 """How a tool of this folder begins and ends: its files, its lines on standard error, and its status."""
 import os
+import re
 import shutil
 import sys
 
-TOP = os.path.dirname(os.path.dirname(os.path.realpath(__file__)))
+HERE = os.path.dirname(os.path.realpath(__file__))
+TOP = os.path.dirname(HERE)
+# What stands before the name of a tool where a user calls it: in the repository its folder, and where the tools were
+# installed what `./install` puts before the name.
+CALLED = "tools/" if os.path.basename(HERE) == "tools" else "x7-"
 
 
 def program(given=None):
@@ -90,6 +95,13 @@ def open_standard_files():
             return
 
 
+def as_called(document):
+    """A tool's document, in which tools are named as a user calls them; what stands beside a call stays in its
+    column."""
+    blanks = " " * (len("tools/") - len(CALLED))
+    return re.sub(r"tools/(.*?)(  +|$)", lambda it: CALLED + it[1] + (it[2] and it[2] + blanks), document, flags=re.M)
+
+
 def run(main, document):
     """Runs a tool's `main` with the words of its command line, and ends with its status: 2 and a line for what is
     refused. `--help` shows the tool's document."""
@@ -97,7 +109,7 @@ def run(main, document):
     name = os.path.basename(sys.argv[0])
     try:
         if sys.argv[1:] in (["--help"], ["-h"]):
-            write_out(document.strip() + "\n")
+            write_out(as_called(document.strip()) + "\n")
             sys.exit(0)
         sys.exit(main(sys.argv[1:]) or 0)
     except Refused as refused:

@@ -88,6 +88,18 @@ def put_file(folder, name, data):
     return path
 
 
+def text_of(*path):
+    """The text of a file of the tree."""
+    with open(os.path.join(TOP, *path), encoding="utf-8") as file:
+        return file.read()
+
+
+def made_part_text(name, rows, settings=""):
+    """A part file of a made-up device, with the IDCODE of an xc7a35t; a row is its block type, half, row and minors."""
+    tables = (f"\n[[row]]\nblock = {block}\nhalf = {half}\nrow = {row}\nminors = {minors}\n" for block, half, row, minors in rows)
+    return f'name = "{name}"\nidcode = 0x0362D093\n{settings}' + "".join(tables)
+
+
 def header(length, part_name="7a35tcpg236", design="made", date="2026/11/29", time="10:00:00"):
     """A header of a .bit file that gives `length` as the bytes of the data; an empty text is a field without bytes."""
     fields = [text.encode() + b"\0" if text else b"" for text in (design, part_name, date, time)]
@@ -141,8 +153,9 @@ class Tally:
         self.check(name, came == wanted, f"came {str(came)[:300]!r}, wanted {str(wanted)[:300]!r}")
 
     def skip(self, name):
-        """Counts what the machine lacks something for."""
+        """Counts what the machine lacks something for, and says it on standard error."""
         self.skipped += 1
+        print(f"{os.path.basename(sys.argv[0])}: skipped: {name}", file=sys.stderr)
 
     def end(self):
         """Prints the counts, and ends with status 1 where something failed."""

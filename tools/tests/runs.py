@@ -6,13 +6,16 @@ import shlex
 import signal
 import subprocess
 import sys
+import tempfile
 import traceback
 from collections import namedtuple
 
-from casefiles import TOOLS, Tally
+from casefiles import TOOLS, Tally, made_part_text
+import x7formats as x7
 
 SECONDS = 120
-X7 = os.environ.get("X7", "")
+# the path of x7, empty where it isn't built
+X7 = x7.program() or ""
 Came = namedtuple("Came", "status out err")
 
 
@@ -143,25 +146,23 @@ def frame_of(seed, words=101):
     return random.Random(seed).getrandbits(32 * words).to_bytes(4 * words, "big")
 
 
+def text_of_frames(frames):
+    """The text of frames by their addresses in hexadecimal digits."""
+    return x7.frames_text({int(far, 16): frame for far, frame in frames.items()})
+
+
+def run_parts(what, *parts):
+    """Runs parts of a test on one bench, in a folder of its own, and ends with the tally's line; each wants x7, and
+    without it `what` is skipped."""
+    with tempfile.TemporaryDirectory() as folder:
+        bench = Bench(folder)
+        if X7:
+            for part in parts:
+                part(bench)
+        else:
+            bench.tally.skip(f"{what}: x7 isn't built")
+        bench.tally.end()
+
+
 # a made-up device with frames of 101 words, two rows of which have the same columns
-DEVICE = """name = "made"
-idcode = 0x0362D093
-
-[[row]]
-block = 0
-half = 0
-row = 0
-minors = [4, 6, 3]
-
-[[row]]
-block = 0
-half = 1
-row = 0
-minors = [4, 6, 3]
-
-[[row]]
-block = 1
-half = 0
-row = 0
-minors = [5]
-"""
+DEVICE = made_part_text("made", [(0, 0, 0, [4, 6, 3]), (0, 1, 0, [4, 6, 3]), (1, 0, 0, [5])])

@@ -1,31 +1,10 @@
 """Streams for tests, planned here: whole ones as the vendor's tool orders them, uncompressed and compressed, and
 partial ones, of a small part that is made up; their headers, and what becomes of them when words are changed."""
-from casefiles import header  # (casefiles puts the tools on the path)
+from casefiles import header, made_part_text  # (casefiles puts the tools on the path)
 import x7formats as x7
 
 IDCODE = 0x0362D093
-PART = """name = "small"
-idcode = 0x0362D093
-mode = 1
-
-[[row]]
-block = 0
-half = 0
-row = 0
-minors = [4, 3, 5]
-
-[[row]]
-block = 0
-half = 1
-row = 0
-minors = [4, 3]
-
-[[row]]
-block = 1
-half = 0
-row = 0
-minors = [6]
-"""
+PART = made_part_text("small", [(0, 0, 0, [4, 3, 5]), (0, 1, 0, [4, 3]), (1, 0, 0, [6])], "mode = 1\n")
 HEAD = ["bytes " + "FF" * 32, "bytes 000000BB11220044" + "FF" * 8, "sync", "nop"]
 
 

@@ -6,9 +6,7 @@ import os
 import subprocess
 import sys
 
-from casefiles import TOOLS, Tally
-
-TOP = os.path.dirname(TOOLS)
+from casefiles import TOOLS, TOP, Tally
 
 
 def parts_of(edit):
@@ -17,7 +15,8 @@ def parts_of(edit):
         lines = [line.rstrip("\n").partition(": ") for line in file]
     olds = [text for key, _, text in lines if key == "old"]
     news = [text for key, _, text in lines if key in ("new", "new:")]
-    return next(text for key, _, text in lines if key == "file"), list(zip(olds, news, strict=True))
+    assert len(olds) == len(news), f"{edit} has {len(olds)} lines that go and {len(news)} that come"
+    return next(text for key, _, text in lines if key == "file"), list(zip(olds, news))
 
 
 def check_edit(tally, crate, edit):

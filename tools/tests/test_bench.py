@@ -20,16 +20,16 @@ def script(name):
 tally = Tally()
 with tempfile.TemporaryDirectory() as folder:
     os.environ["X7"] = os.path.join(folder, "nowhere")
-    for name in sorted(it for it in os.listdir(BENCH) if it not in ("README.md", "update_limit.c")):
+    for name in sorted(it for it in os.listdir(BENCH) if it not in ("README.md", "update_limit.c", "__pycache__")):
         came = run(folder, [*script(name), "--help"])
         tally.check(f"{name} --help", came.status == 0 and len(came.out) > 60 and not came.out.startswith(b"#") and not came.err, came)
     for name in ("closed", "no_memory", "update"):
         came = run(folder, [os.path.join(BENCH, name)])
         tally.same(f"{name} without x7", (came.status, came.out, came.err.count(b"\n"), b"nowhere" in came.err), (2, b"", 1, True))
-    for name in ("asks", "closed", "name_tables.py", "no_memory", "update", "version"):
+    for name in ("asks", "closed", "full", "groups", "name_tables.py", "no_memory", "run", "svf", "update", "version"):
         came = run(folder, [os.path.join(BENCH, name), "--other"])
         tally.same(f"{name} with other words", (came.status, came.out, came.err.count(b"\n")), (2, b"", 1))
-    for name in ("streams.py", "times.py"):
+    for name in ("measure.py", "streams.py", "times.py"):
         came = run(folder, script(name))
         tally.same(f"{name} without words", (came.status, came.out, came.err.count(b"\n")), (2, b"", 1))
     came = run(folder, [os.path.join(BENCH, "name_tables.py")])

@@ -13,9 +13,8 @@ import tempfile
 import termios
 import time
 
-from casefiles import TOOLS, Tally
+from casefiles import TOP, Tally
 
-TOP = os.path.dirname(TOOLS)
 KIT = "rattle-kit-1 logic 0123"
 # A prover: it says which crate it is given, does as the crate's folder asks, and writes the crate's text in place of a
 # library.

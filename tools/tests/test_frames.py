@@ -4,22 +4,17 @@ against what x7 plays, and planned streams in the vendor's sequences."""
 import random
 import tempfile
 
-from runs import DEVICE, X7, Bench, frame_of
+from runs import DEVICE, X7, Bench, frame_of, text_of_frames
 import x7formats as x7
 
 PARTS = ["00000000", "00000003", "00000080", "00000082", "00000101", "00400000", "00400085", "00800000", "00800004"]
-
-
-def text_of(frames):
-    """The text of frames by their addresses in hexadecimal digits."""
-    return x7.frames_text({int(far, 16): frame for far, frame in frames.items()})
 
 
 def report_of(frames, part="made", end="searching"):
     """A report that shows these frames."""
     shown = {far: frame for far, frame in frames.items() if any(frame)}
     head = f"part {part}\ntaken 4\nend {end}\nphase 7 done 1 gts 1 gwe 1\nreg STAT 000010E0\nreads 0\n"
-    return f"{head}frames {len(shown)}\n" + text_of(shown)
+    return f"{head}frames {len(shown)}\n" + text_of_frames(shown)
 
 
 def lines_of(came):
@@ -36,22 +31,22 @@ def texts(bench):
     bench.put("one", report_of(one))
     bench.put("other", report_of(other))
     bench.put("foreign", report_of(one, "foreign"))
-    same("of", lines_of(tool("frames", "of", "one")), text_of(one).splitlines())
+    same("of", lines_of(tool("frames", "of", "one")), text_of_frames(one).splitlines())
     differs = {"00000003": bytes(404), "00000080": other["00000080"], "00400001": other["00400001"]}
-    same("differ", lines_of(tool("frames", "differ", "one", "other")), text_of(differs).splitlines())
+    same("differ", lines_of(tool("frames", "differ", "one", "other")), text_of_frames(differs).splitlines())
     same("differ in nothing", lines_of(tool("frames", "differ", "one", "one")), [])
     bench.refuses("frames", "differ", "one", "foreign", what="different parts")
-    bench.put("frames", text_of(one))
+    bench.put("frames", text_of_frames(one))
     in_row = {far: one[far] for far in ("00000000", "00000003", "00000080", "00000082", "00000101")}
-    same("region", lines_of(tool("frames", "region", "frames", "block=0,half=top,row=0")), text_of(in_row).splitlines())
+    same("region", lines_of(tool("frames", "region", "frames", "block=0,half=top,row=0")), text_of_frames(in_row).splitlines())
     two = {far: one[far] for far in ("00000080", "00000082", "00800004")}
-    same("regions", lines_of(tool("frames", "region", "frames", "block=0,half=0,column=1-1", "far=00800001-00800010")), text_of(two).splitlines())
+    same("regions", lines_of(tool("frames", "region", "frames", "block=0,half=0,column=1-1", "far=00800001-00800010")), text_of_frames(two).splitlines())
     for wrong in ("", "column", "column=", "column=3-1", "column=1,column=2", "minor=x", "far=xyz", "colour=1", "column=-1"):
         bench.refuses("frames", "region", "frames", wrong, what="no region")
-    bench.put("row", text_of(in_row))
+    bench.put("row", text_of_frames(in_row))
     moved = {f"{int(far, 16) | 0x400000:08X}": frame for far, frame in in_row.items()}
-    same("move", lines_of(tool("frames", "move", "row", "half=bottom,row=0")), text_of(moved).splitlines())
-    same("move in a part", lines_of(tool("frames", "move", "row", "half=bottom,row=0", "--part", "made.part")), text_of(moved).splitlines())
+    same("move", lines_of(tool("frames", "move", "row", "half=bottom,row=0")), text_of_frames(moved).splitlines())
+    same("move in a part", lines_of(tool("frames", "move", "row", "half=bottom,row=0", "--part", "made.part")), text_of_frames(moved).splitlines())
     bench.refuses("frames", "move", "frames", "half=1,row=0", what="rows")
     bench.refuses("frames", "move", "row", "half=1,row=7", "--part", "made.part", what="no column 0")
     bench.refuses("frames", "move", "row", "half=1", what="no row to move to")
@@ -76,7 +71,7 @@ def ecc_by_bits(frame):
 def ecc(bench):
     """The ECC is found and made as the formula has it, and each single bit that is wrong is found."""
     frames = {f"{far:08X}": frame_of(far) for far in range(12)}
-    bench.put("stale", text_of(frames))
+    bench.put("stale", text_of_frames(frames))
     came = bench.tool("frames", "ecc", "stale")
     wanted = [f"wrong {far} has {x7.word_at(frame, 200) & 0x1FFF:04X} want {ecc_by_bits(frame):04X}" for far, frame in frames.items()]
     bench.tally.same("ecc", (came.status, lines_of(came)), (1, [*wanted, "ecc 12 frames, 12 wrong"]))
@@ -89,7 +84,7 @@ def ecc(bench):
     frame, flipped = mended[3], {}
     for bit in random.Random(4).sample(range(3232), 200):
         flipped[f"{len(flipped):08X}"] = (int.from_bytes(frame, "big") ^ 1 << bit).to_bytes(404, "big")
-    bench.put("flipped", text_of(flipped))
+    bench.put("flipped", text_of_frames(flipped))
     bench.tally.same("a bit is found", lines_of(bench.tool("frames", "ecc", "flipped"))[-1], "ecc 200 frames, 200 wrong")
     bench.put("short", "frame 00000000 0000000100000002\n")
     bench.refuses("frames", "ecc", "short", what="has 2 words")
@@ -117,7 +112,7 @@ def planned(bench):
     same."""
     bench.make("full0", "x7", "plan", "full", "made.part", "/dev/null")
     for seed, frames in plans(bench):
-        bench.put("plan", text_of(frames))
+        bench.put("plan", text_of_frames(frames))
         for kind in ("full", "partial"):
             name = f"{kind} {seed}"
             bench.make("stream", "x7", "plan", kind, "made.part", "plan")
@@ -165,7 +160,7 @@ def vendor_sequences(bench, name):
 def others(bench):
     """Streams and words that aren't taken."""
     bench.put("empty", b"")
-    bench.put("plan", text_of({"00000080": frame_of(1)}))
+    bench.put("plan", text_of_frames({"00000080": frame_of(1)}))
     bench.make("partial", "x7", "plan", "partial", "made.part", "plan")
     data = bench.get("partial")
     bench.put("cut", data[:-40])

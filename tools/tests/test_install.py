@@ -3,10 +3,9 @@
 import os
 import tempfile
 
-from casefiles import TOOLS, Tally
+from casefiles import TOP, Tally
 from runs import X7, run
 
-TOP = os.path.dirname(TOOLS)
 EXAMPLES = os.path.join(TOP, "examples")
 
 tally = Tally()
@@ -16,14 +15,25 @@ with tempfile.TemporaryDirectory() as folder:
     tally.same("install -h, status", run(folder, [install, "-h"]).status, 0)
     tally.same("install of another option, status", run(folder, [install, "--other"]).status, 2)
     if X7:
+        os.environ["X7"] = X7
         came = run(folder, [install, "there"])
         tally.same("install, status", came.status, 0)
         files = came.out.decode().split("\n")[:-1]
         tally.check("the pages are put too", b"there/share/doc/x7/BOARD.md\n" in came.out, came.out)
         tally.check("install says what it put", files and all(os.path.isfile(os.path.join(folder, it)) for it in files), files)
+        tools = sorted(it for it in files if it.startswith("there/bin/x7-"))
+        tally.same("the tools that are put", len(tools), 9)
+        for tool in tools:
+            tally.same(f"{tool} --help, status", run(folder, [os.path.join(folder, tool), "--help"]).status, 0)
         os.environ["PATH"] = os.path.join(folder, "there", "bin") + os.pathsep + os.environ["PATH"]
         del os.environ["X7"]
         files = [os.path.join(EXAMPLES, it) for it in ("tiny.part", "first.bin")]
+        came = run(folder, ["x7-turn", "--help"])
+        tally.check("an installed tool calls itself by its name", b"x7-turn FILE > STREAM" in came.out and b"tools/" not in came.out, came)
+        with open(os.path.join(folder, "swapped"), "wb") as file:
+            file.write(bytes.fromhex("665599AA 00000020 01800030 07000000 00000020"))
+        came = run(folder, ["x7-why", "swapped"])
+        tally.check("an installed tool names another by its name", b"\nremedy: x7-turn FILE > NEW\n" in came.out, came)
         came = run(folder, ["x7-why", "--part", *files])
         tally.check("an installed tool plays by the installed program", b"cause: the stream is for a device with IDCODE" in came.out, came)
     else:

@@ -1,21 +1,15 @@
 #!/usr/bin/env python3
 """Tests the pages against the tree: what MAP and the READMEs name is there, what is there is named, and links lead
-somewhere; that the clauses that PROOFS and the READMEs name are there; and that crates.txt names no library that a
-crate doesn't cite."""
+somewhere; that the clauses that PROOFS and the READMEs name are there; that the README of tools/ has the options of
+each tool; and that crates.txt names no library that a crate doesn't cite."""
+import ast
 import glob
 import os
 import re
 
-from casefiles import TOOLS, Tally
+from casefiles import TOOLS, TOP, Tally, text_of
 
-TOP = os.path.dirname(TOOLS)
 CRATES = os.path.join(TOP, "crates")
-
-
-def text_of(*path):
-    """The text of a file of the tree."""
-    with open(os.path.join(TOP, *path), encoding="utf-8") as file:
-        return file.read()
 
 
 def crates():
@@ -74,17 +68,25 @@ def check_map(tally):
                 tally.same(f"{crate}: the specs files that MAP names and that aren't there", lost, [])
 
 
+def anchors_of(path):
+    """The places in a page that a link can name: its headings, in small letters, with hyphens for spaces."""
+    with open(path, encoding="utf-8") as file:
+        headings = re.findall(r"^#+ (.*)$", re.sub(r"^```.*?^```", "", file.read(), flags=re.M | re.S), re.M)
+    return {re.sub(r"[^\w\- ]", "", it.lower()).replace(" ", "-") for it in headings}
+
+
 def check_links(tally):
-    """A link to a file of the tree leads to one."""
+    """A link to a file of the tree leads to one, and one to a place in a page to a heading of it."""
     pages = [os.path.join(TOP, it) for it in ("README.md", "CHANGELOG.md")]
     for pattern in ("docs/*.md", "bench/*.md", "tools/*.md", "examples/*.md", "crates/*/README.md", "crates/*/data/*.md"):
         pages += glob.glob(os.path.join(TOP, pattern))
     for page in sorted(pages):
         text = text_of(page)
-        for link in re.findall(r"\]\(([^)\s#]+)(?:#[^)]*)?\)", text):
+        for link, anchor in re.findall(r"\]\(([^)\s#]*)(?:#([^)\s]*))?\)", text):
             if "://" not in link:
-                there = os.path.join(os.path.dirname(page), link)
-                tally.check(f"{os.path.relpath(page, TOP)}: the link {link}", os.path.exists(there), there)
+                there = os.path.join(os.path.dirname(page), link) if link else page
+                is_there = os.path.exists(there) and (not anchor or anchor in anchors_of(there))
+                tally.check(f"{os.path.relpath(page, TOP)}: the link {link}#{anchor}", is_there, there)
 
 
 def check_seconds(tally):
@@ -116,6 +118,20 @@ def says(crate):
             found.update(re.findall(r"\b(?:record|data) (\w+)", text))
             found.add(path.rpartition("/")[2])
     return found
+
+
+def options_of(text):
+    """The options that a text names, but for --help, which each tool has."""
+    return sorted(set(re.findall(r"--[a-z]\w*(?:-\w+)*", text)) - {"--help"})
+
+
+def check_tools(tally):
+    """Each tool has a row in the README of tools/ whose forms name the options that its help names."""
+    forms = re.findall(r"^\| (`.*?`) \| ", text_of("tools", "README.md"), re.M)
+    for name in sorted(it for it in os.listdir(TOOLS) if "." not in it and os.path.isfile(os.path.join(TOOLS, it))):
+        row = " ".join(it for it in forms if re.match(rf"`{name}\b", it))
+        tally.check(f"the README of tools/ has {name}", row, forms)
+        tally.same(f"the options of {name}", options_of(row), options_of(ast.get_docstring(ast.parse(text_of("tools", name)))))
 
 
 def check_clauses(tally):
@@ -167,6 +183,7 @@ check_libraries(tally)
 check_links(tally)
 check_seconds(tally)
 check_readme(tally)
+check_tools(tally)
 check_clauses(tally)
 check_promises(tally)
 tally.end()

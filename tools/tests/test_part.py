@@ -82,16 +82,23 @@ def good():
     """Files that give a part."""
     raw = s.bit(SMALL)
     err = made("a .bit file", in_file(raw, "small.bit"))
-    tally.check("no guess", "columns with a guess: 0" in err, err)
+    tally.check("no guess", err.endswith("; no column is a guess\n"), err)
     made("a raw file", in_file(s.data_of(SMALL), "small.bin"))
     made("a listing", in_file("".join(f"{it}\n" for it in x7.listing_of(x7.stream_of(raw))), "small.list"), "mine")
     made("part.json", in_file(json.dumps(regions()), "part.json"))
     made("part.json, a name", in_file(json.dumps(regions(), indent=2), "part.json"), "mine")
     made("part.yaml", in_file(yaml_regions(), "part.yaml"))
     made("part.yaml, ranges", in_file(yaml_ranges(), "part.yaml"))
-    at = SMALL.index("data 00000082")
-    err = called("part", in_file(s.bit([*SMALL[: at - 1], *SMALL[at + 3 :]]), "guess.bit"), os.path.join(FOLDER, "guess.part"))[2]
-    tally.check("a guess", "columns with a guess: 1: top row 0 of block 0: 1 (minors" in err or "24 frames" in err, err)
+    err = made_without("00000081")
+    tally.check("a minor within a column isn't named", err.endswith("; columns with a guess: top row 0 of block 0: 1 (minors 1)\n"), err)
+    err = made_without("00000082")
+    tally.check("a column's last minor isn't named", " 24 frames; " in err and err.endswith("; no column is a guess\n"), err)
+
+
+def made_without(far):
+    """What is said of a compressed stream that doesn't name this address."""
+    at = SMALL.index(f"data {far}")
+    return called("part", in_file(s.bit([*SMALL[: at - 1], *SMALL[at + 3 :]]), "guess.bit"), os.path.join(FOLDER, "guess.part"))[2]
 
 
 def bad():

@@ -1,20 +1,11 @@
 #!/usr/bin/env python3
 """Tests what the program says of itself: --help and --version, and that the man page and CHANGELOG have its version and
 its forms."""
-import os
 import re
 import tempfile
 
-from casefiles import TOOLS
+from casefiles import text_of
 from runs import X7, Bench, run
-
-TOP = os.path.dirname(TOOLS)
-
-
-def text_of(*path):
-    """The text of a file of the tree."""
-    with open(os.path.join(TOP, *path), encoding="utf-8") as file:
-        return file.read()
 
 
 def pages(bench):

@@ -1,23 +1,16 @@
 #!/usr/bin/env python3
 """Tests `svf`: what it writes plays on x7's test access port to the state that the stream comes to, in full, as a
 change and as a readback; and what can't start so is refused."""
-import tempfile
-
 from casefiles import header
-from runs import DEVICE, X7, Bench, frame_of
+from runs import DEVICE, frame_of, run_parts, text_of_frames
 import x7formats as x7
-
-
-def text_of(frames):
-    """The text of frames by their addresses in hexadecimal digits."""
-    return x7.frames_text({int(far, 16): frame for far, frame in frames.items()})
 
 
 def make(bench):
     """A full stream with a header, a change, and a read of three frames, over the pads after a row."""
     bench.put("made.part", DEVICE)
-    bench.put("full.frames", text_of({"00000000": frame_of(1), "00000101": frame_of(2), "00800004": frame_of(3)}))
-    bench.put("change.frames", text_of({"00000101": frame_of(4), "00000102": frame_of(5), "00400000": frame_of(6)}))
+    bench.put("full.frames", text_of_frames({"00000000": frame_of(1), "00000101": frame_of(2), "00800004": frame_of(3)}))
+    bench.put("change.frames", text_of_frames({"00000101": frame_of(4), "00000102": frame_of(5), "00400000": frame_of(6)}))
     bench.make("full", "x7", "plan", "full", "made.part", "full.frames")
     bench.make("change", "x7", "plan", "partial", "made.part", "change.frames")
     bench.make("read", "x7", "plan", "read", "made.part", "00000101", "5")
@@ -136,19 +129,4 @@ def refused_reads(bench):
     bench.refuses("svf", "full", closed=[1])
 
 
-def main(folder):
-    """All tests, in a folder of their own."""
-    bench = Bench(folder)
-    if X7:
-        make(bench)
-        plays(bench)
-        masked(bench)
-        refused(bench)
-        refused_reads(bench)
-    else:
-        bench.tally.skip("svf: x7 isn't built")
-    bench.tally.end()
-
-
-with tempfile.TemporaryDirectory() as name:
-    main(name)
+run_parts("svf", make, plays, masked, refused, refused_reads)

@@ -19,9 +19,9 @@ def in_file(data, name="file"):
 
 
 def turned(name, raw, wanted, said=""):
-    """The file gives a stream with these bytes, and this is said."""
+    """The file gives just these bytes, and this is said."""
     status, out, err = called("turn", in_file(raw))
-    tally.check(name, status == 0 and wanted in out, f"status {status}, {err.strip()}")
+    tally.check(name, status == 0 and out == wanted, f"status {status}, {len(out)} bytes, {err.strip()}")
     tally.check(f"{name}: what is said", said in err, err.strip())
 
 
@@ -36,11 +36,13 @@ def ways():
     for way in x7kinds.WAYS:
         raw = way.back(DATA)
         turned(f"{way.what}, a raw file", raw, DATA, f"{way.what} {way.how}")
-        turned(f"{way.what}, after three bytes", b"abc" + raw, DATA)
+        # of three bytes in front those that fill a group are turned with it
+        kept = 3 % way.size
+        turned(f"{way.what}, after three bytes", b"abc" + raw, b"abc"[:kept] + way.back(b"abc"[kept:]) + DATA)
         for length in range(8):
             head = streams.header(len(DATA), design="m" * length)
             turned(f"{way.what}, after a header of {len(head)} bytes", head + raw, head + DATA)
-            turned(f"{way.what}, a whole file of {len(head)} bytes more", way.back(head + DATA), DATA)
+            turned(f"{way.what}, a whole file of {len(head)} bytes more", way.back(head + DATA), head + DATA)
 
 
 def rbt(lines, bits=None):

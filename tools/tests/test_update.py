@@ -4,10 +4,9 @@ update` leaves, and in its order; what a power loss leaves between two steps boo
 stream that it is for."""
 import random
 import re
-import tempfile
 
 from casefiles import header
-from runs import DEVICE, X7, Bench, frame_of
+from runs import DEVICE, frame_of, run_parts, text_of_frames
 import x7formats as x7
 from x7bench import SECTOR, slot_of
 
@@ -18,16 +17,11 @@ NO_TEXTS = [""] * 4
 EMPTY_HEADER = header(0, *NO_TEXTS)
 
 
-def text_of(frames):
-    """The text of frames by their addresses in hexadecimal digits."""
-    return x7.frames_text({int(far, 16): frame for far, frame in frames.items()})
-
-
 def make(bench):
     """A part, streams for it, and a flash."""
     bench.put("made.part", DEVICE)
     for name, seed in (("golden", 1), ("update", 2), ("next", 3)):
-        bench.put("frames", text_of({"00000000": frame_of(seed), "00400085": frame_of(10 * seed)}))
+        bench.put("frames", text_of_frames({"00000000": frame_of(seed), "00400085": frame_of(10 * seed)}))
         bench.make(name, "x7", "plan", "full", "made.part", "frames")
     bench.make("image", "x7", "image", "golden", "update")
     bench.put("flash", bench.get("image").ljust(SIZE, b"\xff"))
@@ -230,17 +224,4 @@ def words(bench):
     bench.refuses("check_update", "made.part", "flash", "next", closed=[1])
 
 
-def main(folder):
-    """All tests, in a folder of their own."""
-    bench = Bench(folder)
-    if X7:
-        make(bench)
-        for part in (steps, cuts, layouts, allowed, checks, words):
-            part(bench)
-    else:
-        bench.tally.skip("updates: x7 isn't built")
-    bench.tally.end()
-
-
-with tempfile.TemporaryDirectory() as name:
-    main(name)
+run_parts("updates", make, steps, cuts, layouts, allowed, checks, words)

@@ -10,7 +10,6 @@ import tempfile
 
 from calls import called, program, ran
 import streams as s
-import x7causes
 import x7formats as x7
 import x7kinds
 

@@ -168,28 +168,28 @@ fn written<F: Flash>(flash: &mut F, name: &str) -> Option<(bool, bool, Option<[u
 
 #[test]
 fn a_write_of_a_file_fails_where_a_call_fails(rt: HostRuntime) -> Result<(), Fail> {
-    // the call, whether the erase and the program succeed, the first bytes where they are read
+    // the call, whether the erase and the program succeed, the file's first bytes then, and whether they are read
     let cases = [
-        (Failing::Nothing, true, true, Some([0xFF, 0x0F])),
-        (Failing::Opening, false, false, Some([0x3C, 0x3C])),
-        (Failing::Reading, true, false, None),
-        (Failing::Placing, false, false, None),
-        (Failing::Writing, false, false, Some([0x3C, 0x3C])),
-        (Failing::Keeping, false, false, Some([0xFF, 0x0F])),
+        (Failing::Nothing, true, true, [0xFF, 0x0F], true),
+        (Failing::Opening, false, false, [0x3C, 0x3C], true),
+        (Failing::Reading, true, false, [0xFF, 0xFF], false),
+        (Failing::Placing, false, false, [0x3C, 0x3C], false),
+        (Failing::Writing, false, false, [0x3C, 0x3C], true),
+        (Failing::Keeping, false, false, [0xFF, 0x0F], true),
     ];
     let alloc = rt.alloc();
     let mut bytes = Vec::new(alloc);
     bytes.resize(SECTOR_SIZE as usize, 0x3C)?;
     let path = path_of(&rt, "failing")?;
-    for (failing, erased, programmed, read) in cases {
+    for (failing, erased, programmed, first, is_read) in cases {
         fs::write(&rt, path.as_path(), bytes.as_slice())?;
         let files = FailingFiles { rt: &rt, failing };
         let mut flash = FileFlash::new(&files);
         let found = written(&mut flash, path.as_path().as_str());
         let kept = fs::read(&rt, path.as_path())?;
         fs::remove_file(&rt, path.as_path())?;
-        assert!(rt; found == Some((erased, programmed, read)));
-        assert!(rt; kept.len() == bytes.len());
+        assert!(rt; found == Some((erased, programmed, is_read.then_some(first))));
+        assert!(rt; kept.len() == bytes.len() && kept.starts_with(first.as_slice()));
     }
     Ok(())
 }

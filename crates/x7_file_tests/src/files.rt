@@ -223,8 +223,12 @@ fn a_file_is_written_as_a_flash(rt: HostRuntime) -> Result<(), Fail> {
     let found = written_bytes(&mut flash, path.as_path().as_str());
     let kept = fs::read(&rt, path.as_path())?;
     fs::remove_file(&rt, path.as_path())?;
+    // the file is what it was up to the program, and erased after it
+    bytes.truncate(65535);
+    bytes.extend_from_slice(&[0x0C, 0x50])?;
+    bytes.resize(131072, 0xFF)?;
     assert!(rt; found == Some([0x3C, 0x0C, 0x50, 0xFF, 0xFF]));
-    assert!(rt; kept.len() == 131072);
+    assert!(rt; kept.as_slice() == bytes.as_slice());
     Ok(())
 }
 

@@ -10,8 +10,11 @@ use std::alloc::Global;
 #[derive(Drop)]
 pub(crate) struct Case {
     alloc: Global,
+    /// The name, as the notes on its runs have it.
     pub(crate) name: String,
+    /// What its runs are given.
     pub(crate) given: Given,
+    /// What they should come to.
     pub(crate) expected: Expected,
     /// The name under which later cases have what `out` got; empty where they don't.
     pub(crate) kept: String,

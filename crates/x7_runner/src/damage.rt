@@ -16,7 +16,9 @@ pub(crate) enum Damage {
 /// An input, and the numbers of its damages: a run for each.
 #[derive(Drop)]
 pub(crate) struct Damaged {
+    /// The input's name, and its bytes before the damage.
     pub(crate) named: Named,
+    /// What is done to them.
     damage: Damage,
     /// The first number.
     pub(crate) from: u32,

@@ -20,15 +20,19 @@ pub(crate) enum Extent {
 #[derive(Drop)]
 pub(crate) struct Expected {
     alloc: Global,
+    /// The status of the command.
     pub(crate) status: u8,
+    /// How much of the text `out` says.
     pub(crate) extent: Extent,
     /// The text, or under `Extent::Parts` lines that it has, each with its end.
     pub(crate) out: Vec<u8>,
     /// The number of the text's bytes, where it is given.
     pub(crate) length: Option<u32>,
+    /// The message, each line with its end.
     pub(crate) err: Vec<u8>,
-    /// Whether the flash isn't as it was, and what it is then.
+    /// Whether the case says what the flash is afterwards; else it is as it was.
     pub(crate) has_flash: bool,
+    /// The bytes of the flash afterwards, where the case says them.
     pub(crate) flash: Vec<u8>,
 }
 

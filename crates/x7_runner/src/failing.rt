@@ -11,25 +11,28 @@ const READ_FAULT: u64 = 6;
 /// The status of a run in which a write failed.
 const WRITE_FAULT: u64 = 7;
 
-/// Notes where a run differs from the whole run.
-pub(crate) fn compare_spared(notes: &mut Notes, whole: &Ending, came: &Ending) {
+/// Notes where a run in which no call failed differs from the whole run.
+pub(crate) fn compare_alike(notes: &mut Notes, whole: &Ending, came: &Ending) {
     notes.compare_numbers("status", u64::from(whole.status), u64::from(came.status));
     notes.compare_texts("out", &whole.out, &came.out);
     notes.compare_texts("err", &whole.err, &came.err);
+    notes.compare_texts("flash", &whole.flash, &came.flash);
 }
 
-/// Notes where a failed call of `err` took more than an end of its line.
+/// Notes where a failed call of `err` took more than an end of its line, or changed what is left beside it.
 fn compare_err_failed(notes: &mut Notes, whole: &Ending, came: &Ending) {
     notes.compare_numbers("status", u64::from(whole.status), u64::from(came.status));
     notes.compare_texts("out", &whole.out, &came.out);
     notes.compare_prefix("err", &whole.err, &came.err);
+    notes.compare_texts("flash", &whole.flash, &came.flash);
 }
 
-/// Notes where a failed call of `out` left no prefix of the text, or not its message.
+/// Notes where a failed call of `out` left no prefix of the text, not its message, or another flash.
 fn compare_out_failed(notes: &mut Notes, whole: &Ending, came: &Ending) {
     notes.compare_numbers("status", WRITE_FAULT, u64::from(came.status));
     notes.compare_prefix("out", &whole.out, &came.out);
     notes.compare_texts("err", b"x7: write fault\n", &came.err);
+    notes.compare_texts("flash", &whole.flash, &came.flash);
 }
 
 /// The name in the message of a read fault.
@@ -71,9 +74,7 @@ impl Blamed {
             return false;
         };
         let done = self.places.push(place);
-        if done.is_err() {
-            notes.lacks_memory = true;
-        }
+        notes.lacks_memory |= done.is_err();
         true
     }
 

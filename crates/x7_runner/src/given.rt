@@ -9,9 +9,13 @@ use std::alloc::Global;
 /// An object that a run works on, and whose calls can fail.
 #[derive(Clone, Copy, Drop, PartialEq, Eq)]
 pub(crate) enum Object {
+    /// The inputs.
     In,
+    /// The flash.
     Flash,
+    /// The sink of the text.
     Out,
+    /// The sink of the message.
     Err,
 }
 
@@ -41,10 +45,12 @@ fn object_of(name: &str) -> Result<Object, Fault> {
 /// The most bytes that `out` takes where a case says nothing of it.
 const OUT_ROOM: u32 = 1_000_000;
 
-/// A call that fails, by its number from 1 among those of its object.
+/// A call that fails.
 #[derive(Drop)]
 pub(crate) struct Failing {
+    /// Whose call fails.
     pub(crate) object: Object,
+    /// Its number, from 1, among the calls of the object.
     pub(crate) call: u64,
 }
 
@@ -52,18 +58,21 @@ pub(crate) struct Failing {
 #[derive(Drop)]
 pub(crate) struct Given {
     alloc: Global,
+    /// The words of the command line.
     pub(crate) words: Vec<String>,
+    /// The case's own inputs, beside those of its file.
     pub(crate) inputs: Vec<Named>,
     /// At most one: an input that has another damage in each run.
     pub(crate) damaged: Vec<Damaged>,
     /// The flash of the run; at most one.
     pub(crate) flash: Vec<Named>,
+    /// How much the flash records of its writes, and which of them is torn.
     pub(crate) writing: Writing,
     /// The most bytes of one read: a run for each, or one run without a limit.
     pub(crate) pieces: Vec<u32>,
     /// The most bytes of one read of a run that should come to the same as the one beside it.
     pub(crate) alike: Vec<u32>,
-    /// The most bytes of one write.
+    /// The most bytes of one write of the text or the message.
     pub(crate) write_piece: u32,
     /// The calls that fail: a run for each, or one run without a failing call.
     pub(crate) failing: Vec<Failing>,
@@ -125,7 +134,7 @@ impl Given {
     }
 
     /// Refuses a second name of the flash.
-    fn one_flash(&self) -> Result<(), Fault> {
+    fn refuse_second_flash(&self) -> Result<(), Fault> {
         if self.flash.len() > 1 {
             return Err(Fault::Line);
         }
@@ -135,13 +144,13 @@ impl Given {
     /// Appends to the flash.
     fn put_flash(&mut self, line: &str) -> Result<(), Fault> {
         put_bytes(self.alloc, &mut self.flash, line)?;
-        self.one_flash()
+        self.refuse_second_flash()
     }
 
     /// Appends bytes of a shared input to the flash.
     pub(crate) fn put_flash_slice(&mut self, shared: &[Named], line: &str) -> Result<(), Fault> {
         put_slice(self.alloc, &mut self.flash, shared, line)?;
-        self.one_flash()
+        self.refuse_second_flash()
     }
 
     /// Appends an object whose calls fail in turn.

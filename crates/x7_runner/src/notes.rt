@@ -52,6 +52,7 @@ pub(crate) struct Notes {
     alloc: Global,
     /// The case, and what differs from run to run.
     run: String,
+    /// All notes so far, as they are printed.
     pub(crate) text: String,
     /// Whether memory lacked for a run or for a note on it, so that the notes say too little.
     pub(crate) lacks_memory: bool,
@@ -77,24 +78,18 @@ impl Notes {
     /// Adds to the name of the run.
     pub(crate) fn add(&mut self, text: &str) {
         let done = self.run.push_str(text);
-        if done.is_err() {
-            self.lacks_memory = true;
-        }
+        self.lacks_memory |= done.is_err();
     }
 
     /// Adds a number to the name of the run, and texts before and after it.
     pub(crate) fn add_number(&mut self, before: &str, number: u64, after: &str) {
         let done = write!(self.run, "{before}{number}{after}");
-        if done.is_err() {
-            self.lacks_memory = true;
-        }
+        self.lacks_memory |= done.is_err();
     }
 
     /// Takes how a run, or a note on it, went.
     pub(crate) fn take(&mut self, done: Result<(), Fault>) {
-        if done.is_err() {
-            self.lacks_memory = true;
-        }
+        self.lacks_memory |= done.is_err();
     }
 
     /// Notes two values that differ.
@@ -104,9 +99,7 @@ impl Notes {
             self.text,
             "{run}: {what}\n  expected {expected}\n  came     {came}\n"
         );
-        if done.is_err() {
-            self.lacks_memory = true;
-        }
+        self.lacks_memory |= done.is_err();
     }
 
     /// Adds a line: a name, a number between two texts, and what comes after them.
@@ -119,17 +112,13 @@ impl Notes {
         line: &str,
     ) {
         let done = write!(self.text, "{name}: {before}{number}{after}{line}\n");
-        if done.is_err() {
-            self.lacks_memory = true;
-        }
+        self.lacks_memory |= done.is_err();
     }
 
     /// Adds a line on a case without an end.
     pub(crate) fn put_open(&mut self, case: &str) {
         let done = write!(self.text, "the case has no end: {case}\n");
-        if done.is_err() {
-            self.lacks_memory = true;
-        }
+        self.lacks_memory |= done.is_err();
     }
 
     /// Notes that two numbers differ, if they do.

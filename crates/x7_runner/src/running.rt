@@ -91,10 +91,13 @@ impl Variation {
 /// How a run ended, and what it left.
 #[derive(Drop)]
 pub(crate) struct Ending {
+    /// The status of the command.
     pub(crate) status: u8,
     /// Whether the call that was to fail came after all calls of the run.
     pub(crate) is_spared: bool,
+    /// The text: what the sink `out` took.
     pub(crate) out: Vec<u8>,
+    /// The message: what the sink `err` took.
     pub(crate) err: Vec<u8>,
     /// What the flash holds.
     pub(crate) flash: Vec<u8>,
@@ -260,7 +263,7 @@ impl Objects {
 }
 
 /// Runs the command once. The ending takes what it left.
-pub(crate) fn ran<C: Command>(
+pub(crate) fn run_command<C: Command>(
     command: &C,
     alloc: Global,
     shared: &[Named],

@@ -20,6 +20,7 @@ struct Subject {
     is_open: bool,
     /// The case that was opened last, by its lines taken so far.
     case: Case,
+    /// The notes on the runs so far.
     notes: Notes,
     /// How many cases came as they are written.
     good: u32,

@@ -2,11 +2,11 @@
 use crate::case::Case;
 use crate::command::Command;
 use crate::comparing::compare;
-use crate::failing::{Blamed, compare_failed, compare_spared};
+use crate::failing::{Blamed, compare_alike, compare_failed};
 use crate::given::Object;
 use crate::named::Named;
 use crate::notes::Notes;
-use crate::running::{Ending, Variation, ran};
+use crate::running::{Ending, Variation, run_command};
 use std::alloc::Global;
 use std::mem::swap;
 
@@ -30,12 +30,12 @@ pub(crate) struct Trial<'a, C: Command> {
 
 impl<'a, C: Command> Trial<'a, C> {
     /// One run, which the notes that follow are of.
-    fn ran(&mut self, variation: &Variation) {
+    fn run_once(&mut self, variation: &Variation) {
         let case = self.case;
         self.notes.begin(case.name.as_str());
         variation.put_name(self.notes);
         let given = &case.given;
-        let done = ran(
+        let done = run_command(
             self.command,
             self.alloc,
             self.shared,
@@ -47,8 +47,8 @@ impl<'a, C: Command> Trial<'a, C> {
     }
 
     /// One run, compared.
-    fn compared(&mut self, variation: &Variation) {
-        self.ran(variation);
+    fn run_compared(&mut self, variation: &Variation) {
+        self.run_once(variation);
         let case = self.case;
         compare(
             self.notes,
@@ -59,11 +59,12 @@ impl<'a, C: Command> Trial<'a, C> {
         );
     }
 
-    /// One run in which a call fails, beside the whole run. True where the run had no such call, or memory lacks.
-    fn is_past(&mut self, variation: &Variation, blamed: &mut Blamed) -> bool {
-        self.ran(variation);
+    /// One run in which a call fails, beside the whole run. True where no later call is to fail: the run had no such
+    /// call, or memory lacks.
+    fn run_call(&mut self, variation: &Variation, blamed: &mut Blamed) -> bool {
+        self.run_once(variation);
         if self.came.is_spared {
-            compare_spared(self.notes, &self.kept, &self.came);
+            compare_alike(self.notes, &self.kept, &self.came);
         } else {
             let words = &self.case.given.words;
             let object = variation.object;
@@ -75,7 +76,7 @@ impl<'a, C: Command> Trial<'a, C> {
     /// Runs with each call of the object failing in turn, until a run has no such call.
     fn run_calls(&mut self, variation: &Variation, blamed: &mut Blamed) {
         for call in 1..=MOST_CALLS {
-            if self.is_past(&variation.failing(variation.object, call), blamed) {
+            if self.run_call(&variation.failing(variation.object, call), blamed) {
                 return;
             }
         }
@@ -97,14 +98,14 @@ impl<'a, C: Command> Trial<'a, C> {
     /// Runs in pieces of other sizes, which should come to the same as the whole run.
     fn run_alike(&mut self, variation: &Variation) {
         for piece in &self.case.given.alike {
-            self.ran(&variation.in_pieces(*piece));
-            compare_spared(self.notes, &self.kept, &self.came);
+            self.run_once(&variation.in_pieces(*piece));
+            compare_alike(self.notes, &self.kept, &self.came);
         }
     }
 
     /// The run without a failing call, and those that stand beside it.
     fn run_whole(&mut self, variation: &Variation) {
-        self.compared(variation);
+        self.run_compared(variation);
         swap(&mut self.kept, &mut self.came);
         self.run_alike(variation);
         for object in &self.case.given.each {
@@ -115,10 +116,10 @@ impl<'a, C: Command> Trial<'a, C> {
     /// A run in which a call fails, and, where the case lets `err` fail in turn, a second one in which also the first
     /// call of `err` fails.
     fn run_failing(&mut self, variation: &Variation) {
-        self.compared(variation);
+        self.run_compared(variation);
         swap(&mut self.kept, &mut self.came);
         if self.case.given.each.contains(&Object::Err) {
-            self.compared(&variation.mute());
+            self.run_compared(&variation.mute());
         }
     }
 

@@ -1,16 +1,18 @@
-//! What the writes of a flash take, and which of them is torn.
+//! How much a flash records of its writes, and which of them is torn.
 use crate::fault::Fault;
 use crate::token::{first_word, positive};
 use x7_in_memory::MemoryFlash;
 
-/// What the writes of a flash take, and which of them is torn.
+/// How much a flash records of its writes, and which of them is torn.
 #[derive(Clone, Copy, Drop)]
 pub(crate) struct Writing {
-    /// How many writes there is room for, and for how many bytes of their ranges.
+    /// How many writes the flash has room to record.
     writes: u32,
+    /// How many bytes of their ranges it has room for.
     bytes: u32,
-    /// The number of the call that is torn, 0 for none, and the pattern of the bits that stay old.
+    /// The number of the call that is torn, from 1 among the flash's; 0 for none.
     call: u32,
+    /// The bits of each byte of the torn write that keep their old value.
     pattern: u8,
 }
 

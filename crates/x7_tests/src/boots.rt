@@ -65,6 +65,6 @@ fn a_fallback_reads_each_page_once(rt: HostRuntime) {
     let Some((end, attempts, calls)) = booted(rt.alloc(), &image) else {
         panic!(rt; "no boot")
     };
-    // the attach, and at most 18 reads of the image's 48 pages
-    assert!(rt; (end, attempts, calls <= 19) == (BootEnd::Started, 3, true));
+    // the attach, and three reads of sixteen pages: the first sector, the update's and the golden stream's
+    assert!(rt; (end, attempts, calls) == (BootEnd::Started, 3, 4));
 }

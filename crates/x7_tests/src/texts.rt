@@ -32,26 +32,29 @@ fn a_text_assembles_at_once(rt: HostRuntime) {
     assert!(rt; bytes.as_slice() == want.as_slice());
 }
 
-/// How many bytes the first run has of an input that gives five bytes at a time, where it is a gap, and how many were
-/// taken of the input; none without memory.
-fn first_run(alloc: Global, stream: &[u8]) -> Option<(usize, u64)> {
+/// Whether the first run of an input that gives five bytes at a time is a gap of these bytes, or, where there are none,
+/// the stream's end; and how many were taken of the input. None without memory.
+fn first_run(alloc: Global, stream: &[u8], gap: &[u8]) -> Option<(bool, u64)> {
     let mut inputs = MemoryInputs::new(alloc);
     inputs.put("stream", stream).ok()?;
     inputs.piece(5);
     inputs.select("stream").ok()?;
     let mut packets = Packets::new(alloc, b"").ok()?;
-    let count = match packets.next_run(&mut inputs) {
-        Ok(Run::Skip(bytes)) => bytes.len(),
-        Ok(_) => 0,
+    let is_so = match packets.next_run(&mut inputs) {
+        Ok(Run::Skip(bytes)) => bytes == gap,
+        Ok(Run::End) => gap.is_empty(),
+        Ok(_) => false,
         Err(_) => return None,
     };
-    Some((count, packets.taken()))
+    Some((is_so, packets.taken()))
 }
 
 #[test]
-fn the_first_run_is_a_gap_up_to_its_sync_word(rt: HostRuntime) {
-    assert!(rt; first_run(rt.alloc(), b"\xFF\xAA\x99\x55\x66\x20\0\0\0") == Some((5, 5)));
-    assert!(rt; first_run(rt.alloc(), b"") == Some((0, 0)));
+fn the_first_run_is_a_gap_up_to_its_sync_word_or_the_end(rt: HostRuntime) {
+    let gap = b"\xFF\xAA\x99\x55\x66";
+    let stream = b"\xFF\xAA\x99\x55\x66\x20\0\0\0";
+    assert!(rt; first_run(rt.alloc(), stream, gap) == Some((true, 5)));
+    assert!(rt; first_run(rt.alloc(), b"", b"") == Some((true, 0)));
 }
 
 /// Runs of a stream.

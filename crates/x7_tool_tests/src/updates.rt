@@ -286,6 +286,7 @@ fn a_file_that_grew_is_updated_as_far_as_it_was_attached(rt: HostRuntime) {
     let Some((answer, left)) = changed(&rt, "grew", &grown) else {
         panic!(rt; "no memory or no file")
     };
-    assert!(rt; answer == Ok(()));
+    assert!(rt; answer == Ok(()) && left.len() == 262_149);
+    assert!(rt; stands_at(&left, 0, &SPENT) && stands_at(&left, 32, &OPEN));
     assert!(rt; stands_at(&left, 131_072, b"new\xFF") && stands_at(&left, 262_144, b"grown"));
 }
