@@ -85,7 +85,7 @@ pub record IsBoot (part : PartData) (flash : List ℕ) (b : BootedState) : Type 
 
 -- a flash has led a device through `number` attempts, which are reported as
 -- `attempts`, to the one that begins as `a` says
-pub record Led (a : AttemptStart) (flash : List ℕ) (attempts : List Tried) (number : ℕ) : Type 0 where
+pub record HasLedTo (a : AttemptStart) (flash : List ℕ) (attempts : List Tried) (number : ℕ) : Type 0 where
   pub older : List AttemptCourse
   pub leads : LeadsTo a.part flash older (Again a.kept a.address)
   pub tried_are : attempts ≡ reverse (map tried older)

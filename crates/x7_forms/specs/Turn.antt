@@ -27,13 +27,13 @@ abbrev pub Unopened : InputsState → List ℕ → InputsState → Event → Typ
 Unopened old name new event = (((event ≡ missing name) × Misses old name new) ⊎ ((event ≡ reading_failed name) × InputsFail old new)) × (new.selected ≡ false)
 
 -- the selected input failed after fewer than `most` bytes more, and no input is selected any more
-pub record Breaks (old : InputsState) (most : ℕ) (new : InputsState) : Type 0 where
+pub record BreaksWithin (old : InputsState) (most : ℕ) (new : InputsState) : Type 0 where
   pub risen : InputsFail old new
   pub selected : new.selected ≡ false
   pub given : new.given < old.given + most
 
 -- the bytes were read of the open input, and the name last asked for stays
-pub record Reads (old : InputsState) (bytes : List ℕ) (new : InputsState) : Type 0 where
+pub record ReadsBytes (old : InputsState) (bytes : List ℕ) (new : InputsState) : Type 0 where
   pub takes : TakesInput old bytes new
   pub asked : new.asked ≡ old.asked
   pub stays : InputsStay old new
@@ -53,9 +53,9 @@ pub record IsLastAsked (name : List ℕ) (limit : ℕ) (now : InputsState) : Typ
 
 -- The open input, of which `left` bytes more are within the limit, was not read to its end: it failed before the limit
 -- was passed, or one byte over the limit was taken.
-abbrev pub Unread : InputsState → List ℕ → InputsState → ℕ → Event → Type 0
-Unread old name new left event =
-    ((event ≡ reading_failed name) × Breaks old (left + 1) new)
+abbrev pub UnreadTurn : InputsState → List ℕ → InputsState → ℕ → Event → Type 0
+UnreadTurn old name new left event =
+    ((event ≡ reading_failed name) × BreaksWithin old (left + 1) new)
     ⊎ ((event ≡ too_large name) × ((piece : List ℕ) × ((old.rest ≡ preceded piece new.rest) × (length piece ≡ left + 1))))
 
 -- the rest of the open input, these bytes, was read to its end
@@ -68,7 +68,7 @@ AppendsRest old new limit before after = (more : List ℕ) × (after ≡ before 
 
 -- the rest of the open input was not read: a read failed, or the rest is over the limit; the name last asked for stays
 abbrev pub UnreadRest : InputsState → List ℕ → InputsState → ℕ → Event → Type 0
-UnreadRest old name new limit event = Unread old name new limit event × (new.asked ≡ old.asked)
+UnreadRest old name new limit event = UnreadTurn old name new limit event × (new.asked ≡ old.asked)
 
 -- where these bytes are the last, nothing follows them
 abbrev pub FollowsUnlessLast : Bool → List ℕ → Type 0
@@ -98,7 +98,7 @@ HeaderGoesOn bytes last = (last ≡ false) × (length bytes ≤ longest_header) 
 
 -- what was read of a stream when its header is judged
 pub record ReadsBeginning (bytes line : List ℕ) (start : ℕ) (last : Bool) (old new : InputsState) : Type 0 where
-  pub reads : Reads old bytes new
+  pub reads : ReadsBytes old bytes new
   pub end : last ≡ true → AtEnd new.rest
   pub no_end_read : last ≡ false → new.ends ≤ old.ends
   pub within : start ≤ length bytes
@@ -129,7 +129,7 @@ NoLetterGiven old new = (bytes : List ℕ) (place : ℕ) → old.rest ≡ Some b
 
 -- a stream's beginning was not read, since the inputs failed before its header was judged
 abbrev pub BreaksBeginning : InputsState → List ℕ → InputsState → Event → Type 0
-BreaksBeginning old name new event = (event ≡ reading_failed name) × Breaks old (stream_limit + 1) new × (new.asked ≡ old.asked) × NoLetterGiven old new
+BreaksBeginning old name new event = (event ≡ reading_failed name) × BreaksWithin old (stream_limit + 1) new × (new.asked ≡ old.asked) × NoLetterGiven old new
 
 -- a stream's beginning was not read: want of memory, the inputs failed, or the header is refused
 abbrev pub UnreadBeginning : InputsState → List ℕ → InputsState → Event → Type 0

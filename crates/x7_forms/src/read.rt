@@ -3,7 +3,7 @@ ghost use Rattle.std.specs.Prelude.{◌≡◌, ◌+◌, ◌-◌, ◌<◌, ◌≤
 ghost use Rattle.x7_words.specs.Input.{Asks, AsksAtMost, AsksOnce, AtEnd, Opens, InputsStay, TakesInput};
 ghost use Rattle.x7_forms.specs.Event.{bad_input, event_of, no_memory, reading_failed, too_large};
 ghost use Rattle.x7_forms.specs.Known.{data_in};
-ghost use Rattle.x7_forms.specs.Turn.{AppendsRest, Breaks, GivesFew, ReadsRest, IsLastAsked, Unopened, Unread, UnreadRest};
+ghost use Rattle.x7_forms.specs.Turn.{AppendsRest, BreaksWithin, GivesFew, ReadsRest, IsLastAsked, Unopened, UnreadTurn, UnreadRest};
 ghost use Rattle.x7_forms.specs.Step.{IsUnread, ReadsWhole, seen};
 ghost use Rattle.x7_forms.specs.declared.bad_input.InputFault.TheVariants as input;
 
@@ -49,7 +49,7 @@ fn fill<'w, I: Inputs>(
     ensures no_end_read { IfOk result (λ n. n ≡ length buffer.old → (I.state inputs.new).ends ≤ (I.state inputs.old).ends) }
     ensures end_once { (I.state inputs.new).ends ≤ (I.state inputs.old).ends + 1 }
     ensures length { length buffer.new ≡ length buffer.old }
-    ensures failed { IfErr result (λ r. (event_of r ≡ reading_failed name.now) × Breaks (I.state inputs.old) (length buffer.old) (I.state inputs.new)) }
+    ensures failed { IfErr result (λ r. (event_of r ≡ reading_failed name.now) × BreaksWithin (I.state inputs.old) (length buffer.old) (I.state inputs.new)) }
     ensures asked { (I.state inputs.new).asked ≡ (I.state inputs.old).asked }
     ensures gives_a_turn { (I.state inputs.new).given ≤ (I.state inputs.old).given + length buffer.old }
     ensures selects { (I.state inputs.new).selects ≡ (I.state inputs.old).selects }
@@ -117,7 +117,7 @@ pub fn next_turn<'w, I: Inputs>(
     ensures end { IfOk result (λ turn. turn.last ≡ true → AtEnd (I.state inputs.new).rest) }
     ensures no_end_read { IfOk result (λ turn. turn.last ≡ false → (I.state inputs.new).ends ≤ (I.state inputs.old).ends) }
     ensures length { length buffer.new ≡ length buffer.old }
-    ensures refused { IfErr result (λ r. Unread (I.state inputs.old) name.now (I.state inputs.new) left (event_of r)) }
+    ensures refused { IfErr result (λ r. UnreadTurn (I.state inputs.old) name.now (I.state inputs.new) left (event_of r)) }
     ensures fails_early { IfErr result (λ r. event_of r ≡ reading_failed name.now → (I.state inputs.new).given < (I.state inputs.old).given + length buffer.old) }
     ensures over { IfErr result (λ r. event_of r ≡ too_large name.now → left < length buffer.old) }
     ensures asked { (I.state inputs.new).asked ≡ (I.state inputs.old).asked }

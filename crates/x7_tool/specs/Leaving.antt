@@ -59,7 +59,7 @@ KeepsBytes reason old new = new.bytes ≡ old.bytes
 
 -- An update that is done leaves the flash as it is after one with the stream's data. One that
 -- isn't leaves its bytes, as its reason says.
-abbrev pub Updates : Option (List ℕ) → Outside → Outside → Result Answer Event → Type 0
-Updates None old new end = Unit {0}
-Updates (Some stream) old new (Ok answer) = (bytes : List ℕ) × HasData (known_in old) stream bytes × Becomes old.flash new.flash (IsAfterUpdate bytes)
-Updates (Some stream) old new (Err event) = KeepsBytes event.reason old.flash new.flash
+abbrev pub UpdateLeaves : Option (List ℕ) → Outside → Outside → Result Answer Event → Type 0
+UpdateLeaves None old new end = Unit {0}
+UpdateLeaves (Some stream) old new (Ok answer) = (bytes : List ℕ) × HasData (known_in old) stream bytes × Becomes old.flash new.flash (IsAfterUpdate bytes)
+UpdateLeaves (Some stream) old new (Err event) = KeepsBytes event.reason old.flash new.flash

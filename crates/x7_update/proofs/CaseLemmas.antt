@@ -5,7 +5,7 @@ use Rattle.x7_words.specs.Word.{AreBytes}
 use Rattle.x7_words.specs.Flash.{FlashState, IfKnown}
 use Rattle.x7_update.specs.Layout.{IsUpdatable, HasSlots, IsOpen, IsFree, IsNextFreeSlot, switch_of, open_switch, free_switch, spent_switch, update_place}
 use Rattle.x7_update.specs.After.{SpendsOpen, already, spends, IsAfterUpdate, IsBetweenSlots, MayBeLeft, untouched, between, after, switched, with_stream}
-use Rattle.x7_update.specs.Writing.{AtAnyMoment, SpendingSlot, HasWanted, KeepsBelow, OnlySwitch, OpeningSlot, Replaced, ReplacingUpdate}
+use Rattle.x7_update.specs.Writing.{AtAnyMoment, SpendingSlot, HasWanted, KeepsBelow, OnlySwitch, OpeningSlot, UpdateReplaced, ReplacingUpdate}
 use Rattle.x7_update.specs.Slots.{IsTargetIn}
 use Rattle.x7_update.specs.declared.slots.UpdateTarget.{UpdateTarget}
 use Rattle.x7_update.proofs.StreamLemmas.{length_with_stream, with_stream_below, with_stream_wanted}
@@ -146,7 +146,7 @@ module _ (all : List ℕ) (target : UpdateTarget) (finds : IsTargetIn (length al
   replacing_left stream found (inl same) fits = untouched same
   replacing_left stream found (inr b) fits = between updatable fits b
 
-  module _ (stream now : List ℕ) (fits : target.place + length stream ≤ length all) (r : Replaced target.place stream all now) where
+  module _ (stream now : List ℕ) (fits : target.place + length stream ≤ length all) (r : UpdateReplaced target.place stream all now) where
     is_between : IsBetweenSlots all r.spent
     is_between = between_spent all r.spent finds.has r.is_spent
 

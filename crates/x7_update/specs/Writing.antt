@@ -42,7 +42,7 @@ StaysBytes old found = AreBytes old → AreBytes found
 
 -- A step that writes: at any moment the bytes are in this relation to those at its start, and bytes where these were;
 -- nothing else changed but the count of write faults, which doesn't fall.
-pub record Writes (old new : FlashState) (past since : ℕ → List ℕ → Type 0) (Relates : List ℕ → List ℕ → Type 0) : Type 0 where
+pub record IsWriteStep (old new : FlashState) (past since : ℕ → List ℕ → Type 0) (Relates : List ℕ → List ℕ → Type 0) : Type 0 where
   pub any_moment : AtAnyMoment old new past since Relates
   pub bytes : AtAnyMoment old new past since StaysBytes
   pub only : OnlyWrites old new
@@ -93,7 +93,7 @@ abbrev pub StreamStands : ℕ → List ℕ → List ℕ → List ℕ → Type 0
 StreamStands place stream old now = now ≡ with_stream place stream old
 
 -- the flash is as it was, but that its open slot is spent, and the stream stands at its place with FF after it
-pub record Replaced (place : ℕ) (stream old now : List ℕ) : Type 0 where
+pub record UpdateReplaced (place : ℕ) (stream old now : List ℕ) : Type 0 where
   pub spent : List ℕ
   pub is_spent : SpendsOpen old spent
   pub stands : StreamStands place stream spent now

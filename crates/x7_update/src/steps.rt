@@ -7,7 +7,7 @@ ghost use Rattle.x7_update.specs.Layout.{IsUpdatable, HasNoOpenSlot, IsFree, ope
 ghost use Rattle.x7_update.specs.Verified.{AllVerified, OpensVerified, WasReady};
 ghost use Rattle.x7_update.specs.Fault.{HasNoCause, HasCause, IsEarly};
 ghost use Rattle.x7_update.specs.Slots.{HasTarget};
-ghost use Rattle.x7_update.specs.Writing.{AtAnyMoment, Becomes, CanVerify, HasLateCause, OnlyUses, OpeningSlot, Replaced, ReplacingUpdate, StaysBytes, Writes};
+ghost use Rattle.x7_update.specs.Writing.{AtAnyMoment, Becomes, CanVerify, HasLateCause, OnlyUses, OpeningSlot, UpdateReplaced, ReplacingUpdate, StaysBytes, IsWriteStep};
 ghost use Rattle.x7_update.specs.declared.fault.UpdateFault.TheVariants.{NoMemory};
 
 use crate::fault::UpdateFault;
@@ -22,7 +22,7 @@ use x7_words::{Failed, Flash, SECTOR_SIZE};
 fn spend_open_slot<F: Flash>(flash: &mut F, target: UpdateTarget) -> Result<(), Failed>
     requires { HasTarget (F.state flash.old) target }
     ensures spent { OnOk result (Becomes (F.state flash.old) (F.state flash.new) SpendsOpen) }
-    ensures writes { Writes (F.state flash.old) (F.state flash.new) (F.found_since flash.old) (F.found_since flash.new)
+    ensures writes { IsWriteStep (F.state flash.old) (F.state flash.new) (F.found_since flash.old) (F.found_since flash.new)
         ReplacingUpdate }
     ensures failed { OnErr result (WriteFails (F.state flash.old) (F.state flash.new)) }
 {
@@ -36,8 +36,8 @@ fn spend_open_slot<F: Flash>(flash: &mut F, target: UpdateTarget) -> Result<(), 
 fn replace<F: Flash>(flash: &mut F, target: UpdateTarget, stream: &[u8]) -> Result<(), Failed>
     requires found { HasTarget (F.state flash.old) target }
     requires stream { target.place + length stream.now ≤ (F.state flash.old).extent }
-    ensures replaced { OnOk result (Becomes (F.state flash.old) (F.state flash.new) (Replaced target.place stream.now)) }
-    ensures writes { Writes (F.state flash.old) (F.state flash.new) (F.found_since flash.old) (F.found_since flash.new)
+    ensures replaced { OnOk result (Becomes (F.state flash.old) (F.state flash.new) (UpdateReplaced target.place stream.now)) }
+    ensures writes { IsWriteStep (F.state flash.old) (F.state flash.new) (F.found_since flash.old) (F.found_since flash.new)
         ReplacingUpdate }
     ensures failed { OnErr result (WriteFails (F.state flash.old) (F.state flash.new)) }
 {

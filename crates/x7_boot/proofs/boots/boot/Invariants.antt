@@ -4,7 +4,7 @@ use Rattle.x7_words.specs.Word.{AreBytes}
 use Rattle.x7_regs.specs.declared.boot_status.Kind.TheVariants.{Bench}
 use Rattle.x7_engine.specs.Kept.{is_fallback}
 use Rattle.x7_boot.specs.Attempt.{attempt_at}
-use Rattle.x7_boot.specs.Boot.{Led}
+use Rattle.x7_boot.specs.Boot.{HasLedTo}
 use Rattle.x7_boot.specs.Image.{flash_limit}
 use Rattle.x7_boot.specs.Pages.{ArePages}
 use Rattle.x7_boot.proofs.boots.boot.Given as goal
@@ -13,7 +13,7 @@ abbrev pub invariant-attempts : goal.invariant-attempts
 invariant-attempts g l =
     let f = g.F.Flash in
     record {
-      led : IfKnown (f.state l.fn.flash).bytes (λ all. AreBytes all → Led (attempt_at l.fn.part l.kept l.address) all l.attempts.items l.number);
+      led : IfKnown (f.state l.fn.flash).bytes (λ all. AreBytes all → HasLedTo (attempt_at l.fn.part l.kept l.address) all l.attempts.items l.number);
       part : l.device.part ≡ l.fn.part;
       not_on_bench : l.kept.kind ≡ Bench → ⊥;
       number : l.number ≤ 16;

@@ -11,7 +11,7 @@ use Rattle.x7_forms.specs.Form.{UpdatingFlash}
 use Rattle.x7_forms.specs.Known.{with_inputs, stream_limit}
 use Rattle.x7_forms.specs.Step.{CameIn, step_over}
 use Rattle.x7_tool.specs.Outside.{Outside, sources}
-use Rattle.x7_tool.specs.Run.{EndsAs}
+use Rattle.x7_tool.specs.Run.{CommandEndsAs}
 use Rattle.x7_tool.specs.Stream.{data_from}
 use Rattle.x7_tool.proofs.UpdateLemmas.{cause_from, data_given, done_ends, fault_ends, keeps_all, refused_ends, rest_of, attach_refused_last, attach_refused_measured, attach_refused_over, unplayed_last, unplayed_measured, unread_over, uses_opened, uses_updated}
 use Rattle.x7_tool.proofs.StopLemmas.{stream_judges, unopened_judges, updated_judges, attach_refused_stops, updated_stops, first_stops}
@@ -111,7 +111,7 @@ returns-clause-answered g c = λ before after out.
     let asked = subst (λ (names : List ℕ → Bool). IsTrue (names name)) (sym c.update.ensures.only_uses.names) c.open_flash.ensures.asks.asked in
     let cause = cause_from bytes first mid last c.in-Err.fault stays.bytes stays.unwritten.write_faults stays.faults c.in-Err.ensures.refused in
     record {
-      ends = subst (λ (e : Event). EndsAs (Some (UpdatingFlash name stream)) old new (Err e)) (sym c.refusal_of.ensures)
+      ends = subst (λ (e : Event). CommandEndsAs (Some (UpdatingFlash name stream)) old new (Err e)) (sym c.refusal_of.ensures)
           (fault_ends name stream bytes old new c.in-Err.fault out asked within has reads size cause (λ early. let only = c.in-Err.ensures.unchanged early in only.bytes ∙ stays.bytes));
       stops = updated_stops c.args.flash_name.now c.args.stream.now (g.I.Inputs.state c.args.inputs.now) (g.I.Inputs.state c.read_stream.new.inputs) c.in-Err.fault (event_of c.refusal_of.result) c.refusal_of.ensures c.read_stream.ensures.last_asked c.read_stream.ensures.asks;
       judges = updated_judges c.args.flash_name.now c.args.stream.now (sources (g.I.Inputs.state c.args.inputs.now) (g.F.Flash.state c.args.flash.now)) (sources (g.I.Inputs.state c.read_stream.new.inputs) (g.F.Flash.state c.update.new.flash)) c.in-Err.fault (event_of c.refusal_of.result) c.refusal_of.ensures (c.update.ensures.only_uses.attached ∙ c.in_ok-open_flash.ensures.attached);
