@@ -53,7 +53,8 @@ leads_on part kept address all d ending attempts number next led tries table =
       here ∙ sym (ap (λ (n : ℕ). next_by part (n + 1) t t.ending) c ∙ ap (λ (x : Ending). next_by part (number + 1) t x) g),
     )
 
-pub led_on : (part : PartData) (kept kept_now : Kept) (address address_now : ℕ) (all : List ℕ) (d : DeviceState) (ending : Ending) (attempts : List Tried) (number : ℕ) (next : Next) → HasLedTo (attempt_at part kept address) all attempts number → AttemptEnds (attempt_at part kept address) all d ending
+pub led_on : (part : PartData) (kept kept_now : Kept) (address address_now : ℕ) (all : List ℕ) (d : DeviceState) (ending : Ending) (attempts : List Tried) (number : ℕ) (next : Next)
+    → HasLedTo (attempt_at part kept address) all attempts number → AttemptEnds (attempt_at part kept address) all d ending
     → ((t : AttemptCourse) → IsDeviceOf part d t → t.kept.kind ≡ kept.kind → next ≡ next_by part (number + 1) t ending) → next ≡ Again kept_now address_now
     → HasLedTo (attempt_at part kept_now address_now) all (attempts ++ record { kind = kept.kind; address = address; ending = ending } ∷ []) (number + 1)
 led_on part kept kept_now address address_now all d ending attempts number next led tries table is = record {

@@ -280,7 +280,8 @@ piece_of (x ∷ old) mid piece all bytes n a b c e s f h g = record {
 }
 
 -- the beginning that was read
-pub beginning_read : (old mid piece bytes line : List ℕ) (n start : ℕ) (last : Bool) (s0 s1 s2 : InputsState) → IsPiece old piece bytes n → mid ≡ old ++ piece → bytes ≡ mid → ReadsBytes s0 old s1 → TakesInput s1 piece s2 → s2.asked ≡ s1.asked → InputsStay s1 s2 → (last ≡ true → AtEnd s2.rest) → (last ≡ false → s2.ends ≤ s0.ends)
+pub beginning_read : (old mid piece bytes line : List ℕ) (n start : ℕ) (last : Bool) (s0 s1 s2 : InputsState) → IsPiece old piece bytes n → mid ≡ old ++ piece → bytes ≡ mid → ReadsBytes s0 old s1
+    → TakesInput s1 piece s2 → s2.asked ≡ s1.asked → InputsStay s1 s2 → (last ≡ true → AtEnd s2.rest) → (last ≡ false → s2.ends ≤ s0.ends)
     → length old ≤ longest_header → length piece ≤ turn_size → (start ≤ length bytes) × IsBeginning bytes last line start → DataBeginAt bytes start → ReadsBeginning mid line start last s0 s2
 beginning_read old mid piece bytes line n start last s0 s1 s2 p a b r t q k e more few short j begin =
     subst (λ (m : List ℕ). ReadsBeginning m line start last s0 s2) b (record {
@@ -294,7 +295,8 @@ beginning_read old mid piece bytes line n start last s0 s1 s2 p a b r t q k e mo
     })
 
 -- a turn that was not read, before the header was judged
-pub unread_turn : (old mid new : InputsState) (name bytes : List ℕ) (left : ℕ) (event : Event) → ReadsBytes old bytes mid → length bytes + left ≡ stream_limit → new.asked ≡ mid.asked → (event ≡ too_large name → ⊥) → (event ≡ reading_failed name → NoLetterGiven old new) → UnreadTurn mid name new left event → UnreadBeginning old name new event
+pub unread_turn : (old mid new : InputsState) (name bytes : List ℕ) (left : ℕ) (event : Event) → ReadsBytes old bytes mid → length bytes + left ≡ stream_limit → new.asked ≡ mid.asked
+    → (event ≡ too_large name → ⊥) → (event ≡ reading_failed name → NoLetterGiven old new) → UnreadTurn mid name new left event → UnreadBeginning old name new event
 unread_turn old mid new name bytes left event r n q small late (inl h) =
     inr (inl (h.0, record { risen = risen_from old.faults mid.faults new.faults r.stays.faults h.1.risen; selected = h.1.selected; given = omega (arith, n, r.takes.given, h.1.given) }, q ∙ r.asked, late h.0))
 unread_turn old mid new name bytes left event r n q small late (inr h) = absurd (small h.0)

@@ -310,7 +310,8 @@ pub after_text : {A : Type 0} (known : Option Known) (C : Mishap → Type 0) (li
 after_text known C limit name text next got whole next_due = follows known C C (λ t. whole_known t limit name) (λ t bytes. next bytes) text got (whole_steady limit name) whole next_due
 
 -- an event of a step, under a relation that keeps it
-due_kept : (A B : Type 0) (known : Option Known) (m : Mishap) (due : Known → Result A Event) (event : Event) (Next : Result A Event → Result B Event → Type 0) → ((x : Event) → Next (Err x) (Err x)) → DueBy {A = A} known m (λ t r. due t ≡ r) event → DueBy {A = B} known m (λ t end. Next (due t) end) event
+due_kept : (A B : Type 0) (known : Option Known) (m : Mishap) (due : Known → Result A Event) (event : Event) (Next : Result A Event → Result B Event → Type 0)
+    → ((x : Event) → Next (Err x) (Err x)) → DueBy {A = A} known m (λ t r. due t ≡ r) event → DueBy {A = B} known m (λ t end. Next (due t) end) event
 due_kept A B None m due event Next keeps h = tt
 due_kept A B (Some t) m due event Next keeps h = subst (λ (r : Result A Event). Next r (Err event)) (sym h) (keeps event)
 
@@ -512,7 +513,8 @@ at_fault old mid new name taken left k a b q =
     (record { among = inl refl; deselected = record { asked = subst (λ (k : Option (List ℕ)). IfSome k (λ kept. kept ≡ name)) (sym q) a.asked; selected = b.selected }; risen = risen_from old.faults mid.faults new.faults k.faults b.risen }, omega (arith, a.given, b.given))
 
 -- a turn of an input that was not read
-pub turn_refused : (old mid new : InputsState) (flash : Option (List ℕ)) (name taken : List ℕ) (limit left : ℕ) (event : Event) → InputsStay old mid → RestIsWhole old.contents name (preceded taken mid.rest) → IsAt name taken mid → length taken + left ≡ limit → UnreadTurn mid name new left event → new.asked ≡ mid.asked
+pub turn_refused : (old mid new : InputsState) (flash : Option (List ℕ)) (name taken : List ℕ) (limit left : ℕ) (event : Event) → InputsStay old mid
+    → RestIsWhole old.contents name (preceded taken mid.rest) → IsAt name taken mid → length taken + left ≡ limit → UnreadTurn mid name new left event → new.asked ≡ mid.asked
     → IsCaused (with_inputs old.contents flash) (CameIn (step_over (name ∷ []) old new)) (λ t. whole_known t limit name) (Err event)
 turn_refused old mid new flash name taken limit left event k s a n (inl h) q =
     let f = at_fault old mid new name taken left k a h.1 q in
@@ -538,7 +540,9 @@ stream_unopened old new flash name limit event u a =
     (open_refused old new flash name limit event u a)
 
 -- a stream whose header is refused, after it was read to its end
-pub stream_refused : (contents : Option (List ℕ → Option (List ℕ))) (flash : Option (List ℕ)) (C : Mishap → Type 0) (name first more : List ℕ) (mid rest : Option (List ℕ)) (limit : ℕ) (last : Bool) (event : Event) → RestIsWhole contents name (preceded first mid) → mid ≡ preceded more rest → AtEnd rest
+pub stream_refused : (contents : Option (List ℕ → Option (List ℕ)))
+    (flash : Option (List ℕ)) (C : Mishap → Type 0) (name first more : List ℕ) (mid rest : Option (List ℕ)) (limit : ℕ) (last : Bool) (event : Event) → RestIsWhole contents name (preceded first mid)
+    → mid ≡ preceded more rest → AtEnd rest
     → (last ≡ true → AtEnd mid) → (last ≡ false → longest_header ≤ length first) → AreBytes first → length more ≤ limit - length first → length first ≤ limit → Err event ≡ data_in name first
     → IsCaused (with_inputs contents flash) C (λ t. stream_known t limit name) (Err event)
 stream_refused None flash C name first more mid rest limit last event s e end ends long fits n l head = inr (head_by StreamRead name first (header_at first) event (sym head)).0

@@ -276,7 +276,8 @@ unfailed form old new (Ok answer) u = tt
 unfailed form old new (Err event) u = λ name a e at. absurd (subst (λ (x : FlashUse). Among (names_used x) name) u a)
 
 -- a form whose text is ready before any of it is written ends as it should where its text has its cause and was put
-puts_end : (form : AskedForm) (old new : Outside) (whole : Result Answer Event) (got : Result Bool Event) → listed_by (Some form) ≡ None → updated_by (Some form) ≡ None → IsMeasured (Some form) new.flash whole → FailsLast (Some form) old.inputs new.flash whole → AnswersOver form old new whole → PutsAnswer whole old.out new.out got
+puts_end : (form : AskedForm) (old new : Outside) (whole : Result Answer Event) (got : Result Bool Event) → listed_by (Some form) ≡ None → updated_by (Some form) ≡ None
+    → IsMeasured (Some form) new.flash whole → FailsLast (Some form) old.inputs new.flash whole → AnswersOver form old new whole → PutsAnswer whole old.out new.out got
     → CommandEndsAs (Some form) old new got
 puts_end form old new (Ok answer) (Ok stopped) l u m f c p = (
   answer.text,

@@ -171,7 +171,8 @@ keeps_all (why.Differs place) old new e = tt
 keeps_all reason old new e = e
 
 -- an update that was refused
-pub refused_ends : (flash stream : List ℕ) (old new : Outside) (event : Event) → new.out ≡ old.out → IsMeasured (Some (UpdatingFlash flash stream)) new.flash (Err event) → FailsLast (Some (UpdatingFlash flash stream)) old.inputs new.flash (Err event) → AnswersOver (UpdatingFlash flash stream) old new (Err event) → KeepsBytes event.reason old.flash new.flash
+pub refused_ends : (flash stream : List ℕ) (old new : Outside) (event : Event) → new.out ≡ old.out → IsMeasured (Some (UpdatingFlash flash stream)) new.flash (Err event)
+    → FailsLast (Some (UpdatingFlash flash stream)) old.inputs new.flash (Err event) → AnswersOver (UpdatingFlash flash stream) old new (Err event) → KeepsBytes event.reason old.flash new.flash
     → CommandEndsAs (Some (UpdatingFlash flash stream)) old new (Err event)
 refused_ends flash stream old new event out m l a kept =
     let form = UpdatingFlash flash stream in
@@ -239,9 +240,12 @@ fault_last flash stream bytes inputs new NoMemory has size = not_fault (Some (Up
 
 -- an update that came to no end
 pub fault_ends : (flash stream bytes : List ℕ) (old new : Outside) (fault : UpdateFault) → new.out ≡ old.out → IsTrue (new.flash.names flash) → IsWithin old.flash.bytes → HasData (known_in old) stream bytes
-    → HasData (with_inputs old.inputs.contents None) stream bytes → new.flash.extent ≤ flash_limit → HasCause bytes old.flash new.flash fault → (IsEarly fault → new.flash.bytes ≡ old.flash.bytes) → CommandEndsAs (Some (UpdatingFlash flash stream)) old new (Err (update_event (names flash stream) fault))
+    → HasData (with_inputs old.inputs.contents None) stream bytes → new.flash.extent ≤ flash_limit → HasCause bytes old.flash new.flash fault → (IsEarly fault → new.flash.bytes ≡ old.flash.bytes)
+        → CommandEndsAs (Some (UpdatingFlash flash stream)) old new (Err (update_event (names flash stream) fault))
 fault_ends flash stream bytes old new (Failed true) out asked within has reads size h early =
-    record { cause = (refl, inr (h.0, size, could_end flash stream bytes old within has h.2)); fails_last = fault_last flash stream bytes old.inputs new.flash (Failed true) reads size; wrote = out_same old new out; near = near_all (UpdatingFlash flash stream) (status_of_event writing_failed) old new refl; measured = fault_measured (Some (UpdatingFlash flash stream)) (names flash stream) new.flash (Failed true); updates = tt }
+    record { cause = (refl, inr (h.0, size, could_end flash stream bytes old within has h.2)); fails_last = fault_last flash stream bytes old.inputs new.flash (Failed true) reads size; wrote = out_same old new out; near = near_all
+        (UpdatingFlash flash stream) (status_of_event writing_failed) old new refl; measured = fault_measured (Some (UpdatingFlash flash stream)) (names flash stream) new.flash
+        (Failed true); updates = tt }
 fault_ends flash stream bytes old new (Failed false) out asked within has reads size h early =
     refused_ends flash stream old new (reading_failed flash) out (fault_measured (Some (UpdatingFlash flash stream)) (names flash stream) new.flash (Failed false)) (fault_last flash stream bytes old.inputs new.flash (Failed false) reads size)
     (inl (inr (record { mishap = Failing flash new.inputs.given; came = (refl, inr (record { among = inl refl; asked = asked; risen = h.0 })); reports = refl; due = flash_due (known_in old) (Failing flash new.inputs.given) flash stream refl }))) (inl h.0)
@@ -264,7 +268,8 @@ fault_ends flash stream bytes old new (Differs place wrote read) out asked withi
   fails_last = fault_last flash stream bytes old.inputs new.flash (Differs place wrote read) reads size;
   updates = tt;
 }
-fault_ends flash stream bytes old new NoMemory out asked within has reads size h early = refused_ends flash stream old new no_memory out (fault_measured (Some (UpdatingFlash flash stream)) (names flash stream) new.flash NoMemory) (fault_last flash stream bytes old.inputs new.flash NoMemory reads size) (inl (inl refl)) (early tt)
+fault_ends flash stream bytes old new NoMemory out asked within has reads size h early = refused_ends flash stream old new no_memory out
+    (fault_measured (Some (UpdatingFlash flash stream)) (names flash stream) new.flash NoMemory) (fault_last flash stream bytes old.inputs new.flash NoMemory reads size) (inl (inl refl)) (early tt)
 
 can_take : (known now : Option (List ℕ)) (bytes : List ℕ) → IfKnown known IsUpdatable → BecomesBytes (IsAfterUpdate bytes) known now → IfKnown known (CanTake bytes)
 can_take None now bytes l b = tt

@@ -39,7 +39,8 @@ pages-preserved g c =
     let from = c.bytes_from-bytes.ensures known extent below are read in
     let t = c.take_page.ensures c.args.device.now.part c.args.kept f.bytes f.stands f.going f.not_ended in
     record {
-      feeds = feeds_on c.args.device.now.part c.args.kept c.args.address (g.F.Flash.state c.args.flash.now).bytes c.pages.device c.take_page.new.device c.bytes_from-bytes.result.now c.pages.place (c.pages.place + length c.bytes_from-bytes.result.now) c.take_page.result refl f from.bytes_are t c.in-GoesOn.is;
+      feeds = feeds_on c.args.device.now.part c.args.kept c.args.address (g.F.Flash.state c.args.flash.now).bytes c.pages.device c.take_page.new.device c.bytes_from-bytes.result.now c.pages.place
+          (c.pages.place + length c.bytes_from-bytes.result.now) c.take_page.result refl f from.bytes_are t c.in-GoesOn.is;
       kept = are;
       no_fault = c.in_ok-loaded.ensures.no_fault ∙ c.pages.invariant.no_fault;
       flash = reads_on _ _ _ _ _ _ c.pages.invariant.flash c.in_ok-loaded.ensures.only_reads;

@@ -42,7 +42,8 @@ returns-in-Asm-clause-flash g c = uses_same _ _ (g.F.Flash.state c.args.flash.no
 pub returns-in-Play-clause-answered : goal.returns-in-Play-clause-answered
 returns-in-Play-clause-answered g c = λ e f.
     let flash = g.F.Flash.state c.args.flash.now in
-    ready_answered _ (Playing c.in-Play.part.now (map string_bytes c.in-Play.streams.now)) (outside (g.I.Inputs.state c.args.inputs.now) flash (g.O.Sink.state c.args.out.now) e) (outside (g.I.Inputs.state c.play.new.inputs) flash (g.O.Sink.state c.put_whole-in-Play.new.out) f) (seen play_answer c.play.result) _
+    ready_answered _ (Playing c.in-Play.part.now (map string_bytes c.in-Play.streams.now)) (outside (g.I.Inputs.state c.args.inputs.now) flash (g.O.Sink.state c.args.out.now) e)
+        (outside (g.I.Inputs.state c.play.new.inputs) flash (g.O.Sink.state c.put_whole-in-Play.new.out) f) (seen play_answer c.play.result) _
     (ap asked_by c.in-Play.is) refl refl c.play.ensures c.put_whole-in-Play.ensures
 
 pub returns-in-Play-clause-flash : goal.returns-in-Play-clause-flash
@@ -51,7 +52,8 @@ returns-in-Play-clause-flash g c = uses_same _ _ (g.F.Flash.state c.args.flash.n
 pub returns-in-Debug-clause-answered : goal.returns-in-Debug-clause-answered
 returns-in-Debug-clause-answered g c = λ e f.
     let flash = g.F.Flash.state c.args.flash.now in
-    ready_answered _ (Debugging c.in-Debug.part.now c.in-Debug.stream.now c.in-Debug.script.now) (outside (g.I.Inputs.state c.args.inputs.now) flash (g.O.Sink.state c.args.out.now) e) (outside (g.I.Inputs.state c.debug.new.inputs) flash (g.O.Sink.state c.put_whole-in-Debug.new.out) f) (seen text_answer c.debug.result) _
+    ready_answered _ (Debugging c.in-Debug.part.now c.in-Debug.stream.now c.in-Debug.script.now) (outside (g.I.Inputs.state c.args.inputs.now) flash (g.O.Sink.state c.args.out.now) e)
+        (outside (g.I.Inputs.state c.debug.new.inputs) flash (g.O.Sink.state c.put_whole-in-Debug.new.out) f) (seen text_answer c.debug.result) _
     (ap asked_by c.in-Debug.is) refl refl c.debug.ensures c.put_whole-in-Debug.ensures
 
 pub returns-in-Debug-clause-flash : goal.returns-in-Debug-clause-flash
@@ -69,7 +71,8 @@ returns-in-Svf-clause-flash g c = uses_same _ _ (g.F.Flash.state c.args.flash.no
 pub returns-in-PlanFull-clause-answered : goal.returns-in-PlanFull-clause-answered
 returns-in-PlanFull-clause-answered g c = λ e f.
     let flash = g.F.Flash.state c.args.flash.now in
-    ready_answered _ (PlanningFull c.in-PlanFull.part.now c.in-PlanFull.frames.now) (outside (g.I.Inputs.state c.args.inputs.now) flash (g.O.Sink.state c.args.out.now) e) (outside (g.I.Inputs.state c.plan_full.new.inputs) flash (g.O.Sink.state c.put_whole-in-PlanFull.new.out) f) (seen full_answer c.plan_full.result) _
+    ready_answered _ (PlanningFull c.in-PlanFull.part.now c.in-PlanFull.frames.now) (outside (g.I.Inputs.state c.args.inputs.now) flash (g.O.Sink.state c.args.out.now) e)
+        (outside (g.I.Inputs.state c.plan_full.new.inputs) flash (g.O.Sink.state c.put_whole-in-PlanFull.new.out) f) (seen full_answer c.plan_full.result) _
     (ap asked_by c.in-PlanFull.is) refl refl c.plan_full.ensures c.put_whole-in-PlanFull.ensures
 
 pub returns-in-PlanFull-clause-flash : goal.returns-in-PlanFull-clause-flash
@@ -78,7 +81,8 @@ returns-in-PlanFull-clause-flash g c = uses_same _ _ (g.F.Flash.state c.args.fla
 pub returns-in-PlanPartial-clause-answered : goal.returns-in-PlanPartial-clause-answered
 returns-in-PlanPartial-clause-answered g c = λ e f.
     let flash = g.F.Flash.state c.args.flash.now in
-    ready_answered _ (PlanningPartial c.in-PlanPartial.part.now c.in-PlanPartial.frames.now) (outside (g.I.Inputs.state c.args.inputs.now) flash (g.O.Sink.state c.args.out.now) e) (outside (g.I.Inputs.state c.plan_partial.new.inputs) flash (g.O.Sink.state c.put_whole-in-PlanPartial.new.out) f) (seen bytes_answer c.plan_partial.result) _
+    ready_answered _ (PlanningPartial c.in-PlanPartial.part.now c.in-PlanPartial.frames.now) (outside (g.I.Inputs.state c.args.inputs.now) flash (g.O.Sink.state c.args.out.now) e)
+        (outside (g.I.Inputs.state c.plan_partial.new.inputs) flash (g.O.Sink.state c.put_whole-in-PlanPartial.new.out) f) (seen bytes_answer c.plan_partial.result) _
     (ap asked_by c.in-PlanPartial.is) refl refl c.plan_partial.ensures c.put_whole-in-PlanPartial.ensures
 
 pub returns-in-PlanPartial-clause-flash : goal.returns-in-PlanPartial-clause-flash
@@ -87,7 +91,8 @@ returns-in-PlanPartial-clause-flash g c = uses_same _ _ (g.F.Flash.state c.args.
 pub returns-in-PlanRead-clause-answered : goal.returns-in-PlanRead-clause-answered
 returns-in-PlanRead-clause-answered g c = λ e f.
     let flash = g.F.Flash.state c.args.flash.now in
-    ready_answered _ (PlanningRead c.in-PlanRead.part.now c.in-PlanRead.far c.in-PlanRead.slot_count) (outside (g.I.Inputs.state c.args.inputs.now) flash (g.O.Sink.state c.args.out.now) e) (outside (g.I.Inputs.state c.plan_read.new.inputs) flash (g.O.Sink.state c.put_whole-in-PlanRead.new.out) f) (seen bytes_answer c.plan_read.result) _
+    ready_answered _ (PlanningRead c.in-PlanRead.part.now c.in-PlanRead.far c.in-PlanRead.slot_count) (outside (g.I.Inputs.state c.args.inputs.now) flash (g.O.Sink.state c.args.out.now) e)
+        (outside (g.I.Inputs.state c.plan_read.new.inputs) flash (g.O.Sink.state c.put_whole-in-PlanRead.new.out) f) (seen bytes_answer c.plan_read.result) _
     (ap asked_by c.in-PlanRead.is) refl refl c.plan_read.ensures c.put_whole-in-PlanRead.ensures
 
 pub returns-in-PlanRead-clause-flash : goal.returns-in-PlanRead-clause-flash
@@ -114,7 +119,8 @@ returns-in-Image-clause-flash g c = uses_same _ _ (g.F.Flash.state c.args.flash.
 pub returns-in-ImageFor-clause-answered : goal.returns-in-ImageFor-clause-answered
 returns-in-ImageFor-clause-answered g c = λ e f.
     let flash = g.F.Flash.state c.args.flash.now in
-    ready_answered _ (ImagingFor c.in-ImageFor.part.now c.in-ImageFor.golden.now c.in-ImageFor.update.now) (outside (g.I.Inputs.state c.args.inputs.now) flash (g.O.Sink.state c.args.out.now) e) (outside (g.I.Inputs.state c.image_for.new.inputs) flash (g.O.Sink.state c.put_whole-in-ImageFor.new.out) f) (seen bytes_answer c.image_for.result) _
+    ready_answered _ (ImagingFor c.in-ImageFor.part.now c.in-ImageFor.golden.now c.in-ImageFor.update.now) (outside (g.I.Inputs.state c.args.inputs.now) flash (g.O.Sink.state c.args.out.now) e)
+        (outside (g.I.Inputs.state c.image_for.new.inputs) flash (g.O.Sink.state c.put_whole-in-ImageFor.new.out) f) (seen bytes_answer c.image_for.result) _
     (ap asked_by c.in-ImageFor.is) refl refl c.image_for.ensures c.put_whole-in-ImageFor.ensures
 
 pub returns-in-ImageFor-clause-flash : goal.returns-in-ImageFor-clause-flash
