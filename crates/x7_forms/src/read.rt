@@ -120,7 +120,6 @@ pub fn next_turn<'w, I: Inputs>(
     ensures refused { IfErr result (λ r. UnreadTurn (I.state inputs.old) name.now (I.state inputs.new) left (event_of r)) }
     ensures fails_early { IfErr result (λ r. event_of r ≡ reading_failed name.now → (I.state inputs.new).given < (I.state inputs.old).given + length buffer.old) }
     ensures over { IfErr result (λ r. event_of r ≡ too_large name.now → left < length buffer.old) }
-    ensures asked { (I.state inputs.new).asked ≡ (I.state inputs.old).asked }
     ensures gives_few { GivesFew (I.state inputs.old) left (I.state inputs.new) }
     ensures gives_a_turn { (I.state inputs.new).given ≤ (I.state inputs.old).given + length buffer.old }
     ensures inputs { InputsStay (I.state inputs.old) (I.state inputs.new) }

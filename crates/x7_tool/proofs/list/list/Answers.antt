@@ -192,7 +192,7 @@ returns-in_err-turn g c = rw (handed_on c.from_residual-in_err-turn.result c.in_
     record {
       ends = list_ends stream old new (Err event)
           (unread_end old.inputs (i.state c.loop-lister.inputs) new.inputs old.flash.bytes stream v.known.0 c.loop-lister.lister c.loop-lister.left (SinkFails old.out new.out) old.out.written new.out.written event
-          v.inputs v.known.1.0 v.known.1.3 v.known.1.1 v.known.1.2 c.in_err-turn.ensures.refused c.next_turn.ensures.asked)
+          v.inputs v.known.1.0 v.known.1.3 v.known.1.1 v.known.1.2 c.in_err-turn.ensures.refused c.next_turn.ensures.gives_few.asked)
           (stays_near event stream old new (unread_near old.inputs.contents stream new.inputs.rest old.out.written new.out.written (i.state c.loop-lister.inputs) new.inputs stream v.known.0 c.loop-lister.lister c.loop-lister.left event refl v.known.1.0 t
           (omega (arith, v.known.1.3.given, c.next_turn.ensures.gives_a_turn, v.piece)) (λ e. omega (arith, c.in_err-turn.ensures.over e, v.piece)) (same_now (o.state c.loop-lister.out)) c.in_err-turn.ensures.refused));
       stops = let v = c.loop-lister.invariant in first_stops (Listing c.args.stream.now) (limited stream_limit c.args.stream.now) [] (g.I.Inputs.state c.args.inputs.now)
@@ -344,7 +344,7 @@ loop-lister-preserved g c =
       piece = omega (arith, c.next_turn.ensures.length, v.piece);
       known = (taken ++ piece, (sel, record { line = t.line; content = t.content ++ piece; lists = lists; listing = listing; short_header = omega (arith, t.short_header, length-append taken piece, length-append t.content piece) },
           omega (arith, size, v.known.1.2, c.in_ok-turn.ensures.within.0), at_on stream taken piece (i.state c.loop-lister.inputs)
-          (i.state c.next_turn.new.inputs) v.known.1.3 c.in_ok-turn.ensures.takes c.next_turn.ensures.asked));
+          (i.state c.next_turn.new.inputs) v.known.1.3 c.in_ok-turn.ensures.takes c.next_turn.ensures.gives_few.asked));
     }
 
 pub loop-lister-init : goal.loop-lister-init
