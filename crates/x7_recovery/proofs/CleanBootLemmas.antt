@@ -39,7 +39,7 @@ use Rattle.x7_boot.proofs.TookLemmas.{ends_going}
 use Rattle.x7_recovery.specs.Clean.{StartsClean}
 use Rattle.x7_recovery.specs.Golden.{with_erased}
 use Rattle.x7_boot.specs.Boots.{BootCourse, IsCourse}
-use Rattle.x7_recovery.specs.OpenBoot.{FallsBackClean, UpdateFails}
+use Rattle.x7_recovery.specs.OpenBoot.{FallsBackClean, UpdateFallsBack}
 use Rattle.x7_recovery.specs.OpenSlot.{HasOpenSlot, IsOpenFlash, OpenFlash}
 use Rattle.x7_effects.proofs.EndLemmas.{memory_all}
 use Rattle.x7_effects.proofs.GoingLemmas.{IsGoing, going_bytes}
@@ -282,7 +282,7 @@ module _ (o : OpenFlash) (is : IsOpenFlash o) (t : AttemptCourse) (c : StartsCle
     fallen_wrote : wrote_iprog (history_of (prefix' ++ s)) ≡ true
     fallen_wrote = iprog_later prefix' s (all_append (λ b. b < 256) prefix' s is.has.fits s_fits) (sector_wrote o.flash o.slot o.start is.has is.small)
 
-  pub falls_clean : (a : BootCourse) (u : AttemptCourse) (cause : Cause) → IsCourse o.part o.flash a → UpdateFails o u cause false → FallsBackClean o cause t a
+  pub falls_clean : (a : BootCourse) (u : AttemptCourse) (cause : Cause) → IsCourse o.part o.flash a → UpdateFallsBack o u cause → FallsBackClean o cause t a
   falls_clean a u cause course fails =
       let kept : Kept = kept_then o is u in
       let l : AttemptCourse = fallen kept refl in
