@@ -1,7 +1,8 @@
 //! The pages of a flash that were used last, so that none of them is read again.
 ghost use Rattle.std.specs.Prelude.{◌≡◌, ◌+◌, ◌*◌, ◌/◌, ◌%◌, ◌<◌, ◌≤◌, ℕ, List, Option, None, [], length, true, nat_eq, IfOk, OnOk, IsErrOf, IsSome};
-ghost use Rattle.x7_words.specs.Flash.{FlashFails, OnlyReads};
+ghost use Rattle.x7_words.specs.Flash.{FlashFails};
 ghost use Rattle.std.specs.Map.{lookup};
+ghost use Rattle.x7_words.specs.FlashCalls.{CallOnlyReads};
 ghost use Rattle.x7_boot.specs.Image.{flash_limit};
 ghost use Rattle.x7_boot.specs.Pages.{ArePages, HasPage, HoldsFrom, IsLoaded, IsRestOfPage, KeepsPages, BlockReaches, block_pages, page_size};
 
@@ -65,7 +66,7 @@ impl PageCache {
         ensures no_fault { OnOk result ((F.state flash.new).faults ≡ (F.state flash.old).faults) }
         ensures no_memory { IsErrOf result BootFault.NoMemory → (F.state flash.new).faults ≡ (F.state flash.old).faults }
         ensures not_large { IsErrOf result BootFault.TooLarge → ⊥ }
-        ensures only_reads { OnlyReads (F.state flash.old) (F.state flash.new) (F.found_since flash.old) (F.found_since flash.new) }
+        ensures only_reads { CallOnlyReads F.Flash flash.old flash.new }
     {
         if self.pages.promote(&number) {
             return Ok(Loaded::Kept);

@@ -1,6 +1,7 @@
 //! Reading a flash by pages.
 ghost use Rattle.std.specs.Prelude.{◌≡◌, ◌*◌, ◌<◌, ◌≤◌, ◌^◌, true, OnOk, IsErrOf};
-ghost use Rattle.x7_words.specs.Flash.{FlashFails, OnlyReads};
+ghost use Rattle.x7_words.specs.Flash.{FlashFails};
+ghost use Rattle.x7_words.specs.FlashCalls.{CallOnlyReads};
 ghost use Rattle.x7_boot.specs.Image.{flash_limit};
 ghost use Rattle.x7_boot.specs.Pages.{IsBlock, block_pages, page_size};
 
@@ -29,7 +30,7 @@ pub(crate) fn read_block<F: Flash>(
     ensures no_fault { OnOk result ((F.state flash.new).faults ≡ (F.state flash.old).faults) }
     ensures no_memory { IsErrOf result BootFault.NoMemory → (F.state flash.new).faults ≡ (F.state flash.old).faults }
     ensures not_large { IsErrOf result BootFault.TooLarge → ⊥ }
-    ensures only_reads { OnlyReads (F.state flash.old) (F.state flash.new) (F.found_since flash.old) (F.found_since flash.new) }
+    ensures only_reads { CallOnlyReads F.Flash flash.old flash.new }
     ensures faults_fit { (F.state flash.old).faults < 2 ^ 64 → (F.state flash.new).faults < 2 ^ 64 }
 {
     let start = number * PAGE_SIZE;

@@ -1,6 +1,6 @@
 //! The command `boot`: which image a device starts from a flash, and why not another.
 ghost use Rattle.std.specs.Prelude.{◌≡◌, ◌≤◌, ℕ, List, [], IfErr, IfOk, true};
-ghost use Rattle.x7_words.specs.Flash.{Unwritten};
+ghost use Rattle.x7_words.specs.FlashCalls.{CallWritesNothing};
 ghost use Rattle.x7_part.specs.Part.{PartData};
 ghost use Rattle.x7_boot.specs.Boot.{IsBoot};
 ghost use Rattle.x7_engine.specs.Standing.{NoWordDue};
@@ -105,7 +105,7 @@ fn boot_from<'w, F: Flash>(
     ensures caused { FlashComes flash_name.now part.now (F.state flash.old) (F.state flash.new) (seen play_answer result) }
     ensures failed { IfErr result (λ r. event_of r ≡ reading_failed flash_name.now → (F.state flash.new).attached ≡ true → (F.state flash.new).extent ≤ flash_limit) }
     ensures reads { ReadsFlash flash_name.now (F.state flash.old) (F.state flash.new) }
-    ensures unwritten { Unwritten (F.state flash.old) (F.state flash.new) (F.found_since flash.old) (F.found_since flash.new) }
+    ensures unwritten { CallWritesNothing F.Flash flash.old flash.new }
 {
     attach(flash, flash_name)?;
     match x7_boot::boot(alloc, part, flash) {
@@ -125,7 +125,7 @@ pub(crate) fn boot<'w, I: Inputs, F: Flash>(
     ensures ready { MakesReadyFrom (Booting part.now flash_name.now) (sources (I.state inputs.old) (F.state flash.old))
         (sources (I.state inputs.new) (F.state flash.new)) (seen play_answer result) }
     ensures reads { ReadsFlash flash_name.now (F.state flash.old) (F.state flash.new) }
-    ensures unwritten { Unwritten (F.state flash.old) (F.state flash.new) (F.found_since flash.old) (F.found_since flash.new) }
+    ensures unwritten { CallWritesNothing F.Flash flash.old flash.new }
 {
     let part = read_part(alloc, inputs, part)?;
     boot_from(alloc, &part, flash, flash_name)
