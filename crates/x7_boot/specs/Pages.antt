@@ -5,7 +5,7 @@ use Rattle.std.specs.declared.alloc.Global.{Global}
 use Rattle.std.specs.Map.{lookup}
 use Rattle.x7_words.specs.Flash.{IfKnown}
 use Rattle.x7_boot.specs.declared.cache.Loaded.{Loaded}
-use Rattle.x7_boot.specs.declared.cache.Loaded.TheVariants.{Kept, Read}
+use Rattle.x7_boot.specs.declared.cache.Loaded.TheVariants.{Cached, Read}
 
 -- how many bytes a page has; a flash's last one may have fewer
 abbrev pub page_size : ℕ
@@ -37,12 +37,12 @@ pub record IsBlock (known : Option (List ℕ)) (extent number count : ℕ) (byte
 -- what loading the page of a number came to: the page was there, or it begins
 -- `count` pages that were read into the block
 abbrev pub IsLoaded : Option (List ℕ) → ℕ → ℕ → List ℕ → Loaded → Type 0
-IsLoaded known extent number block Kept = Unit {0}
+IsLoaded known extent number block Cached = Unit {0}
 IsLoaded known extent number block (Read count) = (0 < count) × IsBlock known extent number count block
 
 -- the block, where one was read, is long enough to have the place `place`, which lies in its first page
 abbrev pub BlockReaches : ℕ → List ℕ → Loaded → Type 0
-BlockReaches place block Kept = Unit {0}
+BlockReaches place block Cached = Unit {0}
 BlockReaches place block (Read count) = place % page_size < length block
 
 -- `bytes` are those of a flash from the place `place` on, one at least

@@ -21,7 +21,7 @@ const KEPT_PAGES: usize = 64;
 #[derive(Clone, Copy)]
 pub(crate) enum Loaded {
     /// In the page, which the cache had already.
-    Kept,
+    Cached,
     /// In the block, which was read now and has this many pages from the one asked for on.
     Read(u64),
 }
@@ -69,7 +69,7 @@ impl PageCache {
         ensures only_reads { CallOnlyReads F.Flash flash.old flash.new }
     {
         if self.pages.promote(&number) {
-            return Ok(Loaded::Kept);
+            return Ok(Loaded::Cached);
         }
         let count = self.absent_page_count(number, flash.size());
         read_block(flash, number, count, &mut self.block)?;
@@ -150,7 +150,7 @@ impl PageCache {
         ensures { HoldsFrom self.now.pages.entries self.now.block.items place loaded result.now }
     {
         match loaded {
-            Loaded::Kept => self.rest_of_page(place),
+            Loaded::Cached => self.rest_of_page(place),
             Loaded::Read(_) => &self.block[(place % PAGE_SIZE) as usize..],
         }
     }
