@@ -4,7 +4,7 @@ ghost use Rattle.x7_words.specs.Input.{Asks, AsksAtMost, AsksOnce, AtEnd, Opens,
 ghost use Rattle.x7_forms.specs.Event.{bad_input, event_of, no_memory, reading_failed, too_large};
 ghost use Rattle.x7_forms.specs.Known.{data_in};
 ghost use Rattle.x7_forms.specs.Turn.{AppendsRest, BreaksWithin, GivesFew, ReadsRest, IsLastAsked, Unopened, UnreadTurn, UnreadRest};
-ghost use Rattle.x7_forms.specs.Step.{IsUnread, ReadsWhole, seen};
+ghost use Rattle.x7_forms.specs.Step.{IsUnread, ReadsWhole, result_by};
 ghost use Rattle.x7_forms.specs.declared.bad_input.InputFault.TheVariants as input;
 
 use crate::bad_input::InputFault;
@@ -171,7 +171,7 @@ pub fn read_whole<'w, I: Inputs>(
     name: &'w str,
     limit: usize,
 ) -> Result<Vec<u8>, Refusal<'w>>
-    ensures caused { ReadsWhole (I.state inputs.old) (I.state inputs.new) limit name.now (seen (λ whole. whole.items) result) }
+    ensures caused { ReadsWhole (I.state inputs.old) (I.state inputs.new) limit name.now (result_by (λ whole. whole.items) result) }
     ensures named { IfErr result (λ r. IsUnread name.now (event_of r)) }
     ensures within { IfOk result (λ whole. vec_len whole ≤ limit) }
     ensures last_asked { IsLastAsked name.now limit (I.state inputs.new) }
@@ -228,7 +228,7 @@ pub(crate) fn refused_at<'w>(name: &'w str, place: usize) -> Refusal<'w>
 
 /// Where the data of a stream begin, in bytes from 0: after its header, or at its first byte where it has none.
 pub fn data_start<'w>(name: &'w str, bytes: &[u8]) -> Result<usize, Refusal<'w>>
-    ensures data { seen (λ start. drop start bytes.now) result ≡ data_in name.now bytes.now }
+    ensures data { result_by (λ start. drop start bytes.now) result ≡ data_in name.now bytes.now }
     ensures within { IfOk result (λ start. start ≤ length bytes.now) }
 {
     let place = match header_of(bytes) {

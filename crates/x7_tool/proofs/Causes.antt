@@ -27,7 +27,7 @@ use Rattle.x7_forms.specs.Turn.{IsRefused, FollowsUnlessLast, UnreadBeginning, U
 use Rattle.x7_tool.specs.Outside.{Outside, known_in}
 use Rattle.x7_tool.specs.Ahead.{StaysNear}
 use Rattle.x7_tool.specs.Run.{EndIsCaused, CommandEnds, CommandEndsAs, GetsPrefix, IsPrefixOf, LeftBy, ListLeaves, ListsSoFar}
-use Rattle.x7_forms.specs.Step.{CameIn, DueBy, FailsAmong, IsCaused, seen, step_over}
+use Rattle.x7_forms.specs.Step.{CameIn, DueBy, FailsAmong, IsCaused, result_by, step_over}
 use Rattle.x7_forms.proofs.BeginningLemmas.{raw_listed}
 use Rattle.x7_forms.proofs.ReadLemmas.{absence_from, at_fault, at_open, fault_from, known_all, name_is}
 use Rattle.x7_tool.proofs.FlashLemmas.{answers_over}
@@ -96,7 +96,7 @@ list_ends stream old new (Err event) h n = record { cause = ended_cause (cause_o
 
 -- a listing ends as it should, by the result of the call that ended it
 pub list_seen : {A : Type 0} (stream : List ℕ) (old new : Outside) (r : Result A Refusal) → OnOk r ((text : List ℕ) × EndedIn stream old new (Ok (record { stopped = false; text = text })))
-    → IfErr r (λ x. EndedIn stream old new (Err (event_of x))) → IfErr r (λ x. StaysNear (status_of_event (event_of x)) (Some (Listing stream)) old new) → CommandEndsAs (Some (Listing stream)) old new (seen (λ _. false) r)
+    → IfErr r (λ x. EndedIn stream old new (Err (event_of x))) → IfErr r (λ x. StaysNear (status_of_event (event_of x)) (Some (Listing stream)) old new) → CommandEndsAs (Some (Listing stream)) old new (result_by (λ _. false) r)
 list_seen stream old new (Ok a) ok err near = (ok.0, list_ends stream old new (Ok (record { stopped = false; text = ok.0 })) ok.1 tt)
 list_seen stream old new (Err x) ok err near = list_ends stream old new (Err (event_of x)) err near
 

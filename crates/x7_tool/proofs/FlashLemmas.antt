@@ -20,7 +20,7 @@ use Rattle.x7_forms.specs.declared.refusal.Refusal.{Refusal}
 use Rattle.x7_tool.specs.Outcome.{BootedAs, FlashBoots, FormGives, no_text}
 use Rattle.x7_tool.specs.Outside.{CameInRun, KeepsFlash, Outside, ReadsFlash, known_from, known_in, sources}
 use Rattle.x7_tool.specs.Run.{GivesIfKnown, AnswersOver, FlashComes, IsMeasured, FailsLast, IsUnattached}
-use Rattle.x7_forms.specs.Step.{Among, CameIn, DueBy, IsCaused, IsCausedBy, IsDecided, IsDue, IsNoPart, IsPossible, IsUnread, seen, step_over}
+use Rattle.x7_forms.specs.Step.{Among, CameIn, DueBy, IsCaused, IsCausedBy, IsDecided, IsDue, IsNoPart, IsPossible, IsUnread, result_by, step_over}
 use Rattle.x7_forms.proofs.ReadLemmas.{caused_on_by, name_is, outside_goes, part_steady}
 
 -- ---- what more may fail
@@ -189,7 +189,7 @@ part_good (Some inputs) C name part_name part (inl h) = absurd h
 part_good (Some inputs) C name part_name part (inr h) = subst (λ (r : Result PartData Event). BootedAs name r None (Ok no_text)) (sym h.1) tt
 
 pub boot_last : {A : Type 0} (value : A → Answer) (name part_name : List ℕ) (old : InputsState) (new : FlashState) (result : Result A Refusal) → IfErr result (λ r. event_of r ≡ reading_failed name → new.attached ≡ true → new.extent ≤ flash_limit)
-    → GivesIfKnown (with_inputs old.contents None) (Booting part_name name) (Ok no_text) → FailsLast (Some (Booting part_name name)) old new (seen value result)
+    → GivesIfKnown (with_inputs old.contents None) (Booting part_name name) (Ok no_text) → FailsLast (Some (Booting part_name name)) old new (result_by value result)
 boot_last value name part_name old new (Ok a) h g = tt
 boot_last value name part_name old new (Err r) h g = λ other a e at. elim a [
   | inl same ↦ inl (h (e ∙ ap reading_failed same) at, (no_text, g))

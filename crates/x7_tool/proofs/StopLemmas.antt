@@ -13,7 +13,7 @@ use Rattle.x7_forms.specs.declared.refusal.Why.{Why}
 use Rattle.x7_forms.specs.declared.refusal.Why.TheVariants as why
 use Rattle.x7_forms.specs.Form.{AskedForm, Booting, Playing, Unused, UpdatingFlash, flash_names, flash_use}
 use Rattle.x7_forms.specs.Known.{Answer, part_limit, stream_limit}
-use Rattle.x7_forms.specs.Step.{Among, seen}
+use Rattle.x7_forms.specs.Step.{Among, result_by}
 use Rattle.x7_forms.specs.ReadingStops.{IsAbout, Limited, StopsAmong, limited, limited_together}
 use Rattle.x7_forms.specs.Turn.{IsLastAsked}
 use Rattle.x7_forms.proofs.AskedLemmas.{about_among, about_by, stops_after}
@@ -119,15 +119,15 @@ pub third_stops : (form : AskedForm) (first second third : Limited) (others : Li
 third_stops form first second third others old now event i s n a = among_stops form old now event (about_among (inputs_of old.contents form) (first ∷ second ∷ []) third others old now event i s n a)
 
 -- a call's result, where each refusal stops so
-pub result_stops : {A B : Type 0} (value : A → B) (form : AskedForm) (old now : InputsState) (r : Result A Refusal) → IfErr r (λ x. StopsBy (cause_of_event (event_of x)) form old now (event_of x)) → StopsReading (Some form) old now (seen value r)
+pub result_stops : {A B : Type 0} (value : A → B) (form : AskedForm) (old now : InputsState) (r : Result A Refusal) → IfErr r (λ x. StopsBy (cause_of_event (event_of x)) form old now (event_of x)) → StopsReading (Some form) old now (result_by value r)
 result_stops value form old now (Ok a) h = tt
 result_stops value form old now (Err x) h = h
 
-pub want_only : {A B : Type 0} (value : A → B) (form : AskedForm) (old now : InputsState) (r : Result A Refusal) → IfErr r (λ x. event_of x ≡ no_memory) → StopsReading (Some form) old now (seen value r)
+pub want_only : {A B : Type 0} (value : A → B) (form : AskedForm) (old now : InputsState) (r : Result A Refusal) → IfErr r (λ x. event_of x ≡ no_memory) → StopsReading (Some form) old now (result_by value r)
 want_only value form old now (Ok a) h = tt
 want_only value form old now (Err x) h = want_stops form old now (event_of x) h
 
-pub reads_only : {A B : Type 0} (value : A → B) (form : AskedForm) (old now : InputsState) (r : Result A Refusal) → IfErr r (λ x. (event_of x ≡ no_memory) ⊎ (event_of x ≡ too_many_reads)) → StopsReading (Some form) old now (seen value r)
+pub reads_only : {A B : Type 0} (value : A → B) (form : AskedForm) (old now : InputsState) (r : Result A Refusal) → IfErr r (λ x. (event_of x ≡ no_memory) ⊎ (event_of x ≡ too_many_reads)) → StopsReading (Some form) old now (result_by value r)
 reads_only value form old now (Ok a) h = tt
 reads_only value form old now (Err x) h = reads_stop form old now (event_of x) h
 
@@ -183,7 +183,7 @@ pub put_stops : {P Q : Type 0} (form : AskedForm) (old now : InputsState) (event
 put_stops form old now event (inl h) = want_stops form old now event h.0
 put_stops form old now event (inr h) = write_stops form old now event h.0
 
-pub written_stops : {A : Type 0} (P Q : Type 0) (form : AskedForm) (old now : InputsState) (r : Result A Refusal) → IfErr r (λ x. ((event_of x ≡ no_memory) × P) ⊎ ((event_of x ≡ writing_failed) × Q)) → StopsReading (Some form) old now (seen (λ _. false) r)
+pub written_stops : {A : Type 0} (P Q : Type 0) (form : AskedForm) (old now : InputsState) (r : Result A Refusal) → IfErr r (λ x. ((event_of x ≡ no_memory) × P) ⊎ ((event_of x ≡ writing_failed) × Q)) → StopsReading (Some form) old now (result_by (λ _. false) r)
 written_stops P Q form old now (Ok a) h = tt
 written_stops P Q form old now (Err x) h = put_stops form old now (event_of x) h
 

@@ -15,7 +15,7 @@ use Rattle.x7_forms.specs.Form.{AskedForm, Listing, UpdatingFlash, flash_names, 
 use Rattle.x7_forms.specs.Known.{Answer, Held, Known, bytes_found, flash_found, with_inputs}
 use Rattle.x7_part.specs.Part.{PartData}
 use Rattle.x7_forms.specs.Status.{final_status}
-use Rattle.x7_forms.specs.Step.{Among, AnswersBy, IsCausedBy, IsOfMishap, seen, step_over}
+use Rattle.x7_forms.specs.Step.{Among, AnswersBy, IsCausedBy, IsOfMishap, result_by, step_over}
 use Rattle.x7_tool.specs.Ahead.{StaysNear}
 use Rattle.x7_tool.specs.Outcome.{FlashBoots, FormGives, no_text}
 use Rattle.x7_tool.specs.Leaving.{HasData, UpdateLeaves}
@@ -218,7 +218,7 @@ AnsweredListing stream old new got = (before after : Outside) → Answered (List
 
 -- by the result of a call that writes: whether what it reports stopped, or the event of its refusal
 abbrev pub written_by : Result Bool Refusal → Result Bool Event
-written_by result = seen (λ stopped. stopped) result
+written_by result = result_by (λ stopped. stopped) result
 
 -- what the sink of messages got: nothing after a whole text, and else the event's
 -- line, or a prefix of it where the sink failed

@@ -9,7 +9,7 @@ ghost use Rattle.x7_boot.specs.Image.{flash_limit};
 ghost use Rattle.x7_forms.specs.Event.{event_of, no_memory, reading_failed};
 ghost use Rattle.x7_tool.specs.Outcome.{IsBootText, boot_event, has_failed};
 ghost use Rattle.x7_tool.specs.Boot.{OfBoot, boot_text};
-ghost use Rattle.x7_forms.specs.Step.{seen};
+ghost use Rattle.x7_forms.specs.Step.{result_by};
 ghost use Rattle.x7_tool.specs.Outside.{ReadsFlash, sources};
 ghost use Rattle.x7_tool.specs.Play.{play_answer};
 ghost use Rattle.x7_tool.specs.Run.{FlashComes, MakesReadyFrom};
@@ -102,7 +102,7 @@ fn boot_from<'w, F: Flash>(
     flash: &mut F,
     flash_name: &'w str,
 ) -> Result<PlayText, Refusal<'w>>
-    ensures caused { FlashComes flash_name.now part.now (F.state flash.old) (F.state flash.new) (seen play_answer result) }
+    ensures caused { FlashComes flash_name.now part.now (F.state flash.old) (F.state flash.new) (result_by play_answer result) }
     ensures failed { IfErr result (λ r. event_of r ≡ reading_failed flash_name.now → (F.state flash.new).attached ≡ true → (F.state flash.new).extent ≤ flash_limit) }
     ensures reads { ReadsFlash flash_name.now (F.state flash.old) (F.state flash.new) }
     ensures unwritten { CallWritesNothing F.Flash flash.old flash.new }
@@ -123,7 +123,7 @@ pub(crate) fn boot<'w, I: Inputs, F: Flash>(
     flash_name: &'w str,
 ) -> Result<PlayText, Refusal<'w>>
     ensures ready { MakesReadyFrom (Booting part.now flash_name.now) (sources (I.state inputs.old) (F.state flash.old))
-        (sources (I.state inputs.new) (F.state flash.new)) (seen play_answer result) }
+        (sources (I.state inputs.new) (F.state flash.new)) (result_by play_answer result) }
     ensures reads { ReadsFlash flash_name.now (F.state flash.old) (F.state flash.new) }
     ensures unwritten { CallWritesNothing F.Flash flash.old flash.new }
 {

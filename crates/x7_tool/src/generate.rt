@@ -15,7 +15,7 @@ ghost use Rattle.x7_tool.specs.Run.{MakesReady};
 ghost use Rattle.x7_forms.specs.Form.{Generating};
 ghost use Rattle.x7_playing.specs.Playing.{HasPlayed};
 ghost use Rattle.x7_tool.specs.Ready.{bytes_answer};
-ghost use Rattle.x7_forms.specs.Step.{seen};
+ghost use Rattle.x7_forms.specs.Step.{result_by};
 
 use std::alloc::Global;
 use x7_forms::{Refusal, read_part};
@@ -284,7 +284,7 @@ pub(crate) fn generate<'w, I: Inputs>(
     part_name: &'w str,
     seed: u32,
 ) -> Result<Vec<u8>, Refusal<'w>>
-    ensures { MakesReady (Generating part_name.now seed) (I.state inputs.old) (I.state inputs.new) (seen bytes_answer result) }
+    ensures { MakesReady (Generating part_name.now seed) (I.state inputs.old) (I.state inputs.new) (result_by bytes_answer result) }
 {
     let part = read_part(alloc, inputs, part_name)?;
     summary_of(alloc, &part, seed)

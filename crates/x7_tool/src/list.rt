@@ -8,7 +8,7 @@ ghost use Rattle.x7_forms.specs.Event.{event_of, no_memory, writing_failed};
 ghost use Rattle.x7_listing.specs.Lister.{ListerStandsFor};
 ghost use Rattle.x7_tool.specs.Outside.{transfer};
 ghost use Rattle.x7_tool.specs.Run.{AnsweredListing};
-ghost use Rattle.x7_forms.specs.Step.{seen};
+ghost use Rattle.x7_forms.specs.Step.{result_by};
 ghost use Rattle.x7_tool.specs.Between.{IsUnlisted, PutsListing, StopsIn};
 
 use std::alloc::Global;
@@ -106,7 +106,7 @@ pub(crate) fn list<'w, I: Inputs, O: Sink>(
     out: &mut O,
     stream: &'w str,
 ) -> Result<(), Refusal<'w>>
-    ensures { AnsweredListing stream.now (transfer (I.state inputs.old) (O.state out.old)) (transfer (I.state inputs.new) (O.state out.new)) (seen (λ _. false) result) }
+    ensures { AnsweredListing stream.now (transfer (I.state inputs.old) (O.state out.old)) (transfer (I.state inputs.new) (O.state out.new)) (result_by (λ _. false) result) }
 {
     open(inputs, stream)?;
     let beginning = read_beginning(alloc, inputs, stream)?;

@@ -2,7 +2,7 @@
 ghost use Rattle.std.specs.Prelude.{◌≡◌, ℕ, List, Some, false};
 ghost use Rattle.x7_forms.specs.Form.{UpdatingFlash};
 ghost use Rattle.x7_forms.specs.Event.{event_of};
-ghost use Rattle.x7_forms.specs.Step.{seen};
+ghost use Rattle.x7_forms.specs.Step.{result_by};
 ghost use Rattle.x7_tool.specs.Leaving.{CallUsesFlash};
 ghost use Rattle.x7_tool.specs.Outcome.{update_event};
 ghost use Rattle.x7_tool.specs.Outside.{sources};
@@ -60,7 +60,7 @@ pub(crate) fn update<'w, I: Inputs, F: Flash>(
     stream: &'w str,
 ) -> Result<(), Refusal<'w>>
     ensures answered { AnsweredSilently (UpdatingFlash flash_name.now stream.now) (sources (I.state inputs.old) (F.state flash.old))
-        (sources (I.state inputs.new) (F.state flash.new)) (seen (λ _. false) result) }
+        (sources (I.state inputs.new) (F.state flash.new)) (result_by (λ _. false) result) }
     ensures flash { CallUsesFlash F.Flash (Some (UpdatingFlash flash_name.now stream.now)) (I.state inputs.old) flash.old flash.new }
 {
     open_flash(flash, flash_name)?;

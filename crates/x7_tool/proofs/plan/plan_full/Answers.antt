@@ -1,6 +1,6 @@
 use Rattle.std.proofs.Common.{refl, ◌∷◌, []}
 use Rattle.x7_forms.specs.Event.{event_of}
-use Rattle.x7_forms.specs.Step.{seen}
+use Rattle.x7_forms.specs.Step.{result_by}
 use Rattle.x7_tool.specs.Outcome.{PlannedFull, text_limit}
 use Rattle.x7_tool.specs.FullText.{full_answer}
 use Rattle.x7_tool.proofs.PlanLemmas.{full_ended, part_refused, plan_addressed, plan_refused, planned_end}
@@ -41,7 +41,7 @@ returns g c =
     let i = g.I.Inputs in
     let t = c.in_ok-plan.ensures.caused in
     record {
-      caused = planned_end c.args.part.now c.args.frames.now (i.state c.args.inputs.now) (i.state c.read_part.new.inputs) (i.state c.read_plan.new.inputs) (PlannedFull c.args.frames.now) (λ x. refl) c.in_ok-part.part t.0 (seen full_answer c.new.result)
+      caused = planned_end c.args.part.now c.args.frames.now (i.state c.args.inputs.now) (i.state c.read_part.new.inputs) (i.state c.read_plan.new.inputs) (PlannedFull c.args.frames.now) (λ x. refl) c.in_ok-part.part t.0 (result_by full_answer c.new.result)
           c.read_part.ensures.inputs c.in_ok-part.ensures.caused t.1 (full_ended c.args.frames.now c.in_ok-part.part t.0 c.in_ok-plan.plan c.new.result t.2 c.new.ensures.part c.new.ensures.plan c.new.ensures.refused);
       stops = want_only full_answer (PlanningFull c.args.part.now c.args.frames.now) (g.I.Inputs.state c.args.inputs.now) (g.I.Inputs.state c.read_plan.new.inputs) c.new.result c.new.ensures.refused;
       asks = both_asked (g.I.Inputs.state c.args.inputs.now) (g.I.Inputs.state c.read_part.new.inputs) (g.I.Inputs.state c.read_plan.new.inputs) c.read_part.ensures.asks c.read_plan.ensures.asks;

@@ -1,6 +1,6 @@
 use Rattle.std.proofs.Common.{refl, inl, ◌∷◌, [], arith}
 use Rattle.x7_forms.specs.Event.{event_of}
-use Rattle.x7_forms.specs.Step.{seen}
+use Rattle.x7_forms.specs.Step.{result_by}
 use Rattle.x7_tool.specs.Outcome.{PlannedPartial, text_limit}
 use Rattle.x7_tool.specs.Ready.{bytes_answer}
 use Rattle.x7_tool.proofs.PlanLemmas.{partial_ended, part_refused, plan_refused, planned_end}
@@ -41,7 +41,7 @@ returns g c =
     let i = g.I.Inputs in
     let t = c.in_ok-plan.ensures.caused in
     record {
-      caused = planned_end c.args.part.now c.args.frames.now (i.state c.args.inputs.now) (i.state c.read_part.new.inputs) (i.state c.read_plan.new.inputs) (PlannedPartial c.args.frames.now) (λ x. refl) c.in_ok-part.part t.0 (seen bytes_answer c.partial_text.result)
+      caused = planned_end c.args.part.now c.args.frames.now (i.state c.args.inputs.now) (i.state c.read_part.new.inputs) (i.state c.read_plan.new.inputs) (PlannedPartial c.args.frames.now) (λ x. refl) c.in_ok-part.part t.0 (result_by bytes_answer c.partial_text.result)
           c.read_part.ensures.inputs c.in_ok-part.ensures.caused t.1 (partial_ended c.args.frames.now c.in_ok-part.part t.0 c.in_ok-plan.plan c.partial_text.result t.2 c.partial_text.ensures.text c.partial_text.ensures.refused);
       stops = result_stops bytes_answer (PlanningPartial c.args.part.now c.args.frames.now) (g.I.Inputs.state c.args.inputs.now) (g.I.Inputs.state c.read_plan.new.inputs) c.partial_text.result
           (err_weaker c.partial_text.result (λ r a. second_stops (PlanningPartial c.args.part.now c.args.frames.now) (limited part_limit c.args.part.now) (limited text_limit c.args.frames.now) [] (g.I.Inputs.state c.args.inputs.now)

@@ -3,7 +3,7 @@ use Rattle.x7_part.specs.Part.{PartData}
 use Rattle.x7_forms.specs.Event.{event_of}
 use Rattle.x7_forms.specs.Known.{Answer, and_so, streams_known, part_known, stream_limit, part_limit}
 use Rattle.x7_tool.specs.Play.{reported, play_answer}
-use Rattle.x7_forms.specs.Step.{seen}
+use Rattle.x7_forms.specs.Step.{result_by}
 use Rattle.x7_tool.proofs.PlayLemmas.{text_ends}
 use Rattle.x7_forms.proofs.ReadLemmas.{answers_end, answers_go, answers_stop, data_steady, first_of, part_steady}
 use Rattle.x7_forms.specs.Form.{Playing}
@@ -52,9 +52,9 @@ returns g c =
     let p = c.in_ok-player.ensures.played in
     record {
       caused = answers_go PartData Answer (part ∷ []) streams (part ∷ streams) (i.state c.args.inputs.now) (i.state c.read_part.new.inputs) (i.state c.play_streams.new.inputs)
-          (λ t. part_known t part) (λ t p. and_so (streams_known t stream_limit streams) (reported p)) c.in_ok-part.part (seen play_answer c.text_of.result)
+          (λ t. part_known t part) (λ t p. and_so (streams_known t stream_limit streams) (reported p)) c.in_ok-part.part (result_by play_answer c.text_of.result)
           (part_steady part) c.read_part.ensures.inputs (λ n h. inr h) c.in_ok-part.ensures.caused
-          (answers_end (List ℕ) Answer streams (i.state c.read_part.new.inputs) (i.state c.play_streams.new.inputs) (λ t. streams_known t stream_limit streams) (reported c.in_ok-part.part) p.0 (seen play_answer c.text_of.result) (data_steady streams stream_limit) p.2
+          (answers_end (List ℕ) Answer streams (i.state c.read_part.new.inputs) (i.state c.play_streams.new.inputs) (λ t. streams_known t stream_limit streams) (reported c.in_ok-part.part) p.0 (result_by play_answer c.text_of.result) (data_steady streams stream_limit) p.2
           (text_ends c.in_ok-part.part p.0 c.in_ok-player.player c.text_of.result p.1 c.text_of.ensures.text c.text_of.ensures.refused));
       stops = reads_only play_answer (Playing c.args.part.now (map string_bytes c.args.streams.now)) (g.I.Inputs.state c.args.inputs.now)
           (g.I.Inputs.state c.play_streams.new.inputs) c.text_of.result (err_weaker c.text_of.result (λ r h. elim h [ inl e ↦ inl e | inr e ↦ inr e.0 ]) c.text_of.ensures.refused);
