@@ -189,7 +189,7 @@ run_fits : (part : PartData) (k : ℕ) (run : List PlanRow) → length run ≤ k
 run_fits part k run l n f a w =
     let count : length (row_frames run ++ zero_frame part ∷ []) ≡ length run + 1 = length-append (row_frames run) (zero_frame part ∷ []) ∙ ap (λ x. x + 1) (length_map run) in
     let long : length (joined (row_frames run ++ zero_frame part ∷ [])) ≡ frame_words part * (length run + 1) = joined_length (frame_words part) (row_frames run ++ zero_frame part ∷ [])
-        (rows_wide (frame_words part) run (zero_frame part) w (length-replicate (frame_words part) 0)) ∙ ap (λ x. frame_words part * x) count in
+    (rows_wide (frame_words part) run (zero_frame part) w (length-replicate (frame_words part) 0)) ∙ ap (λ x. frame_words part * x) count in
     let most : frame_words part * (length run + 1) ≤ frame_words part * (k + 1) = mul-le-mul_left (frame_words part) (omega (arith, l)) in
     (omega (arith, long, most, n), all_rows (λ row. AreWords row.words) run a, addresses_words run f)
   where

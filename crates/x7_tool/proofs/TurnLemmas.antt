@@ -157,7 +157,7 @@ write_failed contents flash C stream taken piece same l rest Full old mid now e 
     let q : (left : List ℕ) → AreBytes left → PutsListed ((taken ++ piece) ++ left) old now
     = λ left fit.
     let prefix : PutsPrefix (appended old t.line) (listing_of (t.content ++ (piece ++ left))) now = subst (λ x. PutsPrefix (appended old t.line) (listing_of (t.content ++ (x ++ left))) now) e
-        (p left (all_append (λ b. b < 256) t.content (same ++ left) content_fits (all_append (λ b. b < 256) same left fits fit))) in
+    (p left (all_append (λ b. b < 256) t.content (same ++ left) content_fits (all_append (λ b. b < 256) same left fits fit))) in
     (t.line ++ listing_of (t.content ++ (piece ++ left)), (ap stream_listing (append_assoc taken piece left) ∙ t.listing (piece ++ left), line_prefix old now t.line (listing_of (t.content ++ (piece ++ left))) prefix)) in
     let here : PutsListed (taken ++ piece) old now = subst (λ x. PutsListed x old now) (append-nil (taken ++ piece)) (q [] tt) in
     unwritten contents flash C stream (taken ++ piece) rest false Full old now s (λ l. absurd cc) f here (λ left m fit. q left (all_back (λ b. b < 256) (taken ++ piece) left fit))

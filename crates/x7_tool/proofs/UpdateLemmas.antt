@@ -241,11 +241,18 @@ fault_last flash stream bytes inputs new NoMemory has size = not_fault (Some (Up
 -- an update that came to no end
 pub fault_ends : (flash stream bytes : List ℕ) (old new : Outside) (fault : UpdateFault) → new.out ≡ old.out → IsTrue (new.flash.names flash) → IsWithin old.flash.bytes → HasData (known_in old) stream bytes
     → HasData (with_inputs old.inputs.contents None) stream bytes → new.flash.extent ≤ flash_limit → HasCause bytes old.flash new.flash fault → (IsEarly fault → new.flash.bytes ≡ old.flash.bytes)
-        → CommandEndsAs (Some (UpdatingFlash flash stream)) old new (Err (update_event (names flash stream) fault))
+    → CommandEndsAs (Some (UpdatingFlash flash stream)) old new (Err (update_event (names flash stream) fault))
 fault_ends flash stream bytes old new (Failed true) out asked within has reads size h early =
-    record { cause = (refl, inr (h.0, size, could_end flash stream bytes old within has h.2)); fails_last = fault_last flash stream bytes old.inputs new.flash (Failed true) reads size; wrote = out_same old new out; near = near_all
-        (UpdatingFlash flash stream) (status_of_event writing_failed) old new refl; measured = fault_measured (Some (UpdatingFlash flash stream)) (names flash stream) new.flash
-        (Failed true); updates = tt }
+    record {
+      cause = (refl, inr (h.0, size, could_end flash stream bytes old within has h.2));
+      fails_last = fault_last flash stream bytes old.inputs new.flash (Failed true) reads size;
+      wrote = out_same old new out;
+      near = near_all
+          (UpdatingFlash flash stream) (status_of_event writing_failed) old new refl;
+      measured = fault_measured (Some (UpdatingFlash flash stream)) (names flash stream) new.flash
+          (Failed true);
+      updates = tt;
+    }
 fault_ends flash stream bytes old new (Failed false) out asked within has reads size h early =
     refused_ends flash stream old new (reading_failed flash) out (fault_measured (Some (UpdatingFlash flash stream)) (names flash stream) new.flash (Failed false)) (fault_last flash stream bytes old.inputs new.flash (Failed false) reads size)
     (inl (inr (record { mishap = Failing flash new.inputs.given; came = (refl, inr (record { among = inl refl; asked = asked; risen = h.0 })); reports = refl; due = flash_due (known_in old) (Failing flash new.inputs.given) flash stream refl }))) (inl h.0)

@@ -50,12 +50,7 @@ fn count_up(frame: &mut Vec<u32>, first: u32)
 }
 
 /// Adds what is planned for an address by its number. `frame` is room for its words.
-fn push_row(
-    draft: &mut Draft,
-    frame: &mut Vec<u32>,
-    far: u32,
-    number: u32,
-) -> Result<(), NoMemory>
+fn push_row(draft: &mut Draft, frame: &mut Vec<u32>, far: u32, number: u32) -> Result<(), NoMemory>
     requires width { length frame.old.items ≡ draft.old.width }
     ensures added { OnOk result (draft.new.rows ≡ draft.old.rows ++ row_by draft.old.width far number) }
     ensures width { draft.new.width ≡ draft.old.width }

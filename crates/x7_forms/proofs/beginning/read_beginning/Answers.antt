@@ -24,15 +24,15 @@ returns-in-Some-clause-begins g c =
     let joined = c.in_ok-put_text.ensures.appends ∙ ap (λ t. old ++ t) (take-append-le count c.next_turn.new.buffer _ within) in
     let long = length-take-le count c.next_turn.new.buffer within in
     let p = piece_of old mid piece c.deref.result.now bytes c.wanted.result joined c.deref-in-loop-bytes.ensures.value
-        (omega (arith, long, c.in_ok-turn.ensures.within.1, c.min-count.ensures, length-take-le c.min-count.result c.loop-bytes.piece (omega (arith, c.min-count.ensures, v.piece))))
-        c.wanted.ensures.not_zero c.deref.ensures.value c.wanted.ensures.fixed c.wanted.ensures.waits v.waiting in
+    (omega (arith, long, c.in_ok-turn.ensures.within.1, c.min-count.ensures, length-take-le c.min-count.result c.loop-bytes.piece (omega (arith, c.min-count.ensures, v.piece))))
+    c.wanted.ensures.not_zero c.deref.ensures.value c.wanted.ensures.fixed c.wanted.ensures.waits v.waiting in
     beginning_read old mid piece bytes c.in-Some.judged.line.items c.wanted.result c.in-Some.judged.start c.in_ok-turn.turn.last (i.state c.args.inputs.now) (i.state c.loop-bytes.inputs) (i.state c.next_turn.new.inputs)
     p joined c.deref-in-loop-bytes.ensures.value
-        (reads_by (i.state c.args.inputs.now) (i.state c.loop-bytes.inputs) old v.selected v.taken v.given v.asked v.inputs v.selects) c.in_ok-turn.ensures.takes c.next_turn.ensures.gives_few.asked
-        c.next_turn.ensures.inputs c.in_ok-turn.ensures.end (λ e. omega (arith, v.ends, c.in_ok-turn.ensures.no_end_read e)) v.few
-        (omega (arith, long, c.in_ok-turn.ensures.within.1, c.min-count.ensures, length-take-le c.min-count.result c.loop-bytes.piece (omega (arith, c.min-count.ensures, v.piece))))
-        (found_some c.in_ok-judged.field-0 c.in-Some.judged _ (λ (j : Judged). (j.start ≤ length bytes) × IsBeginning bytes c.in_ok-turn.turn.last j.line.items j.start) c.in-Some.is c.in_ok-judged.ensures.judged)
-        (found_some c.in_ok-judged.field-0 c.in-Some.judged _ (λ (j : Judged). DataBeginAt bytes j.start) c.in-Some.is c.in_ok-judged.ensures.data_begin)
+    (reads_by (i.state c.args.inputs.now) (i.state c.loop-bytes.inputs) old v.selected v.taken v.given v.asked v.inputs v.selects) c.in_ok-turn.ensures.takes c.next_turn.ensures.gives_few.asked
+    c.next_turn.ensures.inputs c.in_ok-turn.ensures.end (λ e. omega (arith, v.ends, c.in_ok-turn.ensures.no_end_read e)) v.few
+    (omega (arith, long, c.in_ok-turn.ensures.within.1, c.min-count.ensures, length-take-le c.min-count.result c.loop-bytes.piece (omega (arith, c.min-count.ensures, v.piece))))
+    (found_some c.in_ok-judged.field-0 c.in-Some.judged _ (λ (j : Judged). (j.start ≤ length bytes) × IsBeginning bytes c.in_ok-turn.turn.last j.line.items j.start) c.in-Some.is c.in_ok-judged.ensures.judged)
+    (found_some c.in_ok-judged.field-0 c.in-Some.judged _ (λ (j : Judged). DataBeginAt bytes j.start) c.in-Some.is c.in_ok-judged.ensures.data_begin)
 
 pub returns-in_err-judged-clause-refused : goal.returns-in_err-judged-clause-refused
 returns-in_err-judged-clause-refused g c = rw (handed_on c.from_residual-in_err-judged.result c.in_err-judged.field-0.0 c.from_residual-in_err-judged.ensures) (let i = g.I.Inputs in
@@ -46,8 +46,8 @@ returns-in_err-judged-clause-refused g c = rw (handed_on c.from_residual-in_err-
     let joined = c.in_ok-put_text.ensures.appends ∙ ap (λ t. old ++ t) (take-append-le count c.next_turn.new.buffer _ within) in
     let long = length-take-le count c.next_turn.new.buffer within in
     let p = piece_of old mid piece c.deref.result.now bytes c.wanted.result joined c.deref-in-loop-bytes.ensures.value
-        (omega (arith, long, c.in_ok-turn.ensures.within.1, c.min-count.ensures, length-take-le c.min-count.result c.loop-bytes.piece (omega (arith, c.min-count.ensures, v.piece))))
-        c.wanted.ensures.not_zero c.deref.ensures.value c.wanted.ensures.fixed c.wanted.ensures.waits v.waiting in
+    (omega (arith, long, c.in_ok-turn.ensures.within.1, c.min-count.ensures, length-take-le c.min-count.result c.loop-bytes.piece (omega (arith, c.min-count.ensures, v.piece))))
+    c.wanted.ensures.not_zero c.deref.ensures.value c.wanted.ensures.fixed c.wanted.ensures.waits v.waiting in
     elim c.in_err-judged.ensures.refused [
       | inl h ↦ inl h
       | inr h ↦ inr (inr (record {

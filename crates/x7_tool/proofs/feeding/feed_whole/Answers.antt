@@ -46,8 +46,16 @@ loop-read-preserved g c =
       once = once_on _ _ _ v.once c.in_ok-turn.ensures.takes.selects (c.in_ok-turn.ensures.no_end_read c.if-turn.false);
       left = omega (arith, v.left);
       piece = c.next_turn.ensures.length ∙ v.piece;
-      known = (taken ++ piece, (sel, c.take_turn-read.ensures c.args.taker taken fits v.known.1.1, omega (arith, size, v.known.1.2, c.in_ok-turn.ensures.within.0), at_on name taken piece (i.state c.loop-read.inputs)
-          (i.state c.next_turn.new.inputs) v.known.1.3 c.in_ok-turn.ensures.takes c.next_turn.ensures.gives_few.asked));
+      known = (
+        taken ++ piece,
+        (
+          sel,
+          c.take_turn-read.ensures c.args.taker taken fits v.known.1.1,
+          omega (arith, size, v.known.1.2, c.in_ok-turn.ensures.within.0),
+          at_on name taken piece (i.state c.loop-read.inputs)
+              (i.state c.next_turn.new.inputs) v.known.1.3 c.in_ok-turn.ensures.takes c.next_turn.ensures.gives_few.asked,
+        ),
+      );
     }
 
 pub returns-in_err-open-clause-refused : goal.returns-in_err-open-clause-refused

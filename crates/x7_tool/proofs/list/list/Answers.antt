@@ -59,8 +59,8 @@ returns-in_err-beginning g c = rw (handed_on c.from_residual-in_err-beginning.re
       ends = list_ends stream old new (Err event)
           (without_prefix old.inputs (i.state c.open.new.inputs) new.inputs old.flash.bytes stream (SinkFails old.out new.out) old.out.written event c.open.ensures.inputs c.in_ok-open.ensures.opened.found c.open.ensures.asks c.in_err-beginning.ensures.refused)
           (stays_near event stream old new (without_prefix_near old.inputs.contents stream new.inputs.rest old.out.written new.out.written
-              (i.state c.open.new.inputs) new.inputs stream event refl c.in_ok-open.ensures.opened.found c.open.ensures.asks c.read_beginning.ensures.short
-              (same_now old.out) c.in_err-beginning.ensures.refused));
+          (i.state c.open.new.inputs) new.inputs stream event refl c.in_ok-open.ensures.opened.found c.open.ensures.asks c.read_beginning.ensures.short
+          (same_now old.out) c.in_err-beginning.ensures.refused));
       stops = first_stops (Listing c.args.stream.now) (limited stream_limit c.args.stream.now) [] (g.I.Inputs.state c.args.inputs.now) (g.I.Inputs.state c.read_beginning.new.inputs)
           (event_of c.in_err-beginning.field-0.0) refl
           (last_asked_read c.args.stream.now stream_limit (g.I.Inputs.state c.open.new.inputs) (g.I.Inputs.state c.read_beginning.new.inputs) c.open.ensures.asks c.read_beginning.ensures.gives_few)
@@ -91,8 +91,8 @@ returns-in_err-put_beginning g c = rw (handed_on c.from_residual-in_err-put_begi
     let rest = (i.state c.read_beginning.new.inputs).rest in
     let sel : RestIsWhole contents stream (preceded taken rest) = subst (λ r. RestIsWhole contents stream r) f.reads.takes.taken c.in_ok-open.ensures.opened.found in
     let listing : (left : List ℕ) → FollowsUnlessLast last left
-        → stream_listing (taken ++ left) ≡ Ok (line ++ listing_of (content ++ left)) = λ left m. f.begins left m
-        ∙ ap (λ (l : List ℕ). Ok (l ++ listing_of (drop start taken ++ left))) (sym c.deref-line.ensures.value) ∙ ap (λ (s : List ℕ). Ok (line ++ listing_of (s ++ left))) (sym cut) in
+    → stream_listing (taken ++ left) ≡ Ok (line ++ listing_of (content ++ left)) = λ left m. f.begins left m
+    ∙ ap (λ (l : List ℕ). Ok (l ++ listing_of (drop start taken ++ left))) (sym c.deref-line.ensures.value) ∙ ap (λ (s : List ℕ). Ok (line ++ listing_of (s ++ left))) (sym cut) in
     let now = (o.state c.put_beginning.new.out).written in
     let Full : Type 0 = SinkFails (o.state c.args.out.now) (o.state c.put_beginning.new.out) in
     let r = event_of c.in_err-put_beginning.field-0.0 in
@@ -139,8 +139,8 @@ returns-then-beginning g c = λ before after.
     let rest = (i.state c.read_beginning.new.inputs).rest in
     let sel : RestIsWhole contents stream (preceded taken rest) = subst (λ r. RestIsWhole contents stream r) f.reads.takes.taken c.in_ok-open.ensures.opened.found in
     let listing : (left : List ℕ) → FollowsUnlessLast last left
-        → stream_listing (taken ++ left) ≡ Ok (line ++ listing_of (content ++ left)) = λ left m. f.begins left m
-        ∙ ap (λ (l : List ℕ). Ok (l ++ listing_of (drop start taken ++ left))) (sym c.deref-line.ensures.value) ∙ ap (λ (s : List ℕ). Ok (line ++ listing_of (s ++ left))) (sym cut) in
+    → stream_listing (taken ++ left) ≡ Ok (line ++ listing_of (content ++ left)) = λ left m. f.begins left m
+    ∙ ap (λ (l : List ℕ). Ok (l ++ listing_of (drop start taken ++ left))) (sym c.deref-line.ensures.value) ∙ ap (λ (s : List ℕ). Ok (line ++ listing_of (s ++ left))) (sym cut) in
     let now = (o.state c.put_short.new.out).written in
     let Full : Type 0 = SinkFails (o.state c.args.out.now) (o.state c.put_short.new.out) in
     let text = line ++ listing_of content in
@@ -242,7 +242,7 @@ returns-in_err-put_turn g c = rw (handed_on c.from_residual-in_err-put_turn.resu
     let known = stream_whole taken t.line t.content (t.listing []) in
     let near = turn_near contents stream taken piece t.line t.content c.loop-lister.lister rest old (o.state c.loop-lister.out).written now sel t.short_header few known t.lists c.put_turn.ensures.extends in
     let gives = turn_given contents stream taken t.line t.content given c.loop-lister.lister (i.state c.loop-lister.inputs).rest old (o.state c.loop-lister.out).written now v.known.1.0
-        (omega (arith, v.known.1.3.given, c.next_turn.ensures.gives_a_turn, v.piece)) known t.lists c.put_turn.ensures.extends in
+    (omega (arith, v.known.1.3.given, c.next_turn.ensures.gives_a_turn, v.piece)) known t.lists c.put_turn.ensures.extends in
     let asks = few_read (i.state c.args.inputs.now) (i.state c.loop-lister.inputs) (i.state c.next_turn.new.inputs) c.loop-lister.left c.loop-lister.invariant.once c.next_turn.ensures.gives_few in
     record {
       ends = list_ends stream (record before { inputs = i.state c.args.inputs.now; out = o.state c.args.out.now })
@@ -280,9 +280,11 @@ returns-then-turn g c = λ before after.
     let text = t.line ++ listing_of (t.content ++ piece) in
     let same = stream_whole (taken ++ piece) t.line (t.content ++ piece) (listing []) in
     let flash = before.flash.bytes in
-    let ok = on_ok_weaker c.put_end.result (λ h.
-        (text, listed_whole contents flash C stream (taken ++ piece) text (i.state c.next_turn.new.inputs).rest Full old now sel end same short
-        (line_then old now t.line (listing_of (t.content ++ piece)) (h (appended old t.line) (t.content ++ piece) lists)))) c.put_end.ensures.listed in
+    let ok = on_ok_weaker c.put_end.result (λ h. (
+      text,
+      listed_whole contents flash C stream (taken ++ piece) text (i.state c.next_turn.new.inputs).rest Full old now sel end same short
+          (line_then old now t.line (listing_of (t.content ++ piece)) (h (appended old t.line) (t.content ++ piece) lists)),
+    )) c.put_end.ensures.listed in
     let mid = (o.state c.put_turn.new.out).written in
     let known : ListsStream c.put_turn.new.lister old mid (taken ++ piece) = record { line = t.line; content = t.content ++ piece; lists = lists; listing = listing; short_header = omega (arith, t.short_header, length-append taken piece, length-append t.content piece) } in
     let err = both_err c.put_end.result (λ r. (first : Option (List ℕ)) (bytes : List ℕ) → PutsListing c.put_turn.new.lister first mid bytes → PutsPrefix first (listing_of bytes) now)
@@ -307,8 +309,8 @@ returns-then-turn g c = λ before after.
     let near = turn_near contents stream taken piece t.line t.content c.loop-lister.lister (i.state c.next_turn.new.inputs).rest old (o.state c.loop-lister.out).written now sel t.short_header few whole t.lists longer in
     let gives = turn_given contents stream taken t.line t.content given c.loop-lister.lister (i.state c.loop-lister.inputs).rest old (o.state c.loop-lister.out).written now v.known.1.0 (omega (arith, v.known.1.3.given, c.next_turn.ensures.gives_a_turn, v.piece)) whole t.lists longer in
     let close = err_weaker c.put_end.result (λ r w. stays_near (event_of r) stream (record before { inputs = i.state c.args.inputs.now; out = o.state c.args.out.now })
-        (record after { inputs = i.state c.next_turn.new.inputs; out = o.state c.put_end.new.out })
-        (unwritten_near contents stream (i.state c.next_turn.new.inputs).rest old now _ given (event_of r) gives near (why_weaker w))) c.put_end.ensures.refused in
+    (record after { inputs = i.state c.next_turn.new.inputs; out = o.state c.put_end.new.out })
+    (unwritten_near contents stream (i.state c.next_turn.new.inputs).rest old now _ given (event_of r) gives near (why_weaker w))) c.put_end.ensures.refused in
     let asks = few_read (i.state c.args.inputs.now) (i.state c.loop-lister.inputs) (i.state c.next_turn.new.inputs) c.loop-lister.left c.loop-lister.invariant.once c.next_turn.ensures.gives_few in
     record {
       ends = list_seen stream (record before { inputs = i.state c.args.inputs.now; out = o.state c.args.out.now }) (record after { inputs = i.state c.next_turn.new.inputs; out = o.state c.put_end.new.out }) c.put_end.result ok err close;
@@ -342,9 +344,16 @@ loop-lister-preserved g c =
       written = omega (arith, v.written, c.put_turn.ensures.counts.faults);
       left = omega (arith, v.left);
       piece = omega (arith, c.next_turn.ensures.length, v.piece);
-      known = (taken ++ piece, (sel, record { line = t.line; content = t.content ++ piece; lists = lists; listing = listing; short_header = omega (arith, t.short_header, length-append taken piece, length-append t.content piece) },
-          omega (arith, size, v.known.1.2, c.in_ok-turn.ensures.within.0), at_on stream taken piece (i.state c.loop-lister.inputs)
-          (i.state c.next_turn.new.inputs) v.known.1.3 c.in_ok-turn.ensures.takes c.next_turn.ensures.gives_few.asked));
+      known = (
+        taken ++ piece,
+        (
+          sel,
+          record { line = t.line; content = t.content ++ piece; lists = lists; listing = listing; short_header = omega (arith, t.short_header, length-append taken piece, length-append t.content piece) },
+          omega (arith, size, v.known.1.2, c.in_ok-turn.ensures.within.0),
+          at_on stream taken piece (i.state c.loop-lister.inputs)
+              (i.state c.next_turn.new.inputs) v.known.1.3 c.in_ok-turn.ensures.takes c.next_turn.ensures.gives_few.asked,
+        ),
+      );
     }
 
 pub loop-lister-init : goal.loop-lister-init
@@ -365,8 +374,8 @@ loop-lister-init g c =
     let cut : content ≡ drop start taken = take_all (length bytes - start) (drop start bytes) (omega (arith, length-drop start bytes)) ∙ ap (drop start) c.deref.ensures.value in
     let sel : RestIsWhole contents stream (preceded taken now.rest) = subst (λ r. RestIsWhole contents stream r) f.reads.takes.taken c.in_ok-open.ensures.opened.found in
     let listing : (left : List ℕ) → stream_listing (taken ++ left) ≡ Ok (line ++ listing_of (content ++ left)) = λ left.
-        f.begins left (λ l. let never : false ≡ true = sym c.if-beginning.false ∙ l in absurd cc)
-        ∙ ap (λ (l : List ℕ). Ok (l ++ listing_of (drop start taken ++ left))) (sym c.deref-line.ensures.value) ∙ ap (λ (s : List ℕ). Ok (line ++ listing_of (s ++ left))) (sym cut) in
+    f.begins left (λ l. let never : false ≡ true = sym c.if-beginning.false ∙ l in absurd cc)
+    ∙ ap (λ (l : List ℕ). Ok (l ++ listing_of (drop start taken ++ left))) (sym c.deref-line.ensures.value) ∙ ap (λ (s : List ℕ). Ok (line ++ listing_of (s ++ left))) (sym cut) in
     record {
       selected = c.in_ok-beginning.ensures.selected;
       inputs = stays_on _ _ _ c.open.ensures.inputs c.read_beginning.ensures.inputs;
@@ -374,7 +383,17 @@ loop-lister-init g c =
       once = once_on _ _ _ c.open.ensures.once c.read_beginning.ensures.gives_few.selects (f.no_end_read c.if-beginning.false);
       left = omega arith;
       piece = refl;
-      known = (taken, (sel, record { line = line; content = content; lists = c.in_ok-put_beginning.ensures.listed; listing = listing; short_header = omega (arith, f.short) },
-          omega (arith, f.short, c.len-left.ensures), record { asked = asked_on stream (i.state c.open.new.inputs) now c.open.ensures.asks f.reads.asked; given =
-          omega (arith, c.open.ensures.asks.given, f.reads.takes.given) }));
+      known = (
+        taken,
+        (
+          sel,
+          record { line = line; content = content; lists = c.in_ok-put_beginning.ensures.listed; listing = listing; short_header = omega (arith, f.short) },
+          omega (arith, f.short, c.len-left.ensures),
+          record {
+            asked = asked_on stream (i.state c.open.new.inputs) now c.open.ensures.asks f.reads.asked;
+            given =
+                omega (arith, c.open.ensures.asks.given, f.reads.takes.given);
+          },
+        ),
+      );
     }

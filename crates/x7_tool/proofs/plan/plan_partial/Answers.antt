@@ -31,7 +31,7 @@ returns-in_err-plan g c = rw (handed_on c.from_residual-in_err-plan.result c.in_
           c.read_part.ensures.inputs c.in_ok-part.ensures.caused (λ text h. inl h) c.in_err-plan.ensures.caused;
       stops = among_stops (PlanningPartial c.args.part.now c.args.frames.now) (g.I.Inputs.state c.args.inputs.now) (g.I.Inputs.state c.read_plan.new.inputs) (event_of c.in_err-plan.field-0.0)
           (stops_after (limited part_limit c.args.part.now) (limited text_limit c.args.frames.now ∷ []) (g.I.Inputs.state c.args.inputs.now) (g.I.Inputs.state c.read_part.new.inputs) (g.I.Inputs.state c.read_plan.new.inputs)
-              (event_of c.in_err-plan.field-0.0) c.read_part.ensures.asks c.in_err-plan.ensures.stops);
+          (event_of c.in_err-plan.field-0.0) c.read_part.ensures.asks c.in_err-plan.ensures.stops);
       asks = both_asked (g.I.Inputs.state c.args.inputs.now) (g.I.Inputs.state c.read_part.new.inputs) (g.I.Inputs.state c.read_plan.new.inputs) c.read_part.ensures.asks c.read_plan.ensures.asks;
       stays = stays_on _ _ _ c.read_part.ensures.inputs c.read_plan.ensures.inputs;
     })

@@ -43,7 +43,7 @@ pub returns-in-Play-clause-answered : goal.returns-in-Play-clause-answered
 returns-in-Play-clause-answered g c = λ e f.
     let flash = g.F.Flash.state c.args.flash.now in
     ready_answered _ (Playing c.in-Play.part.now (map string_bytes c.in-Play.streams.now)) (outside (g.I.Inputs.state c.args.inputs.now) flash (g.O.Sink.state c.args.out.now) e)
-        (outside (g.I.Inputs.state c.play.new.inputs) flash (g.O.Sink.state c.put_whole-in-Play.new.out) f) (result_by play_answer c.play.result) _
+    (outside (g.I.Inputs.state c.play.new.inputs) flash (g.O.Sink.state c.put_whole-in-Play.new.out) f) (result_by play_answer c.play.result) _
     (ap asked_by c.in-Play.is) refl refl c.play.ensures c.put_whole-in-Play.ensures
 
 pub returns-in-Play-clause-flash : goal.returns-in-Play-clause-flash
@@ -53,7 +53,7 @@ pub returns-in-Debug-clause-answered : goal.returns-in-Debug-clause-answered
 returns-in-Debug-clause-answered g c = λ e f.
     let flash = g.F.Flash.state c.args.flash.now in
     ready_answered _ (Debugging c.in-Debug.part.now c.in-Debug.stream.now c.in-Debug.script.now) (outside (g.I.Inputs.state c.args.inputs.now) flash (g.O.Sink.state c.args.out.now) e)
-        (outside (g.I.Inputs.state c.debug.new.inputs) flash (g.O.Sink.state c.put_whole-in-Debug.new.out) f) (result_by text_answer c.debug.result) _
+    (outside (g.I.Inputs.state c.debug.new.inputs) flash (g.O.Sink.state c.put_whole-in-Debug.new.out) f) (result_by text_answer c.debug.result) _
     (ap asked_by c.in-Debug.is) refl refl c.debug.ensures c.put_whole-in-Debug.ensures
 
 pub returns-in-Debug-clause-flash : goal.returns-in-Debug-clause-flash
@@ -72,7 +72,7 @@ pub returns-in-PlanFull-clause-answered : goal.returns-in-PlanFull-clause-answer
 returns-in-PlanFull-clause-answered g c = λ e f.
     let flash = g.F.Flash.state c.args.flash.now in
     ready_answered _ (PlanningFull c.in-PlanFull.part.now c.in-PlanFull.frames.now) (outside (g.I.Inputs.state c.args.inputs.now) flash (g.O.Sink.state c.args.out.now) e)
-        (outside (g.I.Inputs.state c.plan_full.new.inputs) flash (g.O.Sink.state c.put_whole-in-PlanFull.new.out) f) (result_by full_answer c.plan_full.result) _
+    (outside (g.I.Inputs.state c.plan_full.new.inputs) flash (g.O.Sink.state c.put_whole-in-PlanFull.new.out) f) (result_by full_answer c.plan_full.result) _
     (ap asked_by c.in-PlanFull.is) refl refl c.plan_full.ensures c.put_whole-in-PlanFull.ensures
 
 pub returns-in-PlanFull-clause-flash : goal.returns-in-PlanFull-clause-flash
@@ -82,7 +82,7 @@ pub returns-in-PlanPartial-clause-answered : goal.returns-in-PlanPartial-clause-
 returns-in-PlanPartial-clause-answered g c = λ e f.
     let flash = g.F.Flash.state c.args.flash.now in
     ready_answered _ (PlanningPartial c.in-PlanPartial.part.now c.in-PlanPartial.frames.now) (outside (g.I.Inputs.state c.args.inputs.now) flash (g.O.Sink.state c.args.out.now) e)
-        (outside (g.I.Inputs.state c.plan_partial.new.inputs) flash (g.O.Sink.state c.put_whole-in-PlanPartial.new.out) f) (result_by bytes_answer c.plan_partial.result) _
+    (outside (g.I.Inputs.state c.plan_partial.new.inputs) flash (g.O.Sink.state c.put_whole-in-PlanPartial.new.out) f) (result_by bytes_answer c.plan_partial.result) _
     (ap asked_by c.in-PlanPartial.is) refl refl c.plan_partial.ensures c.put_whole-in-PlanPartial.ensures
 
 pub returns-in-PlanPartial-clause-flash : goal.returns-in-PlanPartial-clause-flash
@@ -92,7 +92,7 @@ pub returns-in-PlanRead-clause-answered : goal.returns-in-PlanRead-clause-answer
 returns-in-PlanRead-clause-answered g c = λ e f.
     let flash = g.F.Flash.state c.args.flash.now in
     ready_answered _ (PlanningRead c.in-PlanRead.part.now c.in-PlanRead.far c.in-PlanRead.slot_count) (outside (g.I.Inputs.state c.args.inputs.now) flash (g.O.Sink.state c.args.out.now) e)
-        (outside (g.I.Inputs.state c.plan_read.new.inputs) flash (g.O.Sink.state c.put_whole-in-PlanRead.new.out) f) (result_by bytes_answer c.plan_read.result) _
+    (outside (g.I.Inputs.state c.plan_read.new.inputs) flash (g.O.Sink.state c.put_whole-in-PlanRead.new.out) f) (result_by bytes_answer c.plan_read.result) _
     (ap asked_by c.in-PlanRead.is) refl refl c.plan_read.ensures c.put_whole-in-PlanRead.ensures
 
 pub returns-in-PlanRead-clause-flash : goal.returns-in-PlanRead-clause-flash
@@ -120,7 +120,7 @@ pub returns-in-ImageFor-clause-answered : goal.returns-in-ImageFor-clause-answer
 returns-in-ImageFor-clause-answered g c = λ e f.
     let flash = g.F.Flash.state c.args.flash.now in
     ready_answered _ (ImagingFor c.in-ImageFor.part.now c.in-ImageFor.golden.now c.in-ImageFor.update.now) (outside (g.I.Inputs.state c.args.inputs.now) flash (g.O.Sink.state c.args.out.now) e)
-        (outside (g.I.Inputs.state c.image_for.new.inputs) flash (g.O.Sink.state c.put_whole-in-ImageFor.new.out) f) (result_by bytes_answer c.image_for.result) _
+    (outside (g.I.Inputs.state c.image_for.new.inputs) flash (g.O.Sink.state c.put_whole-in-ImageFor.new.out) f) (result_by bytes_answer c.image_for.result) _
     (ap asked_by c.in-ImageFor.is) refl refl c.image_for.ensures c.put_whole-in-ImageFor.ensures
 
 pub returns-in-ImageFor-clause-flash : goal.returns-in-ImageFor-clause-flash
