@@ -9,7 +9,7 @@ use Rattle.x7_engine.specs.Kept.{is_fallback}
 use Rattle.x7_engine.specs.Standing.{DeviceState}
 use Rattle.x7_engine.specs.declared.kept.Kept.{Kept}
 use Rattle.x7_boot.specs.Attempt.{IsDeviceOf, AttemptCourse, AttemptEnds, attempt_at}
-use Rattle.x7_boot.specs.Boot.{IsBoot, HasLedTo, LeadsTo, next_by, tried}
+use Rattle.x7_boot.specs.Boot.{IsBoot, HasLedTo, LeadsTo, most_iprogs, next_by, tried}
 use Rattle.x7_boot.specs.declared.attempt.Ending.{Ending}
 use Rattle.x7_boot.specs.declared.boots.BootEnd.{BootEnd}
 use Rattle.x7_boot.specs.declared.boots.Tried.{Tried}
@@ -108,9 +108,9 @@ boot_ends part old_part kept address known known_now d ending attempts now numbe
     (led_ends part kept address all d ending attempts number next end (l fits) (t fits) (table part) is)) led here
 
 -- a seventeenth attempt is a fallback, and the last
-pub attempts_next : (kind kind_now : Kind) (number : ℕ) → (is_fallback kind_now ≡ true → is_fallback kind ≡ false) → (is_fallback kind_now ≡ false → number + 1 < 16) → (is_fallback kind ≡ false → number < 16) → number + 1 ≤ 16
+pub attempts_next : (kind kind_now : Kind) (number : ℕ) → (is_fallback kind_now ≡ true → is_fallback kind ≡ false) → (is_fallback kind_now ≡ false → number + 1 < most_iprogs) → (is_fallback kind ≡ false → number < most_iprogs) → number + 1 ≤ most_iprogs
 attempts_next kind kind_now number fallback few room = by (is_fallback kind_now) refl
   where
-    by : (b : Bool) → is_fallback kind_now ≡ b → number + 1 ≤ 16
-    by true e = let l : number < 16 = room (fallback e) in omega (arith, l)
-    by false e = let l : number + 1 < 16 = few e in omega (arith, l)
+    by : (b : Bool) → is_fallback kind_now ≡ b → number + 1 ≤ most_iprogs
+    by true e = let l : number < most_iprogs = room (fallback e) in omega (arith, l)
+    by false e = let l : number + 1 < most_iprogs = few e in omega (arith, l)
