@@ -14,7 +14,7 @@ use Rattle.x7_forms.specs.declared.refusal.Refusal.{Refusal}
 use Rattle.x7_forms.specs.Form.{Listing}
 use Rattle.x7_tool.specs.Ahead.{StaysNear}
 use Rattle.x7_tool.specs.Run.{ListsSoFar}
-use Rattle.x7_tool.specs.Between.{PutsListing, ListsStream}
+use Rattle.x7_tool.specs.Between.{ListsInTurns, ListsStream}
 use Rattle.x7_forms.specs.Turn.{FollowsUnlessLast, longest_beginning, turn_size}
 use Rattle.x7_tool.proofs.AheadLemmas.{prefix_given, prefix_near, longer_prefix, longer_twice, same_now, stays_near, turn_given, turn_near, without_prefix_near, unopened_near, unread_near, unwritten_near, why_weaker}
 use Rattle.x7_tool.proofs.Causes.{Ended, PutsListed, both_err, ends_same, list_ends, list_seen, listed_whole, nothing_put, nothing_taken, out_of_memory, without_prefix, unopened}
@@ -270,7 +270,7 @@ returns-then-turn g c = λ before after.
     let n = c.in_ok-turn.turn.count in
     let piece = take n c.next_turn.new.buffer in
     let sel = taken_more contents stream taken piece (i.state c.loop-lister.inputs).rest (i.state c.next_turn.new.inputs).rest v.known.1.0 c.in_ok-turn.ensures.takes.taken in
-    let lists : PutsListing c.put_turn.new.lister (appended old t.line) (o.state c.put_turn.new.out).written (t.content ++ piece) = c.in_ok-put_turn.ensures.listed (appended old t.line) t.content t.lists in
+    let lists : ListsInTurns c.put_turn.new.lister (appended old t.line) (o.state c.put_turn.new.out).written (t.content ++ piece) = c.in_ok-put_turn.ensures.listed (appended old t.line) t.content t.lists in
     let listing = goes_on taken piece t.line t.content t.listing in
     let now = (o.state c.put_end.new.out).written in
     let Full : Type 0 = SinkFails (o.state c.args.out.now) (o.state c.put_end.new.out) in
@@ -287,7 +287,7 @@ returns-then-turn g c = λ before after.
     )) c.put_end.ensures.listed in
     let mid = (o.state c.put_turn.new.out).written in
     let known : ListsStream c.put_turn.new.lister old mid (taken ++ piece) = record { line = t.line; content = t.content ++ piece; lists = lists; listing = listing; short_header = omega (arith, t.short_header, length-append taken piece, length-append t.content piece) } in
-    let err = both_err c.put_end.result (λ r. (first : Option (List ℕ)) (bytes : List ℕ) → PutsListing c.put_turn.new.lister first mid bytes → PutsPrefix first (listing_of bytes) now)
+    let err = both_err c.put_end.result (λ r. (first : Option (List ℕ)) (bytes : List ℕ) → ListsInTurns c.put_turn.new.lister first mid bytes → PutsPrefix first (listing_of bytes) now)
     (λ r. ((event_of r ≡ no_memory) × (now ≡ mid)) ⊎ ((event_of r ≡ writing_failed) × SinkFails (o.state c.put_turn.new.out) (o.state c.put_end.new.out)))
     (λ r. Ended (with_inputs contents flash) C stream Full old now (Err (event_of r)))
     (λ r p w.
@@ -333,7 +333,7 @@ loop-lister-preserved g c =
     let n = c.in_ok-turn.turn.count in
     let piece = take n c.next_turn.new.buffer in
     let sel = taken_more contents stream taken piece (i.state c.loop-lister.inputs).rest (i.state c.next_turn.new.inputs).rest v.known.1.0 c.in_ok-turn.ensures.takes.taken in
-    let lists : PutsListing c.put_turn.new.lister (appended old t.line) (o.state c.put_turn.new.out).written (t.content ++ piece) = c.in_ok-put_turn.ensures.listed (appended old t.line) t.content t.lists in
+    let lists : ListsInTurns c.put_turn.new.lister (appended old t.line) (o.state c.put_turn.new.out).written (t.content ++ piece) = c.in_ok-put_turn.ensures.listed (appended old t.line) t.content t.lists in
     let listing = goes_on taken piece t.line t.content t.listing in
     let size : length (taken ++ piece) ≡ length taken + n = length-append taken piece ∙ ap (λ k. length taken + k) (length-take-le n c.next_turn.new.buffer (omega (arith, c.in_ok-turn.ensures.within.1, c.next_turn.ensures.length, v.piece))) in
     let full : n ≡ turn_size = c.in_ok-turn.ensures.fills c.if-turn.false ∙ v.piece in
