@@ -282,9 +282,9 @@ piece_of (x ∷ old) mid piece all bytes n a b c e s f h g = record {
 -- the beginning that was read
 pub beginning_read : (old mid piece bytes line : List ℕ) (n start : ℕ) (last : Bool) (s0 s1 s2 : InputsState) → IsPiece old piece bytes n → mid ≡ old ++ piece → bytes ≡ mid → ReadsBytes s0 old s1
     → TakesInput s1 piece s2 → s2.asked ≡ s1.asked → InputsStay s1 s2 → (last ≡ true → AtEnd s2.rest) → (last ≡ false → s2.ends ≤ s0.ends)
-    → length old ≤ longest_header → length piece ≤ turn_size → (start ≤ length bytes) × IsBeginning bytes last line start → DataBeginAt bytes start → ReadsBeginning mid line start last s0 s2
+    → length old ≤ longest_header → length piece ≤ turn_size → (start ≤ length bytes) × IsBeginning bytes last line start → DataBeginAt bytes start → ReadsBeginning (record { bytes = mid; line = line; start = start; last = last }) s0 s2
 beginning_read old mid piece bytes line n start last s0 s1 s2 p a b r t q k e more few short j begin =
-    subst (λ (m : List ℕ). ReadsBeginning m line start last s0 s2) b (record {
+    subst (λ (m : List ℕ). ReadsBeginning (record { bytes = m; line = line; start = start; last = last }) s0 s2) b (record {
       reads = reads_as s0 s2 bytes (old ++ piece) (b ∙ a) (reads_on s0 s1 s2 old piece r t q k);
       end = e;
       no_end_read = more;

@@ -5,6 +5,7 @@ use Rattle.x7_words.specs.Input.{InputsState, AtEnd, InputsFail, Misses, InputsS
 use Rattle.x7_header.specs.Header.{Contents, EndsInHeader, HasOtherLetterAt, FitHeader, fixed_bytes, fixed_size, header_bytes, longest_header}
 use Rattle.x7_forms.specs.Event.{Event, bad_input, missing, no_memory, reading_failed, too_large}
 use Rattle.x7_forms.specs.declared.bad_input.InputFault.TheVariants as input
+use Rattle.x7_forms.specs.declared.beginning.Beginning.{Beginning}
 use Rattle.x7_forms.specs.Known.{stream_limit}
 use Rattle.x7_listing.specs.Listing.{listing_of}
 use Rattle.x7_listing.specs.StreamListing.{stream_listing}
@@ -96,15 +97,27 @@ IsBeginning bytes last line start = (rest : List ℕ) → FollowsUnlessLast last
 abbrev pub HeaderGoesOn : List ℕ → Bool → Type 0
 HeaderGoesOn bytes last = (last ≡ false) × (length bytes ≤ longest_header) × EndsInHeader bytes
 
+-- the first bytes of a stream by which its header was judged, the header's line or nothing, where the data begin, and
+-- whether the stream ends after these bytes
+pub record BeginningData : Type 0 where
+  pub bytes : List ℕ
+  pub line : List ℕ
+  pub start : ℕ
+  pub last : Bool
+
+-- a beginning of the code, by the bytes that it holds
+abbrev pub beginning_data : Beginning → BeginningData
+beginning_data first = record { bytes = first.bytes.items; line = first.line.items; start = first.start; last = first.last }
+
 -- what was read of a stream when its header is judged
-pub record ReadsBeginning (bytes line : List ℕ) (start : ℕ) (last : Bool) (old new : InputsState) : Type 0 where
-  pub reads : ReadsBytes old bytes new
-  pub end : last ≡ true → AtEnd new.rest
-  pub no_end_read : last ≡ false → new.ends ≤ old.ends
-  pub within : start ≤ length bytes
-  pub short : length bytes ≤ longest_beginning
-  pub holds_few : HoldsFew bytes start
-  pub begins : IsBeginning bytes last line start
+pub record ReadsBeginning (first : BeginningData) (old new : InputsState) : Type 0 where
+  pub reads : ReadsBytes old first.bytes new
+  pub end : first.last ≡ true → AtEnd new.rest
+  pub no_end_read : first.last ≡ false → new.ends ≤ old.ends
+  pub within : first.start ≤ length first.bytes
+  pub short : length first.bytes ≤ longest_beginning
+  pub holds_few : HoldsFew first.bytes first.start
+  pub begins : IsBeginning first.bytes first.last first.line first.start
 
 -- the first bytes of a stream whose header is refused at this byte
 abbrev pub IsRefused : List ℕ → Bool → ℕ → Type 0
