@@ -1,5 +1,5 @@
--- What a call did to a flash, whichever type of flash that is (this project's choice). Each definition takes the model of
--- the type, in a clause `F.Flash`, and the flash before and after the call.
+-- What a call did to a flash, whichever type of flash that is (this project's choice). Each definition takes the model
+-- of the type, in a clause `F.Flash`, and the flash before and after the call.
 use Rattle.x7_words.specs.Flash.{FlashStays, OnlyReads, Unwritten}
 use Rattle.x7_words.specs.declared.flash.Flash.{Ghosts}
 
