@@ -1,5 +1,6 @@
 use Rattle.std.proofs.Common.{◌≡◌, ◌+◌, ◌-◌, ◌<◌, ◌≤◌, false}
-use Rattle.x7_words.specs.Flash.{OnlyReads, IfKnown}
+use Rattle.x7_words.specs.Flash.{IfKnown}
+use Rattle.x7_words.specs.FlashCalls.{CallOnlyReads}
 use Rattle.x7_words.specs.Word.{AreBytes}
 use Rattle.x7_regs.specs.declared.boot_status.Kind.TheVariants.{Bench}
 use Rattle.x7_engine.specs.Kept.{is_fallback}
@@ -21,7 +22,7 @@ invariant-attempts g l =
       limit : (f.state l.fn.flash).extent ≤ flash_limit;
       pages : ArePages (f.state l.fn.flash).bytes (f.state l.fn.flash).extent l.pages.pages.entries;
       no_fault : (f.state l.flash).faults ≡ (f.state l.fn.flash).faults;
-      flash : OnlyReads (f.state l.fn.flash) (f.state l.flash) (f.found_since l.fn.flash) (f.found_since l.flash);
+      flash : CallOnlyReads f l.fn.flash l.flash;
     }
 
 abbrev pub decreases-attempts : goal.decreases-attempts
