@@ -19,7 +19,7 @@ use Rattle.x7_engine.specs.Stop.{Stopped, stop_fault, stopped_at}
 use Rattle.x7_engine.specs.Value.{failure_of}
 use Rattle.x7_engine.proofs.BootLemmas.{may_wrap, none_due_at_first}
 use Rattle.x7_engine.proofs.StateLemmas.{stop_is_final_state, stop_is_final_stop}
-use Rattle.x7_boot.specs.Attempt.{IsUnderWay, CanTakePage, NoneBefore, StepsTo, Took, AttemptCourse, AttemptEnds, attempt_at, ending_at, ending_by, failed_by, past_in_flash}
+use Rattle.x7_boot.specs.Attempt.{IsUnderWay, CanTakePage, NoneBefore, StepsTo, TookPiece, AttemptCourse, AttemptEnds, attempt_at, ending_at, ending_by, failed_by, past_in_flash}
 use Rattle.x7_boot.specs.declared.attempt.Ending.{Ending}
 use Rattle.x7_boot.specs.declared.attempt.Ending.TheVariants.{Started, Iprog, Failed}
 use Rattle.x7_boot.specs.declared.attempt.AttemptStep.{AttemptStep}
@@ -119,7 +119,7 @@ joined_known None bytes page a b c l m e f = tt
 joined_known (Some all) bytes page a b c l m e f = ap (λ (x : List ℕ). x ++ page) e ∙ ap (λ (x : List ℕ). slice_range all a b ++ x) f ∙ ranges_join all a b c l m
 
 pub feeds_on : (part : PartData) (kept : Kept) (address : ℕ) (known : Option (List ℕ)) (d new : DeviceState) (page : List ℕ) (at end : ℕ) (step : AttemptStep) → at + length page ≡ end → (f : IsUnderWay (attempt_at part kept address) known d at)
-    → IfKnown known (λ all. page ≡ slice_range all at end) → Took (past_in_flash part kept f.bytes) new page step → step ≡ GoesOn → IsUnderWay (attempt_at part kept address) known new end
+    → IfKnown known (λ all. page ≡ slice_range all at end) → TookPiece (past_in_flash part kept f.bytes) new page step → step ≡ GoesOn → IsUnderWay (attempt_at part kept address) known new end
 feeds_on part kept address known d new page at end step sum f knows t goes =
     let whole : t.count ≡ length page = t.all goes in
     let all : take t.count page ≡ page = ap (λ (n : ℕ). take n page) whole ∙ take_all (length page) page (omega arith) in
@@ -156,7 +156,7 @@ none_of part kept from bytes rest e none k l =
 
 -- the attempt of a page that ends it
 pub tries_ended : (part : PartData) (kept : Kept) (address : ℕ) (all : List ℕ) (d new : DeviceState) (page : List ℕ) (at end : ℕ) (step : AttemptStep) (e : Ending) → at ≤ end → (f : IsUnderWay (attempt_at part kept address) (Some all) d at)
-    → page ≡ slice_range all at end → Took (past_in_flash part kept f.bytes) new page step → step ≡ Ends e → AttemptEnds (attempt_at part kept address) all new e
+    → page ≡ slice_range all at end → TookPiece (past_in_flash part kept f.bytes) new page step → step ≡ Ends e → AttemptEnds (attempt_at part kept address) all new e
 tries_ended part kept address all d new page at end step e order f knows t is =
     let bytes : List ℕ = f.bytes ++ take t.count page in
     let count : address + length f.bytes ≡ at = f.count in
@@ -218,7 +218,7 @@ taken_stopped part kept d from bytes rest e fits stands some = by (stop_in part 
 
 -- the attempt of a page in which the device stopped, where the flash has ended for it
 pub tries_stopped : (part : PartData) (kept : Kept) (address : ℕ) (all : List ℕ) (d new wrapped : DeviceState) (page : List ℕ) (at end : ℕ) (step : AttemptStep) → AreBytes all → at ≤ end → (f : IsUnderWay (attempt_at part kept address) (Some all) d at)
-    → page ≡ slice_range all at end → (t : Took (past_in_flash part kept f.bytes) new page step) → step ≡ Stops → DeviceStandsFor part kept true wrapped (f.bytes ++ take t.count page) → AttemptEnds (attempt_at part kept address) all wrapped (Failed Wrap)
+    → page ≡ slice_range all at end → (t : TookPiece (past_in_flash part kept f.bytes) new page step) → step ≡ Stops → DeviceStandsFor part kept true wrapped (f.bytes ++ take t.count page) → AttemptEnds (attempt_at part kept address) all wrapped (Failed Wrap)
 tries_stopped part kept address all d new wrapped page at end step fits order f knows t is w =
     let bytes : List ℕ = f.bytes ++ take t.count page in
     let count : address + length f.bytes ≡ at = f.count in
@@ -278,19 +278,19 @@ known_out part kept address (Some all) d wrapped at size e f past knows w is =
     λ fits. subst (λ (x : Ending). AttemptEnds (attempt_at part kept address) all wrapped x) (sym is) (tries_out part kept address all d wrapped at f (omega (arith, past, knows)) w)
 
 pub known_ended : (part : PartData) (kept : Kept) (address : ℕ) (known : Option (List ℕ)) (d new : DeviceState) (page : List ℕ) (at : ℕ) (step : AttemptStep) (e : Ending) → (f : IsUnderWay (attempt_at part kept address) known d at)
-    → IfKnown known (λ all. page ≡ slice_range all at (at + length page)) → Took (past_in_flash part kept f.bytes) new page step → step ≡ Ends e → IfKnown known (λ all. AreBytes all → AttemptEnds (attempt_at part kept address) all new e)
+    → IfKnown known (λ all. page ≡ slice_range all at (at + length page)) → TookPiece (past_in_flash part kept f.bytes) new page step → step ≡ Ends e → IfKnown known (λ all. AreBytes all → AttemptEnds (attempt_at part kept address) all new e)
 known_ended part kept address None d new page at step e f knows t is = tt
 known_ended part kept address (Some all) d new page at step e f knows t is = λ fits. tries_ended part kept address all d new page at (at + length page) step e (omega arith) f knows t is
 
 pub known_stopped : (part : PartData) (kept : Kept) (address : ℕ) (known : Option (List ℕ)) (d new wrapped : DeviceState) (page : List ℕ) (at : ℕ) (step : AttemptStep) (e : Ending) → (f : IsUnderWay (attempt_at part kept address) known d at)
-    → IfKnown known (λ all. page ≡ slice_range all at (at + length page)) → (t : Took (past_in_flash part kept f.bytes) new page step) → step ≡ Stops → DeviceStandsFor part kept true wrapped (f.bytes ++ take t.count page) → e ≡ Failed Wrap
+    → IfKnown known (λ all. page ≡ slice_range all at (at + length page)) → (t : TookPiece (past_in_flash part kept f.bytes) new page step) → step ≡ Stops → DeviceStandsFor part kept true wrapped (f.bytes ++ take t.count page) → e ≡ Failed Wrap
     → IfKnown known (λ all. AreBytes all → AttemptEnds (attempt_at part kept address) all wrapped e)
 known_stopped part kept address None d new wrapped page at step e f knows t is w failed = tt
 known_stopped part kept address (Some all) d new wrapped page at step e f knows t is w failed =
     λ fits. subst (λ (x : Ending). AttemptEnds (attempt_at part kept address) all wrapped x) (sym failed) (tries_stopped part kept address all d new wrapped page at (at + length page) step fits (omega arith) f knows t is w)
 
 -- a device that stopped, where the flash may end
-pub stops_here : (part : PartData) (kept : Kept) (d : DeviceState) (bytes page : List ℕ) (step : AttemptStep) → (kept.kind ≡ Bench → ⊥) → Took (past_in_flash part kept bytes) d page step → step ≡ Stops → MayWrap d
+pub stops_here : (part : PartData) (kept : Kept) (d : DeviceState) (bytes page : List ℕ) (step : AttemptStep) → (kept.kind ≡ Bench → ⊥) → TookPiece (past_in_flash part kept bytes) d page step → step ≡ Stops → MayWrap d
 stops_here part kept d bytes page step boots t is =
     let steps : StepsTo part kept (bytes ++ take t.count page) Stops = subst (λ (s : AttemptStep). StepsTo part kept (bytes ++ take t.count page) s) is t.steps in
     ends_here part kept d (bytes ++ take t.count page) boots t.stands steps.1 t.due

@@ -9,4 +9,5 @@ pub mod OverLemmas
 pub mod PageLemmas
 pub mod StartLemmas
 pub mod TookLemmas
+pub mod FaultLemmas
 pub mod FlashAttemptLemmas

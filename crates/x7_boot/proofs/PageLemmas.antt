@@ -10,7 +10,7 @@ use Rattle.x7_words.specs.Flash.{IfKnown}
 use Rattle.x7_boot.specs.Image.{flash_limit}
 use Rattle.x7_boot.specs.Pages.{AreBytesFrom, ArePages, HasPage, IsBlock, IsLoaded, IsRestOfPage, Pages, BlockReaches, block_end, page_end, page_size}
 use Rattle.x7_boot.specs.declared.cache.Loaded.{Loaded}
-use Rattle.x7_boot.specs.declared.cache.Loaded.TheVariants.{Kept, Read}
+use Rattle.x7_boot.specs.declared.cache.Loaded.TheVariants.{Cached, Read}
 
 -- ---- pages that are kept
 
@@ -211,7 +211,7 @@ loaded_from known known_now extent size number block loaded e f read =
 
 -- a block that was read reaches the place for which it was
 pub reaches : (known : Option (List ℕ)) (extent at : ℕ) (block : List ℕ) (loaded : Loaded) → at < extent → IsLoaded known extent (at / page_size) block loaded → BlockReaches at block loaded
-reaches known extent at block Kept within read = tt
+reaches known extent at block Cached within read = tt
 reaches known extent at block (Read count) within read = place_in_block known extent at count block within read.0 read.1
 
 -- bytes of a flash that is no larger than one may be

@@ -20,7 +20,7 @@ use Rattle.x7_engine.specs.Startup.{phase_by, startup_progress}
 use Rattle.x7_engine.specs.Stop.{Stopped, stop_fault}
 use Rattle.x7_engine.specs.UntilStarted.{NoneStarted, has_started, says_started, taken_until}
 use Rattle.x7_engine.proofs.UntilLemmas.{going_before}
-use Rattle.x7_boot.specs.Attempt.{ending_at, ending_by, failed_by, CanTakePage, step_by, StepsTo, Took, past_in_flash}
+use Rattle.x7_boot.specs.Attempt.{ending_at, ending_by, failed_by, CanTakePage, step_by, StepsTo, TookPiece, past_in_flash}
 use Rattle.x7_boot.specs.declared.attempt.Ending.{Ending}
 use Rattle.x7_boot.specs.declared.attempt.Ending.TheVariants.{Started}
 use Rattle.x7_boot.specs.declared.attempt.AttemptStep.{AttemptStep}
@@ -114,7 +114,7 @@ all_until part kept d bytes read (until.Fed answer) cause length dropping a e = 
 pub page_took : (part : PartData) (kept : Kept) (d : DeviceState) (bytes page : List ℕ) (read : ReadBufState) (answer : UntilStarted) (cause : Option Cause)
     → (let n : ℕ = taken_until (length page) answer in let all : List ℕ = bytes ++ take n page in
     n ≤ length page → DeviceStandsFor part kept false d all → NoneStarted part kept bytes page n → read.most ≡ None → AnswersUntilAt (past_in_flash part kept all) d read answer
-    → (NoWordDue d → says_started answer ≡ has_started part kept all) → cause ≡ failure_of (stop_fault (why_of (stop_in part kept all))) false → Took (past_in_flash part kept bytes) d page (step_until answer cause))
+    → (NoWordDue d → says_started answer ≡ has_started part kept all) → cause ≡ failure_of (stop_fault (why_of (stop_in part kept all))) false → TookPiece (past_in_flash part kept bytes) d page (step_until answer cause))
 page_took part kept d bytes page read answer cause within s first dropping a started f =
     let n : ℕ = taken_until (length page) answer in
     let due : NoWordDue d = due_until part kept d (bytes ++ take n page) read answer dropping a in

@@ -99,7 +99,7 @@ past_in_flash part kept bytes = record { part = part; kept = kept; wrapped = fal
 
 -- a device with this past took the first bytes of a piece, up to what ended its attempt or stopped it: all of the piece
 -- where the attempt goes on
-pub record Took (p : Past) (d : DeviceState) (piece : List ℕ) (step : AttemptStep) : Type 0 where
+pub record TookPiece (p : Past) (d : DeviceState) (piece : List ℕ) (step : AttemptStep) : Type 0 where
   pub count : ℕ
   pub within : count ≤ length piece
   pub all : step ≡ GoesOn → count ≡ length piece
@@ -112,7 +112,7 @@ pub record Took (p : Past) (d : DeviceState) (piece : List ℕ) (step : AttemptS
 abbrev pub TakesPage : DeviceState → List ℕ → AttemptStep → DeviceState → Type 0
 TakesPage old page step new =
     (part : PartData) (kept : Kept) (bytes : List ℕ) → DeviceStandsFor part kept false old bytes → stop_in part kept bytes ≡ None → ending_at part kept bytes ≡ None
-    → Took (past_in_flash part kept bytes) new page step
+    → TookPiece (past_in_flash part kept bytes) new page step
 
 -- a device can take `more` bytes of a page: it is in an attempt that nothing has ended, and all its bytes with these
 -- are at most `taken_bytes_limit`

@@ -24,10 +24,22 @@ use Rattle.x7_boot.specs.declared.boots.Tried.{Tried}
 use Rattle.x7_boot.specs.declared.next.Next.{Next}
 use Rattle.x7_boot.specs.declared.next.Next.TheVariants.{Again, Ends}
 
+-- how many bytes one step of a start address stands for where the flash's addresses have 32 bits
+abbrev pub large_unit : ℕ
+large_unit = 256
+
+-- how many bits of WBSTAR, from bit 0 up, are a start address that counts steps of `large_unit` bytes
+abbrev pub large_start_bits : ℕ
+large_start_bits = 24
+
+-- how many bits of WBSTAR, from bit 0 up, are a start address that counts bytes
+abbrev pub start_bits : ℕ
+start_bits = 29
+
 -- the place in the flash, in bytes, that WBSTAR names, for a part of which one step of the start address stands for
--- `unit` bytes: the word's bits 28:0, or, where that is 256, 256 times its bits 23:0
+-- `unit` bytes: the word's bits 28:0, or, for a large unit, that many times its bits 23:0
 abbrev pub start_address : ℕ → ℕ → ℕ
-start_address unit wbstar = if unit == 256 then 256 * field_of 0 24 wbstar else field_of 0 29 wbstar
+start_address unit wbstar = if unit == large_unit then large_unit * field_of 0 large_start_bits wbstar else field_of 0 start_bits wbstar
 
 -- the state of a device at the end of an attempt
 abbrev pub end_state : PartData → AttemptCourse → Regs
@@ -85,7 +97,7 @@ pub record IsBoot (part : PartData) (flash : List ℕ) (b : BootedState) : Type 
 
 -- a flash has led a device through `number` attempts, which are reported as
 -- `attempts`, to the one that begins as `a` says
-pub record Led (a : AttemptStart) (flash : List ℕ) (attempts : List Tried) (number : ℕ) : Type 0 where
+pub record HasLedTo (a : AttemptStart) (flash : List ℕ) (attempts : List Tried) (number : ℕ) : Type 0 where
   pub older : List AttemptCourse
   pub leads : LeadsTo a.part flash older (Again a.kept a.address)
   pub tried_are : attempts ≡ reverse (map tried older)

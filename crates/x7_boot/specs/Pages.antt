@@ -1,11 +1,22 @@
 -- Pages of a flash, and blocks of pages that are read at once (this project's choice). Of each flash `known` are its
 -- bytes, where these are known, and `extent` is how many it has.
-use Rattle.std.specs.Prelude.{◌≡◌, ℕ, ◌+◌, ◌-◌, ◌*◌, ◌/◌, ◌%◌, ◌<◌, ◌≤◌, min, List, length, slice_range, Option, IsSome, Contains, Vec, nat_eq}
+use Rattle.std.specs.Prelude.{◌≡◌, ℕ, ◌+◌, ◌-◌, ◌*◌, ◌/◌, ◌%◌, ◌<◌, ◌≤◌, min, List, length, slice_range, Option, IsSome, Contains, Vec, nat_eq, Result, Ok, Err}
 use Rattle.std.specs.declared.alloc.Global.{Global}
 use Rattle.std.specs.Map.{lookup}
+use Rattle.x7_words.specs.Count.{HasRisen}
 use Rattle.x7_words.specs.Flash.{IfKnown}
+use Rattle.x7_boot.specs.declared.fault.BootFault.{BootFault}
+use Rattle.x7_boot.specs.declared.fault.BootFault.TheVariants.{Failed, NoMemory, TooLarge}
 use Rattle.x7_boot.specs.declared.cache.Loaded.{Loaded}
-use Rattle.x7_boot.specs.declared.cache.Loaded.TheVariants.{Kept, Read}
+use Rattle.x7_boot.specs.declared.cache.Loaded.TheVariants.{Cached, Read}
+
+-- the count of a flash's faults before and after reads, by how these ended: it has risen where one failed, and else no
+-- fault was counted; reads find no flash too large
+abbrev pub FaultsCounted : {A : Type 0} → ℕ → ℕ → Result A BootFault → Type 0
+FaultsCounted old new (Ok read) = new ≡ old
+FaultsCounted old new (Err Failed) = HasRisen old new
+FaultsCounted old new (Err NoMemory) = new ≡ old
+FaultsCounted old new (Err TooLarge) = ⊥
 
 -- how many bytes a page has; a flash's last one may have fewer
 abbrev pub page_size : ℕ
@@ -37,12 +48,12 @@ pub record IsBlock (known : Option (List ℕ)) (extent number count : ℕ) (byte
 -- what loading the page of a number came to: the page was there, or it begins
 -- `count` pages that were read into the block
 abbrev pub IsLoaded : Option (List ℕ) → ℕ → ℕ → List ℕ → Loaded → Type 0
-IsLoaded known extent number block Kept = Unit {0}
+IsLoaded known extent number block Cached = Unit {0}
 IsLoaded known extent number block (Read count) = (0 < count) × IsBlock known extent number count block
 
 -- the block, where one was read, is long enough to have the place `place`, which lies in its first page
 abbrev pub BlockReaches : ℕ → List ℕ → Loaded → Type 0
-BlockReaches place block Kept = Unit {0}
+BlockReaches place block Cached = Unit {0}
 BlockReaches place block (Read count) = place % page_size < length block
 
 -- `bytes` are those of a flash from the place `place` on, one at least

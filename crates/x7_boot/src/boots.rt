@@ -1,7 +1,8 @@
 //! The boot of a device from a flash.
 ghost use Rattle.std.specs.Prelude.{◌≡◌, ◌<◌, ◌↔◌, true, Err, IfOk, IsErrOf, OnOk};
-ghost use Rattle.x7_words.specs.Flash.{FlashFails, OnlyReads, IfKnown};
+ghost use Rattle.x7_words.specs.Flash.{FlashFails, IfKnown};
 ghost use Rattle.x7_words.specs.Word.{AreBytes};
+ghost use Rattle.x7_words.specs.FlashCalls.{CallOnlyReads};
 ghost use Rattle.x7_engine.specs.Standing.{NoWordDue};
 ghost use Rattle.x7_boot.specs.Boot.{BootedState, IsBoot};
 ghost use Rattle.x7_boot.specs.Image.{flash_limit};
@@ -107,7 +108,7 @@ pub fn boot<F: Flash>(alloc: Global, part: &Part, flash: &mut F) -> Result<Boote
     ensures no_memory { IsErrOf result BootFault.NoMemory → (F.state flash.new).faults ≡ (F.state flash.old).faults }
     ensures too_large { (result ≡ Err BootFault.TooLarge) ↔ (flash_limit < (F.state flash.old).extent) }
     ensures unread { IsErrOf result BootFault.TooLarge → F.state flash.new ≡ F.state flash.old }
-    ensures only_reads { OnlyReads (F.state flash.old) (F.state flash.new) (F.found_since flash.old) (F.found_since flash.new) }
+    ensures only_reads { CallOnlyReads F.Flash flash.old flash.new }
 {
     if flash.size() > FLASH_LIMIT {
         return Err(BootFault::TooLarge);

@@ -1,9 +1,9 @@
 //! The pages of a flash that were used last, so that none of them is read again.
-ghost use Rattle.std.specs.Prelude.{◌≡◌, ◌+◌, ◌*◌, ◌/◌, ◌%◌, ◌<◌, ◌≤◌, ℕ, List, Option, None, [], length, true, nat_eq, IfOk, OnOk, IsErrOf, IsSome};
-ghost use Rattle.x7_words.specs.Flash.{FlashFails, OnlyReads};
+ghost use Rattle.std.specs.Prelude.{◌≡◌, ◌+◌, ◌*◌, ◌/◌, ◌%◌, ◌<◌, ◌≤◌, ℕ, List, Option, None, [], length, true, nat_eq, IfOk, OnOk, IsSome};
 ghost use Rattle.std.specs.Map.{lookup};
+ghost use Rattle.x7_words.specs.FlashCalls.{CallOnlyReads};
 ghost use Rattle.x7_boot.specs.Image.{flash_limit};
-ghost use Rattle.x7_boot.specs.Pages.{ArePages, HasPage, HoldsFrom, IsLoaded, IsRestOfPage, KeepsPages, BlockReaches, block_pages, page_size};
+ghost use Rattle.x7_boot.specs.Pages.{ArePages, FaultsCounted, HasPage, HoldsFrom, IsLoaded, IsRestOfPage, KeepsPages, BlockReaches, block_pages, page_size};
 
 use crate::fault::BootFault;
 use crate::pages::{BLOCK_PAGES, PAGE_SIZE, read_block};
@@ -20,7 +20,7 @@ const KEPT_PAGES: usize = 64;
 #[derive(Clone, Copy)]
 pub(crate) enum Loaded {
     /// In the page, which the cache had already.
-    Kept,
+    Cached,
     /// In the block, which was read now and has this many pages from the one asked for on.
     Read(u64),
 }
@@ -61,14 +61,11 @@ impl PageCache {
         ensures pages { ArePages (F.state flash.old).bytes (F.state flash.old).extent self.new.pages.entries }
         ensures there { OnOk result (IsSome (lookup (nat_eq number) self.new.pages.entries)) }
         ensures read { IfOk result (IsLoaded (F.state flash.old).bytes (F.state flash.old).extent number self.new.block.items) }
-        ensures failed { IsErrOf result BootFault.Failed → FlashFails (F.state flash.old) (F.state flash.new) }
-        ensures no_fault { OnOk result ((F.state flash.new).faults ≡ (F.state flash.old).faults) }
-        ensures no_memory { IsErrOf result BootFault.NoMemory → (F.state flash.new).faults ≡ (F.state flash.old).faults }
-        ensures not_large { IsErrOf result BootFault.TooLarge → ⊥ }
-        ensures only_reads { OnlyReads (F.state flash.old) (F.state flash.new) (F.found_since flash.old) (F.found_since flash.new) }
+        ensures faults { FaultsCounted (F.state flash.old).faults (F.state flash.new).faults result }
+        ensures only_reads { CallOnlyReads F.Flash flash.old flash.new }
     {
         if self.pages.promote(&number) {
-            return Ok(Loaded::Kept);
+            return Ok(Loaded::Cached);
         }
         let count = self.absent_page_count(number, flash.size());
         read_block(flash, number, count, &mut self.block)?;
@@ -149,7 +146,7 @@ impl PageCache {
         ensures { HoldsFrom self.now.pages.entries self.now.block.items place loaded result.now }
     {
         match loaded {
-            Loaded::Kept => self.rest_of_page(place),
+            Loaded::Cached => self.rest_of_page(place),
             Loaded::Read(_) => &self.block[(place % PAGE_SIZE) as usize..],
         }
     }

@@ -1,15 +1,16 @@
 //! An attempt over a flash: a device takes the flash's bytes, page by page.
-ghost use Rattle.std.specs.Prelude.{◌≡◌, ◌≤◌, ℕ, List, Option, true, false, IfOk, IsErrOf, OnOk};
+ghost use Rattle.std.specs.Prelude.{◌≡◌, ◌≤◌, ℕ, List, Option, true, false, IfOk};
 ghost use Rattle.x7_regs.specs.declared.boot_status.Kind.TheVariants.{Bench};
 ghost use Rattle.x7_regs.specs.declared.boot_status.Cause.TheVariants.{Wrap};
-ghost use Rattle.x7_words.specs.Flash.{FlashFails, OnlyReads, IfKnown};
+ghost use Rattle.x7_words.specs.Flash.{IfKnown};
 ghost use Rattle.x7_words.specs.Word.{AreBytes};
+ghost use Rattle.x7_words.specs.FlashCalls.{CallOnlyReads};
 ghost use Rattle.x7_part.specs.Part.{PartData};
 ghost use Rattle.x7_engine.specs.declared.kept.Kept.{Kept as KeptData};
 ghost use Rattle.x7_engine.specs.Standing.{DeviceStandsFor, MayWrap, NoWordDue, with_wrap};
 ghost use Rattle.x7_boot.specs.Attempt.{IsUnderWay, AttemptEnds, attempt_at};
 ghost use Rattle.x7_boot.specs.Image.{flash_limit};
-ghost use Rattle.x7_boot.specs.Pages.{ArePages};
+ghost use Rattle.x7_boot.specs.Pages.{ArePages, FaultsCounted};
 ghost use Rattle.x7_boot.specs.declared.attempt.Ending.TheVariants as ending;
 
 use crate::attempt::{AttemptStep, Ending, take_page};
@@ -55,11 +56,8 @@ pub(crate) fn try_once<F: Flash>(
     ensures tried { IfOk result (λ ending. IfKnown (F.state flash.old).bytes (λ all. AreBytes all → AttemptEnds (attempt_at device.old.part kept address) all device.new ending)) }
     ensures part { IfOk result (λ ending. device.new.part ≡ device.old.part) }
     ensures no_word_due { IfOk result (λ ending. NoWordDue device.new) }
-    ensures failed { IsErrOf result BootFault.Failed → FlashFails (F.state flash.old) (F.state flash.new) }
-    ensures no_fault { OnOk result ((F.state flash.new).faults ≡ (F.state flash.old).faults) }
-    ensures no_memory { IsErrOf result BootFault.NoMemory → (F.state flash.new).faults ≡ (F.state flash.old).faults }
-    ensures not_large { IsErrOf result BootFault.TooLarge → ⊥ }
-    ensures only_reads { OnlyReads (F.state flash.old) (F.state flash.new) (F.found_since flash.old) (F.found_since flash.new) }
+    ensures faults { FaultsCounted (F.state flash.old).faults (F.state flash.new).faults result }
+    ensures only_reads { CallOnlyReads F.Flash flash.old flash.new }
 {
     let size = flash.size();
     begin(device, kept, address);

@@ -1,8 +1,8 @@
 //! Reading a flash by pages.
-ghost use Rattle.std.specs.Prelude.{◌≡◌, ◌*◌, ◌<◌, ◌≤◌, ◌^◌, true, OnOk, IsErrOf};
-ghost use Rattle.x7_words.specs.Flash.{FlashFails, OnlyReads};
+ghost use Rattle.std.specs.Prelude.{◌≡◌, ◌*◌, ◌<◌, ◌≤◌, ◌^◌, true, OnOk};
+ghost use Rattle.x7_words.specs.FlashCalls.{CallOnlyReads};
 ghost use Rattle.x7_boot.specs.Image.{flash_limit};
-ghost use Rattle.x7_boot.specs.Pages.{IsBlock, block_pages, page_size};
+ghost use Rattle.x7_boot.specs.Pages.{IsBlock, FaultsCounted, block_pages, page_size};
 
 use crate::fault::BootFault;
 use x7_words::Flash;
@@ -25,11 +25,8 @@ pub(crate) fn read_block<F: Flash>(
     requires count { count ≤ block_pages }
     requires limit { (F.state flash.old).extent ≤ flash_limit }
     ensures read { OnOk result (IsBlock (F.state flash.old).bytes (F.state flash.old).extent number count block.new.items) }
-    ensures failed { IsErrOf result BootFault.Failed → FlashFails (F.state flash.old) (F.state flash.new) }
-    ensures no_fault { OnOk result ((F.state flash.new).faults ≡ (F.state flash.old).faults) }
-    ensures no_memory { IsErrOf result BootFault.NoMemory → (F.state flash.new).faults ≡ (F.state flash.old).faults }
-    ensures not_large { IsErrOf result BootFault.TooLarge → ⊥ }
-    ensures only_reads { OnlyReads (F.state flash.old) (F.state flash.new) (F.found_since flash.old) (F.found_since flash.new) }
+    ensures faults { FaultsCounted (F.state flash.old).faults (F.state flash.new).faults result }
+    ensures only_reads { CallOnlyReads F.Flash flash.old flash.new }
     ensures faults_fit { (F.state flash.old).faults < 2 ^ 64 → (F.state flash.new).faults < 2 ^ 64 }
 {
     let start = number * PAGE_SIZE;

@@ -184,10 +184,12 @@ groups_fit part all (r ∷ qs) n f a w = by_test (leads_group all r) (groups_fit
     by_test true ih = ((omega (arith, w.0), a.0, addresses_words (with_content r.words all) (of_content (λ row. row.far < 2 ^ 32) r.words all f)), ih)
     by_test false ih = ih
 
-run_fits : (part : PartData) (k : ℕ) (run : List PlanRow) → length run ≤ k → frame_words part * (k + 1) < 2 ^ 27 → AllByRecursion (λ row. row.far < 2 ^ 32) run → AllByRecursion (λ row. AreWords row.words) run → AllByRecursion (λ row. length row.words ≡ frame_words part) run → IsSection part (Rows run)
+run_fits : (part : PartData) (k : ℕ) (run : List PlanRow) → length run ≤ k → frame_words part * (k + 1) < 2 ^ 27 → AllByRecursion (λ row. row.far < 2 ^ 32) run
+    → AllByRecursion (λ row. AreWords row.words) run → AllByRecursion (λ row. length row.words ≡ frame_words part) run → IsSection part (Rows run)
 run_fits part k run l n f a w =
     let count : length (row_frames run ++ zero_frame part ∷ []) ≡ length run + 1 = length-append (row_frames run) (zero_frame part ∷ []) ∙ ap (λ x. x + 1) (length_map run) in
-    let long : length (joined (row_frames run ++ zero_frame part ∷ [])) ≡ frame_words part * (length run + 1) = joined_length (frame_words part) (row_frames run ++ zero_frame part ∷ []) (rows_wide (frame_words part) run (zero_frame part) w (length-replicate (frame_words part) 0)) ∙ ap (λ x. frame_words part * x) count in
+    let long : length (joined (row_frames run ++ zero_frame part ∷ [])) ≡ frame_words part * (length run + 1) = joined_length (frame_words part) (row_frames run ++ zero_frame part ∷ [])
+    (rows_wide (frame_words part) run (zero_frame part) w (length-replicate (frame_words part) 0)) ∙ ap (λ x. frame_words part * x) count in
     let most : frame_words part * (length run + 1) ≤ frame_words part * (k + 1) = mul-le-mul_left (frame_words part) (omega (arith, l)) in
     (omega (arith, long, most, n), all_rows (λ row. AreWords row.words) run a, addresses_words run f)
   where
@@ -195,7 +197,9 @@ run_fits part k run l n f a w =
     length_map [] = refl
     length_map (r ∷ rows) = omega (arith, length_map rows)
 
-runs_fit : (part : PartData) (k : ℕ) (runs : List (List PlanRow)) → length (run_rows runs) ≤ k → frame_words part * (k + 1) < 2 ^ 27 → AllByRecursion (AllByRecursion (λ row. row.far < 2 ^ 32)) runs → AllByRecursion (AllByRecursion (λ row. AreWords row.words)) runs → AllByRecursion (AllByRecursion (λ row. length row.words ≡ frame_words part)) runs → AreSections part (map Rows runs)
+runs_fit : (part : PartData) (k : ℕ) (runs : List (List PlanRow)) → length (run_rows runs) ≤ k → frame_words part * (k + 1) < 2 ^ 27
+    → AllByRecursion (AllByRecursion (λ row. row.far < 2 ^ 32)) runs → AllByRecursion (AllByRecursion (λ row. AreWords row.words)) runs
+    → AllByRecursion (AllByRecursion (λ row. length row.words ≡ frame_words part)) runs → AreSections part (map Rows runs)
 runs_fit part k [] l n f a w = tt
 runs_fit part k (run ∷ runs) l n f a w =
     let both : length (run ++ run_rows runs) ≡ length run + length (run_rows runs) = length-append run (run_rows runs) in

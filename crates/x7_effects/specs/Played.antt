@@ -31,7 +31,7 @@ abbrev pub device_after : PartData → Kept → List ℕ → DeviceAfter
 device_after part kept bytes = record { part = part; kept = kept; bytes = bytes }
 
 -- the device is at rest after its bytes, which are bytes, and the numbers of its part are in range
-pub record Rests (d : DeviceAfter) : Type 0 where
+pub record DeviceRests (d : DeviceAfter) : Type 0 where
   pub fits : AreBytes d.bytes
   pub at_rest : AtRest d.part d.kept d.bytes
   pub is_part : IsPart d.part
@@ -47,7 +47,7 @@ play_after part kept bytes plan = record { device = device_after part kept bytes
 
 -- the device is at rest, and the plan is one for its part
 pub record CanPlay (p : PlannedPlay) : Type 0 where
-  pub rests : Rests p.device
+  pub rests : DeviceRests p.device
   pub plan_is : IsPlanFor p.device.part p.plan
 
 -- the device's bytes, and the full stream of the plan after them

@@ -7,11 +7,11 @@ use Rattle.x7_forms.specs.Event.{Event, bad_input, bad_part, missing, reading_fa
 use Rattle.x7_forms.specs.Known.{Absent, Broken, Found, Held, Mishap, StreamRead, and_so, bytes_found, data_in, input_found, stream_known, taken_whole, with_inputs, if_within}
 use Rattle.x7_forms.specs.Step.{IsCaused, IsNoPart, IsUnplayed, IsUnread}
 use Rattle.x7_forms.specs.ReadingStops.{IsAbout, Limited, StopsAmong, limited, limited_together, size_in, size_of}
-use Rattle.x7_forms.specs.Turn.{GivesFew, Reads, IsLastAsked, UnreadBeginning, Unopened}
+use Rattle.x7_forms.specs.Turn.{GivesFew, ReadsBytes, IsLastAsked, UnreadBeginning, Unopened}
 use Rattle.x7_forms.proofs.ReadLemmas.{IsAt, asked_on, left_at}
 
 -- a turn after what was read
-pub gives_on : (old mid new : InputsState) (taken : List ℕ) (limit left : ℕ) → Reads old taken mid → length taken + left ≡ limit → mid.ends ≤ old.ends → GivesFew mid left new → GivesFew old limit new
+pub gives_on : (old mid new : InputsState) (taken : List ℕ) (limit left : ℕ) → ReadsBytes old taken mid → length taken + left ≡ limit → mid.ends ≤ old.ends → GivesFew mid left new → GivesFew old limit new
 gives_on old mid new taken limit left r n e g = record { asked = g.asked ∙ r.asked; selects = g.selects ∙ r.takes.selects; ends = omega (arith, e, g.ends); given = omega (arith, n, r.takes.given, g.given) }
 
 -- an input of which nothing was read
@@ -27,7 +27,7 @@ pub last_asked_turn : (name taken : List ℕ) (limit left : ℕ) (mid new : Inpu
 last_asked_turn name taken limit left mid new a n g = record { asked = subst (λ k. IfSome k (λ kept. kept ≡ name)) (sym g.asked) a.asked; given = omega (arith, n, a.given, g.given) }
 
 -- a first turn and what was read after it
-pub last_asked_rest : (name taken : List ℕ) (limit left : ℕ) (opened mid new : InputsState) → AsksForName name opened → Reads opened taken mid → length taken + left ≡ limit → GivesFew mid left new → IsLastAsked name limit new
+pub last_asked_rest : (name taken : List ℕ) (limit left : ℕ) (opened mid new : InputsState) → AsksForName name opened → ReadsBytes opened taken mid → length taken + left ≡ limit → GivesFew mid left new → IsLastAsked name limit new
 last_asked_rest name taken limit left opened mid new a r n g = record { asked = asked_on name opened new a (g.asked ∙ r.asked); given = omega (arith, n, a.given, r.takes.given, g.given) }
 
 -- an input that was asked for once, and its end read once at most

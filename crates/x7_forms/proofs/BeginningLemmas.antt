@@ -21,7 +21,7 @@ use Rattle.x7_listing.specs.StreamListing.{listing_by, stream_listing}
 use Rattle.x7_listing.proofs.BitLemmas.{header_limit}
 use Rattle.x7_forms.specs.Event.{Event, reading_failed, too_large}
 use Rattle.x7_forms.specs.Known.{stream_limit}
-use Rattle.x7_forms.specs.Turn.{DataBeginAt, ReadsBeginning, HoldsFew, IsBeginning, IsRefused, NoLetterGiven, Reads, RefusedAt, UnreadBeginning, Unread, turn_size}
+use Rattle.x7_forms.specs.Turn.{DataBeginAt, ReadsBeginning, HoldsFew, IsBeginning, IsRefused, NoLetterGiven, ReadsBytes, RefusedAt, UnreadBeginning, UnreadTurn, turn_size}
 use Rattle.x7_forms.proofs.HeadLemmas.{gives_self}
 use Rattle.x7_forms.proofs.ReadLemmas.{reads_as, reads_on}
 
@@ -221,7 +221,7 @@ letter_late (x ∷ old) rest all n place some e fixed waits waiting h =
 -- no letter at which a header would be refused was given, where the bytes before were read
 -- and fewer more were given than are wanted
 pub none_given : (old mid new : InputsState) (bytes all : List ℕ) (n count : ℕ) → 0 < n → count ≤ n → all ≡ bytes → (length all < 13 → length all + n ≡ 13) → (EndsInHeader all → HeaderWaits all n) → (0 < length bytes → EndsInHeader bytes)
-    → Reads old bytes mid → new.given < mid.given + count → NoLetterGiven old new
+    → ReadsBytes old bytes mid → new.given < mid.given + count → NoLetterGiven old new
 none_given old mid new bytes all n count some few e fixed waits waiting r g known place is h = by mid.rest refl
   where
     by : (rest : Option (List ℕ)) → mid.rest ≡ rest → new.given ≤ old.given + place
@@ -280,10 +280,11 @@ piece_of (x ∷ old) mid piece all bytes n a b c e s f h g = record {
 }
 
 -- the beginning that was read
-pub beginning_read : (old mid piece bytes line : List ℕ) (n start : ℕ) (last : Bool) (s0 s1 s2 : InputsState) → IsPiece old piece bytes n → mid ≡ old ++ piece → bytes ≡ mid → Reads s0 old s1 → TakesInput s1 piece s2 → s2.asked ≡ s1.asked → InputsStay s1 s2 → (last ≡ true → AtEnd s2.rest) → (last ≡ false → s2.ends ≤ s0.ends)
-    → length old ≤ longest_header → length piece ≤ turn_size → (start ≤ length bytes) × IsBeginning bytes last line start → DataBeginAt bytes start → ReadsBeginning mid line start last s0 s2
+pub beginning_read : (old mid piece bytes line : List ℕ) (n start : ℕ) (last : Bool) (s0 s1 s2 : InputsState) → IsPiece old piece bytes n → mid ≡ old ++ piece → bytes ≡ mid → ReadsBytes s0 old s1
+    → TakesInput s1 piece s2 → s2.asked ≡ s1.asked → InputsStay s1 s2 → (last ≡ true → AtEnd s2.rest) → (last ≡ false → s2.ends ≤ s0.ends)
+    → length old ≤ longest_header → length piece ≤ turn_size → (start ≤ length bytes) × IsBeginning bytes last line start → DataBeginAt bytes start → ReadsBeginning (record { bytes = mid; line = line; start = start; last = last }) s0 s2
 beginning_read old mid piece bytes line n start last s0 s1 s2 p a b r t q k e more few short j begin =
-    subst (λ (m : List ℕ). ReadsBeginning m line start last s0 s2) b (record {
+    subst (λ (m : List ℕ). ReadsBeginning (record { bytes = m; line = line; start = start; last = last }) s0 s2) b (record {
       reads = reads_as s0 s2 bytes (old ++ piece) (b ∙ a) (reads_on s0 s1 s2 old piece r t q k);
       end = e;
       no_end_read = more;
@@ -294,11 +295,12 @@ beginning_read old mid piece bytes line n start last s0 s1 s2 p a b r t q k e mo
     })
 
 -- a turn that was not read, before the header was judged
-pub unread_turn : (old mid new : InputsState) (name bytes : List ℕ) (left : ℕ) (event : Event) → Reads old bytes mid → length bytes + left ≡ stream_limit → new.asked ≡ mid.asked → (event ≡ too_large name → ⊥) → (event ≡ reading_failed name → NoLetterGiven old new) → Unread mid name new left event → UnreadBeginning old name new event
+pub unread_turn : (old mid new : InputsState) (name bytes : List ℕ) (left : ℕ) (event : Event) → ReadsBytes old bytes mid → length bytes + left ≡ stream_limit → new.asked ≡ mid.asked
+    → (event ≡ too_large name → ⊥) → (event ≡ reading_failed name → NoLetterGiven old new) → UnreadTurn mid name new left event → UnreadBeginning old name new event
 unread_turn old mid new name bytes left event r n q small late (inl h) =
     inr (inl (h.0, record { risen = risen_from old.faults mid.faults new.faults r.stays.faults h.1.risen; selected = h.1.selected; given = omega (arith, n, r.takes.given, h.1.given) }, q ∙ r.asked, late h.0))
 unread_turn old mid new name bytes left event r n q small late (inr h) = absurd (small h.0)
 
 -- what was read, by its parts
-pub reads_by : (old new : InputsState) (bytes : List ℕ) → new.selected ≡ true → old.rest ≡ preceded bytes new.rest → new.given ≤ old.given + length bytes → new.asked ≡ old.asked → InputsStay old new → new.selects ≡ old.selects → Reads old bytes new
+pub reads_by : (old new : InputsState) (bytes : List ℕ) → new.selected ≡ true → old.rest ≡ preceded bytes new.rest → new.given ≤ old.given + length bytes → new.asked ≡ old.asked → InputsStay old new → new.selects ≡ old.selects → ReadsBytes old bytes new
 reads_by old new bytes s t g q k c = record { takes = record { selected = s; taken = t; given = g; selects = c }; asked = q; stays = k }

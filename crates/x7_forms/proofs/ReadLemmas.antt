@@ -20,7 +20,7 @@ use Rattle.x7_part.specs.PartFile.{part_in}
 use Rattle.x7_forms.specs.declared.bad_input.InputFault.TheVariants as input
 use Rattle.x7_forms.specs.Event.{Event, bad_input, missing, no_memory, reading_failed, too_large}
 use Rattle.x7_forms.specs.Known.{Absent, Broken, Failing, Found, Held, Known, Lacking, Mishap, StreamRead, and_so, broken_at, data_by, data_in, streams_known, input_found, known_of, mishap_event, part_by, part_limit, part_known, put_before, stream_known, spoiled, spoiled_name, taken_whole, whole_known, with_inputs, with_mishap}
-use Rattle.x7_forms.specs.Turn.{Breaks, Reads, Unopened, Unread, UnreadRest}
+use Rattle.x7_forms.specs.Turn.{BreaksWithin, ReadsBytes, Unopened, UnreadTurn, UnreadRest}
 use Rattle.x7_forms.proofs.HeadLemmas.{data_more}
 use Rattle.x7_forms.specs.Step.{Among, AnswersAs, AnswersBy, CameIn, DueBy, FailsAmong, IsCaused, IsCausedBy, IsDecided, IsDue, IsFromOutside, IsOneUnplayed, IsPossible, IsUnplayed, IsUnread, LacksAmong, step_over}
 use Rattle.std.proofs.Math.Seq.{take-append-add}
@@ -310,7 +310,8 @@ pub after_text : {A : Type 0} (known : Option Known) (C : Mishap → Type 0) (li
 after_text known C limit name text next got whole next_due = follows known C C (λ t. whole_known t limit name) (λ t bytes. next bytes) text got (whole_steady limit name) whole next_due
 
 -- an event of a step, under a relation that keeps it
-due_kept : (A B : Type 0) (known : Option Known) (m : Mishap) (due : Known → Result A Event) (event : Event) (Next : Result A Event → Result B Event → Type 0) → ((x : Event) → Next (Err x) (Err x)) → DueBy {A = A} known m (λ t r. due t ≡ r) event → DueBy {A = B} known m (λ t end. Next (due t) end) event
+due_kept : (A B : Type 0) (known : Option Known) (m : Mishap) (due : Known → Result A Event) (event : Event) (Next : Result A Event → Result B Event → Type 0)
+    → ((x : Event) → Next (Err x) (Err x)) → DueBy {A = A} known m (λ t r. due t ≡ r) event → DueBy {A = B} known m (λ t end. Next (due t) end) event
 due_kept A B None m due event Next keeps h = tt
 due_kept A B (Some t) m due event Next keeps h = subst (λ (r : Result A Event). Next r (Err event)) (sym h) (keeps event)
 
@@ -352,33 +353,33 @@ pub rest_more : (old mid new : Option (List ℕ)) (taken piece : List ℕ) → o
 rest_more old mid new taken piece e f = e ∙ ap (preceded taken) f ∙ preceded_preceded taken piece new
 
 -- what was read of an input from a moment on, and a piece more
-pub reads_on : (old mid new : InputsState) (taken piece : List ℕ) → Reads old taken mid → TakesInput mid piece new → new.asked ≡ mid.asked → InputsStay mid new → Reads old (taken ++ piece) new
+pub reads_on : (old mid new : InputsState) (taken piece : List ℕ) → ReadsBytes old taken mid → TakesInput mid piece new → new.asked ≡ mid.asked → InputsStay mid new → ReadsBytes old (taken ++ piece) new
 reads_on old mid new taken piece r t a s = record { takes = takes_on old mid new taken piece r.takes t; asked = a ∙ r.asked; stays = stays_on old mid new r.stays s }
 
-pub reads_none : (s : InputsState) → s.selected ≡ true → Reads s [] s
+pub reads_none : (s : InputsState) → s.selected ≡ true → ReadsBytes s [] s
 reads_none s e = record { takes = takes_none s e; asked = refl; stays = stays_at s }
 
 -- bytes that were read, by equal bytes
-pub reads_as : (old new : InputsState) (bytes same : List ℕ) → bytes ≡ same → Reads old same new → Reads old bytes new
-reads_as old new bytes same e r = subst (λ (b : List ℕ). Reads old b new) (sym e) r
+pub reads_as : (old new : InputsState) (bytes same : List ℕ) → bytes ≡ same → ReadsBytes old same new → ReadsBytes old bytes new
+reads_as old new bytes same e r = subst (λ (b : List ℕ). ReadsBytes old b new) (sym e) r
 
 -- a turn that was not read, after others
-pub unread_on : (old mid new : InputsState) (name taken : List ℕ) (limit left : ℕ) (event : Event) → Reads old taken mid → length taken + left ≡ limit → Unread mid name new left event → Unread old name new limit event
+pub unread_on : (old mid new : InputsState) (name taken : List ℕ) (limit left : ℕ) (event : Event) → ReadsBytes old taken mid → length taken + left ≡ limit → UnreadTurn mid name new left event → UnreadTurn old name new limit event
 unread_on old mid new name taken limit left event r n (inl h) =
     inl (h.0, record { risen = risen_from old.faults mid.faults new.faults r.stays.faults h.1.risen; selected = h.1.selected; given = omega (arith, n, r.takes.given, h.1.given) })
 unread_on old mid new name taken limit left event r n (inr h) =
     let piece = h.1.0 in
     inr (h.0, (taken ++ piece, (rest_more old.rest mid.rest new.rest taken piece r.takes.taken h.1.1.0, omega (arith, n, h.1.1.1, length-append taken piece))))
 
-pub rest_unread : (old mid new : InputsState) (name taken : List ℕ) (limit left : ℕ) (event : Event) → Reads old taken mid → length taken + left ≡ limit → Unread mid name new left event → new.asked ≡ mid.asked → UnreadRest old name new limit event
+pub rest_unread : (old mid new : InputsState) (name taken : List ℕ) (limit left : ℕ) (event : Event) → ReadsBytes old taken mid → length taken + left ≡ limit → UnreadTurn mid name new left event → new.asked ≡ mid.asked → UnreadRest old name new limit event
 rest_unread old mid new name taken limit left event r n u a = (unread_on old mid new name taken limit left event r n u, a ∙ r.asked)
 
 -- the first turn of an input
-pub reads_first : (old new : InputsState) (piece : List ℕ) → TakesInput old piece new → new.asked ≡ old.asked → InputsStay old new → Reads old piece new
+pub reads_first : (old new : InputsState) (piece : List ℕ) → TakesInput old piece new → new.asked ≡ old.asked → InputsStay old new → ReadsBytes old piece new
 reads_first old new piece t a s = record { takes = t; asked = a; stays = s }
 
 -- want of memory, or what was left after the first turn was not read
-pub want_or_rest : (old mid new : InputsState) (name taken : List ℕ) (limit left : ℕ) (event : Event) → Reads old taken mid → length taken + left ≡ limit → (event ≡ no_memory) ⊎ UnreadRest mid name new left event → (event ≡ no_memory) ⊎ UnreadRest old name new limit event
+pub want_or_rest : (old mid new : InputsState) (name taken : List ℕ) (limit left : ℕ) (event : Event) → ReadsBytes old taken mid → length taken + left ≡ limit → (event ≡ no_memory) ⊎ UnreadRest mid name new left event → (event ≡ no_memory) ⊎ UnreadRest old name new limit event
 want_or_rest old mid new name taken limit left event r n (inl e) = inl e
 want_or_rest old mid new name taken limit left event r n (inr h) = inr (rest_unread old mid new name taken limit left event r n h.0 h.1)
 
@@ -507,12 +508,13 @@ pub at_on : (name taken piece : List ℕ) (mid new : InputsState) → IsAt name 
 at_on name taken piece mid new a t q = record { asked = subst (λ (k : Option (List ℕ)). IfSome k (λ kept. kept ≡ name)) (sym q) a.asked; given = omega (arith, a.given, t.given, length-append taken piece) }
 
 -- an input that failed within its limit
-pub at_fault : (old mid new : InputsState) (name taken : List ℕ) (left : ℕ) → InputsStay old mid → IsAt name taken mid → Breaks mid (left + 1) new → new.asked ≡ mid.asked → FailsAmong (name ∷ []) old new name × (new.given ≤ length taken + left)
+pub at_fault : (old mid new : InputsState) (name taken : List ℕ) (left : ℕ) → InputsStay old mid → IsAt name taken mid → BreaksWithin mid (left + 1) new → new.asked ≡ mid.asked → FailsAmong (name ∷ []) old new name × (new.given ≤ length taken + left)
 at_fault old mid new name taken left k a b q =
     (record { among = inl refl; deselected = record { asked = subst (λ (k : Option (List ℕ)). IfSome k (λ kept. kept ≡ name)) (sym q) a.asked; selected = b.selected }; risen = risen_from old.faults mid.faults new.faults k.faults b.risen }, omega (arith, a.given, b.given))
 
 -- a turn of an input that was not read
-pub turn_refused : (old mid new : InputsState) (flash : Option (List ℕ)) (name taken : List ℕ) (limit left : ℕ) (event : Event) → InputsStay old mid → RestIsWhole old.contents name (preceded taken mid.rest) → IsAt name taken mid → length taken + left ≡ limit → Unread mid name new left event → new.asked ≡ mid.asked
+pub turn_refused : (old mid new : InputsState) (flash : Option (List ℕ)) (name taken : List ℕ) (limit left : ℕ) (event : Event) → InputsStay old mid
+    → RestIsWhole old.contents name (preceded taken mid.rest) → IsAt name taken mid → length taken + left ≡ limit → UnreadTurn mid name new left event → new.asked ≡ mid.asked
     → IsCaused (with_inputs old.contents flash) (CameIn (step_over (name ∷ []) old new)) (λ t. whole_known t limit name) (Err event)
 turn_refused old mid new flash name taken limit left event k s a n (inl h) q =
     let f = at_fault old mid new name taken left k a h.1 q in
@@ -538,7 +540,9 @@ stream_unopened old new flash name limit event u a =
     (open_refused old new flash name limit event u a)
 
 -- a stream whose header is refused, after it was read to its end
-pub stream_refused : (contents : Option (List ℕ → Option (List ℕ))) (flash : Option (List ℕ)) (C : Mishap → Type 0) (name first more : List ℕ) (mid rest : Option (List ℕ)) (limit : ℕ) (last : Bool) (event : Event) → RestIsWhole contents name (preceded first mid) → mid ≡ preceded more rest → AtEnd rest
+pub stream_refused : (contents : Option (List ℕ → Option (List ℕ)))
+    (flash : Option (List ℕ)) (C : Mishap → Type 0) (name first more : List ℕ) (mid rest : Option (List ℕ)) (limit : ℕ) (last : Bool) (event : Event) → RestIsWhole contents name (preceded first mid)
+    → mid ≡ preceded more rest → AtEnd rest
     → (last ≡ true → AtEnd mid) → (last ≡ false → longest_header ≤ length first) → AreBytes first → length more ≤ limit - length first → length first ≤ limit → Err event ≡ data_in name first
     → IsCaused (with_inputs contents flash) C (λ t. stream_known t limit name) (Err event)
 stream_refused None flash C name first more mid rest limit last event s e end ends long fits n l head = inr (head_by StreamRead name first (header_at first) event (sym head)).0
@@ -609,7 +613,7 @@ pub unopened_unread : (old new : InputsState) (name : List ℕ) (event : Event) 
 unopened_unread old new name event (inl h, s) = inr (inl h.0)
 unopened_unread old new name event (inr h, s) = inr (inr (inl h.0))
 
-pub turn_unread : (old new : InputsState) (name : List ℕ) (left : ℕ) (event : Event) → Unread old name new left event → IsUnread name event
+pub turn_unread : (old new : InputsState) (name : List ℕ) (left : ℕ) (event : Event) → UnreadTurn old name new left event → IsUnread name event
 turn_unread old new name left event (inl h) = inr (inr (inl h.0))
 turn_unread old new name left event (inr h) = inr (inr (inr h.0))
 

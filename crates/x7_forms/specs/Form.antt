@@ -7,7 +7,7 @@ use Rattle.std.specs.Str.{bytes_eq}
 use Rattle.x7_forms.specs.declared.form.Form.{Form}
 use Rattle.x7_forms.specs.declared.form.Form.TheVariants as form
 
--- what the words ask for, with the names that they give; `far` is a frame address, `n` a number of slots
+-- what the words ask for, with the names that they give; `far` is a frame address
 pub data AskedForm : Type 0 where
   Listing : (stream : List ℕ) → AskedForm
   Assembling : (text : List ℕ) → AskedForm
@@ -16,7 +16,7 @@ pub data AskedForm : Type 0 where
   PlayingSvf : (part text : List ℕ) → AskedForm
   PlanningFull : (part frames : List ℕ) → AskedForm
   PlanningPartial : (part frames : List ℕ) → AskedForm
-  PlanningRead : (part : List ℕ) (far n : ℕ) → AskedForm
+  PlanningRead : (part : List ℕ) (far slot_count : ℕ) → AskedForm
   Generating : (part : List ℕ) (seed : ℕ) → AskedForm
   Imaging : (golden update : List ℕ) → AskedForm
   ImagingFor : (part golden update : List ℕ) → AskedForm
@@ -62,7 +62,7 @@ number_in digits = if bytes_eq (decimal (digits_value 10 digits)) digits && nat_
 
 -- `plan read PART FAR N`
 abbrev pub read_asked : List ℕ → Option ℕ → Option ℕ → Option AskedForm
-read_asked part (Some far) (Some n) = Some (PlanningRead part far n)
+read_asked part (Some far) (Some slot_count) = Some (PlanningRead part far slot_count)
 read_asked part _ _ = None
 
 -- `plan read`, by its three names: a part file, an address and a number of slots
@@ -70,8 +70,8 @@ abbrev pub plan_read_form : List (List ℕ) → Option AskedForm
 plan_read_form [] = None
 plan_read_form (part ∷ []) = None
 plan_read_form (part ∷ far ∷ []) = None
-plan_read_form (part ∷ far ∷ n ∷ []) = read_asked part (word_in far) (number_in n)
-plan_read_form (part ∷ far ∷ n ∷ more ∷ others) = None
+plan_read_form (part ∷ far ∷ slot_count ∷ []) = read_asked part (word_in far) (number_in slot_count)
+plan_read_form (part ∷ far ∷ slot_count ∷ more ∷ others) = None
 
 -- `plan ..`, by the second word
 abbrev pub plan_form : List (List ℕ) → Option AskedForm
@@ -131,7 +131,7 @@ asked_by (form.Debug part stream script) = Debugging part.now stream.now script.
 asked_by (form.Svf part text) = PlayingSvf part.now text.now
 asked_by (form.PlanFull part frames) = PlanningFull part.now frames.now
 asked_by (form.PlanPartial part frames) = PlanningPartial part.now frames.now
-asked_by (form.PlanRead part far n) = PlanningRead part.now far n
+asked_by (form.PlanRead part far slot_count) = PlanningRead part.now far slot_count
 asked_by (form.Gen part seed) = Generating part.now seed
 asked_by (form.Image golden update) = Imaging golden.now update.now
 asked_by (form.ImageFor part golden update) = ImagingFor part.now golden.now update.now

@@ -46,10 +46,10 @@ abbrev pub CameIn : InputStep → Mishap → Type 0
 CameIn step (Failing name given) = (given ≡ step.after.given) × FailsAmong step.names step.before step.after name
 CameIn step (Lacking name) = LacksAmong step.names step.before step.after name
 
--- the result of a call as definitions see it: what `value` makes of it, or the event of its refusal
-abbrev pub seen : {A B : Type 0} → (A → B) → Result A Refusal → Result B Event
-seen value (Ok a) = Ok (value a)
-seen value (Err refusal) = Err (event_of refusal)
+-- the result of a call by what `value` makes of it, or by the event of its refusal
+abbrev pub result_by : {A B : Type 0} → (A → B) → Result A Refusal → Result B Event
+result_by value (Ok a) = Ok (value a)
+result_by value (Err refusal) = Err (event_of refusal)
 
 -- the event is the result that is due over the known contents with this mishap; where they aren't known, nothing is
 -- said

@@ -5,6 +5,7 @@ use Rattle.x7_words.specs.Input.{InputsState, AtEnd, InputsFail, MissesInput, In
 use Rattle.x7_header.specs.Header.{HeaderContents, EndsInHeader, HasOtherLetterAt, FitHeaderFields, fixed_bytes, fixed_size, header_bytes, longest_header}
 use Rattle.x7_forms.specs.Event.{Event, bad_input, missing, no_memory, reading_failed, too_large}
 use Rattle.x7_forms.specs.declared.bad_input.InputFault.TheVariants as input
+use Rattle.x7_forms.specs.declared.beginning.Beginning.{Beginning}
 use Rattle.x7_forms.specs.Known.{stream_limit}
 use Rattle.x7_listing.specs.Listing.{listing_of}
 use Rattle.x7_listing.specs.StreamListing.{stream_listing}
@@ -27,13 +28,13 @@ abbrev pub Unopened : InputsState → List ℕ → InputsState → Event → Typ
 Unopened old name new event = (((event ≡ missing name) × MissesInput old name new) ⊎ ((event ≡ reading_failed name) × InputsFail old new)) × (new.selected ≡ false)
 
 -- the selected input failed after fewer than `most` bytes more, and no input is selected any more
-pub record Breaks (old : InputsState) (most : ℕ) (new : InputsState) : Type 0 where
+pub record BreaksWithin (old : InputsState) (most : ℕ) (new : InputsState) : Type 0 where
   pub risen : InputsFail old new
   pub selected : new.selected ≡ false
   pub given : new.given < old.given + most
 
 -- the bytes were read of the open input, and the name last asked for stays
-pub record Reads (old : InputsState) (bytes : List ℕ) (new : InputsState) : Type 0 where
+pub record ReadsBytes (old : InputsState) (bytes : List ℕ) (new : InputsState) : Type 0 where
   pub takes : TakesInput old bytes new
   pub asked : new.asked ≡ old.asked
   pub stays : InputsStay old new
@@ -53,9 +54,9 @@ pub record IsLastAsked (name : List ℕ) (limit : ℕ) (now : InputsState) : Typ
 
 -- The open input, of which `left` bytes more are within the limit, was not read to its end: it failed before the limit
 -- was passed, or one byte over the limit was taken.
-abbrev pub Unread : InputsState → List ℕ → InputsState → ℕ → Event → Type 0
-Unread old name new left event =
-    ((event ≡ reading_failed name) × Breaks old (left + 1) new)
+abbrev pub UnreadTurn : InputsState → List ℕ → InputsState → ℕ → Event → Type 0
+UnreadTurn old name new left event =
+    ((event ≡ reading_failed name) × BreaksWithin old (left + 1) new)
     ⊎ ((event ≡ too_large name) × ((piece : List ℕ) × ((old.rest ≡ preceded piece new.rest) × (length piece ≡ left + 1))))
 
 -- the rest of the open input, these bytes, was read to its end
@@ -68,7 +69,7 @@ AppendsRest old new limit before after = (more : List ℕ) × (after ≡ before 
 
 -- the rest of the open input was not read: a read failed, or the rest is over the limit; the name last asked for stays
 abbrev pub UnreadRest : InputsState → List ℕ → InputsState → ℕ → Event → Type 0
-UnreadRest old name new limit event = Unread old name new limit event × (new.asked ≡ old.asked)
+UnreadRest old name new limit event = UnreadTurn old name new limit event × (new.asked ≡ old.asked)
 
 -- where these bytes are the last, nothing follows them
 abbrev pub FollowsUnlessLast : Bool → List ℕ → Type 0
@@ -96,15 +97,27 @@ IsBeginning bytes last line start = (rest : List ℕ) → FollowsUnlessLast last
 abbrev pub HeaderGoesOn : List ℕ → Bool → Type 0
 HeaderGoesOn bytes last = (last ≡ false) × (length bytes ≤ longest_header) × EndsInHeader bytes
 
+-- the first bytes of a stream by which its header was judged, the header's line or nothing, where the data begin, and
+-- whether the stream ends after these bytes
+pub record BeginningData : Type 0 where
+  pub bytes : List ℕ
+  pub line : List ℕ
+  pub start : ℕ
+  pub last : Bool
+
+-- a beginning of the code, by the bytes that it holds
+abbrev pub beginning_data : Beginning → BeginningData
+beginning_data first = record { bytes = first.bytes.items; line = first.line.items; start = first.start; last = first.last }
+
 -- what was read of a stream when its header is judged
-pub record ReadsBeginning (bytes line : List ℕ) (start : ℕ) (last : Bool) (old new : InputsState) : Type 0 where
-  pub reads : Reads old bytes new
-  pub end : last ≡ true → AtEnd new.rest
-  pub no_end_read : last ≡ false → new.ends ≤ old.ends
-  pub within : start ≤ length bytes
-  pub short : length bytes ≤ longest_beginning
-  pub holds_few : HoldsFew bytes start
-  pub begins : IsBeginning bytes last line start
+pub record ReadsBeginning (first : BeginningData) (old new : InputsState) : Type 0 where
+  pub reads : ReadsBytes old first.bytes new
+  pub end : first.last ≡ true → AtEnd new.rest
+  pub no_end_read : first.last ≡ false → new.ends ≤ old.ends
+  pub within : first.start ≤ length first.bytes
+  pub short : length first.bytes ≤ longest_beginning
+  pub holds_few : HoldsFew first.bytes first.start
+  pub begins : IsBeginning first.bytes first.last first.line first.start
 
 -- the first bytes of a stream whose header is refused at this byte
 abbrev pub IsRefused : List ℕ → Bool → ℕ → Type 0
@@ -129,7 +142,7 @@ NoLetterGiven old new = (bytes : List ℕ) (place : ℕ) → old.rest ≡ Some b
 
 -- a stream's beginning was not read, since the inputs failed before its header was judged
 abbrev pub BreaksBeginning : InputsState → List ℕ → InputsState → Event → Type 0
-BreaksBeginning old name new event = (event ≡ reading_failed name) × Breaks old (stream_limit + 1) new × (new.asked ≡ old.asked) × NoLetterGiven old new
+BreaksBeginning old name new event = (event ≡ reading_failed name) × BreaksWithin old (stream_limit + 1) new × (new.asked ≡ old.asked) × NoLetterGiven old new
 
 -- a stream's beginning was not read: want of memory, the inputs failed, or the header is refused
 abbrev pub UnreadBeginning : InputsState → List ℕ → InputsState → Event → Type 0

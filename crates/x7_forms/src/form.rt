@@ -61,7 +61,7 @@ pub enum Form<'w> {
         /// The frame address of the first slot.
         far: u32,
         /// The number of slots: frames, and the two pad frames after each row.
-        n: u32,
+        slot_count: u32,
     },
     /// `gen PART SEED`: the summary of a plan that is made from a number.
     Gen {
@@ -231,13 +231,13 @@ fn number_in(digits: &str) -> Option<u32>
 fn plan_read_form(names: &[String]) -> Option<Form<'_>>
     ensures { form_asked result ≡ plan_read_form (map string_bytes names.now) }
 {
-    let [part, far, n] = names else {
+    let [part, far, slot_count] = names else {
         return None;
     };
     Some(Form::PlanRead {
         part: part.as_str(),
         far: word_in(far.as_str())?,
-        n: number_in(n.as_str())?,
+        slot_count: number_in(slot_count.as_str())?,
     })
 }
 

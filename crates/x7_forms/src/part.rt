@@ -4,7 +4,7 @@ ghost use Rattle.x7_words.specs.Input.{AsksAtMost, InputsStay};
 ghost use Rattle.x7_forms.specs.Event.{event_of};
 ghost use Rattle.x7_forms.specs.Known.{part_event, part_known, part_limit};
 ghost use Rattle.x7_forms.specs.Turn.{IsLastAsked};
-ghost use Rattle.x7_forms.specs.Step.{AnswersAs, IsNoPart, seen, step_over};
+ghost use Rattle.x7_forms.specs.Step.{AnswersAs, IsNoPart, result_by, step_over};
 
 use crate::read::read_whole;
 use crate::refusal::{Refusal, Why};
@@ -35,7 +35,7 @@ pub fn read_part<'w, I: Inputs>(
     name: &'w str,
 ) -> Result<Part, Refusal<'w>>
     ensures caused { AnswersAs (step_over (name.now ∷ []) (I.state inputs.old) (I.state inputs.new))
-        (λ known. part_known known name.now) (seen (λ part. part) result) }
+        (λ known. part_known known name.now) (result_by (λ part. part) result) }
     ensures named { IfErr result (λ r. IsNoPart name.now (event_of r)) }
     ensures last_asked { IsLastAsked name.now part_limit (I.state inputs.new) }
     ensures asks { AsksAtMost (I.state inputs.old) 1 (I.state inputs.new) }

@@ -3,8 +3,8 @@ ghost use Rattle.std.specs.Prelude.{◌≡◌, ◌+◌, ◌-◌, ◌<◌, ◌≤
 ghost use Rattle.x7_words.specs.Input.{AsksForName, AsksAtMost, AsksOnce, AtEnd, OpensInput, InputsStay, TakesInput};
 ghost use Rattle.x7_forms.specs.Event.{bad_input, event_of, no_memory, reading_failed, too_large};
 ghost use Rattle.x7_forms.specs.Known.{data_in};
-ghost use Rattle.x7_forms.specs.Turn.{AppendsRest, Breaks, GivesFew, ReadsRest, IsLastAsked, Unopened, Unread, UnreadRest};
-ghost use Rattle.x7_forms.specs.Step.{IsUnread, ReadsWhole, seen};
+ghost use Rattle.x7_forms.specs.Turn.{AppendsRest, BreaksWithin, GivesFew, ReadsRest, IsLastAsked, Unopened, UnreadTurn, UnreadRest};
+ghost use Rattle.x7_forms.specs.Step.{IsUnread, ReadsWhole, result_by};
 ghost use Rattle.x7_forms.specs.declared.bad_input.InputFault.TheVariants as input;
 
 use crate::bad_input::InputFault;
@@ -49,7 +49,7 @@ fn fill<'w, I: Inputs>(
     ensures no_end_read { IfOk result (λ n. n ≡ length buffer.old → (I.state inputs.new).ends ≤ (I.state inputs.old).ends) }
     ensures end_once { (I.state inputs.new).ends ≤ (I.state inputs.old).ends + 1 }
     ensures length { length buffer.new ≡ length buffer.old }
-    ensures failed { IfErr result (λ r. (event_of r ≡ reading_failed name.now) × Breaks (I.state inputs.old) (length buffer.old) (I.state inputs.new)) }
+    ensures failed { IfErr result (λ r. (event_of r ≡ reading_failed name.now) × BreaksWithin (I.state inputs.old) (length buffer.old) (I.state inputs.new)) }
     ensures asked { (I.state inputs.new).asked ≡ (I.state inputs.old).asked }
     ensures gives_a_turn { (I.state inputs.new).given ≤ (I.state inputs.old).given + length buffer.old }
     ensures selects { (I.state inputs.new).selects ≡ (I.state inputs.old).selects }
@@ -117,10 +117,9 @@ pub fn next_turn<'w, I: Inputs>(
     ensures end { IfOk result (λ turn. turn.last ≡ true → AtEnd (I.state inputs.new).rest) }
     ensures no_end_read { IfOk result (λ turn. turn.last ≡ false → (I.state inputs.new).ends ≤ (I.state inputs.old).ends) }
     ensures length { length buffer.new ≡ length buffer.old }
-    ensures refused { IfErr result (λ r. Unread (I.state inputs.old) name.now (I.state inputs.new) left (event_of r)) }
+    ensures refused { IfErr result (λ r. UnreadTurn (I.state inputs.old) name.now (I.state inputs.new) left (event_of r)) }
     ensures fails_early { IfErr result (λ r. event_of r ≡ reading_failed name.now → (I.state inputs.new).given < (I.state inputs.old).given + length buffer.old) }
     ensures over { IfErr result (λ r. event_of r ≡ too_large name.now → left < length buffer.old) }
-    ensures asked { (I.state inputs.new).asked ≡ (I.state inputs.old).asked }
     ensures gives_few { GivesFew (I.state inputs.old) left (I.state inputs.new) }
     ensures gives_a_turn { (I.state inputs.new).given ≤ (I.state inputs.old).given + length buffer.old }
     ensures inputs { InputsStay (I.state inputs.old) (I.state inputs.new) }
@@ -172,7 +171,7 @@ pub fn read_whole<'w, I: Inputs>(
     name: &'w str,
     limit: usize,
 ) -> Result<Vec<u8>, Refusal<'w>>
-    ensures caused { ReadsWhole (I.state inputs.old) (I.state inputs.new) limit name.now (seen (λ whole. whole.items) result) }
+    ensures caused { ReadsWhole (I.state inputs.old) (I.state inputs.new) limit name.now (result_by (λ whole. whole.items) result) }
     ensures named { IfErr result (λ r. IsUnread name.now (event_of r)) }
     ensures within { IfOk result (λ whole. vec_len whole ≤ limit) }
     ensures last_asked { IsLastAsked name.now limit (I.state inputs.new) }
@@ -229,7 +228,7 @@ pub(crate) fn refused_at<'w>(name: &'w str, place: usize) -> Refusal<'w>
 
 /// Where the data of a stream begin, in bytes from 0: after its header, or at its first byte where it has none.
 pub fn data_start<'w>(name: &'w str, bytes: &[u8]) -> Result<usize, Refusal<'w>>
-    ensures data { seen (λ start. drop start bytes.now) result ≡ data_in name.now bytes.now }
+    ensures data { result_by (λ start. drop start bytes.now) result ≡ data_in name.now bytes.now }
     ensures within { IfOk result (λ start. start ≤ length bytes.now) }
 {
     let place = match header_of(bytes) {

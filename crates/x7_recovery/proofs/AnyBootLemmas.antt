@@ -1,12 +1,12 @@
 -- All that a boot from a flash with an open slot comes to, and from one that was updated.
-use Rattle.std.proofs.Common.{◌≤◌, ℕ, List, ◌++◌, length, false, subst}
+use Rattle.std.proofs.Common.{◌≤◌, ℕ, List, ◌++◌, length, subst}
 use Rattle.x7_part.specs.Part.{PartData}
 use Rattle.x7_part.specs.Ranges.{IsPart}
 use Rattle.x7_regs.specs.declared.boot_status.Cause.{Cause}
 use Rattle.x7_boot.specs.Attempt.{AttemptCourse}
 use Rattle.x7_boot.specs.Image.{flash_limit, image_of, image_size, place_after_golden}
 use Rattle.x7_boot.specs.Boots.{BootCourse, IsCourse}
-use Rattle.x7_recovery.specs.OpenBoot.{BootsOpen, EachBootsOpen, FallsBackClean, HasStreams, UpdateFails}
+use Rattle.x7_recovery.specs.OpenBoot.{BootsOpen, EachBootsOpen, FallsBackClean, HasStreams, UpdateFallsBack}
 use Rattle.x7_recovery.specs.OpenSlot.{BeginsAsImage, IsOpenFlash, OpenFlash, image_of_flash, slot_of_flash}
 use Rattle.x7_recovery.specs.Updated.{IsUpdated, one_more, opened_by}
 use Rattle.x7_recovery.proofs.CleanBootLemmas.{falls_clean}
@@ -40,15 +40,15 @@ image_boots part golden update after is fits =
 
 -- ---- after updates
 
-updated_is_opened : (part : PartData) (flash found : List ℕ) (golden : AttemptCourse) → (u : IsUpdated part flash found golden) → IsOpenFlash (opened_by part flash found golden u)
+updated_is_opened : (part : PartData) (flash found : List ℕ) (golden : AttemptCourse) → (u : IsUpdated part flash found golden) → IsOpenFlash (opened_by u)
 updated_is_opened part flash found golden u =
     subst (λ (place : ℕ). IsOpenFlash (slot_of_flash part found u.after.next place)) (place_later flash u.before u.updates) (after_is_opened part u.stream u.before found u.unit u.updatable u.fits u.after)
 
-pub updated_boots : (part : PartData) (flash found : List ℕ) (golden : AttemptCourse) → (u : IsUpdated part flash found golden) → EachBootsOpen (opened_by part flash found golden u)
-updated_boots part flash found golden u = boots_open (opened_by part flash found golden u) (updated_is_opened part flash found golden u)
+pub updated_boots : (part : PartData) (flash found : List ℕ) (golden : AttemptCourse) → (u : IsUpdated part flash found golden) → EachBootsOpen (opened_by u)
+updated_boots part flash found golden u = boots_open (opened_by u) (updated_is_opened part flash found golden u)
 
-pub updated_falls_back : (part : PartData) (flash found : List ℕ) (golden t : AttemptCourse) (cause : Cause) (c : BootCourse) → (u : IsUpdated part flash found golden) → IsCourse part found c → UpdateFails (opened_by part flash found golden u) t cause false
-    → FallsBackClean (opened_by part flash found golden u) cause golden c
+pub updated_falls_back : (part : PartData) (flash found : List ℕ) (golden t : AttemptCourse) (cause : Cause) (c : BootCourse) → (u : IsUpdated part flash found golden) → IsCourse part found c → UpdateFallsBack (opened_by u) t cause
+    → FallsBackClean (opened_by u) cause golden c
 updated_falls_back part flash found golden t cause c u course fails =
-    let boots : BootsOpen (opened_by part flash found golden u) c = updated_boots part flash found golden u c course in
+    let boots : BootsOpen (opened_by u) c = updated_boots part flash found golden u c course in
     boots.falls_clean t cause golden (clean_later part flash found golden (one_more u.before found u.stream u.updates u.updatable u.after) u.starts.ends u.clean) fails

@@ -1,7 +1,7 @@
 -- A golden stream that begins clean starts as a fallback after an open slot, where
 -- it starts at power after an erased sector.
 use Rattle.std.proofs.Common.{◌≡◌, ◌==◌, ◌+◌, ◌-◌, ◌*◌, ◌^◌, ◌<◌, ◌≤◌, inl, inr, ℕ, true, false, if◌then◌else◌, None, Some, List, ◌++◌, drop, take, length, length-append, length-drop, refl, ap, sym, subst, ◌∙◌, append_assoc, take-append-drop, drop_of_length-le, arith}
-use Rattle.x7_packets.specs.FlashSlot.{sector_size}
+use Rattle.x7_packets.specs.FlashSlot.{sector_size, flash_slot_size}
 use Rattle.x7_words.specs.Flash.{erased_sector}
 use Rattle.x7_words.proofs.FlashLemmas.{length_erased_sector}
 use Rattle.std.proofs.lemmas.Bool.{cases_lt}
@@ -39,7 +39,7 @@ use Rattle.x7_boot.proofs.TookLemmas.{ends_going}
 use Rattle.x7_recovery.specs.Clean.{StartsClean}
 use Rattle.x7_recovery.specs.Golden.{with_erased}
 use Rattle.x7_boot.specs.Boots.{BootCourse, IsCourse}
-use Rattle.x7_recovery.specs.OpenBoot.{FallsBackClean, UpdateFails}
+use Rattle.x7_recovery.specs.OpenBoot.{FallsBackClean, UpdateFallsBack}
 use Rattle.x7_recovery.specs.OpenSlot.{HasOpenSlot, IsOpenFlash, OpenFlash}
 use Rattle.x7_effects.proofs.EndLemmas.{memory_all}
 use Rattle.x7_effects.proofs.GoingLemmas.{IsGoing, going_bytes}
@@ -73,7 +73,7 @@ module _ (flash : List ℕ) (number start : ℕ) (o : HasOpenSlot flash number s
   whole_is : first ++ s ≡ before ++ (open_slot start ++ (after ++ s))
   whole_is = ap (λ (x : List ℕ). x ++ s) (slots.sector_is flash number start o small) ∙ regroup before (open_slot start) after s
 
-  lengths : length before + (32 + length after) ≡ sector_size
+  lengths : length before + (flash_slot_size + length after) ≡ sector_size
   lengths =
       sym (sym (sector_long flash number start o small) ∙ ap length (slots.sector_is flash number start o small) ∙ length-append before (open_slot start ++ after) ∙ ap (λ (x : ℕ). length before + x) (length-append (open_slot start) after)
       ∙ ap (λ (x : ℕ). length before + (x + length after)) (slot_long 0xAA995566 start))
@@ -84,9 +84,9 @@ module _ (flash : List ℕ) (number start : ℕ) (o : HasOpenSlot flash number s
     | inl less ↦
         let prefix_2 : List ℕ = (before ++ open_slot start) ++ prefix in
         let there : flash ≡ prefix_2 ++ (sync_bytes ++ (back ++ rest)) = split ∙ ap (λ (x : List ℕ). x ++ rest) whole_is ∙ ap (λ (x : List ℕ). (before ++ (open_slot start ++ x)) ++ rest) e ∙ regroup_word before (open_slot start) prefix sync_bytes back rest in
-        let long : length prefix_2 ≡ 32 * number + 32 + length prefix =
+        let long : length prefix_2 ≡ flash_slot_size * number + flash_slot_size + length prefix =
         length-append (before ++ open_slot start) prefix ∙ ap (λ (x : ℕ). x + length prefix) (length-append before (open_slot start) ∙ omega (arith, slots.gap_long flash number start o small, slot_long 0xAA995566 start)) in
-        let here : length prefix_2 ≡ 32 * number = o.alone (length prefix_2) (omega (arith, long, less, lengths, slots.gap_long flash number start o small)) (word_at flash prefix_2 (back ++ rest) there) in
+        let here : length prefix_2 ≡ flash_slot_size * number = o.alone (length prefix_2) (omega (arith, long, less, lengths, slots.gap_long flash number start o small)) (word_at flash prefix_2 (back ++ rest) there) in
         absurd (omega (arith, here, long))
   ]
 
@@ -102,23 +102,23 @@ module _ (flash : List ℕ) (number start : ℕ) (o : HasOpenSlot flash number s
   after_history : history_of (after ++ s) ≡ moved (length after) (history_of s)
   after_history = history_passed after s fits_after none_later
 
-  slot_then : history_of (open_slot start ++ (after ++ s)) ≡ moved 32 (moved (length after) (history_of s)) ++ after_slot start
+  slot_then : history_of (open_slot start ++ (after ++ s)) ≡ moved flash_slot_size (moved (length after) (history_of s)) ++ after_slot start
   slot_then =
       history_after (open_slot start) (after ++ s) fits_slot (record { searching = ap is_synced (slot_place start small); apart = inl (ap gap_of (slot_place start small)) })
       ∙ ap (λ (h : History). moved (length (open_slot start)) h ++ history_of (open_slot start)) after_history
       ∙ ap (λ (n : ℕ). moved n (moved (length after) (history_of s)) ++ history_of (open_slot start)) (slot_long 0xAA995566 start)
-      ∙ ap (λ (h : History). moved 32 (moved (length after) (history_of s)) ++ h) (slot_history start small)
+      ∙ ap (λ (h : History). moved flash_slot_size (moved (length after) (history_of s)) ++ h) (slot_history start small)
 
-  pub sector_then : history_of (first ++ s) ≡ moved sector_size (history_of s) ++ desync_at (32 * number) start
+  pub sector_then : history_of (first ++ s) ≡ moved sector_size (history_of s) ++ desync_at (flash_slot_size * number) start
   sector_then =
-      let inner : History = moved 32 (moved (length after) (history_of s)) in
+      let inner : History = moved flash_slot_size (moved (length after) (history_of s)) in
       let n : ℕ = length before in
       ap history_of whole_is
       ∙ history_passed before (open_slot start ++ (after ++ s)) fits_all (slots.none_before flash number start o small (open_slot start ++ (after ++ s)) rest (split ∙ ap (λ (x : List ℕ). x ++ rest) whole_is))
       ∙ ap (moved n) slot_then
       ∙ moved_append n inner (after_slot start)
-      ∙ ap (λ (h : History). moved n h ++ moved n (after_slot start)) (moved_again 32 (length after) (history_of s))
-      ∙ ap (λ (h : History). h ++ moved n (after_slot start)) (moved_again n (32 + length after) (history_of s) ∙ ap (λ (m : ℕ). moved m (history_of s)) lengths)
+      ∙ ap (λ (h : History). moved n h ++ moved n (after_slot start)) (moved_again flash_slot_size (length after) (history_of s))
+      ∙ ap (λ (h : History). h ++ moved n (after_slot start)) (moved_again n (flash_slot_size + length after) (history_of s) ∙ ap (λ (m : ℕ). moved m (history_of s)) lengths)
       ∙ ap (λ (m : ℕ). moved sector_size (history_of s) ++ desync_at m start) (slots.gap_long flash number start o small)
 
 -- ---- the fallback
@@ -187,7 +187,7 @@ module _ (o : OpenFlash) (is : IsOpenFlash o) (t : AttemptCourse) (c : StartsCle
     power_history : history_of (erased_sector ++ sk) ≡ moved sector_size (history_of sk)
     power_history = erased_history sk sk_fits
 
-    fall_history : history_of (prefix' ++ sk) ≡ moved sector_size (history_of sk) ++ desync_at (32 * o.slot) o.start
+    fall_history : history_of (prefix' ++ sk) ≡ moved sector_size (history_of sk) ++ desync_at (flash_slot_size * o.slot) o.start
     fall_history =
         let rest_k : List ℕ = drop k s ++ x.rest in
         let split : o.flash ≡ (prefix' ++ sk) ++ rest_k = flash_is ∙ ap (λ (y : List ℕ). (prefix' ++ y) ++ x.rest) (sym (take-append-drop k s)) ∙ ap (λ (y : List ℕ). y ++ x.rest) (sym (append_assoc prefix' sk (drop k s))) ∙ append_assoc (prefix' ++ sk) (drop k s) x.rest in
@@ -200,24 +200,24 @@ module _ (o : OpenFlash) (is : IsOpenFlash o) (t : AttemptCourse) (c : StartsCle
     power_going = ap (stop_in o.part at_power) (sym (take-append-add erased_sector s k)) ∙ prefix_goes o.part at_power (length erased_sector + k) (erased_sector ++ s) erased_all going
 
     module _ (kept : Kept) (fell : is_fallback kept.kind ≡ true) where
-      slot_going : IsGoing o.part kept NotBegun (desync_at (32 * o.slot) o.start) sector_size
+      slot_going : IsGoing o.part kept NotBegun (desync_at (flash_slot_size * o.slot) o.start) sector_size
       slot_going = sector_going o.flash o.slot o.start is.has is.small o.part kept fell
 
       abbrev AreAlikeHere : Type 0
-      AreAlikeHere = ComesAlike o.part kept at_power sector_size fell (desync_at (32 * o.slot) o.start) (slot_near o.part kept (32 * o.slot) o.start slot_going)
-          (λ m l. (going_bytes o.part kept NotBegun (desync_at (32 * o.slot) o.start) sector_size m l slot_going).calm.no_stop) (history_of sk) (sector_size + length sk)
+      AreAlikeHere = ComesAlike o.part kept at_power sector_size fell (desync_at (flash_slot_size * o.slot) o.start) (slot_near o.part kept (flash_slot_size * o.slot) o.start slot_going)
+          (λ m l. (going_bytes o.part kept NotBegun (desync_at (flash_slot_size * o.slot) o.start) sector_size m l slot_going).calm.no_stop) (history_of sk) (sector_size + length sk)
 
       alike : AreAlikeHere
-      alike = comes o.part kept at_power sector_size fell (desync_at (32 * o.slot) o.start) (slot_near o.part kept (32 * o.slot) o.start slot_going)
-          (λ m l. (going_bytes o.part kept NotBegun (desync_at (32 * o.slot) o.start) sector_size m l slot_going).calm.no_stop) (history_of sk) (sector_size + length sk) (omega arith) clean
+      alike = comes o.part kept at_power sector_size fell (desync_at (flash_slot_size * o.slot) o.start) (slot_near o.part kept (flash_slot_size * o.slot) o.start slot_going)
+          (λ m l. (going_bytes o.part kept NotBegun (desync_at (flash_slot_size * o.slot) o.start) sector_size m l slot_going).calm.no_stop) (history_of sk) (sector_size + length sk) (omega arith) clean
           (sym (ap (λ (h : History). stop_of o.part at_power h (length (erased_sector ++ sk))) power_history ∙ ap (stop_of o.part at_power (moved sector_size (history_of sk))) power_long) ∙ power_going)
 
       fall_going : stop_in o.part kept (prefix' ++ sk) ≡ None
-      fall_going = ap (λ (h : History). stop_of o.part kept h (length (prefix' ++ sk))) fall_history ∙ ap (stop_of o.part kept (moved sector_size (history_of sk) ++ desync_at (32 * o.slot) o.start)) fall_long ∙ alike.none
+      fall_going = ap (λ (h : History). stop_of o.part kept h (length (prefix' ++ sk))) fall_history ∙ ap (stop_of o.part kept (moved sector_size (history_of sk) ++ desync_at (flash_slot_size * o.slot) o.start)) fall_long ∙ alike.none
 
       progress_alike : startup_progress (history_of (prefix' ++ sk)) (length (prefix' ++ sk)) ≡ startup_progress (history_of (erased_sector ++ sk)) (length (erased_sector ++ sk))
       progress_alike =
-          ap (λ (h : History). startup_progress h (length (prefix' ++ sk))) fall_history ∙ ap (startup_progress (moved sector_size (history_of sk) ++ desync_at (32 * o.slot) o.start)) fall_long
+          ap (λ (h : History). startup_progress h (length (prefix' ++ sk))) fall_history ∙ ap (startup_progress (moved sector_size (history_of sk) ++ desync_at (flash_slot_size * o.slot) o.start)) fall_long
           ∙ alike.startup.1
           ∙ sym (ap (λ (h : History). startup_progress h (length (erased_sector ++ sk))) power_history ∙ ap (startup_progress (moved sector_size (history_of sk))) power_long)
 
@@ -282,7 +282,7 @@ module _ (o : OpenFlash) (is : IsOpenFlash o) (t : AttemptCourse) (c : StartsCle
     fallen_wrote : wrote_iprog (history_of (prefix' ++ s)) ≡ true
     fallen_wrote = iprog_later prefix' s (all_append (λ b. b < 256) prefix' s is.has.fits s_fits) (sector_wrote o.flash o.slot o.start is.has is.small)
 
-  pub falls_clean : (a : BootCourse) (u : AttemptCourse) (cause : Cause) → IsCourse o.part o.flash a → UpdateFails o u cause false → FallsBackClean o cause t a
+  pub falls_clean : (a : BootCourse) (u : AttemptCourse) (cause : Cause) → IsCourse o.part o.flash a → UpdateFallsBack o u cause → FallsBackClean o cause t a
   falls_clean a u cause course fails =
       let kept : Kept = kept_then o is u in
       let l : AttemptCourse = fallen kept refl in

@@ -6,7 +6,7 @@ use Rattle.std.proofs.lemmas.List.{ext_get_or, get_or-drop, get_or-take, get_or_
 use Rattle.std.proofs.Math.Seq.{drop-append_seam, take-append_seam}
 use Rattle.x7_words.specs.Word.{AreBytes, bytes_of_word, word_of_bytes}
 use Rattle.x7_words.proofs.WordLemmas.{bytes_words}
-use Rattle.x7_packets.specs.FlashSlot.{sector_size, flash_slot}
+use Rattle.x7_packets.specs.FlashSlot.{sector_size, flash_slot, flash_slot_size, flash_slot_count}
 use Rattle.x7_packets.specs.SyncWord.{HasNoSync, sync_bytes}
 use Rattle.x7_part.specs.Part.{PartData}
 use Rattle.x7_part.specs.Ranges.{IsPart}
@@ -15,7 +15,7 @@ use Rattle.x7_planner.specs.FullStream.{full_stream}
 use Rattle.x7_boot.specs.Image as image
 use Rattle.x7_boot.specs.Image.{free_slot, free_slots, first_sector, flash_limit, image_of, image_size, open_slot, slot}
 use Rattle.x7_update.specs.After.{IsAfterUpdate, IsBetweenSlots, spends, switched, with_stream}
-use Rattle.x7_update.specs.Layout.{IsUpdatable, IsOpen, first_slot, four_at, open_switch, spent_switch, switch_of, update_place}
+use Rattle.x7_update.specs.Layout.{IsUpdatable, IsOpen, first_slot, four_at, open_switch, spent_switch, switch_of, update_place, switch_size}
 use Rattle.x7_update.proofs.CaseLemmas.{between_below, between_spent, outside_switch, stream_keeps}
 use Rattle.x7_update.proofs.LawLemmas.{no_sync}
 use Rattle.x7_update.proofs.SwitchLemmas.{length_switched, same_four, switch_switched, switched_others}
@@ -38,31 +38,31 @@ bytes_back a b c d f = bytes_words (a ∷ b ∷ c ∷ d ∷ []) 1 f refl
 
 -- ---- a flash that has a slot opened in what is between
 
-module _ (flash now found : List ℕ) (number : ℕ) (l : IsUpdatable flash) (b : IsBetweenSlots flash now) (within : number < 2048) (size : length found ≡ length now)
-    (others : (i : ℕ) → (i < 32 * number) ⊎ (32 * number + 4 ≤ i) → get_or found i 0 ≡ get_or now i 0) (is_open : switch_of found number ≡ open_switch) where
+module _ (flash now found : List ℕ) (number : ℕ) (l : IsUpdatable flash) (b : IsBetweenSlots flash now) (within : number < flash_slot_count) (size : length found ≡ length now)
+    (others : (i : ℕ) → (i < flash_slot_size * number) ⊎ (flash_slot_size * number + switch_size ≤ i) → get_or found i 0 ≡ get_or now i 0) (is_open : switch_of found number ≡ open_switch) where
   found_long : 131072 ≤ length found
   found_long = omega (arith, size, b.size, l.size.least)
 
   -- a byte after a switch word
-  byte_at : (i m : ℕ) → i < sector_size → i % 32 ≡ m → 4 ≤ m → get_or found i 0 ≡ get_or (first_slot flash) m 0
+  byte_at : (i m : ℕ) → i < sector_size → i % flash_slot_size ≡ m → 4 ≤ m → get_or found i 0 ≡ get_or (first_slot flash) m 0
   byte_at i m h e k =
-      let at : 32 * (i / 32) + m ≡ i = omega (arith, e) in
-      others i (outside_switch number i (omega (arith, e, k))) ∙ b.slots i h (omega (arith, e, k)) ∙ ap (λ (n : ℕ). get_or flash n 0) (sym at) ∙ l.slots.leads (i / 32) (omega (arith, h)) m k (omega (arith, e))
+      let at : flash_slot_size * (i / flash_slot_size) + m ≡ i = omega (arith, e) in
+      others i (outside_switch number i (omega (arith, e, k))) ∙ b.slots i h (omega (arith, e, k)) ∙ ap (λ (n : ℕ). get_or flash n 0) (sym at) ∙ l.slots.leads (i / flash_slot_size) (omega (arith, h)) m k (omega (arith, e))
 
-  same_outside : (place : ℕ) → ((k : ℕ) → k < 4 → (place + k < 32 * number) ⊎ (32 * number + 4 ≤ place + k)) → four_at found place ≡ four_at now place
+  same_outside : (place : ℕ) → ((k : ℕ) → k < 4 → (place + k < flash_slot_size * number) ⊎ (flash_slot_size * number + switch_size ≤ place + k)) → four_at found place ≡ four_at now place
   same_outside place out =
       let at : place ≡ place + 0 = omega arith in
       let first : get_or found place 0 ≡ get_or now place 0 = ap (λ (n : ℕ). get_or found n 0) at ∙ others (place + 0) (out 0 (omega arith)) ∙ ap (λ (n : ℕ). get_or now n 0) (sym at) in
       rw (first, others (place + 1) (out 1 (omega arith)), others (place + 2) (out 2 (omega arith)), others (place + 3) (out 3 (omega arith))) refl
 
-  alone : (place : ℕ) → place < sector_size → four_at found place ≡ open_switch → place ≡ 32 * number
+  alone : (place : ℕ) → place < sector_size → four_at found place ≡ open_switch → place ≡ flash_slot_size * number
   alone place h e =
       let first : get_or found place 0 ≡ 0xAA = ap (λ (w : List ℕ). get_or w 0 0) e in
-      elim (cases_lt (place + 3) (32 * number)) [
+      elim (cases_lt (place + 3) (flash_slot_size * number)) [
         | inl below ↦ absurd (no_sync flash now l b place h (sym (same_outside place (λ k m. inl (omega (arith, m, below)))) ∙ e))
-        | inr touches ↦ elim (cases_lt place (32 * number)) [
+        | inr touches ↦ elim (cases_lt place (flash_slot_size * number)) [
           | inl before ↦
-              let m : ℕ = place % 32 in
+              let m : ℕ = place % flash_slot_size in
               let late : 29 ≤ m = omega (arith, touches, before) in
               let byte : get_or found place 0 ≡ get_or (first_slot flash) m 0 = byte_at place m h refl (omega (arith, late)) in
               elim (cases_eq m 31) [
@@ -73,15 +73,15 @@ module _ (flash now found : List ℕ) (number : ℕ) (l : IsUpdatable flash) (b 
                       let is : 0xAA ≡ 0 = sym first ∙ byte ∙ ap (λ (n : ℕ). get_or (first_slot flash) n 0) third in absurd (omega (arith, is)))
                 ]
               ]
-          | inr from ↦ elim (cases_eq place (32 * number)) [
+          | inr from ↦ elim (cases_eq place (flash_slot_size * number)) [
             | inl same ↦ same
-            | inr other ↦ elim (cases_eq place (32 * number + 1)) [
+            | inr other ↦ elim (cases_eq place (flash_slot_size * number + 1)) [
               | inl one ↦ (let is : 0xAA ≡ 0x99 = sym first ∙ ap (λ (n : ℕ). get_or found n 0) one ∙ ap (λ (w : List ℕ). get_or w 1 0) is_open in absurd (omega (arith, is)))
-              | inr not_one ↦ elim (cases_eq place (32 * number + 2)) [
+              | inr not_one ↦ elim (cases_eq place (flash_slot_size * number + 2)) [
                 | inl two ↦ (let is : 0xAA ≡ 0x55 = sym first ∙ ap (λ (n : ℕ). get_or found n 0) two ∙ ap (λ (w : List ℕ). get_or w 2 0) is_open in absurd (omega (arith, is)))
-                | inr not_two ↦ elim (cases_eq place (32 * number + 3)) [
+                | inr not_two ↦ elim (cases_eq place (flash_slot_size * number + 3)) [
                   | inl three ↦ (let is : 0xAA ≡ 0x66 = sym first ∙ ap (λ (n : ℕ). get_or found n 0) three ∙ ap (λ (w : List ℕ). get_or w 3 0) is_open in absurd (omega (arith, is)))
-                  | inr not_three ↦ (let above : 32 * number + 4 ≤ place = omega (arith, from, other, not_one, not_two, not_three) in
+                  | inr not_three ↦ (let above : flash_slot_size * number + switch_size ≤ place = omega (arith, from, other, not_one, not_two, not_three) in
                       absurd (no_sync flash now l b place h (sym (same_outside place (λ k m. inr (omega (arith, m, above)))) ∙ e)))
                 ]
               ]
@@ -91,22 +91,22 @@ module _ (flash now found : List ℕ) (number : ℕ) (l : IsUpdatable flash) (b 
       ]
 
   -- the slot
-  slot_byte : (i : ℕ) → i < 32 → get_or found (32 * number + i) 0 ≡ get_or (first_slot flash) i 0
+  slot_byte : (i : ℕ) → i < flash_slot_size → get_or found (flash_slot_size * number + i) 0 ≡ get_or (first_slot flash) i 0
   slot_byte i h = elim (cases_lt i 4) [
-    | inl in_switch ↦ (let at : 0 + i ≡ i = omega arith in same_four found (first_slot flash) (32 * number) 0 i is_open in_switch ∙ ap (λ (n : ℕ). get_or (first_slot flash) n 0) at)
-    | inr past ↦ byte_at (32 * number + i) i (omega (arith, within, h)) (omega (arith, h)) past
+    | inl in_switch ↦ (let at : 0 + i ≡ i = omega arith in same_four found (first_slot flash) (flash_slot_size * number) 0 i is_open in_switch ∙ ap (λ (n : ℕ). get_or (first_slot flash) n 0) at)
+    | inr past ↦ byte_at (flash_slot_size * number + i) i (omega (arith, within, h)) (omega (arith, h)) past
   ]
 
-  slot_stands : take 32 (drop (32 * number) found) ≡ first_slot flash
-  slot_stands = ext_get_or 0 (take 32 (drop (32 * number) found)) (first_slot flash) long each
+  slot_stands : take flash_slot_size (drop (flash_slot_size * number) found) ≡ first_slot flash
+  slot_stands = ext_get_or 0 (take flash_slot_size (drop (flash_slot_size * number) found)) (first_slot flash) long each
     where
-      long : length (take 32 (drop (32 * number) found)) ≡ 32
-      long = length-take-le 32 (drop (32 * number) found) (omega (arith, length-drop (32 * number) found, found_long, within))
+      long : length (take flash_slot_size (drop (flash_slot_size * number) found)) ≡ flash_slot_size
+      long = length-take-le flash_slot_size (drop (flash_slot_size * number) found) (omega (arith, length-drop (flash_slot_size * number) found, found_long, within))
 
-      each : (i : ℕ) → i < length (take 32 (drop (32 * number) found)) → get_or (take 32 (drop (32 * number) found)) i 0 ≡ get_or (first_slot flash) i 0
+      each : (i : ℕ) → i < length (take flash_slot_size (drop (flash_slot_size * number) found)) → get_or (take flash_slot_size (drop (flash_slot_size * number) found)) i 0 ≡ get_or (first_slot flash) i 0
       each i h =
-          let short : i < 32 = omega (arith, h, long) in
-          get_or-take 32 (drop (32 * number) found) i 0 short ∙ get_or-drop (32 * number) found i 0 ∙ slot_byte i short
+          let short : i < flash_slot_size = omega (arith, h, long) in
+          get_or-take flash_slot_size (drop (flash_slot_size * number) found) i 0 short ∙ get_or-drop (flash_slot_size * number) found i 0 ∙ slot_byte i short
 
   pub opened : AreBytes (take sector_size found) → HasOpenSlot found number (update_place flash)
   opened fits =
@@ -150,11 +150,11 @@ module _ (flash now found : List ℕ) (number : ℕ) (l : IsUpdatable flash) (b 
 
 -- ---- a flash that can be updated
 
-module _ (flash : List ℕ) (number : ℕ) (l : IsUpdatable flash) (within : number < 2048) (is : IsOpen flash number) where
+module _ (flash : List ℕ) (number : ℕ) (l : IsUpdatable flash) (within : number < flash_slot_count) (is : IsOpen flash number) where
   abbrev spent : List ℕ
   spent = switched number spent_switch flash
 
-  room : 32 * number + 4 ≤ length flash
+  room : flash_slot_size * number + switch_size ≤ length flash
   room = omega (arith, within, l.size.least)
 
   switched_between : IsBetweenSlots flash spent
@@ -175,13 +175,13 @@ module _ (stream flash found : List ℕ) (l : IsUpdatable flash) (a : IsAfterUpd
   now_between : IsBetweenSlots flash now
   now_between = between_below (length flash) flash a.spent now l.slots spent_between (stream_keeps (update_place flash) stream a.spent (omega (arith, a.fits, spent_between.size)))
 
-  now_room : 32 * a.next + 4 ≤ length now
+  now_room : flash_slot_size * a.next + switch_size ≤ length now
   now_room = omega (arith, now_between.size, a.is_next.within, l.size.least)
 
   found_size : length found ≡ length now
   found_size = ap length a.is ∙ length_switched a.next open_switch now refl now_room
 
-  found_others : (i : ℕ) → (i < 32 * a.next) ⊎ (32 * a.next + 4 ≤ i) → get_or found i 0 ≡ get_or now i 0
+  found_others : (i : ℕ) → (i < flash_slot_size * a.next) ⊎ (flash_slot_size * a.next + switch_size ≤ i) → get_or found i 0 ≡ get_or now i 0
   found_others i h = ap (λ (x : List ℕ). get_or x i 0) a.is ∙ switched_others a.next open_switch now refl now_room i h
 
   found_open : switch_of found a.next ≡ open_switch
@@ -247,12 +247,12 @@ module _ (start : ℕ) (flash more : List ℕ) (whole : start % 256 ≡ 0) (low 
   prefix_is : take sector_size flash ≡ first_sector start
   prefix_is = ap (take sector_size) begins ∙ ap (λ (n : ℕ). take n (first_sector start ++ more)) (sym (sector_long start)) ∙ take-append_seam (first_sector start) more
 
-  image_stands : take 32 (drop 0 flash) ≡ open_slot start
+  image_stands : take flash_slot_size (drop 0 flash) ≡ open_slot start
   image_stands =
-      ap (take 32) (begins ∙ append_assoc (open_slot start) (free_slots start) more)
+      ap (take flash_slot_size) (begins ∙ append_assoc (open_slot start) (free_slots start) more)
       ∙ ap (λ (n : ℕ). take n (open_slot start ++ (free_slots start ++ more))) (sym (slot_long 0xAA995566 start)) ∙ take-append_seam (open_slot start) (free_slots start ++ more)
 
-  ends_at : (i : ℕ) → i < 32 → get_or flash (32 * suc 2046 + i) 0 ≡ get_or (free_slot start) i 0
+  ends_at : (i : ℕ) → i < flash_slot_size → get_or flash (flash_slot_size * suc 2046 + i) 0 ≡ get_or (free_slot start) i 0
   ends_at i h = free_byte start flash more begins 2046 i (omega arith) h
 
   first_sector_none : (tail : List ℕ) × (first_sector start ≡ 0xAA ∷ tail) × HasNoSync tail
@@ -272,19 +272,19 @@ module _ (start : ℕ) (flash more : List ℕ) (whole : start % 256 ≡ 0) (low 
       let split : t.0 ≡ take p t.0 ++ (sync_bytes ++ drop (p + 4) t.0) = four_split t.0 p (omega (arith, long, h)) here in
       t.2.none (take p t.0) (drop (p + 4) t.0) (split ∙ sym (append_assoc (take p t.0) sync_bytes (drop (p + 4) t.0)))
 
-  image_alone : (place : ℕ) → place < sector_size → four_at flash place ≡ open_switch → place ≡ 32 * 0
+  image_alone : (place : ℕ) → place < sector_size → four_at flash place ≡ open_switch → place ≡ flash_slot_size * 0
   image_alone zero h e = refl
   image_alone (suc p) h e =
       let first : get_or flash (suc p) 0 ≡ 0xAA = ap (λ (w : List ℕ). get_or w 0 0) e in
       elim (cases_lt (suc p) 65533) [
         | inl early ↦ absurd (not_later p (omega (arith, early)) e)
         | inr late ↦ elim (cases_eq (suc p) 65533) [
-          | inl third ↦ (let at : suc p ≡ 32 * suc 2046 + 29 = omega (arith, third) in
+          | inl third ↦ (let at : suc p ≡ flash_slot_size * suc 2046 + 29 = omega (arith, third) in
               let is : 0xAA ≡ 0 = sym first ∙ ap (λ (n : ℕ). get_or flash n 0) at ∙ ends_at 29 (omega arith) ∙ (free_end start).0 in absurd (omega (arith, is)))
           | inr not_third ↦ elim (cases_eq (suc p) 65534) [
-            | inl second ↦ (let at : suc p ≡ 32 * suc 2046 + 30 = omega (arith, second) in
+            | inl second ↦ (let at : suc p ≡ flash_slot_size * suc 2046 + 30 = omega (arith, second) in
                 let is : 0xAA ≡ 0 = sym first ∙ ap (λ (n : ℕ). get_or flash n 0) at ∙ ends_at 30 (omega arith) ∙ (free_end start).1 in absurd (omega (arith, is)))
-            | inr not_second ↦ (let at : suc p ≡ 32 * suc 2046 + 31 = omega (arith, late, h, not_third, not_second) in
+            | inr not_second ↦ (let at : suc p ≡ flash_slot_size * suc 2046 + 31 = omega (arith, late, h, not_third, not_second) in
                 let is : 0xAA ≡ 13 = sym first ∙ ap (λ (n : ℕ). get_or flash n 0) at ∙ ends_at 31 (omega arith) ∙ (free_end start).2 in absurd (omega (arith, is)))
           ]
         ]
@@ -315,7 +315,7 @@ leads_itself unit place e l = ap (λ (u : ℕ). start_address u place) e ∙ ome
 place_small : (flash : List ℕ) → IsUpdatable flash → update_place flash ≤ 134217728
 place_small flash l = omega (arith, l.slots.place.most, l.size.most)
 
-pub open_is_opened : (part : PartData) (flash : List ℕ) (number : ℕ) → part.start_unit ≡ 1 → IsUpdatable flash → AreBytes (take sector_size flash) → number < 2048 → IsOpen flash number → IsOpenFlash (slot_of_flash part flash number (update_place flash))
+pub open_is_opened : (part : PartData) (flash : List ℕ) (number : ℕ) → part.start_unit ≡ 1 → IsUpdatable flash → AreBytes (take sector_size flash) → number < flash_slot_count → IsOpen flash number → IsOpenFlash (slot_of_flash part flash number (update_place flash))
 open_is_opened part flash number unit l fits within is =
     let small : update_place flash ≤ 134217728 = place_small flash l in
     record { has = updatable_opened flash number l within is fits; small = omega (arith, small); leads = leads_itself part.start_unit (update_place flash) unit small }

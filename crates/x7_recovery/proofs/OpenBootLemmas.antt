@@ -34,7 +34,7 @@ use Rattle.x7_boot.specs.Boots.{BootCourse, IsCourse, course_along}
 use Rattle.x7_boot.proofs.BootsLemmas.{along, cause_is, fallback_next, stops_next, tried_is}
 use Rattle.x7_boot.proofs.OneBootLemmas.{GoesThrough, goes_through}
 use Rattle.x7_boot.proofs.OverLemmas.{kept_ends, started_first, with_kept}
-use Rattle.x7_recovery.specs.OpenBoot.{EndsAtUpdate, FallsBack, FallsBackAlike, HasFullUpdate, HasFullGolden, StartsAsFallback, StartsUpdate, TriesUpdate, UpdateEnds, UpdateFails, kept_at_update}
+use Rattle.x7_recovery.specs.OpenBoot.{EndsAtUpdate, FallsBack, FallsBackAlike, HasFullUpdate, HasFullGolden, StartsAsFallback, StartsUpdate, TriesUpdate, UpdateEnds, kept_at_update, UpdateStops, UpdateFallsBack}
 use Rattle.x7_recovery.specs.OpenSlot.{IsOpenFlash, OpenFlash}
 use Rattle.x7_recovery.proofs.FullAttemptLemmas.{StartsWith, full_starts, full_stream_fits, iprog_later}
 use Rattle.x7_recovery.proofs.OpenLemmas.{power, power_leads, sector_never, sector_rests, sector_wrote}
@@ -90,7 +90,7 @@ module _ (o : OpenFlash) (is : IsOpenFlash o) where
   pub starts : (c : BootCourse) (t : AttemptCourse) → IsCourse o.part o.flash c → UpdateEnds o t ending.Started → EndsAtUpdate o t boot_end.Started c
   starts c t course ended = ends_second c t ending.Started boot_end.Started course ended refl
 
-  pub stops : (c : BootCourse) (t : AttemptCourse) (cause : Cause) → IsCourse o.part o.flash c → UpdateFails o t cause true → EndsAtUpdate o t boot_end.Stopped c
+  pub stops : (c : BootCourse) (t : AttemptCourse) (cause : Cause) → IsCourse o.part o.flash c → UpdateStops o t cause → EndsAtUpdate o t boot_end.Stopped c
   stops c t cause course fails = ends_second c t (ending.Failed cause) boot_end.Stopped course fails.ended (stops_next o.part 2 t cause fails.forbids)
 
   -- an update that is a full stream
@@ -110,7 +110,7 @@ module _ (o : OpenFlash) (is : IsOpenFlash o) where
   -- ---- a fallback
 
   -- the attempt that failed, as the next one keeps it
-  pub failed_attempt : (t : AttemptCourse) (cause : Cause) → UpdateFails o t cause false → attempt_in o.part t.kept t.wrapped t.bytes ≡ record { kind = Iprog; cause = Some cause; ignored = false }
+  pub failed_attempt : (t : AttemptCourse) (cause : Cause) → UpdateFallsBack o t cause → attempt_in o.part t.kept t.wrapped t.bytes ≡ record { kind = Iprog; cause = Some cause; ignored = false }
   failed_attempt t cause fails =
       let ended : UpdateEnds o t (ending.Failed cause) = fails.ended in
       let kind : t.kept.kind ≡ Iprog = ap (λ (k : Kept). k.kind) ended.kept in
@@ -127,7 +127,7 @@ module _ (o : OpenFlash) (is : IsOpenFlash o) where
     pub started : c.end ≡ boot_end.Started
     pub last_is : c.last ≡ l
 
-  pub falls : (c : BootCourse) (t l : AttemptCourse) (cause : Cause) → IsCourse o.part o.flash c → UpdateFails o t cause false → IsFlashAttempt o.part o.flash l → l.kept ≡ kept_then t → l.address ≡ 0 → l.ending ≡ ending.Started → Falls c l cause
+  pub falls : (c : BootCourse) (t l : AttemptCourse) (cause : Cause) → IsCourse o.part o.flash c → UpdateFallsBack o t cause → IsFlashAttempt o.part o.flash l → l.kept ≡ kept_then t → l.address ≡ 0 → l.ending ≡ ending.Started → Falls c l cause
   falls c t l cause course fails l_tries l_kept l_address l_ends =
       let ended : UpdateEnds o t (ending.Failed cause) = fails.ended in
       let next : Again (kept_then t) 0 ≡ next_by o.part 2 t t.ending = sym (ap (next_by o.part 2 t) ended.ends ∙ fallback_next o.part 2 t cause (ap (λ (k : Kept). is_fallback k.kind) ended.kept) fails.forbids) in
@@ -154,7 +154,7 @@ module _ (o : OpenFlash) (is : IsOpenFlash o) where
       full_starts o.part kept prefix golden 0 o.flash has.rest true is.has.fits (sector_rests o.flash o.slot o.start is.has is.small o.part kept e) (sector_never o.flash o.slot o.start is.has is.small) has.is_part has.plan split
       (ap (λ (x : Bool). x && wrote_iprog (history_of (prefix ++ stream))) e ∙ iprog_later prefix stream fits wrote)
 
-  pub falls_back : (c : BootCourse) (t : AttemptCourse) (cause : Cause) (golden : PlanData) → IsCourse o.part o.flash c → HasFullGolden o golden → UpdateFails o t cause false → FallsBack o cause golden c
+  pub falls_back : (c : BootCourse) (t : AttemptCourse) (cause : Cause) (golden : PlanData) → IsCourse o.part o.flash c → HasFullGolden o golden → UpdateFallsBack o t cause → FallsBack o cause golden c
   falls_back c t cause golden course has fails =
       let f : StartsWith o.part (kept_then t) 0 o.flash golden true = planned_starts (kept_then t) golden has refl in
       let a : Falls c f.course cause = falls c t f.course cause course fails f.is f.kept_is f.address_is f.ending_is in
@@ -172,7 +172,7 @@ module _ (o : OpenFlash) (is : IsOpenFlash o) where
       ap (λ (s : Option Stopped). record { kind = one.kind; cause = failure_of (stop_fault (why_of s)) wrapped; ignored = is_fallback one.kind && wrote_iprog (history_by s (history_of bytes)) }) (kept_stop o.part one other bytes (ap is_fallback e, ap is_fallback f))
       ∙ ap (λ (k : Kind). record { kind = k; cause = failure_of (stop_fault (why_of (stop_in o.part other bytes))) wrapped; ignored = is_fallback k && wrote_iprog (history_taken o.part other bytes) }) (e ∙ sym f)
 
-  pub falls_alike : (c : BootCourse) (t : AttemptCourse) (cause : Cause) (f : AttemptCourse) → IsCourse o.part o.flash c → StartsAsFallback o f → UpdateFails o t cause false → FallsBackAlike o cause f c
+  pub falls_alike : (c : BootCourse) (t : AttemptCourse) (cause : Cause) (f : AttemptCourse) → IsCourse o.part o.flash c → StartsAsFallback o f → UpdateFallsBack o t cause → FallsBackAlike o cause f c
   falls_alike c t cause f course s fails =
       let kept : Kept = kept_then t in
       let l : AttemptCourse = with_kept f kept in

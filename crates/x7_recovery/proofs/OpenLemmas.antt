@@ -4,7 +4,7 @@ use Rattle.std.proofs.Common.{◌≡◌, ◌+◌, ◌-◌, ◌*◌, ◌^◌, ◌
 use Rattle.std.proofs.lemmas.Bool.{cases_lt}
 use Rattle.std.proofs.lemmas.List.{take-append-le, take-take}
 use Rattle.std.proofs.Math.Seq.{take-append-add}
-use Rattle.x7_packets.specs.FlashSlot.{sector_size}
+use Rattle.x7_packets.specs.FlashSlot.{sector_size, flash_slot_size}
 use Rattle.x7_words.specs.Word.{AreBytes}
 use Rattle.x7_words.proofs.ListLemmas.{all_append, all_back, all_prefix, all_take}
 use Rattle.x7_packets.specs.ByHand.{reading_of}
@@ -73,13 +73,13 @@ desync_at n start = entry (access.Write 4 13) (n + 32) ∷ iprog_at n start
 
 module _ (flash : List ℕ) (number start : ℕ) (o : HasOpenSlot flash number start) (small : start < 2 ^ 32) where
   abbrev pub n : ℕ
-  n = 32 * number
+  n = flash_slot_size * number
 
   abbrev pub gap : List ℕ
-  gap = take (32 * number) flash
+  gap = take (flash_slot_size * number) flash
 
   abbrev pub rest : List ℕ
-  rest = drop 32 (drop (32 * number) flash)
+  rest = drop flash_slot_size (drop (flash_slot_size * number) flash)
 
   abbrev pub sector : List ℕ
   sector = take sector_size flash
@@ -87,28 +87,28 @@ module _ (flash : List ℕ) (number start : ℕ) (o : HasOpenSlot flash number s
   abbrev pub tail : List ℕ
   tail = drop sector_size flash
 
-  pub gap_long : length gap ≡ 32 * number
-  gap_long = length-take-le (32 * number) flash (omega (arith, o.within, o.long))
+  pub gap_long : length gap ≡ flash_slot_size * number
+  gap_long = length-take-le (flash_slot_size * number) flash (omega (arith, o.within, o.long))
 
   pub split : flash ≡ gap ++ (open_slot start ++ rest)
-  split = sym (take-append-drop (32 * number) flash) ∙ ap (λ (x : List ℕ). gap ++ x) (sym (take-append-drop 32 (drop (32 * number) flash))) ∙ ap (λ (x : List ℕ). gap ++ (x ++ rest)) o.stands
+  split = sym (take-append-drop (flash_slot_size * number) flash) ∙ ap (λ (x : List ℕ). gap ++ x) (sym (take-append-drop flash_slot_size (drop (flash_slot_size * number) flash))) ∙ ap (λ (x : List ℕ). gap ++ (x ++ rest)) o.stands
 
   pub gap_fits : AreBytes gap
-  gap_fits = subst AreBytes (take-take (32 * number) sector_size flash (omega (arith, o.within))) (all_take (λ b. b < 256) (32 * number) sector o.fits)
+  gap_fits = subst AreBytes (take-take (flash_slot_size * number) sector_size flash (omega (arith, o.within))) (all_take (λ b. b < 256) (flash_slot_size * number) sector o.fits)
 
   -- no sync word begins before the slot
   pub none_before : (s more : List ℕ) → flash ≡ (gap ++ s) ++ more → NoneBegins gap s
   none_before s more e = none_before_prefix gap s more (λ prefix back f. elim (cases_lt (length prefix) (length gap)) [
     | inr past ↦ past
     | inl less ↦
-        let there : length prefix ≡ 32 * number = o.alone (length prefix) (omega (arith, less, gap_long, o.within)) (word_at flash prefix back (e ∙ append_assoc gap s more ∙ f)) in
+        let there : length prefix ≡ flash_slot_size * number = o.alone (length prefix) (omega (arith, less, gap_long, o.within)) (word_at flash prefix back (e ∙ append_assoc gap s more ∙ f)) in
         absurd (omega (arith, there, less, gap_long))
   ])
 
   -- ---- the attempt at power
 
   abbrev pub taken : List ℕ
-  taken = take (32 * number) flash ++ power_bytes start
+  taken = take (flash_slot_size * number) flash ++ power_bytes start
 
   abbrev left : List ℕ
   left = slot_end ++ rest
@@ -121,28 +121,28 @@ module _ (flash : List ℕ) (number start : ℕ) (o : HasOpenSlot flash number s
   taken_fits : AreBytes taken
   taken_fits = all_append (λ b. b < 256) gap (power_bytes start) gap_fits (power_fits start)
 
-  taken_long : length taken ≡ 32 * number + 24
+  taken_long : length taken ≡ flash_slot_size * number + 24
   taken_long = length-append gap (power_bytes start) ∙ ap (λ (m : ℕ). m + 24) gap_long
 
-  taken_history : history_of taken ≡ iprog_at (32 * number) start
+  taken_history : history_of taken ≡ iprog_at (flash_slot_size * number) start
   taken_history =
       history_passed gap (power_bytes start) taken_fits (none_before (power_bytes start) left taken_split)
       ∙ ap (moved (length gap)) (power_history start small)
       ∙ ap (λ (m : ℕ). iprog_at m start) gap_long
 
-  calm : (part : PartData) (kept : Kept) → IsOff kept [] → IsCalm part kept (wbstar_at (32 * number) start) (32 * number + 24)
+  calm : (part : PartData) (kept : Kept) → IsOff kept [] → IsCalm part kept (wbstar_at (flash_slot_size * number) start) (flash_slot_size * number + 24)
   calm part kept off =
       let none : why_at part kept [] (access.Write 16 start) ≡ None = why_none part kept [] (access.Write 16 start) refl refl in
-      calm_bytes part kept (wbstar_at (32 * number) start) (32 * number + 16) (32 * number + 24) (omega arith)
-      (calm_access part kept [] (access.Write 16 start) 0 (32 * number + 16) (omega arith) (record { no_stop = refl; off = off; newest = omega arith }) none off)
+      calm_bytes part kept (wbstar_at (flash_slot_size * number) start) (flash_slot_size * number + 16) (flash_slot_size * number + 24) (omega arith)
+      (calm_access part kept [] (access.Write 16 start) 0 (flash_slot_size * number + 16) (omega arith) (record { no_stop = refl; off = off; newest = omega arith }) none off)
 
-  taken_stop : (part : PartData) → stop_in part at_power taken ≡ Some (record { place = 32 * number + 24; why = stop.Iprog })
+  taken_stop : (part : PartData) → stop_in part at_power taken ≡ Some (record { place = flash_slot_size * number + 24; why = stop.Iprog })
   taken_stop part =
-      let why : why_at part at_power (wbstar_at (32 * number) start) (access.Write 4 15) ≡ Some stop.Iprog = refl in
+      let why : why_at part at_power (wbstar_at (flash_slot_size * number) start) (access.Write 4 15) ≡ Some stop.Iprog = refl in
       ap (λ (h : History). stop_of part at_power h (length taken)) taken_history
-      ∙ ap (stop_of part at_power (iprog_at (32 * number) start)) taken_long
-      ∙ stop_of_access part at_power (wbstar_at (32 * number) start) (access.Write 4 15) (32 * number + 24) (calm part at_power refl).no_stop
-      ∙ ap (stopped_at (32 * number + 24)) why
+      ∙ ap (stop_of part at_power (iprog_at (flash_slot_size * number) start)) taken_long
+      ∙ stop_of_access part at_power (wbstar_at (flash_slot_size * number) start) (access.Write 4 15) (flash_slot_size * number + 24) (calm part at_power refl).no_stop
+      ∙ ap (stopped_at (flash_slot_size * number + 24)) why
 
   taken_never : NeverStarts (history_of taken)
   taken_never = subst NeverStarts (sym taken_history) (inl refl, (inl refl, tt))
@@ -158,7 +158,7 @@ module _ (flash : List ℕ) (number start : ℕ) (o : HasOpenSlot flash number s
       let whole : take k taken ++ drop k taken ≡ taken = take-append-drop k taken in
       let count : length (take k taken) ≡ k = length-take-le k taken within in
       let none : stop_in part at_power (take k taken) ≡ None =
-      no_stop_before part at_power (take k taken) (drop k taken) (record { place = 32 * number + 24; why = stop.Iprog }) (subst AreBytes (sym whole) taken_fits) (ap (stop_in part at_power) whole ∙ taken_stop part) (omega (arith, count, few, taken_long)) in
+      no_stop_before part at_power (take k taken) (drop k taken) (record { place = flash_slot_size * number + 24; why = stop.Iprog }) (subst AreBytes (sym whole) taken_fits) (ap (stop_in part at_power) whole ∙ taken_stop part) (omega (arith, count, few, taken_long)) in
       ap (λ (x : List ℕ). ending_at part at_power (take k x)) taken_split ∙ ap (ending_at part at_power) (take-append-le k taken left within) ∙ prefix_open part at_power k taken taken_fits taken_never none
 
   abbrev pub power : AttemptCourse
@@ -170,8 +170,8 @@ module _ (flash : List ℕ) (number start : ℕ) (o : HasOpenSlot flash number s
   -- what is kept after it
   power_keeps : (part : PartData) → kept_after part at_power false taken Iprog ≡ kept_at_update start
   power_keeps part =
-      let same : until (32 * number + 24) (iprog_at (32 * number) start) ≡ iprog_at (32 * number) start =
-      ap (until (32 * number + 24)) (sym taken_history) ∙ ap (λ (m : ℕ). until m (history_of taken)) (sym taken_long) ∙ until_placed (length taken) (history_of taken) (placed_of taken taken_fits) ∙ taken_history in
+      let same : until (flash_slot_size * number + 24) (iprog_at (flash_slot_size * number) start) ≡ iprog_at (flash_slot_size * number) start =
+      ap (until (flash_slot_size * number + 24)) (sym taken_history) ∙ ap (λ (m : ℕ). until m (history_of taken)) (sym taken_long) ∙ until_placed (length taken) (history_of taken) (placed_of taken taken_fits) ∙ taken_history in
       ap (λ (s : Option Stopped). record {
         wbstar = last_word 16 0 (history_by s (history_of taken));
         timer = last_word 17 0 (history_by s (history_of taken));
@@ -180,9 +180,9 @@ module _ (flash : List ℕ) (number start : ℕ) (o : HasOpenSlot flash number s
         before = Some (record { kind = Power; cause = failure_of (stop_fault (why_of s)) false; ignored = false });
       }) (taken_stop part)
       ∙ ap (λ (h : History). record {
-        wbstar = last_word 16 0 (until (32 * number + 24) h);
-        timer = last_word 17 0 (until (32 * number + 24) h);
-        bspi = last_word 31 0 (until (32 * number + 24) h);
+        wbstar = last_word 16 0 (until (flash_slot_size * number + 24) h);
+        timer = last_word 17 0 (until (flash_slot_size * number + 24) h);
+        bspi = last_word 31 0 (until (flash_slot_size * number + 24) h);
         kind = Iprog;
         before = Some (record { kind = Power; cause = None; ignored = false });
       }) taken_history
@@ -206,15 +206,15 @@ module _ (flash : List ℕ) (number start : ℕ) (o : HasOpenSlot flash number s
 
   -- the sector from the slot on
   abbrev pub more : List ℕ
-  more = take (sector_size - 32 * number - 32) rest
+  more = take (sector_size - flash_slot_size * number - flash_slot_size) rest
 
   abbrev pub from_slot : List ℕ
   from_slot = open_slot start ++ more
 
   pub sector_is : sector ≡ gap ++ from_slot
   sector_is =
-      let m : ℕ = sector_size - 32 * number in
-      let k : ℕ = sector_size - 32 * number - 32 in
+      let m : ℕ = sector_size - flash_slot_size * number in
+      let k : ℕ = sector_size - flash_slot_size * number - flash_slot_size in
       let sum : length gap + m ≡ sector_size = omega (arith, gap_long, o.within) in
       let sum_2 : length (open_slot start) + k ≡ m = omega (arith, slot_long 0xAA995566 start, o.within) in
       ap (take sector_size) split
@@ -234,11 +234,11 @@ module _ (flash : List ℕ) (number start : ℕ) (o : HasOpenSlot flash number s
         let prefix_2 : List ℕ = (gap ++ open_slot start) ++ prefix in
         let grouped : (gap ++ (open_slot start ++ (prefix ++ (sync_bytes ++ back)))) ++ tail ≡ ((gap ++ open_slot start) ++ prefix) ++ (sync_bytes ++ (back ++ tail)) = simp append_assoc in
         let there : flash ≡ prefix_2 ++ (sync_bytes ++ (back ++ tail)) = cut ∙ ap (λ (x : List ℕ). (gap ++ (open_slot start ++ x)) ++ tail) word ∙ grouped in
-        let long : length prefix_2 ≡ 32 * number + 32 + length prefix = length-append (gap ++ open_slot start) prefix ∙ ap (λ (x : ℕ). x + length prefix) (length-append gap (open_slot start) ∙ omega (arith, gap_long, slot_long 0xAA995566 start)) in
+        let long : length prefix_2 ≡ flash_slot_size * number + flash_slot_size + length prefix = length-append (gap ++ open_slot start) prefix ∙ ap (λ (x : ℕ). x + length prefix) (length-append gap (open_slot start) ∙ omega (arith, gap_long, slot_long 0xAA995566 start)) in
         let of_more : length more ≡ length prefix + (4 + length back) = ap length word ∙ length-append prefix (sync_bytes ++ back) ∙ ap (λ (x : ℕ). length prefix + x) (length-append sync_bytes back) in
-        let of_sector : sector_size ≡ 32 * number + (32 + length more) =
+        let of_sector : sector_size ≡ flash_slot_size * number + (flash_slot_size + length more) =
         sym sector_long ∙ ap length sector_is ∙ length-append gap from_slot ∙ ap (λ (x : ℕ). length gap + x) (length-append (open_slot start) more) ∙ omega (arith, gap_long, slot_long 0xAA995566 start) in
-        let here : length prefix_2 ≡ 32 * number = o.alone (length prefix_2) (omega (arith, long, of_more, of_sector)) (word_at flash prefix_2 (back ++ tail) there) in
+        let here : length prefix_2 ≡ flash_slot_size * number = o.alone (length prefix_2) (omega (arith, long, of_more, of_sector)) (word_at flash prefix_2 (back ++ tail) there) in
         absurd (omega (arith, here, long));
   }
 
@@ -251,16 +251,16 @@ module _ (flash : List ℕ) (number start : ℕ) (o : HasOpenSlot flash number s
   pub none_sector : NoneBegins gap from_slot
   none_sector = none_before from_slot tail (sym (take-append-drop sector_size flash) ∙ ap (λ (x : List ℕ). x ++ tail) sector_is)
 
-  pub sector_history : history_of sector ≡ desync_at (32 * number) start
+  pub sector_history : history_of sector ≡ desync_at (flash_slot_size * number) start
   sector_history =
       ap history_of sector_is
       ∙ history_passed gap from_slot (subst AreBytes sector_is o.fits) none_sector
       ∙ ap (moved (length gap)) (history_on (open_slot start) more slot_fits' goes ∙ slot_history start small)
       ∙ ap (λ (m : ℕ). desync_at m start) gap_long
 
-  pub sector_going : (part : PartData) (kept : Kept) → is_fallback kept.kind ≡ true → IsGoing part kept NotBegun (desync_at (32 * number) start) sector_size
+  pub sector_going : (part : PartData) (kept : Kept) → is_fallback kept.kind ≡ true → IsGoing part kept NotBegun (desync_at (flash_slot_size * number) start) sector_size
   sector_going part kept e =
-      let m : ℕ = 32 * number in
+      let m : ℕ = flash_slot_size * number in
       let first : IsGoing part kept NotBegun [] 0 = record { calm = record { no_stop = refl; off = fallback_off kept [] e; newest = omega arith }; still = inl (record { armed_is = never_armed 0; progress_is = refl }, refl); pending = refl } in
       let wbstar : IsGoing part kept NotBegun (wbstar_at m start) (m + 16) =
       going_access part kept NotBegun [] (access.Write 16 start) 0 (m + 16) (omega arith) first (record { start = refl; shutdown = refl; desync = refl }) (why_none part kept [] (access.Write 16 start) refl refl) (fallback_off kept (wbstar_at m start) e) in
@@ -276,7 +276,7 @@ module _ (flash : List ℕ) (number start : ℕ) (o : HasOpenSlot flash number s
       let searching : is_synced (reading_of sector).place ≡ false =
       ap (λ (x : List ℕ). is_synced (reading_of x).place) sector_is ∙ synced_passed gap from_slot (subst AreBytes sector_is o.fits) none_sector
       ∙ (rest_on part kept (open_slot start) more slot_fits' goes (slot_rests part kept start small e)).searching in
-      rests part kept NotBegun sector (desync_at (32 * number) start) sector_size sector_history sector_long searching (sector_going part kept e) refl
+      rests part kept NotBegun sector (desync_at (flash_slot_size * number) start) sector_size sector_history sector_long searching (sector_going part kept e) refl
 
   pub sector_never : NeverStarts (history_of sector)
   sector_never = subst NeverStarts (sym sector_history) (inr (refl, (refl, tt)), (inl refl, (inl refl, tt)))

@@ -2,7 +2,7 @@
 use Rattle.std.proofs.Common.{◌≡◌, ◌≢◌, ◌+◌, ◌*◌, ◌/◌, ◌%◌, ◌<◌, ◌≤◌, get_or, append_assoc, inl, inr, ℕ, zero, suc, true, false, None, List, [], ◌∷◌, ◌++◌, drop, take, length, replicate, ◌-◌, length-append, refl, ap, sym, subst, ◌∙◌, arith}
 use Rattle.std.proofs.lemmas.List.{append-nil, get_or-take, length-replicate}
 use Rattle.std.proofs.Math.Seq.{drop-append_seam, take-append_seam}
-use Rattle.x7_packets.specs.FlashSlot.{sector_size}
+use Rattle.x7_packets.specs.FlashSlot.{sector_size, flash_slot_size}
 use Rattle.x7_words.specs.Word.{AreBytes}
 use Rattle.x7_words.proofs.FlashLemmas.{bytes_replaced}
 use Rattle.x7_part.specs.Part.{PartData}
@@ -131,9 +131,9 @@ slot_begins : (start : ℕ) → four_at (open_slot start) 0 ≡ open_switch
 unfolding slot
 slot_begins start = refl
 
-begins_open : (flash : List ℕ) (start : ℕ) → take 32 (drop 0 flash) ≡ open_slot start → four_at flash 0 ≡ open_switch
+begins_open : (flash : List ℕ) (start : ℕ) → take flash_slot_size (drop 0 flash) ≡ open_slot start → four_at flash 0 ≡ open_switch
 begins_open flash start e =
-    let byte : (i : ℕ) → i < 32 → get_or flash i 0 ≡ get_or (open_slot start) i 0 = λ i h. sym (get_or-take 32 flash i 0 h) ∙ ap (λ (x : List ℕ). get_or x i 0) e in
+    let byte : (i : ℕ) → i < flash_slot_size → get_or flash i 0 ≡ get_or (open_slot start) i 0 = λ i h. sym (get_or-take flash_slot_size flash i 0 h) ∙ ap (λ (x : List ℕ). get_or x i 0) e in
     rw (byte 0 (omega arith), byte 1 (omega arith), byte 2 (omega arith), byte 3 (omega arith)) (slot_begins start)
 
 pub left_torn : (part : PartData) (golden : PlanData) (update stream : List ℕ) → HasImage part golden update → AreBytes update → IsUpdatable (golden_image part golden update)
@@ -144,11 +144,11 @@ left_torn part golden update stream image bytes l =
     let start : ℕ = place / part.start_unit in
     let b : (rest : List ℕ) × (flash ≡ (first_sector start ++ full_stream part golden) ++ rest) = image_begins part.start_unit (full_stream part golden) update in
     let begins : flash ≡ open_slot start ++ (free_slots start ++ (full_stream part golden ++ b.0)) = b.1 ∙ append_assoc (first_sector start) (full_stream part golden) b.0 ∙ append_assoc (open_slot start) (free_slots start) (full_stream part golden ++ b.0) in
-    let stands : take 32 (drop 0 flash) ≡ open_slot start =
-    ap (take 32) begins ∙ ap (λ (n : ℕ). take n (open_slot start ++ (free_slots start ++ (full_stream part golden ++ b.0)))) (sym (slot_long 0xAA995566 start)) ∙ take-append_seam (open_slot start) (free_slots start ++ (full_stream part golden ++ b.0)) in
+    let stands : take flash_slot_size (drop 0 flash) ≡ open_slot start =
+    ap (take flash_slot_size) begins ∙ ap (λ (n : ℕ). take n (open_slot start ++ (free_slots start ++ (full_stream part golden ++ b.0)))) (sym (slot_long 0xAA995566 start)) ∙ take-append_seam (open_slot start) (free_slots start ++ (full_stream part golden ++ b.0)) in
     let is : IsOpen flash 0 = begins_open flash start stands in
     let found : List ℕ = switched 0 spent_switch flash in
     let left : IsBetweenSlots flash found = between_spent flash found l.slots (spends 0 (omega arith) is refl) in
     let fits : AreBytes flash = image_fits part.start_unit (full_stream part golden) update (full_stream_fits part golden image.is_part image.plan) bytes in
     let spent : AreBytes spent_switch = (omega arith, (omega arith, (omega arith, (omega arith, tt)))) in
-    (found, between l (bytes_replaced (32 * 0) spent_switch flash spent fits) left, λ same. left.none_open 0 (omega arith) (ap (λ (x : List ℕ). switch_of x 0) same ∙ is))
+    (found, between l (bytes_replaced (flash_slot_size * 0) spent_switch flash spent fits) left, λ same. left.none_open 0 (omega arith) (ap (λ (x : List ℕ). switch_of x 0) same ∙ is))

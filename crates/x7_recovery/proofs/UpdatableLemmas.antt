@@ -5,7 +5,7 @@ use Rattle.std.proofs.lemmas.List.{length-replicate, get_or-drop, get_or_append_
 use Rattle.x7_words.proofs.WordLemmas.{word_whole}
 use Rattle.x7_words.specs.Word.{bytes_of_word, word_of_bytes}
 use Rattle.std.proofs.Math.Seq.{drop-append_seam}
-use Rattle.x7_packets.specs.FlashSlot.{sector_size, flash_slot}
+use Rattle.x7_packets.specs.FlashSlot.{sector_size, flash_slot, flash_slot_size, flash_slot_count}
 use Rattle.x7_boot.specs.Image as image
 use Rattle.x7_boot.specs.Image.{free_slot, free_slots, filled_to, first_sector, image_of, image_size, open_slot, sector_from, slot}
 use Rattle.x7_recovery.proofs.SlotLemmas.{image_begins, place_whole, sector_long, size_after, slot_long, update_after}
@@ -17,17 +17,17 @@ use Rattle.x7_recovery.specs.Recovery.{IsPrepared}
 use Rattle.x7_update.specs.Layout.{IsUpdatable, LeadsToUpdate, IsOpen, four_at, first_slot, free_switch, open_switch, switch_of, update_place}
 
 -- the byte of a slot among equal ones
-slot_among : (one rest : List ℕ) (n k i : ℕ) → length one ≡ 32 → k < n → i < 32 → get_or (repeat n one ++ rest) (32 * k + i) 0 ≡ get_or one i 0
+slot_among : (one rest : List ℕ) (n k i : ℕ) → length one ≡ flash_slot_size → k < n → i < flash_slot_size → get_or (repeat n one ++ rest) (flash_slot_size * k + i) 0 ≡ get_or one i 0
 slot_among one rest zero k i e h j = absurd (omega arith)
 slot_among one rest (suc n) zero i e h j =
-    let at : 32 * 0 + i ≡ i = omega arith in
+    let at : flash_slot_size * 0 + i ≡ i = omega arith in
     ap (λ m. get_or ((one ++ repeat n one) ++ rest) m 0) at
     ∙ ap (λ l. get_or l i 0) (append_assoc one (repeat n one) rest)
     ∙ get_or_append_left one (repeat n one ++ rest) 0 i (omega (arith, e, j))
 slot_among one rest (suc n) (suc k) i e h j =
-    let at : 32 * suc k + i - 32 ≡ 32 * k + i = omega arith in
-    ap (λ l. get_or l (32 * suc k + i) 0) (append_assoc one (repeat n one) rest)
-    ∙ get_or-append_right one (repeat n one ++ rest) 32 (32 * suc k + i) 0 e (omega arith)
+    let at : flash_slot_size * suc k + i - flash_slot_size ≡ flash_slot_size * k + i = omega arith in
+    ap (λ l. get_or l (flash_slot_size * suc k + i) 0) (append_assoc one (repeat n one) rest)
+    ∙ get_or-append_right one (repeat n one ++ rest) flash_slot_size (flash_slot_size * suc k + i) 0 e (omega arith)
     ∙ ap (λ m. get_or (repeat n one ++ rest) m 0) at
     ∙ slot_among one rest n k i e (omega arith) j
 
@@ -61,16 +61,16 @@ module _ (start : ℕ) (all rest : List ℕ) (begins : all ≡ first_sector star
   is : all ≡ open_slot start ++ (free_slots start ++ rest)
   is = begins ∙ append_assoc (open_slot start) (free_slots start) rest
 
-  open_byte : (i : ℕ) → i < 32 → get_or all i 0 ≡ get_or (open_slot start) i 0
+  open_byte : (i : ℕ) → i < flash_slot_size → get_or all i 0 ≡ get_or (open_slot start) i 0
   open_byte i h = ap (λ l. get_or l i 0) is ∙ get_or_append_left (open_slot start) (free_slots start ++ rest) 0 i (omega (arith, h, slot_long 0xAA995566 start))
 
-  pub free_byte : (k i : ℕ) → k < 2047 → i < 32 → get_or all (32 * suc k + i) 0 ≡ get_or (free_slot start) i 0
+  pub free_byte : (k i : ℕ) → k < flash_slot_count - 1 → i < flash_slot_size → get_or all (flash_slot_size * suc k + i) 0 ≡ get_or (free_slot start) i 0
   free_byte k i h j =
-      let at : 32 * suc k + i - 32 ≡ 32 * k + i = omega arith in
-      ap (λ l. get_or l (32 * suc k + i) 0) is
-      ∙ get_or-append_right (open_slot start) (free_slots start ++ rest) 32 (32 * suc k + i) 0 (slot_long 0xAA995566 start) (omega arith)
+      let at : flash_slot_size * suc k + i - flash_slot_size ≡ flash_slot_size * k + i = omega arith in
+      ap (λ l. get_or l (flash_slot_size * suc k + i) 0) is
+      ∙ get_or-append_right (open_slot start) (free_slots start ++ rest) flash_slot_size (flash_slot_size * suc k + i) 0 (slot_long 0xAA995566 start) (omega arith)
       ∙ ap (λ m. get_or (free_slots start ++ rest) m 0) at
-      ∙ ap (λ l. get_or (l ++ rest) (32 * k + i) 0) (free_repeat start)
+      ∙ ap (λ l. get_or (l ++ rest) (flash_slot_size * k + i) 0) (free_repeat start)
       ∙ slot_among (free_slot start) rest 2047 k i (slot_long 0xFFFFFFFF start) h j
 
   start_is : four_at all 12 ≡ bytes_of_word start
@@ -82,25 +82,25 @@ module _ (start : ℕ) (all rest : List ℕ) (begins : all ≡ first_sector star
   pub place_is : start < 2 ^ 32 → update_place all ≡ start
   place_is h = ap word_of_bytes start_is ∙ word_whole start h
 
-  pub leads : (k : ℕ) → k < 2048 → LeadsToUpdate all k
+  pub leads : (k : ℕ) → k < flash_slot_count → LeadsToUpdate all k
   leads zero h = λ i j l.
-      let at : 32 * 0 + i ≡ i = omega arith in
+      let at : flash_slot_size * 0 + i ≡ i = omega arith in
       ap (λ m. get_or all m 0) at ∙ open_byte i l ∙ sym (ap (λ s. get_or s i 0) first_is)
   leads (suc k) h = λ i j l. free_byte k i (omega arith) l ∙ same_after start i j ∙ sym (ap (λ s. get_or s i 0) first_is)
 
-  pub others_free : (k : ℕ) → k < 2047 → switch_of all (suc k) ≡ free_switch
+  pub others_free : (k : ℕ) → k < flash_slot_count - 1 → switch_of all (suc k) ≡ free_switch
   others_free k h =
-      let at : 32 * suc k + 0 ≡ 32 * suc k = omega arith in
-      let first : get_or all (32 * suc k) 0 ≡ get_or (free_slot start) 0 0 = ap (λ m. get_or all m 0) (sym at) ∙ free_byte k 0 h (omega arith) in
+      let at : flash_slot_size * suc k + 0 ≡ flash_slot_size * suc k = omega arith in
+      let first : get_or all (flash_slot_size * suc k) 0 ≡ get_or (free_slot start) 0 0 = ap (λ m. get_or all m 0) (sym at) ∙ free_byte k 0 h (omega arith) in
       rw (first, free_byte k 1 h (omega arith), free_byte k 2 h (omega arith), free_byte k 3 h (omega arith)) (free_begins start)
 
-  not_open : (k : ℕ) → suc k < 2048 → IsOpen all (suc k) → ⊥
+  not_open : (k : ℕ) → suc k < flash_slot_count → IsOpen all (suc k) → ⊥
   not_open k h o =
       let same : open_switch ≡ free_switch = sym o ∙ others_free k (omega arith) in
       let byte : 0xAA ≡ 0xFF = ap (λ l. get_or l 0 0) same in
       absurd (omega (arith, byte))
 
-  pub one_open : (k other : ℕ) → k < 2048 → other < 2048 → IsOpen all k → IsOpen all other → k ≡ other
+  pub one_open : (k other : ℕ) → k < flash_slot_count → other < flash_slot_count → IsOpen all k → IsOpen all other → k ≡ other
   one_open zero zero h j o p = refl
   one_open zero (suc other) h j o p = absurd (not_open other j p)
   one_open (suc k) other h j o p = absurd (not_open k h o)

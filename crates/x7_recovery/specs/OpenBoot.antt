@@ -52,6 +52,14 @@ pub record UpdateFails (o : OpenFlash) (t : AttemptCourse) (cause : Cause) (forb
   pub ended : UpdateEnds o t (ending.Failed cause)
   pub forbids : forbids_fallback (end_state o.part t).ctl0 ≡ forbidden
 
+-- the attempt at the update failed by this cause, and CTL0 forbids a fallback at its end
+abbrev pub UpdateStops : OpenFlash → AttemptCourse → Cause → Type 0
+UpdateStops o t cause = UpdateFails o t cause true
+
+-- the attempt at the update failed by this cause, and CTL0 allows a fallback at its end
+abbrev pub UpdateFallsBack : OpenFlash → AttemptCourse → Cause → Type 0
+UpdateFallsBack o t cause = UpdateFails o t cause false
+
 -- the second attempt of a boot is that at the update
 pub record TriesUpdate (o : OpenFlash) (attempts : List Tried) : Type 0 where
   pub course : AttemptCourse
@@ -151,16 +159,16 @@ pub record BootsOpen (o : OpenFlash) (c : BootCourse) : Type 0 where
   -- an update that is the full stream of a plan starts, with the memory of the plan
   pub full : (update : PlanData) → HasFullUpdate o update → StartsUpdate o update c
   -- where the update fails and CTL0 forbids a fallback, the boot stops
-  pub stops : (t : AttemptCourse) (cause : Cause) → UpdateFails o t cause true → EndsAtUpdate o t boot_end.Stopped c
+  pub stops : (t : AttemptCourse) (cause : Cause) → UpdateStops o t cause → EndsAtUpdate o t boot_end.Stopped c
   -- where the update fails and CTL0 allows a fallback, the full stream of a plan starts as
   -- golden stream, with the memory of the plan
-  pub falls_back : (t : AttemptCourse) (cause : Cause) (golden : PlanData) → HasFullGolden o golden → UpdateFails o t cause false → FallsBack o cause golden c
+  pub falls_back : (t : AttemptCourse) (cause : Cause) (golden : PlanData) → HasFullGolden o golden → UpdateFallsBack o t cause → FallsBack o cause golden c
   -- where the update fails and CTL0 allows a fallback, a golden stream of any kind that starts at power after an erased
   -- first sector and begins clean starts as it did there
-  pub falls_clean : (t : AttemptCourse) (cause : Cause) (golden : AttemptCourse) → StartsClean o.part o.flash golden → UpdateFails o t cause false → FallsBackClean o cause golden c
+  pub falls_clean : (t : AttemptCourse) (cause : Cause) (golden : AttemptCourse) → StartsClean o.part o.flash golden → UpdateFallsBack o t cause → FallsBackClean o cause golden c
   -- where the update fails and CTL0 allows a fallback, any golden stream with which some fallback
   -- over the flash starts does as that fallback
-  pub falls_alike : (t : AttemptCourse) (cause : Cause) (f : AttemptCourse) → StartsAsFallback o f → UpdateFails o t cause false → FallsBackAlike o cause f c
+  pub falls_alike : (t : AttemptCourse) (cause : Cause) (f : AttemptCourse) → StartsAsFallback o f → UpdateFallsBack o t cause → FallsBackAlike o cause f c
 
 -- every boot from the flash comes to what a boot from a flash with an open slot comes to
 abbrev pub EachBootsOpen : OpenFlash → Type 0

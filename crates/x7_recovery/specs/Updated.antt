@@ -29,5 +29,5 @@ pub record IsUpdated (part : PartData) (flash found : List ℕ) (golden : Attemp
   pub fits : AreBytes (take sector_size found)
 
 -- the slot that the last update opened
-abbrev pub opened_by : (part : PartData) (flash found : List ℕ) (golden : AttemptCourse) → IsUpdated part flash found golden → OpenFlash
-opened_by part flash found golden u = slot_of_flash part found u.after.next (update_place flash)
+abbrev pub opened_by : {part : PartData} {flash found : List ℕ} {golden : AttemptCourse} → IsUpdated part flash found golden → OpenFlash
+opened_by {part} {flash} {found} u = slot_of_flash part found u.after.next (update_place flash)

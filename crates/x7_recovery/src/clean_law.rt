@@ -1,13 +1,13 @@
 //! What a golden stream of any kind does after updates, where one attempt before them shows that it starts and begins
 //! clean. The functions do nothing: their contracts are the laws.
-ghost use Rattle.std.specs.Prelude.{◌≡◌, ◌≤◌, List, ℕ, false, length};
+ghost use Rattle.std.specs.Prelude.{◌≡◌, ◌≤◌, List, ℕ, length};
 ghost use Rattle.x7_part.specs.Part.{PartData};
 ghost use Rattle.x7_regs.specs.declared.boot_status.Cause.{Cause};
 ghost use Rattle.x7_boot.specs.Attempt.{AttemptCourse};
 ghost use Rattle.x7_recovery.specs.Clean.{StartsClean};
 ghost use Rattle.x7_boot.specs.Boots.{BootCourse, IsCourse};
 ghost use Rattle.x7_recovery.specs.Golden.{GoldenStarts};
-ghost use Rattle.x7_recovery.specs.OpenBoot.{EachBootsOpen, FallsBackClean, UpdateFails};
+ghost use Rattle.x7_recovery.specs.OpenBoot.{EachBootsOpen, FallsBackClean, UpdateFallsBack};
 ghost use Rattle.x7_recovery.specs.Updated.{AfterUpdates, IsUpdated, opened_by};
 ghost use Rattle.x7_update.specs.Layout.{IsUpdatable, update_place};
 
@@ -27,7 +27,7 @@ pub fn updates_keep_golden_streams()
 /// which it started before, with the same memory, and BOOTSTS shows the fallback and the cause of the update's failure.
 pub fn updated_flashes_fall_back()
     ensures boots { (part : PartData) (flash found : List ℕ) (golden : AttemptCourse) → (u : IsUpdated part flash found golden)
-        → EachBootsOpen (opened_by part flash found golden u) }
+        → EachBootsOpen (opened_by u) }
     ensures falls_back { (part : PartData) (flash found : List ℕ) (golden t : AttemptCourse) (cause : Cause) (c : BootCourse) → (u : IsUpdated part flash found golden)
-        → IsCourse part found c → UpdateFails (opened_by part flash found golden u) t cause false → FallsBackClean (opened_by part flash found golden u) cause golden c }
+        → IsCourse part found c → UpdateFallsBack (opened_by u) t cause → FallsBackClean (opened_by u) cause golden c }
 {}

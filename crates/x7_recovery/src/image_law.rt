@@ -1,6 +1,6 @@
 //! What a boot from the image of a golden and an update stream comes to. The functions
 //! do nothing: their contracts are the laws.
-ghost use Rattle.std.specs.Prelude.{◌≢◌, ◌≤◌, ◌++◌, List, [], ℕ, false, length};
+ghost use Rattle.std.specs.Prelude.{◌≢◌, ◌≤◌, ◌++◌, List, [], ℕ, length};
 ghost use Rattle.x7_part.specs.Part.{PartData};
 ghost use Rattle.x7_part.specs.Ranges.{IsPart};
 ghost use Rattle.x7_regs.specs.declared.boot_status.Cause.TheVariants.{Wrap};
@@ -8,7 +8,7 @@ ghost use Rattle.x7_memory.specs.Plan.{IsPlanFor, PlanData};
 ghost use Rattle.x7_boot.specs.Attempt.{AttemptCourse};
 ghost use Rattle.x7_boot.specs.Image.{flash_limit, image_of, image_size};
 ghost use Rattle.x7_recovery.specs.Example.{nothing_planned, tiny};
-ghost use Rattle.x7_recovery.specs.OpenBoot.{HasFullGolden, HasStreams, UpdateFails};
+ghost use Rattle.x7_recovery.specs.OpenBoot.{HasFullGolden, HasStreams, UpdateFallsBack};
 ghost use Rattle.x7_recovery.specs.OpenSlot.{image_of_flash};
 ghost use Rattle.x7_recovery.specs.PlannedImage.{HasImage, golden_image, place_after};
 ghost use Rattle.x7_recovery.specs.Recovery.{IsPrepared, updating_image};
@@ -35,5 +35,5 @@ pub fn premises_hold()
     ensures prepared { (stream : List ℕ) → IsPrepared (updating_image tiny nothing_planned [] stream) }
     ensures torn { (stream : List ℕ) → (found : List ℕ) × MayBeLeft stream (golden_image tiny nothing_planned []) found × (found ≢ golden_image tiny nothing_planned []) }
     ensures fails { (part : PartData) (golden : PlanData)
-        → (t : AttemptCourse) × UpdateFails (image_of_flash part (golden_image part golden []) (place_after part golden)) t Wrap false }
+        → (t : AttemptCourse) × UpdateFallsBack (image_of_flash part (golden_image part golden []) (place_after part golden)) t Wrap }
 {}

@@ -9,14 +9,14 @@ use Rattle.x7_listing.proofs.BoundLemmas.{few_held, listing_held}
 use Rattle.x7_listing.specs.Listing.{listing_of}
 use Rattle.x7_listing.specs.StreamListing.{stream_listing}
 use Rattle.x7_forms.specs.declared.bad_input.InputFault.TheVariants as input
-use Rattle.x7_tool.specs.Ahead.{GivesNear, HasWritten, Extends, ReadsNear, StaysNear, StaysNearBy, most_ahead}
+use Rattle.x7_tool.specs.Ahead.{GivesNear, HasWritten, ExtendsOutput, ReadsNear, StaysNear, StaysNearBy, most_ahead}
 use Rattle.x7_tool.specs.Outside.{Outside}
 use Rattle.x7_forms.specs.declared.status.Status.{Status}
 use Rattle.x7_forms.specs.declared.status.Status.TheVariants as status
 use Rattle.x7_forms.specs.Event.{Event, status_of_event, bad_input, missing, no_memory, reading_failed, too_large, writing_failed}
 use Rattle.x7_forms.specs.Form.{Listing}
-use Rattle.x7_forms.specs.Turn.{IsBadBeginning, NoLetterGiven, UnreadBeginning, Unopened, Unread, longest_beginning, turn_size}
-use Rattle.x7_tool.specs.Between.{Lists, ListsStream}
+use Rattle.x7_forms.specs.Turn.{IsBadBeginning, NoLetterGiven, UnreadBeginning, Unopened, UnreadTurn, longest_beginning, turn_size}
+use Rattle.x7_tool.specs.Between.{ListsInTurns, ListsStream}
 use Rattle.x7_forms.proofs.BeginningLemmas.{letter_there}
 use Rattle.x7_forms.proofs.ReadLemmas.{known_all}
 use Rattle.x7_tool.proofs.Causes.{may_follow, nothing_listed, nothing_taken}
@@ -70,7 +70,7 @@ stays_near event stream old new h = stays_by (status_of_event event) stream old 
 abbrev pub Longer : Option (List ℕ) → Option (List ℕ) → Type 0
 Longer old new = (more : List ℕ) × (new ≡ appended old more)
 
-pub same_now : (old : SinkState) → Extends old old
+pub same_now : (old : SinkState) → ExtendsOutput old old
 same_now old = ([], sym (appended_nil old.written))
 
 pub longer_prefix : (old new : Option (List ℕ)) (text : List ℕ) → PutsPrefix old text new → Longer old new
@@ -94,7 +94,7 @@ nothing_written old new l before after o n =
     record { text = []; lists = nothing_listed; written = omega (arith, none, ap length all, length-append before l.0) }
 
 -- the listing so far of the bytes that were taken, and whatever was put after it
-turn_written : (taken line content : List ℕ) (l : ListerState) (old mid new : Option (List ℕ)) → stream_listing taken ≡ Ok (line ++ listing_of content) → Lists l (appended old line) mid content → Longer mid new
+turn_written : (taken line content : List ℕ) (l : ListerState) (old mid new : Option (List ℕ)) → stream_listing taken ≡ Ok (line ++ listing_of content) → ListsInTurns l (appended old line) mid content → Longer mid new
     → (before after : List ℕ) → old ≡ Some before → new ≡ Some after → HasWritten taken before after
 turn_written taken line content l old mid new e t m before after o n =
     let got : mid ≡ Some (before ++ line ++ t.given) = t.put ∙ ap (λ (k : Option (List ℕ)). appended (appended k line) t.given) o in
@@ -135,7 +135,7 @@ prefix_near contents stream taken rest old new s few l =
     (w, near))
 
 pub turn_near : (contents : Option (List ℕ → Option (List ℕ))) (stream taken piece line content : List ℕ) (l : ListerState) (rest old mid new : Option (List ℕ)) → RestIsWhole contents stream (preceded (taken ++ piece) rest)
-    → length taken ≤ length content + longest_beginning → length piece ≤ turn_size → stream_listing taken ≡ Ok (line ++ listing_of content) → Lists l (appended old line) mid content → Longer mid new → NearBy contents stream rest old new
+    → length taken ≤ length content + longest_beginning → length piece ≤ turn_size → stream_listing taken ≡ Ok (line ++ listing_of content) → ListsInTurns l (appended old line) mid content → Longer mid new → NearBy contents stream rest old new
 turn_near contents stream taken piece line content l rest old mid new s close few e t m =
     near_by contents stream taken piece rest old new s (omega (arith, few))
     (λ before after o n.
@@ -153,7 +153,7 @@ prefix_given contents stream given old new few l inputs bytes before after c b o
     record { early = []; others = bytes; split = refl; not_far = omega (arith, none, few); written = nothing_written old new l before after o n }
 
 pub turn_given : (contents : Option (List ℕ → Option (List ℕ))) (stream taken line content : List ℕ) (given : ℕ) (l : ListerState) (rest old mid new : Option (List ℕ)) → RestIsWhole contents stream (preceded taken rest)
-    → given ≤ length taken + turn_size → stream_listing taken ≡ Ok (line ++ listing_of content) → Lists l (appended old line) mid content → Longer mid new → GivenBy contents stream given old new
+    → given ≤ length taken + turn_size → stream_listing taken ≡ Ok (line ++ listing_of content) → ListsInTurns l (appended old line) mid content → Longer mid new → GivenBy contents stream given old new
 turn_given contents stream taken line content given l rest old mid new s few e t m inputs bytes before after c b o n =
     let k = known_all inputs stream taken rest (subst (λ (k : Option (List ℕ → Option (List ℕ))). RestIsWhole k stream (preceded taken rest)) c s) in
     let whole : bytes ≡ taken ++ k.0 = let e = k.1.1 in cc in
@@ -213,7 +213,7 @@ module _ (contents : Option (List ℕ → Option (List ℕ))) (stream : List ℕ
       as_event n.given event (bad_input name (input.Byte h.place)) h.reports (subst (λ (r : Option (List ℕ)). SoonBy contents stream r) e (bad_soon contents stream name m n event s h))
 
   pub unread_near : (s n : InputsState) (name taken : List ℕ) (l : ListerState) (left : ℕ) (event : Event) → n.rest ≡ rest → RestIsWhole contents stream (preceded taken s.rest) → (t : ListsStream l old new taken)
-      → n.given ≤ length taken + turn_size → (event ≡ too_large name → left < turn_size) → Longer new new → Unread s name n left event → StaysBy (status_of_event event) contents stream n.given rest old new
+      → n.given ≤ length taken + turn_size → (event ≡ too_large name → left < turn_size) → Longer new new → UnreadTurn s name n left event → StaysBy (status_of_event event) contents stream n.given rest old new
   unread_near s n name taken l left event e sel t few over same (inl h) =
       as_event n.given event (reading_failed name) h.0 (
         judged_unjudged contents stream taken s.rest n.given sel (λ more. (t.line ++ listing_of (t.content ++ more), t.listing more)),

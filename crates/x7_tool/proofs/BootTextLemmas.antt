@@ -24,7 +24,7 @@ use Rattle.x7_tool.specs.Outside.{ReadsFlash}
 use Rattle.x7_tool.specs.Run.{FlashComes}
 use Rattle.x7_tool.specs.Play.{play_answer}
 use Rattle.x7_report.specs.Reports.{PlayTextState, report_text}
-use Rattle.x7_forms.specs.Step.{seen}
+use Rattle.x7_forms.specs.Step.{result_by}
 use Rattle.x7_forms.specs.declared.refusal.Refusal.{Refusal}
 
 -- the answer of a boot
@@ -66,7 +66,7 @@ flash_boots name part (Some all) b answer short boots due answers = (short, λ f
 -- the text of a boot was made, or there was no memory for it
 pub text_boots : (name : List ℕ) (part : PartData) (old mid new : FlashState) (b : BootedState) (got : Result PlayTextState Refusal) → ReadsFlash name old mid → IfKnown mid.bytes (λ all. length all ≤ flash_limit)
     → IfKnown mid.bytes (λ all. AreBytes all → IsBoot part all b) → NoWordDue b.device → IfOk got (λ text. AnswersBoot b (play_answer text)) → IfErr got (λ r. event_of r ≡ no_memory)
-    → new.extent ≤ flash_limit → FlashComes name part old new (seen play_answer got)
+    → new.extent ≤ flash_limit → FlashComes name part old new (result_by play_answer got)
 text_boots name part old mid new b (Ok text) r short boots due ok err size =
     (subst (λ (f : Option (List ℕ)). FlashBoots name part (flash_found f) (Ok (play_answer text))) r.bytes (flash_boots name part mid.bytes b (play_answer text) short boots due ok), size)
 text_boots name part old mid new b (Err x) r short boots due ok err size = inl err

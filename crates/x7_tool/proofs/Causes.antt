@@ -26,8 +26,8 @@ use Rattle.x7_tool.specs.Outcome.{listed, listed_bytes, listed_found}
 use Rattle.x7_forms.specs.Turn.{IsRefused, FollowsUnlessLast, UnreadBeginning, Unopened}
 use Rattle.x7_tool.specs.Outside.{Outside, known_in}
 use Rattle.x7_tool.specs.Ahead.{StaysNear}
-use Rattle.x7_tool.specs.Run.{EndIsCaused, Ends, EndsAs, GetsPrefix, IsPrefixOf, LeftBy, ListLeaves, ListsSoFar}
-use Rattle.x7_forms.specs.Step.{CameIn, DueBy, FailsAmong, IsCaused, seen, step_over}
+use Rattle.x7_tool.specs.Run.{EndIsCaused, CommandEnds, CommandEndsAs, GetsPrefix, IsPrefixOf, LeftBy, ListLeaves, ListsSoFar}
+use Rattle.x7_forms.specs.Step.{CameIn, DueBy, FailsAmong, IsCaused, result_by, step_over}
 use Rattle.x7_forms.proofs.BeginningLemmas.{raw_listed}
 use Rattle.x7_forms.proofs.ReadLemmas.{absence_from, at_fault, at_open, fault_from, known_all, name_is}
 use Rattle.x7_tool.proofs.FlashLemmas.{answers_over}
@@ -90,13 +90,13 @@ ended_left : (cause : ReasonCause) (stream : List ℕ) (old new : Outside) (even
 ended_left Break stream old new event h = some_of (known_in old) stream old.out new.out h.2
 ended_left cause stream old new event h = left_as event.reason stream old new h.1
 
-pub list_ends : (stream : List ℕ) (old new : Outside) (end : Result Answer Event) → EndedIn stream old new end → StaysNear (final_status end) (Some (Listing stream)) old new → Ends (Some (Listing stream)) old new end
+pub list_ends : (stream : List ℕ) (old new : Outside) (end : Result Answer Event) → EndedIn stream old new end → StaysNear (final_status end) (Some (Listing stream)) old new → CommandEnds (Some (Listing stream)) old new end
 list_ends stream old new (Ok answer) h n = record { cause = has_cause (Listing stream) old new (Ok answer) (answers_over (Listing stream) old new (Ok answer) h.0); wrote = h.1; near = n; measured = λ name a. absurd a; fails_last = tt; updates = tt }
 list_ends stream old new (Err event) h n = record { cause = ended_cause (cause_of_event event) stream old new event refl h; wrote = ended_left (cause_of_event event) stream old new event h; near = n; measured = λ name a e. absurd a; fails_last = λ name a e at. absurd a; updates = tt }
 
 -- a listing ends as it should, by the result of the call that ended it
 pub list_seen : {A : Type 0} (stream : List ℕ) (old new : Outside) (r : Result A Refusal) → OnOk r ((text : List ℕ) × EndedIn stream old new (Ok (record { stopped = false; text = text })))
-    → IfErr r (λ x. EndedIn stream old new (Err (event_of x))) → IfErr r (λ x. StaysNear (status_of_event (event_of x)) (Some (Listing stream)) old new) → EndsAs (Some (Listing stream)) old new (seen (λ _. false) r)
+    → IfErr r (λ x. EndedIn stream old new (Err (event_of x))) → IfErr r (λ x. StaysNear (status_of_event (event_of x)) (Some (Listing stream)) old new) → CommandEndsAs (Some (Listing stream)) old new (result_by (λ _. false) r)
 list_seen stream old new (Ok a) ok err near = (ok.0, list_ends stream old new (Ok (record { stopped = false; text = ok.0 })) ok.1 tt)
 list_seen stream old new (Err x) ok err near = list_ends stream old new (Err (event_of x)) err near
 

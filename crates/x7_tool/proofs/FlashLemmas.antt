@@ -18,22 +18,22 @@ use Rattle.x7_tool.specs.Leaving.{MayBeFound, UsesFlash}
 use Rattle.x7_boot.specs.Image.{flash_limit}
 use Rattle.x7_forms.specs.declared.refusal.Refusal.{Refusal}
 use Rattle.x7_tool.specs.Outcome.{BootedAs, FlashBoots, FormGives, no_text}
-use Rattle.x7_tool.specs.Outside.{Came, KeepsFlash, Outside, ReadsFlash, known_from, known_in, sources}
+use Rattle.x7_tool.specs.Outside.{CameInRun, KeepsFlash, Outside, ReadsFlash, known_from, known_in, sources}
 use Rattle.x7_tool.specs.Run.{GivesIfKnown, AnswersOver, FlashComes, IsMeasured, FailsLast, IsUnattached}
-use Rattle.x7_forms.specs.Step.{Among, CameIn, DueBy, IsCaused, IsCausedBy, IsDecided, IsDue, IsNoPart, IsPossible, IsUnread, seen, step_over}
+use Rattle.x7_forms.specs.Step.{Among, CameIn, DueBy, IsCaused, IsCausedBy, IsDecided, IsDue, IsNoPart, IsPossible, IsUnread, result_by, step_over}
 use Rattle.x7_forms.proofs.ReadLemmas.{caused_on_by, name_is, outside_goes, part_steady}
 
 -- ---- what more may fail
 
 -- a mishap of an input that a form names, where it may have a flash too
-pub came_wider : (form : AskedForm) (old new : Outside) (m : Mishap) → CameIn (step_over (names_of (Some form)) old.inputs new.inputs) m → Came (Some form) old new m
+pub came_wider : (form : AskedForm) (old new : Outside) (m : Mishap) → CameIn (step_over (names_of (Some form)) old.inputs new.inputs) m → CameInRun (Some form) old new m
 came_wider form old new (Failing name given) h = (h.0, inl h.1)
 came_wider form old new (Lacking name) h = inl h
 
 -- a text that has its cause in the inputs that a form names has it in what the form names, a flash too
 pub answers_over : (form : AskedForm) (old new : Outside) (whole : Result Answer Event) → IsCausedBy (known_in old) (CameIn (step_over (names_of (Some form)) old.inputs new.inputs)) (λ t end. FormGives t form end) whole → AnswersOver form old new whole
 answers_over form old new whole c =
-    caused_on_by Answer (known_in old) (CameIn (step_over (names_of (Some form)) old.inputs new.inputs)) (Came (Some form) old new) (λ t end. FormGives t form end) whole (came_wider form old new) c
+    caused_on_by Answer (known_in old) (CameIn (step_over (names_of (Some form)) old.inputs new.inputs)) (CameInRun (Some form) old new) (λ t end. FormGives t form end) whole (came_wider form old new) c
 
 -- ---- a boot
 
@@ -82,7 +82,7 @@ both name part flash (Err event) h = large_is name (λ e. IsPossible {A = Answer
 pub booted_ends : (old new : Outside) (name part_name : List ℕ) (part : PartData) (C : Mishap → Type 0) (end : Result Answer Event) → IsCaused (known_in old) C (λ known. part_known known part_name) (Ok part)
     → FlashComes name part old.flash new.flash end → AnswersOver (Booting part_name name) old new end
 booted_ends old new name part_name part C (Ok answer) read h =
-    booted_due (known_in old) old.flash.bytes (Came (Some (Booting part_name name)) old new) name part_name part (Ok answer) (known_flash old.inputs.contents old.flash.bytes name) (tt, tt)
+    booted_due (known_in old) old.flash.bytes (CameInRun (Some (Booting part_name name)) old new) name part_name part (Ok answer) (known_flash old.inputs.contents old.flash.bytes name) (tt, tt)
     (read_due (known_in old) C (λ t. part_known t part_name) part read) h.0
 booted_ends old new name part_name part C (Err event) read (inl h) = subst (λ (e : Event). AnswersOver (Booting part_name name) old new (Err e)) (sym h) (inl (inl refl))
 booted_ends old new name part_name part C (Err event) read (inr (inl (inl h))) =
@@ -97,7 +97,7 @@ booted_ends old new name part_name part C (Err event) read (inr (inl (inr h))) =
       due = boot_mishap (known_in old) (Failing name new.inputs.given) name part_name part (reading_failed name) refl refl refl (read_due (known_in old) C (λ t. part_known t part_name) part read);
     })))
 booted_ends old new name part_name part C (Err event) read (inr (inr h)) =
-    booted_due (known_in old) old.flash.bytes (Came (Some (Booting part_name name)) old new) name part_name part (Err event) (known_flash old.inputs.contents old.flash.bytes name) (both name part old.flash.bytes (Err event) h.0)
+    booted_due (known_in old) old.flash.bytes (CameInRun (Some (Booting part_name name)) old new) name part_name part (Err event) (known_flash old.inputs.contents old.flash.bytes name) (both name part old.flash.bytes (Err event) h.0)
     (read_due (known_in old) C (λ t. part_known t part_name) part read) h.0
 
 -- an event of another reason says nothing of a flash's size
@@ -189,7 +189,7 @@ part_good (Some inputs) C name part_name part (inl h) = absurd h
 part_good (Some inputs) C name part_name part (inr h) = subst (λ (r : Result PartData Event). BootedAs name r None (Ok no_text)) (sym h.1) tt
 
 pub boot_last : {A : Type 0} (value : A → Answer) (name part_name : List ℕ) (old : InputsState) (new : FlashState) (result : Result A Refusal) → IfErr result (λ r. event_of r ≡ reading_failed name → new.attached ≡ true → new.extent ≤ flash_limit)
-    → GivesIfKnown (with_inputs old.contents None) (Booting part_name name) (Ok no_text) → FailsLast (Some (Booting part_name name)) old new (seen value result)
+    → GivesIfKnown (with_inputs old.contents None) (Booting part_name name) (Ok no_text) → FailsLast (Some (Booting part_name name)) old new (result_by value result)
 boot_last value name part_name old new (Ok a) h g = tt
 boot_last value name part_name old new (Err r) h g = λ other a e at. elim a [
   | inl same ↦ inl (h (e ∙ ap reading_failed same) at, (no_text, g))

@@ -139,7 +139,8 @@ few_reads part plan stream is p e within s =
     omega (arith, none, all, ap length law.reads)
 
 pub summary_is : (p q : PartData) (name : List ℕ) (seed planned size phase total : ℕ) (frames : List (List ℕ)) (stream none text : List ℕ) → name ≡ p.name → p ≡ q → size ≡ length stream → phase ≡ (state_of q on_the_bench false stream).phase
-    → total ≡ words_sum (frame_at p frames) (addresses_in p) % 2 ^ 32 → AreSame (frame_at q frames) (memory_in q on_the_bench stream) → none ≡ [] → text ≡ none ++ summary_text name seed (record { planned = planned; size = size; phase = phase; sum = total }) → text ≡ played_summary q seed planned stream
+    → total ≡ words_sum (frame_at p frames) (addresses_in p) % 2 ^ 32 → AreSame (frame_at q frames) (memory_in q on_the_bench stream) → none ≡ []
+    → text ≡ none ++ summary_text name seed (record { planned = planned; size = size; phase = phase; sum = total }) → text ≡ played_summary q seed planned stream
 summary_is p q name seed planned size phase total frames stream none text a d s f t same z e =
     let sums : total ≡ words_sum (memory_in q on_the_bench stream) (addresses_in q) % 2 ^ 32 =
     t ∙ ap (λ (x : PartData). words_sum (frame_at x frames) (addresses_in x) % 2 ^ 32) d ∙ ap (λ (n : ℕ). n % 2 ^ 32) (sum_same (frame_at q frames) (memory_in q on_the_bench stream) (addresses_in q) same) in

@@ -18,7 +18,7 @@ use Rattle.x7_words.specs.Input.{InputsState, InputsStay}
 use Rattle.x7_forms.specs.declared.refusal.Refusal.{Refusal}
 use Rattle.x7_forms.specs.Event.{Event, event_of, no_memory}
 use Rattle.x7_forms.specs.Known.{Answer, and_so, part_known, whole_known}
-use Rattle.x7_forms.specs.Step.{AnswersAs, AnswersBy, IsDecided, IsPossible, ReadsWhole, seen, step_over}
+use Rattle.x7_forms.specs.Step.{AnswersAs, AnswersBy, IsDecided, IsPossible, ReadsWhole, result_by, step_over}
 use Rattle.x7_forms.proofs.ReadLemmas.{answers_by, answers_end, answers_go, answers_kept, answers_stop, first_of, part_steady, whole_steady}
 use Rattle.x7_tool.specs.Outcome.{IsUnplanned, PartAndText, PlannedFull, PlannedPartial, frames_event, part_and_text, planner_event, text_limit}
 use Rattle.x7_tool.specs.Plan.{HasNoPlan, ReadsPlan}
@@ -109,14 +109,14 @@ module _ (part frames : List ℕ) (old mid new : InputsState) (Next : Result Par
       planned_end p text (Err event) stays h whole (inr (can.0, can.1, faulty text why))
 
 pub full_ended : (name : List ℕ) (part : PartData) (text : List ℕ) (plan : PlanData) (r : Result PlanFor Refusal) → IsPlanOf part text (Ok plan) → IfOk r (λ t. t.part ≡ part) → IfOk r (λ t. t.plan ≡ plan) → IfErr r (λ x. event_of x ≡ no_memory)
-    → (seen full_answer r ≡ Err no_memory) ⊎ (IsPossible (seen full_answer r) × IsDecided (seen full_answer r) × PlannedFull name (Ok (record { part = part; text = text })) (seen full_answer r))
+    → (result_by full_answer r ≡ Err no_memory) ⊎ (IsPossible (result_by full_answer r) × IsDecided (result_by full_answer r) × PlannedFull name (Ok (record { part = part; text = text })) (result_by full_answer r))
 full_ended name part text plan (Ok t) is same as_planned err = inr (tt, tt, (refl, plan, is, ap (λ p. full_stream p t.plan) same ∙ ap (full_stream part) as_planned))
 full_ended name part text plan (Err x) is same as_planned err = inl (ap Err err)
 
 pub partial_ended : (name : List ℕ) (part : PartData) (text : List ℕ) (plan : PlanData) (r : Result (Vec ℕ Global) Refusal) → IsPlanOf part text (Ok plan)
     → IfOk r (λ end. (t : List ℕ) → IsPlanOf part t (Ok plan) → PlannedPartial name (Ok (record { part = part; text = t })) (Ok (bytes_answer end)))
     → IfErr r (λ x. (event_of x ≡ no_memory) ⊎ ((t : List ℕ) → IsPlanOf part t (Ok plan) → PlannedPartial name (Ok (record { part = part; text = t })) (Err (event_of x))))
-    → (seen bytes_answer r ≡ Err no_memory) ⊎ (IsPossible (seen bytes_answer r) × IsDecided (seen bytes_answer r) × PlannedPartial name (Ok (record { part = part; text = text })) (seen bytes_answer r))
+    → (result_by bytes_answer r ≡ Err no_memory) ⊎ (IsPossible (result_by bytes_answer r) × IsDecided (result_by bytes_answer r) × PlannedPartial name (Ok (record { part = part; text = text })) (result_by bytes_answer r))
 partial_ended name part text plan (Ok end) is ok err = inr (tt, tt, ok text is)
 partial_ended name part text plan (Err x) is ok (inl none) = inl (ap Err none)
 partial_ended name part text plan (Err x) is ok (inr h) = inr (decided (h text is))

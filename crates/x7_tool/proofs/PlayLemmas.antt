@@ -14,7 +14,7 @@ use Rattle.x7_forms.specs.Event.{Event, event_of, no_memory, too_many_reads}
 use Rattle.x7_forms.specs.Known.{Answer, reads_limit}
 use Rattle.x7_playing.specs.Playing.{HasPlayed}
 use Rattle.x7_playing.proofs.PlayLemmas.{IsPlayed}
-use Rattle.x7_forms.specs.Step.{IsDecided, IsPossible, seen}
+use Rattle.x7_forms.specs.Step.{IsDecided, IsPossible, result_by}
 use Rattle.x7_playing.specs.declared.player.Player.{Player}
 use Rattle.x7_forms.specs.declared.refusal.Refusal.{Refusal}
 use Rattle.x7_tool.specs.Play.{report_of, reported, play_answer}
@@ -42,7 +42,7 @@ reported_is part bytes d reads text fault stopped p f s t =
 -- the text of a play, or why there is none
 pub text_ends : (part : PartData) (bytes : List ℕ) (p : Player) (r : Result PlayTextState Refusal) → HasPlayed part bytes p → IfOk r (λ text. (part : PartData) (bytes : List ℕ) → HasPlayed part bytes p → reported part bytes ≡ Ok (play_answer text))
     → IfErr r (λ x. (event_of x ≡ no_memory) ⊎ ((event_of x ≡ too_many_reads) × ((part : PartData) (bytes : List ℕ) → HasPlayed part bytes p → reported part bytes ≡ Err too_many_reads)))
-    → (seen play_answer r ≡ Err no_memory) ⊎ (IsPossible (seen play_answer r) × IsDecided (seen play_answer r) × (reported part bytes ≡ seen play_answer r))
+    → (result_by play_answer r ≡ Err no_memory) ⊎ (IsPossible (result_by play_answer r) × IsDecided (result_by play_answer r) × (reported part bytes ≡ result_by play_answer r))
 text_ends part bytes p (Ok text) h ok err = inr (tt, tt, ok part bytes h)
 text_ends part bytes p (Err x) h ok (inl e) = inl (ap (λ (event : Event). Err event) e)
 text_ends part bytes p (Err x) h ok (inr (e, many)) = inr (subst (λ (event : Event). IsPossible {A = Answer} (Err event)) (sym e) tt, subst (λ (event : Event). IsDecided {A = Answer} (Err event)) (sym e) tt, many part bytes h ∙ ap (λ (event : Event). Err event) (sym e))

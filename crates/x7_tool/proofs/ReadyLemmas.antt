@@ -18,7 +18,7 @@ use Rattle.x7_forms.specs.declared.bad_input.InputFault.TheVariants as input
 use Rattle.x7_forms.specs.declared.refusal.Refusal.{Refusal}
 use Rattle.x7_forms.specs.Event.{Event, bad_input, event_of, no_memory}
 use Rattle.x7_forms.specs.Known.{Answer, and_so}
-use Rattle.x7_forms.specs.Step.{IsDecided, IsPossible, seen}
+use Rattle.x7_forms.specs.Step.{IsDecided, IsPossible, result_by}
 use Rattle.x7_forms.proofs.ReadLemmas.{Steady, so_steady, work_steady}
 use Rattle.x7_tool.specs.declared.text.Text.{Text}
 use Rattle.x7_tool.specs.Outcome.{DebugInputs, DebuggedAs, ImageStreams, PartAndText, PlannedRead, PlayedSvf, image_by, image_streams, planner_event, script_event, stream_data, svf_event}
@@ -40,13 +40,13 @@ want_due : (Due : Result Answer Event → Type 0) (event : Event) → no_memory 
 want_due Due event e = inl (sym (ap (λ (x : Event). Err x) e))
 
 -- want of memory that is handed on
-pub want_seen : {A : Type 0} (view : A → Answer) (r : Result A Refusal) → IsErr r × IsErrAnd r (λ e. event_of e ≡ no_memory) → seen view r ≡ Err no_memory
+pub want_seen : {A : Type 0} (view : A → Answer) (r : Result A Refusal) → IsErr r × IsErrAnd r (λ e. event_of e ≡ no_memory) → result_by view r ≡ Err no_memory
 want_seen view (Ok a) h = absurd h.1
 want_seen view (Err e) h = ap (λ (event : Event). Err event) h.1
 
 -- ---- a text of a known answer
 
-pub made_due : (answer : Answer) (r : Result (Vec ℕ Global) Refusal) → IfOk r (λ t. bytes_answer t ≡ answer) → IfErr r (λ x. event_of x ≡ no_memory) → EndsDue (λ got. Ok answer ≡ got) (seen bytes_answer r)
+pub made_due : (answer : Answer) (r : Result (Vec ℕ Global) Refusal) → IfOk r (λ t. bytes_answer t ≡ answer) → IfErr r (λ x. event_of x ≡ no_memory) → EndsDue (λ got. Ok answer ≡ got) (result_by bytes_answer r)
 made_due answer (Ok t) ok err = inr (tt, tt, ap (λ (a : Answer). Ok a) (sym ok))
 made_due answer (Err x) ok err = inl (ap (λ (e : Event). Err e) err)
 
@@ -59,7 +59,7 @@ read_fault_due name part far n event (planner.Range m) is e = bad_due (PlannedRe
 read_fault_due name part far n event planner.NoMemory is e = want_due (PlannedRead name far n (Ok part)) event e
 
 pub read_due : (name : List ℕ) (part : PartData) (far n : ℕ) (r : Result (Vec ℕ Global) Refusal) → IfOk r (λ t. PlannedRead name far n (Ok part) (Ok (bytes_answer t))) → IfErr r (λ x. (event_of x ≡ no_memory) ⊎ PlannedRead name far n (Ok part) (Err (event_of x)))
-    → EndsDue (PlannedRead name far n (Ok part)) (seen bytes_answer r)
+    → EndsDue (PlannedRead name far n (Ok part)) (result_by bytes_answer r)
 read_due name part far n (Ok t) ok err = inr (tt, tt, ok)
 read_due name part far n (Err x) ok (inl e) = inl (ap (λ (event : Event). Err event) e)
 read_due name part far n (Err x) ok (inr h) = read_fault_due name part far n (event_of x) h.0 h.1 h.2
@@ -71,7 +71,7 @@ script_due name d event (script.Line line) is e = bad_due (DebuggedAs name (Ok d
 script_due name d event script.NoMemory is e = want_due (DebuggedAs name (Ok d)) event e
 
 pub debug_due : (name : List ℕ) (d : DebugInputs) (r : Result Text Refusal) → IfOk r (λ t. DebuggedAs name (Ok d) (Ok (text_answer t))) → IfErr r (λ x. (event_of x ≡ no_memory) ⊎ DebuggedAs name (Ok d) (Err (event_of x)))
-    → EndsDue (DebuggedAs name (Ok d)) (seen text_answer r)
+    → EndsDue (DebuggedAs name (Ok d)) (result_by text_answer r)
 debug_due name d (Ok t) ok err = inr (tt, tt, ok)
 debug_due name d (Err x) ok (inl e) = inl (ap (λ (event : Event). Err event) e)
 debug_due name d (Err x) ok (inr h) = script_due name d (event_of x) h.0 h.1.0 h.1.1
@@ -83,7 +83,7 @@ svf_fault_due name texts event (svf.Line line) is e = bad_due (PlayedSvf name (O
 svf_fault_due name texts event svf.NoMemory is e = want_due (PlayedSvf name (Ok texts)) event e
 
 pub svf_due : (name : List ℕ) (texts : PartAndText) (r : Result PlayTextState Refusal) → IfOk r (λ t. PlayedSvf name (Ok texts) (Ok (play_answer t))) → IfErr r (λ x. (event_of x ≡ no_memory) ⊎ PlayedSvf name (Ok texts) (Err (event_of x)))
-    → EndsDue (PlayedSvf name (Ok texts)) (seen play_answer r)
+    → EndsDue (PlayedSvf name (Ok texts)) (result_by play_answer r)
 svf_due name texts (Ok t) ok err = inr (tt, tt, ok)
 svf_due name texts (Err x) ok (inl e) = inl (ap (λ (event : Event). Err event) e)
 svf_due name texts (Err x) ok (inr h) = svf_fault_due name texts (event_of x) h.0 h.1 h.2
@@ -102,7 +102,7 @@ too_long_due name event answer true e = let same : bad_input name input.Image �
 too_long_due name event answer false e = absurd cc
 
 pub image_due : (name : List ℕ) (unit : ℕ) (s : ImageStreams) (r : Result (Vec ℕ Global) Refusal) → IfOk r (λ t. image_by name unit s ≡ Ok (bytes_answer t)) → IfErr r (λ x. (event_of x ≡ no_memory) ⊎ (image_by name unit s ≡ Err (event_of x)))
-    → EndsDue (λ got. image_by name unit s ≡ got) (seen bytes_answer r)
+    → EndsDue (λ got. image_by name unit s ≡ got) (result_by bytes_answer r)
 image_due name unit s (Ok t) ok err = inr (tt, tt, ok)
 image_due name unit s (Err x) ok (inl e) = inl (ap (λ (event : Event). Err event) e)
 image_due name unit s (Err x) ok (inr h) = too_long_due name (event_of x) _ _ h

@@ -21,13 +21,13 @@ use Rattle.x7_forms.specs.Status.{final_status, text_status}
 use Rattle.x7_forms.specs.Known.{Answer, Failing, Known, Lacking, Mishap, mishap_event, and_so, input_found, known_of, taken_whole, whole_known, with_inputs, if_within}
 use Rattle.x7_forms.specs.Step.{Among, DecidedBy, IsCausedBy, IsDue, IsFromOutside, PossibleBy}
 use Rattle.x7_tool.specs.Ahead.{StaysNear, StaysNearIn}
-use Rattle.x7_tool.specs.Leaving.{Updates}
+use Rattle.x7_tool.specs.Leaving.{UpdateLeaves}
 use Rattle.x7_tool.specs.Outcome.{AssembledAs, FormGives, IsOutcome, mcs_image, text_limit}
-use Rattle.x7_tool.specs.Outside.{Came, IsQuiet, KeepsFlash, Outside, known_in, sources}
+use Rattle.x7_tool.specs.Outside.{CameInRun, IsQuiet, KeepsFlash, Outside, known_in, sources}
 use Rattle.x7_tool.specs.Promise.{Promise}
-use Rattle.x7_tool.specs.Run.{GivesIfKnown, AnswersForm, AnswersOver, CausedBy, EndIsCaused, Ends, EndsAs, FailsLast, GetsBy, GetsPrefix, ReportsMishap, IsMeasured, JudgesFlash, LeavesBy, LeftAtBreak, LeftBy, PutsAnswer, SaysEnd}
+use Rattle.x7_tool.specs.Run.{GivesIfKnown, AnswersForm, AnswersOver, CausedBy, EndIsCaused, CommandEnds, CommandEndsAs, FailsLast, GetsBy, GetsPrefix, ReportsMishap, IsMeasured, JudgesFlash, LeavesBy, LeftAtBreak, LeftBy, PutsAnswer, SaysEnd}
 use Rattle.x7_tool.specs.Runs.{TextsLeadBack, Runs}
-use Rattle.x7_tool.specs.Stopping.{Stops}
+use Rattle.x7_tool.specs.Stopping.{StopsReading}
 use Rattle.x7_tool.proofs.FlashLemmas.{answers_over, not_fault, not_large}
 use Rattle.x7_tool.proofs.PromiseLemmas.{promised}
 
@@ -40,7 +40,7 @@ want_is event e = ap status_of_event e
 -- ---- where contents are known and nothing failed
 
 -- no mishap came
-never_came : (form : AskedForm) (old new : Outside) (m : Mishap) → IsQuiet (Some form) old new → Came (Some form) old new m → ⊥
+never_came : (form : AskedForm) (old new : Outside) (m : Mishap) → IsQuiet (Some form) old new → CameInRun (Some form) old new m → ⊥
 never_came form old new (Failing name given) q h = q.0 name h.1
 never_came form old new (Lacking name) q h = q.1 name h
 
@@ -88,7 +88,7 @@ mishap_cause : (m : Mishap) (form : AskedForm) (old new : Outside) (event : Even
 mishap_cause (Failing name given) form old new event e h = subst (λ (c : ReasonCause). CausedBy c form old new event) (ap cause_of_event e) h
 mishap_cause (Lacking name) form old new event e h = subst (λ (c : ReasonCause). CausedBy c form old new event) (ap cause_of_event e) (inl h)
 
-outside_cause : (form : AskedForm) (old new : Outside) (event : Event) → IsFromOutside {A = Answer} (known_in old) (Came (Some form) old new) (λ t end. FormGives t form end) (Err event) → CausedBy (cause_of_event event) form old new event
+outside_cause : (form : AskedForm) (old new : Outside) (event : Event) → IsFromOutside {A = Answer} (known_in old) (CameInRun (Some form) old new) (λ t end. FormGives t form end) (Err event) → CausedBy (cause_of_event event) form old new event
 outside_cause form old new event (inl e) = subst (λ (x : Event). CausedBy (cause_of_event x) form old new x) (sym e) refl
 outside_cause form old new event (inr h) = mishap_cause h.mishap form old new event h.reports h
 
@@ -182,8 +182,8 @@ pub record RanAs (form : Option AskedForm) (old new : Outside) (s : Status) : Ty
   pub end : Result Answer Event
   pub ends_as : s ≡ final_status end
   pub said : SaysEnd old.err new.err end
-  pub ends : Ends form old new end
-  pub stops : Stops form old.inputs new.inputs end
+  pub ends : CommandEnds form old new end
+  pub stops : StopsReading form old.inputs new.inputs end
   pub judges : JudgesFlash form (sources old.inputs old.flash) (sources new.inputs new.flash) end
   pub asks : AsksAtMost old.inputs (length (names_of form)) new.inputs
   pub stays : InputsStay old.inputs new.inputs
@@ -263,8 +263,8 @@ none_updated None updated e = e
 none_updated (Some listed) updated e = absurd (cc)
 
 -- a form without a stream for a flash updates no flash
-updates_none : (form : AskedForm) (old new : Outside) (end : Result Answer Event) → updated_by (Some form) ≡ None → Updates (updated_by (Some form)) old new end
-updates_none form old new end u = subst (λ (x : Option (List ℕ)). Updates x old new end) (sym u) tt
+updates_none : (form : AskedForm) (old new : Outside) (end : Result Answer Event) → updated_by (Some form) ≡ None → UpdateLeaves (updated_by (Some form)) old new end
+updates_none form old new end u = subst (λ (x : Option (List ℕ)). UpdateLeaves x old new end) (sym u) tt
 
 -- a form that uses no flash
 unmeasured : (form : AskedForm) (new : FlashState) (end : Result Answer Event) → flash_use (Some form) ≡ Unused → IsMeasured (Some form) new end
@@ -276,8 +276,9 @@ unfailed form old new (Ok answer) u = tt
 unfailed form old new (Err event) u = λ name a e at. absurd (subst (λ (x : FlashUse). Among (names_used x) name) u a)
 
 -- a form whose text is ready before any of it is written ends as it should where its text has its cause and was put
-puts_end : (form : AskedForm) (old new : Outside) (whole : Result Answer Event) (got : Result Bool Event) → listed_by (Some form) ≡ None → updated_by (Some form) ≡ None → IsMeasured (Some form) new.flash whole → FailsLast (Some form) old.inputs new.flash whole → AnswersOver form old new whole → PutsAnswer whole old.out new.out got
-    → EndsAs (Some form) old new got
+puts_end : (form : AskedForm) (old new : Outside) (whole : Result Answer Event) (got : Result Bool Event) → listed_by (Some form) ≡ None → updated_by (Some form) ≡ None
+    → IsMeasured (Some form) new.flash whole → FailsLast (Some form) old.inputs new.flash whole → AnswersOver form old new whole → PutsAnswer whole old.out new.out got
+    → CommandEndsAs (Some form) old new got
 puts_end form old new (Ok answer) (Ok stopped) l u m f c p = (
   answer.text,
   record {
@@ -290,7 +291,7 @@ puts_end form old new (Ok answer) (Ok stopped) l u m f c p = (
   },
 )
 puts_end form old new (Ok answer) (Err event) l u m f c p =
-    subst (λ (e : Event). Ends (Some form) old new (Err e)) (sym p.0)
+    subst (λ (e : Event). CommandEnds (Some form) old new (Err e)) (sym p.0)
     (record {
       cause = (refl, inl p.1);
       wrote = subst (λ (x : Option (List ℕ)). LeftAtBreak x form old new) (sym u) (gets_by (known_in old) form answer old.out new.out l (has_cause form old new (Ok answer) c) p.2);
@@ -301,10 +302,10 @@ puts_end form old new (Ok answer) (Err event) l u m f c p =
     })
 puts_end form old new (Err event) (Ok stopped) l u m f c p = let e : true ≡ false = ap is_ok p.0 in absurd (cc)
 puts_end form old new (Err event) (Err other) l u m f c p =
-    subst (λ (e : Event). Ends (Some form) old new (Err e)) (sym (ap event_in p.0))
+    subst (λ (e : Event). CommandEnds (Some form) old new (Err e)) (sym (ap event_in p.0))
     (record {
       cause = has_cause form old new (Err event) c;
-      wrote = leaves_all form (cause_of_event event) old new event l (no_break (known_in old) (Came (Some form) old new) (λ t end. FormGives t form end) event c) p.1;
+      wrote = leaves_all form (cause_of_event event) old new event l (no_break (known_in old) (CameInRun (Some form) old new) (λ t end. FormGives t form end) event c) p.1;
       near = near_all form (status_of_event event) old new l;
       measured = m;
       fails_last = f;
@@ -312,11 +313,11 @@ puts_end form old new (Err event) (Err other) l u m f c p =
     })
 
 pub text_ends : (form : AskedForm) (old new : Outside) (whole : Result Answer Event) (got : Result Bool Event)
-    → streamed (listed_by (Some form)) (updated_by (Some form)) ≡ None → IsMeasured (Some form) new.flash whole → FailsLast (Some form) old.inputs new.flash whole → AnswersOver form old new whole → PutsAnswer whole old.out new.out got → EndsAs (Some form) old new got
+    → streamed (listed_by (Some form)) (updated_by (Some form)) ≡ None → IsMeasured (Some form) new.flash whole → FailsLast (Some form) old.inputs new.flash whole → AnswersOver form old new whole → PutsAnswer whole old.out new.out got → CommandEndsAs (Some form) old new got
 text_ends form old new whole got n m f c p =
     puts_end form old new whole got (none_listed (listed_by (Some form)) (updated_by (Some form)) n) (none_updated (listed_by (Some form)) (updated_by (Some form)) n) m f c p
 
 -- a form that reads inputs alone ends as it should where its text has its cause and was put
 pub ready_ends : (form : AskedForm) (old new : Outside) (whole : Result Answer Event) (got : Result Bool Event)
-    → streamed (listed_by (Some form)) (updated_by (Some form)) ≡ None → flash_use (Some form) ≡ Unused → AnswersForm form old.inputs new.inputs whole → PutsAnswer whole old.out new.out got → EndsAs (Some form) old new got
+    → streamed (listed_by (Some form)) (updated_by (Some form)) ≡ None → flash_use (Some form) ≡ Unused → AnswersForm form old.inputs new.inputs whole → PutsAnswer whole old.out new.out got → CommandEndsAs (Some form) old new got
 ready_ends form old new whole got l u c p = text_ends form old new whole got l (unmeasured form new.flash whole u) (unfailed form old.inputs new.flash whole u) (answers_over form old new whole (c old.flash.bytes)) p

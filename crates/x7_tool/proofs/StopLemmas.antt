@@ -13,7 +13,7 @@ use Rattle.x7_forms.specs.declared.refusal.Why.{Why}
 use Rattle.x7_forms.specs.declared.refusal.Why.TheVariants as why
 use Rattle.x7_forms.specs.Form.{AskedForm, Booting, Playing, Unused, UpdatingFlash, flash_names, flash_use}
 use Rattle.x7_forms.specs.Known.{Answer, part_limit, stream_limit}
-use Rattle.x7_forms.specs.Step.{Among, seen}
+use Rattle.x7_forms.specs.Step.{Among, result_by}
 use Rattle.x7_forms.specs.ReadingStops.{IsAbout, Limited, StopsAmong, limited, limited_together}
 use Rattle.x7_forms.specs.Turn.{IsLastAsked}
 use Rattle.x7_forms.proofs.AskedLemmas.{about_among, about_by, stops_after}
@@ -35,7 +35,7 @@ use Rattle.x7_update.specs.declared.fault.UpdateFault.TheVariants as update
 use Rattle.x7_tool.specs.Outside.{Sources}
 use Rattle.x7_tool.specs.Run.{FlashComes, IsUnattachedOrLarge, IsUnusable, JudgesFlash, PutsAnswer}
 use Rattle.x7_tool.proofs.FlashLemmas.{flash_open}
-use Rattle.x7_tool.specs.Stopping.{Stops, StopsBy, NamesItsStop, inputs_of}
+use Rattle.x7_tool.specs.Stopping.{StopsReading, StopsBy, NamesItsStop, inputs_of}
 
 -- ---- which input an event names
 
@@ -119,15 +119,15 @@ pub third_stops : (form : AskedForm) (first second third : Limited) (others : Li
 third_stops form first second third others old now event i s n a = among_stops form old now event (about_among (inputs_of old.contents form) (first ∷ second ∷ []) third others old now event i s n a)
 
 -- a call's result, where each refusal stops so
-pub result_stops : {A B : Type 0} (value : A → B) (form : AskedForm) (old now : InputsState) (r : Result A Refusal) → IfErr r (λ x. StopsBy (cause_of_event (event_of x)) form old now (event_of x)) → Stops (Some form) old now (seen value r)
+pub result_stops : {A B : Type 0} (value : A → B) (form : AskedForm) (old now : InputsState) (r : Result A Refusal) → IfErr r (λ x. StopsBy (cause_of_event (event_of x)) form old now (event_of x)) → StopsReading (Some form) old now (result_by value r)
 result_stops value form old now (Ok a) h = tt
 result_stops value form old now (Err x) h = h
 
-pub want_only : {A B : Type 0} (value : A → B) (form : AskedForm) (old now : InputsState) (r : Result A Refusal) → IfErr r (λ x. event_of x ≡ no_memory) → Stops (Some form) old now (seen value r)
+pub want_only : {A B : Type 0} (value : A → B) (form : AskedForm) (old now : InputsState) (r : Result A Refusal) → IfErr r (λ x. event_of x ≡ no_memory) → StopsReading (Some form) old now (result_by value r)
 want_only value form old now (Ok a) h = tt
 want_only value form old now (Err x) h = want_stops form old now (event_of x) h
 
-pub reads_only : {A B : Type 0} (value : A → B) (form : AskedForm) (old now : InputsState) (r : Result A Refusal) → IfErr r (λ x. (event_of x ≡ no_memory) ⊎ (event_of x ≡ too_many_reads)) → Stops (Some form) old now (seen value r)
+pub reads_only : {A B : Type 0} (value : A → B) (form : AskedForm) (old now : InputsState) (r : Result A Refusal) → IfErr r (λ x. (event_of x ≡ no_memory) ⊎ (event_of x ≡ too_many_reads)) → StopsReading (Some form) old now (result_by value r)
 reads_only value form old now (Ok a) h = tt
 reads_only value form old now (Err x) h = reads_stop form old now (event_of x) h
 
@@ -146,7 +146,7 @@ pub write_stops : (form : AskedForm) (old now : InputsState) (event : Event) →
 write_stops form old now event e = subst (λ (x : Event). StopsBy (cause_of_event x) form old now x) (sym e) tt
 
 -- a boot from a flash
-pub boot_stops : (name part_name : List ℕ) (part : PartData) (old now : InputsState) (first last : FlashState) (end : Result Answer Event) → FlashComes name part first last end → Stops (Some (Booting part_name name)) old now end
+pub boot_stops : (name part_name : List ℕ) (part : PartData) (old now : InputsState) (first last : FlashState) (end : Result Answer Event) → FlashComes name part first last end → StopsReading (Some (Booting part_name name)) old now end
 boot_stops name part_name part old now first last (Ok answer) h = tt
 boot_stops name part_name part old now first last (Err event) (inl e) = want_stops (Booting part_name name) old now event e
 boot_stops name part_name part old now first last (Err event) (inr (inl (inl h))) = flash_stops (Booting part_name name) old now event name (ap (λ (x : Event). x.concerned) h.0) (inl refl)
@@ -183,15 +183,15 @@ pub put_stops : {P Q : Type 0} (form : AskedForm) (old now : InputsState) (event
 put_stops form old now event (inl h) = want_stops form old now event h.0
 put_stops form old now event (inr h) = write_stops form old now event h.0
 
-pub written_stops : {A : Type 0} (P Q : Type 0) (form : AskedForm) (old now : InputsState) (r : Result A Refusal) → IfErr r (λ x. ((event_of x ≡ no_memory) × P) ⊎ ((event_of x ≡ writing_failed) × Q)) → Stops (Some form) old now (seen (λ _. false) r)
+pub written_stops : {A : Type 0} (P Q : Type 0) (form : AskedForm) (old now : InputsState) (r : Result A Refusal) → IfErr r (λ x. ((event_of x ≡ no_memory) × P) ⊎ ((event_of x ≡ writing_failed) × Q)) → StopsReading (Some form) old now (result_by (λ _. false) r)
 written_stops P Q form old now (Ok a) h = tt
 written_stops P Q form old now (Err x) h = put_stops form old now (event_of x) h
 
 -- ---- the words
 
 -- a text that is ready, or none, and how it was written
-pub puts_stop : (form : AskedForm) (first now : InputsState) (whole : Result Answer Event) (old new : SinkState) (got : Result Bool Event) → Stops (Some form) first now whole → PutsAnswer whole old new got → Stops (Some form) first now got
-puts_stop form first now (Err event) old new got s p = subst (λ (r : Result Bool Event). Stops (Some form) first now r) (sym p.0) s
+pub puts_stop : (form : AskedForm) (first now : InputsState) (whole : Result Answer Event) (old new : SinkState) (got : Result Bool Event) → StopsReading (Some form) first now whole → PutsAnswer whole old new got → StopsReading (Some form) first now got
+puts_stop form first now (Err event) old new got s p = subst (λ (r : Result Bool Event). StopsReading (Some form) first now r) (sym p.0) s
 puts_stop form first now (Ok answer) old new (Ok stopped) s p = tt
 puts_stop form first now (Ok answer) old new (Err event) s p = subst (λ (x : Event). StopsBy (cause_of_event x) form first now x) (sym p.0) tt
 

@@ -16,8 +16,8 @@ use Rattle.x7_words.proofs.InputLemmas.{preceded_preceded}
 use Rattle.x7_forms.specs.Event.{Event, reading_failed, too_large, writing_failed}
 use Rattle.x7_forms.specs.Known.{Mishap, input_found, stream_limit, with_inputs}
 use Rattle.x7_tool.specs.Run.{ListsSoFar}
-use Rattle.x7_tool.specs.Between.{Lists, ListsStream}
-use Rattle.x7_forms.specs.Turn.{FollowsUnlessLast, Unread}
+use Rattle.x7_tool.specs.Between.{ListsInTurns, ListsStream}
+use Rattle.x7_forms.specs.Turn.{FollowsUnlessLast, UnreadTurn}
 use Rattle.x7_tool.proofs.Causes.{Ended, PutsListed, broken, ends_same, faulted, oversized, unwritten}
 use Rattle.x7_forms.proofs.ReadLemmas.{IsAt, at_fault, known_all}
 
@@ -32,13 +32,13 @@ stands_fit : (l : ListerState) (given bytes : List ℕ) → ListerStandsFor l gi
 stands_fit l given bytes stands = stands.has_listed.cut.reading.fits
 
 -- what was put is a prefix of the listing of the bytes and any that may follow
-pub lists_prefix : (l : ListerState) (first now : Option (List ℕ)) (bytes rest : List ℕ) → Lists l first now bytes → AreBytes (bytes ++ rest) → PutsPrefix first (listing_of (bytes ++ rest)) now
+pub lists_prefix : (l : ListerState) (first now : Option (List ℕ)) (bytes rest : List ℕ) → ListsInTurns l first now bytes → AreBytes (bytes ++ rest) → PutsPrefix first (listing_of (bytes ++ rest)) now
 lists_prefix l first now bytes rest t fits =
     let prefix = listed_prefix l t.given bytes rest t.stands fits in
     (t.given, (prefix.0, prefix.1 ∙ ap (λ x. (t.given ++ x) ++ prefix.0) t.clear ∙ ap (λ x. x ++ prefix.0) (append-nil t.given), t.put))
 
 -- what was put is a prefix of the listing of the bytes
-pub lists_here : (l : ListerState) (first now : Option (List ℕ)) (bytes : List ℕ) → Lists l first now bytes → PutsPrefix first (listing_of bytes) now
+pub lists_here : (l : ListerState) (first now : Option (List ℕ)) (bytes : List ℕ) → ListsInTurns l first now bytes → PutsPrefix first (listing_of bytes) now
 lists_here l first now bytes t =
     let fits : AreBytes (bytes ++ []) = rw (append-nil bytes) (stands_fit l t.given bytes t.stands) in
     let prefix = lists_prefix l first now bytes [] t fits in
@@ -46,9 +46,9 @@ lists_here l first now bytes t =
     rw all at prefix
 
 -- a turn that fed a piece, wrote its text and cleared it
-pub lists_more : (l fed clear : ListerState) (first mid now : Option (List ℕ)) (bytes piece text : List ℕ) → Lists l first mid bytes
+pub lists_more : (l fed clear : ListerState) (first mid now : Option (List ℕ)) (bytes piece text : List ℕ) → ListsInTurns l first mid bytes
     → ((given before taken : List ℕ) → ListerStandsFor l given before taken → ListerStandsFor fed given before (taken ++ piece)) → text ≡ fed.text → now ≡ appended mid text → clear.text ≡ []
-    → ((given before taken : List ℕ) → ListerStandsFor fed given before taken → ListerStandsFor clear (given ++ fed.text) before taken) → Lists clear first now (bytes ++ piece)
+    → ((given before taken : List ℕ) → ListerStandsFor fed given before taken → ListerStandsFor clear (given ++ fed.text) before taken) → ListsInTurns clear first now (bytes ++ piece)
 lists_more l fed clear first mid now bytes piece text t feeds same put none clears = record {
   given = t.given ++ fed.text;
   stands = clears t.given [] (bytes ++ piece) (feeds t.given [] bytes t.stands);
@@ -57,7 +57,7 @@ lists_more l fed clear first mid now bytes piece text t feeds same put none clea
 }
 
 -- a turn whose text was written in part
-pub lists_part : (l fed : ListerState) (first mid now : Option (List ℕ)) (bytes piece rest text : List ℕ) → Lists l first mid bytes
+pub lists_part : (l fed : ListerState) (first mid now : Option (List ℕ)) (bytes piece rest text : List ℕ) → ListsInTurns l first mid bytes
     → ((given before taken : List ℕ) → ListerStandsFor l given before taken → ListerStandsFor fed given before (taken ++ piece)) → text ≡ fed.text → PutsPrefix mid text now → AreBytes (bytes ++ (piece ++ rest))
     → PutsPrefix first (listing_of (bytes ++ (piece ++ rest))) now
 lists_part l fed first mid now bytes piece rest text t feeds same prefix fits =
@@ -68,7 +68,7 @@ lists_part l fed first mid now bytes piece rest text t feeds same prefix fits =
     rw here (prefix_more first mid now t.given text known.0 t.put prefix)
 
 -- the end of a listing was written
-pub end_put : (l done : ListerState) (first mid now : Option (List ℕ)) (bytes text : List ℕ) → Lists l first mid bytes
+pub end_put : (l done : ListerState) (first mid now : Option (List ℕ)) (bytes text : List ℕ) → ListsInTurns l first mid bytes
     → ((given before taken : List ℕ) → ListerStandsFor l given before taken → HasFinished done given before taken) → text ≡ done.text → now ≡ appended mid text → now ≡ appended first (listing_of bytes)
 end_put l done first mid now bytes text t ends same put =
     let f = ends t.given [] bytes t.stands in
@@ -76,7 +76,7 @@ end_put l done first mid now bytes text t ends same put =
     rw (put, t.put) (appended_appended first t.given text) ∙ ap (appended first) whole
 
 -- the end of a listing was written in part
-pub end_part : (l done : ListerState) (first mid now : Option (List ℕ)) (bytes text : List ℕ) → Lists l first mid bytes
+pub end_part : (l done : ListerState) (first mid now : Option (List ℕ)) (bytes text : List ℕ) → ListsInTurns l first mid bytes
     → ((given before taken : List ℕ) → ListerStandsFor l given before taken → HasFinished done given before taken) → text ≡ done.text → PutsPrefix mid text now → PutsPrefix first (listing_of bytes) now
 end_part l done first mid now bytes text t ends same prefix =
     let f = ends t.given [] bytes t.stands in
@@ -114,7 +114,7 @@ pub line_part : (first now : Option (List ℕ)) (line more : List ℕ) → PutsP
 line_part first now line more p = (p.0, (p.1.0 ++ more, ap (λ t. t ++ more) p.1.1 ∙ append_assoc p.0 p.1.0 more, p.1.2))
 
 -- a lister that begins after a line
-pub begins_after : (l : ListerState) (old mid : Option (List ℕ)) (line : List ℕ) → ListerStandsFor l [] [] [] → l.text ≡ [] → mid ≡ appended old line → Lists l (appended old line) mid []
+pub begins_after : (l : ListerState) (old mid : Option (List ℕ)) (line : List ℕ) → ListerStandsFor l [] [] [] → l.text ≡ [] → mid ≡ appended old line → ListsInTurns l (appended old line) mid []
 begins_after l old mid line stands clear e = record { given = []; stands = stands; put = e ∙ sym (appended_nil (appended old line)); clear = clear }
 
 -- a prefix and then its listing
@@ -156,7 +156,8 @@ write_failed contents flash C stream taken piece same l rest Full old mid now e 
     let content_fits : AreBytes t.content = stands_fit l t.lists.given t.content t.lists.stands in
     let q : (left : List ℕ) → AreBytes left → PutsListed ((taken ++ piece) ++ left) old now
     = λ left fit.
-    let prefix : PutsPrefix (appended old t.line) (listing_of (t.content ++ (piece ++ left))) now = subst (λ x. PutsPrefix (appended old t.line) (listing_of (t.content ++ (x ++ left))) now) e (p left (all_append (λ b. b < 256) t.content (same ++ left) content_fits (all_append (λ b. b < 256) same left fits fit))) in
+    let prefix : PutsPrefix (appended old t.line) (listing_of (t.content ++ (piece ++ left))) now = subst (λ x. PutsPrefix (appended old t.line) (listing_of (t.content ++ (x ++ left))) now) e
+    (p left (all_append (λ b. b < 256) t.content (same ++ left) content_fits (all_append (λ b. b < 256) same left fits fit))) in
     (t.line ++ listing_of (t.content ++ (piece ++ left)), (ap stream_listing (append_assoc taken piece left) ∙ t.listing (piece ++ left), line_prefix old now t.line (listing_of (t.content ++ (piece ++ left))) prefix)) in
     let here : PutsListed (taken ++ piece) old now = subst (λ x. PutsListed x old now) (append-nil (taken ++ piece)) (q [] tt) in
     unwritten contents flash C stream (taken ++ piece) rest false Full old now s (λ l. absurd cc) f here (λ left m fit. q left (all_back (λ b. b < 256) (taken ++ piece) left fit))
@@ -189,7 +190,7 @@ end_failed (Some inputs) flash C stream taken rest Full old now s e f p =
 
 -- a turn that could not be read
 pub unread_end : (s m n : InputsState) (flash : Option (List ℕ)) (stream taken : List ℕ) (l : ListerState) (left : ℕ) (Full : Type 0) (old now : Option (List ℕ)) (event : Event)
-    → InputsStay s m → RestIsWhole s.contents stream (preceded taken m.rest) → IsAt stream taken m → ListsStream l old now taken → length taken + left ≡ stream_limit → Unread m stream n left event → n.asked ≡ m.asked
+    → InputsStay s m → RestIsWhole s.contents stream (preceded taken m.rest) → IsAt stream taken m → ListsStream l old now taken → length taken + left ≡ stream_limit → UnreadTurn m stream n left event → n.asked ≡ m.asked
     → Ended (with_inputs s.contents flash) (CameIn (step_over (stream ∷ []) s n)) stream Full old now (Err event)
 unread_end s m n flash stream taken l left Full old now event f sel a t k (inl h) q =
     let fault = at_fault s m n stream taken left f a h.1 q in

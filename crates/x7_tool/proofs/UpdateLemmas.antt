@@ -28,8 +28,8 @@ use Rattle.x7_forms.specs.Step.{Among, CameIn, DueBy, IsCaused, IsDecided, IsDue
 use Rattle.x7_forms.proofs.ReadLemmas.{name_is, outside_goes}
 use Rattle.x7_tool.specs.Leaving.{HasData, KeepsBytes, MayBeFound, UsesFlash}
 use Rattle.x7_tool.specs.Outcome.{FlashUpdates, FormGives, IsUpdateFault, UpdateNames, UpdatesBytes, UpdatesWith, no_text, stream_data, update_event}
-use Rattle.x7_tool.specs.Outside.{Came, Outside, known_in, sources}
-use Rattle.x7_tool.specs.Run.{GivesIfKnown, AnswersOver, EndsAs, FailsLast, IsMeasured, IsUnattachedOrLarge}
+use Rattle.x7_tool.specs.Outside.{CameInRun, Outside, known_in, sources}
+use Rattle.x7_tool.specs.Run.{GivesIfKnown, AnswersOver, CommandEndsAs, FailsLast, IsMeasured, IsUnattachedOrLarge}
 use Rattle.x7_tool.proofs.FlashLemmas.{bad_small, came_wider, detached, not_fault, not_large, other_fault, known_flash, unattached_measured, unread_last, unread_measured}
 use Rattle.x7_tool.proofs.RunLemmas.{has_cause, leaves_all, near_all, no_break}
 
@@ -155,7 +155,7 @@ attach_refused_over flash stream old new event (inr h) =
 pub unread_over : (flash stream : List ℕ) (old new : Outside) (event : Event) → IsWithin old.flash.bytes
     → IsCaused {A = List ℕ} (known_in old) (CameIn (step_over (stream ∷ []) old.inputs new.inputs)) (λ t. stream_data t stream) (Err event) → AnswersOver (UpdatingFlash flash stream) old new (Err event)
 unread_over flash stream old new event within (inl h) =
-    inl (outside_goes (List ℕ) Answer (known_in old) (CameIn (step_over (stream ∷ []) old.inputs new.inputs)) (Came (Some (UpdatingFlash flash stream)) old new) (λ t r. stream_data t stream ≡ r) (λ t end. FormGives t (UpdatingFlash flash stream) end) event
+    inl (outside_goes (List ℕ) Answer (known_in old) (CameIn (step_over (stream ∷ []) old.inputs new.inputs)) (CameInRun (Some (UpdatingFlash flash stream)) old new) (λ t r. stream_data t stream ≡ r) (λ t end. FormGives t (UpdatingFlash flash stream) end) event
     (came_wider (UpdatingFlash flash stream) old new) (λ m e x. stream_due (known_in old) m old.flash.bytes flash stream event e (known_flash old.inputs.contents old.flash.bytes flash) within x) h)
 unread_over flash stream old new event within (inr h) = inr (unread_due (known_in old) old.flash.bytes flash stream event (known_flash old.inputs.contents old.flash.bytes flash) within h)
 
@@ -171,13 +171,14 @@ keeps_all (why.Differs place) old new e = tt
 keeps_all reason old new e = e
 
 -- an update that was refused
-pub refused_ends : (flash stream : List ℕ) (old new : Outside) (event : Event) → new.out ≡ old.out → IsMeasured (Some (UpdatingFlash flash stream)) new.flash (Err event) → FailsLast (Some (UpdatingFlash flash stream)) old.inputs new.flash (Err event) → AnswersOver (UpdatingFlash flash stream) old new (Err event) → KeepsBytes event.reason old.flash new.flash
-    → EndsAs (Some (UpdatingFlash flash stream)) old new (Err event)
+pub refused_ends : (flash stream : List ℕ) (old new : Outside) (event : Event) → new.out ≡ old.out → IsMeasured (Some (UpdatingFlash flash stream)) new.flash (Err event)
+    → FailsLast (Some (UpdatingFlash flash stream)) old.inputs new.flash (Err event) → AnswersOver (UpdatingFlash flash stream) old new (Err event) → KeepsBytes event.reason old.flash new.flash
+    → CommandEndsAs (Some (UpdatingFlash flash stream)) old new (Err event)
 refused_ends flash stream old new event out m l a kept =
     let form = UpdatingFlash flash stream in
     record {
       cause = has_cause form old new (Err event) a;
-      wrote = leaves_all form (cause_of_event event) old new event refl (no_break (known_in old) (Came (Some form) old new) (λ t end. FormGives t form end) event a) (out_same old new out);
+      wrote = leaves_all form (cause_of_event event) old new event refl (no_break (known_in old) (CameInRun (Some form) old new) (λ t end. FormGives t form end) event a) (out_same old new out);
       near = near_all form (status_of_event event) old new refl;
       measured = m;
       fails_last = l;
@@ -239,9 +240,19 @@ fault_last flash stream bytes inputs new NoMemory has size = not_fault (Some (Up
 
 -- an update that came to no end
 pub fault_ends : (flash stream bytes : List ℕ) (old new : Outside) (fault : UpdateFault) → new.out ≡ old.out → IsTrue (new.flash.names flash) → IsWithin old.flash.bytes → HasData (known_in old) stream bytes
-    → HasData (with_inputs old.inputs.contents None) stream bytes → new.flash.extent ≤ flash_limit → HasCause bytes old.flash new.flash fault → (IsEarly fault → new.flash.bytes ≡ old.flash.bytes) → EndsAs (Some (UpdatingFlash flash stream)) old new (Err (update_event (names flash stream) fault))
+    → HasData (with_inputs old.inputs.contents None) stream bytes → new.flash.extent ≤ flash_limit → HasCause bytes old.flash new.flash fault → (IsEarly fault → new.flash.bytes ≡ old.flash.bytes)
+    → CommandEndsAs (Some (UpdatingFlash flash stream)) old new (Err (update_event (names flash stream) fault))
 fault_ends flash stream bytes old new (Failed true) out asked within has reads size h early =
-    record { cause = (refl, inr (h.0, size, could_end flash stream bytes old within has h.2)); fails_last = fault_last flash stream bytes old.inputs new.flash (Failed true) reads size; wrote = out_same old new out; near = near_all (UpdatingFlash flash stream) (status_of_event writing_failed) old new refl; measured = fault_measured (Some (UpdatingFlash flash stream)) (names flash stream) new.flash (Failed true); updates = tt }
+    record {
+      cause = (refl, inr (h.0, size, could_end flash stream bytes old within has h.2));
+      fails_last = fault_last flash stream bytes old.inputs new.flash (Failed true) reads size;
+      wrote = out_same old new out;
+      near = near_all
+          (UpdatingFlash flash stream) (status_of_event writing_failed) old new refl;
+      measured = fault_measured (Some (UpdatingFlash flash stream)) (names flash stream) new.flash
+          (Failed true);
+      updates = tt;
+    }
 fault_ends flash stream bytes old new (Failed false) out asked within has reads size h early =
     refused_ends flash stream old new (reading_failed flash) out (fault_measured (Some (UpdatingFlash flash stream)) (names flash stream) new.flash (Failed false)) (fault_last flash stream bytes old.inputs new.flash (Failed false) reads size)
     (inl (inr (record { mishap = Failing flash new.inputs.given; came = (refl, inr (record { among = inl refl; asked = asked; risen = h.0 })); reports = refl; due = flash_due (known_in old) (Failing flash new.inputs.given) flash stream refl }))) (inl h.0)
@@ -264,7 +275,8 @@ fault_ends flash stream bytes old new (Differs place wrote read) out asked withi
   fails_last = fault_last flash stream bytes old.inputs new.flash (Differs place wrote read) reads size;
   updates = tt;
 }
-fault_ends flash stream bytes old new NoMemory out asked within has reads size h early = refused_ends flash stream old new no_memory out (fault_measured (Some (UpdatingFlash flash stream)) (names flash stream) new.flash NoMemory) (fault_last flash stream bytes old.inputs new.flash NoMemory reads size) (inl (inl refl)) (early tt)
+fault_ends flash stream bytes old new NoMemory out asked within has reads size h early = refused_ends flash stream old new no_memory out
+    (fault_measured (Some (UpdatingFlash flash stream)) (names flash stream) new.flash NoMemory) (fault_last flash stream bytes old.inputs new.flash NoMemory reads size) (inl (inl refl)) (early tt)
 
 can_take : (known now : Option (List ℕ)) (bytes : List ℕ) → IfKnown known IsUpdatable → BecomesBytes (IsAfterUpdate bytes) known now → IfKnown known (CanTake bytes)
 can_take None now bytes l b = tt
@@ -272,7 +284,7 @@ can_take (Some all) now bytes l b = record { updatable = l; fits = b.2.fits }
 
 -- an update that is done
 pub done_ends : (flash stream bytes : List ℕ) (old new : Outside) → new.out ≡ old.out → IsWithin old.flash.bytes → HasData (known_in old) stream bytes → IfKnown old.flash.bytes IsUpdatable → new.flash.extent ≤ flash_limit → Becomes old.flash new.flash (IsAfterUpdate bytes)
-    → EndsAs (Some (UpdatingFlash flash stream)) old new (Ok false)
+    → CommandEndsAs (Some (UpdatingFlash flash stream)) old new (Ok false)
 done_ends flash stream bytes old new out within has updatable size becomes =
     let known = old.flash.bytes in (
       [],

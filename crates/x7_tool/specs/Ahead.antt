@@ -91,5 +91,5 @@ abbrev pub StaysNear : Status → Option AskedForm → Outside → Outside → T
 StaysNear s form old new = StaysNearIn s (listed_by form) old new
 
 -- what the sink has begins with what it had
-abbrev pub Extends : SinkState → SinkState → Type 0
-Extends old new = (more : List ℕ) × (new.written ≡ appended old.written more)
+abbrev pub ExtendsOutput : SinkState → SinkState → Type 0
+ExtendsOutput old new = (more : List ℕ) × (new.written ≡ appended old.written more)

@@ -12,7 +12,7 @@ use Rattle.x7_forms.specs.Turn.{longest_beginning}
 use Rattle.x7_forms.specs.Event.{Event, no_memory, writing_failed}
 
 -- What was put after `first` is the listing so far of these bytes, and the lister keeps no text of it.
-pub record Lists (l : ListerState) (first now : Option (List ℕ)) (bytes : List ℕ) : Type 0 where
+pub record ListsInTurns (l : ListerState) (first now : Option (List ℕ)) (bytes : List ℕ) : Type 0 where
   pub given : List ℕ
   pub stands : ListerStandsFor l given [] bytes
   pub put : now ≡ appended first given
@@ -26,7 +26,7 @@ IsUnlisted old new event = ((event ≡ no_memory) × (new.written ≡ old.writte
 -- prefix of the listing of all of it was put.
 abbrev pub StopsIn : ListerState → Option (List ℕ) → List ℕ → Option (List ℕ) → Type 0
 StopsIn l old piece new =
-    (first : Option (List ℕ)) (bytes rest : List ℕ) → Lists l first old bytes → AreBytes (bytes ++ (piece ++ rest))
+    (first : Option (List ℕ)) (bytes rest : List ℕ) → ListsInTurns l first old bytes → AreBytes (bytes ++ (piece ++ rest))
     → PutsPrefix first (listing_of (bytes ++ (piece ++ rest))) new
 
 -- What was put after the first bytes is so far the listing of each stream that begins with these bytes: a header's line
@@ -34,7 +34,7 @@ StopsIn l old piece new =
 pub record ListsStream (l : ListerState) (first now : Option (List ℕ)) (bytes : List ℕ) : Type 0 where
   pub line : List ℕ
   pub content : List ℕ
-  pub lists : Lists l (appended first line) now content
+  pub lists : ListsInTurns l (appended first line) now content
   pub listing : (rest : List ℕ) → stream_listing (bytes ++ rest) ≡ Ok (line ++ listing_of (content ++ rest))
   pub short_header : length bytes ≤ length content + longest_beginning
 

@@ -13,13 +13,13 @@ use Rattle.x7_forms.specs.Known.{reads_limit}
 use Rattle.x7_playing.specs.Playing.{HasPlayed}
 use Rattle.x7_playing.specs.declared.player.Player.{Player}
 
--- the number after `x` in the sequence that a seed begins: a linear congruence modulo 2^32
+-- the number after `number` in the sequence that a seed begins: a linear congruence modulo 2^32
 abbrev pub next_number : ℕ → ℕ
-next_number x = (1664525 * x + 1013904223) % 2 ^ 32
+next_number number = (1664525 * number + 1013904223) % 2 ^ 32
 
--- `count` words that count up from a number, modulo 2^32
+-- `count` words that count up from the word `first`, modulo 2^32
 abbrev pub counted : ℕ → ℕ → List ℕ
-counted count n = map (λ i. (n + i) % 2 ^ 32) (range_with_len 0 count)
+counted count first = map (λ i. (first + i) % 2 ^ 32) (range_with_len 0 count)
 
 -- the least number with which a frame is planned
 abbrev pub least_planned : ℕ
@@ -27,13 +27,13 @@ least_planned = 2 ^ 31
 
 -- what is planned for an address by its number: nothing where that is below the least
 abbrev pub row_by : ℕ → ℕ → ℕ → List PlanRow
-row_by width far n = if nat_lt n least_planned then [] else record { far = far; words = counted width n } ∷ []
+row_by width far number = if nat_lt number least_planned then [] else record { far = far; words = counted width number } ∷ []
 
--- what is planned for these addresses: the first one's number is that after x,
--- each other's that after the number before
+-- what is planned for these addresses: the first one's number is that after `number`, each other's that after the one
+-- before
 abbrev pub rows_after : ℕ → ℕ → List ℕ → List PlanRow
-rows_after width x [] = []
-rows_after width x (far ∷ fars) = row_by width far (next_number x) ++ rows_after width (next_number x) fars
+rows_after width number [] = []
+rows_after width number (far ∷ fars) = row_by width far (next_number number) ++ rows_after width (next_number number) fars
 
 -- the plan of a seed
 abbrev pub generated : PartData → ℕ → PlanData

@@ -1,6 +1,8 @@
 -- What a run leaves of a flash, and what may be found of it after a power loss at any moment (this project's choice).
 use Rattle.std.specs.Prelude.{◌≡◌, ℕ, List, Option, None, Some, Result, Ok, Err, ◌⊎◌}
 use Rattle.x7_words.specs.Flash.{FlashFails, FlashState, IfKnown}
+use Rattle.x7_words.specs.FlashCalls.{FlashModel}
+use Rattle.x7_words.specs.Input.{InputsState}
 use Rattle.x7_update.specs.After.{IsAfterUpdate, MayBeLeft}
 use Rattle.x7_update.specs.Writing.{AtAnyMoment, Becomes}
 use Rattle.x7_boot.specs.Boot.{BootedState, IsBoot}
@@ -11,7 +13,7 @@ use Rattle.x7_forms.specs.Event.{Event}
 use Rattle.x7_forms.specs.Form.{AskedForm, flash_use, updated_by}
 use Rattle.x7_forms.specs.Known.{Answer, Known}
 use Rattle.x7_tool.specs.Outcome.{stream_data}
-use Rattle.x7_tool.specs.Outside.{KeepsFlash, Outside, Sources, known_from, known_in}
+use Rattle.x7_tool.specs.Outside.{KeepsFlash, Outside, Sources, known_from, known_in, sources}
 
 -- where the contents are known, these are the data of the stream of this name
 abbrev pub HasData : Option Known → List ℕ → List ℕ → Type 0
@@ -28,6 +30,10 @@ MayBeFound known (Some stream) flash found = (found ≡ flash) ⊎ ((bytes : Lis
 pub record UsesFlash (form : Option AskedForm) (old : Sources) (new : FlashState) (past since : ℕ → List ℕ → Type 0) : Type 0 where
   pub keeps : KeepsFlash (flash_use form) old.flash new
   pub moments : AtAnyMoment old.flash new past since (MayBeFound (known_from old) (updated_by form))
+
+-- what a call for a form does to the flash, over these inputs, and what may be found of it at any moment of the call
+abbrev pub CallUsesFlash : {F : Type 0} → FlashModel F → Option AskedForm → InputsState → F → F → Type 0
+CallUsesFlash f form inputs old new = UsesFlash form (sources inputs (f.state old)) (f.state new) (f.found_since old) (f.found_since new)
 
 -- what a power loss at any moment of a run may leave of its flash, where the bytes of that are known
 abbrev pub PowerLossMayLeave : Option AskedForm → Sources → List ℕ → Type 0
@@ -59,7 +65,7 @@ KeepsBytes reason old new = new.bytes ≡ old.bytes
 
 -- An update that is done leaves the flash as it is after one with the stream's data. One that
 -- isn't leaves its bytes, as its reason says.
-abbrev pub Updates : Option (List ℕ) → Outside → Outside → Result Answer Event → Type 0
-Updates None old new end = Unit {0}
-Updates (Some stream) old new (Ok answer) = (bytes : List ℕ) × HasData (known_in old) stream bytes × Becomes old.flash new.flash (IsAfterUpdate bytes)
-Updates (Some stream) old new (Err event) = KeepsBytes event.reason old.flash new.flash
+abbrev pub UpdateLeaves : Option (List ℕ) → Outside → Outside → Result Answer Event → Type 0
+UpdateLeaves None old new end = Unit {0}
+UpdateLeaves (Some stream) old new (Ok answer) = (bytes : List ℕ) × HasData (known_in old) stream bytes × Becomes old.flash new.flash (IsAfterUpdate bytes)
+UpdateLeaves (Some stream) old new (Err event) = KeepsBytes event.reason old.flash new.flash

@@ -75,9 +75,9 @@ FormLacks form old new name = LacksAmong (names_of form) old.inputs new.inputs n
 
 -- a mishap came: an input or the flash of a name that the form gives failed, after the bytes that
 -- were given of the last input, or was missing
-abbrev pub Came : Option AskedForm → Outside → Outside → Mishap → Type 0
-Came form old new (Failing name given) = (given ≡ new.inputs.given) × FormFails form old new name
-Came form old new (Lacking name) = FormLacks form old new name
+abbrev pub CameInRun : Option AskedForm → Outside → Outside → Mishap → Type 0
+CameInRun form old new (Failing name given) = (given ≡ new.inputs.given) × FormFails form old new name
+CameInRun form old new (Lacking name) = FormLacks form old new name
 
 -- a write of the flash failed, which only a form with a stream for it writes
 abbrev pub WritesFail : Option (List ℕ) → FlashState → FlashState → Type 0

@@ -15,12 +15,12 @@ use Rattle.x7_forms.specs.Form.{AskedForm, Listing, UpdatingFlash, flash_names, 
 use Rattle.x7_forms.specs.Known.{Answer, Held, Known, bytes_found, flash_found, with_inputs}
 use Rattle.x7_part.specs.Part.{PartData}
 use Rattle.x7_forms.specs.Status.{final_status}
-use Rattle.x7_forms.specs.Step.{Among, AnswersBy, IsCausedBy, IsOfMishap, seen, step_over}
+use Rattle.x7_forms.specs.Step.{Among, AnswersBy, IsCausedBy, IsOfMishap, result_by, step_over}
 use Rattle.x7_tool.specs.Ahead.{StaysNear}
 use Rattle.x7_tool.specs.Outcome.{FlashBoots, FormGives, no_text}
-use Rattle.x7_tool.specs.Leaving.{HasData, Updates}
-use Rattle.x7_tool.specs.Outside.{Came, FlashFailsAmong, FlashLacksAmong, Outside, Sources, Transfer, WritesFail, known_in, sources, with_sources, with_transfer}
-use Rattle.x7_tool.specs.Stopping.{Stops}
+use Rattle.x7_tool.specs.Leaving.{HasData, UpdateLeaves}
+use Rattle.x7_tool.specs.Outside.{CameInRun, FlashFailsAmong, FlashLacksAmong, Outside, Sources, Transfer, WritesFail, known_in, sources, with_sources, with_transfer}
+use Rattle.x7_tool.specs.Stopping.{StopsReading}
 
 -- ---- why
 
@@ -37,7 +37,7 @@ GivesIfKnown (Some known) form end = FormGives known form end
 -- The event reports a mishap that came; where the contents are known, the form comes to the event over them with that
 -- mishap.
 abbrev pub ReportsMishap : AskedForm → Outside → Outside → Event → Type 0
-ReportsMishap form old new event = IsOfMishap Answer (known_in old) (Came (Some form) old new) (λ known end. FormGives known form end) event
+ReportsMishap form old new event = IsOfMishap Answer (known_in old) (CameInRun (Some form) old new) (λ known end. FormGives known form end) event
 
 -- At this place of the flash another byte was read than an update with the stream's data writes there, and it is the
 -- first such byte of the update or of its slot's switch word. Where the contents aren't known, it is so for some data.
@@ -146,9 +146,9 @@ LeftBy Break (Some form) old new event = LeftAtBreak (updated_by (Some form)) fo
 LeftBy _ form old new event = LeavesBy (listed_by form) event old new
 
 -- what the output got: the whole text, or what the event leaves of it
-abbrev pub Wrote : Option AskedForm → Outside → Outside → Result Answer Event → Type 0
-Wrote form old new (Ok answer) = PutsAll old.out answer.text new.out
-Wrote form old new (Err event) = LeftBy (cause_of_event event) form old new event
+abbrev pub OutputGets : Option AskedForm → Outside → Outside → Result Answer Event → Type 0
+OutputGets form old new (Ok answer) = PutsAll old.out answer.text new.out
+OutputGets form old new (Err event) = LeftBy (cause_of_event event) form old new event
 
 -- ---- how large a flash is
 
@@ -186,24 +186,24 @@ JudgesFlash form old new end = Unit {0}
 
 -- how a command ended: why, what the output got, how far `list` read ahead, how large the flash is, what was in order
 -- before the flash failed, and what an update left
-pub record Ends (form : Option AskedForm) (old new : Outside) (end : Result Answer Event) : Type 0 where
+pub record CommandEnds (form : Option AskedForm) (old new : Outside) (end : Result Answer Event) : Type 0 where
   pub cause : EndIsCaused form old new end
-  pub wrote : Wrote form old new end
+  pub wrote : OutputGets form old new end
   pub near : StaysNear (final_status end) form old new
   pub measured : IsMeasured form new.flash end
   pub fails_last : FailsLast form old.inputs new.flash end
-  pub updates : Updates (updated_by form) old new end
+  pub updates : UpdateLeaves (updated_by form) old new end
 
 -- how a command ended, by whether what it wrote reports that something stopped, or by the event
-abbrev pub EndsAs : Option AskedForm → Outside → Outside → Result Bool Event → Type 0
-EndsAs form old new (Ok stopped) = (text : List ℕ) × Ends form old new (Ok (record { stopped = stopped; text = text }))
-EndsAs form old new (Err event) = Ends form old new (Err event)
+abbrev pub CommandEndsAs : Option AskedForm → Outside → Outside → Result Bool Event → Type 0
+CommandEndsAs form old new (Ok stopped) = (text : List ℕ) × CommandEnds form old new (Ok (record { stopped = stopped; text = text }))
+CommandEndsAs form old new (Err event) = CommandEnds form old new (Err event)
 
 -- What a form did, up to the line that is said of its end: how it ended, where reading stopped, that an update whose
 -- flash can't be used asks for no stream, how often inputs were asked for, and that every input keeps its bytes.
 pub record Answered (form : AskedForm) (old new : Outside) (got : Result Bool Event) : Type 0 where
-  pub ends : EndsAs (Some form) old new got
-  pub stops : Stops (Some form) old.inputs new.inputs got
+  pub ends : CommandEndsAs (Some form) old new got
+  pub stops : StopsReading (Some form) old.inputs new.inputs got
   pub judges : JudgesFlash (Some form) (sources old.inputs old.flash) (sources new.inputs new.flash) got
   pub asks : AsksAtMost old.inputs (length (names_of (Some form))) new.inputs
   pub stays : InputsStay old.inputs new.inputs
@@ -218,7 +218,7 @@ AnsweredListing stream old new got = (before after : Outside) → Answered (List
 
 -- by the result of a call that writes: whether what it reports stopped, or the event of its refusal
 abbrev pub written_by : Result Bool Refusal → Result Bool Event
-written_by result = seen (λ stopped. stopped) result
+written_by result = result_by (λ stopped. stopped) result
 
 -- what the sink of messages got: nothing after a whole text, and else the event's
 -- line, or a prefix of it where the sink failed
@@ -236,7 +236,7 @@ PutsAnswer (Ok answer) old new (Err event) = (event ≡ writing_failed) × SinkF
 -- a text of the form that is ready, or the event in place of it, has its cause: the form gives it over the known
 -- contents, or what the form names failed or was missing, or memory was wanting
 abbrev pub AnswersOver : AskedForm → Outside → Outside → Result Answer Event → Type 0
-AnswersOver form old new got = IsCausedBy (known_in old) (Came (Some form) old new) (λ known end. FormGives known form end) got
+AnswersOver form old new got = IsCausedBy (known_in old) (CameInRun (Some form) old new) (λ known end. FormGives known form end) got
 
 -- a text of the form that is ready has its cause in what the form reads, whatever the sinks hold
 abbrev pub AnswersFrom : AskedForm → Sources → Sources → Result Answer Event → Type 0
@@ -250,7 +250,7 @@ AnswersForm form old new got = AnswersBy (step_over (names_of (Some form)) old n
 -- ends the form, no more inputs were asked for than the form names, and every input keeps its bytes.
 pub record MakesReady (form : AskedForm) (old new : InputsState) (got : Result Answer Event) : Type 0 where
   pub caused : AnswersForm form old new got
-  pub stops : Stops (Some form) old new got
+  pub stops : StopsReading (Some form) old new got
   pub asks : AsksAtMost old (length (names_of (Some form))) new
   pub stays : InputsStay old new
 
@@ -258,7 +258,7 @@ pub record MakesReady (form : AskedForm) (old new : InputsState) (got : Result A
 -- size and its faults fit the answer, and the rest is as in `MakesReady`.
 pub record MakesReadyFrom (form : AskedForm) (old new : Sources) (got : Result Answer Event) : Type 0 where
   pub caused : AnswersFrom form old new got
-  pub stops : Stops (Some form) old.inputs new.inputs got
+  pub stops : StopsReading (Some form) old.inputs new.inputs got
   pub measured : IsMeasured (Some form) new.flash got
   pub fails_last : FailsLast (Some form) old.inputs new.flash got
   pub asks : AsksAtMost old.inputs (length (names_of (Some form))) new.inputs

@@ -12,12 +12,12 @@ use Rattle.x7_forms.specs.Form.{AskedForm, Assembling, FromMcs, flash_use, names
 use Rattle.x7_forms.specs.Status.{final_status}
 use Rattle.x7_forms.specs.Known.{Answer, Known, stream_limit}
 use Rattle.x7_tool.specs.Ahead.{StaysNear}
-use Rattle.x7_tool.specs.Leaving.{Updates}
+use Rattle.x7_tool.specs.Leaving.{UpdateLeaves}
 use Rattle.x7_tool.specs.Outcome.{IsOutcome}
 use Rattle.x7_tool.specs.Outside.{IsQuiet, KeepsFlash, Outside, known_in, sources}
 use Rattle.x7_tool.specs.Promise.{Promise}
-use Rattle.x7_tool.specs.Stopping.{Stops}
-use Rattle.x7_tool.specs.Run.{EndIsCaused, FailsLast, IsMeasured, JudgesFlash, SaysEnd, Wrote}
+use Rattle.x7_tool.specs.Stopping.{StopsReading}
+use Rattle.x7_tool.specs.Run.{EndIsCaused, FailsLast, IsMeasured, JudgesFlash, SaysEnd, OutputGets}
 
 -- an input has this text
 abbrev pub HasText : Outside → List ℕ → List ℕ → Type 0
@@ -54,7 +54,7 @@ pub record Runs (form : Option AskedForm) (old new : Outside) (s : Status) : Typ
   -- the end has its cause
   pub cause : EndIsCaused form old new end
   -- the output got the whole text, or what the event leaves of it
-  pub wrote : Wrote form old new end
+  pub wrote : OutputGets form old new end
   -- messages got nothing after a whole text, and else the event's one line, or a prefix of it where they failed
   pub said : SaysEnd old.err new.err end
   -- by the status: how far a stream that is listed was read where the output
@@ -76,7 +76,7 @@ pub record Runs (form : Option AskedForm) (old new : Outside) (s : Status) : Typ
   -- all that the form reads of inputs is good
   pub fails_last : FailsLast form old.inputs new.flash end
   -- where an input ends the command, no later one was asked for, and no more than a byte over its limit was given of it
-  pub stops : Stops form old.inputs new.inputs end
+  pub stops : StopsReading form old.inputs new.inputs end
   -- an update whose flash isn't there, wasn't attached or is too large asks for no stream
   pub judges : JudgesFlash form (sources old.inputs old.flash) (sources new.inputs new.flash) end
   -- no more inputs were asked for than the words name, so that none was read again, nor more ends of inputs read
@@ -87,4 +87,4 @@ pub record Runs (form : Option AskedForm) (old new : Outside) (s : Status) : Typ
   pub flash : KeepsFlash (flash_use form) old.flash new.flash
   -- an update that is done left the flash as it is after one; one that isn't left its bytes, but where a write or a
   -- read of the flash failed, or a byte differs
-  pub updates : Updates (updated_by form) old new end
+  pub updates : UpdateLeaves (updated_by form) old new end

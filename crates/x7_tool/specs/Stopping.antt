@@ -42,7 +42,7 @@ StopsBy _ form old now event = Unit {0}
 
 -- where an input ends a command, no later one was asked for, no earlier one twice, and no more
 -- than a byte over its limit was given of it
-abbrev pub Stops : {A : Type 0} → Option AskedForm → InputsState → InputsState → Result A Event → Type 0
-Stops None old now end = Unit {0}
-Stops (Some form) old now (Ok a) = Unit {0}
-Stops (Some form) old now (Err event) = StopsBy (cause_of_event event) form old now event
+abbrev pub StopsReading : {A : Type 0} → Option AskedForm → InputsState → InputsState → Result A Event → Type 0
+StopsReading None old now end = Unit {0}
+StopsReading (Some form) old now (Ok a) = Unit {0}
+StopsReading (Some form) old now (Err event) = StopsBy (cause_of_event event) form old now event

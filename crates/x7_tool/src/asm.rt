@@ -5,7 +5,7 @@ ghost use Rattle.x7_tool.specs.Outcome.{asm_event};
 ghost use Rattle.x7_tool.specs.Run.{MakesReady};
 ghost use Rattle.x7_forms.specs.Form.{Assembling};
 ghost use Rattle.x7_tool.specs.Ready.{bytes_answer};
-ghost use Rattle.x7_forms.specs.Step.{seen};
+ghost use Rattle.x7_forms.specs.Step.{result_by};
 
 use crate::feeding::feed_whole;
 use std::alloc::Global;
@@ -34,7 +34,7 @@ pub(crate) fn asm<'w, I: Inputs>(
     inputs: &mut I,
     name: &'w str,
 ) -> Result<Vec<u8>, Refusal<'w>>
-    ensures { MakesReady (Assembling name.now) (I.state inputs.old) (I.state inputs.new) (seen bytes_answer result) }
+    ensures { MakesReady (Assembling name.now) (I.state inputs.old) (I.state inputs.new) (result_by bytes_answer result) }
 {
     let read = feed_whole(alloc, inputs, name, AsmLines::new(alloc))?;
     match read {

@@ -1,6 +1,7 @@
 //! A flash that a command reads or updates, attached under its name.
 ghost use Rattle.std.specs.Prelude.{◌≡◌, ◌≤◌, IfErr, OnOk, length, true, false};
-ghost use Rattle.x7_words.specs.Flash.{FlashIsAskedFor, FlashStays, IsSized, IfKnown};
+ghost use Rattle.x7_words.specs.Flash.{FlashIsAskedFor, IsSized, IfKnown};
+ghost use Rattle.x7_words.specs.FlashCalls.{CallKeepsBytes};
 ghost use Rattle.x7_boot.specs.Image.{flash_limit};
 ghost use Rattle.x7_forms.specs.Event.{event_of};
 ghost use Rattle.x7_tool.specs.Outside.{ReadsFlash};
@@ -15,7 +16,7 @@ pub(crate) fn attach<'w, F: Flash>(flash: &mut F, name: &'w str) -> Result<(), R
     ensures refused { IfErr result (λ r. IsUnattached name.now (F.state flash.old) (F.state flash.new) (event_of r)) }
     ensures unattached { IfErr result (λ r. (F.state flash.new).attached ≡ false) }
     ensures reads { ReadsFlash name.now (F.state flash.old) (F.state flash.new) }
-    ensures stays { FlashStays (F.state flash.old) (F.state flash.new) (F.found_since flash.old) (F.found_since flash.new) }
+    ensures stays { CallKeepsBytes F.Flash flash.old flash.new }
     ensures asks { FlashIsAskedFor (F.state flash.old) name.now (F.state flash.new) }
     ensures sized { IsSized (F.state flash.new) }
 {
@@ -38,7 +39,7 @@ pub(crate) fn open_flash<'w, F: Flash>(flash: &mut F, name: &'w str) -> Result<(
     ensures within { OnOk result (IfKnown (F.state flash.new).bytes (λ all. length all ≤ flash_limit)) }
     ensures size { OnOk result ((F.state flash.new).extent ≤ flash_limit) }
     ensures refused { IfErr result (λ r. IsUnattachedOrLarge name.now (F.state flash.old) (F.state flash.new) (event_of r)) }
-    ensures stays { FlashStays (F.state flash.old) (F.state flash.new) (F.found_since flash.old) (F.found_since flash.new) }
+    ensures stays { CallKeepsBytes F.Flash flash.old flash.new }
     ensures asks { FlashIsAskedFor (F.state flash.old) name.now (F.state flash.new) }
 {
     attach(flash, name)?;

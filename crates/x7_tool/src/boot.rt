@@ -1,6 +1,6 @@
 //! The command `boot`: which image a device starts from a flash, and why not another.
 ghost use Rattle.std.specs.Prelude.{◌≡◌, ◌≤◌, ℕ, List, [], IfErr, IfOk, true};
-ghost use Rattle.x7_words.specs.Flash.{Unwritten};
+ghost use Rattle.x7_words.specs.FlashCalls.{CallWritesNothing};
 ghost use Rattle.x7_part.specs.Part.{PartData};
 ghost use Rattle.x7_boot.specs.Boot.{IsBoot};
 ghost use Rattle.x7_engine.specs.Standing.{NoWordDue};
@@ -9,7 +9,7 @@ ghost use Rattle.x7_boot.specs.Image.{flash_limit};
 ghost use Rattle.x7_forms.specs.Event.{event_of, no_memory, reading_failed};
 ghost use Rattle.x7_tool.specs.Outcome.{IsBootText, boot_event, has_failed};
 ghost use Rattle.x7_tool.specs.Boot.{OfBoot, boot_text};
-ghost use Rattle.x7_forms.specs.Step.{seen};
+ghost use Rattle.x7_forms.specs.Step.{result_by};
 ghost use Rattle.x7_tool.specs.Outside.{ReadsFlash, sources};
 ghost use Rattle.x7_tool.specs.Play.{play_answer};
 ghost use Rattle.x7_tool.specs.Run.{FlashComes, MakesReadyFrom};
@@ -102,10 +102,10 @@ fn boot_from<'w, F: Flash>(
     flash: &mut F,
     flash_name: &'w str,
 ) -> Result<PlayText, Refusal<'w>>
-    ensures caused { FlashComes flash_name.now part.now (F.state flash.old) (F.state flash.new) (seen play_answer result) }
+    ensures caused { FlashComes flash_name.now part.now (F.state flash.old) (F.state flash.new) (result_by play_answer result) }
     ensures failed { IfErr result (λ r. event_of r ≡ reading_failed flash_name.now → (F.state flash.new).attached ≡ true → (F.state flash.new).extent ≤ flash_limit) }
     ensures reads { ReadsFlash flash_name.now (F.state flash.old) (F.state flash.new) }
-    ensures unwritten { Unwritten (F.state flash.old) (F.state flash.new) (F.found_since flash.old) (F.found_since flash.new) }
+    ensures unwritten { CallWritesNothing F.Flash flash.old flash.new }
 {
     attach(flash, flash_name)?;
     match x7_boot::boot(alloc, part, flash) {
@@ -123,9 +123,9 @@ pub(crate) fn boot<'w, I: Inputs, F: Flash>(
     flash_name: &'w str,
 ) -> Result<PlayText, Refusal<'w>>
     ensures ready { MakesReadyFrom (Booting part.now flash_name.now) (sources (I.state inputs.old) (F.state flash.old))
-        (sources (I.state inputs.new) (F.state flash.new)) (seen play_answer result) }
+        (sources (I.state inputs.new) (F.state flash.new)) (result_by play_answer result) }
     ensures reads { ReadsFlash flash_name.now (F.state flash.old) (F.state flash.new) }
-    ensures unwritten { Unwritten (F.state flash.old) (F.state flash.new) (F.found_since flash.old) (F.found_since flash.new) }
+    ensures unwritten { CallWritesNothing F.Flash flash.old flash.new }
 {
     let part = read_part(alloc, inputs, part)?;
     boot_from(alloc, &part, flash, flash_name)

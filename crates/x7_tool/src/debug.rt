@@ -9,7 +9,7 @@ ghost use Rattle.x7_forms.specs.Known.{part_limit, stream_limit};
 ghost use Rattle.x7_forms.specs.Turn.{IsLastAsked};
 ghost use Rattle.x7_tool.specs.Ready.{text_answer};
 ghost use Rattle.x7_forms.specs.Form.{Debugging};
-ghost use Rattle.x7_forms.specs.Step.{AnswersAs, seen, step_over};
+ghost use Rattle.x7_forms.specs.Step.{AnswersAs, result_by, step_over};
 ghost use Rattle.x7_tool.specs.Run.{MakesReady};
 
 use crate::stream::read_data;
@@ -53,7 +53,7 @@ fn read_given<'w, I: Inputs>(
     script: &'w str,
 ) -> Result<Given, Refusal<'w>>
     ensures caused { AnswersAs (step_over (part.now ∷ stream.now ∷ script.now ∷ []) (I.state inputs.old) (I.state inputs.new))
-        (λ known. debug_inputs known part.now stream.now script.now) (seen debug_given result) }
+        (λ known. debug_inputs known part.now stream.now script.now) (result_by debug_given result) }
     ensures last_asked { IfOk result (λ given. IsLastAsked script.now script_limit (I.state inputs.new)) }
     ensures stops { IfErr result (λ r. StopsAmong (limited part_limit part.now ∷ limited stream_limit stream.now ∷ limited script_limit script.now ∷ [])
         (I.state inputs.old) (I.state inputs.new) (event_of r)) }
@@ -111,7 +111,7 @@ pub(crate) fn debug<'w, I: Inputs>(
     stream: &'w str,
     script: &'w str,
 ) -> Result<Text, Refusal<'w>>
-    ensures { MakesReady (Debugging part.now stream.now script.now) (I.state inputs.old) (I.state inputs.new) (seen text_answer result) }
+    ensures { MakesReady (Debugging part.now stream.now script.now) (I.state inputs.old) (I.state inputs.new) (result_by text_answer result) }
 {
     let given = read_given(alloc, inputs, part, stream, script)?;
     text_of(alloc, given, script)

@@ -15,7 +15,7 @@ ghost use Rattle.x7_tool.specs.Run.{MakesReady};
 ghost use Rattle.x7_forms.specs.Form.{Generating};
 ghost use Rattle.x7_playing.specs.Playing.{HasPlayed};
 ghost use Rattle.x7_tool.specs.Ready.{bytes_answer};
-ghost use Rattle.x7_forms.specs.Step.{seen};
+ghost use Rattle.x7_forms.specs.Step.{result_by};
 
 use std::alloc::Global;
 use x7_forms::{Refusal, read_part};
@@ -29,20 +29,20 @@ use x7_words::{Inputs, NoMemory};
 /// The least number with which a frame is planned: with a smaller one it is not.
 const LEAST_PLANNED: u32 = 1 << 31;
 
-/// The number after `x` in the sequence that a seed begins: a linear congruence modulo 2^32 (this project's
+/// The number after `number` in the sequence that a seed begins: a linear congruence modulo 2^32 (this project's
 /// choice).
-fn next_number(x: u32) -> u32
-    ensures { result ≡ next_number x }
+fn next_number(number: u32) -> u32
+    ensures { result ≡ next_number number }
 {
-    x.wrapping_mul(1_664_525).wrapping_add(1_013_904_223)
+    number.wrapping_mul(1_664_525).wrapping_add(1_013_904_223)
 }
 
-/// Makes the words of a frame count up from a number, modulo 2^32.
-fn count_up(frame: &mut Vec<u32>, n: u32)
-    ensures words { frame.new.items ≡ counted (length frame.old.items) n }
+/// Makes the words of a frame count up from the word `first`, modulo 2^32.
+fn count_up(frame: &mut Vec<u32>, first: u32)
+    ensures words { frame.new.items ≡ counted (length frame.old.items) first }
     ensures room { length frame.new.items ≡ length frame.old.items }
 {
-    let mut word = n;
+    let mut word = first;
     for i in 0..frame.len() {
         frame[i] = word;
         word = word.wrapping_add(1);
@@ -50,16 +50,16 @@ fn count_up(frame: &mut Vec<u32>, n: u32)
 }
 
 /// Adds what is planned for an address by its number. `frame` is room for its words.
-fn push_row(draft: &mut Draft, frame: &mut Vec<u32>, far: u32, n: u32) -> Result<(), NoMemory>
+fn push_row(draft: &mut Draft, frame: &mut Vec<u32>, far: u32, number: u32) -> Result<(), NoMemory>
     requires width { length frame.old.items ≡ draft.old.width }
-    ensures added { OnOk result (draft.new.rows ≡ draft.old.rows ++ row_by draft.old.width far n) }
+    ensures added { OnOk result (draft.new.rows ≡ draft.old.rows ++ row_by draft.old.width far number) }
     ensures width { draft.new.width ≡ draft.old.width }
     ensures room { length frame.new.items ≡ length frame.old.items }
 {
-    if n < LEAST_PLANNED {
+    if number < LEAST_PLANNED {
         return Ok(());
     }
-    count_up(frame, n);
+    count_up(frame, number);
     draft.push(far, frame)
 }
 
@@ -71,13 +71,13 @@ fn generated(alloc: Global, part: &Part, seed: u32) -> Result<Plan, NoMemory>
         return Err(NoMemory);
     };
     let mut draft = Draft::with_room(alloc, part.words(), part.frames() as usize)?;
-    let mut n = seed;
+    let mut number = seed;
     for rank in 0..part.frames() {
         let Some(far) = part.address(rank) else {
             unreachable!()
         };
-        n = next_number(n);
-        push_row(&mut draft, &mut frame, far, n)?;
+        number = next_number(number);
+        push_row(&mut draft, &mut frame, far, number)?;
     }
     Ok(draft.finish())
 }
@@ -279,7 +279,7 @@ pub(crate) fn generate<'w, I: Inputs>(
     part_name: &'w str,
     seed: u32,
 ) -> Result<Vec<u8>, Refusal<'w>>
-    ensures { MakesReady (Generating part_name.now seed) (I.state inputs.old) (I.state inputs.new) (seen bytes_answer result) }
+    ensures { MakesReady (Generating part_name.now seed) (I.state inputs.old) (I.state inputs.new) (result_by bytes_answer result) }
 {
     let part = read_part(alloc, inputs, part_name)?;
     summary_of(alloc, &part, seed)

@@ -11,7 +11,7 @@ ghost use Rattle.x7_tool.specs.Run.{MakesReady};
 ghost use Rattle.x7_forms.specs.Form.{Imaging, ImagingFor};
 ghost use Rattle.x7_tool.specs.Ready.{bytes_answer};
 ghost use Rattle.x7_tool.specs.Stream.{streams_of};
-ghost use Rattle.x7_forms.specs.Step.{AnswersAs, seen, step_over};
+ghost use Rattle.x7_forms.specs.Step.{AnswersAs, result_by, step_over};
 
 use crate::stream::{Stream, read_stream};
 use std::alloc::Global;
@@ -35,7 +35,7 @@ fn read_streams<'w, I: Inputs>(
     update: &'w str,
 ) -> Result<Streams, Refusal<'w>>
     ensures caused { AnswersAs (step_over (golden.now ∷ update.now ∷ []) (I.state inputs.old) (I.state inputs.new))
-        (λ known. image_streams known golden.now update.now) (seen streams_of result) }
+        (λ known. image_streams known golden.now update.now) (result_by streams_of result) }
     ensures last_asked { IfOk result (λ streams. IsLastAsked update.now stream_limit (I.state inputs.new)) }
     ensures stops { IfErr result (λ r. StopsAmong (limited stream_limit golden.now ∷ limited stream_limit update.now ∷ [])
         (I.state inputs.old) (I.state inputs.new) (event_of r)) }
@@ -109,7 +109,7 @@ pub(crate) fn image<'w, I: Inputs>(
     golden: &'w str,
     update: &'w str,
 ) -> Result<Vec<u8>, Refusal<'w>>
-    ensures { MakesReady (Imaging golden.now update.now) (I.state inputs.old) (I.state inputs.new) (seen bytes_answer result) }
+    ensures { MakesReady (Imaging golden.now update.now) (I.state inputs.old) (I.state inputs.new) (result_by bytes_answer result) }
 {
     let streams = read_streams(alloc, inputs, golden, update)?;
     image_by_bytes(alloc, &streams, update)
@@ -123,7 +123,7 @@ pub(crate) fn image_for<'w, I: Inputs>(
     golden: &'w str,
     update: &'w str,
 ) -> Result<Vec<u8>, Refusal<'w>>
-    ensures { MakesReady (ImagingFor part.now golden.now update.now) (I.state inputs.old) (I.state inputs.new) (seen bytes_answer result) }
+    ensures { MakesReady (ImagingFor part.now golden.now update.now) (I.state inputs.old) (I.state inputs.new) (result_by bytes_answer result) }
 {
     let part = read_part(alloc, inputs, part)?;
     let streams = read_streams(alloc, inputs, golden, update)?;

@@ -3,13 +3,13 @@ ghost use Rattle.std.specs.Prelude.{◌≡◌, ℕ, List, [], ◌++◌, ◌⊎�
 ghost use Rattle.x7_words.specs.Sink.{SinkFaultsRise, PutsPrefix, SinkFails, appended};
 ghost use Rattle.x7_words.specs.Word.{AreBytes};
 ghost use Rattle.x7_listing.specs.Listing.{listing_of};
-ghost use Rattle.x7_tool.specs.Ahead.{Extends};
+ghost use Rattle.x7_tool.specs.Ahead.{ExtendsOutput};
 ghost use Rattle.x7_forms.specs.Event.{event_of, no_memory, writing_failed};
 ghost use Rattle.x7_listing.specs.Lister.{ListerStandsFor};
 ghost use Rattle.x7_tool.specs.Outside.{transfer};
 ghost use Rattle.x7_tool.specs.Run.{AnsweredListing};
-ghost use Rattle.x7_forms.specs.Step.{seen};
-ghost use Rattle.x7_tool.specs.Between.{IsUnlisted, Lists, StopsIn};
+ghost use Rattle.x7_forms.specs.Step.{result_by};
+ghost use Rattle.x7_tool.specs.Between.{IsUnlisted, ListsInTurns, StopsIn};
 
 use std::alloc::Global;
 use x7_forms::{Refusal, STREAM_LIMIT, TURN_SIZE, Why, next_turn, open, read_beginning};
@@ -18,11 +18,11 @@ use x7_words::{Inputs, Sink, are_bytes, write_all, write_pieces};
 
 /// Lists a piece, and writes what that adds to the listing.
 fn put_turn<'w, O: Sink>(lister: &mut Lister, out: &mut O, piece: &[u8]) -> Result<(), Refusal<'w>>
-    ensures listed { OnOk result ((first : Option (List ℕ)) (bytes : List ℕ) → Lists lister.old first (O.state out.old).written bytes
-        → Lists lister.new first (O.state out.new).written (bytes ++ piece.now)) }
+    ensures listed { OnOk result ((first : Option (List ℕ)) (bytes : List ℕ) → ListsInTurns lister.old first (O.state out.old).written bytes
+        → ListsInTurns lister.new first (O.state out.new).written (bytes ++ piece.now)) }
     ensures prefix { OnErr result (StopsIn lister.old (O.state out.old).written piece.now (O.state out.new).written) }
     ensures refused { IfErr result (λ r. IsUnlisted (O.state out.old) (O.state out.new) (event_of r)) }
-    ensures extends { Extends (O.state out.old) (O.state out.new) }
+    ensures extends { ExtendsOutput (O.state out.old) (O.state out.new) }
     ensures counts { SinkFaultsRise (O.state out.old) (O.state out.new) }
 {
     if lister.feed(piece).is_err() {
@@ -68,7 +68,7 @@ fn put_beginning<'w, O: Sink>(
 ) -> Result<(), Refusal<'w>>
     requires nothing_listed { ListerStandsFor lister.old [] [] [] }
     requires clear { lister.old.text ≡ [] }
-    ensures listed { OnOk result (Lists lister.new (appended (O.state out.old).written line.now) (O.state out.new).written content.now) }
+    ensures listed { OnOk result (ListsInTurns lister.new (appended (O.state out.old).written line.now) (O.state out.new).written content.now) }
     ensures prefix { IfErr result (λ r. (rest : List ℕ) → AreBytes (content.now ++ rest)
         → PutsPrefix (O.state out.old).written (line.now ++ listing_of (content.now ++ rest)) (O.state out.new).written) }
     ensures refused { IfErr result (λ r. (event_of r ≡ no_memory) ⊎ ((event_of r ≡ writing_failed) × SinkFails (O.state out.old) (O.state out.new))) }
@@ -82,12 +82,12 @@ fn put_beginning<'w, O: Sink>(
 
 /// Ends the listing, and writes what that adds.
 fn put_end<'w, O: Sink>(lister: &mut Lister, out: &mut O) -> Result<(), Refusal<'w>>
-    ensures listed { OnOk result ((first : Option (List ℕ)) (bytes : List ℕ) → Lists lister.old first (O.state out.old).written bytes
+    ensures listed { OnOk result ((first : Option (List ℕ)) (bytes : List ℕ) → ListsInTurns lister.old first (O.state out.old).written bytes
         → (O.state out.new).written ≡ appended first (listing_of bytes)) }
-    ensures prefix { IfErr result (λ r. (first : Option (List ℕ)) (bytes : List ℕ) → Lists lister.old first (O.state out.old).written bytes
+    ensures prefix { IfErr result (λ r. (first : Option (List ℕ)) (bytes : List ℕ) → ListsInTurns lister.old first (O.state out.old).written bytes
         → PutsPrefix first (listing_of bytes) (O.state out.new).written) }
     ensures refused { IfErr result (λ r. IsUnlisted (O.state out.old) (O.state out.new) (event_of r)) }
-    ensures extends { Extends (O.state out.old) (O.state out.new) }
+    ensures extends { ExtendsOutput (O.state out.old) (O.state out.new) }
 {
     if lister.finish().is_err() {
         return Err(Refusal::unnamed(Why::NoMemory));
@@ -106,7 +106,7 @@ pub(crate) fn list<'w, I: Inputs, O: Sink>(
     out: &mut O,
     stream: &'w str,
 ) -> Result<(), Refusal<'w>>
-    ensures { AnsweredListing stream.now (transfer (I.state inputs.old) (O.state out.old)) (transfer (I.state inputs.new) (O.state out.new)) (seen (λ _. false) result) }
+    ensures { AnsweredListing stream.now (transfer (I.state inputs.old) (O.state out.old)) (transfer (I.state inputs.new) (O.state out.new)) (result_by (λ _. false) result) }
 {
     open(inputs, stream)?;
     let beginning = read_beginning(alloc, inputs, stream)?;

@@ -5,7 +5,7 @@ ghost use Rattle.x7_tool.specs.Outcome.{mcs_event};
 ghost use Rattle.x7_tool.specs.Run.{MakesReady};
 ghost use Rattle.x7_forms.specs.Form.{FromMcs, ToMcs};
 ghost use Rattle.x7_tool.specs.Ready.{bytes_answer, mcs_answer};
-ghost use Rattle.x7_forms.specs.Step.{seen};
+ghost use Rattle.x7_forms.specs.Step.{result_by};
 
 use crate::feeding::feed_whole;
 use std::alloc::Global;
@@ -37,7 +37,7 @@ pub(crate) fn mcs<'w, I: Inputs>(
     inputs: &mut I,
     image: &'w str,
 ) -> Result<McsText, Refusal<'w>>
-    ensures { MakesReady (ToMcs image.now) (I.state inputs.old) (I.state inputs.new) (seen mcs_answer result) }
+    ensures { MakesReady (ToMcs image.now) (I.state inputs.old) (I.state inputs.new) (result_by mcs_answer result) }
 {
     let bytes = read_whole(alloc, inputs, image, IMAGE_LIMIT)?;
     Ok(McsText::new(alloc, bytes)?)
@@ -49,7 +49,7 @@ pub(crate) fn unmcs<'w, I: Inputs>(
     inputs: &mut I,
     name: &'w str,
 ) -> Result<Vec<u8>, Refusal<'w>>
-    ensures { MakesReady (FromMcs name.now) (I.state inputs.old) (I.state inputs.new) (seen bytes_answer result) }
+    ensures { MakesReady (FromMcs name.now) (I.state inputs.old) (I.state inputs.new) (result_by bytes_answer result) }
 {
     let read = feed_whole(alloc, inputs, name, McsLines::new(alloc))?;
     match read {

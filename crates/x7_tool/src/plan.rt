@@ -11,7 +11,7 @@ ghost use Rattle.x7_forms.specs.Form.{PlanningFull, PlanningPartial, PlanningRea
 ghost use Rattle.x7_tool.specs.Plan.{ReadsPlan};
 ghost use Rattle.x7_tool.specs.FullText.{full_answer};
 ghost use Rattle.x7_tool.specs.Ready.{bytes_answer};
-ghost use Rattle.x7_forms.specs.Step.{seen};
+ghost use Rattle.x7_forms.specs.Step.{result_by};
 ghost use Rattle.x7_tool.specs.Run.{MakesReady};
 
 use crate::feeding::feed_whole;
@@ -63,7 +63,7 @@ fn read_plan<'w, I: Inputs>(
     part: &Part,
     name: &'w str,
 ) -> Result<Plan, Refusal<'w>>
-    ensures caused { ReadsPlan (I.state inputs.old) (I.state inputs.new) part.now name.now (seen (λ plan. plan) result) }
+    ensures caused { ReadsPlan (I.state inputs.old) (I.state inputs.new) part.now name.now (result_by (λ plan. plan) result) }
     ensures last_asked { IfOk result (λ plan. IsLastAsked name.now text_limit (I.state inputs.new)) }
     ensures stops { IfErr result (λ r. StopsAmong (limited text_limit name.now ∷ []) (I.state inputs.old) (I.state inputs.new) (event_of r)) }
     ensures asks { AsksAtMost (I.state inputs.old) 1 (I.state inputs.new) }
@@ -86,7 +86,7 @@ pub(crate) fn plan_full<'w, I: Inputs>(
     part: &'w str,
     frames: &'w str,
 ) -> Result<FullText, Refusal<'w>>
-    ensures { MakesReady (PlanningFull part.now frames.now) (I.state inputs.old) (I.state inputs.new) (seen full_answer result) }
+    ensures { MakesReady (PlanningFull part.now frames.now) (I.state inputs.old) (I.state inputs.new) (result_by full_answer result) }
 {
     let part = read_part(alloc, inputs, part)?;
     let plan = read_plan(alloc, inputs, &part, frames)?;
@@ -120,7 +120,7 @@ pub(crate) fn plan_partial<'w, I: Inputs>(
     part: &'w str,
     frames: &'w str,
 ) -> Result<Vec<u8>, Refusal<'w>>
-    ensures { MakesReady (PlanningPartial part.now frames.now) (I.state inputs.old) (I.state inputs.new) (seen bytes_answer result) }
+    ensures { MakesReady (PlanningPartial part.now frames.now) (I.state inputs.old) (I.state inputs.new) (result_by bytes_answer result) }
 {
     let part = read_part(alloc, inputs, part)?;
     let plan = read_plan(alloc, inputs, &part, frames)?;
@@ -153,7 +153,7 @@ pub(crate) fn plan_read<'w, I: Inputs>(
     far: u32,
     slot_count: u32,
 ) -> Result<Vec<u8>, Refusal<'w>>
-    ensures { MakesReady (PlanningRead part_name.now far slot_count) (I.state inputs.old) (I.state inputs.new) (seen bytes_answer result) }
+    ensures { MakesReady (PlanningRead part_name.now far slot_count) (I.state inputs.old) (I.state inputs.new) (result_by bytes_answer result) }
 {
     let part = read_part(alloc, inputs, part_name)?;
     readback_text(alloc, &part, part_name, far, slot_count)

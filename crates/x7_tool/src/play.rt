@@ -4,7 +4,7 @@ ghost use Rattle.x7_part.specs.Part.{PartData};
 ghost use Rattle.x7_forms.specs.Event.{event_of, no_memory, too_many_reads};
 ghost use Rattle.x7_playing.specs.Playing.{HasPlayed};
 ghost use Rattle.x7_forms.specs.Form.{Playing};
-ghost use Rattle.x7_forms.specs.Step.{seen};
+ghost use Rattle.x7_forms.specs.Step.{result_by};
 ghost use Rattle.x7_tool.specs.Play.{reported, play_answer};
 ghost use Rattle.x7_tool.specs.Run.{MakesReady};
 
@@ -38,7 +38,7 @@ pub(crate) fn play<'w, I: Inputs>(
     part: &'w str,
     streams: &'w [String],
 ) -> Result<PlayText, Refusal<'w>>
-    ensures { MakesReady (Playing part.now (map string_bytes streams.now)) (I.state inputs.old) (I.state inputs.new) (seen play_answer result) }
+    ensures { MakesReady (Playing part.now (map string_bytes streams.now)) (I.state inputs.old) (I.state inputs.new) (result_by play_answer result) }
 {
     let part = read_part(alloc, inputs, part)?;
     let player = play_streams(alloc, &part, inputs, streams)?;

@@ -5,7 +5,7 @@ ghost use Rattle.x7_tool.specs.Outcome.{stream_data};
 ghost use Rattle.x7_forms.specs.Known.{stream_limit};
 ghost use Rattle.x7_forms.specs.Event.{event_of};
 ghost use Rattle.x7_forms.specs.Turn.{IsLastAsked};
-ghost use Rattle.x7_forms.specs.Step.{AnswersAs, IsUnplayed, seen, step_over};
+ghost use Rattle.x7_forms.specs.Step.{AnswersAs, IsUnplayed, result_by, step_over};
 ghost use Rattle.x7_tool.specs.Stream.{data_from};
 
 use std::alloc::Global;
@@ -28,7 +28,7 @@ pub(crate) fn read_stream<'w, I: Inputs>(
     name: &'w str,
 ) -> Result<Stream, Refusal<'w>>
     ensures caused { AnswersAs (step_over (name.now ∷ []) (I.state inputs.old) (I.state inputs.new))
-        (λ known. stream_data known name.now) (seen data_from result) }
+        (λ known. stream_data known name.now) (result_by data_from result) }
     ensures named { IfErr result (λ r. IsUnplayed name.now (event_of r)) }
     ensures last_asked { IsLastAsked name.now stream_limit (I.state inputs.new) }
     ensures within { IfOk result (λ stream. stream.start ≤ length stream.bytes.items) }
@@ -62,7 +62,7 @@ pub(crate) fn read_data<'w, I: Inputs>(
     name: &'w str,
 ) -> Result<Vec<u8>, Refusal<'w>>
     ensures caused { AnswersAs (step_over (name.now ∷ []) (I.state inputs.old) (I.state inputs.new))
-        (λ known. stream_data known name.now) (seen (λ bytes. bytes.items) result) }
+        (λ known. stream_data known name.now) (result_by (λ bytes. bytes.items) result) }
     ensures named { IfErr result (λ r. IsUnplayed name.now (event_of r)) }
     ensures last_asked { IsLastAsked name.now stream_limit (I.state inputs.new) }
     ensures asks { AsksAtMost (I.state inputs.old) 1 (I.state inputs.new) }

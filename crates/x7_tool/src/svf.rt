@@ -3,7 +3,7 @@ ghost use Rattle.x7_forms.specs.ReadingStops.{StopsAmong, limited};
 ghost use Rattle.std.specs.Prelude.{◌≡◌, ◌⊎◌, ◌≤◌, ◌||◌, [], ◌∷◌, Ok, Err, IfErr, IfOk, is_some, vec_len};
 ghost use Rattle.x7_words.specs.Input.{AsksAtMost, InputsStay};
 ghost use Rattle.x7_forms.specs.Event.{event_of, no_memory};
-ghost use Rattle.x7_forms.specs.Step.{AnswersAs, seen, step_over};
+ghost use Rattle.x7_forms.specs.Step.{AnswersAs, result_by, step_over};
 ghost use Rattle.x7_forms.specs.Form.{PlayingSvf};
 ghost use Rattle.x7_tool.specs.Run.{MakesReady};
 ghost use Rattle.x7_svf.specs.Svf.{IsSvfOf};
@@ -51,7 +51,7 @@ fn read_given<'w, I: Inputs>(
     text: &'w str,
 ) -> Result<Given, Refusal<'w>>
     ensures caused { AnswersAs (step_over (part.now ∷ text.now ∷ []) (I.state inputs.old) (I.state inputs.new))
-        (λ known. part_and_text known part.now text.now) (seen svf_given result) }
+        (λ known. part_and_text known part.now text.now) (result_by svf_given result) }
     ensures last_asked { IfOk result (λ given. IsLastAsked text.now text_limit (I.state inputs.new)) }
     ensures stops { IfErr result (λ r. StopsAmong (limited part_limit part.now ∷ limited text_limit text.now ∷ []) (I.state inputs.old) (I.state inputs.new) (event_of r)) }
     ensures within { IfOk result (λ given. vec_len given.text ≤ text_limit) }
@@ -116,7 +116,7 @@ pub(crate) fn svf<'w, I: Inputs>(
     part: &'w str,
     text: &'w str,
 ) -> Result<PlayText, Refusal<'w>>
-    ensures { MakesReady (PlayingSvf part.now text.now) (I.state inputs.old) (I.state inputs.new) (seen play_answer result) }
+    ensures { MakesReady (PlayingSvf part.now text.now) (I.state inputs.old) (I.state inputs.new) (result_by play_answer result) }
 {
     let given = read_given(alloc, inputs, part, text)?;
     text_of(alloc, given, text)

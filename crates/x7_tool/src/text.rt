@@ -5,7 +5,7 @@ ghost use Rattle.x7_forms.specs.Known.{Answer};
 ghost use Rattle.x7_tool.specs.Play.{play_answer};
 ghost use Rattle.x7_tool.specs.Ready.{bytes_answer, mcs_answer, text_answer};
 ghost use Rattle.x7_tool.specs.Run.{PutsAnswer};
-ghost use Rattle.x7_forms.specs.Step.{seen};
+ghost use Rattle.x7_forms.specs.Step.{result_by};
 
 use x7_forms::{Refusal, Why};
 use x7_mcs::McsText;
@@ -91,7 +91,7 @@ pub(crate) fn put_whole<'w, T: Ready + Drop, O: Sink>(
     whole: Result<T, Refusal<'w>>,
     out: &mut O,
 ) -> Result<bool, Refusal<'w>>
-    ensures { PutsAnswer (seen T.answer whole.entry) (O.state out.old) (O.state out.new) (seen (λ stopped. stopped) result) }
+    ensures { PutsAnswer (result_by T.answer whole.entry) (O.state out.old) (O.state out.new) (result_by (λ stopped. stopped) result) }
 {
     let mut text = whole?;
     let stopped = text.is_stopped();

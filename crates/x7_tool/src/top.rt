@@ -2,7 +2,7 @@
 ghost use Rattle.std.specs.Prelude.{ℕ, List, Some};
 ghost use Rattle.x7_words.specs.Sink.{SinkState};
 ghost use Rattle.x7_forms.specs.Form.{asked_by, form_of_strings};
-ghost use Rattle.x7_tool.specs.Leaving.{EachBoots, PowerLossMayLeave, UsesFlash};
+ghost use Rattle.x7_tool.specs.Leaving.{EachBoots, PowerLossMayLeave, CallUsesFlash};
 ghost use Rattle.x7_tool.specs.Outside.{outside, sources};
 ghost use Rattle.x7_tool.specs.Run.{Answered, written_by};
 ghost use Rattle.x7_tool.specs.Runs.{Runs};
@@ -33,8 +33,7 @@ fn answer<'w, I: Inputs, O: Sink, F: Flash>(
 ) -> Result<bool, Refusal<'w>>
     ensures answered { (before after : SinkState) → Answered (asked_by form.entry) (outside (I.state inputs.old) (F.state flash.old) (O.state out.old) before)
         (outside (I.state inputs.new) (F.state flash.new) (O.state out.new) after) (written_by result) }
-    ensures flash { UsesFlash (Some (asked_by form.entry)) (sources (I.state inputs.old) (F.state flash.old)) (F.state flash.new)
-        (F.found_since flash.old) (F.found_since flash.new) }
+    ensures flash { CallUsesFlash F.Flash (Some (asked_by form.entry)) (I.state inputs.old) flash.old flash.new }
 {
     match form {
         Form::List { stream } => {
@@ -53,7 +52,11 @@ fn answer<'w, I: Inputs, O: Sink, F: Flash>(
         Form::PlanPartial { part, frames } => {
             put_whole(plan_partial(alloc, inputs, part, frames), out)
         }
-        Form::PlanRead { part, far, n } => put_whole(plan_read(alloc, inputs, part, far, n), out),
+        Form::PlanRead {
+            part,
+            far,
+            slot_count,
+        } => put_whole(plan_read(alloc, inputs, part, far, slot_count), out),
         Form::Gen { part, seed } => put_whole(generate(alloc, inputs, part, seed), out),
         Form::Image { golden, update } => put_whole(image(alloc, inputs, golden, update), out),
         Form::ImageFor {
@@ -85,8 +88,7 @@ fn carry_out<I: Inputs, O: Sink, E: Sink, F: Flash>(
 ) -> Status
     ensures ran { Runs (form_of_strings words.now.items) (outside (I.state inputs.old) (F.state flash.old) (O.state out.old) (E.state err.old))
         (outside (I.state inputs.new) (F.state flash.new) (O.state out.new) (E.state err.new)) result }
-    ensures flash { UsesFlash (form_of_strings words.now.items) (sources (I.state inputs.old) (F.state flash.old)) (F.state flash.new)
-        (F.found_since flash.old) (F.found_since flash.new) }
+    ensures flash { CallUsesFlash F.Flash (form_of_strings words.now.items) (I.state inputs.old) flash.old flash.new }
 {
     let form = match words_of(words) {
         Some(form) => form,
@@ -119,8 +121,7 @@ pub fn run<I: Inputs, O: Sink, E: Sink, F: Flash>(
 ) -> Status
     ensures ran { Runs (form_of_strings words.now.items) (outside (I.state inputs.old) (F.state flash.old) (O.state out.old) (E.state err.old))
         (outside (I.state inputs.new) (F.state flash.new) (O.state out.new) (E.state err.new)) result }
-    ensures flash { UsesFlash (form_of_strings words.now.items) (sources (I.state inputs.old) (F.state flash.old)) (F.state flash.new)
-        (F.found_since flash.old) (F.found_since flash.new) }
+    ensures flash { CallUsesFlash F.Flash (form_of_strings words.now.items) (I.state inputs.old) flash.old flash.new }
     ensures found { (found : List ℕ) → F.found_since flash.new (F.state flash.old).moments found
         → PowerLossMayLeave (form_of_strings words.now.items) (sources (I.state inputs.old) (F.state flash.old)) found }
     ensures boots { (found : List ℕ) → F.found_since flash.new (F.state flash.old).moments found

@@ -2,8 +2,8 @@
 ghost use Rattle.std.specs.Prelude.{◌≡◌, ℕ, List, Some, false};
 ghost use Rattle.x7_forms.specs.Form.{UpdatingFlash};
 ghost use Rattle.x7_forms.specs.Event.{event_of};
-ghost use Rattle.x7_forms.specs.Step.{seen};
-ghost use Rattle.x7_tool.specs.Leaving.{UsesFlash};
+ghost use Rattle.x7_forms.specs.Step.{result_by};
+ghost use Rattle.x7_tool.specs.Leaving.{CallUsesFlash};
 ghost use Rattle.x7_tool.specs.Outcome.{update_event};
 ghost use Rattle.x7_tool.specs.Outside.{sources};
 ghost use Rattle.x7_tool.specs.Run.{AnsweredSilently};
@@ -60,9 +60,8 @@ pub(crate) fn update<'w, I: Inputs, F: Flash>(
     stream: &'w str,
 ) -> Result<(), Refusal<'w>>
     ensures answered { AnsweredSilently (UpdatingFlash flash_name.now stream.now) (sources (I.state inputs.old) (F.state flash.old))
-        (sources (I.state inputs.new) (F.state flash.new)) (seen (λ _. false) result) }
-    ensures flash { UsesFlash (Some (UpdatingFlash flash_name.now stream.now)) (sources (I.state inputs.old) (F.state flash.old)) (F.state flash.new)
-        (F.found_since flash.old) (F.found_since flash.new) }
+        (sources (I.state inputs.new) (F.state flash.new)) (result_by (λ _. false) result) }
+    ensures flash { CallUsesFlash F.Flash (Some (UpdatingFlash flash_name.now stream.now)) (I.state inputs.old) flash.old flash.new }
 {
     open_flash(flash, flash_name)?;
     let read = read_stream(alloc, inputs, stream)?;

@@ -3,9 +3,10 @@ use Rattle.std.proofs.Common.{◌≡◌, ℕ, ◌+◌, ◌*◌, ◌%◌, ◌<◌
 use Rattle.std.proofs.lemmas.Bool.{cases_eq, cases_lt}
 use Rattle.x7_words.specs.Word.{AreBytes}
 use Rattle.x7_words.specs.Flash.{FlashState, IfKnown}
-use Rattle.x7_update.specs.Layout.{IsUpdatable, HasSlots, IsOpen, IsFree, IsNextFreeSlot, switch_of, open_switch, free_switch, spent_switch, update_place}
+use Rattle.x7_packets.specs.FlashSlot.{flash_slot_size, flash_slot_count}
+use Rattle.x7_update.specs.Layout.{IsUpdatable, HasSlots, IsOpen, IsFree, IsNextFreeSlot, switch_of, open_switch, free_switch, spent_switch, update_place, switch_size}
 use Rattle.x7_update.specs.After.{SpendsOpen, already, spends, IsAfterUpdate, IsBetweenSlots, MayBeLeft, untouched, between, after, switched, with_stream}
-use Rattle.x7_update.specs.Writing.{AtAnyMoment, SpendingSlot, HasWanted, KeepsBelow, OnlySwitch, OpeningSlot, Replaced, ReplacingUpdate}
+use Rattle.x7_update.specs.Writing.{AtAnyMoment, SpendingSlot, HasWanted, KeepsBelow, OnlySwitch, OpeningSlot, UpdateReplaced, ReplacingUpdate}
 use Rattle.x7_update.specs.Slots.{IsTargetIn}
 use Rattle.x7_update.specs.declared.slots.UpdateTarget.{UpdateTarget}
 use Rattle.x7_update.proofs.StreamLemmas.{length_with_stream, with_stream_below, with_stream_wanted}
@@ -16,9 +17,9 @@ pub true_or_false : (b : Bool) → b ≡ true → b ≡ false → ⊥
 true_or_false b t f = let same : true ≡ false = sym t ∙ f in cc
 
 -- a switch word stays where its four bytes do
-pub same_switch : (old new : List ℕ) (slot : ℕ) → ((i : ℕ) → 32 * slot ≤ i → i < 32 * slot + 4 → get_or new i 0 ≡ get_or old i 0) → switch_of new slot ≡ switch_of old slot
+pub same_switch : (old new : List ℕ) (slot : ℕ) → ((i : ℕ) → flash_slot_size * slot ≤ i → i < flash_slot_size * slot + switch_size → get_or new i 0 ≡ get_or old i 0) → switch_of new slot ≡ switch_of old slot
 same_switch old new slot h =
-    rw (h (32 * slot) (omega arith) (omega arith), h (32 * slot + 1) (omega arith) (omega arith), h (32 * slot + 2) (omega arith) (omega arith), h (32 * slot + 3) (omega arith) (omega arith)) refl
+    rw (h (flash_slot_size * slot) (omega arith) (omega arith), h (flash_slot_size * slot + 1) (omega arith) (omega arith), h (flash_slot_size * slot + 2) (omega arith) (omega arith), h (flash_slot_size * slot + 3) (omega arith) (omega arith)) refl
 
 pub open_not_free : (flash : List ℕ) (slot : ℕ) → IsOpen flash slot → IsFree flash slot → ⊥
 open_not_free flash slot o f =
@@ -30,14 +31,14 @@ open_not_spent : spent_switch ≡ open_switch → ⊥
 open_not_spent same = let first : 0 ≡ 0xAA = ap (λ l. get_or l 0 0) same in absurd (omega (arith, first))
 
 -- what is after a switch word is in no switch word
-pub outside_switch : (slot i : ℕ) → 4 ≤ i % 32 → (i < 32 * slot) ⊎ (32 * slot + 4 ≤ i)
-outside_switch slot i h = elim (cases_lt i (32 * slot)) [
+pub outside_switch : (slot i : ℕ) → 4 ≤ i % flash_slot_size → (i < flash_slot_size * slot) ⊎ (flash_slot_size * slot + switch_size ≤ i)
+outside_switch slot i h = elim (cases_lt i (flash_slot_size * slot)) [
   | inl less ↦ inl less
-  | inr from ↦ elim (cases_lt i (32 * slot + 4)) [ inl inside ↦ absurd (omega arith) | inr above ↦ inr above ]
+  | inr from ↦ elim (cases_lt i (flash_slot_size * slot + switch_size)) [ inl inside ↦ absurd (omega arith) | inr above ↦ inr above ]
 ]
 
 -- the bytes of another slot's switch word
-other_slot : (slot other i : ℕ) → (other ≡ slot → ⊥) → 32 * other ≤ i → i < 32 * other + 4 → (i < 32 * slot) ⊎ (32 * slot + 4 ≤ i)
+other_slot : (slot other i : ℕ) → (other ≡ slot → ⊥) → flash_slot_size * other ≤ i → i < flash_slot_size * other + switch_size → (i < flash_slot_size * slot) ⊎ (flash_slot_size * slot + switch_size ≤ i)
 other_slot slot other i n h k = elim (cases_lt other slot) [ inl less ↦ inl (omega arith) | inr more ↦ elim (cases_eq other slot) [ inl same ↦ absurd (n same) | inr d ↦ inr (omega arith) ] ]
 
 only_other : (slot other : ℕ) (old found : List ℕ) → (other ≡ slot → ⊥) → OnlySwitch slot old found → switch_of found other ≡ switch_of old other
@@ -46,7 +47,7 @@ only_other slot other old found n only = same_switch old found other (λ i h k. 
 -- ---- from the flash itself
 
 -- the open slot alone is torn
-pub between_spending : (size slot : ℕ) (all found : List ℕ) → HasSlots size all → slot < 2048 → IsOpen all slot → OnlySwitch slot all found → IsBetweenSlots all found
+pub between_spending : (size slot : ℕ) (all found : List ℕ) → HasSlots size all → slot < flash_slot_count → IsOpen all slot → OnlySwitch slot all found → IsBetweenSlots all found
 between_spending size slot all found has h is only = record {
   size = only.size;
   slots = λ i k b. only.others i (outside_switch slot i b);
@@ -55,14 +56,14 @@ between_spending size slot all found has h is only = record {
   golden = λ i k b. only.others i (inr (omega arith));
 }
   where
-    none_open : (other : ℕ) → other < 2048 → IsOpen found other → ⊥
+    none_open : (other : ℕ) → other < flash_slot_count → IsOpen found other → ⊥
     none_open other k o = elim (cases_eq other slot) [
       | inl same ↦ only.not_open (subst (λ n. IsOpen found n) same o)
       | inr n ↦ n (has.one_open other slot k h (sym (only_other slot other all found n only) ∙ o) is)
     ]
 
 -- the slot is spent
-pub only_spent : (slot : ℕ) (all : List ℕ) → 32 * slot + 4 ≤ length all → OnlySwitch slot all (switched slot spent_switch all)
+pub only_spent : (slot : ℕ) (all : List ℕ) → flash_slot_size * slot + switch_size ≤ length all → OnlySwitch slot all (switched slot spent_switch all)
 only_spent slot all within = record {
   size = length_switched slot spent_switch all refl within;
   others = switched_others slot spent_switch all refl within;
@@ -98,7 +99,7 @@ between_opening slot all mid found b next only = record {
   golden = λ i k l. only.others i (inr (omega arith)) ∙ b.golden i k l;
 }
   where
-    none_open : (other : ℕ) → other < 2048 → IsOpen found other → ⊥
+    none_open : (other : ℕ) → other < flash_slot_count → IsOpen found other → ⊥
     none_open other k o = elim (cases_eq other slot) [
       | inl same ↦ only.not_open (subst (λ n. IsOpen found n) same o)
       | inr n ↦ b.none_open other k (sym (only_other slot other mid found n only) ∙ o)
@@ -109,7 +110,7 @@ pub opening_none : (slot : ℕ) (all : List ℕ) → IsFree all slot → Opening
 opening_none slot all free = inr (record { size = refl; others = λ i h. refl; not_open = λ o. open_not_free all slot o free })
 
 -- known bytes whose free slot was opened have an open slot
-pub opened_is_open : (known new : Option (List ℕ)) (slot : ℕ) → new ≡ option_map (switched slot open_switch) known → IfKnown known (λ all. 32 * slot + 4 ≤ length all) → IfKnown new (λ all. IsOpen all slot)
+pub opened_is_open : (known new : Option (List ℕ)) (slot : ℕ) → new ≡ option_map (switched slot open_switch) known → IfKnown known (λ all. flash_slot_size * slot + switch_size ≤ length all) → IfKnown new (λ all. IsOpen all slot)
 opened_is_open None new slot is within = subst (λ (o : Option (List ℕ)). IfKnown o (λ all. IsOpen all slot)) (sym is) tt
 opened_is_open (Some all) new slot is within = subst (λ (o : Option (List ℕ)). IfKnown o (λ all. IsOpen all slot)) (sym is) (switch_switched slot 0xAA 0x99 0x55 0x66 all within)
 
@@ -132,7 +133,7 @@ module _ (all : List ℕ) (target : UpdateTarget) (finds : IsTargetIn (length al
   updatable = record { size = finds.sized; slots = finds.has }
 
   -- while the open slot is spent
-  pub spending_replaces : (slot : ℕ) (found : List ℕ) → slot < 2048 → IsOpen all slot → SpendingSlot slot all found → ReplacingUpdate all found
+  pub spending_replaces : (slot : ℕ) (found : List ℕ) → slot < flash_slot_count → IsOpen all slot → SpendingSlot slot all found → ReplacingUpdate all found
   spending_replaces slot found h is (inl same) = inl same
   spending_replaces slot found h is (inr only) = inr (between_spending (length all) slot all found finds.has h is only)
 
@@ -146,7 +147,7 @@ module _ (all : List ℕ) (target : UpdateTarget) (finds : IsTargetIn (length al
   replacing_left stream found (inl same) fits = untouched same
   replacing_left stream found (inr b) fits = between updatable fits b
 
-  module _ (stream now : List ℕ) (fits : target.place + length stream ≤ length all) (r : Replaced target.place stream all now) where
+  module _ (stream now : List ℕ) (fits : target.place + length stream ≤ length all) (r : UpdateReplaced target.place stream all now) where
     is_between : IsBetweenSlots all r.spent
     is_between = between_spent all r.spent finds.has r.is_spent
 

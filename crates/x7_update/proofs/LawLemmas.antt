@@ -4,8 +4,8 @@ use Rattle.std.proofs.lemmas.Bool.{cases_eq, cases_lt, cases_order}
 use Rattle.std.proofs.lemmas.List.{get_or-drop, get_or-take}
 use Rattle.x7_words.specs.Flash.{sector_size}
 use Rattle.x7_words.specs.Word.{word_of_bytes}
-use Rattle.x7_packets.specs.FlashSlot.{flash_slot}
-use Rattle.x7_update.specs.Layout.{CanStandAt, IsUpdatable, HasSize, IsFree, IsNextFreeSlot, IsOpen, first_slot, four_at, open_switch, switch_of}
+use Rattle.x7_packets.specs.FlashSlot.{flash_slot, flash_slot_size, flash_slot_count}
+use Rattle.x7_update.specs.Layout.{CanStandAt, IsUpdatable, HasSize, IsFree, IsNextFreeSlot, IsOpen, first_slot, four_at, open_switch, switch_of, switch_size}
 use Rattle.x7_update.specs.After.{SpendsOpen, already, spends, IsAfterUpdate, IsBetweenSlots, MayBeLeft, after, between, untouched, switched, with_stream}
 use Rattle.x7_update.specs.Layout.{spent_switch, update_place}
 use Rattle.x7_update.proofs.CaseLemmas.{between_below, between_spent, open_not_free, outside_switch, stream_keeps, true_or_false}
@@ -56,10 +56,10 @@ back_apart flash = (
 
 module _ (flash found : List ℕ) (l : IsUpdatable flash) (b : IsBetweenSlots flash found) where
   -- a byte after a switch word
-  byte_at : (i m : ℕ) → i < sector_size → i % 32 ≡ m → 4 ≤ m → get_or found i 0 ≡ get_or (first_slot flash) m 0
+  byte_at : (i m : ℕ) → i < sector_size → i % flash_slot_size ≡ m → 4 ≤ m → get_or found i 0 ≡ get_or (first_slot flash) m 0
   byte_at i m h e k =
-      let at : 32 * (i / 32) + m ≡ i = omega arith in
-      b.slots i h (omega (arith, e, k)) ∙ ap (λ n. get_or flash n 0) (sym at) ∙ l.slots.leads (i / 32) (omega arith) m k (omega arith)
+      let at : flash_slot_size * (i / flash_slot_size) + m ≡ i = omega arith in
+      b.slots i h (omega (arith, e, k)) ∙ ap (λ n. get_or flash n 0) (sym at) ∙ l.slots.leads (i / flash_slot_size) (omega arith) m k (omega arith)
 
   -- no sync word begins in the first sector
   pub no_sync : (place : ℕ) → place < sector_size → four_at found place ≢ open_switch
@@ -68,7 +68,7 @@ module _ (flash found : List ℕ) (l : IsUpdatable flash) (b : IsBetweenSlots fl
       let e1 : get_or found (place + 1) 0 ≡ 0x99 = ap (λ w. get_or w 1 0) e in
       let e2 : get_or found (place + 2) 0 ≡ 0x55 = ap (λ w. get_or w 2 0) e in
       let e3 : get_or found (place + 3) 0 ≡ 0x66 = ap (λ w. get_or w 3 0) e in
-      let j = place % 32 in
+      let j = place % flash_slot_size in
       elim (cases_lt j 16) [
         | inr high ↦
             let at : 16 + (j - 16) ≡ j = omega arith in
@@ -77,8 +77,8 @@ module _ (flash found : List ℕ) (l : IsUpdatable flash) (b : IsBetweenSlots fl
         | inl low ↦ elim (cases_lt j 4) [
           | inl switch ↦ elim (cases_eq j 0) [
             | inl zero_j ↦
-                let at : place ≡ 32 * (place / 32) = omega arith in
-                b.none_open (place / 32) (omega arith) (ap (λ n. four_at found n) (sym at) ∙ e)
+                let at : place ≡ flash_slot_size * (place / flash_slot_size) = omega arith in
+                b.none_open (place / flash_slot_size) (omega arith) (ap (λ n. four_at found n) (sym at) ∙ e)
             | inr not0 ↦ elim (cases_eq j 1) [
               | inl one ↦ let byte : 0x20 ≡ 0x66 = sym (byte_at (place + 3) 4 (omega arith) (omega arith) (omega arith)) ∙ e3 in absurd (omega (arith, byte))
               | inr not1 ↦ elim (cases_eq j 2) [
@@ -112,30 +112,30 @@ module _ (flash found : List ℕ) (l : IsUpdatable flash) (b : IsBetweenSlots fl
 -- ---- a flash that was left can be updated again
 
 -- one whose slots lead to U still, of which one at most is open and the last is free
-updatable_with : (flash found : List ℕ) → IsUpdatable flash → length found ≡ length flash → ((i : ℕ) → i < sector_size → 4 ≤ i % 32 → get_or found i 0 ≡ get_or flash i 0)
-    → ((slot other : ℕ) → slot < 2048 → other < 2048 → IsOpen found slot → IsOpen found other → slot ≡ other) → IsFree found 2047 → IsUpdatable found
+updatable_with : (flash found : List ℕ) → IsUpdatable flash → length found ≡ length flash → ((i : ℕ) → i < sector_size → 4 ≤ i % flash_slot_size → get_or found i 0 ≡ get_or flash i 0)
+    → ((slot other : ℕ) → slot < flash_slot_count → other < flash_slot_count → IsOpen found slot → IsOpen found other → slot ≡ other) → IsFree found (flash_slot_count - 1) → IsUpdatable found
 updatable_with flash found l size slots one_open last_free =
     let start : four_at found 12 ≡ four_at flash 12 = rw (slots 12 (omega arith) (omega arith), slots 13 (omega arith) (omega arith), slots 14 (omega arith) (omega arith), slots 15 (omega arith) (omega arith)) refl in
     record {
       size = subst HasSize (sym size) l.size;
       slots = record {
         place = subst (λ u. CanStandAt (length found) u) (sym (ap word_of_bytes start)) (subst (λ n. CanStandAt n (update_place flash)) (sym size) l.slots.place);
-        leads = λ slot h i k m. slots (32 * slot + i) (omega arith) (omega arith) ∙ l.slots.leads slot h i k m ∙ sym (ap (λ w. get_or (flash_slot open_switch w) i 0) start);
+        leads = λ slot h i k m. slots (flash_slot_size * slot + i) (omega arith) (omega arith) ∙ l.slots.leads slot h i k m ∙ sym (ap (λ w. get_or (flash_slot open_switch w) i 0) start);
         one_open = one_open;
         last_free = last_free;
       };
     }
 
-last_stays : (flash found : List ℕ) → IsUpdatable flash → IsBetweenSlots flash found → (IsNextFreeSlot flash 2047 → ⊥) → IsFree found 2047
-last_stays flash found l b more = b.switches 2047 (omega arith) (λ o. open_not_free flash 2047 o l.slots.last_free) more ∙ l.slots.last_free
+last_stays : (flash found : List ℕ) → IsUpdatable flash → IsBetweenSlots flash found → (IsNextFreeSlot flash (flash_slot_count - 1) → ⊥) → IsFree found (flash_slot_count - 1)
+last_stays flash found l b more = b.switches (flash_slot_count - 1) (omega arith) (λ o. open_not_free flash (flash_slot_count - 1) o l.slots.last_free) more ∙ l.slots.last_free
 
 -- the updated flash
-updatable_after : (stream flash found : List ℕ) → IsUpdatable flash → IsAfterUpdate stream flash found → (IsNextFreeSlot flash 2047 → ⊥) → IsUpdatable found
+updatable_after : (stream flash found : List ℕ) → IsUpdatable flash → IsAfterUpdate stream flash found → (IsNextFreeSlot flash (flash_slot_count - 1) → ⊥) → IsUpdatable found
 updatable_after stream flash found l a more =
     updatable_with flash found l (ap length a.is ∙ length_switched a.next open_switch now refl within ∙ b.size)
     (λ i h k. ap (λ f. get_or f i 0) a.is ∙ switched_others a.next open_switch now refl within i (outside_switch a.next i k) ∙ b.slots i h k)
     (λ slot other h k o p. the_next slot h o ∙ sym (the_next other k p))
-    (ap (λ f. switch_of f 2047) a.is ∙ switch_other a.next 2047 open_switch now refl within (λ same. more (subst (IsNextFreeSlot flash) (sym same) a.is_next)) ∙ last_stays flash now l b more)
+    (ap (λ f. switch_of f (flash_slot_count - 1)) a.is ∙ switch_other a.next (flash_slot_count - 1) open_switch now refl within (λ same. more (subst (IsNextFreeSlot flash) (sym same) a.is_next)) ∙ last_stays flash now l b more)
   where
     now : List ℕ
     now = with_stream (update_place flash) stream a.spent
@@ -146,17 +146,17 @@ updatable_after stream flash found l a more =
     b : IsBetweenSlots flash now
     b = between_below (length flash) flash a.spent now l.slots is_between (stream_keeps (update_place flash) stream a.spent (omega (arith, a.fits, is_between.size)))
 
-    within : 32 * a.next + 4 ≤ length now
+    within : flash_slot_size * a.next + switch_size ≤ length now
     within = omega (arith, b.size, a.is_next.within, l.size.least)
 
     -- no slot but the next is open
-    the_next : (slot : ℕ) → slot < 2048 → IsOpen found slot → slot ≡ a.next
+    the_next : (slot : ℕ) → slot < flash_slot_count → IsOpen found slot → slot ≡ a.next
     the_next slot h o = elim (cases_eq slot a.next) [
       | inl same ↦ same
       | inr n ↦ absurd (b.none_open slot h (sym (ap (λ f. switch_of f slot) a.is ∙ switch_other a.next slot open_switch now refl within n) ∙ o))
     ]
 
-pub left_updatable : (stream flash found : List ℕ) → IsUpdatable flash → MayBeLeft stream flash found → (IsNextFreeSlot flash 2047 → ⊥) → IsUpdatable found
+pub left_updatable : (stream flash found : List ℕ) → IsUpdatable flash → MayBeLeft stream flash found → (IsNextFreeSlot flash (flash_slot_count - 1) → ⊥) → IsUpdatable found
 left_updatable stream flash found l (untouched same) more = subst IsUpdatable (sym same) l
 left_updatable stream flash found l (between can fits b) more = updatable_with flash found l b.size b.slots (λ slot other h k o p. absurd (b.none_open slot h o)) (last_stays flash found l b more)
 left_updatable stream flash found l (after can a) more = updatable_after stream flash found l a more

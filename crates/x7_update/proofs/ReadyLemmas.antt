@@ -2,8 +2,9 @@
 use Rattle.std.proofs.Common.{◌≡◌, ℕ, ◌+◌, ◌-◌, ◌*◌, ◌≤◌, inl, inr, IsTrue, List, length, get_or, Option, Result, Ok, Err, OnOk, ap, sym, subst, ◌∙◌, arith}
 use Rattle.std.proofs.lemmas.Bool.{cases_lt}
 use Rattle.x7_words.specs.Flash.{sector_size, FlashState, IfKnown, SeesBytes}
+use Rattle.x7_packets.specs.FlashSlot.{flash_slot_size}
 use Rattle.x7_update.specs.After.{IsAfterUpdate, IsBetweenSlots, with_stream}
-use Rattle.x7_update.specs.Layout.{CanStandAt, IsUpdatable, HasSize, HasNoOpenSlot, IsNextFreeSlot, IsOpen, open_switch, switch_of, update_place}
+use Rattle.x7_update.specs.Layout.{CanStandAt, IsUpdatable, HasSize, HasNoOpenSlot, IsNextFreeSlot, IsOpen, open_switch, switch_of, update_place, switch_size}
 use Rattle.x7_update.specs.Verified.{AllVerified, IsVerified, WasReady}
 use Rattle.x7_update.specs.Slots.{IsTargetIn, HasTarget, TargetFits}
 use Rattle.x7_update.specs.Writing.{CanVerify, HasWanted, ReadsWanted, ReadsWantedTo, ReplacingUpdate, SeesWanted, wanted_at}
@@ -86,7 +87,7 @@ module _ {F : Type 0} (state : F → FlashState) (stream : List ℕ) (old new : 
   }
 
   pub all_verified : {E : Type 0} (result : Result (Unit {0}) E) → TargetFits new.extent target → IfKnown old.bytes (λ all. IsTargetIn (length all) all target) → OnOk result (WasReady state target.place stream new)
-      → OnOk result (SeesBytes new (32 * target.slots.next) open_switch) → OnOk result (AllVerified state stream old new)
+      → OnOk result (SeesBytes new (flash_slot_size * target.slots.next) open_switch) → OnOk result (AllVerified state stream old new)
   all_verified (Err fault) fits finds was seen = tt
   all_verified (Ok _) fits finds was seen = record {
     before = verified fits finds was;
@@ -108,7 +109,7 @@ module _ (stream flash found : List ℕ) (l : IsUpdatable flash) (a : IsAfterUpd
   written : IsBetweenSlots flash now
   written = between_below (length flash) flash a.spent now l.slots is_between (stream_keeps (update_place flash) stream a.spent (omega (arith, a.fits, is_between.size)))
 
-  within : 32 * a.next + 4 ≤ length now
+  within : flash_slot_size * a.next + switch_size ≤ length now
   within = omega (arith, written.size, a.is_next.within, l.size.least)
 
   after_opens : IsOpen found a.next

@@ -1,6 +1,7 @@
 -- Lemmas on the slots of a first sector.
-use Rattle.std.proofs.Common.{◌≡◌, ℕ, suc, ◌+◌, ◌<◌, ◌≤◌, inl, inr, List, Option, None, Some, refl, sym, subst, arith}
+use Rattle.std.proofs.Common.{◌≡◌, ℕ, suc, ◌+◌, ◌-◌, ◌*◌, ◌<◌, ◌≤◌, inl, inr, List, Option, None, Some, refl, sym, subst, arith}
 use Rattle.std.proofs.lemmas.Bool.{cases_eq, cases_order}
+use Rattle.x7_packets.specs.FlashSlot.{flash_slot_size, flash_slot_count}
 use Rattle.x7_update.specs.Layout.{CanStandAt, HasSize, IsFree, IsOpen, LeadsToUpdate, update_place}
 use Rattle.x7_update.specs.Fault.{BeginsWell, IsGoodSlot, NoLayoutAt, OpensAgain, last_taken}
 use Rattle.x7_update.specs.Slots.{IsTargetIn, OpenAmong, SlotsAmong, TargetFits, WithinSlots}
@@ -48,16 +49,16 @@ pub so_far_good : (first : List ℕ) (count : ℕ) (slots : Slots) → SlotsAmon
 so_far_good first count slots so slot h = (so.leads slot h, so.once slot h)
 
 -- all slots are good
-pub all_found : (size : ℕ) (first : List ℕ) (target : UpdateTarget) → HasSize size → CanStandAt size (update_place first) → SlotsAmong first 2048 target.slots → target.slots.next < 2048 → target.place ≡ update_place first → IsTargetIn size first target
+pub all_found : (size : ℕ) (first : List ℕ) (target : UpdateTarget) → HasSize size → CanStandAt size (update_place first) → SlotsAmong first flash_slot_count target.slots → target.slots.next < flash_slot_count → target.place ≡ update_place first → IsTargetIn size first target
 all_found size first target sized place so some is = record {
   sized = sized;
-  has = record { place = place; leads = so.leads; one_open = one_open; last_free = so.free 2047 (omega arith) (omega arith) };
+  has = record { place = place; leads = so.leads; one_open = one_open; last_free = so.free (flash_slot_count - 1) (omega arith) (omega arith) };
   update = is;
   opens = so.opens;
   next = record { within = some; free = so.free; first = so.first };
 }
   where
-    one_open : (slot other : ℕ) → slot < 2048 → other < 2048 → IsOpen first slot → IsOpen first other → slot ≡ other
+    one_open : (slot other : ℕ) → slot < flash_slot_count → other < flash_slot_count → IsOpen first slot → IsOpen first other → slot ≡ other
     one_open slot other h k o p = elim (cases_order slot other) [
       | inl same ↦ same
       | inr differ ↦ elim differ [
@@ -67,12 +68,12 @@ all_found size first target sized place so some is = record {
     ]
 
 -- all slots are good, but none is free
-pub none_free : (size : ℕ) (first : List ℕ) (slots : Slots) (place : ℕ) → BeginsWell size first → SlotsAmong first 2048 slots → 2048 ≤ slots.next → place ≡ 65504 → NoLayoutAt size first place
+pub none_free : (size : ℕ) (first : List ℕ) (slots : Slots) (place : ℕ) → BeginsWell size first → SlotsAmong first flash_slot_count slots → flash_slot_count ≤ slots.next → place ≡ flash_slot_size * (flash_slot_count - 1) → NoLayoutAt size first place
 none_free size first slots place begins so all is =
-    let last : suc 2047 ≡ slots.next = omega (arith, so.within) in
-    last_taken begins (so_far_good first 2048 slots so) (so.first 2047 last) is
+    let last : suc (flash_slot_count - 1) ≡ slots.next = omega (arith, so.within) in
+    last_taken begins (so_far_good first flash_slot_count slots so) (so.first (flash_slot_count - 1) last) is
 
-within_slots : (first : List ℕ) (opened : Option ℕ) → OpenAmong first 2048 opened → WithinSlots opened
+within_slots : (first : List ℕ) (opened : Option ℕ) → OpenAmong first flash_slot_count opened → WithinSlots opened
 within_slots first None o = tt
 within_slots first (Some slot) o = o.0
 

@@ -4,7 +4,8 @@ use Rattle.std.proofs.Common.{◌≡◌, ℕ, ◌+◌, ◌-◌, ◌*◌, ◌<◌
 use Rattle.x7_words.specs.Flash.{FlashState, IfKnown, SeesBytes}
 use Rattle.x7_words.proofs.CountLemmas.{risen_from}
 use Rattle.x7_words.proofs.FlashLemmas.{get_or_slice_range}
-use Rattle.x7_update.specs.Layout.{CanStandAt, HasSize, IsOpen, open_switch}
+use Rattle.x7_packets.specs.FlashSlot.{flash_slot_size, flash_slot_count}
+use Rattle.x7_update.specs.Layout.{CanStandAt, HasSize, IsOpen, open_switch, switch_size}
 use Rattle.x7_update.specs.Fault.{CanTake, HasCause}
 use Rattle.x7_update.specs.Writing.{BecomesBytes, HasLateCause, HasWanted, IsWritten, IsWrong, SeesWanted, in_stream, in_switch, wanted_at}
 use Rattle.x7_update.specs.declared.fault.UpdateFault.{UpdateFault}
@@ -76,19 +77,19 @@ stream_fails update stream place count buffer old new result long seen same size
 
 -- ---- a switch word
 
-switch_wanted : (known : Option (List ℕ)) (slot : ℕ) → IfKnown known (λ all. IsOpen all slot) → IfKnown known (AreWanted (32 * slot) open_switch (32 * slot) 4)
+switch_wanted : (known : Option (List ℕ)) (slot : ℕ) → IfKnown known (λ all. IsOpen all slot) → IfKnown known (AreWanted (flash_slot_size * slot) open_switch (flash_slot_size * slot) 4)
 switch_wanted None slot h = tt
 switch_wanted (Some all) slot h = λ i l.
-    let place = 32 * slot in
+    let place = flash_slot_size * slot in
     let at : 0 + i ≡ place + i - place = omega arith in
     let short : place + i - place < 4 = omega arith in
     same_four all open_switch place 0 i h l ∙ ap (λ k. get_or open_switch k 0) at ∙ sym (wanted_inside place open_switch (place + i) short)
 
 -- the switch word of a slot that was opened was verified
-pub switch_fails : (slot : ℕ) (buffer stream : List ℕ) (old new : FlashState) (result : Result (Unit {0}) UpdateFault) → length buffer ≡ 4 → SeesBytes new (32 * slot) buffer → new.extent ≡ old.extent → HasSize old.extent → slot < 2048 → IfKnown old.bytes (λ all. IsOpen all slot)
-    → IfKnown old.bytes (λ all. buffer ≡ slice_range all (32 * slot) (32 * slot + 4)) → IfErr result (IsWrong (32 * slot) open_switch (32 * slot) buffer) → IfErr result (HasLateCause stream old new)
+pub switch_fails : (slot : ℕ) (buffer stream : List ℕ) (old new : FlashState) (result : Result (Unit {0}) UpdateFault) → length buffer ≡ 4 → SeesBytes new (flash_slot_size * slot) buffer → new.extent ≡ old.extent → HasSize old.extent → slot < flash_slot_count → IfKnown old.bytes (λ all. IsOpen all slot)
+    → IfKnown old.bytes (λ all. buffer ≡ slice_range all (flash_slot_size * slot) (flash_slot_size * slot + switch_size)) → IfErr result (IsWrong (flash_slot_size * slot) open_switch (flash_slot_size * slot) buffer) → IfErr result (HasLateCause stream old new)
 switch_fails slot buffer stream old new result long seen same sized h opened r w =
-    compared_fails (32 * slot) open_switch (32 * slot) 4 (32 * slot + 4) buffer stream old new result long seen (subst HasSize (sym same) sized) r (switch_wanted old.bytes slot opened) (in_switch slot h refl refl refl) (omega arith) (omega arith)
+    compared_fails (flash_slot_size * slot) open_switch (flash_slot_size * slot) 4 (flash_slot_size * slot + switch_size) buffer stream old new result long seen (subst HasSize (sym same) sized) r (switch_wanted old.bytes slot opened) (in_switch slot h refl refl refl) (omega arith) (omega arith)
     (λ place l below. absurd (omega (arith, l, below))) w
 
 -- ---- the end of an update

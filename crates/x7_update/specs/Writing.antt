@@ -1,6 +1,7 @@
 -- What the steps of an update do to the flash (this project's choice).
 use Rattle.std.specs.Prelude.{◌≡◌, ◌≢◌, ℕ, ◌+◌, ◌-◌, ◌*◌, ◌%◌, ◌<◌, ◌≤◌, ◌⊎◌, IsTrue, List, length, get_or, Option, Some, None, nat_lt, if◌then◌else◌, true, false}
 use Rattle.x7_words.specs.Flash.{erased_byte, TimeElapses, FlashFails, FlashState, IfKnown, OnlyWrites, WriteFails}
+use Rattle.x7_words.specs.FlashCalls.{FlashModel}
 use Rattle.x7_words.specs.Word.{AreBytes}
 use Rattle.x7_packets.specs.FlashSlot.{sector_size, flash_slot_size, flash_slot_count}
 use Rattle.x7_update.specs.After.{SpendsOpen, IsBetweenSlots, switched, with_stream}
@@ -27,6 +28,10 @@ pub record AtAnyMoment (old new : FlashState) (past since : ℕ → List ℕ →
   pub leaves : StaysKnown old new Relates
   pub elapses : TimeElapses old.moments new.moments past since (λ found. IfKnown old.bytes (λ all. Relates all found))
 
+-- at any moment of a call, and at its end, the flash's bytes are in this relation to those before the call
+abbrev pub CallAtAnyMoment : {F : Type 0} → FlashModel F → F → F → (List ℕ → List ℕ → Type 0) → Type 0
+CallAtAnyMoment f old new Relates = AtAnyMoment (f.state old) (f.state new) (f.found_since old) (f.found_since new) Relates
+
 -- the flash is used: nothing changed but its bytes, the moment and the counts of faults, which don't fall
 pub record OnlyUses (old new : FlashState) : Type 0 where
   pub extent : new.extent ≡ old.extent
@@ -42,10 +47,14 @@ StaysBytes old found = AreBytes old → AreBytes found
 
 -- A step that writes: at any moment the bytes are in this relation to those at its start, and bytes where these were;
 -- nothing else changed but the count of write faults, which doesn't fall.
-pub record Writes (old new : FlashState) (past since : ℕ → List ℕ → Type 0) (Relates : List ℕ → List ℕ → Type 0) : Type 0 where
+pub record IsWriteStep (old new : FlashState) (past since : ℕ → List ℕ → Type 0) (Relates : List ℕ → List ℕ → Type 0) : Type 0 where
   pub any_moment : AtAnyMoment old new past since Relates
   pub bytes : AtAnyMoment old new past since StaysBytes
   pub only : OnlyWrites old new
+
+-- a call is a step that writes, at any moment of which the flash's bytes are in this relation to those before the call
+abbrev pub CallWrites : {F : Type 0} → FlashModel F → F → F → (List ℕ → List ℕ → Type 0) → Type 0
+CallWrites f old new Relates = IsWriteStep (f.state old) (f.state new) (f.found_since old) (f.found_since new) Relates
 
 -- the switch word of a slot can be written: the flash is attached, and the slot is one of its first sector
 pub record CanSwitch (state : FlashState) (slot : ℕ) : Type 0 where
@@ -93,7 +102,7 @@ abbrev pub StreamStands : ℕ → List ℕ → List ℕ → List ℕ → Type 0
 StreamStands place stream old now = now ≡ with_stream place stream old
 
 -- the flash is as it was, but that its open slot is spent, and the stream stands at its place with FF after it
-pub record Replaced (place : ℕ) (stream old now : List ℕ) : Type 0 where
+pub record UpdateReplaced (place : ℕ) (stream old now : List ℕ) : Type 0 where
   pub spent : List ℕ
   pub is_spent : SpendsOpen old spent
   pub stands : StreamStands place stream spent now

@@ -1,6 +1,7 @@
 //! A look at the first sector: where the update goes, which slot is open, and which is the next.
 ghost use Rattle.std.specs.Prelude.{◌≡◌, ◌+◌, ◌<◌, ℕ, List, true, length, IfErr, IfOk, IfNone, IfSome};
-ghost use Rattle.x7_words.specs.Flash.{KnowsBytes, OnlyReads};
+ghost use Rattle.x7_words.specs.Flash.{KnowsBytes};
+ghost use Rattle.x7_words.specs.FlashCalls.{CallOnlyReads};
 ghost use Rattle.x7_packets.specs.FlashSlot.{sector_size, flash_slot_count};
 ghost use Rattle.x7_update.specs.Layout.{HasSize, LeadsToUpdate};
 ghost use Rattle.x7_update.specs.Fault.{DiffersAt, HasCause, IsBadSlotAt, IsGoodSlot, NoLayoutAt};
@@ -133,7 +134,7 @@ pub(crate) fn find_target<F: Flash>(
     ensures found { IfOk result (HasTarget (F.state flash.old)) }
     ensures refused { (stream : List ℕ) → IfErr result (HasCause stream (F.state flash.old) (F.state flash.new)) }
     ensures bytes { KnowsBytes (F.state flash.old) }
-    ensures only_reads { OnlyReads (F.state flash.old) (F.state flash.new) (F.found_since flash.old) (F.found_since flash.new) }
+    ensures only_reads { CallOnlyReads F.Flash flash.old flash.new }
 {
     let size = flash.size();
     if !has_size(size) {

@@ -1,13 +1,14 @@
 //! The steps of an update, in their order: look, spend the open slot, write, verify, open the next.
 ghost use Rattle.std.specs.Prelude.{◌≡◌, ◌+◌, ◌*◌, ◌<◌, ◌≤◌, ◌⊎◌, ℕ, List, true, length, IfErr, OnOk, OnErr, option_map};
-ghost use Rattle.x7_words.specs.Flash.{OnlyReads, IfKnown, SeesBytes, WriteFails};
+ghost use Rattle.x7_words.specs.Flash.{IfKnown, SeesBytes, WriteFails};
+ghost use Rattle.x7_words.specs.FlashCalls.{CallOnlyReads};
 ghost use Rattle.x7_packets.specs.FlashSlot.{flash_slot_size, flash_slot_count};
 ghost use Rattle.x7_update.specs.After.{SpendsOpen, IsAfterUpdate, MayBeLeft, switched};
 ghost use Rattle.x7_update.specs.Layout.{IsUpdatable, HasNoOpenSlot, IsFree, open_switch};
 ghost use Rattle.x7_update.specs.Verified.{AllVerified, OpensVerified, WasReady};
 ghost use Rattle.x7_update.specs.Fault.{HasNoCause, HasCause, IsEarly};
 ghost use Rattle.x7_update.specs.Slots.{HasTarget};
-ghost use Rattle.x7_update.specs.Writing.{AtAnyMoment, Becomes, CanVerify, HasLateCause, OnlyUses, OpeningSlot, Replaced, ReplacingUpdate, StaysBytes, Writes};
+ghost use Rattle.x7_update.specs.Writing.{Becomes, CanVerify, HasLateCause, OnlyUses, OpeningSlot, UpdateReplaced, ReplacingUpdate, StaysBytes, CallWrites, CallAtAnyMoment};
 ghost use Rattle.x7_update.specs.declared.fault.UpdateFault.TheVariants.{NoMemory};
 
 use crate::fault::UpdateFault;
@@ -22,8 +23,7 @@ use x7_words::{Failed, Flash, SECTOR_SIZE};
 fn spend_open_slot<F: Flash>(flash: &mut F, target: UpdateTarget) -> Result<(), Failed>
     requires { HasTarget (F.state flash.old) target }
     ensures spent { OnOk result (Becomes (F.state flash.old) (F.state flash.new) SpendsOpen) }
-    ensures writes { Writes (F.state flash.old) (F.state flash.new) (F.found_since flash.old) (F.found_since flash.new)
-        ReplacingUpdate }
+    ensures writes { CallWrites F.Flash flash.old flash.new ReplacingUpdate }
     ensures failed { OnErr result (WriteFails (F.state flash.old) (F.state flash.new)) }
 {
     match target.slots.open_slot {
@@ -36,9 +36,8 @@ fn spend_open_slot<F: Flash>(flash: &mut F, target: UpdateTarget) -> Result<(), 
 fn replace<F: Flash>(flash: &mut F, target: UpdateTarget, stream: &[u8]) -> Result<(), Failed>
     requires found { HasTarget (F.state flash.old) target }
     requires stream { target.place + length stream.now ≤ (F.state flash.old).extent }
-    ensures replaced { OnOk result (Becomes (F.state flash.old) (F.state flash.new) (Replaced target.place stream.now)) }
-    ensures writes { Writes (F.state flash.old) (F.state flash.new) (F.found_since flash.old) (F.found_since flash.new)
-        ReplacingUpdate }
+    ensures replaced { OnOk result (Becomes (F.state flash.old) (F.state flash.new) (UpdateReplaced target.place stream.now)) }
+    ensures writes { CallWrites F.Flash flash.old flash.new ReplacingUpdate }
     ensures failed { OnErr result (WriteFails (F.state flash.old) (F.state flash.new)) }
 {
     spend_open_slot(flash, target)?;
@@ -57,14 +56,11 @@ fn verify_and_open<F: Flash>(
     requires free { IfKnown (F.state flash.old).bytes (λ all. IsFree all target.slots.next) }
     requires none_open { IfKnown (F.state flash.old).bytes HasNoOpenSlot }
     ensures opened { OnOk result ((F.state flash.new).bytes ≡ option_map (switched target.slots.next open_switch) (F.state flash.old).bytes) }
-    ensures any_moment { AtAnyMoment (F.state flash.old) (F.state flash.new) (F.found_since flash.old) (F.found_since flash.new)
-        (OpeningSlot target.slots.next) }
-    ensures stays_bytes { AtAnyMoment (F.state flash.old) (F.state flash.new) (F.found_since flash.old) (F.found_since flash.new)
-        StaysBytes }
+    ensures any_moment { CallAtAnyMoment F.Flash flash.old flash.new (OpeningSlot target.slots.next) }
+    ensures stays_bytes { CallAtAnyMoment F.Flash flash.old flash.new StaysBytes }
     ensures was_ready { OnOk result (WasReady F.state target.place stream.now (F.state flash.new)) }
     ensures seen { OnOk result (SeesBytes (F.state flash.new) (flash_slot_size * target.slots.next) open_switch) }
-    ensures opens { AtAnyMoment (F.state flash.old) (F.state flash.new) (F.found_since flash.old) (F.found_since flash.new)
-        (λ all found. (found ≡ all) ⊎ WasReady F.state target.place stream.now (F.state flash.new)) }
+    ensures opens { CallAtAnyMoment F.Flash flash.old flash.new (λ all found. (found ≡ all) ⊎ WasReady F.state target.place stream.now (F.state flash.new)) }
     ensures fault { IfErr result (HasLateCause stream.now (F.state flash.old) (F.state flash.new)) }
     ensures only_uses { OnlyUses (F.state flash.old) (F.state flash.new) }
 {
@@ -87,15 +83,13 @@ pub fn update<F: Flash>(alloc: Global, flash: &mut F, stream: &[u8]) -> Result<(
     ensures updatable { OnOk result (IfKnown (F.state flash.old).bytes IsUpdatable) }
     ensures found { (found : List ℕ) → F.found_since flash.new (F.state flash.old).moments found →
         IfKnown (F.state flash.old).bytes (λ all. MayBeLeft stream.now all found) }
-    ensures any_moment { AtAnyMoment (F.state flash.old) (F.state flash.new) (F.found_since flash.old) (F.found_since flash.new)
-        (MayBeLeft stream.now) }
+    ensures any_moment { CallAtAnyMoment F.Flash flash.old flash.new (MayBeLeft stream.now) }
     ensures verified { OnOk result (AllVerified F.state stream.now (F.state flash.old) (F.state flash.new)) }
-    ensures opens { AtAnyMoment (F.state flash.old) (F.state flash.new) (F.found_since flash.old) (F.found_since flash.new)
-        (OpensVerified F.state stream.now (F.state flash.old) (F.state flash.new)) }
+    ensures opens { CallAtAnyMoment F.Flash flash.old flash.new (OpensVerified F.state stream.now (F.state flash.old) (F.state flash.new)) }
     ensures refused { IfErr result (HasCause stream.now (F.state flash.old) (F.state flash.new)) }
     ensures complete { IfErr result (λ fault. HasNoCause stream.now (F.state flash.old) (F.state flash.new) → fault ≡ NoMemory) }
     ensures unchanged { IfErr result (λ fault. IsEarly fault →
-        OnlyReads (F.state flash.old) (F.state flash.new) (F.found_since flash.old) (F.found_since flash.new)) }
+        CallOnlyReads F.Flash flash.old flash.new) }
     ensures only_uses { OnlyUses (F.state flash.old) (F.state flash.new) }
 {
     let mut buffer = Vec::new(alloc);

@@ -3,7 +3,7 @@ ghost use Rattle.std.specs.Prelude.{◌≡◌, ◌+◌, ◌≤◌, OnOk, OnErr, 
 ghost use Rattle.x7_words.specs.Flash.{IfKnown, WriteFails};
 ghost use Rattle.x7_update.specs.After.{switched};
 ghost use Rattle.x7_update.specs.Layout.{IsFree, IsOpen, open_switch, spent_switch};
-ghost use Rattle.x7_update.specs.Writing.{CanSwitch, SpendingSlot, OpeningSlot, Writes};
+ghost use Rattle.x7_update.specs.Writing.{CanSwitch, SpendingSlot, OpeningSlot, CallWrites};
 
 use crate::layout::{OPEN_SWITCH, SPENT_SWITCH};
 use x7_packets::FLASH_SLOT_SIZE;
@@ -14,8 +14,7 @@ pub(crate) fn spend_slot<F: Flash>(flash: &mut F, slot: u64) -> Result<(), Faile
     requires slot { CanSwitch (F.state flash.old) slot }
     requires opened { IfKnown (F.state flash.old).bytes (λ all. IsOpen all slot) }
     ensures spent { OnOk result ((F.state flash.new).bytes ≡ option_map (switched slot spent_switch) (F.state flash.old).bytes) }
-    ensures writes { Writes (F.state flash.old) (F.state flash.new) (F.found_since flash.old) (F.found_since flash.new)
-        (SpendingSlot slot) }
+    ensures writes { CallWrites F.Flash flash.old flash.new (SpendingSlot slot) }
     ensures failed { OnErr result (WriteFails (F.state flash.old) (F.state flash.new)) }
 {
     flash.program(FLASH_SLOT_SIZE * slot, &SPENT_SWITCH)
@@ -26,8 +25,7 @@ pub(crate) fn open_slot<F: Flash>(flash: &mut F, slot: u64) -> Result<(), Failed
     requires slot { CanSwitch (F.state flash.old) slot }
     requires free { IfKnown (F.state flash.old).bytes (λ all. IsFree all slot) }
     ensures opened { OnOk result ((F.state flash.new).bytes ≡ option_map (switched slot open_switch) (F.state flash.old).bytes) }
-    ensures writes { Writes (F.state flash.old) (F.state flash.new) (F.found_since flash.old) (F.found_since flash.new)
-        (OpeningSlot slot) }
+    ensures writes { CallWrites F.Flash flash.old flash.new (OpeningSlot slot) }
     ensures moment { (F.state flash.new).moments ≤ (F.state flash.old).moments + 1 }
     ensures failed { OnErr result (WriteFails (F.state flash.old) (F.state flash.new)) }
 {

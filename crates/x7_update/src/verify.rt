@@ -1,6 +1,7 @@
 //! What an update has written is verified: read again and compared.
 ghost use Rattle.std.specs.Prelude.{◌≡◌, ◌+◌, ◌*◌, ◌<◌, ◌≤◌, ◌^◌, ℕ, List, true, length, IfErr, OnOk};
-ghost use Rattle.x7_words.specs.Flash.{OnlyReads, IfKnown, SeesBytes};
+ghost use Rattle.x7_words.specs.Flash.{IfKnown, SeesBytes};
+ghost use Rattle.x7_words.specs.FlashCalls.{CallOnlyReads};
 ghost use Rattle.x7_packets.specs.FlashSlot.{sector_size, flash_slot_size, flash_slot_count};
 ghost use Rattle.x7_update.specs.Layout.{HasSize, IsOpen, open_switch};
 ghost use Rattle.x7_update.specs.Writing.{CanVerify, HasLateCause, IsWrong, ReadsWanted, SeesWanted, wanted_at};
@@ -53,7 +54,7 @@ pub(crate) fn verify_stream<F: Flash>(
     requires { CanVerify (F.state flash.old) stream_place stream.now buffer.old }
     ensures seen { OnOk result (SeesWanted stream_place stream.now stream_place (F.state flash.old).extent (F.state flash.new)) }
     ensures fault { IfErr result (HasLateCause stream.now (F.state flash.old) (F.state flash.new)) }
-    ensures only_reads { OnlyReads (F.state flash.old) (F.state flash.new) (F.found_since flash.old) (F.found_since flash.new) }
+    ensures only_reads { CallOnlyReads F.Flash flash.old flash.new }
 {
     for sector in stream_place / SECTOR_SIZE..flash.size() / SECTOR_SIZE {
         verify_sector(flash, sector, stream_place, stream, buffer)?;
@@ -75,7 +76,7 @@ fn verify_sector<F: Flash>(
     requires before { SeesWanted stream_place stream.now stream_place (sector * sector_size) (F.state flash.old) }
     ensures seen { OnOk result (SeesWanted stream_place stream.now stream_place (sector * sector_size + sector_size) (F.state flash.new)) }
     ensures fault { IfErr result (HasLateCause stream.now (F.state flash.old) (F.state flash.new)) }
-    ensures only_reads { OnlyReads (F.state flash.old) (F.state flash.new) (F.found_since flash.old) (F.found_since flash.new) }
+    ensures only_reads { CallOnlyReads F.Flash flash.old flash.new }
     ensures length { length buffer.new ≡ sector_size }
 {
     match flash.read_at(sector * SECTOR_SIZE, buffer) {
@@ -98,7 +99,7 @@ pub(crate) fn verify_switch<F: Flash>(flash: &mut F, slot: u64) -> Result<(), Up
     requires opened { IfKnown (F.state flash.old).bytes (λ all. IsOpen all slot) }
     ensures seen { OnOk result (SeesBytes (F.state flash.new) (flash_slot_size * slot) open_switch) }
     ensures fault { (stream : List ℕ) → IfErr result (HasLateCause stream (F.state flash.old) (F.state flash.new)) }
-    ensures only_reads { OnlyReads (F.state flash.old) (F.state flash.new) (F.found_since flash.old) (F.found_since flash.new) }
+    ensures only_reads { CallOnlyReads F.Flash flash.old flash.new }
 {
     let mut word = [0; 4];
     match flash.read_at(FLASH_SLOT_SIZE * slot, &mut word) {

@@ -7,7 +7,7 @@ use Rattle.x7_engine.specs.UntilStarted.{taken_until}
 use Rattle.x7_engine.specs.Value.{failure_of}
 use Rattle.x7_engine.specs.declared.fault.Fault.{Fault}
 use Rattle.x7_engine.specs.declared.until_started.UntilStarted.{UntilStarted}
-use Rattle.x7_boot.specs.Attempt.{Took, past_in_flash}
+use Rattle.x7_boot.specs.Attempt.{TookPiece, past_in_flash}
 use Rattle.x7_boot.specs.declared.attempt.AttemptStep.{AttemptStep}
 use Rattle.x7_boot.proofs.TookLemmas.{page_took, ready_fits, step_until}
 use Rattle.x7_boot.proofs.attempt.take_page.Goals as goal
@@ -21,7 +21,7 @@ returns-in-Started c = λ part kept bytes s going none.
     let all : List ℕ = bytes ++ take (taken_until (length c.args.page.now) c.feed_until_started.result) c.args.page.now in
     let cause : Option Cause = failure_of (stop_fault (why_of (stop_in part kept all))) false in
     let dropping = ap (λ (r : ReadBufState). r.most) (fed.reads part kept false bytes s).1 ∙ ap (λ (r : ReadBufState). r.most) c.dropping-read.ensures in
-    subst (λ (r : UntilStarted). Took (past_in_flash part kept bytes) c.feed_until_started.new.self c.args.page.now (step_until r cause)) c.in-Started.is
+    subst (λ (r : UntilStarted). TookPiece (past_in_flash part kept bytes) c.feed_until_started.new.self c.args.page.now (step_until r cause)) c.in-Started.is
     (page_took part kept c.feed_until_started.new.self bytes c.args.page.now c.feed_until_started.new.read c.feed_until_started.result cause fed.within
     (fed.takes part kept false bytes s) (fed.first part kept false bytes s) dropping (fed.answer part kept false bytes s) (fed.started part kept false bytes s) refl)
 
@@ -32,7 +32,7 @@ returns c = λ part kept bytes s going none.
     let stands = fed.takes part kept false bytes s in
     let cause = c.failure_of.ensures ∙ ap (λ (f : Option Fault). failure_of f false) (c.fault.ensures part kept false all stands) in
     let dropping = ap (λ (r : ReadBufState). r.most) (fed.reads part kept false bytes s).1 ∙ ap (λ (r : ReadBufState). r.most) c.dropping-read.ensures in
-    subst (λ (x : AttemptStep). Took (past_in_flash part kept bytes) c.feed_until_started.new.self c.args.page.now x) (sym c.step_by.ensures)
-    (subst (λ (r : UntilStarted). Took (past_in_flash part kept bytes) c.feed_until_started.new.self c.args.page.now (step_until r c.failure_of.result)) c.in-Fed.is
+    subst (λ (x : AttemptStep). TookPiece (past_in_flash part kept bytes) c.feed_until_started.new.self c.args.page.now x) (sym c.step_by.ensures)
+    (subst (λ (r : UntilStarted). TookPiece (past_in_flash part kept bytes) c.feed_until_started.new.self c.args.page.now (step_until r c.failure_of.result)) c.in-Fed.is
     (page_took part kept c.feed_until_started.new.self bytes c.args.page.now c.feed_until_started.new.read c.feed_until_started.result c.failure_of.result fed.within
     stands (fed.first part kept false bytes s) dropping (fed.answer part kept false bytes s) (fed.started part kept false bytes s) cause))

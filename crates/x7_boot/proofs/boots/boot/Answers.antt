@@ -5,6 +5,7 @@ use Rattle.x7_words.specs.Flash.{FlashFails}
 use Rattle.x7_words.proofs.FlashLemmas.{reads_on}
 use Rattle.x7_boot.specs.declared.fault.BootFault.TheVariants.{Failed, NoMemory, TooLarge}
 use Rattle.x7_boot.proofs.BootedLemmas.{attempts_next, boot_ends, led_next}
+use Rattle.x7_boot.proofs.FaultLemmas.{counted_at}
 use Rattle.x7_boot.proofs.PageLemmas.{pages_of}
 use Rattle.x7_boot.proofs.boots.boot.Goals as goal
 
@@ -23,7 +24,7 @@ attempts-preserved g c =
       room = next.most c.in-Again.next_kept c.in-Again.next_address c.in-Again.is;
       limit = i.limit;
       pages = pages_of (f.state c.args.flash.now).bytes (f.state c.attempts.flash).bytes (f.state c.args.flash.now).extent (f.state c.attempts.flash).extent c.try_once.new.pages.pages.entries i.flash.bytes i.flash.extent c.try_once.ensures.pages;
-      no_fault = t.no_fault ∙ i.no_fault;
+      no_fault = t.faults ∙ i.no_fault;
       flash = reads_on _ _ _ _ _ _ i.flash t.only_reads;
     }
 
@@ -54,17 +55,17 @@ returns-in_err-ending-clause-failed g c =
     let f = g.F.Flash in
     let first = f.state c.args.flash.now in
     let last = f.state c.try_once.new.flash in
-    let fails : IsErrOf c.try_once.result Failed → FlashFails first last = λ e. subst (λ (n : ℕ). HasRisen n last.faults) c.attempts.invariant.no_fault (c.try_once.ensures.failed e) in
+    let fails : IsErrOf c.try_once.result Failed → FlashFails first last = λ e. subst (λ (n : ℕ). HasRisen n last.faults) c.attempts.invariant.no_fault (counted_at _ _ c.try_once.result Failed c.try_once.ensures.faults e) in
     search rules
 
 pub returns-in_err-ending-clause-no_memory : goal.returns-in_err-ending-clause-no_memory
 returns-in_err-ending-clause-no_memory g c =
     let f = g.F.Flash in
-    let no_fault : IsErrOf c.try_once.result NoMemory → (f.state c.try_once.new.flash).faults ≡ (f.state c.args.flash.now).faults = λ e. c.try_once.ensures.no_memory e ∙ c.attempts.invariant.no_fault in
+    let no_fault : IsErrOf c.try_once.result NoMemory → (f.state c.try_once.new.flash).faults ≡ (f.state c.args.flash.now).faults = λ e. counted_at _ _ c.try_once.result NoMemory c.try_once.ensures.faults e ∙ c.attempts.invariant.no_fault in
     search rules
 
 pub returns-in_err-ending-clause-unread : goal.returns-in_err-ending-clause-unread
 returns-in_err-ending-clause-unread g c =
     let f = g.F.Flash in
-    let never : IsErrOf c.try_once.result TooLarge → f.state c.try_once.new.flash ≡ f.state c.args.flash.now = λ e. absurd (c.try_once.ensures.not_large e) in
+    let never : IsErrOf c.try_once.result TooLarge → f.state c.try_once.new.flash ≡ f.state c.args.flash.now = λ e. absurd (counted_at _ _ c.try_once.result TooLarge c.try_once.ensures.faults e) in
     search rules

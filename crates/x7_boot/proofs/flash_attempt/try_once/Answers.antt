@@ -1,11 +1,8 @@
 use Rattle.std.proofs.Common.{◌≡◌, ℕ, subst, ◌+◌, ◌/◌, ◌<◌, length, sym, refl, rules, ◌∙◌, arith}
-use Rattle.std.specs.Prelude.{IsErrOf}
-use Rattle.x7_words.specs.Count.{HasRisen}
-use Rattle.x7_words.specs.Flash.{FlashFails, IfKnown}
+use Rattle.x7_words.specs.Flash.{IfKnown}
 use Rattle.x7_words.proofs.FlashLemmas.{reads_at, reads_on}
 use Rattle.x7_boot.specs.Attempt.{IsUnderWay, attempt_at}
-use Rattle.x7_boot.specs.Pages.{page_size}
-use Rattle.x7_boot.specs.declared.fault.BootFault.TheVariants.{Failed, NoMemory}
+use Rattle.x7_boot.specs.Pages.{FaultsCounted, page_size}
 use Rattle.x7_boot.proofs.PageLemmas.{from_limited, loaded_from, pages_of, reaches}
 use Rattle.x7_boot.proofs.FlashAttemptLemmas.{ends_here, feeds_on, feeds_ready, known_ended, known_out, known_stopped, stops_here}
 use Rattle.x7_boot.proofs.flash_attempt.try_once.Goals as goal
@@ -39,9 +36,10 @@ pages-preserved g c =
     let from = c.bytes_from-bytes.ensures known extent below are read in
     let t = c.take_page.ensures c.args.device.now.part c.args.kept f.bytes f.stands f.going f.not_ended in
     record {
-      feeds = feeds_on c.args.device.now.part c.args.kept c.args.address (g.F.Flash.state c.args.flash.now).bytes c.pages.device c.take_page.new.device c.bytes_from-bytes.result.now c.pages.place (c.pages.place + length c.bytes_from-bytes.result.now) c.take_page.result refl f from.bytes_are t c.in-GoesOn.is;
+      feeds = feeds_on c.args.device.now.part c.args.kept c.args.address (g.F.Flash.state c.args.flash.now).bytes c.pages.device c.take_page.new.device c.bytes_from-bytes.result.now c.pages.place
+          (c.pages.place + length c.bytes_from-bytes.result.now) c.take_page.result refl f from.bytes_are t c.in-GoesOn.is;
       kept = are;
-      no_fault = c.in_ok-loaded.ensures.no_fault ∙ c.pages.invariant.no_fault;
+      no_fault = c.in_ok-loaded.ensures.faults ∙ c.pages.invariant.no_fault;
       flash = reads_on _ _ _ _ _ _ c.pages.invariant.flash c.in_ok-loaded.ensures.only_reads;
       size = c.pages.invariant.size;
     }
@@ -121,18 +119,11 @@ bytes_from-bytes-requires-clause-page g c = record {
 
 -- ---- a page that was not read
 
-pub returns-in_err-loaded-clause-failed : goal.returns-in_err-loaded-clause-failed
-returns-in_err-loaded-clause-failed g c =
+pub returns-in_err-loaded-clause-faults : goal.returns-in_err-loaded-clause-faults
+returns-in_err-loaded-clause-faults g c =
     let f = g.F.Flash in
-    let first = f.state c.args.flash.now in
-    let last = f.state c.load.new.flash in
-    let fails : IsErrOf c.load.result Failed → FlashFails first last = λ e. subst (λ (n : ℕ). HasRisen n last.faults) c.pages.invariant.no_fault (c.load.ensures.failed e) in
-    search rules
-
-pub returns-in_err-loaded-clause-no_memory : goal.returns-in_err-loaded-clause-no_memory
-returns-in_err-loaded-clause-no_memory g c =
-    let f = g.F.Flash in
-    let no_fault : IsErrOf c.load.result NoMemory → (f.state c.load.new.flash).faults ≡ (f.state c.args.flash.now).faults = λ e. c.load.ensures.no_memory e ∙ c.pages.invariant.no_fault in
+    let last = (f.state c.load.new.flash).faults in
+    let faults : FaultsCounted (f.state c.args.flash.now).faults last c.load.result = subst (λ (n : ℕ). FaultsCounted n last c.load.result) c.pages.invariant.no_fault c.load.ensures.faults in
     search rules
 
 pub returns-in_err-loaded-clause-pages : goal.returns-in_err-loaded-clause-pages

@@ -1,5 +1,5 @@
 use Rattle.std.proofs.Common.{◌≡◌, ◌-◌}
-use Rattle.x7_words.specs.Flash.{OnlyReads}
+use Rattle.x7_words.specs.FlashCalls.{CallOnlyReads}
 use Rattle.x7_boot.specs.Attempt.{IsUnderWay, attempt_at}
 use Rattle.x7_boot.specs.Pages.{ArePages}
 use Rattle.x7_boot.proofs.flash_attempt.try_once.Given as goal
@@ -11,7 +11,7 @@ invariant-pages g l =
       feeds : IsUnderWay (attempt_at l.fn.device.part l.fn.kept l.fn.address) (f.state l.fn.flash).bytes l.device l.place;
       kept : ArePages (f.state l.fn.flash).bytes (f.state l.fn.flash).extent l.pages.pages.entries;
       no_fault : (f.state l.flash).faults ≡ (f.state l.fn.flash).faults;
-      flash : OnlyReads (f.state l.fn.flash) (f.state l.flash) (f.found_since l.fn.flash) (f.found_since l.flash);
+      flash : CallOnlyReads f l.fn.flash l.flash;
       size : l.size ≡ (f.state l.fn.flash).extent;
     }
 

@@ -23,9 +23,16 @@ returns-in-Some-clause-begins g c =
     let within : count ≤ length c.next_turn.new.buffer = omega (arith, c.in_ok-turn.ensures.within.1, c.next_turn.ensures.length) in
     let joined = c.in_ok-put_text.ensures.appends ∙ ap (λ t. old ++ t) (take-append-le count c.next_turn.new.buffer _ within) in
     let long = length-take-le count c.next_turn.new.buffer within in
-    let p = piece_of old mid piece c.deref.result.now bytes c.wanted.result joined c.deref-in-loop-bytes.ensures.value (omega (arith, long, c.in_ok-turn.ensures.within.1, c.min-count.ensures, length-take-le c.min-count.result c.loop-bytes.piece (omega (arith, c.min-count.ensures, v.piece)))) c.wanted.ensures.not_zero c.deref.ensures.value c.wanted.ensures.fixed c.wanted.ensures.waits v.waiting in
+    let p = piece_of old mid piece c.deref.result.now bytes c.wanted.result joined c.deref-in-loop-bytes.ensures.value
+    (omega (arith, long, c.in_ok-turn.ensures.within.1, c.min-count.ensures, length-take-le c.min-count.result c.loop-bytes.piece (omega (arith, c.min-count.ensures, v.piece))))
+    c.wanted.ensures.not_zero c.deref.ensures.value c.wanted.ensures.fixed c.wanted.ensures.waits v.waiting in
     beginning_read old mid piece bytes c.in-Some.judged.line.items c.wanted.result c.in-Some.judged.start c.in_ok-turn.turn.last (i.state c.args.inputs.now) (i.state c.loop-bytes.inputs) (i.state c.next_turn.new.inputs)
-    p joined c.deref-in-loop-bytes.ensures.value (reads_by (i.state c.args.inputs.now) (i.state c.loop-bytes.inputs) old v.selected v.taken v.given v.asked v.inputs v.selects) c.in_ok-turn.ensures.takes c.next_turn.ensures.asked c.next_turn.ensures.inputs c.in_ok-turn.ensures.end (λ e. omega (arith, v.ends, c.in_ok-turn.ensures.no_end_read e)) v.few (omega (arith, long, c.in_ok-turn.ensures.within.1, c.min-count.ensures, length-take-le c.min-count.result c.loop-bytes.piece (omega (arith, c.min-count.ensures, v.piece)))) (found_some c.in_ok-judged.field-0 c.in-Some.judged _ (λ (j : Judged). (j.start ≤ length bytes) × IsBeginning bytes c.in_ok-turn.turn.last j.line.items j.start) c.in-Some.is c.in_ok-judged.ensures.judged) (found_some c.in_ok-judged.field-0 c.in-Some.judged _ (λ (j : Judged). DataBeginAt bytes j.start) c.in-Some.is c.in_ok-judged.ensures.data_begin)
+    p joined c.deref-in-loop-bytes.ensures.value
+    (reads_by (i.state c.args.inputs.now) (i.state c.loop-bytes.inputs) old v.selected v.taken v.given v.asked v.inputs v.selects) c.in_ok-turn.ensures.takes c.next_turn.ensures.gives_few.asked
+    c.next_turn.ensures.inputs c.in_ok-turn.ensures.end (λ e. omega (arith, v.ends, c.in_ok-turn.ensures.no_end_read e)) v.few
+    (omega (arith, long, c.in_ok-turn.ensures.within.1, c.min-count.ensures, length-take-le c.min-count.result c.loop-bytes.piece (omega (arith, c.min-count.ensures, v.piece))))
+    (found_some c.in_ok-judged.field-0 c.in-Some.judged _ (λ (j : Judged). (j.start ≤ length bytes) × IsBeginning bytes c.in_ok-turn.turn.last j.line.items j.start) c.in-Some.is c.in_ok-judged.ensures.judged)
+    (found_some c.in_ok-judged.field-0 c.in-Some.judged _ (λ (j : Judged). DataBeginAt bytes j.start) c.in-Some.is c.in_ok-judged.ensures.data_begin)
 
 pub returns-in_err-judged-clause-refused : goal.returns-in_err-judged-clause-refused
 returns-in_err-judged-clause-refused g c = rw (handed_on c.from_residual-in_err-judged.result c.in_err-judged.field-0.0 c.from_residual-in_err-judged.ensures) (let i = g.I.Inputs in
@@ -38,7 +45,9 @@ returns-in_err-judged-clause-refused g c = rw (handed_on c.from_residual-in_err-
     let within : count ≤ length c.next_turn.new.buffer = omega (arith, c.in_ok-turn.ensures.within.1, c.next_turn.ensures.length) in
     let joined = c.in_ok-put_text.ensures.appends ∙ ap (λ t. old ++ t) (take-append-le count c.next_turn.new.buffer _ within) in
     let long = length-take-le count c.next_turn.new.buffer within in
-    let p = piece_of old mid piece c.deref.result.now bytes c.wanted.result joined c.deref-in-loop-bytes.ensures.value (omega (arith, long, c.in_ok-turn.ensures.within.1, c.min-count.ensures, length-take-le c.min-count.result c.loop-bytes.piece (omega (arith, c.min-count.ensures, v.piece)))) c.wanted.ensures.not_zero c.deref.ensures.value c.wanted.ensures.fixed c.wanted.ensures.waits v.waiting in
+    let p = piece_of old mid piece c.deref.result.now bytes c.wanted.result joined c.deref-in-loop-bytes.ensures.value
+    (omega (arith, long, c.in_ok-turn.ensures.within.1, c.min-count.ensures, length-take-le c.min-count.result c.loop-bytes.piece (omega (arith, c.min-count.ensures, v.piece))))
+    c.wanted.ensures.not_zero c.deref.ensures.value c.wanted.ensures.fixed c.wanted.ensures.waits v.waiting in
     elim c.in_err-judged.ensures.refused [
       | inl h ↦ inl h
       | inr h ↦ inr (inr (record {
@@ -58,7 +67,7 @@ returns-in_err-turn-clause-refused g c = rw (handed_on c.from_residual.result c.
     let v = c.loop-bytes.invariant in
     let old = c.loop-bytes.bytes.items in
     unread_turn (i.state c.args.inputs.now) (i.state c.loop-bytes.inputs) (i.state c.next_turn.new.inputs) c.args.stream.now old (stream_limit - c.len-left.result) (event_of c.in_err-turn.field-0.0)
-    (reads_by (i.state c.args.inputs.now) (i.state c.loop-bytes.inputs) old v.selected v.taken v.given v.asked v.inputs v.selects) (omega (arith, v.few, c.len-left.ensures)) c.next_turn.ensures.asked
+    (reads_by (i.state c.args.inputs.now) (i.state c.loop-bytes.inputs) old v.selected v.taken v.given v.asked v.inputs v.selects) (omega (arith, v.few, c.len-left.ensures)) c.next_turn.ensures.gives_few.asked
     (λ e. absurd (omega (arith, c.in_err-turn.ensures.over e, v.few, c.len-left.ensures, v.piece, c.min-count.ensures, length-take-le c.min-count.result c.loop-bytes.piece (omega (arith, c.min-count.ensures, v.piece)))))
     (λ e. none_given (i.state c.args.inputs.now) (i.state c.loop-bytes.inputs) (i.state c.next_turn.new.inputs) old c.deref.result.now c.wanted.result (length (take c.min-count.result c.loop-bytes.piece)) c.wanted.ensures.not_zero
     (omega (arith, c.min-count.ensures, length-take-le c.min-count.result c.loop-bytes.piece (omega (arith, c.min-count.ensures, v.piece)))) c.deref.ensures.value c.wanted.ensures.fixed c.wanted.ensures.waits v.waiting
@@ -84,7 +93,7 @@ loop-bytes-preserved g c =
       piece = omega (arith, length-append buf (drop c.min-count.result c.loop-bytes.piece), length-drop c.min-count.result c.loop-bytes.piece, c.next_turn.ensures.length, asked_for, v.piece, c.min-count.ensures);
       few = omega (arith, none.1, ap length c.deref-in-loop-bytes.ensures.value);
       waiting = λ some. subst EndsInHeader c.deref-in-loop-bytes.ensures.value none.2;
-      asked = c.next_turn.ensures.asked ∙ v.asked;
+      asked = c.next_turn.ensures.gives_few.asked ∙ v.asked;
       selects = c.in_ok-turn.ensures.takes.selects ∙ v.selects;
       ends = omega (arith, v.ends, c.in_ok-turn.ensures.no_end_read none.0);
       given = omega (arith, v.given, c.in_ok-turn.ensures.takes.given, ap length joined, length-append old piece);

@@ -26,7 +26,9 @@ returns-clause-caused g c = λ flash.
     let C = CameIn (step_over (name ∷ []) (i.state c.args.inputs.now) (i.state c.read_whole.new.inputs)) in
     let text = c.in_ok-text.text.items in
     let why = rw c.deref.ensures.value at c.in-Err.ensures.fault in
-    caused_event known C (λ known. part_known known name) (event_of c.refusal_of.result) (part_event name c.in-Err.fault) c.refusal_of.ensures (after_text known C part_limit name text (λ bytes. part_by name (part_in bytes)) (Err (part_event name c.in-Err.fault)) (c.in_ok-text.ensures.caused flash) (refused known C name text c.in-Err.fault why))
+    caused_event known C (λ known. part_known known name) (event_of c.refusal_of.result) (part_event name c.in-Err.fault) c.refusal_of.ensures
+    (after_text known C part_limit name text (λ bytes. part_by name (part_in bytes)) (Err (part_event name c.in-Err.fault)) (c.in_ok-text.ensures.caused flash)
+    (refused known C name text c.in-Err.fault why))
 
 pub returns-in_err-text-clause-caused : goal.returns-in_err-text-clause-caused
 returns-in_err-text-clause-caused g c = rw (handed_on c.from_residual.result c.in_err-text.field-0.0 c.from_residual.ensures) (λ flash.

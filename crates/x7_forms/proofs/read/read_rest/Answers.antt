@@ -15,7 +15,7 @@ pub returns-in_err-turn-clause-refused : goal.returns-in_err-turn-clause-refused
 returns-in_err-turn-clause-refused g c = rw (handed_on c.from_residual.result c.in_err-turn.field-0.0 c.from_residual.ensures) (let i = g.I.Inputs in
     let v = c.loop-turn.invariant in
     inr (rest_unread (i.state c.args.inputs.now) (i.state c.loop-turn.inputs) (i.state c.next_turn.new.inputs) c.args.name.now v.known.0 c.args.limit c.loop-turn.left (event_of c.in_err-turn.field-0.0)
-    v.known.1.2 v.known.1.1 c.in_err-turn.ensures.refused c.next_turn.ensures.asked))
+    v.known.1.2 v.known.1.1 c.in_err-turn.ensures.refused c.next_turn.ensures.gives_few.asked))
 
 pub returns-then-turn-clause-read : goal.returns-then-turn-clause-read
 returns-then-turn-clause-read g c =
@@ -24,7 +24,7 @@ returns-then-turn-clause-read g c =
     let n = c.in_ok-turn.turn.count in
     let piece = take n c.next_turn.new.buffer in
     let size : length piece ≡ n = length-take-le n c.next_turn.new.buffer (omega (arith, c.in_ok-turn.ensures.within.1, c.next_turn.ensures.length)) in
-    let reads = reads_on (i.state c.args.inputs.now) (i.state c.loop-turn.inputs) (i.state c.next_turn.new.inputs) v.known.0 piece v.known.1.2 c.in_ok-turn.ensures.takes c.next_turn.ensures.asked c.next_turn.ensures.inputs in
+    let reads = reads_on (i.state c.args.inputs.now) (i.state c.loop-turn.inputs) (i.state c.next_turn.new.inputs) v.known.0 piece v.known.1.2 c.in_ok-turn.ensures.takes c.next_turn.ensures.gives_few.asked c.next_turn.ensures.inputs in
     (v.known.0 ++ piece, c.in_ok-put_text.ensures.appends ∙ ap (λ t. t ++ piece) v.known.1.0 ∙ append_assoc _ v.known.0 piece, omega (arith, v.known.1.1, size, length-append v.known.0 piece, c.in_ok-turn.ensures.within.0), (reads.takes.taken, c.in_ok-turn.ensures.end c.if-turn.true))
 
 pub loop-turn-preserved : goal.loop-turn-preserved
@@ -34,7 +34,7 @@ loop-turn-preserved g c =
     let n = c.in_ok-turn.turn.count in
     let piece = take n c.next_turn.new.buffer in
     let size : length piece ≡ n = length-take-le n c.next_turn.new.buffer (omega (arith, c.in_ok-turn.ensures.within.1, c.next_turn.ensures.length)) in
-    let reads = reads_on (i.state c.args.inputs.now) (i.state c.loop-turn.inputs) (i.state c.next_turn.new.inputs) v.known.0 piece v.known.1.2 c.in_ok-turn.ensures.takes c.next_turn.ensures.asked c.next_turn.ensures.inputs in
+    let reads = reads_on (i.state c.args.inputs.now) (i.state c.loop-turn.inputs) (i.state c.next_turn.new.inputs) v.known.0 piece v.known.1.2 c.in_ok-turn.ensures.takes c.next_turn.ensures.gives_few.asked c.next_turn.ensures.inputs in
     record {
       selected = c.in_ok-turn.ensures.takes.selected;
       inputs = stays_on _ _ _ v.inputs c.next_turn.ensures.inputs;

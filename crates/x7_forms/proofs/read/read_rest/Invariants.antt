@@ -1,6 +1,6 @@
 use Rattle.std.proofs.Common.{◌≡◌, ℕ, List, ◌+◌, ◌≤◌, ◌++◌, length, true}
 use Rattle.x7_words.specs.Input.{InputsStay}
-use Rattle.x7_forms.specs.Turn.{Reads, turn_size}
+use Rattle.x7_forms.specs.Turn.{ReadsBytes, turn_size}
 use Rattle.x7_forms.proofs.read.read_rest.Given as goal
 
 abbrev pub invariant-loop-turn : goal.invariant-loop-turn
@@ -12,7 +12,7 @@ invariant-loop-turn g l =
       ends : (i.state l.inputs).ends ≤ (i.state l.fn.inputs).ends;
       left : l.left ≤ l.limit;
       piece : length l.piece ≡ turn_size;
-      known : (taken : List ℕ) × ((l.onto.items ≡ l.fn.onto.items ++ taken) × (length taken + l.left ≡ l.limit) × Reads (i.state l.fn.inputs) taken (i.state l.inputs));
+      known : (taken : List ℕ) × ((l.onto.items ≡ l.fn.onto.items ++ taken) × (length taken + l.left ≡ l.limit) × ReadsBytes (i.state l.fn.inputs) taken (i.state l.inputs));
     }
 
 abbrev pub decreases-loop-turn : goal.decreases-loop-turn

@@ -1,6 +1,6 @@
 use Rattle.std.proofs.Common.{◌≡◌, ℕ, List, ◌+◌, ◌≤◌, length, true}
 use Rattle.x7_words.specs.Input.{InputsStay}
-use Rattle.x7_forms.specs.Turn.{Reads}
+use Rattle.x7_forms.specs.Turn.{ReadsBytes}
 use Rattle.x7_forms.proofs.read.skip_rest.Given as goal
 
 abbrev pub invariant-loop-turn : goal.invariant-loop-turn
@@ -12,7 +12,7 @@ invariant-loop-turn g l =
       ends : (i.state l.inputs).ends ≤ (i.state l.fn.inputs).ends;
       left : l.left ≤ l.limit;
       buffer : length l.buffer ≡ length l.fn.buffer;
-      known : (taken : List ℕ) × ((length taken + l.left ≡ l.limit) × Reads (i.state l.fn.inputs) taken (i.state l.inputs));
+      known : (taken : List ℕ) × ((length taken + l.left ≡ l.limit) × ReadsBytes (i.state l.fn.inputs) taken (i.state l.inputs));
     }
 
 abbrev pub decreases-loop-turn : goal.decreases-loop-turn

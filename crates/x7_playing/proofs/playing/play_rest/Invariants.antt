@@ -1,6 +1,6 @@
 use Rattle.std.proofs.Common.{◌≡◌, ℕ, List, ◌+◌, ◌≤◌, length, true}
 use Rattle.x7_words.specs.Input.{InputsStay}
-use Rattle.x7_forms.specs.Turn.{Reads, play_turn_size}
+use Rattle.x7_forms.specs.Turn.{ReadsBytes, play_turn_size}
 use Rattle.x7_playing.specs.Playing.{MayPlay, PlaysOn}
 use Rattle.x7_playing.proofs.playing.play_rest.Given as goal
 
@@ -14,7 +14,7 @@ invariant-loop-turn g l =
       left : l.left ≤ l.limit;
       piece : length l.piece ≡ play_turn_size;
       may : MayPlay l.player l.left;
-      known : (taken : List ℕ) × ((length taken + l.left ≡ l.limit) × PlaysOn l.fn.player l.player taken × Reads (i.state l.fn.inputs) taken (i.state l.inputs));
+      known : (taken : List ℕ) × ((length taken + l.left ≡ l.limit) × PlaysOn l.fn.player l.player taken × ReadsBytes (i.state l.fn.inputs) taken (i.state l.inputs));
     }
 
 abbrev pub decreases-loop-turn : goal.decreases-loop-turn

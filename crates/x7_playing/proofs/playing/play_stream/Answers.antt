@@ -67,7 +67,7 @@ pub returns-in_err-first-clause-refused : goal.returns-in_err-first-clause-refus
 returns-in_err-first-clause-refused g c = rw (handed_on c.from_residual-in_err-first.result c.in_err-first.field-0.0 c.from_residual-in_err-first.ensures) (λ flash.
     let i = g.I.Inputs in
     stream_unread (i.state c.args.inputs.now) (i.state c.open.new.inputs) (i.state c.next_turn.new.inputs) flash c.args.name.now c.args.limit (event_of c.in_err-first.field-0.0)
-    c.open.ensures.inputs c.in_ok-open.ensures.opened.found c.open.ensures.asks (inr (c.in_err-first.ensures.refused, c.next_turn.ensures.asked)))
+    c.open.ensures.inputs c.in_ok-open.ensures.opened.found c.open.ensures.asks (inr (c.in_err-first.ensures.refused, c.next_turn.ensures.gives_few.asked)))
 
 pub returns-else-is_err-clause-refused : goal.returns-else-is_err-clause-refused
 returns-else-is_err-clause-refused g c =
@@ -75,7 +75,7 @@ returns-else-is_err-clause-refused g c =
     let count = c.in_ok-first.first.count in
     let first = take count c.next_turn.new.buffer in
     let size : length first ≡ count = length-take-le count c.next_turn.new.buffer (omega (arith, c.in_ok-first.ensures.within.1, c.next_turn.ensures.length)) in
-    let reads = reads_first (i.state c.open.new.inputs) (i.state c.next_turn.new.inputs) first c.in_ok-first.ensures.takes c.next_turn.ensures.asked c.next_turn.ensures.inputs in
+    let reads = reads_first (i.state c.open.new.inputs) (i.state c.next_turn.new.inputs) first c.in_ok-first.ensures.takes c.next_turn.ensures.gives_few.asked c.next_turn.ensures.inputs in
     err_weaker c.play_rest.result (λ r h. λ flash.
     stream_unread (i.state c.args.inputs.now) (i.state c.open.new.inputs) (i.state c.play_rest.new.inputs) flash c.args.name.now c.args.limit (event_of r)
     c.open.ensures.inputs c.in_ok-open.ensures.opened.found c.open.ensures.asks
@@ -87,7 +87,7 @@ returns-in_err-skip_rest-in-Err-clause-refused g c = rw (handed_on c.from_residu
     let count = c.in_ok-first.first.count in
     let first = take count c.next_turn.new.buffer in
     let size : length first ≡ count = length-take-le count c.next_turn.new.buffer (omega (arith, c.in_ok-first.ensures.within.1, c.next_turn.ensures.length)) in
-    let reads = reads_first (i.state c.open.new.inputs) (i.state c.next_turn.new.inputs) first c.in_ok-first.ensures.takes c.next_turn.ensures.asked c.next_turn.ensures.inputs in
+    let reads = reads_first (i.state c.open.new.inputs) (i.state c.next_turn.new.inputs) first c.in_ok-first.ensures.takes c.next_turn.ensures.gives_few.asked c.next_turn.ensures.inputs in
     stream_unread (i.state c.args.inputs.now) (i.state c.open.new.inputs) (i.state c.skip_rest.new.inputs) flash c.args.name.now c.args.limit (event_of c.in_err-skip_rest-in-Err.field-0.0)
     c.open.ensures.inputs c.in_ok-open.ensures.opened.found c.open.ensures.asks
     (want_or_rest (i.state c.open.new.inputs) (i.state c.next_turn.new.inputs) (i.state c.skip_rest.new.inputs)
@@ -159,7 +159,7 @@ returns-else-is_err-clause-last_asked g c =
     let count = c.in_ok-first.first.count in
     let first = take count c.next_turn.new.buffer in
     let size : length first ≡ count = length-take-le count c.next_turn.new.buffer (omega (arith, c.in_ok-first.ensures.within.1, c.next_turn.ensures.length)) in
-    let reads = reads_first (i.state c.open.new.inputs) (i.state c.next_turn.new.inputs) first c.in_ok-first.ensures.takes c.next_turn.ensures.asked c.next_turn.ensures.inputs in
+    let reads = reads_first (i.state c.open.new.inputs) (i.state c.next_turn.new.inputs) first c.in_ok-first.ensures.takes c.next_turn.ensures.gives_few.asked c.next_turn.ensures.inputs in
     last_asked_rest c.args.name.now first c.args.limit (c.args.limit - count) (i.state c.open.new.inputs) (i.state c.next_turn.new.inputs) (i.state c.play_rest.new.inputs)
     c.open.ensures.asks reads (omega (arith, size, c.in_ok-first.ensures.within.0)) c.play_rest.ensures.gives_few
 
@@ -178,7 +178,7 @@ returns-in_err-skip_rest-in-Err-clause-last_asked g c =
     let count = c.in_ok-first.first.count in
     let first = take count c.next_turn.new.buffer in
     let size : length first ≡ count = length-take-le count c.next_turn.new.buffer (omega (arith, c.in_ok-first.ensures.within.1, c.next_turn.ensures.length)) in
-    let reads = reads_first (i.state c.open.new.inputs) (i.state c.next_turn.new.inputs) first c.in_ok-first.ensures.takes c.next_turn.ensures.asked c.next_turn.ensures.inputs in
+    let reads = reads_first (i.state c.open.new.inputs) (i.state c.next_turn.new.inputs) first c.in_ok-first.ensures.takes c.next_turn.ensures.gives_few.asked c.next_turn.ensures.inputs in
     last_asked_rest c.args.name.now first c.args.limit (c.args.limit - count) (i.state c.open.new.inputs) (i.state c.next_turn.new.inputs) (i.state c.skip_rest.new.inputs)
     c.open.ensures.asks reads (omega (arith, size, c.in_ok-first.ensures.within.0)) c.skip_rest.ensures.gives_few
 
@@ -197,7 +197,7 @@ returns-in_ok-skip_rest-in-Err-clause-last_asked g c =
     let count = c.in_ok-first.first.count in
     let first = take count c.next_turn.new.buffer in
     let size : length first ≡ count = length-take-le count c.next_turn.new.buffer (omega (arith, c.in_ok-first.ensures.within.1, c.next_turn.ensures.length)) in
-    let reads = reads_first (i.state c.open.new.inputs) (i.state c.next_turn.new.inputs) first c.in_ok-first.ensures.takes c.next_turn.ensures.asked c.next_turn.ensures.inputs in
+    let reads = reads_first (i.state c.open.new.inputs) (i.state c.next_turn.new.inputs) first c.in_ok-first.ensures.takes c.next_turn.ensures.gives_few.asked c.next_turn.ensures.inputs in
     last_asked_rest c.args.name.now first c.args.limit (c.args.limit - count) (i.state c.open.new.inputs) (i.state c.next_turn.new.inputs) (i.state c.skip_rest.new.inputs)
     c.open.ensures.asks reads (omega (arith, size, c.in_ok-first.ensures.within.0)) c.skip_rest.ensures.gives_few
 

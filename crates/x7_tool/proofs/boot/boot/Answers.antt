@@ -2,7 +2,7 @@ use Rattle.std.proofs.Common.{[], ◌∷◌, None, Some, inl, refl}
 use Rattle.x7_forms.specs.Form.{Booting}
 use Rattle.x7_forms.specs.Event.{event_of}
 use Rattle.x7_tool.specs.Play.{play_answer}
-use Rattle.x7_forms.specs.Step.{CameIn, seen, step_over}
+use Rattle.x7_forms.specs.Step.{CameIn, result_by, step_over}
 use Rattle.x7_tool.proofs.FlashLemmas.{boot_last, boot_measured, booted_ends, no_part_last, no_part_measured, part_good, part_refused}
 use Rattle.x7_forms.specs.Known.{part_limit}
 use Rattle.x7_tool.proofs.StopLemmas.{boot_stops, first_stops}
@@ -20,7 +20,7 @@ returns-clause-ready g c =
     let name = c.args.flash_name.now in
     let part_name = c.args.part.now in
     let part = c.in_ok-part.part in
-    let made = seen play_answer c.boot_from.result in
+    let made = result_by play_answer c.boot_from.result in
     let C = CameIn (step_over (part_name ∷ []) old new) in
     record {
       caused = λ before after. booted_ends (record before { inputs = old; flash = first }) (record after { inputs = new; flash = last }) name part_name part C made (c.in_ok-part.ensures.caused first.bytes) c.boot_from.ensures.caused;

@@ -8,7 +8,7 @@ use Rattle.x7_forms.proofs.ResultLemmas.{handed_on, err_weaker}
 use Rattle.x7_tool.specs.Debug.{debug_given}
 use Rattle.x7_tool.specs.Outcome.{DebugInputs, DebuggedAs, debug_inputs, script_limit}
 use Rattle.x7_tool.specs.Ready.{text_answer}
-use Rattle.x7_forms.specs.Step.{seen}
+use Rattle.x7_forms.specs.Step.{result_by}
 use Rattle.x7_tool.proofs.ReadyLemmas.{debug_due}
 use Rattle.x7_tool.proofs.StopLemmas.{debug_about, result_stops, among_stops, third_stops}
 use Rattle.x7_tool.proofs.debug.debug.Goals as goal
@@ -23,7 +23,7 @@ returns g c =
     let given = debug_given c.in_ok-given.given in
     let made = c.text_of.result in
     record {
-      caused = answers_by DebugInputs Answer (part ∷ stream ∷ script ∷ []) old new (λ t. debug_inputs t part stream script) given (DebuggedAs script) (seen text_answer made) c.in_ok-given.ensures.caused (debug_due script given made c.text_of.ensures.text c.text_of.ensures.refused);
+      caused = answers_by DebugInputs Answer (part ∷ stream ∷ script ∷ []) old new (λ t. debug_inputs t part stream script) given (DebuggedAs script) (result_by text_answer made) c.in_ok-given.ensures.caused (debug_due script given made c.text_of.ensures.text c.text_of.ensures.refused);
       stops = result_stops text_answer (Debugging part stream script) old new made (err_weaker made
           (λ r h. third_stops (Debugging part stream script) (limited part_limit part) (limited stream_limit stream) (limited script_limit script) [] old new (event_of r) refl c.in_ok-given.ensures.last_asked c.read_given.ensures.asks (debug_about script given (event_of r) h))
           c.text_of.ensures.refused);

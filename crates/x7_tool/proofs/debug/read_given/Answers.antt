@@ -19,8 +19,10 @@ returns-in_err-stream-clause-caused g c = rw (handed_on c.from_residual-in_err-s
     let script = c.args.script.now in
     let event = event_of c.in_err-stream.field-0.0 in
     answers_go PartData DebugInputs (part ∷ []) (stream ∷ []) (part ∷ stream ∷ script ∷ []) (i.state c.args.inputs.now) (i.state c.read_part.new.inputs) (i.state c.read_data.new.inputs) (λ t. part_known t part)
-    (λ t p. and_so (stream_data t stream) (λ bytes. and_so (whole_known t script_limit script) (λ text. Ok (record { part = p; stream = bytes; script = text })))) c.in_ok-part.part (Err event) (part_steady part) c.read_part.ensures.inputs (λ n h. inr (first_of stream (script ∷ []) n h)) c.in_ok-part.ensures.caused
-    (answers_stop (List ℕ) DebugInputs (stream ∷ []) (stream ∷ []) (i.state c.read_part.new.inputs) (i.state c.read_data.new.inputs) (λ t. stream_data t stream) (λ t bytes. and_so (whole_known t script_limit script) (λ text. Ok (record { part = c.in_ok-part.part; stream = bytes; script = text }))) event (λ n h. h) c.in_err-stream.ensures.caused))
+    (λ t p. and_so (stream_data t stream) (λ bytes. and_so (whole_known t script_limit script) (λ text. Ok (record { part = p; stream = bytes; script = text })))) c.in_ok-part.part (Err event)
+    (part_steady part) c.read_part.ensures.inputs (λ n h. inr (first_of stream (script ∷ []) n h)) c.in_ok-part.ensures.caused
+    (answers_stop (List ℕ) DebugInputs (stream ∷ []) (stream ∷ []) (i.state c.read_part.new.inputs) (i.state c.read_data.new.inputs) (λ t. stream_data t stream)
+    (λ t bytes. and_so (whole_known t script_limit script) (λ text. Ok (record { part = c.in_ok-part.part; stream = bytes; script = text }))) event (λ n h. h) c.in_err-stream.ensures.caused))
 
 pub returns-in_err-script-clause-caused : goal.returns-in_err-script-clause-caused
 returns-in_err-script-clause-caused g c = rw (handed_on c.from_residual-in_err-script.result c.in_err-script.field-0.0 c.from_residual-in_err-script.ensures) (let i = g.I.Inputs in
@@ -33,7 +35,8 @@ returns-in_err-script-clause-caused g c = rw (handed_on c.from_residual-in_err-s
     let event = event_of c.in_err-script.field-0.0 in
     answers_go PartData DebugInputs (part ∷ []) (stream ∷ script ∷ []) (part ∷ stream ∷ script ∷ []) (i.state c.args.inputs.now) first last (λ t. part_known t part)
     (λ t p. and_so (stream_data t stream) (λ bytes. and_so (whole_known t script_limit script) (λ text. Ok (record { part = p; stream = bytes; script = text })))) c.in_ok-part.part (Err event) (part_steady part) c.read_part.ensures.inputs (λ n h. inr h) c.in_ok-part.ensures.caused
-    (answers_go (List ℕ) DebugInputs (stream ∷ []) (script ∷ []) (stream ∷ script ∷ []) first second last (λ t. stream_data t stream) (λ t bytes. and_so (whole_known t script_limit script) (λ text. Ok (record { part = c.in_ok-part.part; stream = bytes; script = text }))) c.in_ok-stream.stream.items (Err event)
+    (answers_go (List ℕ) DebugInputs (stream ∷ []) (script ∷ []) (stream ∷ script ∷ []) first second last (λ t. stream_data t stream)
+    (λ t bytes. and_so (whole_known t script_limit script) (λ text. Ok (record { part = c.in_ok-part.part; stream = bytes; script = text }))) c.in_ok-stream.stream.items (Err event)
     (stream_steady stream) c.read_data.ensures.inputs (λ n h. inr h) c.in_ok-stream.ensures.caused
     (answers_stop (List ℕ) DebugInputs (script ∷ []) (script ∷ []) second last (λ t. whole_known t script_limit script) (λ t text. Ok (record { part = c.in_ok-part.part; stream = c.in_ok-stream.stream.items; script = text })) event (λ n h. h) c.in_err-script.ensures.caused)))
 
@@ -46,13 +49,27 @@ returns-in_err-part-clause-caused g c = rw (handed_on c.from_residual.result c.i
     (λ t p. and_so (stream_data t stream) (λ bytes. and_so (whole_known t script_limit script) (λ text. Ok (record { part = p; stream = bytes; script = text })))) (event_of c.in_err-part.field-0.0) (first_of part (stream ∷ script ∷ [])) c.in_err-part.ensures.caused)
 
 pub returns-in_err-part-clause-stops : goal.returns-in_err-part-clause-stops
-returns-in_err-part-clause-stops g c = rw (handed_on c.from_residual.result c.in_err-part.field-0.0 c.from_residual.ensures) (about_among (limited part_limit c.args.part.now ∷ limited stream_limit c.args.stream.now ∷ limited script_limit c.args.script.now ∷ []) [] (limited part_limit c.args.part.now) (limited stream_limit c.args.stream.now ∷ limited script_limit c.args.script.now ∷ []) (g.I.Inputs.state c.args.inputs.now) (g.I.Inputs.state c.read_part.new.inputs) (event_of c.in_err-part.field-0.0) refl c.read_part.ensures.last_asked c.read_part.ensures.asks (no_part_about c.args.part.now (event_of c.in_err-part.field-0.0) c.in_err-part.ensures.named))
+returns-in_err-part-clause-stops g c = rw (handed_on c.from_residual.result c.in_err-part.field-0.0 c.from_residual.ensures)
+    (about_among (limited part_limit c.args.part.now ∷ limited stream_limit c.args.stream.now ∷ limited script_limit c.args.script.now ∷ []) [] (limited part_limit c.args.part.now)
+    (limited stream_limit c.args.stream.now ∷ limited script_limit c.args.script.now ∷ []) (g.I.Inputs.state c.args.inputs.now) (g.I.Inputs.state c.read_part.new.inputs)
+    (event_of c.in_err-part.field-0.0) refl c.read_part.ensures.last_asked c.read_part.ensures.asks (no_part_about c.args.part.now (event_of c.in_err-part.field-0.0) c.in_err-part.ensures.named))
 
 pub returns-in_err-stream-clause-stops : goal.returns-in_err-stream-clause-stops
-returns-in_err-stream-clause-stops g c = rw (handed_on c.from_residual-in_err-stream.result c.in_err-stream.field-0.0 c.from_residual-in_err-stream.ensures) (about_among (limited part_limit c.args.part.now ∷ limited stream_limit c.args.stream.now ∷ limited script_limit c.args.script.now ∷ []) (limited part_limit c.args.part.now ∷ []) (limited stream_limit c.args.stream.now) (limited script_limit c.args.script.now ∷ []) (g.I.Inputs.state c.args.inputs.now) (g.I.Inputs.state c.read_data.new.inputs) (event_of c.in_err-stream.field-0.0) refl c.read_data.ensures.last_asked (both_asked (g.I.Inputs.state c.args.inputs.now) (g.I.Inputs.state c.read_part.new.inputs) (g.I.Inputs.state c.read_data.new.inputs) c.read_part.ensures.asks c.read_data.ensures.asks) (unplayed_about c.args.stream.now (event_of c.in_err-stream.field-0.0) c.in_err-stream.ensures.named))
+returns-in_err-stream-clause-stops g c = rw (handed_on c.from_residual-in_err-stream.result c.in_err-stream.field-0.0 c.from_residual-in_err-stream.ensures)
+    (about_among (limited part_limit c.args.part.now ∷ limited stream_limit c.args.stream.now ∷ limited script_limit c.args.script.now ∷ []) (limited part_limit c.args.part.now ∷ []) (limited stream_limit c.args.stream.now)
+    (limited script_limit c.args.script.now ∷ []) (g.I.Inputs.state c.args.inputs.now) (g.I.Inputs.state c.read_data.new.inputs)
+    (event_of c.in_err-stream.field-0.0) refl c.read_data.ensures.last_asked
+    (both_asked (g.I.Inputs.state c.args.inputs.now) (g.I.Inputs.state c.read_part.new.inputs) (g.I.Inputs.state c.read_data.new.inputs) c.read_part.ensures.asks c.read_data.ensures.asks)
+    (unplayed_about c.args.stream.now (event_of c.in_err-stream.field-0.0) c.in_err-stream.ensures.named))
 
 pub returns-in_err-script-clause-stops : goal.returns-in_err-script-clause-stops
-returns-in_err-script-clause-stops g c = rw (handed_on c.from_residual-in_err-script.result c.in_err-script.field-0.0 c.from_residual-in_err-script.ensures) (about_among (limited part_limit c.args.part.now ∷ limited stream_limit c.args.stream.now ∷ limited script_limit c.args.script.now ∷ []) (limited part_limit c.args.part.now ∷ limited stream_limit c.args.stream.now ∷ []) (limited script_limit c.args.script.now) [] (g.I.Inputs.state c.args.inputs.now) (g.I.Inputs.state c.read_whole.new.inputs) (event_of c.in_err-script.field-0.0) refl c.read_whole.ensures.last_asked (all_asked (g.I.Inputs.state c.args.inputs.now) (g.I.Inputs.state c.read_part.new.inputs) (g.I.Inputs.state c.read_data.new.inputs) (g.I.Inputs.state c.read_whole.new.inputs) c.read_part.ensures.asks c.read_data.ensures.asks c.read_whole.ensures.asks) (unread_about c.args.script.now (event_of c.in_err-script.field-0.0) c.in_err-script.ensures.named))
+returns-in_err-script-clause-stops g c = rw (handed_on c.from_residual-in_err-script.result c.in_err-script.field-0.0 c.from_residual-in_err-script.ensures)
+    (about_among (limited part_limit c.args.part.now ∷ limited stream_limit c.args.stream.now ∷ limited script_limit c.args.script.now ∷ []) (limited part_limit c.args.part.now ∷ limited stream_limit c.args.stream.now ∷ [])
+    (limited script_limit c.args.script.now) [] (g.I.Inputs.state c.args.inputs.now) (g.I.Inputs.state c.read_whole.new.inputs)
+    (event_of c.in_err-script.field-0.0) refl c.read_whole.ensures.last_asked
+    (all_asked (g.I.Inputs.state c.args.inputs.now) (g.I.Inputs.state c.read_part.new.inputs) (g.I.Inputs.state c.read_data.new.inputs)
+    (g.I.Inputs.state c.read_whole.new.inputs) c.read_part.ensures.asks c.read_data.ensures.asks c.read_whole.ensures.asks) (unread_about c.args.script.now
+    (event_of c.in_err-script.field-0.0) c.in_err-script.ensures.named))
 
 pub returns-clause-caused : goal.returns-clause-caused
 returns-clause-caused g c =

@@ -46,7 +46,16 @@ loop-read-preserved g c =
       once = once_on _ _ _ v.once c.in_ok-turn.ensures.takes.selects (c.in_ok-turn.ensures.no_end_read c.if-turn.false);
       left = omega (arith, v.left);
       piece = c.next_turn.ensures.length ∙ v.piece;
-      known = (taken ++ piece, (sel, c.take_turn-read.ensures c.args.taker taken fits v.known.1.1, omega (arith, size, v.known.1.2, c.in_ok-turn.ensures.within.0), at_on name taken piece (i.state c.loop-read.inputs) (i.state c.next_turn.new.inputs) v.known.1.3 c.in_ok-turn.ensures.takes c.next_turn.ensures.asked));
+      known = (
+        taken ++ piece,
+        (
+          sel,
+          c.take_turn-read.ensures c.args.taker taken fits v.known.1.1,
+          omega (arith, size, v.known.1.2, c.in_ok-turn.ensures.within.0),
+          at_on name taken piece (i.state c.loop-read.inputs)
+              (i.state c.next_turn.new.inputs) v.known.1.3 c.in_ok-turn.ensures.takes c.next_turn.ensures.gives_few.asked,
+        ),
+      );
     }
 
 pub returns-in_err-open-clause-refused : goal.returns-in_err-open-clause-refused
@@ -59,13 +68,14 @@ returns-in_err-turn-clause-refused g c = rw (handed_on c.from_residual-in_err-tu
     let i = g.I.Inputs in
     let v = c.loop-read.invariant in
     turn_refused (i.state c.args.inputs.now) (i.state c.loop-read.inputs) (i.state c.next_turn.new.inputs) flash c.args.name.now v.known.0 text_limit c.loop-read.left (event_of c.in_err-turn.field-0.0)
-    v.inputs v.known.1.0 v.known.1.3 v.known.1.2 c.in_err-turn.ensures.refused c.next_turn.ensures.asked)
+    v.inputs v.known.1.0 v.known.1.3 v.known.1.2 c.in_err-turn.ensures.refused c.next_turn.ensures.gives_few.asked)
 
 pub returns-in_err-open-clause-named : goal.returns-in_err-open-clause-named
 returns-in_err-open-clause-named g c = rw (handed_on c.from_residual.result c.in_err-open.field-0.0 c.from_residual.ensures) (unopened_unread (g.I.Inputs.state c.args.inputs.now) (g.I.Inputs.state c.open.new.inputs) c.args.name.now (event_of c.in_err-open.field-0.0) c.in_err-open.ensures.refused)
 
 pub returns-in_err-turn-clause-named : goal.returns-in_err-turn-clause-named
-returns-in_err-turn-clause-named g c = rw (handed_on c.from_residual-in_err-turn.result c.in_err-turn.field-0.0 c.from_residual-in_err-turn.ensures) (turn_unread (g.I.Inputs.state c.loop-read.inputs) (g.I.Inputs.state c.next_turn.new.inputs) c.args.name.now c.loop-read.left (event_of c.in_err-turn.field-0.0) c.in_err-turn.ensures.refused)
+returns-in_err-turn-clause-named g c = rw (handed_on c.from_residual-in_err-turn.result c.in_err-turn.field-0.0 c.from_residual-in_err-turn.ensures)
+    (turn_unread (g.I.Inputs.state c.loop-read.inputs) (g.I.Inputs.state c.next_turn.new.inputs) c.args.name.now c.loop-read.left (event_of c.in_err-turn.field-0.0) c.in_err-turn.ensures.refused)
 
 pub returns-in_err-open-clause-last_asked : goal.returns-in_err-open-clause-last_asked
 returns-in_err-open-clause-last_asked g c = last_asked_opened c.args.name.now text_limit (g.I.Inputs.state c.open.new.inputs) c.open.ensures.asks

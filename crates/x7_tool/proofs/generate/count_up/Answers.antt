@@ -11,6 +11,6 @@ loop-i-preserved c =
     let inside : i < length c.loop-i.frame.items = omega (arith, c.loop-i-test.true, c.len-i-end.ensures, v.length) in
     record {
       length = length-set c.loop-i.frame.items i word ∙ v.length;
-      prefix = take_more_set c.loop-i.frame.items i word inside ∙ ap (λ (t : List ℕ). t ++ word ∷ []) v.prefix ∙ sym (counted_more c.args.n i word v.word);
+      prefix = take_more_set c.loop-i.frame.items i word inside ∙ ap (λ (t : List ℕ). t ++ word ∷ []) v.prefix ∙ sym (counted_more c.args.first i word v.word);
       word = omega (arith, v.word);
     }

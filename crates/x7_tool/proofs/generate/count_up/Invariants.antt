@@ -5,6 +5,6 @@ use Rattle.x7_tool.proofs.generate.count_up.Given as goal
 abbrev pub invariant-loop-i : goal.invariant-loop-i
 invariant-loop-i l = record {
   length : length l.frame.items ≡ length l.fn.frame.items;
-  prefix : take l.i l.frame.items ≡ counted l.i l.n;
-  word : l.word ≡ (l.n + l.i) % 2 ^ 32;
+  prefix : take l.i l.frame.items ≡ counted l.i l.first;
+  word : l.word ≡ (l.first + l.i) % 2 ^ 32;
 }

@@ -4,7 +4,7 @@ use Rattle.x7_forms.specs.Form.{Generating}
 use Rattle.x7_forms.specs.Known.{Answer, part_limit, part_known}
 use Rattle.x7_forms.specs.Event.{event_of}
 use Rattle.x7_forms.specs.ReadingStops.{limited}
-use Rattle.x7_forms.specs.Step.{seen}
+use Rattle.x7_forms.specs.Step.{result_by}
 use Rattle.x7_forms.proofs.ReadLemmas.{answers_end, answers_stop, part_steady}
 use Rattle.x7_forms.proofs.AskedLemmas.{no_part_about}
 use Rattle.x7_tool.specs.Outcome.{gen_answer}
@@ -36,7 +36,7 @@ returns g c =
     let part = c.in_ok-part.part in
     let made = c.summary_of.result in
     record {
-      caused = answers_end PartData Answer (name ∷ []) old new (λ t. part_known t name) (λ p. Ok (gen_answer p seed)) part (seen bytes_answer made) (part_steady name) c.in_ok-part.ensures.caused (made_due (gen_answer part seed) made c.summary_of.ensures.text c.summary_of.ensures.refused);
+      caused = answers_end PartData Answer (name ∷ []) old new (λ t. part_known t name) (λ p. Ok (gen_answer p seed)) part (result_by bytes_answer made) (part_steady name) c.in_ok-part.ensures.caused (made_due (gen_answer part seed) made c.summary_of.ensures.text c.summary_of.ensures.refused);
       stops = want_only bytes_answer (Generating name seed) old new made c.summary_of.ensures.refused;
       asks = c.read_part.ensures.asks;
       stays = c.read_part.ensures.inputs;

@@ -9,5 +9,5 @@ invariant-loop-rank l = record {
   within : l.rank ≤ length (addresses_in l.part);
   room : length l.frame.items ≡ frame_words l.part;
   width : l.draft.width ≡ frame_words l.part;
-  rows : l.draft.rows ++ rows_after (frame_words l.part) l.n (drop l.rank (addresses_in l.part)) ≡ (generated l.part l.seed).rows;
+  rows : l.draft.rows ++ rows_after (frame_words l.part) l.number (drop l.rank (addresses_in l.part)) ≡ (generated l.part l.seed).rows;
 }

@@ -3,7 +3,7 @@ use Rattle.x7_forms.specs.Form.{Imaging}
 use Rattle.x7_forms.specs.Known.{Answer, stream_limit}
 use Rattle.x7_forms.specs.Event.{event_of}
 use Rattle.x7_forms.specs.ReadingStops.{limited}
-use Rattle.x7_forms.specs.Step.{seen}
+use Rattle.x7_forms.specs.Step.{result_by}
 use Rattle.x7_forms.proofs.ReadLemmas.{answers_end, answers_stop}
 use Rattle.x7_forms.proofs.ResultLemmas.{handed_on, err_weaker}
 use Rattle.x7_tool.specs.Outcome.{ImageStreams, image_by, image_streams}
@@ -22,7 +22,8 @@ returns g c =
     let streams = streams_of c.in_ok-streams.streams in
     let made = c.image_by_bytes.result in
     record {
-      caused = answers_end ImageStreams Answer (golden ∷ update ∷ []) old new (λ t. image_streams t golden update) (image_by update 1) streams (seen bytes_answer made) (streams_steady golden update) c.in_ok-streams.ensures.caused (image_due update 1 streams made c.image_by_bytes.ensures.text c.image_by_bytes.ensures.refused);
+      caused = answers_end ImageStreams Answer (golden ∷ update ∷ []) old new (λ t. image_streams t golden update) (image_by update 1) streams (result_by bytes_answer made)
+          (streams_steady golden update) c.in_ok-streams.ensures.caused (image_due update 1 streams made c.image_by_bytes.ensures.text c.image_by_bytes.ensures.refused);
       stops = result_stops bytes_answer (Imaging golden update) old new made (err_weaker made
           (λ r a. second_stops (Imaging golden update) (limited stream_limit golden) (limited stream_limit update) [] old new (event_of r) refl c.in_ok-streams.ensures.last_asked c.read_streams.ensures.asks a) c.image_by_bytes.ensures.named);
       asks = c.read_streams.ensures.asks;

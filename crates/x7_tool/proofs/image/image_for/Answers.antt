@@ -5,7 +5,7 @@ use Rattle.x7_forms.specs.Form.{ImagingFor}
 use Rattle.x7_forms.specs.Known.{Answer, and_so, part_limit, part_known, stream_limit}
 use Rattle.x7_forms.specs.Event.{event_of}
 use Rattle.x7_forms.specs.ReadingStops.{limited}
-use Rattle.x7_forms.specs.Step.{seen}
+use Rattle.x7_forms.specs.Step.{result_by}
 use Rattle.x7_forms.proofs.ReadLemmas.{answers_end, answers_go, answers_stop, first_of, part_steady}
 use Rattle.x7_forms.proofs.ResultLemmas.{handed_on, err_weaker}
 use Rattle.x7_forms.proofs.AskedLemmas.{stops_after, no_part_about}
@@ -43,9 +43,9 @@ returns g c =
     let made = c.image_by_part.result in
     let asks = few_on old mid new 1 2 c.read_part.ensures.asks c.read_streams.ensures.asks in
     record {
-      caused = answers_go PartData Answer (part ∷ []) (golden ∷ update ∷ []) (part ∷ golden ∷ update ∷ []) old mid new (λ t. part_known t part) (λ t p. and_so (image_streams t golden update) (image_by update p.start_unit)) known (seen bytes_answer made)
+      caused = answers_go PartData Answer (part ∷ []) (golden ∷ update ∷ []) (part ∷ golden ∷ update ∷ []) old mid new (λ t. part_known t part) (λ t p. and_so (image_streams t golden update) (image_by update p.start_unit)) known (result_by bytes_answer made)
           (part_steady part) c.read_part.ensures.inputs (λ n h. inr h) c.in_ok-part.ensures.caused
-          (answers_end ImageStreams Answer (golden ∷ update ∷ []) mid new (λ t. image_streams t golden update) (image_by update known.start_unit) streams (seen bytes_answer made) (streams_steady golden update) c.in_ok-streams.ensures.caused
+          (answers_end ImageStreams Answer (golden ∷ update ∷ []) mid new (λ t. image_streams t golden update) (image_by update known.start_unit) streams (result_by bytes_answer made) (streams_steady golden update) c.in_ok-streams.ensures.caused
           (image_due update known.start_unit streams made c.image_by_part.ensures.text c.image_by_part.ensures.refused));
       stops = result_stops bytes_answer (ImagingFor part golden update) old new made (err_weaker made
           (λ r a. third_stops (ImagingFor part golden update) (limited part_limit part) (limited stream_limit golden) (limited stream_limit update) [] old new (event_of r) refl c.in_ok-streams.ensures.last_asked asks a) c.image_by_part.ensures.named);

@@ -30,10 +30,17 @@ returns-in_err-update-clause-caused g c = rw (handed_on c.from_residual-in_err-u
     (answers_stop (List ℕ) ImageStreams (update ∷ []) (update ∷ []) (i.state c.read_stream.new.inputs) (i.state c.read_stream-2.new.inputs) (λ t. stream_data t update) (λ t second. Ok (record { golden = first; update = second })) event (λ n h. h) c.in_err-update.ensures.caused))
 
 pub returns-in_err-golden-clause-stops : goal.returns-in_err-golden-clause-stops
-returns-in_err-golden-clause-stops g c = rw (handed_on c.from_residual.result c.in_err-golden.field-0.0 c.from_residual.ensures) (about_among (limited stream_limit c.args.golden.now ∷ limited stream_limit c.args.update.now ∷ []) [] (limited stream_limit c.args.golden.now) (limited stream_limit c.args.update.now ∷ []) (g.I.Inputs.state c.args.inputs.now) (g.I.Inputs.state c.read_stream.new.inputs) (event_of c.in_err-golden.field-0.0) refl c.read_stream.ensures.last_asked c.read_stream.ensures.asks (unplayed_about c.args.golden.now (event_of c.in_err-golden.field-0.0) c.in_err-golden.ensures.named))
+returns-in_err-golden-clause-stops g c = rw (handed_on c.from_residual.result c.in_err-golden.field-0.0 c.from_residual.ensures)
+    (about_among (limited stream_limit c.args.golden.now ∷ limited stream_limit c.args.update.now ∷ []) [] (limited stream_limit c.args.golden.now) (limited stream_limit c.args.update.now ∷ []) (g.I.Inputs.state c.args.inputs.now)
+    (g.I.Inputs.state c.read_stream.new.inputs) (event_of c.in_err-golden.field-0.0) refl c.read_stream.ensures.last_asked c.read_stream.ensures.asks
+    (unplayed_about c.args.golden.now (event_of c.in_err-golden.field-0.0) c.in_err-golden.ensures.named))
 
 pub returns-in_err-update-clause-stops : goal.returns-in_err-update-clause-stops
-returns-in_err-update-clause-stops g c = rw (handed_on c.from_residual-in_err-update.result c.in_err-update.field-0.0 c.from_residual-in_err-update.ensures) (about_among (limited stream_limit c.args.golden.now ∷ limited stream_limit c.args.update.now ∷ []) (limited stream_limit c.args.golden.now ∷ []) (limited stream_limit c.args.update.now) [] (g.I.Inputs.state c.args.inputs.now) (g.I.Inputs.state c.read_stream-2.new.inputs) (event_of c.in_err-update.field-0.0) refl c.read_stream-2.ensures.last_asked (both_asked (g.I.Inputs.state c.args.inputs.now) (g.I.Inputs.state c.read_stream.new.inputs) (g.I.Inputs.state c.read_stream-2.new.inputs) c.read_stream.ensures.asks c.read_stream-2.ensures.asks) (unplayed_about c.args.update.now (event_of c.in_err-update.field-0.0) c.in_err-update.ensures.named))
+returns-in_err-update-clause-stops g c = rw (handed_on c.from_residual-in_err-update.result c.in_err-update.field-0.0 c.from_residual-in_err-update.ensures)
+    (about_among (limited stream_limit c.args.golden.now ∷ limited stream_limit c.args.update.now ∷ []) (limited stream_limit c.args.golden.now ∷ []) (limited stream_limit c.args.update.now) [] (g.I.Inputs.state c.args.inputs.now)
+    (g.I.Inputs.state c.read_stream-2.new.inputs) (event_of c.in_err-update.field-0.0) refl c.read_stream-2.ensures.last_asked
+    (both_asked (g.I.Inputs.state c.args.inputs.now) (g.I.Inputs.state c.read_stream.new.inputs) (g.I.Inputs.state c.read_stream-2.new.inputs) c.read_stream.ensures.asks c.read_stream-2.ensures.asks)
+    (unplayed_about c.args.update.now (event_of c.in_err-update.field-0.0) c.in_err-update.ensures.named))
 
 pub returns-clause-caused : goal.returns-clause-caused
 returns-clause-caused g c =

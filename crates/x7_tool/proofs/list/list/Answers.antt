@@ -14,7 +14,7 @@ use Rattle.x7_forms.specs.declared.refusal.Refusal.{Refusal}
 use Rattle.x7_forms.specs.Form.{Listing}
 use Rattle.x7_tool.specs.Ahead.{StaysNear}
 use Rattle.x7_tool.specs.Run.{ListsSoFar}
-use Rattle.x7_tool.specs.Between.{Lists, ListsStream}
+use Rattle.x7_tool.specs.Between.{ListsInTurns, ListsStream}
 use Rattle.x7_forms.specs.Turn.{FollowsUnlessLast, longest_beginning, turn_size}
 use Rattle.x7_tool.proofs.AheadLemmas.{prefix_given, prefix_near, longer_prefix, longer_twice, same_now, stays_near, turn_given, turn_near, without_prefix_near, unopened_near, unread_near, unwritten_near, why_weaker}
 use Rattle.x7_tool.proofs.Causes.{Ended, PutsListed, both_err, ends_same, list_ends, list_seen, listed_whole, nothing_put, nothing_taken, out_of_memory, without_prefix, unopened}
@@ -38,7 +38,9 @@ returns-in_err-open g c = rw (handed_on c.from_residual.result c.in_err-open.fie
     record {
       ends = list_ends stream old new (Err event) (unopened old.inputs new.inputs old.flash.bytes stream (SinkFails old.out new.out) old.out.written event c.in_err-open.ensures.refused c.open.ensures.asks)
           (stays_near event stream old new (unopened_near old.inputs.contents stream new.inputs.rest old.out.written new.out.written old.inputs new.inputs stream event c.open.ensures.asks (same_now old.out) c.in_err-open.ensures.refused));
-      stops = first_stops (Listing c.args.stream.now) (limited stream_limit c.args.stream.now) [] (g.I.Inputs.state c.args.inputs.now) (g.I.Inputs.state c.open.new.inputs) (event_of c.in_err-open.field-0.0) refl (last_asked_opened c.args.stream.now stream_limit (g.I.Inputs.state c.open.new.inputs) c.open.ensures.asks) asks (unopened_about (g.I.Inputs.state c.args.inputs.now) (g.I.Inputs.state c.open.new.inputs) c.args.stream.now (event_of c.in_err-open.field-0.0) c.in_err-open.ensures.refused);
+      stops = first_stops (Listing c.args.stream.now) (limited stream_limit c.args.stream.now) [] (g.I.Inputs.state c.args.inputs.now) (g.I.Inputs.state c.open.new.inputs)
+          (event_of c.in_err-open.field-0.0) refl (last_asked_opened c.args.stream.now stream_limit (g.I.Inputs.state c.open.new.inputs) c.open.ensures.asks) asks
+          (unopened_about (g.I.Inputs.state c.args.inputs.now) (g.I.Inputs.state c.open.new.inputs) c.args.stream.now (event_of c.in_err-open.field-0.0) c.in_err-open.ensures.refused);
       judges = tt;
       asks = asks;
       stays = c.open.ensures.inputs;
@@ -56,8 +58,14 @@ returns-in_err-beginning g c = rw (handed_on c.from_residual-in_err-beginning.re
     record {
       ends = list_ends stream old new (Err event)
           (without_prefix old.inputs (i.state c.open.new.inputs) new.inputs old.flash.bytes stream (SinkFails old.out new.out) old.out.written event c.open.ensures.inputs c.in_ok-open.ensures.opened.found c.open.ensures.asks c.in_err-beginning.ensures.refused)
-          (stays_near event stream old new (without_prefix_near old.inputs.contents stream new.inputs.rest old.out.written new.out.written (i.state c.open.new.inputs) new.inputs stream event refl c.in_ok-open.ensures.opened.found c.open.ensures.asks c.read_beginning.ensures.short (same_now old.out) c.in_err-beginning.ensures.refused));
-      stops = first_stops (Listing c.args.stream.now) (limited stream_limit c.args.stream.now) [] (g.I.Inputs.state c.args.inputs.now) (g.I.Inputs.state c.read_beginning.new.inputs) (event_of c.in_err-beginning.field-0.0) refl (last_asked_read c.args.stream.now stream_limit (g.I.Inputs.state c.open.new.inputs) (g.I.Inputs.state c.read_beginning.new.inputs) c.open.ensures.asks c.read_beginning.ensures.gives_few) asks (without_prefix_about (g.I.Inputs.state c.open.new.inputs) (g.I.Inputs.state c.read_beginning.new.inputs) c.args.stream.now (event_of c.in_err-beginning.field-0.0) c.in_err-beginning.ensures.refused);
+          (stays_near event stream old new (without_prefix_near old.inputs.contents stream new.inputs.rest old.out.written new.out.written
+          (i.state c.open.new.inputs) new.inputs stream event refl c.in_ok-open.ensures.opened.found c.open.ensures.asks c.read_beginning.ensures.short
+          (same_now old.out) c.in_err-beginning.ensures.refused));
+      stops = first_stops (Listing c.args.stream.now) (limited stream_limit c.args.stream.now) [] (g.I.Inputs.state c.args.inputs.now) (g.I.Inputs.state c.read_beginning.new.inputs)
+          (event_of c.in_err-beginning.field-0.0) refl
+          (last_asked_read c.args.stream.now stream_limit (g.I.Inputs.state c.open.new.inputs) (g.I.Inputs.state c.read_beginning.new.inputs) c.open.ensures.asks c.read_beginning.ensures.gives_few)
+          asks (without_prefix_about (g.I.Inputs.state c.open.new.inputs) (g.I.Inputs.state c.read_beginning.new.inputs) c.args.stream.now
+          (event_of c.in_err-beginning.field-0.0) c.in_err-beginning.ensures.refused);
       judges = tt;
       asks = asks;
       stays = stays_on _ _ _ c.open.ensures.inputs c.read_beginning.ensures.inputs;
@@ -82,7 +90,9 @@ returns-in_err-put_beginning g c = rw (handed_on c.from_residual-in_err-put_begi
     let cut : content ≡ drop start taken = take_all (length bytes - start) (drop start bytes) (omega (arith, length-drop start bytes)) ∙ ap (drop start) c.deref.ensures.value in
     let rest = (i.state c.read_beginning.new.inputs).rest in
     let sel : RestIsWhole contents stream (preceded taken rest) = subst (λ r. RestIsWhole contents stream r) f.reads.takes.taken c.in_ok-open.ensures.opened.found in
-    let listing : (left : List ℕ) → FollowsUnlessLast last left → stream_listing (taken ++ left) ≡ Ok (line ++ listing_of (content ++ left)) = λ left m. f.begins left m ∙ ap (λ (l : List ℕ). Ok (l ++ listing_of (drop start taken ++ left))) (sym c.deref-line.ensures.value) ∙ ap (λ (s : List ℕ). Ok (line ++ listing_of (s ++ left))) (sym cut) in
+    let listing : (left : List ℕ) → FollowsUnlessLast last left
+    → stream_listing (taken ++ left) ≡ Ok (line ++ listing_of (content ++ left)) = λ left m. f.begins left m
+    ∙ ap (λ (l : List ℕ). Ok (l ++ listing_of (drop start taken ++ left))) (sym c.deref-line.ensures.value) ∙ ap (λ (s : List ℕ). Ok (line ++ listing_of (s ++ left))) (sym cut) in
     let now = (o.state c.put_beginning.new.out).written in
     let Full : Type 0 = SinkFails (o.state c.args.out.now) (o.state c.put_beginning.new.out) in
     let r = event_of c.in_err-put_beginning.field-0.0 in
@@ -99,7 +109,10 @@ returns-in_err-put_beginning g c = rw (handed_on c.from_residual-in_err-put_begi
     let near = unwritten_near contents stream rest old now _ given r (prefix_given contents stream given old now few longer) (prefix_near contents stream taken rest old now sel f.short longer) c.in_err-put_beginning.ensures.refused in
     let asks = few_read (i.state c.args.inputs.now) (i.state c.open.new.inputs) (i.state c.read_beginning.new.inputs) stream_limit c.open.ensures.once c.read_beginning.ensures.gives_few in
     record {
-      ends = list_ends stream (record before { inputs = i.state c.args.inputs.now; out = o.state c.args.out.now }) (record after { inputs = i.state c.read_beginning.new.inputs; out = o.state c.put_beginning.new.out }) (Err r) (end c.in_err-put_beginning.ensures.refused) (stays_near r stream (record before { inputs = i.state c.args.inputs.now; out = o.state c.args.out.now }) (record after { inputs = i.state c.read_beginning.new.inputs; out = o.state c.put_beginning.new.out }) near);
+      ends = list_ends stream (record before { inputs = i.state c.args.inputs.now; out = o.state c.args.out.now })
+          (record after { inputs = i.state c.read_beginning.new.inputs; out = o.state c.put_beginning.new.out }) (Err r) (end c.in_err-put_beginning.ensures.refused)
+          (stays_near r stream (record before { inputs = i.state c.args.inputs.now; out = o.state c.args.out.now })
+          (record after { inputs = i.state c.read_beginning.new.inputs; out = o.state c.put_beginning.new.out }) near);
       stops = prefix_stops (Listing c.args.stream.now) (g.I.Inputs.state c.args.inputs.now) (g.I.Inputs.state c.read_beginning.new.inputs) (event_of c.in_err-put_beginning.field-0.0) c.in_err-put_beginning.ensures.refused;
       judges = tt;
       asks = asks;
@@ -125,7 +138,9 @@ returns-then-beginning g c = λ before after.
     let cut : content ≡ drop start taken = take_all (length bytes - start) (drop start bytes) (omega (arith, length-drop start bytes)) ∙ ap (drop start) c.deref.ensures.value in
     let rest = (i.state c.read_beginning.new.inputs).rest in
     let sel : RestIsWhole contents stream (preceded taken rest) = subst (λ r. RestIsWhole contents stream r) f.reads.takes.taken c.in_ok-open.ensures.opened.found in
-    let listing : (left : List ℕ) → FollowsUnlessLast last left → stream_listing (taken ++ left) ≡ Ok (line ++ listing_of (content ++ left)) = λ left m. f.begins left m ∙ ap (λ (l : List ℕ). Ok (l ++ listing_of (drop start taken ++ left))) (sym c.deref-line.ensures.value) ∙ ap (λ (s : List ℕ). Ok (line ++ listing_of (s ++ left))) (sym cut) in
+    let listing : (left : List ℕ) → FollowsUnlessLast last left
+    → stream_listing (taken ++ left) ≡ Ok (line ++ listing_of (content ++ left)) = λ left m. f.begins left m
+    ∙ ap (λ (l : List ℕ). Ok (l ++ listing_of (drop start taken ++ left))) (sym c.deref-line.ensures.value) ∙ ap (λ (s : List ℕ). Ok (line ++ listing_of (s ++ left))) (sym cut) in
     let now = (o.state c.put_short.new.out).written in
     let Full : Type 0 = SinkFails (o.state c.args.out.now) (o.state c.put_short.new.out) in
     let text = line ++ listing_of content in
@@ -177,10 +192,15 @@ returns-in_err-turn g c = rw (handed_on c.from_residual-in_err-turn.result c.in_
     record {
       ends = list_ends stream old new (Err event)
           (unread_end old.inputs (i.state c.loop-lister.inputs) new.inputs old.flash.bytes stream v.known.0 c.loop-lister.lister c.loop-lister.left (SinkFails old.out new.out) old.out.written new.out.written event
-          v.inputs v.known.1.0 v.known.1.3 v.known.1.1 v.known.1.2 c.in_err-turn.ensures.refused c.next_turn.ensures.asked)
+          v.inputs v.known.1.0 v.known.1.3 v.known.1.1 v.known.1.2 c.in_err-turn.ensures.refused c.next_turn.ensures.gives_few.asked)
           (stays_near event stream old new (unread_near old.inputs.contents stream new.inputs.rest old.out.written new.out.written (i.state c.loop-lister.inputs) new.inputs stream v.known.0 c.loop-lister.lister c.loop-lister.left event refl v.known.1.0 t
           (omega (arith, v.known.1.3.given, c.next_turn.ensures.gives_a_turn, v.piece)) (λ e. omega (arith, c.in_err-turn.ensures.over e, v.piece)) (same_now (o.state c.loop-lister.out)) c.in_err-turn.ensures.refused));
-      stops = let v = c.loop-lister.invariant in first_stops (Listing c.args.stream.now) (limited stream_limit c.args.stream.now) [] (g.I.Inputs.state c.args.inputs.now) (g.I.Inputs.state c.next_turn.new.inputs) (event_of c.in_err-turn.field-0.0) refl (last_asked_turn c.args.stream.now v.known.0 stream_limit c.loop-lister.left (g.I.Inputs.state c.loop-lister.inputs) (g.I.Inputs.state c.next_turn.new.inputs) v.known.1.3 v.known.1.2 c.next_turn.ensures.gives_few) asks (unread_about c.args.stream.now (event_of c.in_err-turn.field-0.0) (turn_unread (g.I.Inputs.state c.loop-lister.inputs) (g.I.Inputs.state c.next_turn.new.inputs) c.args.stream.now c.loop-lister.left (event_of c.in_err-turn.field-0.0) c.in_err-turn.ensures.refused));
+      stops = let v = c.loop-lister.invariant in first_stops (Listing c.args.stream.now) (limited stream_limit c.args.stream.now) [] (g.I.Inputs.state c.args.inputs.now)
+          (g.I.Inputs.state c.next_turn.new.inputs) (event_of c.in_err-turn.field-0.0) refl
+          (last_asked_turn c.args.stream.now v.known.0 stream_limit c.loop-lister.left (g.I.Inputs.state c.loop-lister.inputs) (g.I.Inputs.state c.next_turn.new.inputs) v.known.1.3 v.known.1.2 c.next_turn.ensures.gives_few) asks
+          (unread_about c.args.stream.now (event_of c.in_err-turn.field-0.0)
+          (turn_unread (g.I.Inputs.state c.loop-lister.inputs) (g.I.Inputs.state c.next_turn.new.inputs) c.args.stream.now c.loop-lister.left
+          (event_of c.in_err-turn.field-0.0) c.in_err-turn.ensures.refused));
       judges = tt;
       asks = asks;
       stays = stays_on _ _ _ c.loop-lister.invariant.inputs c.next_turn.ensures.inputs;
@@ -221,10 +241,14 @@ returns-in_err-put_turn g c = rw (handed_on c.from_residual-in_err-put_turn.resu
     let few : length piece ≤ turn_size = omega (arith, length-take-le n c.next_turn.new.buffer (omega (arith, c.in_ok-turn.ensures.within.1, c.next_turn.ensures.length, v.piece)), c.in_ok-turn.ensures.within.1, v.piece) in
     let known = stream_whole taken t.line t.content (t.listing []) in
     let near = turn_near contents stream taken piece t.line t.content c.loop-lister.lister rest old (o.state c.loop-lister.out).written now sel t.short_header few known t.lists c.put_turn.ensures.extends in
-    let gives = turn_given contents stream taken t.line t.content given c.loop-lister.lister (i.state c.loop-lister.inputs).rest old (o.state c.loop-lister.out).written now v.known.1.0 (omega (arith, v.known.1.3.given, c.next_turn.ensures.gives_a_turn, v.piece)) known t.lists c.put_turn.ensures.extends in
+    let gives = turn_given contents stream taken t.line t.content given c.loop-lister.lister (i.state c.loop-lister.inputs).rest old (o.state c.loop-lister.out).written now v.known.1.0
+    (omega (arith, v.known.1.3.given, c.next_turn.ensures.gives_a_turn, v.piece)) known t.lists c.put_turn.ensures.extends in
     let asks = few_read (i.state c.args.inputs.now) (i.state c.loop-lister.inputs) (i.state c.next_turn.new.inputs) c.loop-lister.left c.loop-lister.invariant.once c.next_turn.ensures.gives_few in
     record {
-      ends = list_ends stream (record before { inputs = i.state c.args.inputs.now; out = o.state c.args.out.now }) (record after { inputs = i.state c.next_turn.new.inputs; out = o.state c.put_turn.new.out }) (Err r) (end c.in_err-put_turn.ensures.refused) (stays_near r stream (record before { inputs = i.state c.args.inputs.now; out = o.state c.args.out.now }) (record after { inputs = i.state c.next_turn.new.inputs; out = o.state c.put_turn.new.out }) (unwritten_near contents stream rest old now _ given r gives near (why_weaker c.in_err-put_turn.ensures.refused)));
+      ends = list_ends stream (record before { inputs = i.state c.args.inputs.now; out = o.state c.args.out.now })
+          (record after { inputs = i.state c.next_turn.new.inputs; out = o.state c.put_turn.new.out }) (Err r) (end c.in_err-put_turn.ensures.refused)
+          (stays_near r stream (record before { inputs = i.state c.args.inputs.now; out = o.state c.args.out.now }) (record after { inputs = i.state c.next_turn.new.inputs; out = o.state c.put_turn.new.out })
+          (unwritten_near contents stream rest old now _ given r gives near (why_weaker c.in_err-put_turn.ensures.refused)));
       stops = put_stops (Listing c.args.stream.now) (g.I.Inputs.state c.args.inputs.now) (g.I.Inputs.state c.next_turn.new.inputs) (event_of c.in_err-put_turn.field-0.0) c.in_err-put_turn.ensures.refused;
       judges = tt;
       asks = asks;
@@ -246,7 +270,7 @@ returns-then-turn g c = λ before after.
     let n = c.in_ok-turn.turn.count in
     let piece = take n c.next_turn.new.buffer in
     let sel = taken_more contents stream taken piece (i.state c.loop-lister.inputs).rest (i.state c.next_turn.new.inputs).rest v.known.1.0 c.in_ok-turn.ensures.takes.taken in
-    let lists : Lists c.put_turn.new.lister (appended old t.line) (o.state c.put_turn.new.out).written (t.content ++ piece) = c.in_ok-put_turn.ensures.listed (appended old t.line) t.content t.lists in
+    let lists : ListsInTurns c.put_turn.new.lister (appended old t.line) (o.state c.put_turn.new.out).written (t.content ++ piece) = c.in_ok-put_turn.ensures.listed (appended old t.line) t.content t.lists in
     let listing = goes_on taken piece t.line t.content t.listing in
     let now = (o.state c.put_end.new.out).written in
     let Full : Type 0 = SinkFails (o.state c.args.out.now) (o.state c.put_end.new.out) in
@@ -256,10 +280,14 @@ returns-then-turn g c = λ before after.
     let text = t.line ++ listing_of (t.content ++ piece) in
     let same = stream_whole (taken ++ piece) t.line (t.content ++ piece) (listing []) in
     let flash = before.flash.bytes in
-    let ok = on_ok_weaker c.put_end.result (λ h. (text, listed_whole contents flash C stream (taken ++ piece) text (i.state c.next_turn.new.inputs).rest Full old now sel end same short (line_then old now t.line (listing_of (t.content ++ piece)) (h (appended old t.line) (t.content ++ piece) lists)))) c.put_end.ensures.listed in
+    let ok = on_ok_weaker c.put_end.result (λ h. (
+      text,
+      listed_whole contents flash C stream (taken ++ piece) text (i.state c.next_turn.new.inputs).rest Full old now sel end same short
+          (line_then old now t.line (listing_of (t.content ++ piece)) (h (appended old t.line) (t.content ++ piece) lists)),
+    )) c.put_end.ensures.listed in
     let mid = (o.state c.put_turn.new.out).written in
     let known : ListsStream c.put_turn.new.lister old mid (taken ++ piece) = record { line = t.line; content = t.content ++ piece; lists = lists; listing = listing; short_header = omega (arith, t.short_header, length-append taken piece, length-append t.content piece) } in
-    let err = both_err c.put_end.result (λ r. (first : Option (List ℕ)) (bytes : List ℕ) → Lists c.put_turn.new.lister first mid bytes → PutsPrefix first (listing_of bytes) now)
+    let err = both_err c.put_end.result (λ r. (first : Option (List ℕ)) (bytes : List ℕ) → ListsInTurns c.put_turn.new.lister first mid bytes → PutsPrefix first (listing_of bytes) now)
     (λ r. ((event_of r ≡ no_memory) × (now ≡ mid)) ⊎ ((event_of r ≡ writing_failed) × SinkFails (o.state c.put_turn.new.out) (o.state c.put_end.new.out)))
     (λ r. Ended (with_inputs contents flash) C stream Full old now (Err (event_of r)))
     (λ r p w.
@@ -280,7 +308,9 @@ returns-then-turn g c = λ before after.
     let whole = stream_whole taken t.line t.content (t.listing []) in
     let near = turn_near contents stream taken piece t.line t.content c.loop-lister.lister (i.state c.next_turn.new.inputs).rest old (o.state c.loop-lister.out).written now sel t.short_header few whole t.lists longer in
     let gives = turn_given contents stream taken t.line t.content given c.loop-lister.lister (i.state c.loop-lister.inputs).rest old (o.state c.loop-lister.out).written now v.known.1.0 (omega (arith, v.known.1.3.given, c.next_turn.ensures.gives_a_turn, v.piece)) whole t.lists longer in
-    let close = err_weaker c.put_end.result (λ r w. stays_near (event_of r) stream (record before { inputs = i.state c.args.inputs.now; out = o.state c.args.out.now }) (record after { inputs = i.state c.next_turn.new.inputs; out = o.state c.put_end.new.out }) (unwritten_near contents stream (i.state c.next_turn.new.inputs).rest old now _ given (event_of r) gives near (why_weaker w))) c.put_end.ensures.refused in
+    let close = err_weaker c.put_end.result (λ r w. stays_near (event_of r) stream (record before { inputs = i.state c.args.inputs.now; out = o.state c.args.out.now })
+    (record after { inputs = i.state c.next_turn.new.inputs; out = o.state c.put_end.new.out })
+    (unwritten_near contents stream (i.state c.next_turn.new.inputs).rest old now _ given (event_of r) gives near (why_weaker w))) c.put_end.ensures.refused in
     let asks = few_read (i.state c.args.inputs.now) (i.state c.loop-lister.inputs) (i.state c.next_turn.new.inputs) c.loop-lister.left c.loop-lister.invariant.once c.next_turn.ensures.gives_few in
     record {
       ends = list_seen stream (record before { inputs = i.state c.args.inputs.now; out = o.state c.args.out.now }) (record after { inputs = i.state c.next_turn.new.inputs; out = o.state c.put_end.new.out }) c.put_end.result ok err close;
@@ -303,7 +333,7 @@ loop-lister-preserved g c =
     let n = c.in_ok-turn.turn.count in
     let piece = take n c.next_turn.new.buffer in
     let sel = taken_more contents stream taken piece (i.state c.loop-lister.inputs).rest (i.state c.next_turn.new.inputs).rest v.known.1.0 c.in_ok-turn.ensures.takes.taken in
-    let lists : Lists c.put_turn.new.lister (appended old t.line) (o.state c.put_turn.new.out).written (t.content ++ piece) = c.in_ok-put_turn.ensures.listed (appended old t.line) t.content t.lists in
+    let lists : ListsInTurns c.put_turn.new.lister (appended old t.line) (o.state c.put_turn.new.out).written (t.content ++ piece) = c.in_ok-put_turn.ensures.listed (appended old t.line) t.content t.lists in
     let listing = goes_on taken piece t.line t.content t.listing in
     let size : length (taken ++ piece) ≡ length taken + n = length-append taken piece ∙ ap (λ k. length taken + k) (length-take-le n c.next_turn.new.buffer (omega (arith, c.in_ok-turn.ensures.within.1, c.next_turn.ensures.length, v.piece))) in
     let full : n ≡ turn_size = c.in_ok-turn.ensures.fills c.if-turn.false ∙ v.piece in
@@ -314,7 +344,16 @@ loop-lister-preserved g c =
       written = omega (arith, v.written, c.put_turn.ensures.counts.faults);
       left = omega (arith, v.left);
       piece = omega (arith, c.next_turn.ensures.length, v.piece);
-      known = (taken ++ piece, (sel, record { line = t.line; content = t.content ++ piece; lists = lists; listing = listing; short_header = omega (arith, t.short_header, length-append taken piece, length-append t.content piece) }, omega (arith, size, v.known.1.2, c.in_ok-turn.ensures.within.0), at_on stream taken piece (i.state c.loop-lister.inputs) (i.state c.next_turn.new.inputs) v.known.1.3 c.in_ok-turn.ensures.takes c.next_turn.ensures.asked));
+      known = (
+        taken ++ piece,
+        (
+          sel,
+          record { line = t.line; content = t.content ++ piece; lists = lists; listing = listing; short_header = omega (arith, t.short_header, length-append taken piece, length-append t.content piece) },
+          omega (arith, size, v.known.1.2, c.in_ok-turn.ensures.within.0),
+          at_on stream taken piece (i.state c.loop-lister.inputs)
+              (i.state c.next_turn.new.inputs) v.known.1.3 c.in_ok-turn.ensures.takes c.next_turn.ensures.gives_few.asked,
+        ),
+      );
     }
 
 pub loop-lister-init : goal.loop-lister-init
@@ -334,7 +373,9 @@ loop-lister-init g c =
     let content = take (length bytes - start) (drop start bytes) in
     let cut : content ≡ drop start taken = take_all (length bytes - start) (drop start bytes) (omega (arith, length-drop start bytes)) ∙ ap (drop start) c.deref.ensures.value in
     let sel : RestIsWhole contents stream (preceded taken now.rest) = subst (λ r. RestIsWhole contents stream r) f.reads.takes.taken c.in_ok-open.ensures.opened.found in
-    let listing : (left : List ℕ) → stream_listing (taken ++ left) ≡ Ok (line ++ listing_of (content ++ left)) = λ left. f.begins left (λ l. let never : false ≡ true = sym c.if-beginning.false ∙ l in absurd cc) ∙ ap (λ (l : List ℕ). Ok (l ++ listing_of (drop start taken ++ left))) (sym c.deref-line.ensures.value) ∙ ap (λ (s : List ℕ). Ok (line ++ listing_of (s ++ left))) (sym cut) in
+    let listing : (left : List ℕ) → stream_listing (taken ++ left) ≡ Ok (line ++ listing_of (content ++ left)) = λ left.
+    f.begins left (λ l. let never : false ≡ true = sym c.if-beginning.false ∙ l in absurd cc)
+    ∙ ap (λ (l : List ℕ). Ok (l ++ listing_of (drop start taken ++ left))) (sym c.deref-line.ensures.value) ∙ ap (λ (s : List ℕ). Ok (line ++ listing_of (s ++ left))) (sym cut) in
     record {
       selected = c.in_ok-beginning.ensures.selected;
       inputs = stays_on _ _ _ c.open.ensures.inputs c.read_beginning.ensures.inputs;
@@ -342,5 +383,17 @@ loop-lister-init g c =
       once = once_on _ _ _ c.open.ensures.once c.read_beginning.ensures.gives_few.selects (f.no_end_read c.if-beginning.false);
       left = omega arith;
       piece = refl;
-      known = (taken, (sel, record { line = line; content = content; lists = c.in_ok-put_beginning.ensures.listed; listing = listing; short_header = omega (arith, f.short) }, omega (arith, f.short, c.len-left.ensures), record { asked = asked_on stream (i.state c.open.new.inputs) now c.open.ensures.asks f.reads.asked; given = omega (arith, c.open.ensures.asks.given, f.reads.takes.given) }));
+      known = (
+        taken,
+        (
+          sel,
+          record { line = line; content = content; lists = c.in_ok-put_beginning.ensures.listed; listing = listing; short_header = omega (arith, f.short) },
+          omega (arith, f.short, c.len-left.ensures),
+          record {
+            asked = asked_on stream (i.state c.open.new.inputs) now c.open.ensures.asks f.reads.asked;
+            given =
+                omega (arith, c.open.ensures.asks.given, f.reads.takes.given);
+          },
+        ),
+      );
     }

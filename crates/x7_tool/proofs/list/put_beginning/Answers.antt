@@ -20,4 +20,5 @@ returns-clause-prefix g c =
     let old = (g.O.Sink.state c.args.out.now).written in
     let mid = (g.O.Sink.state c.write_all.new.sink).written in
     let put = from_ok c.write_all.result (sym c.is_err.ensures.value ∙ c.if-is_err.false) c.write_all.ensures.appends in
-    err_weaker c.put_turn.result (λ r p rest fits. line_prefix old (g.O.Sink.state c.put_turn.new.out).written c.args.line.now _ (p (appended old c.args.line.now) [] rest (begins_after c.args.lister.now old mid c.args.line.now c.requires.nothing_listed c.requires.clear put) fits)) c.put_turn.ensures.prefix
+    err_weaker c.put_turn.result (λ r p rest fits. line_prefix old (g.O.Sink.state c.put_turn.new.out).written c.args.line.now _
+    (p (appended old c.args.line.now) [] rest (begins_after c.args.lister.now old mid c.args.line.now c.requires.nothing_listed c.requires.clear put) fits)) c.put_turn.ensures.prefix

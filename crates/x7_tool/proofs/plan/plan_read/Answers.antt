@@ -4,7 +4,7 @@ use Rattle.x7_forms.specs.Form.{PlanningRead}
 use Rattle.x7_forms.specs.Known.{Answer, part_limit, part_known}
 use Rattle.x7_forms.specs.Event.{event_of}
 use Rattle.x7_forms.specs.ReadingStops.{limited}
-use Rattle.x7_forms.specs.Step.{seen}
+use Rattle.x7_forms.specs.Step.{result_by}
 use Rattle.x7_forms.proofs.ReadLemmas.{answers_by, answers_kept}
 use Rattle.x7_forms.proofs.ResultLemmas.{handed_on, err_weaker}
 use Rattle.x7_forms.proofs.AskedLemmas.{no_part_about}
@@ -34,8 +34,11 @@ returns g c =
     let part = c.in_ok-part.part in
     let made = c.readback_text.result in
     record {
-      caused = answers_by PartData Answer (name ∷ []) old new (λ t. part_known t name) part (PlannedRead name c.args.far c.args.slot_count) (seen bytes_answer made) c.in_ok-part.ensures.caused (read_due name part c.args.far c.args.slot_count made c.readback_text.ensures.text c.readback_text.ensures.refused);
-      stops = result_stops bytes_answer (PlanningRead name c.args.far c.args.slot_count) old new made (err_weaker made (λ r a. first_stops (PlanningRead name c.args.far c.args.slot_count) (limited part_limit name) [] old new (event_of r) refl c.read_part.ensures.last_asked c.read_part.ensures.asks a) c.readback_text.ensures.named);
+      caused = answers_by PartData Answer (name ∷ []) old new (λ t. part_known t name) part (PlannedRead name c.args.far c.args.slot_count) (result_by bytes_answer made) c.in_ok-part.ensures.caused
+          (read_due name part c.args.far c.args.slot_count made c.readback_text.ensures.text c.readback_text.ensures.refused);
+      stops = result_stops bytes_answer (PlanningRead name c.args.far c.args.slot_count) old new made
+          (err_weaker made (λ r a. first_stops (PlanningRead name c.args.far c.args.slot_count) (limited part_limit name) [] old new
+          (event_of r) refl c.read_part.ensures.last_asked c.read_part.ensures.asks a) c.readback_text.ensures.named);
       asks = c.read_part.ensures.asks;
       stays = c.read_part.ensures.inputs;
     }

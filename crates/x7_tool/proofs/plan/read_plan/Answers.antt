@@ -21,7 +21,9 @@ returns-in-Err-clause-caused g c =
     frames_refused (i.state c.args.inputs.now) (i.state c.feed_whole.new.inputs) c.args.part.now c.in-Ok.lines.part c.args.name.now t.0 t.2 c.in-Ok.ensures.part c.in_ok-read.read t.1 c.in-Err.fault (event_of c.frames_refusal.result) c.in-Err.is c.frames_refusal.ensures
 
 pub returns-in_err-read-clause-stops : goal.returns-in_err-read-clause-stops
-returns-in_err-read-clause-stops g c = rw (handed_on c.from_residual.result c.in_err-read.field-0.0 c.from_residual.ensures) (about_among (limited text_limit c.args.name.now ∷ []) [] (limited text_limit c.args.name.now) [] (g.I.Inputs.state c.args.inputs.now) (g.I.Inputs.state c.feed_whole.new.inputs) (event_of c.in_err-read.field-0.0) refl c.feed_whole.ensures.last_asked c.feed_whole.ensures.asks (unread_about c.args.name.now (event_of c.in_err-read.field-0.0) c.in_err-read.ensures.named))
+returns-in_err-read-clause-stops g c = rw (handed_on c.from_residual.result c.in_err-read.field-0.0 c.from_residual.ensures)
+    (about_among (limited text_limit c.args.name.now ∷ []) [] (limited text_limit c.args.name.now) [] (g.I.Inputs.state c.args.inputs.now) (g.I.Inputs.state c.feed_whole.new.inputs)
+    (event_of c.in_err-read.field-0.0) refl c.feed_whole.ensures.last_asked c.feed_whole.ensures.asks (unread_about c.args.name.now (event_of c.in_err-read.field-0.0) c.in_err-read.ensures.named))
 
 pub returns-in-Err-clause-stops : goal.returns-in-Err-clause-stops
 returns-in-Err-clause-stops g c =

@@ -3,7 +3,7 @@ use Rattle.x7_part.specs.Part.{PartData}
 use Rattle.x7_forms.specs.Event.{event_of}
 use Rattle.x7_forms.specs.Known.{Answer, and_so, streams_known, part_known, stream_limit, part_limit}
 use Rattle.x7_tool.specs.Play.{reported, play_answer}
-use Rattle.x7_forms.specs.Step.{seen}
+use Rattle.x7_forms.specs.Step.{result_by}
 use Rattle.x7_tool.proofs.PlayLemmas.{text_ends}
 use Rattle.x7_forms.proofs.ReadLemmas.{answers_end, answers_go, answers_stop, data_steady, first_of, part_steady}
 use Rattle.x7_forms.specs.Form.{Playing}
@@ -21,7 +21,10 @@ returns-in_err-part g c = rw (handed_on c.from_residual.result c.in_err-part.fie
     record {
       caused = answers_stop PartData Answer (part ∷ []) (part ∷ streams) (i.state c.args.inputs.now) (i.state c.read_part.new.inputs) (λ t. part_known t part) (λ t p. and_so (streams_known t stream_limit streams) (reported p)) (event_of c.in_err-part.field-0.0)
           (first_of part streams) c.in_err-part.ensures.caused;
-      stops = first_stops (Playing c.args.part.now (map string_bytes c.args.streams.now)) (limited part_limit c.args.part.now) (limited_together (g.I.Inputs.state c.args.inputs.now).contents stream_limit (map string_bytes c.args.streams.now)) (g.I.Inputs.state c.args.inputs.now) (g.I.Inputs.state c.read_part.new.inputs) (event_of c.in_err-part.field-0.0) refl c.read_part.ensures.last_asked c.read_part.ensures.asks (no_part_about c.args.part.now (event_of c.in_err-part.field-0.0) c.in_err-part.ensures.named);
+      stops = first_stops (Playing c.args.part.now (map string_bytes c.args.streams.now)) (limited part_limit c.args.part.now)
+          (limited_together (g.I.Inputs.state c.args.inputs.now).contents stream_limit (map string_bytes c.args.streams.now)) (g.I.Inputs.state c.args.inputs.now)
+          (g.I.Inputs.state c.read_part.new.inputs) (event_of c.in_err-part.field-0.0) refl c.read_part.ensures.last_asked c.read_part.ensures.asks
+          (no_part_about c.args.part.now (event_of c.in_err-part.field-0.0) c.in_err-part.ensures.named);
       asks = first_asked c.args.part.now (map string_bytes c.args.streams.now) (g.I.Inputs.state c.args.inputs.now) (g.I.Inputs.state c.read_part.new.inputs) c.read_part.ensures.asks;
       stays = c.read_part.ensures.inputs;
     })
@@ -35,7 +38,8 @@ returns-in_err-player g c = rw (handed_on c.from_residual-in_err-player.result c
       caused = answers_go PartData Answer (part ∷ []) streams (part ∷ streams) (i.state c.args.inputs.now) (i.state c.read_part.new.inputs) (i.state c.play_streams.new.inputs) (λ t. part_known t part) (λ t p. and_so (streams_known t stream_limit streams) (reported p)) c.in_ok-part.part (Err event)
           (part_steady part) c.read_part.ensures.inputs (λ n h. inr h) c.in_ok-part.ensures.caused
           (answers_stop (List ℕ) Answer streams streams (i.state c.read_part.new.inputs) (i.state c.play_streams.new.inputs) (λ t. streams_known t stream_limit streams) (λ t. reported c.in_ok-part.part) event (λ n h. h) c.in_err-player.ensures.refused);
-      stops = streams_stop c.args.part.now (map string_bytes c.args.streams.now) (g.I.Inputs.state c.args.inputs.now) (g.I.Inputs.state c.read_part.new.inputs) (g.I.Inputs.state c.play_streams.new.inputs) (event_of c.in_err-player.field-0.0) c.read_part.ensures.inputs.map c.read_part.ensures.asks c.in_err-player.ensures.stops;
+      stops = streams_stop c.args.part.now (map string_bytes c.args.streams.now) (g.I.Inputs.state c.args.inputs.now) (g.I.Inputs.state c.read_part.new.inputs)
+          (g.I.Inputs.state c.play_streams.new.inputs) (event_of c.in_err-player.field-0.0) c.read_part.ensures.inputs.map c.read_part.ensures.asks c.in_err-player.ensures.stops;
       asks = streams_asked string_bytes c.args.part.now c.args.streams.now (g.I.Inputs.state c.args.inputs.now) (g.I.Inputs.state c.read_part.new.inputs) (g.I.Inputs.state c.play_streams.new.inputs) c.read_part.ensures.asks c.play_streams.ensures.asks;
       stays = stays_on _ _ _ c.read_part.ensures.inputs c.play_streams.ensures.inputs;
     })
@@ -47,11 +51,13 @@ returns g c =
     let streams = map string_bytes c.args.streams.now in
     let p = c.in_ok-player.ensures.played in
     record {
-      caused = answers_go PartData Answer (part ∷ []) streams (part ∷ streams) (i.state c.args.inputs.now) (i.state c.read_part.new.inputs) (i.state c.play_streams.new.inputs) (λ t. part_known t part) (λ t p. and_so (streams_known t stream_limit streams) (reported p)) c.in_ok-part.part (seen play_answer c.text_of.result)
+      caused = answers_go PartData Answer (part ∷ []) streams (part ∷ streams) (i.state c.args.inputs.now) (i.state c.read_part.new.inputs) (i.state c.play_streams.new.inputs)
+          (λ t. part_known t part) (λ t p. and_so (streams_known t stream_limit streams) (reported p)) c.in_ok-part.part (result_by play_answer c.text_of.result)
           (part_steady part) c.read_part.ensures.inputs (λ n h. inr h) c.in_ok-part.ensures.caused
-          (answers_end (List ℕ) Answer streams (i.state c.read_part.new.inputs) (i.state c.play_streams.new.inputs) (λ t. streams_known t stream_limit streams) (reported c.in_ok-part.part) p.0 (seen play_answer c.text_of.result) (data_steady streams stream_limit) p.2
+          (answers_end (List ℕ) Answer streams (i.state c.read_part.new.inputs) (i.state c.play_streams.new.inputs) (λ t. streams_known t stream_limit streams) (reported c.in_ok-part.part) p.0 (result_by play_answer c.text_of.result) (data_steady streams stream_limit) p.2
           (text_ends c.in_ok-part.part p.0 c.in_ok-player.player c.text_of.result p.1 c.text_of.ensures.text c.text_of.ensures.refused));
-      stops = reads_only play_answer (Playing c.args.part.now (map string_bytes c.args.streams.now)) (g.I.Inputs.state c.args.inputs.now) (g.I.Inputs.state c.play_streams.new.inputs) c.text_of.result (err_weaker c.text_of.result (λ r h. elim h [ inl e ↦ inl e | inr e ↦ inr e.0 ]) c.text_of.ensures.refused);
+      stops = reads_only play_answer (Playing c.args.part.now (map string_bytes c.args.streams.now)) (g.I.Inputs.state c.args.inputs.now)
+          (g.I.Inputs.state c.play_streams.new.inputs) c.text_of.result (err_weaker c.text_of.result (λ r h. elim h [ inl e ↦ inl e | inr e ↦ inr e.0 ]) c.text_of.ensures.refused);
       asks = streams_asked string_bytes c.args.part.now c.args.streams.now (g.I.Inputs.state c.args.inputs.now) (g.I.Inputs.state c.read_part.new.inputs) (g.I.Inputs.state c.play_streams.new.inputs) c.read_part.ensures.asks c.play_streams.ensures.asks;
       stays = stays_on _ _ _ c.read_part.ensures.inputs c.play_streams.ensures.inputs;
     }

@@ -3,7 +3,7 @@ use Rattle.x7_forms.specs.Form.{PlayingSvf}
 use Rattle.x7_forms.specs.Known.{Answer, part_limit}
 use Rattle.x7_forms.specs.Event.{event_of}
 use Rattle.x7_forms.specs.ReadingStops.{limited}
-use Rattle.x7_forms.specs.Step.{seen}
+use Rattle.x7_forms.specs.Step.{result_by}
 use Rattle.x7_forms.proofs.ReadLemmas.{answers_by, answers_kept}
 use Rattle.x7_forms.proofs.ResultLemmas.{handed_on, err_weaker}
 use Rattle.x7_tool.specs.Outcome.{PartAndText, PlayedSvf, part_and_text, text_limit}
@@ -22,7 +22,7 @@ returns g c =
     let given = svf_given c.in_ok-given.given in
     let made = c.text_of.result in
     record {
-      caused = answers_by PartAndText Answer (part ∷ text ∷ []) old new (λ t. part_and_text t part text) given (PlayedSvf text) (seen play_answer made) c.in_ok-given.ensures.caused (svf_due text given made c.text_of.ensures.text c.text_of.ensures.refused);
+      caused = answers_by PartAndText Answer (part ∷ text ∷ []) old new (λ t. part_and_text t part text) given (PlayedSvf text) (result_by play_answer made) c.in_ok-given.ensures.caused (svf_due text given made c.text_of.ensures.text c.text_of.ensures.refused);
       stops = result_stops play_answer (PlayingSvf part text) old new made (err_weaker made
           (λ r h. second_stops (PlayingSvf part text) (limited part_limit part) (limited text_limit text) [] old new (event_of r) refl c.in_ok-given.ensures.last_asked c.read_given.ensures.asks (svf_played_about text given (event_of r) h))
           c.text_of.ensures.refused);

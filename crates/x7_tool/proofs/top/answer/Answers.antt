@@ -1,6 +1,6 @@
 use Rattle.std.proofs.Common.{refl, Some, map, string_bytes, ap}
 use Rattle.x7_forms.specs.Form.{Assembling, Booting, Debugging, FromMcs, Generating, Imaging, ImagingFor, Listing, PlanningFull, PlanningPartial, PlanningRead, Playing, PlayingSvf, ToMcs, UpdatingFlash, asked_by}
-use Rattle.x7_forms.specs.Step.{seen}
+use Rattle.x7_forms.specs.Step.{result_by}
 use Rattle.x7_forms.proofs.ResultLemmas.{handed_on}
 use Rattle.x7_tool.specs.FullText.{full_answer}
 use Rattle.x7_tool.specs.Outside.{outside}
@@ -33,7 +33,7 @@ returns-in_err-list-in-List-clause-flash g c = uses_same _ _ (g.F.Flash.state c.
 pub returns-in-Asm-clause-answered : goal.returns-in-Asm-clause-answered
 returns-in-Asm-clause-answered g c = λ e f.
     let flash = g.F.Flash.state c.args.flash.now in
-    ready_answered _ (Assembling c.in-Asm.text.now) (outside (g.I.Inputs.state c.args.inputs.now) flash (g.O.Sink.state c.args.out.now) e) (outside (g.I.Inputs.state c.asm.new.inputs) flash (g.O.Sink.state c.put_whole.new.out) f) (seen bytes_answer c.asm.result) _
+    ready_answered _ (Assembling c.in-Asm.text.now) (outside (g.I.Inputs.state c.args.inputs.now) flash (g.O.Sink.state c.args.out.now) e) (outside (g.I.Inputs.state c.asm.new.inputs) flash (g.O.Sink.state c.put_whole.new.out) f) (result_by bytes_answer c.asm.result) _
     (ap asked_by c.in-Asm.is) refl refl c.asm.ensures c.put_whole.ensures
 
 pub returns-in-Asm-clause-flash : goal.returns-in-Asm-clause-flash
@@ -42,7 +42,8 @@ returns-in-Asm-clause-flash g c = uses_same _ _ (g.F.Flash.state c.args.flash.no
 pub returns-in-Play-clause-answered : goal.returns-in-Play-clause-answered
 returns-in-Play-clause-answered g c = λ e f.
     let flash = g.F.Flash.state c.args.flash.now in
-    ready_answered _ (Playing c.in-Play.part.now (map string_bytes c.in-Play.streams.now)) (outside (g.I.Inputs.state c.args.inputs.now) flash (g.O.Sink.state c.args.out.now) e) (outside (g.I.Inputs.state c.play.new.inputs) flash (g.O.Sink.state c.put_whole-in-Play.new.out) f) (seen play_answer c.play.result) _
+    ready_answered _ (Playing c.in-Play.part.now (map string_bytes c.in-Play.streams.now)) (outside (g.I.Inputs.state c.args.inputs.now) flash (g.O.Sink.state c.args.out.now) e)
+    (outside (g.I.Inputs.state c.play.new.inputs) flash (g.O.Sink.state c.put_whole-in-Play.new.out) f) (result_by play_answer c.play.result) _
     (ap asked_by c.in-Play.is) refl refl c.play.ensures c.put_whole-in-Play.ensures
 
 pub returns-in-Play-clause-flash : goal.returns-in-Play-clause-flash
@@ -51,7 +52,8 @@ returns-in-Play-clause-flash g c = uses_same _ _ (g.F.Flash.state c.args.flash.n
 pub returns-in-Debug-clause-answered : goal.returns-in-Debug-clause-answered
 returns-in-Debug-clause-answered g c = λ e f.
     let flash = g.F.Flash.state c.args.flash.now in
-    ready_answered _ (Debugging c.in-Debug.part.now c.in-Debug.stream.now c.in-Debug.script.now) (outside (g.I.Inputs.state c.args.inputs.now) flash (g.O.Sink.state c.args.out.now) e) (outside (g.I.Inputs.state c.debug.new.inputs) flash (g.O.Sink.state c.put_whole-in-Debug.new.out) f) (seen text_answer c.debug.result) _
+    ready_answered _ (Debugging c.in-Debug.part.now c.in-Debug.stream.now c.in-Debug.script.now) (outside (g.I.Inputs.state c.args.inputs.now) flash (g.O.Sink.state c.args.out.now) e)
+    (outside (g.I.Inputs.state c.debug.new.inputs) flash (g.O.Sink.state c.put_whole-in-Debug.new.out) f) (result_by text_answer c.debug.result) _
     (ap asked_by c.in-Debug.is) refl refl c.debug.ensures c.put_whole-in-Debug.ensures
 
 pub returns-in-Debug-clause-flash : goal.returns-in-Debug-clause-flash
@@ -60,7 +62,7 @@ returns-in-Debug-clause-flash g c = uses_same _ _ (g.F.Flash.state c.args.flash.
 pub returns-in-Svf-clause-answered : goal.returns-in-Svf-clause-answered
 returns-in-Svf-clause-answered g c = λ e f.
     let flash = g.F.Flash.state c.args.flash.now in
-    ready_answered _ (PlayingSvf c.in-Svf.part.now c.in-Svf.text.now) (outside (g.I.Inputs.state c.args.inputs.now) flash (g.O.Sink.state c.args.out.now) e) (outside (g.I.Inputs.state c.svf.new.inputs) flash (g.O.Sink.state c.put_whole-in-Svf.new.out) f) (seen play_answer c.svf.result) _
+    ready_answered _ (PlayingSvf c.in-Svf.part.now c.in-Svf.text.now) (outside (g.I.Inputs.state c.args.inputs.now) flash (g.O.Sink.state c.args.out.now) e) (outside (g.I.Inputs.state c.svf.new.inputs) flash (g.O.Sink.state c.put_whole-in-Svf.new.out) f) (result_by play_answer c.svf.result) _
     (ap asked_by c.in-Svf.is) refl refl c.svf.ensures c.put_whole-in-Svf.ensures
 
 pub returns-in-Svf-clause-flash : goal.returns-in-Svf-clause-flash
@@ -69,7 +71,8 @@ returns-in-Svf-clause-flash g c = uses_same _ _ (g.F.Flash.state c.args.flash.no
 pub returns-in-PlanFull-clause-answered : goal.returns-in-PlanFull-clause-answered
 returns-in-PlanFull-clause-answered g c = λ e f.
     let flash = g.F.Flash.state c.args.flash.now in
-    ready_answered _ (PlanningFull c.in-PlanFull.part.now c.in-PlanFull.frames.now) (outside (g.I.Inputs.state c.args.inputs.now) flash (g.O.Sink.state c.args.out.now) e) (outside (g.I.Inputs.state c.plan_full.new.inputs) flash (g.O.Sink.state c.put_whole-in-PlanFull.new.out) f) (seen full_answer c.plan_full.result) _
+    ready_answered _ (PlanningFull c.in-PlanFull.part.now c.in-PlanFull.frames.now) (outside (g.I.Inputs.state c.args.inputs.now) flash (g.O.Sink.state c.args.out.now) e)
+    (outside (g.I.Inputs.state c.plan_full.new.inputs) flash (g.O.Sink.state c.put_whole-in-PlanFull.new.out) f) (result_by full_answer c.plan_full.result) _
     (ap asked_by c.in-PlanFull.is) refl refl c.plan_full.ensures c.put_whole-in-PlanFull.ensures
 
 pub returns-in-PlanFull-clause-flash : goal.returns-in-PlanFull-clause-flash
@@ -78,7 +81,8 @@ returns-in-PlanFull-clause-flash g c = uses_same _ _ (g.F.Flash.state c.args.fla
 pub returns-in-PlanPartial-clause-answered : goal.returns-in-PlanPartial-clause-answered
 returns-in-PlanPartial-clause-answered g c = λ e f.
     let flash = g.F.Flash.state c.args.flash.now in
-    ready_answered _ (PlanningPartial c.in-PlanPartial.part.now c.in-PlanPartial.frames.now) (outside (g.I.Inputs.state c.args.inputs.now) flash (g.O.Sink.state c.args.out.now) e) (outside (g.I.Inputs.state c.plan_partial.new.inputs) flash (g.O.Sink.state c.put_whole-in-PlanPartial.new.out) f) (seen bytes_answer c.plan_partial.result) _
+    ready_answered _ (PlanningPartial c.in-PlanPartial.part.now c.in-PlanPartial.frames.now) (outside (g.I.Inputs.state c.args.inputs.now) flash (g.O.Sink.state c.args.out.now) e)
+    (outside (g.I.Inputs.state c.plan_partial.new.inputs) flash (g.O.Sink.state c.put_whole-in-PlanPartial.new.out) f) (result_by bytes_answer c.plan_partial.result) _
     (ap asked_by c.in-PlanPartial.is) refl refl c.plan_partial.ensures c.put_whole-in-PlanPartial.ensures
 
 pub returns-in-PlanPartial-clause-flash : goal.returns-in-PlanPartial-clause-flash
@@ -87,7 +91,8 @@ returns-in-PlanPartial-clause-flash g c = uses_same _ _ (g.F.Flash.state c.args.
 pub returns-in-PlanRead-clause-answered : goal.returns-in-PlanRead-clause-answered
 returns-in-PlanRead-clause-answered g c = λ e f.
     let flash = g.F.Flash.state c.args.flash.now in
-    ready_answered _ (PlanningRead c.in-PlanRead.part.now c.in-PlanRead.far c.in-PlanRead.n) (outside (g.I.Inputs.state c.args.inputs.now) flash (g.O.Sink.state c.args.out.now) e) (outside (g.I.Inputs.state c.plan_read.new.inputs) flash (g.O.Sink.state c.put_whole-in-PlanRead.new.out) f) (seen bytes_answer c.plan_read.result) _
+    ready_answered _ (PlanningRead c.in-PlanRead.part.now c.in-PlanRead.far c.in-PlanRead.slot_count) (outside (g.I.Inputs.state c.args.inputs.now) flash (g.O.Sink.state c.args.out.now) e)
+    (outside (g.I.Inputs.state c.plan_read.new.inputs) flash (g.O.Sink.state c.put_whole-in-PlanRead.new.out) f) (result_by bytes_answer c.plan_read.result) _
     (ap asked_by c.in-PlanRead.is) refl refl c.plan_read.ensures c.put_whole-in-PlanRead.ensures
 
 pub returns-in-PlanRead-clause-flash : goal.returns-in-PlanRead-clause-flash
@@ -96,7 +101,7 @@ returns-in-PlanRead-clause-flash g c = uses_same _ _ (g.F.Flash.state c.args.fla
 pub returns-in-Gen-clause-answered : goal.returns-in-Gen-clause-answered
 returns-in-Gen-clause-answered g c = λ e f.
     let flash = g.F.Flash.state c.args.flash.now in
-    ready_answered _ (Generating c.in-Gen.part.now c.in-Gen.seed) (outside (g.I.Inputs.state c.args.inputs.now) flash (g.O.Sink.state c.args.out.now) e) (outside (g.I.Inputs.state c.generate.new.inputs) flash (g.O.Sink.state c.put_whole-in-Gen.new.out) f) (seen bytes_answer c.generate.result) _
+    ready_answered _ (Generating c.in-Gen.part.now c.in-Gen.seed) (outside (g.I.Inputs.state c.args.inputs.now) flash (g.O.Sink.state c.args.out.now) e) (outside (g.I.Inputs.state c.generate.new.inputs) flash (g.O.Sink.state c.put_whole-in-Gen.new.out) f) (result_by bytes_answer c.generate.result) _
     (ap asked_by c.in-Gen.is) refl refl c.generate.ensures c.put_whole-in-Gen.ensures
 
 pub returns-in-Gen-clause-flash : goal.returns-in-Gen-clause-flash
@@ -105,7 +110,7 @@ returns-in-Gen-clause-flash g c = uses_same _ _ (g.F.Flash.state c.args.flash.no
 pub returns-in-Image-clause-answered : goal.returns-in-Image-clause-answered
 returns-in-Image-clause-answered g c = λ e f.
     let flash = g.F.Flash.state c.args.flash.now in
-    ready_answered _ (Imaging c.in-Image.golden.now c.in-Image.update.now) (outside (g.I.Inputs.state c.args.inputs.now) flash (g.O.Sink.state c.args.out.now) e) (outside (g.I.Inputs.state c.image.new.inputs) flash (g.O.Sink.state c.put_whole-in-Image.new.out) f) (seen bytes_answer c.image.result) _
+    ready_answered _ (Imaging c.in-Image.golden.now c.in-Image.update.now) (outside (g.I.Inputs.state c.args.inputs.now) flash (g.O.Sink.state c.args.out.now) e) (outside (g.I.Inputs.state c.image.new.inputs) flash (g.O.Sink.state c.put_whole-in-Image.new.out) f) (result_by bytes_answer c.image.result) _
     (ap asked_by c.in-Image.is) refl refl c.image.ensures c.put_whole-in-Image.ensures
 
 pub returns-in-Image-clause-flash : goal.returns-in-Image-clause-flash
@@ -114,7 +119,8 @@ returns-in-Image-clause-flash g c = uses_same _ _ (g.F.Flash.state c.args.flash.
 pub returns-in-ImageFor-clause-answered : goal.returns-in-ImageFor-clause-answered
 returns-in-ImageFor-clause-answered g c = λ e f.
     let flash = g.F.Flash.state c.args.flash.now in
-    ready_answered _ (ImagingFor c.in-ImageFor.part.now c.in-ImageFor.golden.now c.in-ImageFor.update.now) (outside (g.I.Inputs.state c.args.inputs.now) flash (g.O.Sink.state c.args.out.now) e) (outside (g.I.Inputs.state c.image_for.new.inputs) flash (g.O.Sink.state c.put_whole-in-ImageFor.new.out) f) (seen bytes_answer c.image_for.result) _
+    ready_answered _ (ImagingFor c.in-ImageFor.part.now c.in-ImageFor.golden.now c.in-ImageFor.update.now) (outside (g.I.Inputs.state c.args.inputs.now) flash (g.O.Sink.state c.args.out.now) e)
+    (outside (g.I.Inputs.state c.image_for.new.inputs) flash (g.O.Sink.state c.put_whole-in-ImageFor.new.out) f) (result_by bytes_answer c.image_for.result) _
     (ap asked_by c.in-ImageFor.is) refl refl c.image_for.ensures c.put_whole-in-ImageFor.ensures
 
 pub returns-in-ImageFor-clause-flash : goal.returns-in-ImageFor-clause-flash
@@ -124,7 +130,7 @@ pub returns-in-Boot-clause-answered : goal.returns-in-Boot-clause-answered
 returns-in-Boot-clause-answered g c = λ e f.
     let old = outside (g.I.Inputs.state c.args.inputs.now) (g.F.Flash.state c.args.flash.now) (g.O.Sink.state c.args.out.now) e in
     let new = outside (g.I.Inputs.state c.boot.new.inputs) (g.F.Flash.state c.boot.new.flash) (g.O.Sink.state c.put_whole-in-Boot.new.out) f in
-    flash_answered _ (Booting c.in-Boot.part.now c.in-Boot.name.now) old new (seen play_answer c.boot.result) _ (ap asked_by c.in-Boot.is) refl tt c.boot.ensures.ready (c.boot.ensures.ready.caused old new) c.put_whole-in-Boot.ensures
+    flash_answered _ (Booting c.in-Boot.part.now c.in-Boot.name.now) old new (result_by play_answer c.boot.result) _ (ap asked_by c.in-Boot.is) refl tt c.boot.ensures.ready (c.boot.ensures.ready.caused old new) c.put_whole-in-Boot.ensures
 
 pub returns-in-Boot-clause-flash : goal.returns-in-Boot-clause-flash
 returns-in-Boot-clause-flash g c =
@@ -153,7 +159,7 @@ returns-in_err-update-in-Update-clause-flash g c =
 pub returns-in-Mcs-clause-answered : goal.returns-in-Mcs-clause-answered
 returns-in-Mcs-clause-answered g c = λ e f.
     let flash = g.F.Flash.state c.args.flash.now in
-    ready_answered _ (ToMcs c.in-Mcs.image.now) (outside (g.I.Inputs.state c.args.inputs.now) flash (g.O.Sink.state c.args.out.now) e) (outside (g.I.Inputs.state c.mcs.new.inputs) flash (g.O.Sink.state c.put_whole-in-Mcs.new.out) f) (seen mcs_answer c.mcs.result) _
+    ready_answered _ (ToMcs c.in-Mcs.image.now) (outside (g.I.Inputs.state c.args.inputs.now) flash (g.O.Sink.state c.args.out.now) e) (outside (g.I.Inputs.state c.mcs.new.inputs) flash (g.O.Sink.state c.put_whole-in-Mcs.new.out) f) (result_by mcs_answer c.mcs.result) _
     (ap asked_by c.in-Mcs.is) refl refl c.mcs.ensures c.put_whole-in-Mcs.ensures
 
 pub returns-in-Mcs-clause-flash : goal.returns-in-Mcs-clause-flash
@@ -162,7 +168,7 @@ returns-in-Mcs-clause-flash g c = uses_same _ _ (g.F.Flash.state c.args.flash.no
 pub returns-in-Unmcs-clause-answered : goal.returns-in-Unmcs-clause-answered
 returns-in-Unmcs-clause-answered g c = λ e f.
     let flash = g.F.Flash.state c.args.flash.now in
-    ready_answered _ (FromMcs c.in-Unmcs.text.now) (outside (g.I.Inputs.state c.args.inputs.now) flash (g.O.Sink.state c.args.out.now) e) (outside (g.I.Inputs.state c.unmcs.new.inputs) flash (g.O.Sink.state c.put_whole-in-Unmcs.new.out) f) (seen bytes_answer c.unmcs.result) _
+    ready_answered _ (FromMcs c.in-Unmcs.text.now) (outside (g.I.Inputs.state c.args.inputs.now) flash (g.O.Sink.state c.args.out.now) e) (outside (g.I.Inputs.state c.unmcs.new.inputs) flash (g.O.Sink.state c.put_whole-in-Unmcs.new.out) f) (result_by bytes_answer c.unmcs.result) _
     (ap asked_by c.in-Unmcs.is) refl refl c.unmcs.ensures c.put_whole-in-Unmcs.ensures
 
 pub returns-in-Unmcs-clause-flash : goal.returns-in-Unmcs-clause-flash

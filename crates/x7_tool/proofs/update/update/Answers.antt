@@ -11,7 +11,7 @@ use Rattle.x7_forms.specs.Form.{UpdatingFlash}
 use Rattle.x7_forms.specs.Known.{with_inputs, stream_limit}
 use Rattle.x7_forms.specs.Step.{CameIn, step_over}
 use Rattle.x7_tool.specs.Outside.{Outside, sources}
-use Rattle.x7_tool.specs.Run.{EndsAs}
+use Rattle.x7_tool.specs.Run.{CommandEndsAs}
 use Rattle.x7_tool.specs.Stream.{data_from}
 use Rattle.x7_tool.proofs.UpdateLemmas.{cause_from, data_given, done_ends, fault_ends, keeps_all, refused_ends, rest_of, attach_refused_last, attach_refused_measured, attach_refused_over, unplayed_last, unplayed_measured, unread_over, uses_opened, uses_updated}
 use Rattle.x7_tool.proofs.StopLemmas.{stream_judges, unopened_judges, updated_judges, attach_refused_stops, updated_stops, first_stops}
@@ -28,8 +28,12 @@ returns-in_err-open_flash-clause-answered g c = rw (handed_on c.from_residual.re
     let new : Outside = record after { inputs = g.I.Inputs.state c.args.inputs.now; flash = mid } in
     let event = event_of c.in_err-open_flash.field-0.0 in
     record {
-      ends = refused_ends c.args.flash_name.now c.args.stream.now old new event out (attach_refused_measured (Some (UpdatingFlash c.args.flash_name.now c.args.stream.now)) c.args.flash_name.now first mid event c.in_err-open_flash.ensures.refused) (attach_refused_last (UpdatingFlash c.args.flash_name.now c.args.stream.now) c.args.flash_name.now old.inputs first mid event c.in_err-open_flash.ensures.refused) (attach_refused_over c.args.flash_name.now c.args.stream.now old new event c.in_err-open_flash.ensures.refused) (keeps_all event.reason first mid c.open_flash.ensures.stays.bytes);
-      stops = attach_refused_stops c.args.flash_name.now c.args.stream.now (g.I.Inputs.state c.args.inputs.now) (g.I.Inputs.state c.args.inputs.now) (g.F.Flash.state c.args.flash.now) (g.F.Flash.state c.open_flash.new.flash) (event_of c.in_err-open_flash.field-0.0) c.in_err-open_flash.ensures.refused;
+      ends = refused_ends c.args.flash_name.now c.args.stream.now old new event out
+          (attach_refused_measured (Some (UpdatingFlash c.args.flash_name.now c.args.stream.now)) c.args.flash_name.now first mid event c.in_err-open_flash.ensures.refused)
+          (attach_refused_last (UpdatingFlash c.args.flash_name.now c.args.stream.now) c.args.flash_name.now old.inputs first mid event c.in_err-open_flash.ensures.refused)
+          (attach_refused_over c.args.flash_name.now c.args.stream.now old new event c.in_err-open_flash.ensures.refused) (keeps_all event.reason first mid c.open_flash.ensures.stays.bytes);
+      stops = attach_refused_stops c.args.flash_name.now c.args.stream.now (g.I.Inputs.state c.args.inputs.now) (g.I.Inputs.state c.args.inputs.now) (g.F.Flash.state c.args.flash.now)
+          (g.F.Flash.state c.open_flash.new.flash) (event_of c.in_err-open_flash.field-0.0) c.in_err-open_flash.ensures.refused;
       judges = unopened_judges c.args.flash_name.now c.args.stream.now (sources (g.I.Inputs.state c.args.inputs.now) (g.F.Flash.state c.args.flash.now)) (sources (g.I.Inputs.state c.args.inputs.now) (g.F.Flash.state c.open_flash.new.flash)) (event_of c.in_err-open_flash.field-0.0) refl;
       asks = few_more (g.I.Inputs.state c.args.inputs.now) (g.I.Inputs.state c.args.inputs.now) 0 1 (omega arith) (few_at (g.I.Inputs.state c.args.inputs.now));
       stays = stays_at _;
@@ -49,8 +53,12 @@ returns-in_err-read-clause-answered g c = rw (handed_on c.from_residual-in_err-r
           (unplayed_measured (Some (UpdatingFlash c.args.flash_name.now c.args.stream.now)) mid c.args.stream.now event (inl refl) c.in_err-read.ensures.named)
           (unplayed_last (UpdatingFlash c.args.flash_name.now c.args.stream.now) old.inputs mid c.args.stream.now event (inl refl) c.in_err-read.ensures.named)
           (unread_over c.args.flash_name.now c.args.stream.now old new event within (c.in_err-read.ensures.caused first.bytes)) (keeps_all event.reason first mid same);
-      stops = first_stops (UpdatingFlash c.args.flash_name.now c.args.stream.now) (limited stream_limit c.args.stream.now) [] (g.I.Inputs.state c.args.inputs.now) (g.I.Inputs.state c.read_stream.new.inputs) (event_of c.in_err-read.field-0.0) refl c.read_stream.ensures.last_asked c.read_stream.ensures.asks (unplayed_about c.args.stream.now (event_of c.in_err-read.field-0.0) c.in_err-read.ensures.named);
-      judges = stream_judges c.args.flash_name.now c.args.stream.now (sources (g.I.Inputs.state c.args.inputs.now) (g.F.Flash.state c.args.flash.now)) (sources (g.I.Inputs.state c.read_stream.new.inputs) (g.F.Flash.state c.open_flash.new.flash)) (event_of c.in_err-read.field-0.0) (unplayed_about c.args.stream.now (event_of c.in_err-read.field-0.0) c.in_err-read.ensures.named);
+      stops = first_stops (UpdatingFlash c.args.flash_name.now c.args.stream.now) (limited stream_limit c.args.stream.now) [] (g.I.Inputs.state c.args.inputs.now)
+          (g.I.Inputs.state c.read_stream.new.inputs) (event_of c.in_err-read.field-0.0) refl c.read_stream.ensures.last_asked c.read_stream.ensures.asks
+          (unplayed_about c.args.stream.now (event_of c.in_err-read.field-0.0) c.in_err-read.ensures.named);
+      judges = stream_judges c.args.flash_name.now c.args.stream.now (sources (g.I.Inputs.state c.args.inputs.now) (g.F.Flash.state c.args.flash.now))
+          (sources (g.I.Inputs.state c.read_stream.new.inputs) (g.F.Flash.state c.open_flash.new.flash)) (event_of c.in_err-read.field-0.0)
+          (unplayed_about c.args.stream.now (event_of c.in_err-read.field-0.0) c.in_err-read.ensures.named);
       asks = c.read_stream.ensures.asks;
       stays = c.read_stream.ensures.inputs;
     })
@@ -111,10 +119,12 @@ returns-clause-answered g c = λ before after out.
     let asked = subst (λ (names : List ℕ → Bool). IsTrue (names name)) (sym c.update.ensures.only_uses.names) c.open_flash.ensures.asks.asked in
     let cause = cause_from bytes first mid last c.in-Err.fault stays.bytes stays.unwritten.write_faults stays.faults c.in-Err.ensures.refused in
     record {
-      ends = subst (λ (e : Event). EndsAs (Some (UpdatingFlash name stream)) old new (Err e)) (sym c.refusal_of.ensures)
+      ends = subst (λ (e : Event). CommandEndsAs (Some (UpdatingFlash name stream)) old new (Err e)) (sym c.refusal_of.ensures)
           (fault_ends name stream bytes old new c.in-Err.fault out asked within has reads size cause (λ early. let only = c.in-Err.ensures.unchanged early in only.bytes ∙ stays.bytes));
       stops = updated_stops c.args.flash_name.now c.args.stream.now (g.I.Inputs.state c.args.inputs.now) (g.I.Inputs.state c.read_stream.new.inputs) c.in-Err.fault (event_of c.refusal_of.result) c.refusal_of.ensures c.read_stream.ensures.last_asked c.read_stream.ensures.asks;
-      judges = updated_judges c.args.flash_name.now c.args.stream.now (sources (g.I.Inputs.state c.args.inputs.now) (g.F.Flash.state c.args.flash.now)) (sources (g.I.Inputs.state c.read_stream.new.inputs) (g.F.Flash.state c.update.new.flash)) c.in-Err.fault (event_of c.refusal_of.result) c.refusal_of.ensures (c.update.ensures.only_uses.attached ∙ c.in_ok-open_flash.ensures.attached);
+      judges = updated_judges c.args.flash_name.now c.args.stream.now (sources (g.I.Inputs.state c.args.inputs.now) (g.F.Flash.state c.args.flash.now))
+          (sources (g.I.Inputs.state c.read_stream.new.inputs) (g.F.Flash.state c.update.new.flash)) c.in-Err.fault (event_of c.refusal_of.result) c.refusal_of.ensures
+          (c.update.ensures.only_uses.attached ∙ c.in_ok-open_flash.ensures.attached);
       asks = c.read_stream.ensures.asks;
       stays = c.read_stream.ensures.inputs;
     }

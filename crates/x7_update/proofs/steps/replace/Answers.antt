@@ -1,7 +1,7 @@
 use Rattle.std.proofs.Common.{length, ◌∙◌, arith}
 use Rattle.x7_update.specs.After.{SpendsOpen}
 use Rattle.x7_update.specs.Slots.{IsTargetIn}
-use Rattle.x7_update.specs.Writing.{Becomes, KeepsBelow, Replaced, ReplacingUpdate, StreamStands}
+use Rattle.x7_update.specs.Writing.{Becomes, KeepsBelow, UpdateReplaced, ReplacingUpdate, StreamStands}
 use Rattle.x7_update.proofs.ByteLemmas.{bytes_on}
 use Rattle.x7_update.proofs.CaseLemmas.{writing_replaces}
 use Rattle.x7_update.proofs.KnownLemmas.{becomes_leaves, becomes_on, moments_on, on_ok_map, known_at, writes_on}
@@ -14,8 +14,8 @@ returns-clause-replaced g c =
     let last = g.F.Flash.state c.write_stream.new.flash in
     let place = c.args.target.place in
     let stream = c.args.stream.now in
-    on_ok_map (Becomes mid last (StreamStands place stream)) (Becomes first last (Replaced place stream)) c.write_stream.result c.write_stream.ensures.written
-    (λ written. becomes_on first mid last SpendsOpen (StreamStands place stream) (Replaced place stream) (λ all spent now e is_spent stands. record { spent = spent; is_spent = is_spent; stands = stands })
+    on_ok_map (Becomes mid last (StreamStands place stream)) (Becomes first last (UpdateReplaced place stream)) c.write_stream.result c.write_stream.ensures.written
+    (λ written. becomes_on first mid last SpendsOpen (StreamStands place stream) (UpdateReplaced place stream) (λ all spent now e is_spent stands. record { spent = spent; is_spent = is_spent; stands = stands })
     c.in_ok-spend_open_slot.ensures.spent written)
 
 pub returns-clause-writes : goal.returns-clause-writes

@@ -1,4 +1,5 @@
 use Rattle.std.proofs.Common.{◌≡◌, ℕ, ◌<◌, inl, Option, length, option_map, refl, subst, arith}
+use Rattle.x7_packets.specs.FlashSlot.{flash_slot_count}
 use Rattle.x7_update.specs.After.{SpendsOpen, already, spends, switched}
 use Rattle.x7_update.specs.Layout.{IsOpen, spent_switch}
 use Rattle.x7_update.specs.Slots.{IsTargetIn, OpenAmong, WithinSlots}
@@ -13,7 +14,7 @@ returns-in-None-clause-spent g c =
     becomes_same first SpendsOpen
     (λ all e.
     let finds = known_at first.bytes (λ all. IsTargetIn (length all) all c.args.target) c.requires.finds all e in
-    let P : Option ℕ → Type 0 = λ o. OpenAmong all 2048 o in
+    let P : Option ℕ → Type 0 = λ o. OpenAmong all flash_slot_count o in
     let none = subst P c.in-None.is finds.opens in
     already none refl)
 
@@ -26,7 +27,7 @@ returns-in-Some-clause-spent g c =
     (λ is. becomes_of first last (switched slot spent_switch) SpendsOpen is
     (λ all e.
     let finds = known_at first.bytes (λ all. IsTargetIn (length all) all c.args.target) c.requires.finds all e in
-    let P : Option ℕ → Type 0 = λ o. OpenAmong all 2048 o in
+    let P : Option ℕ → Type 0 = λ o. OpenAmong all flash_slot_count o in
     let opened = subst P c.in-Some.is finds.opens in
     spends slot opened.0 opened.1 refl))
 
@@ -39,7 +40,7 @@ returns-in-Some-clause-writes g c =
       any_moment = moments_weaker first (g.F.Flash.state c.spend_slot.new.flash) _ _ (SpendingSlot slot) ReplacingUpdate
           (λ all found e h.
           let finds = known_at first.bytes (λ all. IsTargetIn (length all) all c.args.target) c.requires.finds all e in
-          let P : Option ℕ → Type 0 = λ o. OpenAmong all 2048 o in
+          let P : Option ℕ → Type 0 = λ o. OpenAmong all flash_slot_count o in
           let opened = subst P c.in-Some.is finds.opens in
           spending_replaces all c.args.target finds slot found opened.0 opened.1 h)
           writes.any_moment;
@@ -54,14 +55,14 @@ returns-in-None-clause-writes g c =
 
 pub spend_slot-requires-clause-slot : goal.spend_slot-requires-clause-slot
 spend_slot-requires-clause-slot g c =
-    let among : c.in-Some.slot < 2048 = subst WithinSlots c.in-Some.is c.requires.fits.opens in
+    let among : c.in-Some.slot < flash_slot_count = subst WithinSlots c.in-Some.is c.requires.fits.opens in
     record { attached = c.requires.attached; among = among; within = omega (arith, among, c.requires.fits.sized.least) }
 
 pub spend_slot-requires-clause-opened : goal.spend_slot-requires-clause-opened
 spend_slot-requires-clause-opened g c =
     known_map (g.F.Flash.state c.args.flash.now).bytes (λ all. IsTargetIn (length all) all c.args.target) (λ all. IsOpen all c.in-Some.slot)
     (λ all e finds.
-    let P : Option ℕ → Type 0 = λ o. OpenAmong all 2048 o in
+    let P : Option ℕ → Type 0 = λ o. OpenAmong all flash_slot_count o in
     let opened = subst P c.in-Some.is finds.opens in
     opened.1)
     c.requires.finds

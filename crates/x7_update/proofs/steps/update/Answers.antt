@@ -7,7 +7,7 @@ use Rattle.x7_update.specs.Layout.{CanStandAt, IsUpdatable, HasSize, HasNoOpenSl
 use Rattle.x7_update.specs.Verified.{OpensVerified, IsVerified, WasReady}
 use Rattle.x7_update.specs.Fault.{CanTake, IsTooLong}
 use Rattle.x7_update.specs.Slots.{IsTargetIn, TargetFits}
-use Rattle.x7_update.specs.Writing.{HasWanted, OpeningSlot, Replaced, ReplacingUpdate, StaysBytes}
+use Rattle.x7_update.specs.Writing.{HasWanted, OpeningSlot, UpdateReplaced, ReplacingUpdate, StaysBytes}
 use Rattle.x7_update.specs.declared.fault.UpdateFault.TheVariants.{Failed, TooLong}
 use Rattle.x7_update.proofs.VerifyLemmas.{end_refused, fails_since, none_before}
 use Rattle.x7_update.proofs.ByteLemmas.{bytes_on, moments_both}
@@ -86,7 +86,7 @@ returns-clause-refused g c =
     c.in_ok-target.ensures.found.finds in
     end_refused stream first last c.verify_and_open.result (subst HasSize (sym size) fits.sized) can
     (fails_since stream first then last c.verify_and_open.result (omega (arith, read.faults, wrote.faults)) (omega (arith, read.unwritten.write_faults, wrote.write_faults))
-    (λ none. sym read.bytes ∙ none_before (Replaced target.place stream) (g.F.Flash.state c.find_target.new.flash).bytes then.bytes c.in-Ok-replace.ensures.replaced none) c.verify_and_open.ensures.fault)
+    (λ none. sym read.bytes ∙ none_before (UpdateReplaced target.place stream) (g.F.Flash.state c.find_target.new.flash).bytes then.bytes c.in-Ok-replace.ensures.replaced none) c.verify_and_open.ensures.fault)
 
 pub returns-clause-complete : goal.returns-clause-complete
 returns-clause-complete g c = if_only_memory c.args.stream.now (g.F.Flash.state c.args.flash.now) (g.F.Flash.state c.verify_and_open.new.flash) c.verify_and_open.result (returns-clause-refused g c)
@@ -120,7 +120,7 @@ verify_and_open-requires-clause-written g c =
       size = subst HasSize (sym size) found.fits.sized;
       place = subst (λ n. CanStandAt n target.place) (sym size) found.fits.place;
       fits = omega (arith, size, read.extent, c.size.ensures.extent, found.fits.place.most, c.if-stream-size.false);
-      wanted = becomes_then mid then (Replaced target.place stream) (HasWanted target.place stream)
+      wanted = becomes_then mid then (UpdateReplaced target.place stream) (HasWanted target.place stream)
           (λ all now e r.
           let finds = known_at first.bytes (λ all. IsTargetIn (length all) all target) found.finds all (sym read.bytes ∙ e) in
           let long : mid.extent ≡ length all = known_at mid.bytes (λ all. mid.extent ≡ length all) (g.met.F.Flash.counted c.find_target.new.flash) all e in
@@ -139,7 +139,7 @@ verify_and_open-requires-clause-free g c =
     let mid = g.F.Flash.state c.find_target.new.flash in
     let target = c.in_ok-target.target in
     let stream = c.args.stream.now in
-    becomes_then mid (g.F.Flash.state c.replace.new.flash) (Replaced target.place stream) (λ now. IsFree now target.slots.next)
+    becomes_then mid (g.F.Flash.state c.replace.new.flash) (UpdateReplaced target.place stream) (λ now. IsFree now target.slots.next)
     (λ all now e r.
     let finds = known_at first.bytes (λ all. IsTargetIn (length all) all target) c.in_ok-target.ensures.found.finds all (sym c.find_target.ensures.only_reads.bytes ∙ e) in
     let long : mid.extent ≡ length all = known_at mid.bytes (λ all. mid.extent ≡ length all) (g.met.F.Flash.counted c.find_target.new.flash) all e in
@@ -156,7 +156,7 @@ verify_and_open-requires-clause-none_open g c =
     let stream = c.args.stream.now in
     let known : (all : List ℕ) → mid.bytes ≡ Some all → IsTargetIn (length all) all target =
     λ all e. known_at first.bytes (λ all. IsTargetIn (length all) all target) c.in_ok-target.ensures.found.finds all (sym c.find_target.ensures.only_reads.bytes ∙ e) in
-    becomes_then mid then (Replaced target.place stream) HasNoOpenSlot
+    becomes_then mid then (UpdateReplaced target.place stream) HasNoOpenSlot
     (λ all now e r.
     let long : mid.extent ≡ length all = known_at mid.bytes (λ all. mid.extent ≡ length all) (g.met.F.Flash.counted c.find_target.new.flash) all e in
     let fits : target.place + length stream ≤ length all = omega (arith, long, c.find_target.ensures.only_reads.extent, c.size.ensures.extent, c.in_ok-target.ensures.found.fits.place.most, c.if-stream-size.false) in
@@ -195,13 +195,13 @@ returns-clause-any_moment g c =
     (λ all found e both. both.0 (both.1 (known_at first.bytes AreBytes c.find_target.ensures.bytes all e)))
     (moments_both first last _ _ Left StaysBytes
     (read_moments first mid last _ _ _ Left (λ all e f. untouched refl) c.find_target.ensures.only_reads.bytes c.find_target.ensures.only_reads.unwritten
-    (moments_on mid then last _ _ _ (Replaced target.place stream) (OpeningSlot target.slots.next) Left
+    (moments_on mid then last _ _ _ (UpdateReplaced target.place stream) (OpeningSlot target.slots.next) Left
     (λ all now found e r opening.
     let long : mid.extent ≡ length all = known_at mid.bytes (λ all. mid.extent ≡ length all) (g.met.F.Flash.counted c.find_target.new.flash) all e in
     let fits : target.place + length stream ≤ length all = omega (arith, long, c.find_target.ensures.only_reads.extent, c.size.ensures.extent, c.in_ok-target.ensures.found.fits.place.most, c.if-stream-size.false) in
     opening_left all target (known all e) stream now fits r found opening)
     (moments_weaker mid then _ _ ReplacingUpdate Left (λ all found e h. replacing_left all target (known all e) stream found h) c.replace.ensures.writes.any_moment)
-    (becomes_leaves mid then (Replaced target.place stream) c.in-Ok-replace.ensures.replaced) c.verify_and_open.ensures.any_moment))
+    (becomes_leaves mid then (UpdateReplaced target.place stream) c.in-Ok-replace.ensures.replaced) c.verify_and_open.ensures.any_moment))
     (read_moments first mid last _ _ _ StaysBytes (λ all e h. h) c.find_target.ensures.only_reads.bytes c.find_target.ensures.only_reads.unwritten (bytes_on mid then last _ _ _ c.replace.ensures.writes.bytes c.verify_and_open.ensures.stays_bytes)))
 
 pub returns-in_default-clause-found : goal.returns-in_default-clause-found
@@ -289,10 +289,10 @@ returns-clause-opens g c =
     let back : Was → IsVerified g.F.Flash.state stream first last =
     λ was. verified g.F.Flash.state stream first last target (subst (λ n. TargetFits n target) (sym size) c.in_ok-target.ensures.found.fits) c.in_ok-target.ensures.found.finds was in
     read_moments first mid last _ _ _ Opens (λ all e l a. absurd (after_not_same stream all all l a refl)) c.find_target.ensures.only_reads.bytes c.find_target.ensures.only_reads.unwritten
-    (moments_on mid then last _ _ _ (Replaced target.place stream) (λ all found. (found ≡ all) ⊎ Was) Opens
+    (moments_on mid then last _ _ _ (UpdateReplaced target.place stream) (λ all found. (found ≡ all) ⊎ Was) Opens
     (λ all now found e r o l a.
     let long : mid.extent ≡ length all = known_at mid.bytes (λ all. mid.extent ≡ length all) (g.met.F.Flash.counted c.find_target.new.flash) all e in
     let fits : target.place + length stream ≤ length all = omega (arith, long, c.find_target.ensures.only_reads.extent, c.size.ensures.extent, c.in_ok-target.ensures.found.fits.place.most, c.if-stream-size.false) in
     ⊎_elim (λ same. absurd (after_not_between stream all found l a (subst (IsBetweenSlots all) (sym same) (replaced_between all target (known all e) stream now fits r)))) back o)
     (moments_weaker mid then _ _ ReplacingUpdate Opens (λ all found e h l a. absurd (after_not_replacing stream all found l a h)) c.replace.ensures.writes.any_moment)
-    (becomes_leaves mid then (Replaced target.place stream) c.in-Ok-replace.ensures.replaced) c.verify_and_open.ensures.opens)
+    (becomes_leaves mid then (UpdateReplaced target.place stream) c.in-Ok-replace.ensures.replaced) c.verify_and_open.ensures.opens)

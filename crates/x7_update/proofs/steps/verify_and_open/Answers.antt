@@ -1,6 +1,7 @@
 use Rattle.std.proofs.Common.{◌≡◌, ◌+◌, ◌*◌, ◌≤◌, ◌⊎◌, inl, inr, length, ap, option_map, refl, sym, ◌∙◌, arith}
+use Rattle.x7_packets.specs.FlashSlot.{flash_slot_size}
 use Rattle.x7_update.specs.After.{switched}
-use Rattle.x7_update.specs.Layout.{IsFree, open_switch}
+use Rattle.x7_update.specs.Layout.{IsFree, open_switch, switch_size}
 use Rattle.x7_update.specs.Verified.{WasReady}
 use Rattle.x7_update.specs.Writing.{OpeningSlot, StaysBytes}
 use Rattle.x7_update.proofs.VerifyLemmas.{fails_since, was_unknown}
@@ -128,7 +129,7 @@ verify_switch-requires-clause-opened g c =
     let ready = g.F.Flash.state c.verify_stream.new.flash in
     let next = c.args.target.slots.next in
     opened_is_open ready.bytes (g.F.Flash.state c.open_slot.new.flash).bytes next c.in-Ok.ensures.opened
-    (known_map ready.bytes (λ all. ready.extent ≡ length all) (λ all. 32 * next + 4 ≤ length all)
+    (known_map ready.bytes (λ all. ready.extent ≡ length all) (λ all. flash_slot_size * next + switch_size ≤ length all)
     (λ all e long. omega (arith, long, c.requires.next, c.verify_stream.ensures.only_reads.extent, c.requires.written.size.least)) (g.met.F.Flash.counted c.verify_stream.new.flash))
 
 pub open_slot-requires-clause-slot : goal.open_slot-requires-clause-slot

@@ -2,6 +2,7 @@ use Rattle.std.proofs.Common.{◌≡◌, ◌*◌, ◌+◌, ◌≤◌, ℕ, List,
 use Rattle.x7_words.specs.Flash.{IsTorn, cleared, programmed}
 use Rattle.x7_words.proofs.FlashLemmas.{bytes_cleared, length_cleared}
 use Rattle.x7_words.specs.Word.{AreBytes}
+use Rattle.x7_packets.specs.FlashSlot.{flash_slot_size}
 use Rattle.x7_update.specs.After.{switched}
 use Rattle.x7_update.specs.Layout.{IsOpen, spent_switch}
 use Rattle.x7_update.specs.Writing.{SpendingSlot}
@@ -14,7 +15,7 @@ pub returns-clause-writes : goal.returns-clause-writes
 returns-clause-writes g c =
     let s = g.F.Flash.state c.args.flash.now in
     let n = g.F.Flash.state c.program.new.self in
-    let place = 32 * c.args.slot in
+    let place = flash_slot_size * c.args.slot in
     let fits : AreBytes spent_switch = (omega arith, (omega arith, (omega arith, (omega arith, tt)))) in
     let inside : (all : List ℕ) → s.bytes ≡ Some all → place + 4 ≤ length all =
     λ all e. omega (arith, known_at s.bytes (λ all. s.extent ≡ length all) (g.met.F.Flash.counted c.args.flash.now) all e, c.requires.slot.within) in
@@ -32,7 +33,7 @@ returns-clause-spent g c =
     let s = g.F.Flash.state c.args.flash.now in
     let n = g.F.Flash.state c.program.new.self in
     let slot = c.args.slot in
-    on_ok_map (n.bytes ≡ option_map (programmed (32 * slot) spent_switch) s.bytes) (n.bytes ≡ option_map (switched slot spent_switch) s.bytes) c.program.result c.program.ensures.programmed
+    on_ok_map (n.bytes ≡ option_map (programmed (flash_slot_size * slot) spent_switch) s.bytes) (n.bytes ≡ option_map (switched slot spent_switch) s.bytes) c.program.result c.program.ensures.programmed
     (programs_switch slot spent_switch s.bytes n.bytes
-    (known_all s.bytes (λ all. cleared (32 * slot) spent_switch all ≡ spent_switch)
+    (known_all s.bytes (λ all. cleared (flash_slot_size * slot) spent_switch all ≡ spent_switch)
     (λ all e. clears_to_spent slot all (omega (arith, known_at s.bytes (λ all. s.extent ≡ length all) (g.met.F.Flash.counted c.args.flash.now) all e, c.requires.slot.within)))))

@@ -1,5 +1,6 @@
 use Rattle.std.proofs.Common.{◌≡◌, ◌*◌, length}
-use Rattle.x7_words.specs.Flash.{sector_size, OnlyReads}
+use Rattle.x7_words.specs.Flash.{sector_size}
+use Rattle.x7_words.specs.FlashCalls.{CallOnlyReads}
 use Rattle.x7_update.specs.Writing.{SeesWanted}
 use Rattle.x7_update.proofs.verify.verify_stream.Given as goal
 
@@ -7,7 +8,7 @@ abbrev pub invariant-loop-sector : goal.invariant-loop-sector
 invariant-loop-sector g l =
     let f = g.F.Flash in
     record {
-      only : OnlyReads (f.state l.fn.flash) (f.state l.flash) (f.found_since l.fn.flash) (f.found_since l.flash);
+      only : CallOnlyReads f l.fn.flash l.flash;
       buffer : length l.buffer ≡ sector_size;
       seen : SeesWanted l.stream_place l.stream l.stream_place (l.sector * sector_size) (f.state l.flash);
     }

@@ -1,6 +1,6 @@
 use Rattle.std.proofs.Common.{◌*◌}
 use Rattle.x7_words.specs.Flash.{sector_size, OnlyWrites}
-use Rattle.x7_update.specs.Writing.{AtAnyMoment, Becomes, ErasedTo, KeepsBelow, StaysBytes}
+use Rattle.x7_update.specs.Writing.{CallAtAnyMoment, Becomes, ErasedTo, KeepsBelow, StaysBytes}
 use Rattle.x7_update.proofs.write.erase_from.Given as goal
 
 abbrev pub invariant-loop-sector : goal.invariant-loop-sector
@@ -9,6 +9,6 @@ invariant-loop-sector g l =
     record {
       only : OnlyWrites (f.state l.fn.flash) (f.state l.flash);
       erased : Becomes (f.state l.fn.flash) (f.state l.flash) (ErasedTo l.place (l.sector * sector_size));
-      any_moment : AtAnyMoment (f.state l.fn.flash) (f.state l.flash) (f.found_since l.fn.flash) (f.found_since l.flash) (KeepsBelow l.place);
-      bytes : AtAnyMoment (f.state l.fn.flash) (f.state l.flash) (f.found_since l.fn.flash) (f.found_since l.flash) StaysBytes;
+      any_moment : CallAtAnyMoment f l.fn.flash l.flash (KeepsBelow l.place);
+      bytes : CallAtAnyMoment f l.fn.flash l.flash StaysBytes;
     }

@@ -9,5 +9,5 @@ returns-in-Read c = λ known extent within are read.
     subst (IsLoaded known extent (c.args.place / page_size) c.args.self.now.block.items) c.in-Read.is read in
     from_block known extent c.args.place c.in-Read.field-0 c.args.self.now.block.items c.deref.result.now within r.0 r.1 c.deref.ensures.value
 
-pub returns-in-Kept : goal.returns-in-Kept
-returns-in-Kept c = λ known extent within are read. from_rest known extent c.args.place c.rest_of_page.result.now within (c.rest_of_page.ensures known extent are within)
+pub returns-in-Cached : goal.returns-in-Cached
+returns-in-Cached c = λ known extent within are read. from_rest known extent c.args.place c.rest_of_page.result.now within (c.rest_of_page.ensures known extent are within)
