@@ -3,8 +3,9 @@ ghost use Rattle.std.specs.Prelude.{◌≡◌, ◌+◌, ◌<◌, ℕ, List, true
 ghost use Rattle.x7_words.specs.Flash.{KnowsBytes, OnlyReads};
 ghost use Rattle.x7_packets.specs.FlashSlot.{sector_size, flash_slot_count};
 ghost use Rattle.x7_update.specs.Layout.{HasSize, LeadsToUpdate};
-ghost use Rattle.x7_update.specs.Fault.{DiffersAt, HasCause, IsBadSlotAt, IsGoodSlot, NoLayoutAt};
+ghost use Rattle.x7_update.specs.Fault.{DiffersAt, HasCause, IsBadSlotAt, IsGoodSlot, NoLayoutAt, UntouchedUnlessSized};
 ghost use Rattle.x7_update.specs.Slots.{IsTargetIn, HasFirstSlot, HasTarget, SlotsAmong};
+ghost use Rattle.x7_update.specs.declared.fault.UpdateFault.TheVariants.{NoMemory};
 
 use crate::fault::UpdateFault;
 use crate::layout::{
@@ -132,6 +133,8 @@ pub(crate) fn find_target<F: Flash>(
     requires buffer { length buffer.old ≡ sector_size }
     ensures found { IfOk result (HasTarget (F.state flash.old)) }
     ensures refused { (stream : List ℕ) → IfErr result (HasCause stream (F.state flash.old) (F.state flash.new)) }
+    ensures memory { IfErr result (λ fault. fault ≡ NoMemory → ⊥) }
+    ensures bad_size { UntouchedUnlessSized (F.state flash.old) (F.state flash.new) }
     ensures bytes { KnowsBytes (F.state flash.old) }
     ensures only_reads { OnlyReads (F.state flash.old) (F.state flash.new) (F.found_since flash.old) (F.found_since flash.new) }
 {
