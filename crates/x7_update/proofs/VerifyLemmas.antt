@@ -6,7 +6,7 @@ use Rattle.x7_words.proofs.CountLemmas.{risen_from}
 use Rattle.x7_words.proofs.FlashLemmas.{get_or_slice_range}
 use Rattle.x7_packets.specs.FlashSlot.{flash_slot_size, flash_slot_count}
 use Rattle.x7_update.specs.Layout.{CanStandAt, HasSize, IsOpen, open_switch, switch_size}
-use Rattle.x7_update.specs.Fault.{CanTake, HasCause}
+use Rattle.x7_update.specs.Fault.{CanTake, HasCause, UntouchedForWant}
 use Rattle.x7_update.specs.Writing.{BecomesBytes, HasLateCause, HasWanted, IsWritten, IsWrong, SeesWanted, in_stream, in_switch, wanted_at}
 use Rattle.x7_update.specs.declared.fault.UpdateFault.{UpdateFault}
 use Rattle.x7_update.specs.declared.fault.UpdateFault.TheVariants.{Differs, Failed, NoLayout, NoMemory, TooLong}
@@ -126,3 +126,12 @@ end_refused stream old new (Err (Failed false)) sized can h = (h, sized)
 end_refused stream old new (Err TooLong) sized can h = absurd h
 end_refused stream old new (Err (NoLayout at)) sized can h = absurd h
 end_refused stream old new (Err NoMemory) sized can h = absurd h
+
+-- the end of an update wants no memory
+pub end_wants_none : (stream : List ℕ) (old new first last : FlashState) (result : Result (Unit {0}) UpdateFault) → IfErr result (HasLateCause stream old new) → IfErr result (UntouchedForWant first last)
+end_wants_none stream old new first last (Ok _) h = tt
+end_wants_none stream old new first last (Err (Differs at wrote read)) h = λ e. absurd cc
+end_wants_none stream old new first last (Err (Failed writing)) h = λ e. absurd cc
+end_wants_none stream old new first last (Err TooLong) h = absurd h
+end_wants_none stream old new first last (Err (NoLayout at)) h = absurd h
+end_wants_none stream old new first last (Err NoMemory) h = absurd h

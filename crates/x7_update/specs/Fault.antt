@@ -87,6 +87,14 @@ IsEarly (NoLayout place) = Unit {0}
 IsEarly (Differs place wrote read) = ⊥
 IsEarly NoMemory = Unit {0}
 
+-- where memory is wanting the flash is as before: want of memory comes before anything of the flash is touched
+abbrev pub UntouchedForWant : FlashState → FlashState → UpdateFault → Type 0
+UntouchedForWant old new fault = fault ≡ NoMemory → new ≡ old
+
+-- the flash is touched only where its size is good: else it is as before, and not even its first sector was read
+abbrev pub UntouchedUnlessSized : FlashState → FlashState → Type 0
+UntouchedUnlessSized old new = (HasSize old.extent → ⊥) → new ≡ old
+
 -- No fault but want of memory has a cause: the flash's bytes were known, it can be updated, the stream fits in it, and
 -- no write and no read failed.
 pub record HasNoCause (stream : List ℕ) (old new : FlashState) : Type 0 where

@@ -4,8 +4,9 @@ ghost use Rattle.x7_words.specs.Flash.{KnowsBytes};
 ghost use Rattle.x7_words.specs.FlashCalls.{CallOnlyReads};
 ghost use Rattle.x7_packets.specs.FlashSlot.{sector_size, flash_slot_count};
 ghost use Rattle.x7_update.specs.Layout.{HasSize, LeadsToUpdate};
-ghost use Rattle.x7_update.specs.Fault.{DiffersAt, HasCause, IsBadSlotAt, IsGoodSlot, NoLayoutAt};
+ghost use Rattle.x7_update.specs.Fault.{DiffersAt, HasCause, IsBadSlotAt, IsGoodSlot, NoLayoutAt, UntouchedUnlessSized};
 ghost use Rattle.x7_update.specs.Slots.{IsTargetIn, HasFirstSlot, HasTarget, SlotsAmong};
+ghost use Rattle.x7_update.specs.declared.fault.UpdateFault.TheVariants.{NoMemory};
 
 use crate::fault::UpdateFault;
 use crate::layout::{
@@ -133,6 +134,8 @@ pub(crate) fn find_target<F: Flash>(
     requires buffer { length buffer.old ≡ sector_size }
     ensures found { IfOk result (HasTarget (F.state flash.old)) }
     ensures refused { (stream : List ℕ) → IfErr result (HasCause stream (F.state flash.old) (F.state flash.new)) }
+    ensures memory { IfErr result (λ fault. fault ≡ NoMemory → ⊥) }
+    ensures bad_size { UntouchedUnlessSized (F.state flash.old) (F.state flash.new) }
     ensures bytes { KnowsBytes (F.state flash.old) }
     ensures only_reads { CallOnlyReads F.Flash flash.old flash.new }
 {

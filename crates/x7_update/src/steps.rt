@@ -6,7 +6,7 @@ ghost use Rattle.x7_packets.specs.FlashSlot.{flash_slot_size, flash_slot_count};
 ghost use Rattle.x7_update.specs.After.{SpendsOpen, IsAfterUpdate, MayBeLeft, switched};
 ghost use Rattle.x7_update.specs.Layout.{IsUpdatable, HasNoOpenSlot, IsFree, open_switch};
 ghost use Rattle.x7_update.specs.Verified.{AllVerified, OpensVerified, WasReady};
-ghost use Rattle.x7_update.specs.Fault.{HasNoCause, HasCause, IsEarly};
+ghost use Rattle.x7_update.specs.Fault.{HasNoCause, HasCause, IsEarly, UntouchedForWant, UntouchedUnlessSized};
 ghost use Rattle.x7_update.specs.Slots.{HasTarget};
 ghost use Rattle.x7_update.specs.Writing.{Becomes, CanVerify, HasLateCause, OnlyUses, OpeningSlot, UpdateReplaced, ReplacingUpdate, StaysBytes, CallWrites, CallAtAnyMoment};
 ghost use Rattle.x7_update.specs.declared.fault.UpdateFault.TheVariants.{NoMemory};
@@ -90,6 +90,8 @@ pub fn update<F: Flash>(alloc: Global, flash: &mut F, stream: &[u8]) -> Result<(
     ensures complete { IfErr result (λ fault. HasNoCause stream.now (F.state flash.old) (F.state flash.new) → fault ≡ NoMemory) }
     ensures unchanged { IfErr result (λ fault. IsEarly fault →
         CallOnlyReads F.Flash flash.old flash.new) }
+    ensures no_memory { IfErr result (UntouchedForWant (F.state flash.old) (F.state flash.new)) }
+    ensures bad_size { UntouchedUnlessSized (F.state flash.old) (F.state flash.new) }
     ensures only_uses { OnlyUses (F.state flash.old) (F.state flash.new) }
 {
     let mut buffer = Vec::new(alloc);

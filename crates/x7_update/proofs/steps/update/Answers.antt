@@ -9,7 +9,7 @@ use Rattle.x7_update.specs.Fault.{CanTake, IsTooLong}
 use Rattle.x7_update.specs.Slots.{IsTargetIn, TargetFits}
 use Rattle.x7_update.specs.Writing.{HasWanted, OpeningSlot, UpdateReplaced, ReplacingUpdate, StaysBytes}
 use Rattle.x7_update.specs.declared.fault.UpdateFault.TheVariants.{Failed, TooLong}
-use Rattle.x7_update.proofs.VerifyLemmas.{end_refused, fails_since, none_before}
+use Rattle.x7_update.proofs.VerifyLemmas.{end_refused, end_wants_none, fails_since, none_before}
 use Rattle.x7_update.proofs.ByteLemmas.{bytes_on, moments_both}
 use Rattle.x7_update.proofs.CaseLemmas.{found_left, opening_left, replaced_between, replaced_free, replaced_wanted, replacing_left}
 use Rattle.x7_update.proofs.ExactLemmas.{if_only_memory, only_memory}
@@ -90,6 +90,28 @@ returns-clause-refused g c =
 
 pub returns-clause-complete : goal.returns-clause-complete
 returns-clause-complete g c = if_only_memory c.args.stream.now (g.F.Flash.state c.args.flash.now) (g.F.Flash.state c.verify_and_open.new.flash) c.verify_and_open.result (returns-clause-refused g c)
+
+-- ---- when the flash isn't touched
+
+pub returns-in_err-target-clause-no_memory : goal.returns-in_err-target-clause-no_memory
+returns-in_err-target-clause-no_memory g c = let none = c.in_err-target.ensures.memory in search rules
+
+pub returns-in_err-target-clause-bad_size : goal.returns-in_err-target-clause-bad_size
+returns-in_err-target-clause-bad_size g c = c.find_target.ensures.bad_size
+
+pub returns-then-stream-size-clause-bad_size : goal.returns-then-stream-size-clause-bad_size
+returns-then-stream-size-clause-bad_size g c = λ bad. absurd (bad c.in_ok-target.ensures.found.fits.sized)
+
+pub returns-in-Err-clause-bad_size : goal.returns-in-Err-clause-bad_size
+returns-in-Err-clause-bad_size g c = λ bad. absurd (bad c.in_ok-target.ensures.found.fits.sized)
+
+pub returns-clause-bad_size : goal.returns-clause-bad_size
+returns-clause-bad_size g c = λ bad. absurd (bad c.in_ok-target.ensures.found.fits.sized)
+
+pub returns-clause-no_memory : goal.returns-clause-no_memory
+returns-clause-no_memory g c =
+    let f = g.F.Flash in
+    end_wants_none c.args.stream.now (f.state c.replace.new.flash) (f.state c.verify_and_open.new.flash) (f.state c.args.flash.now) (f.state c.verify_and_open.new.flash) c.verify_and_open.result c.verify_and_open.ensures.fault
 
 -- ---- what an update leaves, at any moment
 
