@@ -5,12 +5,14 @@ use Rattle.std.proofs.lemmas.List.{take-append-le}
 use Rattle.std.proofs.lemmas.List.FromFn.{get_or-map-range_with_len, length-map-range_with_len}
 use Rattle.x7_text.specs.Row.{rows}
 use Rattle.x7_mcs.specs.Lines.{lines_of}
-use Rattle.x7_mcs.specs.Record.{block_size, Meaning, record_address, record_count, record_data, sum_found, meaning_by_type, meaning_of, bytes_of_pairs, record_type, base_value, sum_wanted}
+use Rattle.x7_mcs.specs.Record.{block_size, record_address, record_count, record_data, sum_found, meaning_by_type, meaning_of, bytes_of_pairs, record_type, base_value, sum_wanted}
 use Rattle.x7_mcs.specs.DataRecords.{HaveNoOverlap, DataRecord, byte_at, covered, covers, record_end, extent, records_image, overlap, unless_covered, with_record}
 use Rattle.x7_mcs.specs.Flash.{FlashReading, after_bytes, after_line, after_lines, after_meaning, and_then, flash_in, mcs_of, of_no_line, flash_reading, with_end, with_records}
 use Rattle.x7_mcs.specs.Text.{block_start, data_line, row_lines}
 use Rattle.x7_mcs.specs.declared.fault.McsFault.{McsFault}
 use Rattle.x7_mcs.specs.declared.fault.McsFault.TheVariants as fault
+use Rattle.x7_mcs.specs.declared.record.Meaning.{Meaning}
+use Rattle.x7_mcs.specs.declared.record.Meaning.TheVariants as meaning
 use Rattle.x7_mcs.proofs.OutcomeLemmas.{none_is}
 use Rattle.x7_mcs.proofs.RowsLemmas.{first_of_16}
 
@@ -91,10 +93,10 @@ apart_records (Ok ys) r s e h = let same : record { base = r.base; has_ended = r
 
 apart_meaning : (m : Result Meaning McsFault) (n : ℕ) (r s : FlashReading) (bs : List ℕ) → after_meaning n r bs m ≡ Ok s → HaveNoOverlap r.records → HaveNoOverlap s.records
 apart_meaning (Err f) n r s bs e a = absurd cc
-apart_meaning (Ok Meaning.Start) n r s bs e a = let same : r ≡ s = cc in subst (λ (v : FlashReading). HaveNoOverlap v.records) same a
-apart_meaning (Ok Meaning.End) n r s bs e a = let same : record { base = r.base; has_ended = true; records = r.records } ≡ s = cc in subst (λ (v : FlashReading). HaveNoOverlap v.records) same a
-apart_meaning (Ok (Meaning.Base base)) n r s bs e a = let same : record { base = base; has_ended = r.has_ended; records = r.records } ≡ s = cc in subst (λ (v : FlashReading). HaveNoOverlap v.records) same a
-apart_meaning (Ok (Meaning.Data address)) n r s bs e a = let x : DataRecord = record { place = r.base + address; bytes = record_data bs } in
+apart_meaning (Ok meaning.Start) n r s bs e a = let same : r ≡ s = cc in subst (λ (v : FlashReading). HaveNoOverlap v.records) same a
+apart_meaning (Ok meaning.End) n r s bs e a = let same : record { base = r.base; has_ended = true; records = r.records } ≡ s = cc in subst (λ (v : FlashReading). HaveNoOverlap v.records) same a
+apart_meaning (Ok (meaning.Base base)) n r s bs e a = let same : record { base = base; has_ended = r.has_ended; records = r.records } ≡ s = cc in subst (λ (v : FlashReading). HaveNoOverlap v.records) same a
+apart_meaning (Ok (meaning.Data address)) n r s bs e a = let x : DataRecord = record { place = r.base + address; bytes = record_data bs } in
     apart_records (with_record n r.records x) r s e (λ ys f. apart_with (nat_lt (2 ^ 27) (record_end x)) n r.records ys x f a)
 
 apart_bytes : (o : Option (List ℕ)) (n : ℕ) (r s : FlashReading) → after_bytes n r o ≡ Ok s → HaveNoOverlap r.records → HaveNoOverlap s.records
@@ -187,11 +189,11 @@ reported_line n e = absurd cc
 
 reported_type : (n : ℕ) (bs : List ℕ) → IsReported (meaning_by_type n bs)
 reported_type n bs =
-    reported_if_ok (record_type bs == 0 && nat_le (record_address bs + record_count bs) block_size) (Meaning.Data (record_address bs)) _
-    (reported_if_ok (record_type bs == 1 && record_count bs == 0) Meaning.End _
-    (reported_if_ok (record_type bs == 2 && record_count bs == 2) (Meaning.Base (16 * base_value bs)) _
-    (reported_if_ok (record_type bs == 4 && record_count bs == 2) (Meaning.Base (block_size * base_value bs)) _
-    (reported_if_ok ((record_type bs == 3 || record_type bs == 5) && record_count bs == 4) Meaning.Start (Err (fault.Line n)) (reported_line n)))))
+    reported_if_ok (record_type bs == 0 && nat_le (record_address bs + record_count bs) block_size) (meaning.Data (record_address bs)) _
+    (reported_if_ok (record_type bs == 1 && record_count bs == 0) meaning.End _
+    (reported_if_ok (record_type bs == 2 && record_count bs == 2) (meaning.Base (16 * base_value bs)) _
+    (reported_if_ok (record_type bs == 4 && record_count bs == 2) (meaning.Base (block_size * base_value bs)) _
+    (reported_if_ok ((record_type bs == 3 || record_type bs == 5) && record_count bs == 4) meaning.Start (Err (fault.Line n)) (reported_line n)))))
 
 reported_meaning : (n : ℕ) (has_ended : Bool) (bs : List ℕ) → IsReported (meaning_of n has_ended bs)
 reported_meaning n has_ended bs =
@@ -212,10 +214,10 @@ reported_records r (Ok xs) h e = absurd cc
 
 reported_after : (m : Result Meaning McsFault) (n : ℕ) (r : FlashReading) (bs : List ℕ) → IsReported m → IsReported (after_meaning n r bs m)
 reported_after (Err f) n r bs h e = h (let s : Err f ≡ Err fault.NoMemory = cc in s)
-reported_after (Ok Meaning.Start) n r bs h e = absurd cc
-reported_after (Ok Meaning.End) n r bs h e = absurd cc
-reported_after (Ok (Meaning.Base base)) n r bs h e = absurd cc
-reported_after (Ok (Meaning.Data address)) n r bs h e =
+reported_after (Ok meaning.Start) n r bs h e = absurd cc
+reported_after (Ok meaning.End) n r bs h e = absurd cc
+reported_after (Ok (meaning.Base base)) n r bs h e = absurd cc
+reported_after (Ok (meaning.Data address)) n r bs h e =
     let x : DataRecord = record { place = r.base + address; bytes = record_data bs } in
     reported_records r (with_record n r.records x) (reported_large (nat_lt (2 ^ 27) (record_end x)) n (overlap r.records x.place (length x.bytes)) (x ∷ r.records)) e
 

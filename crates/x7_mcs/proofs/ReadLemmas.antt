@@ -4,12 +4,13 @@ use Rattle.std.proofs.lemmas.Grind.{common_steps}
 use Rattle.std.proofs.lemmas.List.{take_at}
 use Rattle.x7_words.specs.Word.{AreBytes}
 use Rattle.x7_mcs.specs.Lines.{lines_of}
-use Rattle.x7_mcs.specs.Record.{block_size, Meaning, meaning_of, sum_byte}
+use Rattle.x7_mcs.specs.Record.{block_size, meaning_of, sum_byte}
 use Rattle.x7_mcs.specs.DataRecords.{DataRecord, with_record}
 use Rattle.x7_mcs.specs.Flash.{FlashReading, after_bytes, after_lines, after_meaning, and_then, with_records}
 use Rattle.x7_mcs.specs.Image.{mcs_reading}
 use Rattle.x7_mcs.specs.Text.{base_line, data_line, record_line}
 use Rattle.x7_mcs.specs.declared.fault.McsFault.TheVariants as fault
+use Rattle.x7_mcs.specs.declared.record.Meaning.TheVariants as meaning
 use Rattle.x7_mcs.proofs.RoundLemmas.{pairs_back, record_first, meaning_written}
 
 -- a record's line is read
@@ -52,7 +53,7 @@ read_data n base a xs r rest h small fits low =
     ∙ ap (λ t. and_then (after_meaning n (mcs_reading base false xs) ((length r ∷ a / 256 ∷ a % 256 ∷ 0 ∷ r) ++ sum_byte (length r ∷ a / 256 ∷ a % 256 ∷ 0 ∷ r) ∷ []) t) (λ g. after_lines (n + 1) g (lines_of rest)))
     (meaning_written n (length r ∷ a / 256 ∷ a % 256 ∷ 0 ∷ r) long)
     ∙ ap (λ (b : Bool). and_then
-    (after_meaning n (mcs_reading base false xs) ((length r ∷ a / 256 ∷ a % 256 ∷ 0 ∷ r) ++ sum_byte (length r ∷ a / 256 ∷ a % 256 ∷ 0 ∷ r) ∷ []) (if b then Ok (Meaning.Data (256 * (a / 256) + a % 256)) else Err (fault.Line n)))
+    (after_meaning n (mcs_reading base false xs) ((length r ∷ a / 256 ∷ a % 256 ∷ 0 ∷ r) ++ sum_byte (length r ∷ a / 256 ∷ a % 256 ∷ 0 ∷ r) ∷ []) (if b then Ok (meaning.Data (256 * (a / 256) + a % 256)) else Err (fault.Line n)))
     (λ g. after_lines (n + 1) g (lines_of rest)))
     (is_le (256 * (a / 256) + a % 256 + length r) block_size (omega arith))
     ∙ ap₂ (λ (d : ℕ) (t : List ℕ). and_then (with_records (mcs_reading base false xs) (with_record n xs (record { place = base + d; bytes = t }))) (λ g. after_lines (n + 1) g (lines_of rest)))

@@ -3,8 +3,10 @@ use Rattle.std.specs.Prelude.{ℕ, ◌+◌, ◌==◌, Bool, true, false, if◌th
 use Rattle.x7_words.specs.Characters.{colon_byte}
 use Rattle.x7_mcs.specs.declared.fault.McsFault.{McsFault}
 use Rattle.x7_mcs.specs.declared.fault.McsFault.TheVariants as fault
+use Rattle.x7_mcs.specs.declared.record.Meaning.{Meaning}
+use Rattle.x7_mcs.specs.declared.record.Meaning.TheVariants as meaning
 use Rattle.x7_mcs.specs.Lines.{lines_of}
-use Rattle.x7_mcs.specs.Record.{Meaning, record_data, meaning_of, bytes_of_pairs}
+use Rattle.x7_mcs.specs.Record.{record_data, meaning_of, bytes_of_pairs}
 use Rattle.x7_mcs.specs.DataRecords.{DataRecord, records_image, with_record}
 
 -- what lines give: the base that stands, whether a record 01 stood, and the data records, the last first
@@ -29,10 +31,10 @@ after_data n r address content = with_records r (with_record n r.records (record
 -- what lines give with the record of line n, which has these bytes and says this
 abbrev pub after_meaning : ℕ → FlashReading → List ℕ → Result Meaning McsFault → Result FlashReading McsFault
 after_meaning n r bs (Err f) = Err f
-after_meaning n r bs (Ok Meaning.Start) = Ok r
-after_meaning n r bs (Ok Meaning.End) = Ok (record { base = r.base; has_ended = true; records = r.records })
-after_meaning n r bs (Ok (Meaning.Base base)) = Ok (record { base = base; has_ended = r.has_ended; records = r.records })
-after_meaning n r bs (Ok (Meaning.Data address)) = after_data n r address (record_data bs)
+after_meaning n r bs (Ok meaning.Start) = Ok r
+after_meaning n r bs (Ok meaning.End) = Ok (record { base = r.base; has_ended = true; records = r.records })
+after_meaning n r bs (Ok (meaning.Base base)) = Ok (record { base = base; has_ended = r.has_ended; records = r.records })
+after_meaning n r bs (Ok (meaning.Data address)) = after_data n r address (record_data bs)
 
 -- what lines give with the record of line n, whose digits may be no pairs
 abbrev pub after_bytes : ℕ → FlashReading → Option (List ℕ) → Result FlashReading McsFault

@@ -5,22 +5,7 @@ use Rattle.x7_words.specs.Flash.{erased_byte}
 use Rattle.x7_mcs.specs.DataRecords.{byte_at, covered, extent, DataRecord}
 use Rattle.x7_mcs.specs.declared.fault.McsFault.{McsFault}
 use Rattle.x7_mcs.specs.declared.fault.McsFault.TheVariants as fault
-use Rattle.x7_mcs.specs.Record.{Meaning}
-use Rattle.x7_mcs.specs.declared.record.Meaning.{Meaning as Read}
-use Rattle.x7_mcs.specs.declared.record.Meaning.TheVariants as read
 use Rattle.x7_mcs.specs.Flash.{FlashReading}
-
--- the meaning that the code's value stands for
-abbrev pub meaning_of_read : Read → Meaning
-meaning_of_read read.Start = Meaning.Start
-meaning_of_read (read.Data address) = Meaning.Data address
-meaning_of_read read.End = Meaning.End
-meaning_of_read (read.Base base) = Meaning.Base base
-
--- what a call returned is this meaning, or this fault
-abbrev pub SaysMeaning : Result Read McsFault → Result Meaning McsFault → Type 0
-SaysMeaning (Ok m) said = said ≡ Ok (meaning_of_read m)
-SaysMeaning (Err f) said = said ≡ Err f
 
 -- how many places a mark is for
 abbrev pub places_per_mark : ℕ

@@ -5,6 +5,8 @@ pub use Rattle.x7_words.specs.Characters.{number_of_digit}
 pub use Rattle.x7_text.specs.EitherCase.{byte_of, byte_before, bytes_of_pairs}
 use Rattle.x7_mcs.specs.declared.fault.McsFault.{McsFault}
 use Rattle.x7_mcs.specs.declared.fault.McsFault.TheVariants as fault
+use Rattle.x7_mcs.specs.declared.record.Meaning.{Meaning}
+use Rattle.x7_mcs.specs.declared.record.Meaning.TheVariants as meaning
 
 -- how many bytes a record of 16 address bits reaches over from its base on: those of a block
 abbrev pub block_size : ℕ
@@ -82,26 +84,17 @@ sum_byte bs = (byte_values - sum bs % byte_values) % byte_values
 abbrev pub sum_wanted : List ℕ → ℕ
 sum_wanted bs = sum_byte (take (length bs - 1) bs)
 
--- what a record says
-pub data Meaning : Type 0 where
-  -- where a program starts, which has no effect here
-  Start : Meaning
-  -- the data begin at this address
-  Data : ℕ → Meaning
-  -- no record follows
-  End : Meaning
-  -- the base of the addresses that follow
-  Base : ℕ → Meaning
+-- ---- what a record says
 
 -- what the bytes of line n say by type, count and address. Data end within 65,536 (this project's choice), and a start
 -- has no effect
 abbrev pub meaning_by_type : ℕ → List ℕ → Result Meaning McsFault
 meaning_by_type n bs =
-    if record_type bs == data_type && nat_le (record_address bs + record_count bs) block_size then Ok (Meaning.Data (record_address bs))
-    else if record_type bs == end_type && record_count bs == 0 then Ok Meaning.End
-    else if record_type bs == segment_base_type && record_count bs == 2 then Ok (Meaning.Base (16 * base_value bs))
-    else if record_type bs == linear_base_type && record_count bs == 2 then Ok (Meaning.Base (block_size * base_value bs))
-    else if (record_type bs == segment_start_type || record_type bs == linear_start_type) && record_count bs == 4 then Ok Meaning.Start
+    if record_type bs == data_type && nat_le (record_address bs + record_count bs) block_size then Ok (meaning.Data (record_address bs))
+    else if record_type bs == end_type && record_count bs == 0 then Ok meaning.End
+    else if record_type bs == segment_base_type && record_count bs == 2 then Ok (meaning.Base (16 * base_value bs))
+    else if record_type bs == linear_base_type && record_count bs == 2 then Ok (meaning.Base (block_size * base_value bs))
+    else if (record_type bs == segment_start_type || record_type bs == linear_start_type) && record_count bs == 4 then Ok meaning.Start
     else Err (fault.Line n)
 
 -- what the bytes of line n say, where a record 01 stood before or not

@@ -2,7 +2,6 @@
 ghost use Rattle.std.specs.Prelude.{◌≡◌, ◌<◌, ◌%◌, ◌++◌, length, MatchResult};
 ghost use Rattle.std.specs.List.{sum};
 ghost use Rattle.x7_mcs.specs.Record.{IsOfItsCount, base_value, record_data, meaning_by_type, meaning_of, sum_byte, byte_values, bytes_beside};
-ghost use Rattle.x7_mcs.specs.Image.{SaysMeaning};
 
 use crate::fault::McsFault;
 
@@ -74,7 +73,7 @@ fn base_value(bytes: &[u8]) -> u32
 /// What the record of line `line_number` says by its type, its count and its address.
 fn meaning_by_type(line_number: u64, bytes: &[u8]) -> Result<Meaning, McsFault>
     requires { IsOfItsCount bytes.now }
-    ensures { SaysMeaning result (meaning_by_type line_number bytes.now) }
+    ensures { result ≡ meaning_by_type line_number bytes.now }
 {
     let count = u32::from(bytes[0]);
     let address = 256 * u32::from(bytes[1]) + u32::from(bytes[2]);
@@ -94,7 +93,7 @@ pub(crate) fn meaning_of(
     has_ended: bool,
     bytes: &[u8],
 ) -> Result<Meaning, McsFault>
-    ensures meaning { SaysMeaning result (meaning_of line_number has_ended bytes.now) }
+    ensures meaning { result ≡ meaning_of line_number has_ended bytes.now }
     ensures counted { MatchResult result (λ _. IsOfItsCount bytes.now) (λ _. Unit {0}) }
 {
     if bytes.len() == 0 || usize::from(bytes[0]) + BYTES_BESIDE != bytes.len() {
