@@ -91,7 +91,7 @@ class Planned:
             self.refuse()
 
 
-class Written:
+class StreamWriter:
     """The data of a stream as they are written; `checks` are the places of its checks."""
 
     def __init__(self, head):
@@ -147,7 +147,7 @@ def write_run(to, far, data, fars):
 
 def in_vendor_form(planned):
     """The data of a planned stream in the vendor's sequences."""
-    to, settings = Written(planned.data[: planned.head.end]), planned.settings
+    to, settings = StreamWriter(planned.data[: planned.head.end]), planned.settings
     to.nops(1)
     to.command("NULL", 1)
     to.command("RCRC", 2)
