@@ -33,7 +33,11 @@ fn put(memory: &mut Memory, part: &Part, far: u32, word: u32) -> bool
     if !part.is_address(far) {
         return false;
     }
-    memory.put(part, far, &[word; MOST_FRAME_WORDS][..part.words() as usize]);
+    memory.put(
+        part,
+        far,
+        &[word; MOST_FRAME_WORDS][..part.words() as usize],
+    );
     true
 }
 
