@@ -211,6 +211,12 @@ def refused_frames(bench):
     bench.put("kept", stream_of(command("WCFG"), far, frames, command("AGHIGH")))
     came = bench.tool("frames", "touch", "made.part", "kept")
     bench.tally.same("touch of one frame", lines_of(came), ["writes 1 frames", "frames 00000000 to 00000000, 1", "command AGHIGH"])
+    after_iprog = [command("IPROG"), command("WCFG"), far, frames]
+    bench.put("after IPROG", stream_of(*after_iprog))
+    came = bench.tool("frames", "touch", "made.part", "after IPROG")
+    bench.tally.same("touch after IPROG", lines_of(came), ["writes 1 frames", "frames 00000000 to 00000000, 1", "command IPROG"])
+    bench.put("bad after IPROG", stream_of(*after_iprog, x7.write_packet(x7.CRC, [0])))
+    bench.refuses("frames", "touch", "made.part", "bad after IPROG", what="fault: Crc")
 
 
 def parts_refused(bench):
