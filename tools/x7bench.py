@@ -82,6 +82,7 @@ class Asked:
             "Encrypted": "it is encrypted",
             "Id": "frames or START come before any IDCODE",
             "Watchdog": "its own watchdog ends it (TIMER)",
+            "Multi": "a frame is to be copied (MFWR) under another command than MFW",
         }
         return f"{endings[end[1]].format(*end[2:])}, at byte {self.device.taken} of the data"
 

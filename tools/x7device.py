@@ -2,7 +2,7 @@
 and watchdog.
 
 Neither x7 nor a part file is needed, so the faults Address and Overrun, Multi where the source of copies is missing,
-and what frames hold aren't known here; x7report has them."""
+and what frames hold aren't known here; x7frames has them."""
 from collections import namedtuple
 
 import x7formats as x7

@@ -1,13 +1,13 @@
 """The whole report of `x7 play`, and the text of `x7 boot`, frames included, by the rules of docs/FORMATS.md: a plain
-program, with which tests/test_histories.py compares x7. It takes word by word and keeps the words of each frame in a
-list, so it is for small parts."""
+program, with which tests/test_histories.py compares x7. It takes word by word, so it is for small parts."""
 import itertools
 from collections import namedtuple
 
 import x7formats as x7
 from x7device import Device, ticks_to_the_end
+from x7frames import WCFG, PartFrames
 
-WCFG, MFW, RCFG = x7.CODES["WCFG"], x7.CODES["MFW"], x7.CODES["RCFG"]
+RCFG = x7.CODES["RCFG"]
 SHOWN = ["CRC", "FAR", "CMD", "CTL0", "MASK", "STAT", "COR0", "IDCODE", "AXSS", "COR1", "WBSTAR", "TIMER", "BOOTSTS", "CTL1", "BSPI"]
 STARTUP_STATES = [0b000, 0b001, 0b011, 0b010, 0b110, 0b111, 0b101, 0b100]
 FALLBACKS = ("Id", "Crc", "Watchdog")
@@ -28,73 +28,14 @@ def words_of_step(step):
 class PartDevice(Device):
     """A device of a part, with its frames."""
 
+    frames_kind = PartFrames
+
     def __init__(self, part, start=BENCH):
         super().__init__(part.idcode, part.lock, part.match)
-        self.part, self.start, self.size = part, start, part.frame_words
-        self.slots, self.zeros = part.slots(), (0,) * part.frame_words
-        self.earlier, self.last_address = dict.fromkeys(part.addresses(), self.zeros), part.addresses()[-1]
-        self.base, self.run, self.given, self.source, self.ahead = 0, [], 0, None, []
+        self.part, self.start, self.part_frames = part, start, self.frames_kind(part)
         self.words_out, self.started, self.ignored, self.wrapped = [], None, False, False
         self.registers.update(start.kept)
-        self.begin_run(0)
         self.load_watchdog(0)
-
-    # frames
-
-    def slots_from_base(self):
-        """The slots from the base on; none where that is no address."""
-        return self.slots[self.slots.index(self.base) :] if self.base in self.earlier else []
-
-    def frames_of_run(self):
-        """The whole frames of the run."""
-        return [tuple(self.run[at - self.size : at]) for at in range(self.size, len(self.run) + 1, self.size)]
-
-    def memory(self):
-        """What each frame holds: what was written before the run, and the run's whole frames but the newest, at their
-        slots."""
-        written = zip(self.ahead, self.frames_of_run()[:-1])
-        return {**self.earlier, **{far: frame for far, frame in written if far is not None}}
-
-    def far(self):
-        """FAR as it is read: where the newest whole frame of the run stands, or the next word's frame of a readback."""
-        if self.base not in self.earlier:
-            return self.base
-        newest = max(len(self.run) // self.size, self.given // self.size) - 1
-        return next((it for it in self.ahead[max(newest, 0) :] if it is not None), self.last_address)
-
-    def begin_run(self, base):
-        """Ends a run, and begins a new one."""
-        self.earlier, self.base, self.run, self.given = self.memory(), base, [], 0
-        self.ahead = self.slots_from_base()
-
-    def add_to_run(self, word, after):
-        """Takes a word of frame data."""
-        self.run.append(word)
-        if not self.ahead:
-            self.stop(after, "fault", "Address", f"{self.base:08X}")
-        elif len(self.run) > len(self.ahead) * self.size and len(self.run) % self.size == 0:
-            self.stop(after, "fault", "Overrun")
-
-    def copy(self, after):
-        """Puts the source at the base."""
-        if self.command != MFW or self.source is None:
-            self.stop(after, "fault", "Multi")
-        elif self.base not in self.earlier:
-            self.stop(after, "fault", "Address", f"{self.base:08X}")
-        else:
-            self.earlier[self.base] = self.source
-
-    def read_back(self, count, after):
-        """The next words of a readback: a frame of zeros, the frames from the base on, and zeros."""
-        if self.command != RCFG or self.registers["CTL0"] >> 4 & 3:
-            return [0] * count
-        if self.base not in self.earlier:
-            self.stop(after, "fault", "Address", f"{self.base:08X}")
-            return []
-        frames = [self.zeros, *(self.earlier.get(far, self.zeros) for far in self.ahead)]
-        first, self.given = self.given, self.given + count
-        words = [word for frame in frames for word in frame][first : self.given]
-        return words + [0] * (count - len(words))
 
     # accesses
 
@@ -126,19 +67,19 @@ class PartDevice(Device):
             elif self.registers["CTL0"] >> 5 & 1:
                 pass
             elif step.register == x7.MFWR:
-                self.copy(step.end)
+                self.refuse(step.end, self.part_frames.copy())
             elif self.command == WCFG:
-                self.add_to_run(word, step.end)
+                self.refuse(step.end, self.part_frames.add(word.to_bytes(4, "big")))
+
+    def refuse(self, after, fault):
+        """Ends the play at a fault of frames, where there is one."""
+        if fault:
+            self.stop(after, "fault", *fault)
 
     def store(self, number, word, after, compared):
-        """Stores a word; FAR and CMD begin a run, and MFW after WCFG takes the newest frame of the one that ends as its
-        source."""
-        if number == x7.FAR:
-            self.begin_run(word & (1 << sum(self.part.far)) - 1)
-        elif number == x7.CMD:
-            newest = self.frames_of_run()[-1:] if (self.command, word & 31) == (WCFG, MFW) else []
-            self.source = newest[0] if newest else None
-            self.begin_run(self.far())
+        """Stores a word; FAR and CMD begin a run."""
+        if number in (x7.FAR, x7.CMD):
+            self.part_frames.store(number, word)
         super().store(number, word, after, compared)
 
     def execute(self, command, after):
@@ -159,6 +100,14 @@ class PartDevice(Device):
         if step.count:
             self.words_out += self.read_back(step.count, step.end) if name == "FDRO" else [self.value(name)] * step.count
 
+    def read_back(self, count, after):
+        """The words of a read of FDRO; zeros where CMD isn't RCFG or SBITS isn't 00."""
+        if self.command != RCFG or self.registers["CTL0"] >> 4 & 3:
+            return [0] * count
+        fault = self.part_frames.address_fault()
+        self.refuse(after, fault)
+        return [] if fault else self.part_frames.read_back(count)
+
     # what it shows
 
     def is_fault(self, name):
@@ -169,7 +118,7 @@ class PartDevice(Device):
         """A register as it is read; 0 where nothing can be read."""
         if name == "CRC":
             return int(self.end[2], 16) if self.is_fault("Crc") else self.check.value
-        computed = {"FAR": self.far, "STAT": self.status, "BOOTSTS": lambda: self.boot_byte() | self.start.before << 8}
+        computed = {"FAR": self.part_frames.far, "STAT": self.status, "BOOTSTS": lambda: self.boot_byte() | self.start.before << 8}
         if name in computed:
             return computed[name]()
         return {**self.registers, "CMD": self.command, "IDCODE": self.idcode}.get(name, 0)
@@ -206,9 +155,9 @@ class PartDevice(Device):
         yield from (f"reg {name} {self.value(name):08X}" for name in SHOWN)
         yield f"reads {len(words_out)}"
         yield from x7.rows("data", "".join(f"{it:08X}" for it in words_out), 64, 8)
-        shown = {far: frame for far, frame in self.memory().items() if any(frame)}
+        shown = {far: frame for far, frame in self.part_frames.memory().items() if any(frame)}
         yield f"frames {len(shown)}"
-        yield from (f"frame {far:08X} {''.join(f'{it:08X}' for it in shown[far])}" for far in sorted(shown))
+        yield from x7.frames_text(shown).splitlines()
 
 
 def text_of(lines):

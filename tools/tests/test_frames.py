@@ -182,12 +182,58 @@ def others(bench):
     bench.refuses("frames", "vendor", "vendor", what="no stream of")
 
 
+def command(name):
+    """The bytes of a write of a command."""
+    return x7.write_packet(x7.CMD, [x7.CODES[name]])
+
+
+def stream_of(*packets):
+    """A stream of one session for the device of the tests."""
+    packets = [command("RCRC"), x7.write_packet(x7.IDCODE, [0x0362D093]), *packets, command("DESYNC")]
+    return x7.SYNC + b"".join(packets)
+
+
+def refused_frames(bench):
+    """Streams of which a device drops or refuses frames, and what `touch` says of them."""
+    far, copy, frames = x7.write_packet(x7.FAR, [0]), x7.write_packet(x7.MFWR, [0]), x7.write_packet(x7.FDRI, [1] * 202)
+    sbits = x7.write_packet(x7.MASK, [0x30]) + x7.write_packet(x7.CTL0, [0x20])
+    refused = {
+        "dropped under NULL": ([command("NULL"), far, frames], "under the command NULL"),
+        "dropped by SBITS": ([sbits, command("WCFG"), far, frames], "SBITS"),
+        "a copy under NULL": ([command("NULL"), far, copy], "another command than MFW"),
+        "a copy of nothing": ([command("WCFG"), command("MFW"), far, copy], "none was written"),
+        "no address": ([command("WCFG"), x7.write_packet(x7.FAR, [0x7F]), frames], "0000007F, which is no address"),
+        "no place": ([command("WCFG"), x7.write_packet(x7.FAR, [0x00800004]), x7.write_packet(x7.FDRI, [1] * 1010)], "more frames after 00800004"),
+    }
+    for name, (packets, what) in refused.items():
+        bench.put(name, stream_of(*packets))
+        bench.refuses("frames", "touch", "made.part", name, what=what)
+    bench.put("kept", stream_of(command("WCFG"), far, frames, command("AGHIGH")))
+    came = bench.tool("frames", "touch", "made.part", "kept")
+    bench.tally.same("touch of one frame", lines_of(came), ["writes 1 frames", "frames 00000000 to 00000000, 1", "command AGHIGH"])
+    after_iprog = [command("IPROG"), command("WCFG"), far, frames]
+    bench.put("after IPROG", stream_of(*after_iprog))
+    came = bench.tool("frames", "touch", "made.part", "after IPROG")
+    bench.tally.same("touch after IPROG", lines_of(came), ["writes 1 frames", "frames 00000000 to 00000000, 1", "command IPROG"])
+    bench.put("bad after IPROG", stream_of(*after_iprog, x7.write_packet(x7.CRC, [0])))
+    bench.refuses("frames", "touch", "made.part", "bad after IPROG", what="fault: Crc")
+
+
+def parts_refused(bench):
+    """The forms that have no use for a part file refuse one."""
+    bench.put("kept", stream_of(command("NULL")))
+    for words in (["of", "one"], ["differ", "one", "other"], ["touch", "made.part", "kept"], ["vendor", "kept"]):
+        bench.refuses("frames", *words, "--part", "made.part", what=f"{words[0]} takes no --part")
+
+
 def main(folder):
     """All tests, in a folder of their own."""
     bench = Bench(folder)
     bench.put("made.part", DEVICE)
     texts(bench)
     ecc(bench)
+    refused_frames(bench)
+    parts_refused(bench)
     if X7:
         planned(bench)
         others(bench)

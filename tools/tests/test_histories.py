@@ -18,6 +18,7 @@ import histories as h
 import x7formats as x7
 import x7report as r
 from x7device import Device
+from x7frames import PartFrames
 
 COUNT, SHOWN = 200, 3
 FRAME_FAULTS = (["Address"], ["Overrun"], ["Multi"])
@@ -125,45 +126,52 @@ def compare(kind, seed):
 # ---- wrong rules, each of which the histories must tell
 
 
-class HoldsNoFrame(r.PartDevice):
+class HoldsNoFrame(PartFrames):
     """Writes each frame as soon as it is whole."""
 
-    def memory(self):
-        written = zip(self.slots_from_base(), self.frames_of_run())
-        return {**self.earlier, **{far: frame for far, frame in written if far is not None}}
+    def landed(self):
+        frames = (self.frame_of_run(at) for at in range(self.count()))
+        return {far: frame for far, frame in zip(self.slots_from_base(), frames) if far is not None}
 
 
-class HasNoPads(r.PartDevice):
+class HasNoPads(PartFrames):
     """Has no pads between its rows."""
 
-    def slots_from_base(self):
-        return [it for it in super().slots_from_base() if it is not None]
+    def __init__(self, part):
+        super().__init__(part)
+        self.slots = part.addresses()
+        self.slot_of = {far: slot for slot, far in enumerate(self.slots)}
 
 
-class HasNoPadFrame(r.PartDevice):
+class HasNoPadFrame(PartFrames):
     """Gives no frame of zeros before the frames read back."""
 
     def begin_run(self, base):
         super().begin_run(base)
-        self.given = self.size if self.command == r.RCFG else 0
+        self.given = self.size // 4 if self.command == r.RCFG else 0
 
 
-class KeepsTheSource(r.PartDevice):
+class KeepsTheSource(PartFrames):
     """Takes the source of copies also over another command."""
 
-    def store(self, number, word, after, compared):
+    def store(self, register, word):
         before = self.source
-        super().store(number, word, after, compared)
+        super().store(register, word)
         self.source = self.source or before
 
 
-class MovesAtCopies(r.PartDevice):
+class MovesAtCopies(PartFrames):
     """Moves FAR at each copy."""
 
-    def copy(self, after):
-        super().copy(after)
-        place = self.slots.index(self.base) if self.base in self.earlier else -1
-        self.base = self.base if self.slots[place + 1] is None else self.slots[place + 1]
+    def copy(self):
+        fault = super().copy()
+        self.base = next((it for it in self.slots_from_base()[1:2] if it is not None), self.base)
+        return fault
+
+
+def with_frames(frames):
+    """A device whose frames follow a wrong rule."""
+    return type(frames.__name__, (r.PartDevice,), {"frames_kind": frames, "__doc__": frames.__doc__})
 
 
 class RunsOverFar(r.PartDevice):
@@ -254,9 +262,10 @@ class ForgetsTheAttempt(r.PartDevice):
 
 
 WRONG = [
+    (Play(), with_frames(it)) for it in (HoldsNoFrame, HasNoPads, HasNoPadFrame, KeepsTheSource, MovesAtCopies)
+] + [
     (Play(), it) for it in (
-        HoldsNoFrame, HasNoPads, HasNoPadFrame, KeepsTheSource, MovesAtCopies, RunsOverFar, IgnoresMask, StartsAtOnce, ForgetsNoShutdown,
-        FoldsLout, CountsOneByteMore, ForgetsTheCheck, AsksTooLate)
+        RunsOverFar, IgnoresMask, StartsAtOnce, ForgetsNoShutdown, FoldsLout, CountsOneByteMore, ForgetsTheCheck, AsksTooLate)
 ] + [(Boot(), it) for it in (ObeysIprog, ForgetsTheAttempt)]
 
 

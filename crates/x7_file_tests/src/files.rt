@@ -1,4 +1,4 @@
-//! Real files and writers, and inputs that are put while one is read.
+//! Real files and writers; and inputs in memory, read in pieces and put anew while one is read.
 use crate::paths::path_of;
 use std::io::{ErrorKind, Write};
 use std::rt::Files;

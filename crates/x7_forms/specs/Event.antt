@@ -14,7 +14,8 @@ use Rattle.x7_forms.specs.declared.refusal.Refusal.{Refusal}
 use Rattle.x7_forms.specs.declared.refusal.Why.{Why}
 use Rattle.x7_forms.specs.declared.refusal.Why.TheVariants as why
 
--- the reason, and the name of the input or of the flash concerned; no name where the reason concerns none
+-- the reason, and the name of the input or of the flash concerned: `reads` for words read out, and no name where the
+-- reason concerns none
 pub record Event : Type 0 where
   pub reason : Why
   pub concerned : List ℕ

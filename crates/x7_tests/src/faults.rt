@@ -1,5 +1,6 @@
-//! The texts of faults.
+//! The texts of faults, and the number of the status that no case comes to.
 use std::test::Fail;
+use x7_forms::Status;
 use x7_listing::AsmFault;
 use x7_part::{KeyPlace, PartFault, PartKey};
 
@@ -48,4 +49,9 @@ fn assembly_faults_name_the_line(rt: HostRuntime) -> Result<(), Fail> {
         assert!(rt; format!(in rt.alloc(); "{fault}")?.as_str() == text);
     }
     Ok(())
+}
+
+#[test]
+fn want_of_memory_has_a_number(rt: HostRuntime) {
+    assert!(rt; Status::NoMemory.number() == 8);
 }

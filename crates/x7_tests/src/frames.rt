@@ -15,7 +15,7 @@ const PART: &str =
 const FRAME_WORDS: usize = 101;
 
 /// How many words a frame of any part has at most.
-const MOST_WORDS: usize = 255;
+const MOST_FRAME_WORDS: usize = x7_part::MOST_FRAME_WORDS as usize;
 
 /// Whether the memory has a frame of this word, again and again, at the address.
 fn has_frame(part: &Part, memory: &Memory, far: u32, word: u32) -> bool
@@ -33,7 +33,11 @@ fn put(memory: &mut Memory, part: &Part, far: u32, word: u32) -> bool
     if !part.is_address(far) {
         return false;
     }
-    memory.put(part, far, &[word; MOST_WORDS][..part.words() as usize]);
+    memory.put(
+        part,
+        far,
+        &[word; MOST_FRAME_WORDS][..part.words() as usize],
+    );
     true
 }
 

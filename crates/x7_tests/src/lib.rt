@@ -19,8 +19,6 @@ mod resets;
 #[cfg(test)]
 mod sessions;
 #[cfg(test)]
-mod status;
-#[cfg(test)]
 mod streams;
 #[cfg(test)]
 mod texts;
