@@ -1,5 +1,5 @@
 -- How far a lister's text lags the bytes that it took.
-use Rattle.std.proofs.Common.{◌≡◌, ◌==◌, ℕ, ◌+◌, ◌*◌, ◌-◌, ◌≤◌, Bool, true, false, if◌then◌else◌, List, [], ◌∷◌, ◌++◌, None, drop, length, length-drop, refl, sym, ap, ◌∙◌, take, take-append-drop, append-nil, arith, length-append, codes, flat_map, decimal}
+use Rattle.std.proofs.Common.{◌≡◌, ◌==◌, ℕ, ◌+◌, ◌*◌, ◌-◌, ◌≤◌, Bool, true, false, if◌then◌else◌, List, [], ◌∷◌, ◌++◌, None, drop, length, length-drop, refl, sym, ap, ap₂, ◌∙◌, take, take-append-drop, append-nil, arith, length-append, codes, flat_map, decimal}
 use Rattle.std.specs.List.{AllByRecursion}
 use Rattle.std.proofs.lemmas.List.{length-map, length-take-le}
 use Rattle.x7_words.specs.Word.{bytes_of_word}
@@ -16,13 +16,14 @@ use Rattle.x7_regs.specs.declared.command.Command.{Command}
 use Rattle.x7_regs.specs.Register.{reg_name}
 use Rattle.x7_packets.proofs.ByHandLemmas.{reading_is_found}
 use Rattle.x7_text.proofs.LineLemmas.{bytes_closed, open_text_append}
-use Rattle.x7_listing.specs.Line.{Cmd, Data, ended_text}
-use Rattle.x7_listing.specs.HeadLine.{command_line, line_of_head, text_of_head, line_text}
-use Rattle.x7_listing.specs.Listing.{listing_of, packet_text, place_text, session_text}
+use Rattle.x7_listing.specs.Line.{Cmd, Data, cmd_line, ended_text, ended_texts}
+use Rattle.x7_listing.specs.HeadLine.{line_as, line_of_head, text_of_head}
+use Rattle.x7_listing.specs.Listing.{gap_and_sync_lines, gap_lines, listing_of, packet_lines, packets_lines, place_lines, session_lines, sessions_text}
 use Rattle.x7_listing.specs.Lister.{GapListed, ListerStandsFor, ListerState, HasListedAt, TakerStandsFor, open_payload, in_line_after_word, open_session_word, open_words, in_line_after_words, written_of}
 use Rattle.x7_packets.specs.Mode.{Mode}
 use Rattle.x7_listing.specs.declared.line.head_line.HeadLine.{HeadLine}
 use Rattle.x7_listing.specs.declared.line.head_line.HeadLine.TheVariants as line
+use Rattle.x7_listing.proofs.ListingLemmas.{gap_and_sync_text, gap_text, packets_text, place_after, texts_append}
 use Rattle.x7_listing.proofs.PrefixLemmas.{place_sure, session_over, sure_after, sure_place, sure_text, listed_after}
 use Rattle.x7_listing.proofs.SessionLemmas.{session_closed}
 
@@ -36,7 +37,7 @@ bytes_long i (x ∷ xs) =
     omega (arith, all, bytes_long (next_in_line 32 i) xs, length-append (first ++ line_end 32 i) more, length-append first (line_end 32 i), length-append (line_start (codes "bytes ") i) (hex_byte x))
 
 -- the line of a header word has at least four bytes
-line_long : (l : HeadLine) → 4 ≤ length (line_text l)
+line_long : (l : HeadLine) → 4 ≤ length (ended_text (line_as l))
 line_long line.Nop = omega arith
 line_long line.Sync = omega arith
 line_long (line.Write register count) = omega (arith, length-append (codes "write ") (reg_name register ++ 32 ∷ decimal count ++ 10 ∷ []))
@@ -49,11 +50,11 @@ command_by_case : (b : Bool) (c : Command) (w : ℕ) → 4 ≤ length (ended_tex
 command_by_case true c w = omega arith
 command_by_case false c w = omega arith
 
-command_long : (w : ℕ) → 4 ≤ length (command_line w)
+command_long : (w : ℕ) → 4 ≤ length (ended_text (cmd_line w))
 command_long w = command_by_case (code_of (command_by w) == w) (command_by w) w
 
 payload_by : (b : Bool) (i w : ℕ) → 4 ≤ length (open_payload b i w)
-payload_by true i w = omega (arith, command_long w, length-append (close i) (command_line w))
+payload_by true i w = omega (arith, command_long w, length-append (close i) (ended_text (cmd_line w)))
 payload_by false i w =
     let first : List ℕ = line_start (codes "data") i ++ spaced w in
     let all : length (open_payload false i w) ≡ length (first ++ line_end 8 i) = refl in
@@ -82,32 +83,34 @@ as_many (p ∷ ps) =
     omega (arith, as_many ps, length-append (words p) (flat_map words ps), length-append (stepped p) (flat_map stepped ps), length-map {B = ℕ × Step} p.payload (λ (w : ℕ). (w, Payload (named_by p.step) w)))
 
 -- a gap, the sync word and packets
-session_long : (gap : List ℕ) (packets : List Packet) → length gap + 4 + length (packet_bytes packets) ≤ length (bytes_text gap ++ codes "sync\n" ++ open_words 0 (flat_map stepped packets))
+session_long : (gap : List ℕ) (packets : List Packet) → length gap + 4 + length (packet_bytes packets) ≤ length (ended_texts (gap_and_sync_lines gap) ++ open_words 0 (flat_map stepped packets))
 session_long gap packets =
     let ws : List ℕ = open_words 0 (flat_map stepped packets) in
     let bytes : length (packet_bytes packets) ≡ 4 * length (flat_map words packets) = four_each (flat_map words packets) in
-    omega (arith, gap_long gap, bytes, as_many packets, words_long 0 (flat_map stepped packets), length-append (bytes_text gap ++ codes "sync\n") ws, length-append (bytes_text gap) (codes "sync\n"))
+    omega (arith, gap_long gap, ap length (gap_and_sync_text gap), bytes, as_many packets, words_long 0 (flat_map stepped packets), length-append (ended_texts (gap_and_sync_lines gap)) ws, length-append (bytes_text gap) (codes "sync\n"))
   where
     gap_long : (gap : List ℕ) → length gap ≤ length (bytes_text gap)
     gap_long gap = omega (arith, bytes_long 0 gap, ap length (bytes_closed gap), length-append (open_text 32 (codes "bytes ") hex_byte 0 gap) (close (in_line_after 32 0 gap)))
 
-ended_long : (s : EndedSession) → IsEndedSession s → length (session_bytes s) ≤ length (session_text s)
+ended_long : (s : EndedSession) → IsEndedSession s → length (session_bytes s) ≤ length (ended_texts (session_lines s))
 ended_long s is =
     let over = session_over s.gap s.packets is.packets in
-    let sure : List ℕ = bytes_text s.gap ++ codes "sync\n" ++ open_words 0 (flat_map stepped s.packets) in
-    let text : length (session_text s) ≡ length (sure ++ over.0) = ap length over.1 in
+    let sure : List ℕ = ended_texts (gap_and_sync_lines s.gap) ++ open_words 0 (flat_map stepped s.packets) in
+    let text : length (ended_texts (session_lines s)) ≡ length (sure ++ over.0) = ap length over.1 in
     let bytes : length (session_bytes s) ≡ length ((s.gap ++ sync_bytes) ++ packet_bytes s.packets) = refl in
     omega (arith, session_long s.gap s.packets, text, bytes, length-append sure over.0, length-append (s.gap ++ sync_bytes) (packet_bytes s.packets), length-append s.gap sync_bytes)
 
-sessions_long : (ss : List EndedSession) → AllByRecursion IsEndedSession ss → length (flat_map session_bytes ss) ≤ length (flat_map session_text ss)
+sessions_long : (ss : List EndedSession) → AllByRecursion IsEndedSession ss → length (flat_map session_bytes ss) ≤ length (sessions_text ss)
 sessions_long [] all = omega arith
-sessions_long (s ∷ ss) all = omega (arith, ended_long s all.0, sessions_long ss all.1, length-append (session_bytes s) (flat_map session_bytes ss), length-append (session_text s) (flat_map session_text ss))
+sessions_long (s ∷ ss) all =
+    let text : length (sessions_text (s ∷ ss)) ≡ length (ended_texts (session_lines s) ++ sessions_text ss) = ap length (texts_append (session_lines s) (flat_map session_lines ss)) in
+    omega (arith, ended_long s all.0, sessions_long ss all.1, text, length-append (session_bytes s) (flat_map session_bytes ss), length-append (ended_texts (session_lines s)) (sessions_text ss))
 
 place_long : (place : Place) → IsPlace place → length (place_bytes place) ≤ length (sure_place place) + 4
 place_long (Searching gap) is = omega (arith, bytes_long 0 (before_last_four gap), length-take-le (length gap - 4) gap (omega arith))
 place_long (Synced gap packets tail) is =
     let bytes : length (place_bytes (Synced gap packets tail)) ≡ length (((gap ++ sync_bytes) ++ packet_bytes packets) ++ tail) = refl in
-    let text : length (sure_place (Synced gap packets tail)) ≡ length (bytes_text gap ++ codes "sync\n" ++ open_words 0 (flat_map stepped packets)) = refl in
+    let text : length (sure_place (Synced gap packets tail)) ≡ length (ended_texts (gap_and_sync_lines gap) ++ open_words 0 (flat_map stepped packets)) = refl in
     omega (arith, session_long gap packets, is.3, bytes, text, length-append ((gap ++ sync_bytes) ++ packet_bytes packets) tail, length-append (gap ++ sync_bytes) (packet_bytes packets), length-append gap sync_bytes)
 
 -- a lister's text is at most four bytes short
@@ -118,8 +121,8 @@ few_held l given before bytes s =
     omega (
       arith,
       ap length (listed_after l given before bytes s),
-      length-append (before ++ flat_map session_text t.sessions) (sure_place t.at),
-      length-append before (flat_map session_text t.sessions),
+      length-append (before ++ sessions_text t.sessions) (sure_place t.at),
+      length-append before (sessions_text t.sessions),
       ap length r.joined,
       length-append (flat_map session_bytes t.sessions) (place_bytes t.at),
       sessions_long t.sessions r.each,
@@ -149,8 +152,8 @@ few_taken l given before bytes due t =
     let r = t.reading in
     omega (
       arith,
-      listed_long l.is_synced l.in_line l.held (given ++ l.text) (before ++ flat_map session_text t.sessions) t.at due t.listed r.ends,
-      length-append before (flat_map session_text t.sessions),
+      listed_long l.is_synced l.in_line l.held (given ++ l.text) (before ++ sessions_text t.sessions) t.at due t.listed r.ends,
+      length-append before (sessions_text t.sessions),
       ap length r.joined,
       length-append (flat_map session_bytes t.sessions) (place_bytes t.at),
       sessions_long t.sessions r.each,
@@ -182,7 +185,7 @@ bytes_short i (x ∷ xs) =
 
 -- the lines of a place are few bytes more than what is sure there: those of four bytes of a gap, or
 -- of a word that isn't whole, and line ends
-place_short : (place : Place) → IsPlace place → length (place_text place) ≤ length (sure_place place) + 64
+place_short : (place : Place) → IsPlace place → length (ended_texts (place_lines place)) ≤ length (sure_place place) + 64
 place_short (Searching gap) is =
     let k : ℕ = length gap - 4 in
     let i : ℕ = in_line_after 32 0 (take k gap) in
@@ -191,6 +194,7 @@ place_short (Searching gap) is =
     = ap (open_text 32 (codes "bytes ") hex_byte 0) (sym (take-append-drop k gap)) ∙ open_text_append 32 (codes "bytes ") hex_byte 0 (take k gap) (drop k gap) in
     omega (
       arith,
+      ap length (gap_text gap),
       ap length (bytes_closed gap),
       length-append (open_text 32 (codes "bytes ") hex_byte 0 gap) (close (in_line_after 32 0 gap)),
       close_short (in_line_after 32 0 gap),
@@ -201,17 +205,19 @@ place_short (Searching gap) is =
     )
 place_short (Synced gap packets tail) is =
     let over = session_closed None 0 packets is.1 in
-    let sure : List ℕ = bytes_text gap ++ codes "sync\n" in
+    let sure : List ℕ = ended_texts (gap_and_sync_lines gap) in
+    let lines : List ℕ = ended_texts (flat_map packet_lines packets) in
     let known : List ℕ = open_words 0 (flat_map stepped packets) in
     let shut : List ℕ = close (in_line_after_words 0 (flat_map stepped packets)) in
-    let text : length (place_text (Synced gap packets tail)) ≡ length ((sure ++ flat_map packet_text packets) ++ bytes_text tail) = refl in
+    let text : length (ended_texts (place_lines (Synced gap packets tail))) ≡ length ((sure ++ lines) ++ bytes_text tail)
+    = ap length (texts_append (packets_lines gap packets) (gap_lines tail) ∙ ap₂ (λ (a b : List ℕ). a ++ b) (packets_text gap packets) (gap_text tail)) in
     let all : length (sure_place (Synced gap packets tail)) ≡ length (sure ++ known) = refl in
     omega (
       arith,
       text,
       all,
-      length-append (sure ++ flat_map packet_text packets) (bytes_text tail),
-      length-append sure (flat_map packet_text packets),
+      length-append (sure ++ lines) (bytes_text tail),
+      length-append sure lines,
       length-append sure known,
       ap length over,
       length-append known shut,
@@ -229,4 +235,4 @@ pub listing_held : (l : ListerState) (given before bytes : List ℕ) → ListerS
 listing_held l given before bytes s =
     let r : Reading = reading_of bytes in
     let is = reading_is_found bytes s.has_listed.cut.reading.fits in
-    omega (arith, ap length (sure_after l given before bytes s), length-append before (sure_text bytes), place_short r.place is.ends, length-append (flat_map session_text r.sessions) (place_text r.place), length-append (flat_map session_text r.sessions) (sure_place r.place))
+    omega (arith, ap length (sure_after l given before bytes s), length-append before (sure_text bytes), place_short r.place is.ends, ap length (place_after r.sessions r.place), length-append (sessions_text r.sessions) (ended_texts (place_lines r.place)), length-append (sessions_text r.sessions) (sure_place r.place))

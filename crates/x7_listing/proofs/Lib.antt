@@ -7,7 +7,7 @@ pub mod GapLemmas
 pub mod GuessLemmas
 pub mod LineLemmas
 pub mod ListedBytesLemmas
-pub mod ListedLemmas
+pub mod ListingLemmas
 pub mod ListingLengthLemmas
 pub mod NameLemmas
 pub mod OutcomeLemmas

@@ -1,5 +1,5 @@
 -- The lines of a listing stand for the bytes that it is of.
-use Rattle.std.proofs.Common.{◌≡◌, ℕ, ◌^◌, ◌<◌, ◌==◌, if◌then◌else◌, Bool, true, false, List, [], ◌∷◌, ◌++◌, None, map, refl, ap, ap₂, sym, subst, ◌∙◌, arith, append_assoc}
+use Rattle.std.proofs.Common.{◌≡◌, ℕ, ◌^◌, ◌<◌, ◌==◌, if◌then◌else◌, Bool, true, false, List, [], ◌∷◌, ◌++◌, None, map, refl, ap, ap₂, sym, subst, ◌∙◌, arith}
 use Rattle.std.proofs.lemmas.Grind.{flat_map-append}
 use Rattle.std.specs.List.{AllByRecursion, flat_map}
 use Rattle.x7_words.specs.Word.{AreBytes, AreWords, bytes_of_word}
@@ -19,7 +19,7 @@ use Rattle.x7_listing.specs.HeadLine.{best_line, line_of_head, line_word, line_a
 use Rattle.x7_listing.specs.declared.line.head_line.HeadLine.{HeadLine}
 use Rattle.x7_listing.specs.declared.line.head_line.HeadLine.TheVariants as head
 use Rattle.x7_listing.specs.Line.{Line, Bytes, Sync, Data, line_bytes, cmd_line}
-use Rattle.x7_listing.specs.Listed.{gap_lines, listing_lines, packet_lines, packets_lines, payload_lines, place_lines, session_lines}
+use Rattle.x7_listing.specs.Listing.{gap_and_sync_lines, gap_lines, listing_lines, packet_lines, packets_lines, payload_lines, place_lines, session_lines}
 use Rattle.x7_listing.proofs.line.LineTextLemmas.{Listed, IsLineOf, cmd_stands, is_eq}
 use Rattle.x7_regs.specs.Register.{reg_number_count}
 
@@ -118,12 +118,17 @@ packets_stand (p ∷ ps) a =
     stands_for (flat_map packet_lines (p ∷ ps)) (flat_map bytes_of_word (words p) ++ packet_bytes ps) (packet_bytes (p ∷ ps)) (sym (flat_map-append bytes_of_word (words p) (flat_map words ps)))
     (both_stand (packet_lines p) (flat_map packet_lines ps) (flat_map bytes_of_word (words p)) (packet_bytes ps) (packet_stands p (all_prefix (λ w. w < 2 ^ 32) (words p) (flat_map words ps) a)) (packets_stand ps (all_back (λ w. w < 2 ^ 32) (words p) (flat_map words ps) a)))
 
-session_stands : (gap : List ℕ) (ps : List Packet) → AreBytes gap → AreWords (flat_map words ps) → Stands (packets_lines gap ps) (gap ++ (sync_bytes ++ packet_bytes ps))
-session_stands gap ps g a = both_stand (gap_lines gap) (Sync ∷ flat_map packet_lines ps) gap (sync_bytes ++ packet_bytes ps) (gap_stands gap g) (one_stands Sync (flat_map packet_lines ps) sync_bytes (packet_bytes ps) refl (tt, tt) (packets_stand ps a))
+session_stands : (gap : List ℕ) (ps : List Packet) → AreBytes gap → AreWords (flat_map words ps) → Stands (packets_lines gap ps) (gap ++ sync_bytes ++ packet_bytes ps)
+session_stands gap ps g a =
+    let first : Stands (gap_and_sync_lines gap) (gap ++ sync_bytes) = both_stand (gap_lines gap) (Sync ∷ []) gap sync_bytes (gap_stands gap g) (one_stands Sync [] sync_bytes [] refl (tt, tt) none_stand) in
+    both_stand (gap_and_sync_lines gap) (flat_map packet_lines ps) (gap ++ sync_bytes) (packet_bytes ps) first (packets_stand ps a)
+
+-- the bytes of a gap before the sync word and packets
+gap_bytes : (gap : List ℕ) (ps : List Packet) → AreBytes (gap ++ sync_bytes ++ packet_bytes ps) → AreBytes gap
+gap_bytes gap ps b = all_prefix (λ x. x < 256) gap sync_bytes (all_prefix (λ x. x < 256) (gap ++ sync_bytes) (packet_bytes ps) b)
 
 ended_session : (s : EndedSession) → AreBytes (session_bytes s) → AreWords (flat_map words s.packets) → Stands (session_lines s) (session_bytes s)
-ended_session s b a = stands_for (session_lines s) (s.gap ++ (sync_bytes ++ packet_bytes s.packets)) (session_bytes s) (sym (append_assoc s.gap sync_bytes (packet_bytes s.packets)))
-    (session_stands s.gap s.packets (all_prefix (λ x. x < 256) s.gap (sync_bytes ++ packet_bytes s.packets) (subst (λ t. AreBytes t) (append_assoc s.gap sync_bytes (packet_bytes s.packets)) b)) a)
+ended_session s b a = session_stands s.gap s.packets (gap_bytes s.gap s.packets b) a
 
 sessions_stand : (ss : List EndedSession) → AreBytes (flat_map session_bytes ss) → AllByRecursion IsEndedSession ss → Stands (flat_map session_lines ss) (flat_map session_bytes ss)
 sessions_stand [] b a = none_stand
@@ -134,12 +139,10 @@ sessions_stand (s ∷ ss) b a =
 place_stands : (p : Place) → AreBytes (place_bytes p) → IsPlace p → Stands (place_lines p) (place_bytes p)
 place_stands (Searching gap) b i = gap_stands gap b
 place_stands (Synced gap ps tail) b i =
-    let e : gap ++ sync_bytes ++ packet_bytes ps ++ tail ≡ gap ++ (sync_bytes ++ packet_bytes ps) ++ tail = ap (λ t. t ++ tail) (append_assoc gap sync_bytes (packet_bytes ps)) in
-    let prefix : AreBytes (gap ++ (sync_bytes ++ packet_bytes ps)) = all_prefix (λ x. x < 256) (gap ++ (sync_bytes ++ packet_bytes ps)) tail (subst (λ t. AreBytes t) e b) in
-    stands_for (place_lines (Synced gap ps tail)) (gap ++ (sync_bytes ++ packet_bytes ps) ++ tail) (gap ++ sync_bytes ++ packet_bytes ps ++ tail) (sym e)
-    (both_stand (packets_lines gap ps) (gap_lines tail) (gap ++ (sync_bytes ++ packet_bytes ps)) tail
-    (session_stands gap ps (all_prefix (λ x. x < 256) gap (sync_bytes ++ packet_bytes ps) prefix) (each_fits None ps i.1))
-    (gap_stands tail (all_back (λ x. x < 256) (gap ++ sync_bytes ++ packet_bytes ps) tail b)))
+    let first : List ℕ = gap ++ sync_bytes ++ packet_bytes ps in
+    both_stand (packets_lines gap ps) (gap_lines tail) first tail
+    (session_stands gap ps (gap_bytes gap ps (all_prefix (λ x. x < 256) first tail b)) (each_fits None ps i.1))
+    (gap_stands tail (all_back (λ x. x < 256) first tail b))
 
 pub reading_stands : (bytes : List ℕ) (ss : List EndedSession) (p : Place) → IsReading bytes ss p → Stands (flat_map session_lines ss ++ place_lines p) bytes
 reading_stands bytes ss p r =

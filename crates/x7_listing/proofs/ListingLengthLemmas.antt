@@ -30,11 +30,9 @@ use Rattle.x7_listing.specs.HeadLine.{line_of_head, line_as}
 use Rattle.x7_listing.specs.declared.line.head_line.HeadLine.{HeadLine}
 use Rattle.x7_listing.specs.declared.line.head_line.HeadLine.TheVariants as head
 use Rattle.x7_listing.specs.Line.{Line, Bytes, Cmd, Comment, Check, Data, Empty, Nop, Read, Read2, Sync, Word, Write, Write2, line_bytes, FitsLine, cmd_line, ended_text, ended_texts}
-use Rattle.x7_listing.specs.Listed.{gap_lines, packet_lines, packets_lines, place_lines, session_lines}
-use Rattle.x7_listing.specs.Listing.{listing_of}
+use Rattle.x7_listing.specs.Listing.{gap_and_sync_lines, gap_lines, listing_of, packet_lines, packets_lines, place_lines, session_lines}
 use Rattle.x7_listing.specs.StreamListing.{listing_by, stream_listing}
 use Rattle.x7_listing.proofs.GuessLemmas.{each_holds, each_name}
-use Rattle.x7_listing.proofs.ListedLemmas.{listing_text_is}
 use Rattle.x7_listing.proofs.ListedBytesLemmas.{listing_stands}
 use Rattle.x7_listing.proofs.line.LineTextLemmas.{Listed}
 use Rattle.x7_packets.specs.PacketWords.{type1_counts, type2_counts}
@@ -164,10 +162,10 @@ packets_whole (p ∷ ps) = all_append IsWhole (packet_lines p) (flat_map packet_
 session_short : (gap : List ℕ) (packets : List Packet) → AllByRecursion Listed (packets_lines gap packets) → length (ended_texts (packets_lines gap packets)) + 11 ≤ 5 * length (flat_map (line_bytes 0) (packets_lines gap packets))
 session_short gap packets a =
     let ls : List Line = flat_map packet_lines packets in
-    let more = all_back Listed (gap_lines gap) (Sync ∷ ls) a in
-    let sync : length (ended_texts (Sync ∷ ls)) ≡ 5 + length (ended_texts ls) = length-append (ended_text Sync) (ended_texts ls) in
-    let four : length (flat_map (line_bytes 0) (Sync ∷ ls)) ≡ 4 + length (flat_map (line_bytes 0) ls) = length-append (line_bytes 0 Sync) (flat_map (line_bytes 0) ls) in
-    omega (arith, gap_short gap, lines_short ls more.1 (packets_whole packets), sync, four, texts_long (gap_lines gap) (Sync ∷ ls), bytes_long (gap_lines gap) (Sync ∷ ls))
+    let first : List Line = gap_and_sync_lines gap in
+    let sync : length (ended_texts (Sync ∷ [])) ≡ 5 = refl in
+    let four : length (flat_map (line_bytes 0) (Sync ∷ [])) ≡ 4 = refl in
+    omega (arith, gap_short gap, lines_short ls (all_back Listed first ls a) (packets_whole packets), sync, four, texts_long first ls, bytes_long first ls, texts_long (gap_lines gap) (Sync ∷ []), bytes_long (gap_lines gap) (Sync ∷ []))
 
 sessions_short : (ss : List EndedSession) → AllByRecursion Listed (flat_map session_lines ss) → length (ended_texts (flat_map session_lines ss)) ≤ 5 * length (flat_map (line_bytes 0) (flat_map session_lines ss))
 sessions_short [] a = omega arith
@@ -192,7 +190,7 @@ listing_short bytes fits =
     let p : Place = (reading_of bytes).place in
     let one : List Line = flat_map session_lines (reading_of bytes).sessions in
     let two : List Line = place_lines (reading_of bytes).place in
-    omega (arith, sessions_short ss (all_prefix Listed one two s.each), place_short p (all_back Listed one two s.each), texts_long one two, bytes_long one two, ap length s.are, ap length (listing_text_is bytes))
+    omega (arith, sessions_short ss (all_prefix Listed one two s.each), place_short p (all_back Listed one two s.each), texts_long one two, bytes_long one two, ap length s.are)
 
 -- a header's line
 field_short : (bs : List ℕ) → length (field_text bs) ≤ 2 * length bs + 1

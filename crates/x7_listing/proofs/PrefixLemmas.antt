@@ -5,7 +5,7 @@ use Rattle.std.proofs.lemmas.List.Sums.{fold-append}
 use Rattle.std.proofs.Math.Seq.{take-append_seam}
 use Rattle.std.specs.Prelude.{nat_lt}
 use Rattle.x7_words.specs.Word.{AreBytes, word_of_bytes}
-use Rattle.x7_words.proofs.ListLemmas.{all_back, all_prefix, flat_map_last, map_append}
+use Rattle.x7_words.proofs.ListLemmas.{all_back, all_prefix, map_append}
 use Rattle.x7_packets.specs.ByHand.{before_last_four, header_packet, is_sync, last_four, Reading, reading_of, with_byte, with_byte_at, with_payload_word, with_session_byte, packets_with_word, with_word_after}
 use Rattle.x7_packets.specs.Packet.{Packet, count_of, EachPacket, ended, latest_after, meaning, named_by, payload_steps, stepped}
 use Rattle.x7_packets.specs.Reading.{Place, Searching, Synced, EndedSession, IsReading, IsEndedSession}
@@ -14,10 +14,12 @@ use Rattle.x7_packets.specs.declared.header.Step.TheVariants.{Payload}
 use Rattle.x7_packets.specs.Mode.{Mode}
 use Rattle.x7_packets.proofs.ByHandLemmas.{reading_is, reading_is_found}
 use Rattle.x7_text.specs.Digits.{hex_byte}
-use Rattle.x7_text.specs.Row.{bytes_text, close, in_line_after, open_text}
+use Rattle.x7_text.specs.Row.{close, in_line_after, open_text}
 use Rattle.x7_text.proofs.LineLemmas.{bytes_closed, open_text_append}
-use Rattle.x7_listing.specs.Listing.{listing_of, packet_text, packets_text, place_text, session_text}
+use Rattle.x7_listing.specs.Line.{Sync, ended_texts}
+use Rattle.x7_listing.specs.Listing.{gap_and_sync_lines, gap_lines, listing_of, packet_lines, packets_lines, place_lines, sessions_text}
 use Rattle.x7_listing.specs.Lister.{GapListed, ListerStandsFor, ListerState, HasListedAt, in_line_after_words, open_words, written_of}
+use Rattle.x7_listing.proofs.ListingLemmas.{gap_text, packets_text, place_after, session_more, texts_append}
 use Rattle.x7_listing.proofs.SessionLemmas.{session_closed, open_words_append}
 
 -- the text of bytes in `bytes` lines, the last of which stays open unless it is full
@@ -43,7 +45,7 @@ W packets = open_words 0 (flat_map stepped packets)
 
 -- a session's text, the last line being open
 abbrev sure_session : List ℕ → List Packet → List ℕ
-sure_session gap packets = bytes_text gap ++ codes "sync\n" ++ W packets
+sure_session gap packets = ended_texts (gap_and_sync_lines gap) ++ W packets
 
 -- the text that is sure at a place: a gap's last four bytes may yet be a sync word, and an open line may go on
 abbrev pub sure_place : Place → List ℕ
@@ -52,14 +54,14 @@ sure_place (Synced gap packets tail) = sure_session gap packets
 
 -- the text of a reading that is sure, whatever bytes follow
 abbrev pub sure_of : Reading → List ℕ
-sure_of r = flat_map session_text r.sessions ++ sure_place r.place
+sure_of r = sessions_text r.sessions ++ sure_place r.place
 
 -- a gap of more bytes begins with the text of its first ones
 gap_goes_on : (xs ys : List ℕ) → IsPrefixOf (B 0 xs) (B 0 (xs ++ ys))
 gap_goes_on xs ys = (B (in_line_after 32 0 xs) ys, open_text_append 32 (codes "bytes ") hex_byte 0 xs ys)
 
-gap_over : (xs : List ℕ) → IsPrefixOf (B 0 xs) (bytes_text xs)
-gap_over xs = (close (in_line_after 32 0 xs), sym (bytes_closed xs))
+gap_over : (xs : List ℕ) → IsPrefixOf (B 0 xs) (ended_texts (gap_lines xs))
+gap_over xs = (close (in_line_after 32 0 xs), gap_text xs ∙ sym (bytes_closed xs))
 
 -- the bytes before the last four, with a byte more after them
 before_more : (gap : List ℕ) (byte : ℕ) → IsPrefixOf (before_last_four gap) (before_last_four (gap ++ byte ∷ []))
@@ -80,8 +82,10 @@ gap_text_more gap byte =
 searched_more : (gap : List ℕ) (byte : ℕ) (b : Bool) → IsPrefixOf (sure_place (Searching gap)) (sure_place (if b then Synced (before_last_four (gap ++ byte ∷ [])) [] [] else Searching (gap ++ byte ∷ [])))
 searched_more gap byte true =
     let now : List ℕ = before_last_four (gap ++ byte ∷ []) in
-    prefix_then (B 0 (before_last_four gap)) (B 0 now) (bytes_text now ++ codes "sync\n" ++ []) (gap_text_more gap byte)
-    (prefix_then (B 0 now) (bytes_text now) (bytes_text now ++ codes "sync\n" ++ []) (gap_over now) (codes "sync\n", append-nil (bytes_text now ++ codes "sync\n")))
+    let lines : List ℕ = ended_texts (gap_lines now) in
+    let sure : List ℕ = sure_session now [] in
+    prefix_then (B 0 (before_last_four gap)) (B 0 now) sure (gap_text_more gap byte)
+    (prefix_then (B 0 now) lines sure (gap_over now) (ended_texts (Sync ∷ []), append-nil (ended_texts (gap_and_sync_lines now)) ∙ texts_append (gap_lines now) (Sync ∷ [])))
 searched_more gap byte false = gap_text_more gap byte
 
 -- a word more is one word with its step more
@@ -117,52 +121,54 @@ words_more packets w =
     (open_words (in_line_after_words 0 ss) ((w, m.0) ∷ []), ap (open_words 0) m.1 ∙ open_words_append 0 ss ((w, m.0) ∷ []))
 
 -- the lines of packets begin with their words listed
-words_over : (packets : List Packet) → EachPacket None packets → IsPrefixOf (W packets) (flat_map packet_text packets)
+words_over : (packets : List Packet) → EachPacket None packets → IsPrefixOf (W packets) (ended_texts (flat_map packet_lines packets))
 words_over packets each = (close (in_line_after_words 0 (flat_map stepped packets)), sym (session_closed None 0 packets each))
 
 -- a session's words listed are a prefix of its lines
-pub session_over : (gap : List ℕ) (packets : List Packet) → EachPacket None packets → IsPrefixOf (sure_session gap packets) (packets_text gap packets)
-session_over gap packets each = prefix_after (bytes_text gap ++ codes "sync\n") (W packets) (flat_map packet_text packets) (words_over packets each)
+pub session_over : (gap : List ℕ) (packets : List Packet) → EachPacket None packets → IsPrefixOf (sure_session gap packets) (ended_texts (packets_lines gap packets))
+session_over gap packets each =
+    let over = prefix_after (ended_texts (gap_and_sync_lines gap)) (W packets) (ended_texts (flat_map packet_lines packets)) (words_over packets each) in
+    (over.0, packets_text gap packets ∙ over.1)
 
 -- the text of a session whose packets' words go on
 session_longer : (gap : List ℕ) (packets all : List Packet) → IsPrefixOf (W packets) (W all) → IsPrefixOf (sure_session gap packets) (sure_session gap all)
-session_longer gap packets all f = prefix_after (bytes_text gap ++ codes "sync\n") (W packets) (W all) f
+session_longer gap packets all f = prefix_after (ended_texts (gap_and_sync_lines gap)) (W packets) (W all) f
 
 -- a session with a word more, by whether the word ends it
 word_goes_on : (sessions : List EndedSession) (bytes gap : List ℕ) (packets all : List Packet) (b : Bool) → IsPrefixOf (W packets) (W all)
     → (let r : Reading = if b then record { sessions = sessions ++ record { gap = gap; packets = all } ∷ []; place = Searching [] } else record { sessions = sessions; place = Synced gap all [] } in
-    IsReading bytes r.sessions r.place → IsPrefixOf (flat_map session_text sessions ++ sure_session gap packets) (sure_of r))
+    IsReading bytes r.sessions r.place → IsPrefixOf (sessions_text sessions ++ sure_session gap packets) (sure_of r))
 word_goes_on sessions bytes gap packets all true f is =
-    let start : List ℕ = flat_map session_text sessions in
+    let start : List ℕ = sessions_text sessions in
     let session : EndedSession = record { gap = gap; packets = all } in
     let last : IsEndedSession session = (all_back IsEndedSession sessions (session ∷ []) is.each).0 in
     let old : List ℕ = sure_session gap packets in
-    let lines : List ℕ = packets_text gap all in
+    let lines : List ℕ = ended_texts (packets_lines gap all) in
     let over : IsPrefixOf old lines = prefix_then old (sure_session gap all) lines (session_longer gap packets all f) (session_over gap all last.packets) in
     let next : List EndedSession = sessions ++ session ∷ [] in
-    let same : start ++ lines ≡ flat_map session_text next ++ [] = sym (flat_map_last session_text sessions session) ∙ sym (append-nil (flat_map session_text next)) in
+    let same : start ++ lines ≡ sessions_text next ++ [] = sym (session_more sessions session) ∙ sym (append-nil (sessions_text next)) in
     subst (λ t. IsPrefixOf (start ++ old) t) same (prefix_after start old lines over)
 word_goes_on sessions bytes gap packets all false f is =
-    prefix_after (flat_map session_text sessions) (sure_session gap packets) (sure_session gap all) (session_longer gap packets all f)
+    prefix_after (sessions_text sessions) (sure_session gap packets) (sure_session gap all) (session_longer gap packets all f)
 
 -- a session with a byte more
 session_goes_on : (sessions : List EndedSession) (bytes gap tail : List ℕ) (packets : List Packet) (byte : ℕ)
     → IsReading bytes (with_session_byte sessions gap packets tail byte).sessions (with_session_byte sessions gap packets tail byte).place
-    → IsPrefixOf (flat_map session_text sessions ++ sure_session gap packets) (sure_of (with_session_byte sessions gap packets tail byte))
-session_goes_on sessions bytes gap [] packets byte is = prefix_self (flat_map session_text sessions ++ sure_session gap packets)
-session_goes_on sessions bytes gap (x ∷ []) packets byte is = prefix_self (flat_map session_text sessions ++ sure_session gap packets)
-session_goes_on sessions bytes gap (x ∷ y ∷ []) packets byte is = prefix_self (flat_map session_text sessions ++ sure_session gap packets)
+    → IsPrefixOf (sessions_text sessions ++ sure_session gap packets) (sure_of (with_session_byte sessions gap packets tail byte))
+session_goes_on sessions bytes gap [] packets byte is = prefix_self (sessions_text sessions ++ sure_session gap packets)
+session_goes_on sessions bytes gap (x ∷ []) packets byte is = prefix_self (sessions_text sessions ++ sure_session gap packets)
+session_goes_on sessions bytes gap (x ∷ y ∷ []) packets byte is = prefix_self (sessions_text sessions ++ sure_session gap packets)
 session_goes_on sessions bytes gap (x ∷ y ∷ z ∷ []) packets byte is =
     let w : ℕ = word_of_bytes (x ∷ y ∷ z ∷ byte ∷ []) in
     word_goes_on sessions bytes gap packets (packets_with_word packets w) (ended (packets_with_word packets w)) (words_more packets w) is
-session_goes_on sessions bytes gap (x ∷ y ∷ z ∷ u ∷ tail) packets byte is = prefix_self (flat_map session_text sessions ++ sure_session gap packets)
+session_goes_on sessions bytes gap (x ∷ y ∷ z ∷ u ∷ tail) packets byte is = prefix_self (sessions_text sessions ++ sure_session gap packets)
 
 -- ended sessions and a place with a byte more
 byte_goes_on : (sessions : List EndedSession) (place : Place) (bytes : List ℕ) (byte : ℕ) → IsReading bytes (with_byte_at sessions place byte).sessions (with_byte_at sessions place byte).place
-    → IsPrefixOf (flat_map session_text sessions ++ sure_place place) (sure_of (with_byte_at sessions place byte))
+    → IsPrefixOf (sessions_text sessions ++ sure_place place) (sure_of (with_byte_at sessions place byte))
 byte_goes_on sessions (Searching gap) bytes byte is =
     let b : Bool = is_sync (last_four (gap ++ byte ∷ [])) in
-    prefix_after (flat_map session_text sessions) (sure_place (Searching gap)) (sure_place (if b then Synced (before_last_four (gap ++ byte ∷ [])) [] [] else Searching (gap ++ byte ∷ []))) (searched_more gap byte b)
+    prefix_after (sessions_text sessions) (sure_place (Searching gap)) (sure_place (if b then Synced (before_last_four (gap ++ byte ∷ [])) [] [] else Searching (gap ++ byte ∷ []))) (searched_more gap byte b)
 byte_goes_on sessions (Synced gap packets tail) bytes byte is = session_goes_on sessions bytes gap tail packets byte is
 
 -- the sure text of bytes
@@ -192,19 +198,21 @@ sure_goes_on bytes (byte ∷ rest) f =
     (prefix_then (sure_text bytes) (sure_text (bytes ++ byte ∷ [])) (sure_text ((bytes ++ byte ∷ []) ++ rest)) one more)
 
 -- the sure text at a place is a prefix of the place's lines
-place_over : (bytes : List ℕ) (sessions : List EndedSession) (place : Place) → IsReading bytes sessions place → IsPrefixOf (sure_place place) (place_text place)
+place_over : (bytes : List ℕ) (sessions : List EndedSession) (place : Place) → IsReading bytes sessions place → IsPrefixOf (sure_place place) (ended_texts (place_lines place))
 place_over bytes sessions (Searching gap) is =
     let k : ℕ = length gap - 4 in
     let grown : IsPrefixOf (B 0 (take k gap)) (B 0 gap) = subst (λ t. IsPrefixOf (B 0 (take k gap)) (B 0 t)) (take-append-drop k gap) (gap_goes_on (take k gap) (drop k gap)) in
-    prefix_then (B 0 (take k gap)) (B 0 gap) (bytes_text gap) grown (gap_over gap)
+    prefix_then (B 0 (take k gap)) (B 0 gap) (ended_texts (gap_lines gap)) grown (gap_over gap)
 place_over bytes sessions (Synced gap packets tail) is =
-    prefix_then (sure_session gap packets) (packets_text gap packets) (packets_text gap packets ++ bytes_text tail) (session_over gap packets is.ends.1) (bytes_text tail, refl)
+    prefix_then (sure_session gap packets) (ended_texts (packets_lines gap packets)) (ended_texts (place_lines (Synced gap packets tail))) (session_over gap packets is.ends.1)
+    (ended_texts (gap_lines tail), texts_append (packets_lines gap packets) (gap_lines tail))
 
 -- the sure text of bytes is a prefix of their listing
 pub sure_over : (bytes : List ℕ) → AreBytes bytes → IsPrefixOf (sure_text bytes) (listing_of bytes)
 sure_over bytes f =
     let r : Reading = reading_of bytes in
-    prefix_after (flat_map session_text r.sessions) (sure_place r.place) (place_text r.place) (place_over bytes r.sessions r.place (reading_is_found bytes f))
+    let over = prefix_after (sessions_text r.sessions) (sure_place r.place) (ended_texts (place_lines r.place)) (place_over bytes r.sessions r.place (reading_is_found bytes f)) in
+    (over.0, place_after r.sessions r.place ∙ over.1)
 
 -- the bytes of a gap that are listed are those before the last four
 listed_before : (prefix held gap : List ℕ) → gap ≡ prefix ++ held → length held ≡ 4 → before_last_four gap ≡ prefix
@@ -233,15 +241,15 @@ place_sure false line held all start (Synced gap packets tail) m d t = absurd (d
 place_sure true line held all start (Searching gap) m d t = t.2 ∙ sym (append-nil start) ∙ ap (λ x. start ++ B 0 (before_last_four x)) (sym t.0)
 place_sure true line held all start (Synced gap packets tail) m d t =
     let ws : List ℕ = W packets in
-    t.1.listed ∙ ap (λ x. x ++ ws) (append_assoc start (bytes_text gap) (codes "sync\n")) ∙ append_assoc start (bytes_text gap ++ codes "sync\n") ws
+    t.1.listed ∙ append_assoc start (ended_texts (gap_and_sync_lines gap)) ws
 
 -- what a lister has listed of bytes is their sure text
 pub listed_sure : (l : ListerState) (given bytes : List ℕ) → ListerStandsFor l given [] bytes → given ++ l.text ≡ sure_text bytes
 listed_sure l given bytes s =
     let t = s.has_listed in
     let e : (t.sessions ≡ (reading_of bytes).sessions) × (t.at ≡ (reading_of bytes).place) = reading_is bytes t.sessions t.at t.cut.reading in
-    place_sure l.is_synced l.in_line l.held (given ++ l.text) (flat_map session_text t.sessions) t.at l.cutter.mode s.ready t.listed
-    ∙ ap (λ x. flat_map session_text x ++ sure_place t.at) e.0 ∙ ap (λ x. flat_map session_text (reading_of bytes).sessions ++ sure_place x) e.1
+    place_sure l.is_synced l.in_line l.held (given ++ l.text) (sessions_text t.sessions) t.at l.cutter.mode s.ready t.listed
+    ∙ ap (λ x. sessions_text x ++ sure_place t.at) e.0 ∙ ap (λ x. sessions_text (reading_of bytes).sessions ++ sure_place x) e.1
 
 -- what a lister has listed of bytes is a prefix of the listing of those bytes with any further ones
 pub listed_prefix : (l : ListerState) (given bytes rest : List ℕ) → ListerStandsFor l given [] bytes → AreBytes (bytes ++ rest) → (more : List ℕ) × (listing_of (bytes ++ rest) ≡ (given ++ l.text) ++ more)
@@ -251,15 +259,15 @@ listed_prefix l given bytes rest s f =
     subst (λ t. IsPrefixOf t (listing_of (bytes ++ rest))) (sym (listed_sure l given bytes s)) all
 
 -- what a lister has listed after other listings is the sure text of its bytes
-pub listed_after : (l : ListerState) (given before bytes : List ℕ) (s : ListerStandsFor l given before bytes) → given ++ l.text ≡ (before ++ flat_map session_text s.has_listed.sessions) ++ sure_place s.has_listed.at
-listed_after l given before bytes s = place_sure l.is_synced l.in_line l.held (given ++ l.text) (before ++ flat_map session_text s.has_listed.sessions) s.has_listed.at l.cutter.mode s.ready s.has_listed.listed
+pub listed_after : (l : ListerState) (given before bytes : List ℕ) (s : ListerStandsFor l given before bytes) → given ++ l.text ≡ (before ++ sessions_text s.has_listed.sessions) ++ sure_place s.has_listed.at
+listed_after l given before bytes s = place_sure l.is_synced l.in_line l.held (given ++ l.text) (before ++ sessions_text s.has_listed.sessions) s.has_listed.at l.cutter.mode s.ready s.has_listed.listed
 
 pub sure_after : (l : ListerState) (given before bytes : List ℕ) → ListerStandsFor l given before bytes → given ++ l.text ≡ before ++ sure_text bytes
 sure_after l given before bytes s =
     let t = s.has_listed in
     let e : (t.sessions ≡ (reading_of bytes).sessions) × (t.at ≡ (reading_of bytes).place) = reading_is bytes t.sessions t.at t.cut.reading in
-    listed_after l given before bytes s ∙ append_assoc before (flat_map session_text t.sessions) (sure_place t.at)
-    ∙ ap (λ x. before ++ (flat_map session_text x ++ sure_place t.at)) e.0 ∙ ap (λ x. before ++ (flat_map session_text (reading_of bytes).sessions ++ sure_place x)) e.1
+    listed_after l given before bytes s ∙ append_assoc before (sessions_text t.sessions) (sure_place t.at)
+    ∙ ap (λ x. before ++ (sessions_text x ++ sure_place t.at)) e.0 ∙ ap (λ x. before ++ (sessions_text (reading_of bytes).sessions ++ sure_place x)) e.1
 
 -- the listings before and what is listed of bytes are a prefix of those and the
 -- listing of the bytes with any further ones

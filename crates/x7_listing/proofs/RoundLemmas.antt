@@ -5,13 +5,11 @@ use Rattle.std.specs.List.{AllByRecursion, flat_map}
 use Rattle.x7_words.specs.Word.{AreBytes}
 use Rattle.x7_words.proofs.ListLemmas.{all_append, map_append}
 use Rattle.x7_text.proofs.SplitLemmas.{split_line}
-use Rattle.x7_listing.specs.Listing.{listing_of}
+use Rattle.x7_listing.specs.Listing.{listing_lines, listing_of}
 use Rattle.x7_listing.specs.Assembly.{AssembleTo, assembled, with_line}
 use Rattle.x7_crc.specs.Checker.{check_of_bytes}
 use Rattle.x7_text.specs.Lines.{split}
 use Rattle.x7_listing.specs.Line.{Line, Empty, line_bytes, FitsLine, text_of, ended_texts}
-use Rattle.x7_listing.specs.Listed.{listing_lines}
-use Rattle.x7_listing.proofs.ListedLemmas.{listing_text_is}
 use Rattle.x7_listing.proofs.ListedBytesLemmas.{Stands, listing_stands}
 use Rattle.x7_listing.proofs.line.LineTextLemmas.{Listed, line_free, same_bytes}
 
@@ -40,7 +38,7 @@ round_trip limit bytes a h =
     record {
       lines = listing_lines bytes ++ Empty ∷ [];
       begins = record {
-        texts = ap split (sym (listing_text_is bytes)) ∙ split_lines (listing_lines bytes) s.each ∙ sym (map_append text_of (listing_lines bytes) (Empty ∷ [])) ∙ sym (append-nil (map text_of (listing_lines bytes ++ Empty ∷ [])));
+        texts = split_lines (listing_lines bytes) s.each ∙ sym (map_append text_of (listing_lines bytes) (Empty ∷ [])) ∙ sym (append-nil (map text_of (listing_lines bytes ++ Empty ∷ [])));
         fits = fit_all (listing_lines bytes ++ Empty ∷ []) each;
         within = subst (λ b. length b ≤ limit) (sym is) h;
       };

@@ -1,4 +1,4 @@
--- The lines of single words: header words, and payload words of CMD (this project's choice).
+-- The lines of words in a header's place (this project's choice).
 use Rattle.std.specs.Prelude.{ℕ, ◌<◌, ◌==◌, if◌then◌else◌, List}
 use Rattle.x7_regs.specs.Register.{reg_number_count}
 use Rattle.x7_packets.specs.Packet.{register_of, type1_count_of, type2_count_of, type_and_opcode_of}
@@ -7,7 +7,7 @@ use Rattle.x7_packets.specs.declared.header.Step.{Step}
 use Rattle.x7_packets.specs.declared.header.Step.TheVariants.{Bad}
 use Rattle.x7_listing.specs.declared.line.head_line.HeadLine.{HeadLine}
 use Rattle.x7_listing.specs.declared.line.head_line.HeadLine.TheVariants.{Nop, Sync, Write, Read, Write2, Read2, Word}
-use Rattle.x7_listing.specs.Line.{Line, cmd_line, ended_text}
+use Rattle.x7_listing.specs.Line.{Line, ended_text}
 use Rattle.x7_listing.specs.Line as line
 
 -- the word that a line stands for
@@ -63,14 +63,6 @@ line_as (Write2 count) = line.Write2 count
 line_as (Read2 count) = line.Read2 count
 line_as (Word w) = line.Word w
 
--- the text of the line of a word in a header's place, with its end
-abbrev pub line_text : HeadLine → List ℕ
-line_text l = ended_text (line_as l)
-
 -- the text of the line of a word in a header's place, by its step, with the line's end
 abbrev pub text_of_head : Step → ℕ → List ℕ
-text_of_head step w = line_text (line_of_head step w)
-
--- the text of the line of a payload word of CMD, with its end
-abbrev pub command_line : ℕ → List ℕ
-command_line w = ended_text (cmd_line w)
+text_of_head step w = ended_text (line_as (line_of_head step w))

@@ -4,7 +4,6 @@ pub mod BitLine
 pub mod Fast
 pub mod HeadLine
 pub mod Line
-pub mod Listed
 pub mod Lister
 pub mod ListerOfRuns
 pub mod Listing

@@ -106,10 +106,6 @@ cmd_line w = if code_of (command_by w) == w then Cmd (command_by w) else Data (w
 abbrev pub ended_text : Line → List ℕ
 ended_text l = text_of l ++ line_end_byte ∷ []
 
--- the line of a sync word, with its end
-abbrev pub sync_line : List ℕ
-sync_line = codes "sync\n"
-
 -- the texts of lines, each with its end
 abbrev pub ended_texts : List Line → List ℕ
 ended_texts ls = flat_map ended_text ls

@@ -11,14 +11,14 @@ use Rattle.x7_packets.specs.declared.cutter.Cut.{Cut}
 use Rattle.x7_packets.specs.Mode.{Mode}
 use Rattle.x7_regs.specs.Register.{number_of}
 use Rattle.x7_regs.specs.declared.register.Reg.TheVariants.{Cmd}
-use Rattle.x7_text.specs.Row.{bytes_text, close, element_text, in_line_after, next_in_line, spaced, open_bytes, bytes_row_size, row_words}
-use Rattle.x7_listing.specs.HeadLine.{command_line, text_of_head}
-use Rattle.x7_listing.specs.Line.{sync_line}
-use Rattle.x7_listing.specs.Listing.{IsListing, session_text}
+use Rattle.x7_text.specs.Row.{close, element_text, in_line_after, next_in_line, spaced, open_bytes, bytes_row_size, row_words}
+use Rattle.x7_listing.specs.HeadLine.{text_of_head}
+use Rattle.x7_listing.specs.Line.{cmd_line, ended_text, ended_texts}
+use Rattle.x7_listing.specs.Listing.{IsListing, gap_and_sync_lines, sessions_text}
 
 -- the text that a payload word adds where i words stand in an open `data` line (0: none is open)
 abbrev pub open_payload : Bool → ℕ → ℕ → List ℕ
-open_payload is_cmd i w = if is_cmd then close i ++ command_line w else element_text row_words (codes "data") spaced i w
+open_payload is_cmd i w = if is_cmd then close i ++ ended_text (cmd_line w) else element_text row_words (codes "data") spaced i w
 
 -- how many words stand in an open `data` line after one payload word more
 abbrev pub in_line_after_payload : Bool → ℕ → ℕ
@@ -55,7 +55,7 @@ pub record GapListed (all start : List ℕ) (in_line : ℕ) (held gap : List ℕ
 
 -- the words of a session are listed, and the last line is open
 pub record SessionListed (all start : List ℕ) (in_line : ℕ) (gap : List ℕ) (packets : List Packet) : Type 0 where
-  pub listed : all ≡ start ++ bytes_text gap ++ sync_line ++ open_words 0 (flat_map stepped packets)
+  pub listed : all ≡ start ++ ended_texts (gap_and_sync_lines gap) ++ open_words 0 (flat_map stepped packets)
   pub count : in_line ≡ in_line_after_words 0 (flat_map stepped packets)
 
 -- what is written of a listing: its text so far, and what stands in its open line or is held
@@ -87,7 +87,7 @@ HasListedAt w start place m = HasListedBy w.is_synced w start place m
 
 -- what is written are the listings before, and then what is listed of these ended sessions and this place
 abbrev pub HasListed : WrittenSoFar → List ℕ → List EndedSession → Place → Mode → Type 0
-HasListed w before sessions place m = HasListedAt w (before ++ flat_map session_text sessions) place m
+HasListed w before sessions place m = HasListedAt w (before ++ sessions_text sessions) place m
 
 -- all of a reading was listed but what is left for its end: no sync word is still to be listed
 pub record HasListedAll (w : WrittenSoFar) (before : List ℕ) (sessions : List EndedSession) (place : Place) : Type 0 where

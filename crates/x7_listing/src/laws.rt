@@ -4,8 +4,7 @@ ghost use Rattle.x7_words.specs.Word.{AreBytes};
 ghost use Rattle.x7_text.specs.Lines.{has_no_end};
 ghost use Rattle.x7_listing.specs.Assembly.{asm_limit, HasOutcome, IsAsm};
 ghost use Rattle.x7_listing.specs.declared.assembler.AsmFault.{AsmFault};
-ghost use Rattle.x7_listing.specs.Line.{FitsLine, IsLine, IsListed, Line, text_of, ended_texts};
-ghost use Rattle.x7_listing.specs.Listed.{listing_lines};
+ghost use Rattle.x7_listing.specs.Line.{FitsLine, IsLine, IsListed, Line, text_of};
 ghost use Rattle.x7_listing.specs.BitLine.{bit_text, FitsHeader};
 ghost use Rattle.x7_listing.specs.Listing.{IsListing, IsTextPrefix, listing_of};
 ghost use Rattle.x7_listing.specs.StreamListing.{stream_listing};
@@ -46,11 +45,6 @@ pub fn few_bytes_of_runs_are_held()
 /// A text is that of at most one line.
 pub fn one_line()
     ensures { (text : List ℕ) (a b : Line) → IsLine text a → IsLine text b → a ≡ b }
-{}
-
-/// A listing is the joined texts of its lines.
-pub fn listing_is_of_lines()
-    ensures { (bytes : List ℕ) → ended_texts (listing_lines bytes) ≡ listing_of bytes }
 {}
 
 /// The text of a line of a listing holds no line end.

@@ -15,7 +15,6 @@ use Rattle.x7_text.specs.Digits.{hex_word}
 use Rattle.x7_text.specs.Lines.{has_no_end}
 use Rattle.x7_text.specs.Row.{spaced}
 use Rattle.x7_text.proofs.PieceLemmas.{free_both, free_more, hex_free, word_free}
-use Rattle.x7_listing.specs.HeadLine.{command_line}
 use Rattle.x7_listing.specs.Line.{Line, Empty, Comment, Bytes, Sync, Nop, Write, Read, Write2, Read2, Word, Data, Cmd, Check, cmd_line, ended_text, line_bytes, FitsLine, IsListed, text_of}
 use Rattle.x7_listing.proofs.GuessLemmas.{own, each_name, each_holds}
 use Rattle.x7_packets.specs.PacketWords.{type1_counts}
@@ -123,9 +122,5 @@ is_apart : (a b : ℕ) → (a ≡ b → ⊥) → (a == b) ≡ false
 is_apart a b c = grind (arith, nat_tests)
 
 -- a payload word of CMD that is no command's code
-pub no_command_line : (w : ℕ) → (code_of (command_by w) ≡ w → ⊥) → command_line w ≡ codes "data " ++ hex_word w ++ 10 ∷ []
+pub no_command_line : (w : ℕ) → (code_of (command_by w) ≡ w → ⊥) → ended_text (cmd_line w) ≡ codes "data " ++ hex_word w ++ 10 ∷ []
 no_command_line w c = rw (is_apart (code_of (command_by w)) w c) refl
-
--- the text of the line of a payload word of CMD
-pub cmd_text : (w : ℕ) → ended_text (cmd_line w) ≡ command_line w
-cmd_text w = refl

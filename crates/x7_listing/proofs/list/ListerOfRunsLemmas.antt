@@ -1,6 +1,5 @@
 -- Lemmas on specs/ListerOfRuns.
 use Rattle.std.proofs.Common.{◌≡◌, ℕ, Bool, true, false, List, [], ◌++◌, Bor, if◌then◌else◌, refl, ap, sym, subst, ◌∙◌, append-nil}
-use Rattle.std.specs.List.{flat_map}
 use Rattle.x7_packets.specs.Reading.{Place, Searching, Synced, EndedSession, IsReading, tail_of}
 use Rattle.x7_packets.specs.Cutter.{CutAdds, CutterStandsFor, IsNeed, IsRun}
 use Rattle.x7_packets.specs.Run.{FitsRun, IsNext, RunAdds, cut_of, is_last, bytes_of_run}
@@ -10,7 +9,7 @@ use Rattle.x7_packets.specs.declared.stream.Run.{Run}
 use Rattle.x7_packets.specs.declared.stream.Run.TheVariants as run
 use Rattle.x7_packets.proofs.StreamLemmas.{bare_after}
 use Rattle.x7_packets.proofs.UniqueLemmas.{one_reading}
-use Rattle.x7_listing.specs.Listing.{reading_text, session_text}
+use Rattle.x7_listing.specs.Listing.{reading_text, sessions_text}
 use Rattle.x7_listing.specs.Lister.{HasFinished, ListerState, TakerStandsFor, SessionListed, HasListed, HasListedAt, WritesRun, written_of}
 use Rattle.x7_listing.specs.ListerOfRuns.{TakesRun, runs_listed}
 use Rattle.x7_listing.proofs.GapLemmas.{fresh_gap}
@@ -106,8 +105,8 @@ listed_tail : (synced : Bool) (line l2 : ℕ) (held all before : List ℕ) (byte
 listed_tail synced line l2 held all before bytes sessions ns (Searching gap) new old next same t a d e = absurd a
 listed_tail false line l2 held all before bytes sessions ns (Synced gap packets tail) new old next same t a d e = absurd (d t.0)
 listed_tail true line l2 held all before bytes sessions ns (Synced gap packets tail) new old next same t a d e = (
-  subst (λ p. HasListedAt (written_of true l2 bytes.now all) (before ++ flat_map session_text ns) p next) (sym a.2)
-      (e, subst (λ (l : ℕ). SessionListed all (before ++ flat_map session_text ns) l gap packets) (sym (same refl)) (subst (λ (s : List EndedSession). SessionListed all (before ++ flat_map session_text s) line gap packets) (sym a.0) t.1)),
+  subst (λ p. HasListedAt (written_of true l2 bytes.now all) (before ++ sessions_text ns) p next) (sym a.2)
+      (e, subst (λ (l : ℕ). SessionListed all (before ++ sessions_text ns) l gap packets) (sym (same refl)) (subst (λ (s : List EndedSession). SessionListed all (before ++ sessions_text s) line gap packets) (sym a.0) t.1)),
   ap tail_of a.2,
 )
 

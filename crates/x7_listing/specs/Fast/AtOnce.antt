@@ -5,7 +5,8 @@ use Rattle.x7_packets.specs.PacketWords.{type1_write_header}
 use Rattle.x7_packets.specs.declared.header.Step.TheVariants.{Open}
 use Rattle.x7_regs.specs.Register.{number_of, reg_name}
 use Rattle.x7_regs.specs.declared.register.Reg.TheVariants.{Cmd}
-use Rattle.x7_listing.specs.HeadLine.{command_line, text_of_head}
+use Rattle.x7_listing.specs.HeadLine.{text_of_head}
+use Rattle.x7_listing.specs.Line.{cmd_line, ended_text}
 
 -- the line, with its end, of the header of a write of `count` words to a register
 abbrev pub write_head_text : ℕ → ℕ → List ℕ
@@ -25,7 +26,7 @@ write_start register = write_line register ++ codes "data "
 
 -- the lines of a write of a word to CMD
 abbrev pub command_lines : ℕ → List ℕ
-command_lines w = write_line (number_of Cmd) ++ command_line w
+command_lines w = write_line (number_of Cmd) ++ ended_text (cmd_line w)
 
 -- where in a row of a table it stands how many of its bytes are text: the last of its 32 bytes
 abbrev pub text_size_at : ℕ

@@ -62,7 +62,7 @@ fn register_before(text: &[u8]) -> Option<(u8, &[u8])>
 
 /// The register's number and the word count of `NAME N`, where a space stands after the name at this place. `None`
 /// where the text isn't seen to be of that form.
-pub(crate) fn type1_at(text: &[u8], space: usize) -> Option<(u8, u32)>
+pub(crate) fn type1_fields_seen(text: &[u8], space: usize) -> Option<(u8, u32)>
     ensures { IfSome result (λ a. IsType1 (a.0, a.1) × (text.now ≡ type1_text (a.0, a.1))) }
 {
     if space >= text.len() || text[space] != b' ' {
@@ -141,7 +141,7 @@ fn read2_of(digits: &[u8]) -> Option<u32>
 }
 
 /// The register's number and the word count of `NAME N`; `None` for any other text.
-fn type1_of(text: &[u8]) -> Option<(u8, u32)>
+fn type1_fields(text: &[u8]) -> Option<(u8, u32)>
     ensures { MatchOption result ((a : ℕ × ℕ) → IsType1 a → text.now ≢ type1_text a) (λ a. IsType1 (a.0, a.1) × (text.now ≡ type1_text (a.0, a.1))) }
 {
     let Some((register, digits)) = register_before(text) else {
@@ -157,7 +157,7 @@ fn type1_of(text: &[u8]) -> Option<(u8, u32)>
 fn write_of(text: &[u8]) -> Option<u32>
     ensures { IsWordOf IsType1 type1_text (λ (a : ℕ × ℕ). type1_write_header a.0 a.1) text.now result }
 {
-    let Some((register, count)) = type1_of(text) else {
+    let Some((register, count)) = type1_fields(text) else {
         return None;
     };
     Some(type1_write_header(register, count))
@@ -167,7 +167,7 @@ fn write_of(text: &[u8]) -> Option<u32>
 fn read_of(text: &[u8]) -> Option<u32>
     ensures { IsWordOf IsType1 type1_text (λ (a : ℕ × ℕ). type1_read_header a.0 a.1) text.now result }
 {
-    let Some((register, count)) = type1_of(text) else {
+    let Some((register, count)) = type1_fields(text) else {
         return None;
     };
     Some(type1_read_header(register, count))

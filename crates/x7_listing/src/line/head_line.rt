@@ -4,8 +4,8 @@ ghost use Rattle.x7_regs.specs.Register.{reg_name, reg_number_count};
 ghost use Rattle.x7_text.specs.Appends.{Appends, HasSpareRoom};
 ghost use Rattle.x7_text.specs.Digits.{hex_word};
 ghost use Rattle.x7_text.specs.Row.{close};
-ghost use Rattle.x7_listing.specs.HeadLine.{command_line, line_of_head, text_of_head, line_size, type1_keyword_limit, type2_keyword_limit};
-ghost use Rattle.x7_listing.specs.Line.{sync_line};
+ghost use Rattle.x7_listing.specs.HeadLine.{line_of_head, text_of_head, line_size, type1_keyword_limit, type2_keyword_limit};
+ghost use Rattle.x7_listing.specs.Line.{Sync, cmd_line, ended_text};
 ghost use Rattle.x7_words.specs.Characters.{line_end_byte, space_byte};
 
 use x7_packets::{
@@ -35,7 +35,7 @@ pub enum HeadLine {
 }
 
 impl HeadLine {
-    ghost use Rattle.x7_listing.specs.HeadLine.{line_of_head, HasRegister, line_text, line_word};
+    ghost use Rattle.x7_listing.specs.HeadLine.{line_as, line_of_head, HasRegister, line_word};
 
     /// The line of a word in a header's place with this step. It stands for just this word.
     pub(crate) fn new(step: Step, word: u32) -> HeadLine
@@ -69,7 +69,7 @@ impl HeadLine {
     fn put(self, text: &mut Vec<u8>)
         requires room { HasSpareRoom text.old line_size }
         requires register { HasRegister self }
-        ensures appends { Appends text.old text.new (line_text self) line_size }
+        ensures appends { Appends text.old text.new (ended_text (line_as self)) line_size }
     {
         match self {
             HeadLine::Nop => put(text, b"nop\n"),
@@ -131,7 +131,7 @@ pub(crate) fn put_head(text: &mut Vec<u8>, in_line: usize, step: Step, word: u32
 /// Appends the line of a payload word of CMD, after an open line of `in_line` words.
 pub(crate) fn put_command(text: &mut Vec<u8>, in_line: usize, word: u32)
     requires { HasSpareRoom text.old (1 + line_size) }
-    ensures appends { Appends text.old text.new (close in_line ++ command_line word) (1 + line_size) }
+    ensures appends { Appends text.old text.new (close in_line ++ ended_text (cmd_line word)) (1 + line_size) }
 {
     put_close(text, in_line);
     let command = command_of(word);
@@ -146,7 +146,7 @@ pub(crate) fn put_command(text: &mut Vec<u8>, in_line: usize, word: u32)
 /// Appends the line of a sync word, after an open line of `in_line` bytes.
 pub(crate) fn put_sync(text: &mut Vec<u8>, in_line: usize)
     requires { HasSpareRoom text.old (1 + line_size) }
-    ensures appends { Appends text.old text.new (close in_line ++ sync_line) (1 + line_size) }
+    ensures appends { Appends text.old text.new (close in_line ++ ended_text Sync) (1 + line_size) }
 {
     put_close(text, in_line);
     put(text, b"sync\n");

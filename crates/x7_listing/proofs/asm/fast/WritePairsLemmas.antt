@@ -14,10 +14,9 @@ use Rattle.x7_text.specs.Digits.{hex_word}
 use Rattle.x7_packets.specs.PacketWords.{type1_write_header}
 use Rattle.x7_listing.specs.Assembling.{AppendsFirstLines}
 use Rattle.x7_listing.specs.Fast.AtOnce.{command_lines, bytes_differ, write_line, write_start}
-use Rattle.x7_listing.specs.HeadLine.{command_line}
 use Rattle.x7_listing.specs.Line.{Line, Data, Write, line_bytes, text_of, cmd_line, ended_text}
 use Rattle.x7_listing.proofs.asm.fast.QuickLemmas.{dropped_twice}
-use Rattle.x7_listing.proofs.line.LineTextLemmas.{cmd_text, Listed, cmd_stands, is_eq, IsLineOf}
+use Rattle.x7_listing.proofs.line.LineTextLemmas.{Listed, cmd_stands, is_eq, IsLineOf}
 
 -- ---- as many bytes are the same as come before the first that differs
 
@@ -75,7 +74,7 @@ write_text register =
 pub takes_command : (w size : ℕ) (text old new : List ℕ) → w < 32 → size ≤ length text → take size text ≡ command_lines w → new ≡ old ++ (bytes_of_word (type1_write_header 4 1) ++ bytes_of_word w) → AppendsFirstLines text old new size 2
 takes_command w size text old new h within e n =
     let p : IsLineOf w (cmd_line w) = cmd_stands w (omega (arith, h)) in
-    let is : take size text ≡ ended_text (Write 4 1) ++ ended_text (cmd_line w) = e ∙ ap (λ t. t ++ command_line w) (sym (write_text 4)) ∙ ap (λ t. ended_text (Write 4 1) ++ t) (sym (cmd_text w)) in
+    let is : take size text ≡ ended_text (Write 4 1) ++ ended_text (cmd_line w) = e ∙ ap (λ t. t ++ ended_text (cmd_line w)) (sym (write_text 4)) in
     takes_two (Write 4 1) (cmd_line w) text old new size within ((omega arith, omega arith), tt) p.1 is (n ∙ ap (λ t. old ++ (bytes_of_word (type1_write_header 4 1) ++ t)) (sym p.0))
 
 -- a write of a word to another register

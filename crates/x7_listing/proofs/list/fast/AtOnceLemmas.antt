@@ -24,7 +24,8 @@ use Rattle.x7_text.proofs.LineLemmas.{bytes_closed}
 use Rattle.x7_regs.specs.Register.{reg_name, reg_number_count}
 use Rattle.x7_listing.specs.declared.line.head_line.HeadLine.TheVariants.{Write}
 use Rattle.x7_listing.specs.Fast.AtOnce.{command_lines, write_line, write_name, write_start}
-use Rattle.x7_listing.specs.HeadLine.{best_line, command_line, text_of_head, line_text}
+use Rattle.x7_listing.specs.HeadLine.{best_line, line_as, text_of_head}
+use Rattle.x7_listing.specs.Line.{cmd_line, ended_text}
 use Rattle.x7_listing.specs.Lister.{GapListed, HasListedJust, in_line_after_words, open_words, WritesRun, lister_of, written_of}
 use Rattle.x7_listing.proofs.GapLemmas.{listed_more}
 use Rattle.x7_listing.proofs.RunLemmas.{by_body, by_head, by_skip, by_sync, by_word}
@@ -63,13 +64,13 @@ write_line_is register h =
     let count : type1_count_of (type1_write_header register 1) ≡ 1 = omega arith in
     let same : (type1_write_header register 1 == type1_write_header register 1) ≡ true = grind (arith, nat_tests) in
     let line : best_line (type1_write_header register 1) ≡ Write register 1 = rw (nop, sync, named, count, same) refl in
-    ap line_text line ∙ ap (λ t. codes "write " ++ reg_name register ++ 32 ∷ t ++ 10 ∷ []) (decimal_digit 1 (omega arith)) ∙ append_assoc (codes "write " ++ reg_name register) (32 ∷ 49 ∷ []) (10 ∷ [])
+    ap (λ h. ended_text (line_as h)) line ∙ ap (λ t. codes "write " ++ reg_name register ++ 32 ∷ t ++ 10 ∷ []) (decimal_digit 1 (omega arith)) ∙ append_assoc (codes "write " ++ reg_name register) (32 ∷ 49 ∷ []) (10 ∷ [])
 
 -- the lines of a write of one word: a row to CMD, and a row and the digits of a word to another register
 pub command_row_is : (line register w : ℕ) → register ≡ 4 → close line ++ command_lines w ≡ close line ++ text_of_head (Open register 1) (type1_write_header register 1) ++ open_words 0 (payload_steps register (w ∷ []))
 command_row_is line register w e =
     subst (λ (r : ℕ). close line ++ command_lines w ≡ close line ++ text_of_head (Open r 1) (type1_write_header r 1) ++ open_words 0 (payload_steps r (w ∷ []))) (sym e)
-    (sym (append_assoc (close line) (write_line 4) (command_line w)) ∙ ap (λ t. close line ++ t ++ command_line w) (sym (write_line_is 4 (omega arith))) ∙ ap (λ t. close line ++ text_of_head (Open 4 1) (type1_write_header 4 1) ++ t) (sym (append-nil (command_line w))))
+    (sym (append_assoc (close line) (write_line 4) (ended_text (cmd_line w))) ∙ ap (λ t. close line ++ t ++ ended_text (cmd_line w)) (sym (write_line_is 4 (omega arith))) ∙ ap (λ t. close line ++ text_of_head (Open 4 1) (type1_write_header 4 1) ++ t) (sym (append-nil (ended_text (cmd_line w)))))
 
 pub data_row_is : (line register w : ℕ) → register < reg_number_count → (register ≡ 4 → ⊥) → (close line ++ write_start register) ++ hex_word w ≡ close line ++ text_of_head (Open register 1) (type1_write_header register 1) ++ open_words 0 (payload_steps register (w ∷ []))
 data_row_is line register w h n =
@@ -88,7 +89,7 @@ short_line_is register count h k =
     let number : type1_count_of (type1_write_header register count) ≡ count = omega arith in
     let same : (type1_write_header register count == type1_write_header register count) ≡ true = grind (arith, nat_tests) in
     let line : best_line (type1_write_header register count) ≡ Write register count = rw (nop, sync, named, number, same) refl in
-    ap line_text line ∙ append_assoc (codes "write " ++ reg_name register) (32 ∷ decimal count) (10 ∷ []) ∙ sym (append_assoc (codes "write " ++ reg_name register) (32 ∷ []) (decimal count ++ 10 ∷ []))
+    ap (λ h. ended_text (line_as h)) line ∙ append_assoc (codes "write " ++ reg_name register) (32 ∷ decimal count) (10 ∷ []) ∙ sym (append_assoc (codes "write " ++ reg_name register) (32 ∷ []) (decimal count ++ 10 ∷ []))
 
 -- a count of two digits
 pub two_digits : (n : ℕ) → 10 ≤ n → n < 20 → decimal n ≡ 49 ∷ (48 + (n - 10)) ∷ []

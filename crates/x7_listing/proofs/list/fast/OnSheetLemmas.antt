@@ -9,7 +9,8 @@ use Rattle.x7_regs.specs.declared.command.Command.TheVariants.{Null, Wcfg, Mfw, 
 use Rattle.x7_text.specs.Digits.{hex_word}
 use Rattle.x7_text.specs.Row.{close}
 use Rattle.x7_listing.specs.Fast.AtOnce.{command_lines, write_line, write_name, write_start}
-use Rattle.x7_listing.specs.HeadLine.{command_line, text_of_head}
+use Rattle.x7_listing.specs.HeadLine.{text_of_head}
+use Rattle.x7_listing.specs.Line.{cmd_line, ended_text}
 use Rattle.x7_listing.proofs.list.fast.AtOnceLemmas.{equal_block, equal_prefix, nop_lines, short_line_is}
 use Rattle.x7_listing.proofs.line.LineTextLemmas.{no_command_line}
 use Rattle.x7_regs.specs.Register.{reg_number_count}
@@ -46,7 +47,7 @@ small_code FallEdge = omega arith
 -- the lines of a write to CMD of a word that is no small one
 pub far_command : (shown : List ℕ) (line register w : ℕ) → register ≡ 4 → 32 ≤ w → ((shown ++ (close line ++ write_start register)) ++ hex_word w) ++ 10 ∷ [] ≡ shown ++ (close line ++ command_lines w)
 far_command shown line register w e far =
-    let listed : command_line w ≡ codes "data " ++ hex_word w ++ 10 ∷ [] = no_command_line w (λ f. absurd (omega (arith, f, far, small_code (command_by w)))) in
+    let listed : ended_text (cmd_line w) ≡ codes "data " ++ hex_word w ++ 10 ∷ [] = no_command_line w (λ f. absurd (omega (arith, f, far, small_code (command_by w)))) in
     ap (λ (r : ℕ). ((shown ++ (close line ++ write_start r)) ++ hex_word w) ++ 10 ∷ []) e
     ∙ append_assoc (shown ++ (close line ++ write_start 4)) (hex_word w) (10 ∷ []) ∙ append_assoc shown (close line ++ write_start 4) (hex_word w ++ 10 ∷ [])
     ∙ ap (λ t. shown ++ t) (append_assoc (close line) (write_start 4) (hex_word w ++ 10 ∷ []) ∙ ap (λ t. close line ++ t) (append_assoc (write_line 4) (codes "data ") (hex_word w ++ 10 ∷ []) ∙ ap (λ t. write_line 4 ++ t) (sym listed)))

@@ -15,7 +15,7 @@ ghost use Rattle.x7_listing.specs.Fast.TakingAtOnce.{TakesAtOnce, TakesOnSheet};
 ghost use Rattle.x7_words.specs.Characters.{line_end_byte};
 ghost use Rattle.x7_listing.specs.Pens.{TakesHead, ListsMore, lister_with};
 ghost use Rattle.x7_listing.specs.declared.list.pen.state.Pen.{Pen};
-ghost use Rattle.x7_listing.specs.Line.{sync_line};
+ghost use Rattle.x7_listing.specs.Line.{Sync, ended_text};
 ghost use Rattle.x7_listing.specs.Lister.{in_line_after_words};
 
 use super::sheet::{SHEET_SIZE, put_prefix, put_row, put_whole};
@@ -188,7 +188,7 @@ fn put_bytes_and_sync(
     requires in_row { count < bytes_row_size }
     requires room { len + gap_lines_size ≤ SHEET_SIZE }
     ensures within { result ≤ len + gap_lines_size }
-    ensures appends { take result sheet.new ≡ take len sheet.old ++ (bytes_text (take count bytes.now) ++ sync_line) }
+    ensures appends { take result sheet.new ≡ take len sheet.old ++ (bytes_text (take count bytes.now) ++ ended_text Sync) }
 {
     if count == 0 {
         return put_whole(sheet, len, b"sync\n");

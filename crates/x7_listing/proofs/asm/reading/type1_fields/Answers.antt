@@ -1,6 +1,6 @@
 use Rattle.std.specs.Fmt.{decimal}
 use Rattle.x7_listing.proofs.LineLemmas.{no_type1}
-use Rattle.x7_listing.proofs.asm.reading.type1_of.Goals as goal
+use Rattle.x7_listing.proofs.asm.reading.type1_fields.Goals as goal
 
 pub returns-in_default : goal.returns-in_default
 returns-in_default c = λ a i e. c.in_default.ensures a.0 (decimal a.1) i.0 e
