@@ -2,7 +2,8 @@
 use Rattle.std.specs.Prelude.{IfSome}
 use Rattle.std.proofs.Common.{◌≡◌, ℕ, ◌≤◌, Bool, true, if◌then◌else◌, List, ◌∷◌, ◌++◌, length, drop, Option, Some, None, refl, ap, sym, subst, ◌∙◌, arith}
 use Rattle.std.proofs.lemmas.List.{drop-append-le}
-use Rattle.x7_svf.specs.Fields.{Between, ScanFields, Inside, Named, Scanning, are_hex, fields_after_step, scan_from, scan_step}
+use Rattle.x7_svf.specs.Fields.{ScanFields, are_hex}
+use Rattle.x7_svf.specs.Scanner.{Between, Inside, Named, Scanning, fields_after_step, scan_from, scan_step}
 use Rattle.x7_svf.specs.Token.{Token, token_of}
 use Rattle.x7_svf.specs.Span.{AreWithin, StaysKept, scan_place_of, fields_of, scanning_of}
 use Rattle.x7_svf.specs.declared.fields.ScanField.{ScanField}

@@ -7,6 +7,7 @@ pub mod NumberLemmas
 pub mod OutcomeLemmas
 pub mod TokenLemmas
 pub mod ReadingLemmas
+pub mod ScannerLemmas
 pub mod SourceLemmas
 pub mod SpanLemmas
 pub mod SvfLemmas

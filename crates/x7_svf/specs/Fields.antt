@@ -25,23 +25,16 @@ field_by_name w =
 abbrev pub are_hex : List ℕ → Bool
 are_hex w = list_all is_hex_digit w
 
--- where a reader of a scan stands: between fields, after a field's name, or inside its brackets after these digits
-pub data ScanPlace : Type 0 where
-  Between : ScanPlace
-  Named : (field : ScanField) → ScanPlace
-  Inside : (field : ScanField) (digits : List ℕ) → ScanPlace
-
--- the digits of the fields so far
+-- the digits of each field, none of one that is left out
 pub record ScanFields : Type 0 where
   pub tdi : Option (List ℕ)
   pub tdo : Option (List ℕ)
   pub mask : Option (List ℕ)
   pub smask : Option (List ℕ)
 
--- where a reader of a scan stands, and the fields so far
-pub record Scanning : Type 0 where
-  pub at : ScanPlace
-  pub fields : ScanFields
+-- no field
+abbrev pub no_fields : ScanFields
+no_fields = record { tdi = None; tdo = None; mask = None; smask = None }
 
 -- there are no digits
 abbrev pub is_none : Option (List ℕ) → Bool
@@ -55,47 +48,38 @@ with_field f field.Tdo ds = if is_none f.tdo then Some (record f { tdo = Some ds
 with_field f field.Mask ds = if is_none f.mask then Some (record f { mask = Some ds }) else None
 with_field f field.Smask ds = if is_none f.smask then Some (record f { smask = Some ds }) else None
 
--- after a field's name its brackets come next
-abbrev pub after_name : ScanFields → Option ScanField → Option Scanning
-after_name f None = None
-after_name f (Some k) = Some (record { at = Named k; fields = f })
+-- ---- the fields of tokens
 
--- the fields with one more, which has at least one digit
-abbrev pub closed_field : ScanFields → ScanField → List ℕ → Option ScanFields
-closed_field f k ds = if nat_lt 0 (length ds) then with_field f k ds else None
+-- a word before tokens: words of hexadecimal digits, which blanks part, are one
+abbrev pub digits_before : List ℕ → List Token → List Token
+digits_before w (Word v ∷ ts) = if are_hex w && are_hex v then Word (w ++ v) ∷ ts else Word w ∷ Word v ∷ ts
+digits_before w ts = Word w ∷ ts
 
--- after the brackets of a field another field may come
-abbrev pub after_field : Option ScanFields → Option Scanning
-after_field None = None
-after_field (Some f) = Some (record { at = Between; fields = f })
+-- tokens, of which words of hexadecimal digits side by side are one
+abbrev pub joined_digits : List Token → List Token
+joined_digits [] = []
+joined_digits (Word w ∷ ts) = digits_before w (joined_digits ts)
+joined_digits (Open ∷ ts) = Open ∷ joined_digits ts
+joined_digits (Close ∷ ts) = Close ∷ joined_digits ts
+joined_digits (End ∷ ts) = End ∷ joined_digits ts
 
--- where a reader of a scan stands after one token more, and the fields then; none where no scan goes on so
-abbrev pub scan_step : ScanPlace → ScanFields → Token → Option Scanning
-scan_step Between f (Word w) = after_name f (field_by_name w)
-scan_step (Named k) f Open = Some (record { at = Inside k []; fields = f })
-scan_step (Inside k ds) f (Word w) = if are_hex w then Some (record { at = Inside k (ds ++ w); fields = f }) else None
-scan_step (Inside k ds) f Close = after_field (closed_field f k ds)
-scan_step _ f _ = None
+-- the fields with one more, if its name is one: its digits are hexadecimal, one at least, and it isn't among them
+abbrev pub with_named_field : ScanFields → Option ScanField → List ℕ → Option ScanFields
+with_named_field f None ds = None
+with_named_field f (Some k) ds = if are_hex ds && nat_lt 0 (length ds) then with_field f k ds else None
 
--- the fields where a scan's tokens end: between two fields, and not inside one
-abbrev pub fields_at_end : ScanPlace → ScanFields → Option ScanFields
-fields_at_end Between f = Some f
-fields_at_end (Named k) f = None
-fields_at_end (Inside k ds) f = None
+-- the fields with those of tokens, each at most once and in any order: its name, `(`, its digits and `)`
+abbrev pub with_fields : Option ScanFields → List Token → Option ScanFields
+with_fields None ts = None
+with_fields (Some f) [] = Some f
+with_fields (Some f) (Word name ∷ Open ∷ Word digits ∷ Close ∷ ts) = with_fields (with_named_field f (field_by_name name) digits) ts
+with_fields (Some f) _ = None
 
--- the fields that a reader of a scan comes to from where it stands after a step; none where no scan goes on so
-abbrev pub fields_after_step : Option Scanning → (ScanPlace → ScanFields → Option ScanFields) → Option ScanFields
-fields_after_step None next = None
-fields_after_step (Some s) next = next s.at s.fields
+-- the fields that the tokens after the number of bits say
+abbrev pub scan_fields : List Token → Option ScanFields
+scan_fields ts = with_fields (Some no_fields) (joined_digits ts)
 
--- the fields of tokens, by where they begin and the fields before them
-abbrev pub scan_from : ScanPlace → ScanFields → List Token → Option ScanFields
-scan_from at f [] = fields_at_end at f
-scan_from at f (t ∷ ts) = fields_after_step (scan_step at f t) (λ a g. scan_from a g ts)
-
--- no field as yet
-abbrev pub no_fields : ScanFields
-no_fields = record { tdi = None; tdo = None; mask = None; smask = None }
+-- ---- values
 
 -- the value of digits, the first the highest
 abbrev pub hex_value : List ℕ → ℕ
@@ -149,7 +133,7 @@ positive_count (Some n) = if n == 0 then None else Some n
 -- the scan of this many bits, where that is a number of bits, by the tokens after it
 abbrev pub scan_if : ScannedRegister → Option ℕ → List Token → Option Statement
 scan_if register None ts = None
-scan_if register (Some n) ts = scan_by register n (scan_from Between no_fields ts)
+scan_if register (Some n) ts = scan_by register n (scan_fields ts)
 
 -- the scan of the tokens after SIR or SDR
 abbrev pub scan_of : ScannedRegister → List Token → Option Statement

@@ -3,6 +3,7 @@ pub mod Comment
 pub mod Token
 pub mod Words
 pub mod Fields
+pub mod Scanner
 pub mod Source
 pub mod Span
 pub mod Stored

@@ -1,6 +1,7 @@
 -- Bytes by where they are kept: the fields of a scan, and words (this project's choice).
 use Rattle.std.specs.Prelude.{◌≡◌, ◌≤◌, ℕ, ◌+◌, ⊤, List, [], ◌∷◌, length, take, drop, Option, Some, None}
-use Rattle.x7_svf.specs.Fields.{ScanPlace, Between, Named, Inside, ScanFields, Scanning}
+use Rattle.x7_svf.specs.Fields.{ScanFields}
+use Rattle.x7_svf.specs.Scanner.{ScanPlace, Between, Named, Inside, Scanning}
 use Rattle.x7_svf.specs.declared.span.Span.{Span}
 use Rattle.x7_svf.specs.declared.fields.ScannerPlace.{ScannerPlace}
 use Rattle.x7_svf.specs.declared.fields.ScannerPlace.TheVariants as place

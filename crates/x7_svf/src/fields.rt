@@ -2,7 +2,8 @@
 ghost use Rattle.std.specs.Prelude.{◌≡◌, ◌≤◌, ℕ, List, drop, length, IfSome, Option, Some, None};
 ghost use Rattle.x7_words.specs.Characters.{is_hex_digit};
 ghost use Rattle.x7_svf.specs.Token.{token_of, token_size};
-ghost use Rattle.x7_svf.specs.Fields.{are_hex, Between, closed_field, field_by_name, no_fields, with_field, scan_from, scan_step};
+ghost use Rattle.x7_svf.specs.Fields.{are_hex, field_by_name, scan_fields, with_field};
+ghost use Rattle.x7_svf.specs.Scanner.{closed_field, scan_step};
 ghost use Rattle.x7_svf.specs.Reading.{ReadsOn, StepsOver};
 ghost use Rattle.x7_svf.specs.Source.{tokens_left};
 ghost use Rattle.x7_svf.specs.Span.{AreWithin, IsWithin, scan_place_of, bytes_in, span_end, fields_of, fields_if, scanning_of};
@@ -178,7 +179,7 @@ fn scan_step(source: &mut Source, scanner: Scanner, token: NextToken) -> Option<
 
 /// The fields of a statement that come next, each at most once. Their digits are kept.
 pub(crate) fn fields(source: &mut Source) -> Option<FieldSpans>
-    ensures fields { fields_if source.new.kept result ≡ scan_from Between no_fields (tokens_before_end (tokens_left source.old)) }
+    ensures fields { fields_if source.new.kept result ≡ scan_fields (tokens_before_end (tokens_left source.old)) }
     ensures within { IfSome result (AreWithin (length source.new.kept)) }
     ensures reads_on { IfSome result (λ g. ReadsOn source.old source.new) }
 {

@@ -1,12 +1,21 @@
-use Rattle.std.proofs.Common.{◌≡◌, ◌∷◌, ℕ, List, Option, ap, sym, ◌∙◌}
-use Rattle.x7_svf.specs.Fields.{Between, ScanFields, no_fields, scan_from}
+use Rattle.std.proofs.Common.{rules, ◌≡◌, ◌∷◌, ℕ, List, Option, ap, sym, ◌∙◌}
+use Rattle.x7_svf.specs.Fields.{ScanFields, scan_fields}
+use Rattle.x7_svf.specs.Scanner.{scan_from}
 use Rattle.x7_svf.specs.Token.{TokenOnLine, token_of}
 use Rattle.x7_svf.specs.Source.{tokens_left}
 use Rattle.x7_svf.specs.Span.{scan_place_of, fields_of}
 use Rattle.x7_svf.specs.Svf.{tokens_before_end}
 use Rattle.x7_svf.proofs.FieldLemmas.{scan_on}
-use Rattle.x7_svf.proofs.ReadingLemmas.{left_stepped, reads_both, reads_token}
+use Rattle.x7_svf.proofs.ReadingLemmas.{left_stepped, reads_both, reads_none, reads_token}
+use Rattle.x7_svf.proofs.ScannerLemmas.{fields_are_scanned}
 use Rattle.x7_svf.proofs.fields.fields.Goals as goal
+
+pub loop-token-init : goal.loop-token-init
+loop-token-init c = record {
+  same = fields_are_scanned (tokens_before_end (tokens_left c.args.source.now));
+  within = search rules;
+  reads_on = reads_none c.args.source.now;
+}
 
 pub loop-token-preserved : goal.loop-token-preserved
 loop-token-preserved c =
@@ -15,7 +24,7 @@ loop-token-preserved c =
     let after = c.scan_step.new.source in
     let t = c.in-Some.token in
     let s = c.loop-token.scanner in
-    let all : Option ScanFields = scan_from Between no_fields (tokens_before_end (tokens_left c.args.source.now)) in
+    let all : Option ScanFields = scan_fields (tokens_before_end (tokens_left c.args.source.now)) in
     let before : all ≡ scan_from (scan_place_of here.kept s.place) (fields_of here.kept s.spans) (tokens_before_end (tokens_left at)) =
     c.loop-token.invariant.same ∙ ap (λ (k : List ℕ). scan_from (scan_place_of k s.place) (fields_of k s.spans) (tokens_before_end (tokens_left at))) (sym c.in-Some.ensures.blanks.kept) in
     let left : tokens_before_end (tokens_left at) ≡ token_of t here.rest ∷ tokens_before_end (tokens_left after) =

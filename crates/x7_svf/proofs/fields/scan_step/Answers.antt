@@ -1,6 +1,7 @@
 use Rattle.std.proofs.Common.{◌≡◌, ◌≤◌, ◌+◌, ◌++◌, ℕ, List, [], true, take, drop, length, length-append, refl, ap, sym, subst, ◌∙◌, Some, arith}
 use Rattle.std.proofs.lemmas.List.{drop_all}
-use Rattle.x7_svf.specs.Fields.{Inside, Named, Scanning, after_name, after_field, are_hex, closed_field, field_by_name}
+use Rattle.x7_svf.specs.Fields.{are_hex, field_by_name}
+use Rattle.x7_svf.specs.Scanner.{Inside, Named, Scanning, after_name, after_field, closed_field}
 use Rattle.x7_svf.specs.Token.{token_size}
 use Rattle.x7_svf.specs.Reading.{StepsOver}
 use Rattle.x7_svf.specs.Source.{SourceState}

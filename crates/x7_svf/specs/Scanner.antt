@@ -1,0 +1,54 @@
+-- How a scan's fields are read token by token (this project's choice).
+use Rattle.std.specs.Prelude.{ℕ, nat_lt, if◌then◌else◌, List, [], ◌∷◌, ◌++◌, Option, Some, None, length}
+use Rattle.x7_svf.specs.Token.{Token, Word, Open, Close}
+use Rattle.x7_svf.specs.Fields.{ScanFields, are_hex, field_by_name, with_field}
+use Rattle.x7_svf.specs.declared.fields.ScanField.{ScanField}
+
+-- where a reader of a scan stands: between fields, after a field's name, or inside its brackets after these digits
+pub data ScanPlace : Type 0 where
+  Between : ScanPlace
+  Named : (field : ScanField) → ScanPlace
+  Inside : (field : ScanField) (digits : List ℕ) → ScanPlace
+
+-- where a reader of a scan stands, and the fields so far
+pub record Scanning : Type 0 where
+  pub at : ScanPlace
+  pub fields : ScanFields
+
+-- after a field's name its brackets come next
+abbrev pub after_name : ScanFields → Option ScanField → Option Scanning
+after_name f None = None
+after_name f (Some k) = Some (record { at = Named k; fields = f })
+
+-- the fields with one more, which has at least one digit
+abbrev pub closed_field : ScanFields → ScanField → List ℕ → Option ScanFields
+closed_field f k ds = if nat_lt 0 (length ds) then with_field f k ds else None
+
+-- after the brackets of a field another field may come
+abbrev pub after_field : Option ScanFields → Option Scanning
+after_field None = None
+after_field (Some f) = Some (record { at = Between; fields = f })
+
+-- where a reader of a scan stands after one token more, and the fields then; none where no scan goes on so
+abbrev pub scan_step : ScanPlace → ScanFields → Token → Option Scanning
+scan_step Between f (Word w) = after_name f (field_by_name w)
+scan_step (Named k) f Open = Some (record { at = Inside k []; fields = f })
+scan_step (Inside k ds) f (Word w) = if are_hex w then Some (record { at = Inside k (ds ++ w); fields = f }) else None
+scan_step (Inside k ds) f Close = after_field (closed_field f k ds)
+scan_step _ f _ = None
+
+-- the fields where a scan's tokens end: between two fields, and not inside one
+abbrev pub fields_at_end : ScanPlace → ScanFields → Option ScanFields
+fields_at_end Between f = Some f
+fields_at_end (Named k) f = None
+fields_at_end (Inside k ds) f = None
+
+-- the fields that a reader of a scan comes to from where it stands after a step; none where no scan goes on so
+abbrev pub fields_after_step : Option Scanning → (ScanPlace → ScanFields → Option ScanFields) → Option ScanFields
+fields_after_step None next = None
+fields_after_step (Some s) next = next s.at s.fields
+
+-- the fields of tokens, by where they begin and the fields before them
+abbrev pub scan_from : ScanPlace → ScanFields → List Token → Option ScanFields
+scan_from at f [] = fields_at_end at f
+scan_from at f (t ∷ ts) = fields_after_step (scan_step at f t) (λ a g. scan_from a g ts)
