@@ -8,7 +8,8 @@ use Rattle.std.specs.List.{flat_map}
 use Rattle.std.specs.Simd.{first_chunks}
 use Rattle.x7_words.proofs.WordLemmas.{words_apart}
 use Rattle.x7_words.specs.Word.{words_of_bytes}
-use Rattle.x7_crc.specs.Check.{check_after, check_after_one, write_to, writes_to}
+use Rattle.x7_packets.specs.CheckedWrites.{write_to}
+use Rattle.x7_crc.specs.Check.{check_after, check_after_one, writes_to}
 use Rattle.x7_crc.specs.ShiftRegister.{advanced}
 use Rattle.x7_crc.proofs.CheckLemmas.{advanced_by_write, check_after_append, check_after_fits, check_after_none}
 use Rattle.x7_crc.proofs.ShiftLemmas.{advanced_xor}

@@ -5,9 +5,9 @@ use Rattle.std.specs.Int.Bits.{xor_zero_l}
 use Rattle.std.proofs.lemmas.Nat.{xor_comm, xor_lt}
 use Rattle.std.proofs.lemmas.List.{drop_all}
 use Rattle.x7_words.specs.Word.{word_of_bytes}
-use Rattle.x7_packets.specs.CheckedWrites.{RegisterWrite}
+use Rattle.x7_packets.specs.CheckedWrites.{RegisterWrite, write_to}
 use Rattle.x7_crc.specs.Polynomial.{from_highest, IsRemainder, mirrored, remainder}
-use Rattle.x7_crc.specs.Check.{bits_of_write, bits_of_writes, check_after, check_after_one, check_of, dividend, generator, low_bits, write_to, writes_to}
+use Rattle.x7_crc.specs.Check.{bits_of_write, bits_of_writes, check_after, check_after_one, check_of, dividend, generator, low_bits, writes_to}
 use Rattle.x7_crc.specs.ShiftRegister.{shifted_all, advanced}
 use Rattle.x7_crc.proofs.PolynomialLemmas.{mirrored_lt, mirrored_same, one_remainder}
 use Rattle.x7_crc.proofs.ShiftLemmas.{divided_shifted, shifted_all_append, shifted_all_divides, shifted_all_low}

@@ -6,12 +6,12 @@ use Rattle.x7_packets.specs.Cutter.{between, CutterState, CutterStandsFor, Comes
 use Rattle.x7_packets.specs.History.{command_held, entered_all, entry, executes, History, history_of, next_word, Write}
 use Rattle.x7_packets.specs.Packet.{payload_steps}
 use Rattle.x7_packets.specs.Reading.{Place, EndedSession}
-use Rattle.x7_packets.specs.CheckedWrites.{clears, checked_writes}
+use Rattle.x7_packets.specs.CheckedWrites.{clears, checked_writes, write_to}
 use Rattle.x7_packets.specs.declared.cutter.Cut.{Cut}
 use Rattle.x7_packets.specs.declared.cutter.Cut.TheVariants.{Need}
 use Rattle.x7_packets.proofs.HistoryLemmas.{cut_enters, next_word_is}
 use Rattle.x7_crc.specs.RunningCheck.{in_order, running_check}
-use Rattle.x7_crc.specs.Check.{check_after, check_after_one, write_to, writes_to}
+use Rattle.x7_crc.specs.Check.{check_after, check_after_one, writes_to}
 use Rattle.x7_crc.proofs.CheckLemmas.{check_after_append, check_after_none, check_after_fits, check_of_more}
 use Rattle.x7_crc.specs.Checker.{steers_check, HaveChecked, HasTaken, IsCheckState, CheckerState, KeepsCheckOf}
 

@@ -1,7 +1,7 @@
 -- The running check of writes to registers (UG470, cyclic redundancy check). That it is CRC-32C, in this order of the
 -- bits and from 0 on, is this project's choice.
 use Rattle.std.specs.Prelude.{◌==◌, ℕ, zero, suc, ◌+◌, ◌*◌, ◌/◌, ◌%◌, ◌^◌, Bool, List, [], ◌∷◌, ◌++◌, length, map, bit_xor}
-use Rattle.x7_packets.specs.CheckedWrites.{RegisterWrite}
+use Rattle.x7_packets.specs.CheckedWrites.{RegisterWrite, write_to}
 use Rattle.x7_crc.specs.Polynomial.{from_highest, IsRemainder, mirrored, remainder}
 
 -- the polynomial of CRC-32C, x^32 + 1EDC6F41
@@ -39,10 +39,6 @@ check_after before writes =
 -- `check` is the check after writes, from the check `before` on: the remainder of their bits
 abbrev pub IsCheckAfter : ℕ → List RegisterWrite → ℕ → Type 0
 IsCheckAfter before writes check = IsRemainder (dividend before (bits_of_writes writes)) generator 32 (mirrored 32 check)
-
--- the write of a word to a register
-abbrev pub write_to : ℕ → ℕ → RegisterWrite
-write_to register word = record { register = register; word = word }
 
 -- the check after one write more than those that `check` is the check of
 abbrev pub check_after_one : ℕ → ℕ → ℕ → ℕ

@@ -1,10 +1,10 @@
 //! The running check (UG470, cyclic redundancy check): of one write, and of whole words to one register.
 ghost use Rattle.std.specs.Prelude.{◌≡◌, ◌<◌, ◌%◌, ◌++◌, List, [], ◌∷◌, bit_xor, length, ℕ};
-ghost use Rattle.x7_crc.specs.Check.{check_after, check_after_one, check_of, write_to, writes_to};
+ghost use Rattle.x7_crc.specs.Check.{check_after, check_after_one, check_of, writes_to};
 ghost use Rattle.std.specs.List.{flat_map};
 ghost use Rattle.x7_words.specs.Word.{AreWholeWords, words_of_bytes};
 ghost use Rattle.x7_regs.specs.Register.{reg_number_count};
-ghost use Rattle.x7_packets.specs.CheckedWrites.{RegisterWrite};
+ghost use Rattle.x7_packets.specs.CheckedWrites.{RegisterWrite, write_to};
 
 use crate::table::{check_of_zeros, fold_by_tables, fold_four};
 use x7_words::word_of;

@@ -7,6 +7,12 @@ ghost use Rattle.x7_crc.specs.ShiftRegister.{advanced};
 
 use crate::block_table::{FIRST, LAST, SECOND, THIRD};
 
+/// How many bits a write has: the word's 32, and the register number's five.
+const BITS_PER_WRITE: u32 = 37;
+
+/// How many bits of a word stand before those of its highest byte.
+const BITS_BEFORE_HIGHEST_BYTE: u32 = 24;
+
 /// The check after one more write, of a word to the register with this number, by tables.
 pub(crate) fn fold_by_tables(before: u32, register: u8, word: u32) -> u32
     requires { register < reg_number_count }
@@ -46,7 +52,7 @@ pub(crate) fn fold_four(
 fn advance_first(check: u32) -> u32
     ensures { result ≡ advanced (4 * bits_per_write) check }
 {
-    word_entries(&FIRST, 124, check)
+    word_entries(&FIRST, 4 * BITS_PER_WRITE - BITS_BEFORE_HIGHEST_BYTE, check)
 }
 
 /// A check after as many bits of 0 as three writes have.
@@ -54,7 +60,11 @@ fn advance_first(check: u32) -> u32
 fn advance_second(check: u32) -> u32
     ensures { result ≡ advanced (3 * bits_per_write) check }
 {
-    word_entries(&SECOND, 87, check)
+    word_entries(
+        &SECOND,
+        3 * BITS_PER_WRITE - BITS_BEFORE_HIGHEST_BYTE,
+        check,
+    )
 }
 
 /// A check after as many bits of 0 as two writes have.
@@ -62,7 +72,7 @@ fn advance_second(check: u32) -> u32
 fn advance_third(check: u32) -> u32
     ensures { result ≡ advanced (2 * bits_per_write) check }
 {
-    word_entries(&THIRD, 50, check)
+    word_entries(&THIRD, 2 * BITS_PER_WRITE - BITS_BEFORE_HIGHEST_BYTE, check)
 }
 
 /// A check after as many bits of 0 as one write has.
@@ -70,7 +80,7 @@ fn advance_third(check: u32) -> u32
 fn advance_last(check: u32) -> u32
     ensures { result ≡ advanced bits_per_write check }
 {
-    word_entries(&LAST, 13, check)
+    word_entries(&LAST, BITS_PER_WRITE - BITS_BEFORE_HIGHEST_BYTE, check)
 }
 
 /// The check after the five bits of a register's number, from 0 on.

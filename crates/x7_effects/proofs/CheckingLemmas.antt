@@ -2,8 +2,8 @@
 use Rattle.std.proofs.Common.{◌≡◌, ℕ, ◌+◌, ◌*◌, ◌%◌, ◌^◌, ◌<◌, ◌==◌, Bool, true, false, if◌then◌else◌, List, [], ◌∷◌, ◌++◌, length, refl, ap, sym, ◌∙◌, arith, lit<}
 use Rattle.x7_packets.specs.History as access
 use Rattle.x7_packets.specs.History.{History, entry, command_held, last_word, history_of, entered, entered_all}
-use Rattle.x7_packets.specs.CheckedWrites.{RegisterWrite, checked_writes, clears}
-use Rattle.x7_crc.specs.Check.{check_after, check_after_one, check_of, write_to}
+use Rattle.x7_packets.specs.CheckedWrites.{RegisterWrite, checked_writes, clears, write_to}
+use Rattle.x7_crc.specs.Check.{check_after, check_after_one, check_of}
 use Rattle.x7_crc.specs.RunningCheck.{in_order}
 use Rattle.x7_crc.proofs.CheckLemmas.{check_after_none, check_after_fits, check_of_more}
 use Rattle.x7_effects.proofs.Items.{Item, Noop, Dummy, Write, WriteLong, Read, ReadLong, item_words, IsItem, AreItems, writes_entered, item_entered, items_entered}

@@ -1,5 +1,6 @@
 -- The sections of a plan put just the plan.
-use Rattle.std.proofs.Common.{◌≡◌, ℕ, suc, ◌<◌, ◌⊎◌, inl, inr, Bool, true, false, if◌then◌else◌, List, [], ◌∷◌, ◌++◌, length, map, reverse, get_or, Some, None, refl, ap, sym, subst, ◌∙◌, arith, eq-eqb}
+use Rattle.std.proofs.Common.{◌≡◌, ℕ, suc, ◌<◌, ◌⊎◌, inl, inr, Bool, not, true, false, if◌then◌else◌, List, [], ◌∷◌, ◌++◌, length, map, reverse, get_or, Some, None, refl, ap, sym, subst, ◌∙◌, arith, eq-eqb}
+use Rattle.std.specs.Prelude.{bytes_eq}
 use Rattle.std.specs.List.{flat_map, AllByRecursion}
 use Rattle.std.proofs.lemmas.Grind.{flat_map-append, reverse_onto}
 use Rattle.std.proofs.lemmas.Bool.{cases_eq}
@@ -13,7 +14,7 @@ use Rattle.x7_memory.proofs.MapLemmas.{override_same}
 use Rattle.x7_pipeline.specs.Runs.{put_over}
 use Rattle.x7_pipeline.proofs.LawLemmas.{put_twice}
 use Rattle.x7_planner.specs.PartialStream.{Section, Copies, Rows}
-use Rattle.x7_planner.specs.PartialStream.{have_same_words, with_content, is_shared, leads_group, groups_led, rows_not_shared, follows, with_row, runs_of, sections_of}
+use Rattle.x7_planner.specs.PartialStream.{with_content, is_shared, leads_group, groups_led, rows_not_shared, follows, with_row, runs_of, sections_of}
 use Rattle.x7_planner.specs.PartialStream.{joined_runs, IsRunOfRows, AreLongest, pairs_of}
 use Rattle.x7_planner.proofs.ContentLemmas.{same_words_true, same_words_own}
 use Rattle.x7_effects.proofs.Groups.{put_sections}
@@ -154,9 +155,9 @@ Pairs words rows = map (λ far. record { far = far; words = words }) (planned_ad
 
 pub content_agrees : (rows qs : List PlanRow) (words : List ℕ) → Agree rows qs → Agree rows (Pairs words (with_content words qs))
 content_agrees rows [] words a = tt
-content_agrees rows (q ∷ qs) words a = by_test (have_same_words q.words words) refl (content_agrees rows qs words a.1)
+content_agrees rows (q ∷ qs) words a = by_test (bytes_eq q.words words) refl (content_agrees rows qs words a.1)
   where
-    by_test : (b : Bool) → have_same_words q.words words ≡ b → Agree rows (Pairs words (with_content words qs)) → Agree rows (Pairs words (if b then q ∷ with_content words qs else with_content words qs))
+    by_test : (b : Bool) → bytes_eq q.words words ≡ b → Agree rows (Pairs words (with_content words qs)) → Agree rows (Pairs words (if b then q ∷ with_content words qs else with_content words qs))
     by_test true t ih = (a.0 ∙ ap (λ x. Some x) (same_words_true q.words words t), ih)
     by_test false t ih = ih
 
@@ -172,7 +173,7 @@ pub not_shared_agree : (all qs : List PlanRow) → Agree all qs → Agree all (r
 not_shared_agree all [] a = tt
 not_shared_agree all (r ∷ qs) a = by_test (is_shared all r) (not_shared_agree all qs a.1)
   where
-    by_test : (b : Bool) → Agree all (rows_not_shared all qs) → Agree all (if b then rows_not_shared all qs else r ∷ rows_not_shared all qs)
+    by_test : (b : Bool) → Agree all (rows_not_shared all qs) → Agree all (if not b then r ∷ rows_not_shared all qs else rows_not_shared all qs)
     by_test true ih = ih
     by_test false ih = (a.0, ih)
 
@@ -212,12 +213,12 @@ IsIn r (q ∷ qs) = (q ≡ r) ⊎ IsIn r qs
 
 content_names : (words : List ℕ) (q : PlanRow) (qs : List PlanRow) → IsIn q qs → q.words ≡ words → Names q.far (Pairs words (with_content words qs))
 content_names words q [] i e = absurd i
-content_names words q (r ∷ qs) i e = by_test (have_same_words r.words words) refl i (λ j. content_names words q qs j e)
+content_names words q (r ∷ qs) i e = by_test (bytes_eq r.words words) refl i (λ j. content_names words q qs j e)
   where
-    by_test : (b : Bool) → have_same_words r.words words ≡ b → (r ≡ q) ⊎ IsIn q qs → (IsIn q qs → Names q.far (Pairs words (with_content words qs))) → Names q.far (Pairs words (if b then r ∷ with_content words qs else with_content words qs))
+    by_test : (b : Bool) → bytes_eq r.words words ≡ b → (r ≡ q) ⊎ IsIn q qs → (IsIn q qs → Names q.far (Pairs words (with_content words qs))) → Names q.far (Pairs words (if b then r ∷ with_content words qs else with_content words qs))
     by_test true t (inl h) ih = inl (ap (λ (x : PlanRow). x.far) h)
     by_test true t (inr i) ih = inr (ih i)
-    by_test false t (inl h) ih = absurd (let y : have_same_words words words ≡ true = same_words_own words in let z : r.words ≡ words = ap (λ (x : PlanRow). x.words) h ∙ e in let u : have_same_words r.words words ≡ true = rw z y in cc)
+    by_test false t (inl h) ih = absurd (let y : bytes_eq words words ≡ true = same_words_own words in let z : r.words ≡ words = ap (λ (x : PlanRow). x.words) h ∙ e in let u : bytes_eq r.words words ≡ true = rw z y in cc)
     by_test false t (inr i) ih = ih i
 
 -- the first row of a content
@@ -229,9 +230,9 @@ record LeadsContent (words : List ℕ) (qs : List PlanRow) : Type 0 where
 
 content_led : (words : List ℕ) (qs : List PlanRow) → 0 < length (with_content words qs) → LeadsContent words qs
 content_led words [] h = absurd (omega arith)
-content_led words (r ∷ qs) h = by_test (have_same_words r.words words) refl h (content_led words qs)
+content_led words (r ∷ qs) h = by_test (bytes_eq r.words words) refl h (content_led words qs)
   where
-    by_test : (b : Bool) → have_same_words r.words words ≡ b → 0 < length (if b then r ∷ with_content words qs else with_content words qs) → (0 < length (with_content words qs) → LeadsContent words qs) → LeadsContent words (r ∷ qs)
+    by_test : (b : Bool) → bytes_eq r.words words ≡ b → 0 < length (if b then r ∷ with_content words qs else with_content words qs) → (0 < length (with_content words qs) → LeadsContent words qs) → LeadsContent words (r ∷ qs)
     by_test true t h ih = record { row = r; there = inl refl; has = same_words_true r.words words t; first = rw t refl }
     by_test false t h ih = let l : LeadsContent words qs = ih h in record { row = l.row; there = inr l.there; has = l.has; first = rw t l.first }
 
@@ -268,7 +269,7 @@ others_named : (all qs : List PlanRow) (q : PlanRow) → IsIn q qs → is_shared
 others_named all [] q i f = absurd i
 others_named all (r ∷ qs) q i f = by_test (is_shared all r) refl i (λ j. others_named all qs q j f)
   where
-    by_test : (b : Bool) → is_shared all r ≡ b → (r ≡ q) ⊎ IsIn q qs → (IsIn q qs → Names q.far (rows_not_shared all qs)) → Names q.far (if b then rows_not_shared all qs else r ∷ rows_not_shared all qs)
+    by_test : (b : Bool) → is_shared all r ≡ b → (r ≡ q) ⊎ IsIn q qs → (IsIn q qs → Names q.far (rows_not_shared all qs)) → Names q.far (if not b then r ∷ rows_not_shared all qs else rows_not_shared all qs)
     by_test true t (inl e) ih = absurd (let u : is_shared all q ≡ true = ap (is_shared all) (sym e) ∙ t in cc)
     by_test true t (inr i) ih = ih i
     by_test false t (inl e) ih = inl (ap (λ (x : PlanRow). x.far) e)

@@ -1,13 +1,13 @@
 -- The sections of a plan write each of its rows once.
-use Rattle.std.proofs.Common.{◌≡◌, ℕ, zero, suc, ◌<◌, ◌==◌, ◌&&◌, ◌⊎◌, inl, inr, Bool, true, false, if◌then◌else◌, List, [], ◌∷◌, ◌++◌, length, get_or, Option, Some, refl, ap, sym, subst, ◌∙◌, arith}
-use Rattle.std.specs.Prelude.{Contains, nat_le}
+use Rattle.std.proofs.Common.{◌≡◌, ℕ, zero, suc, ◌<◌, ◌==◌, ◌&&◌, ◌⊎◌, inl, inr, Bool, not, true, false, if◌then◌else◌, List, [], ◌∷◌, ◌++◌, length, get_or, Option, Some, refl, ap, sym, subst, ◌∙◌, arith}
+use Rattle.std.specs.Prelude.{bytes_eq, Contains, nat_le}
 use Rattle.std.specs.List.{AllByRecursion}
 use Rattle.std.proofs.lemmas.Bool.{eqb-true}
 use Rattle.x7_memory.proofs.PlanLemmas.{order_tail}
 use Rattle.x7_planner.proofs.RunLemmas.{all_rows}
 use Rattle.x7_part.specs.Part.{PartData}
 use Rattle.x7_memory.specs.Plan.{AreApart, AreInOrder, PlanRow, planned, planned_addresses}
-use Rattle.x7_planner.specs.PartialStream.{Copies, WritesOnce, groups_led, is_shared, leads_group, rows_not_shared, pairs_in, have_same_words, sections_of, with_content}
+use Rattle.x7_planner.specs.PartialStream.{Copies, WritesOnce, groups_led, is_shared, leads_group, rows_not_shared, pairs_in, sections_of, with_content}
 use Rattle.x7_effects.proofs.GroupLemmas.{Agree, Names, Pairs, content_agrees, later, names_either, own, sections_agree, sections_cover, sections_pairs}
 
 -- no address comes twice
@@ -27,7 +27,7 @@ apart_rows (r ∷ rows) o = ((λ n. let above : r.far < r.far = later r.far r ro
 
 content_some : (words : List ℕ) (qs : List PlanRow) (far : ℕ) → Names far (Pairs words (with_content words qs)) → Names far qs
 content_some words [] far n = n
-content_some words (q ∷ qs) far n = by (have_same_words q.words words) (λ m. content_some words qs far m) n
+content_some words (q ∷ qs) far n = by (bytes_eq q.words words) (λ m. content_some words qs far m) n
   where
     by : (b : Bool) → (Names far (Pairs words (with_content words qs)) → Names far qs) → Names far (Pairs words (if b then q ∷ with_content words qs else with_content words qs)) → (q.far ≡ far) ⊎ Names far qs
     by true ih (inl e) = inl e
@@ -36,7 +36,7 @@ content_some words (q ∷ qs) far n = by (have_same_words q.words words) (λ m. 
 
 content_apart : (words : List ℕ) (qs : List PlanRow) → Apart qs → Apart (Pairs words (with_content words qs))
 content_apart words [] a = tt
-content_apart words (q ∷ qs) a = by (have_same_words q.words words) (content_apart words qs a.1)
+content_apart words (q ∷ qs) a = by (bytes_eq q.words words) (content_apart words qs a.1)
   where
     by : (b : Bool) → Apart (Pairs words (with_content words qs)) → Apart (Pairs words (if b then q ∷ with_content words qs else with_content words qs))
     by true ih = ((λ n. a.0 (content_some words qs q.far n)), ih)
@@ -46,7 +46,7 @@ not_shared_some : (all qs : List PlanRow) (far : ℕ) → Names far (rows_not_sh
 not_shared_some all [] far n = n
 not_shared_some all (q ∷ qs) far n = by (is_shared all q) (λ m. not_shared_some all qs far m) n
   where
-    by : (b : Bool) → (Names far (rows_not_shared all qs) → Names far qs) → Names far (if b then rows_not_shared all qs else q ∷ rows_not_shared all qs) → (q.far ≡ far) ⊎ Names far qs
+    by : (b : Bool) → (Names far (rows_not_shared all qs) → Names far qs) → Names far (if not b then q ∷ rows_not_shared all qs else rows_not_shared all qs) → (q.far ≡ far) ⊎ Names far qs
     by true ih m = inr (ih m)
     by false ih (inl e) = inl e
     by false ih (inr m) = inr (ih m)
@@ -55,7 +55,7 @@ not_shared_apart : (all qs : List PlanRow) → Apart qs → Apart (rows_not_shar
 not_shared_apart all [] a = tt
 not_shared_apart all (q ∷ qs) a = by (is_shared all q) (not_shared_apart all qs a.1)
   where
-    by : (b : Bool) → Apart (rows_not_shared all qs) → Apart (if b then rows_not_shared all qs else q ∷ rows_not_shared all qs)
+    by : (b : Bool) → Apart (rows_not_shared all qs) → Apart (if not b then q ∷ rows_not_shared all qs else rows_not_shared all qs)
     by true ih = ih
     by false ih = ((λ n. a.0 (not_shared_some all qs q.far n)), ih)
 
@@ -132,7 +132,7 @@ alone all (q ∷ qs) far a n = by (is_shared all q) refl n (λ m. alone all qs f
     in_rest : Alone all qs far → Alone all (q ∷ qs) far
     in_rest l = record { row = l.row; lone = l.lone; named = l.named }
 
-    by : (b : Bool) → is_shared all q ≡ b → Names far (if b then rows_not_shared all qs else q ∷ rows_not_shared all qs) → (Names far (rows_not_shared all qs) → Alone all qs far) → Alone all (q ∷ qs) far
+    by : (b : Bool) → is_shared all q ≡ b → Names far (if not b then q ∷ rows_not_shared all qs else rows_not_shared all qs) → (Names far (rows_not_shared all qs) → Alone all qs far) → Alone all (q ∷ qs) far
     by true e n ih = in_rest (ih n)
     by false e (inl m) ih = record { row = q; lone = e; named = ap (planned all) (sym m) ∙ a.0 }
     by false e (inr m) ih = in_rest (ih m)

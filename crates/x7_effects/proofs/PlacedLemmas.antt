@@ -1,6 +1,6 @@
 -- The runs of a plan stand at slots that follow one another, and land as they are.
 use Rattle.std.proofs.Common.{◌≡◌, ℕ, zero, suc, ◌+◌, ◌*◌, ◌^◌, ◌<◌, ◌≤◌, inl, inr, Bool, true, false, if◌then◌else◌, List, [], ◌∷◌, ◌++◌, length, map, get_or, refl, ap, sym, subst, ◌∙◌, append-nil, arith, eq-eqb, ne_eqb, length-append}
-use Rattle.std.specs.Prelude.{Contains, All}
+use Rattle.std.specs.Prelude.{bytes_eq, Contains, All}
 use Rattle.std.specs.List.{AllByRecursion}
 use Rattle.std.proofs.Math.Nat.{mul-le-mul_left}
 use Rattle.std.proofs.lemmas.Bool.{cases_eq, eqb-true}
@@ -24,7 +24,7 @@ use Rattle.x7_effects.proofs.Frames.{joined, AreWide, row_frames}
 use Rattle.x7_planner.specs.FullStream.{zero_frame}
 use Rattle.x7_planner.specs.PartialStream.{Copies, Rows}
 use Rattle.x7_effects.proofs.Streams.{HaveWords, IsSection, AreSections}
-use Rattle.x7_planner.specs.PartialStream.{with_content, leads_group, groups_led, rows_not_shared, is_frame, follows, with_row, runs_of, sections_of, have_same_words}
+use Rattle.x7_planner.specs.PartialStream.{with_content, leads_group, groups_led, rows_not_shared, is_frame, follows, with_row, runs_of, sections_of}
 use Rattle.x7_effects.proofs.Groups.{IsPlaced, LandsAs, plan_pieces}
 use Rattle.x7_flow.proofs.StreamLemmas.{whole_cut}
 use Rattle.x7_effects.proofs.FrameLemmas.{rows_land}
@@ -115,7 +115,7 @@ each_run P (run ∷ runs) a = (all_prefix P run (run_rows runs) a, each_run P ru
 
 pub of_content : (P : PlanRow → Type 0) (words : List ℕ) (qs : List PlanRow) → AllByRecursion P qs → AllByRecursion P (with_content words qs)
 of_content P words [] a = tt
-of_content P words (r ∷ qs) a = by_test (have_same_words r.words words) (of_content P words qs a.1)
+of_content P words (r ∷ qs) a = by_test (bytes_eq r.words words) (of_content P words qs a.1)
   where
     by_test : (b : Bool) → AllByRecursion P (with_content words qs) → AllByRecursion P (if b then r ∷ with_content words qs else with_content words qs)
     by_test true ih = (a.0, ih)

@@ -2,9 +2,9 @@
 use Rattle.std.proofs.Common.{◌≡◌, ◌==◌, ◌<◌, ◌+◌, ◌^◌, ℕ, false, [], ◌∷◌, List, sym, ap, ◌∙◌}
 use Rattle.x7_packets.specs.History.{entered_all, entry, History, Write}
 use Rattle.x7_packets.specs.Packet.{payload_steps}
-use Rattle.x7_packets.specs.CheckedWrites.{clears, checked_writes}
+use Rattle.x7_packets.specs.CheckedWrites.{clears, checked_writes, write_to}
 use Rattle.x7_crc.specs.RunningCheck.{in_order, running_check}
-use Rattle.x7_crc.specs.Check.{check_after, write_to, writes_to}
+use Rattle.x7_crc.specs.Check.{check_after, writes_to}
 use Rattle.x7_crc.proofs.CheckLemmas.{check_after_append, check_after_none, check_after_fits}
 use Rattle.x7_crc.proofs.CheckerLemmas.{check_folded}
 

@@ -102,7 +102,7 @@ pub record ReadsFrames (part : PartData) (f : FramesState) (h : History) (access
   pub address : HasAddress part h
   pub stands : FramesStandFor part f h 0
 
--- a word written to a register
+-- the access by which a word is written to a register
 abbrev pub word_to : Reg → ℕ → Access
 word_to register word = Write (number_of register) word
 

@@ -93,18 +93,18 @@ impl Frames {
     pub fn write_bytes(
         &mut self,
         settings: FrameSettings,
-        register: Reg,
+        reg: Reg,
         bytes: &[u8],
         part: &Part,
     ) -> (usize, Option<RunFault>)
-        requires register { TakesWords register }
+        requires register { TakesWords reg }
         requires whole { AreWholeWords bytes.now }
         requires part { FramesFit part.now self.old }
-        ensures taken { (n : ℕ) → OfFrames part.now settings self.old (λ h. WordsTaken part.now self.new h (words_to register n bytes.now) result) }
+        ensures taken { (n : ℕ) → OfFrames part.now settings self.old (λ h. WordsTaken part.now self.new h (words_to reg n bytes.now) result) }
         ensures within { result.0 ≤ length bytes.now / 4 }
         ensures part { FramesFit part.now self.new }
     {
-        match register {
+        match reg {
             Reg::Mfwr => self.write_copies(settings, bytes, part),
             _ => self.write_frame_data(settings, bytes, part),
         }

@@ -2,7 +2,7 @@
 use Rattle.std.proofs.Common.{◌≡◌, ℕ, ◌-◌, ◌<◌, ◌≤◌, ◌^◌, Bool, true, false, List, [], ◌∷◌, ◌++◌, Option, None, length, drop, if◌then◌else◌, refl, ap, sym, ◌∙◌, append_assoc, append-nil, arith, length-append}
 use Rattle.std.proofs.lemmas.List.{take-append-drop}
 use Rattle.std.proofs.lemmas.Bool.{ltb-true, ltb-false}
-use Rattle.std.proofs.lemmas.Bool.Decides.{nat_tests}
+use Rattle.std.proofs.lemmas.Slice.Eq.{bytes_eq-Decides}
 use Rattle.std.proofs.Math.Seq.{drop-append_seam}
 use Rattle.std.specs.Prelude.{nat_lt}
 use Rattle.std.specs.List.{flat_map, fold}
@@ -97,14 +97,9 @@ packets_are ws ps a =
     let found : HavePackets ws (packets_of ws) = packets_are_found ws (words_of_packets_fit ws ps a) (one_session ws ps a) in
     one_list None ps (packets_of ws) a.each found.each (sym a.joined ∙ found.joined)
 
--- the four bytes of a list that is_sync takes are the sync word
+-- the bytes that `is_sync` takes are those of the sync word
 sync_is : (xs : List ℕ) → is_sync xs ≡ true → xs ≡ sync_bytes
-sync_is [] e = absurd (cc)
-sync_is (a ∷ []) e = absurd (cc)
-sync_is (a ∷ b ∷ []) e = absurd (cc)
-sync_is (a ∷ b ∷ c ∷ []) e = absurd (cc)
-sync_is (a ∷ b ∷ c ∷ d ∷ []) e = grind (arith, nat_tests)
-sync_is (a ∷ b ∷ c ∷ d ∷ x ∷ xs) e = absurd (cc)
+sync_is xs e = (bytes_eq-Decides xs sync_bytes).0 e
 
 ends_with : (bytes : List ℕ) → is_sync (last_four bytes) ≡ true → bytes ≡ before_last_four bytes ++ sync_bytes
 ends_with bytes e = sym (take-append-drop (length bytes - 4) bytes) ∙ ap (λ t. before_last_four bytes ++ t) (sync_is (last_four bytes) e)

@@ -8,7 +8,7 @@ use Rattle.x7_words.specs.Word.{words_of_bytes}
 use Rattle.x7_packets.specs.SyncWord.{sync_bytes}
 use Rattle.x7_packets.specs.Packet.{Packet, ended, payload_steps}
 use Rattle.x7_packets.specs.Reading.{Place, Searching, Synced, EndedSession, IsPlace, IsReading, tail_of}
-use Rattle.x7_packets.specs.Cutter.{CutAdds, AtPlace, CompletesNone, CutterState, CutterStandsFor, CutsRun, ComesNearer, IsLent, IsNeed, IsRun, SkipsAll, LongerSession, ChangesMode, AfterRun, TakesAsOneRun, between, calls_left, run_bytes}
+use Rattle.x7_packets.specs.Cutter.{CutAdds, AtPlace, CompletesNone, CompletesNoneAt, CutterState, CutterStandsFor, CutsRun, ComesNearer, IsLent, IsNeed, IsRun, SkipsAll, LongerSession, ChangesMode, AfterRun, TakesAsOneRun, between, calls_left, run_bytes}
 use Rattle.x7_packets.specs.declared.header.Step.{Step}
 use Rattle.x7_packets.specs.declared.cutter.Cut.{Cut}
 use Rattle.x7_packets.specs.declared.cutter.Cut.TheVariants as cut
@@ -158,14 +158,14 @@ found_needs_none FoundRun.End c i n = i
 
 -- a call of the cutter on all bytes that are left
 pub cuts_whole : (c n : CutterState) (rest : List ℕ) (count : ℕ) (r : Cut) → ComesNearer r (length rest - count) (calls_left c (length rest - 0)) (calls_left n (length rest - count))
-    → (IsNeed r ↔ CompletesNone c c.mode (length rest - 0)) → c.kept ++ between rest 0 count ≡ run_bytes r ++ n.kept → IsRun r → IsLent c (length rest - 0) r → SkipsAll n (length rest - 0) r
+    → (IsNeed r ↔ CompletesNone c (length rest - 0)) → c.kept ++ between rest 0 count ≡ run_bytes r ++ n.kept → IsRun r → IsLent c (length rest - 0) r → SkipsAll n (length rest - 0) r
     → TakesAsOneRun c n (between rest 0 count) r → CutsRun c n rest count r
 cuts_whole c n rest count r g nd j i l k a =
     let all : length rest - 0 ≡ length rest = omega arith in
     let from : count - 0 ≡ count = omega arith in
     record {
       nearer = subst (λ (m : ℕ). ComesNearer r (length rest - count) (calls_left c m) (calls_left n (length rest - count))) all g;
-      need = subst (λ (m : ℕ). IsNeed r ↔ CompletesNone c c.mode m) all nd;
+      need = subst (λ (m : ℕ). IsNeed r ↔ CompletesNone c m) all nd;
       joined = subst (λ (m : ℕ). c.kept ++ take m rest ≡ run_bytes r ++ n.kept) from j;
       run = i;
       lent = subst (λ (m : ℕ). IsLent c m r) all l;
@@ -362,17 +362,17 @@ turns_fall kept left new [] s e h = absurd (omega arith)
 turns_fall kept [] new (b ∷ piece) s e h = omega (arith, e)
 turns_fall kept (c ∷ left) new (b ∷ piece) s e h = let few : length kept + suc (length left) < 4 = h (omega arith) in omega (arith, e, few)
 
-few_left : (c : CutterState) (m : Mode) (left : ℕ) → CompletesNone c m left → 0 < left → length c.kept + left < 4
-few_left c Mode.Searching left h s = absurd (omega (arith, h))
-few_left c Mode.SyncFound left h s = absurd h
-few_left c Mode.Synced left h s = h
+few_left : (m : Mode) (kept : List ℕ) (left : ℕ) → CompletesNoneAt m kept left → 0 < left → length kept + left < 4
+few_left Mode.Searching kept left h s = absurd (omega (arith, h))
+few_left Mode.SyncFound kept left h s = absurd h
+few_left Mode.Synced kept left h s = h
 
 pub turns_go : (old new : PacketsState) (s : CutsNext old new false) (piece : List ℕ) → 0 < length piece → turns_left new.cutter.kept piece < turns_left old.cutter.kept old.left
 turns_go old new s piece some =
     let none : length old.left - s.count ≡ 0 = need_goes s.run _ _ _ s.is s.cuts.nearer in
     let whole : take s.count old.left ≡ old.left = take_all s.count old.left (omega (arith, none)) in
     let joined : old.cutter.kept ++ old.left ≡ new.cutter.kept = ap (λ t. old.cutter.kept ++ t) (sym whole) ∙ s.cuts.joined ∙ ap (λ x. x ++ new.cutter.kept) (need_tells_none s.run s.is) in
-    turns_fall old.cutter.kept old.left new.cutter.kept piece some (ap length (sym joined) ∙ length-append old.cutter.kept old.left) (few_left old.cutter old.cutter.mode (length old.left) (s.cuts.need.0 s.is))
+    turns_fall old.cutter.kept old.left new.cutter.kept piece some (ap length (sym joined) ∙ length-append old.cutter.kept old.left) (few_left old.cutter.mode old.cutter.kept (length old.left) (s.cuts.need.0 s.is))
 
 same_sync_found : (old now new : Mode) → SameSyncFound old now → (now ≡ Mode.SyncFound → ⊥) → (new ≡ Mode.SyncFound → ⊥) → SameSyncFound old new
 same_sync_found old now new s n m = (λ e. absurd (n (s.0 e)), λ e. absurd (m e))

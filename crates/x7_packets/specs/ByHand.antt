@@ -1,8 +1,9 @@
 -- The packets of words and the reading of bytes found by hand: from the left, a word or a byte at a time (UG470, packet
 -- types and sync word; the search at every byte is this project's choice).
-use Rattle.std.specs.Prelude.{◌≡◌, ℕ, ◌-◌, ◌==◌, ◌&&◌, nat_lt, Bool, false, if◌then◌else◌, List, [], ◌∷◌, ◌++◌, length, take, drop, Option, None}
+use Rattle.std.specs.Prelude.{◌≡◌, ℕ, ◌-◌, nat_lt, bytes_eq, Bool, false, if◌then◌else◌, List, [], ◌∷◌, ◌++◌, length, take, drop, Option, None}
 use Rattle.std.specs.List.{fold}
 use Rattle.x7_words.specs.Word.{word_of_bytes}
+use Rattle.x7_packets.specs.SyncWord.{sync_bytes}
 use Rattle.x7_packets.specs.Packet.{Packet, meaning, count_of, latest_after, ended}
 use Rattle.x7_packets.specs.Reading.{Place, Searching, Synced, EndedSession}
 
@@ -34,10 +35,9 @@ packets_of = fold packets_with_word []
 abbrev pub AreOfOneSession : List ℕ → Type 0
 AreOfOneSession ws = (prefix suffix : List ℕ) (w : ℕ) → ws ≡ prefix ++ w ∷ suffix → ended (packets_of prefix) ≡ false
 
--- a list of four bytes is the sync word
+-- the bytes are those of the sync word
 abbrev pub is_sync : List ℕ → Bool
-is_sync (a ∷ b ∷ c ∷ d ∷ []) = a == 0xAA && b == 0x99 && c == 0x55 && d == 0x66
-is_sync _ = false
+is_sync bytes = bytes_eq bytes sync_bytes
 
 -- the bytes without the last four
 abbrev pub before_last_four : List ℕ → List ℕ

@@ -16,9 +16,13 @@ pub record RegisterWrite : Type 0 where
   pub register : ℕ
   pub word : ℕ
 
+-- the write of a word to a register
+abbrev pub write_to : ℕ → ℕ → RegisterWrite
+write_to register word = record { register = register; word = word }
+
 -- writes with that of one access more; LOUT is left out
 abbrev pub with_write : Access → List RegisterWrite → List RegisterWrite
-with_write (Write r w) writes = if r == number_of Lout then writes else record { register = r; word = w } ∷ writes
+with_write (Write r w) writes = if r == number_of Lout then writes else write_to r w ∷ writes
 with_write _ writes = writes
 
 -- the writes since the last clearing access, the newest first

@@ -82,15 +82,11 @@ CutAdds Need sessions (Searching gap) new_sessions new = (new_sessions ≡ sessi
 CutAdds Need sessions (Synced gap packets tail) new_sessions new = (new_sessions ≡ sessions) × (more : List ℕ) × (new ≡ Synced gap packets (tail ++ more))
 CutAdds (Skip bytes) sessions (Searching gap) new_sessions new = (new_sessions ≡ sessions)
     × ((new ≡ Searching (gap ++ bytes.now)) ⊎ ((prefix : List ℕ) × (gap ++ bytes.now ≡ prefix ++ sync_bytes) × (new ≡ Synced prefix [] [])))
-CutAdds (Skip bytes) sessions (Synced gap packets tail) new_sessions new = ⊥
-CutAdds Sync sessions (Searching gap) new_sessions new = ⊥
 CutAdds Sync sessions (Synced gap packets tail) new_sessions new = (packets ≡ []) × (tail ≡ []) × (new_sessions ≡ sessions) × (new ≡ Synced gap [] [])
-CutAdds (Head w step) sessions (Searching gap) new_sessions new = ⊥
 CutAdds (Head w step) sessions (Synced gap packets tail) new_sessions new = LongerSession gap packets (run_steps (Head w step)) sessions new_sessions new
-CutAdds (Word register w) sessions (Searching gap) new_sessions new = ⊥
 CutAdds (Word register w) sessions (Synced gap packets tail) new_sessions new = LongerSession gap packets (run_steps (Word register w)) sessions new_sessions new
-CutAdds (Body register bytes) sessions (Searching gap) new_sessions new = ⊥
 CutAdds (Body register bytes) sessions (Synced gap packets tail) new_sessions new = LongerSession gap packets (run_steps (Body register bytes)) sessions new_sessions new
+CutAdds _ _ _ _ _ = ⊥
 
 -- no sync word was found that is still to be given
 abbrev pub IsNotSyncFound : Mode → Type 0
@@ -130,11 +126,15 @@ abbrev pub SkipsAll : CutterState → ℕ → Cut → Type 0
 SkipsAll new bytes_left (Skip bytes) = (new.mode ≡ Mode.SyncFound) ⊎ (length bytes.now ≡ bytes_left)
 SkipsAll new bytes_left _ = Unit {0}
 
--- a piece of which this many bytes are left completes no run, with the bytes that are kept before it
-abbrev pub CompletesNone : CutterState → Mode → ℕ → Type 0
-CompletesNone c Mode.Searching bytes_left = bytes_left ≡ 0
-CompletesNone c Mode.SyncFound bytes_left = ⊥
-CompletesNone c Mode.Synced bytes_left = length c.kept + bytes_left < 4
+-- where a cutter stands here and keeps these bytes, a piece of which this many are left completes no run
+abbrev pub CompletesNoneAt : Mode → List ℕ → ℕ → Type 0
+CompletesNoneAt Mode.Searching kept bytes_left = bytes_left ≡ 0
+CompletesNoneAt Mode.SyncFound kept bytes_left = ⊥
+CompletesNoneAt Mode.Synced kept bytes_left = length kept + bytes_left < 4
+
+-- a piece of which this many bytes are left completes no run, with the bytes that the cutter keeps before it
+abbrev pub CompletesNone : CutterState → ℕ → Type 0
+CompletesNone c bytes_left = CompletesNoneAt c.mode c.kept bytes_left
 
 -- the call gave no run, and needs more bytes
 abbrev pub IsNeed : Cut → Type 0
@@ -201,7 +201,7 @@ pub record HasCut (bytes more : List ℕ) (r : Reading) (run : Cut) : Type 0 whe
 -- one call of a cutter on the bytes that are left of a piece, of which it took `taken`
 pub record CutsRun (old new : CutterState) (rest : List ℕ) (taken : ℕ) (cut : Cut) : Type 0 where
   pub nearer : ComesNearer cut (length rest - taken) (calls_left old (length rest)) (calls_left new (length rest - taken))
-  pub need : IsNeed cut ↔ CompletesNone old old.mode (length rest)
+  pub need : IsNeed cut ↔ CompletesNone old (length rest)
   pub joined : old.kept ++ take taken rest ≡ run_bytes cut ++ new.kept
   pub run : IsRun cut
   pub lent : IsLent old (length rest) cut

@@ -9,7 +9,6 @@ use Rattle.x7_packets.specs.History.{Entry, Write, entry}
 use Rattle.x7_packets.specs.History as access
 use Rattle.x7_packets.specs.Reading.{EndedSession, Place, Searching, Synced}
 use Rattle.x7_packets.specs.ByHand.{Reading}
-use Rattle.x7_packets.specs.CheckedWrites.{RegisterWrite}
 
 -- the bytes of words
 abbrev pub stream : List ℕ → List ℕ
@@ -50,10 +49,6 @@ opened head register = opening head register 0 []
 -- a write of one word to a register
 abbrev pub write_packet : ℕ → ℕ → ℕ → Packet
 write_packet head register word = opening head register 1 (word ∷ [])
-
--- a word written to a register
-abbrev pub write_of : ℕ → ℕ → RegisterWrite
-write_of register word = record { register = register; word = word }
 
 -- the words of DESYNC written to CMD
 abbrev pub desync : List ℕ

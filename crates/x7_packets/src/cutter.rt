@@ -308,7 +308,7 @@ impl Cutter {
         ensures within { at.new ≤ length piece.now }
         ensures nearer { ComesNearer result (length piece.now - at.new) (calls_left self.old (length piece.now - at.old))
             (calls_left self.new (length piece.now - at.new)) }
-        ensures need { IsNeed result ↔ CompletesNone self.old self.old.mode (length piece.now - at.old) }
+        ensures need { IsNeed result ↔ CompletesNone self.old (length piece.now - at.old) }
         ensures joined { self.old.kept ++ between piece.now at.old at.new ≡ run_bytes result ++ self.new.kept }
         ensures run { IsRun result }
         ensures lent { IsLent self.old (length piece.now - at.old) result }

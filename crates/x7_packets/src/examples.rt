@@ -1,10 +1,10 @@
 //! Worked examples: the definitions compute to these values, which follow from the format's rules.
 ghost use Rattle.std.specs.Prelude.{◌≡◌, [], ◌∷◌, ◌++◌};
 ghost use Rattle.x7_packets.specs.ByHand.{packets_of, reading_of};
-ghost use Rattle.x7_packets.specs.Examples.{bad, bad_at, desync, desynced, filler, in_session, nop, opened, opening, read, read_at, reading_of_place, session_with, synced, then_gap, session_with_tail, write_at, write_of, write_packet};
+ghost use Rattle.x7_packets.specs.Examples.{bad, bad_at, desync, desynced, filler, in_session, nop, opened, opening, read, read_at, reading_of_place, session_with, synced, then_gap, session_with_tail, write_at, write_packet};
 ghost use Rattle.x7_packets.specs.History.{executed, history_of};
 ghost use Rattle.x7_packets.specs.Reading.{Searching, Synced};
-ghost use Rattle.x7_packets.specs.CheckedWrites.{checked_writes};
+ghost use Rattle.x7_packets.specs.CheckedWrites.{checked_writes, write_to};
 
 /// Where the sync word is found.
 pub fn examples_of_the_search()
@@ -62,5 +62,5 @@ pub fn examples_of_the_history()
     ensures desync_once { executed (history_of (0xFF ∷ synced (desync ++ 0xAA995566 ∷ 0x30002001 ∷ 5 ∷ []))) ≡ 13 ∷ [] }
     ensures cleared { checked_writes (history_of (synced (0x30008001 ∷ 7 ∷ 0x30002001 ∷ 0 ∷ []))) ≡ [] }
     ensures not_cleared { checked_writes (history_of (synced (0x30008001 ∷ 7 ∷ 0x30018001 ∷ 9 ∷ 0x30010001 ∷ 1 ∷ 0x30008001 ∷ 1 ∷ [])))
-        ≡ write_of 4 1 ∷ write_of 12 9 ∷ [] }
+        ≡ write_to 4 1 ∷ write_to 12 9 ∷ [] }
 {}

@@ -39,6 +39,6 @@ pub record PartData : Type 0 where
   pub start_unit : ℕ
   pub rows : List RowData
 
--- the words of a frame (UG470, frame data)
+-- how many words a frame has (UG470, frame data)
 abbrev pub frame_words : PartData → ℕ
 frame_words part = part.frame_words

@@ -1,6 +1,6 @@
 -- Equal contents stand together.
 use Rattle.std.proofs.Common.{◌≡◌, ◌≢◌, ℕ, zero, suc, ◌+◌, ◌-◌, ◌<◌, ◌≤◌, ◌==◌, ◌&&◌, not, ◌⊎◌, inl, inr, Bool, true, false, if◌then◌else◌, List, [], ◌∷◌, ◌++◌, length, map, take, drop, get_or, set, refl, ap, sym, subst, ◌∙◌, arith, eq-eqb, Ordering, Less, Equal, Greater, cond}
-use Rattle.std.specs.Prelude.{Contains, nat_le, IsPermutation}
+use Rattle.std.specs.Prelude.{Contains, bytes_eq, nat_le, IsPermutation}
 use Rattle.std.specs.List.{filter}
 use Rattle.std.specs.List.Sorted.{IsSortedBy, IsStableBy, ties}
 use Rattle.std.specs.Cmp.Lexicographic.{slice_cmp}
@@ -10,55 +10,42 @@ use Rattle.std.proofs.lemmas.Bool.{cases_eq, cases_order, eqb-true, false≢true
 use Rattle.std.proofs.lemmas.Bool.Decides.{nat_tests}
 use Rattle.std.proofs.lemmas.Cmp.{nat_list_cmp_total, same_from_slice_cmp}
 use Rattle.std.proofs.lemmas.List.{get_or-take, get_or-drop, get_or-map, get_or_default, append-nil, take-append-drop, drop_more, length-append, length-drop, length-take-le, drop-drop, length-map, get_or-set_same, get_or-set_other, length_push, get_or_push, get_or_append_left}
-use Rattle.std.proofs.lemmas.List.Elements.{Contains-get_or}
+use Rattle.std.proofs.lemmas.List.Elements.{Contains-get_or, filter-append}
+use Rattle.std.proofs.lemmas.Slice.Eq.{bytes_eq-Decides}
 use Rattle.std.proofs.lemmas.List.Sorted.{sorted_far, ranks_by, All-permutation, Contains-permutation, IsPermutation-map}
 use Rattle.x7_memory.specs.Plan.{PlanRow}
 use Rattle.x7_planner.specs.Content.{AreFirsts, AreFramesByContent, AreStarts, AreTogether, IsStartBefore, IsFirst, IsPlaced, planned_row, planned_rows}
-use Rattle.x7_planner.specs.PartialStream.{have_same_words, with_content}
+use Rattle.x7_planner.specs.PartialStream.{with_content}
 use Rattle.x7_planner.specs.declared.content.PlannedFrame.{PlannedFrame}
 
 -- ---- the same words
 
-pub same_words_true : (xs ys : List ℕ) → have_same_words xs ys ≡ true → xs ≡ ys
-same_words_true [] [] e = refl
-same_words_true [] (y ∷ ys) e = absurd (cc)
-same_words_true (x ∷ xs) [] e = absurd (cc)
-same_words_true (x ∷ xs) (y ∷ ys) e = both (x == y) refl e (same_words_true xs ys)
+pub same_words_true : (xs ys : List ℕ) → bytes_eq xs ys ≡ true → xs ≡ ys
+same_words_true xs ys e = (bytes_eq-Decides xs ys).0 e
+
+pub same_words_own : (xs : List ℕ) → bytes_eq xs xs ≡ true
+same_words_own xs = (bytes_eq-Decides xs xs).1 refl
+
+pub same_words_false : (xs ys : List ℕ) → bytes_eq xs ys ≡ false → xs ≢ ys
+same_words_false xs ys e h = false≢true (sym e ∙ ap (λ t. bytes_eq xs t) (sym h) ∙ same_words_own xs)
+
+pub same_words_other : (xs ys : List ℕ) → xs ≢ ys → bytes_eq xs ys ≡ false
+same_words_other xs ys n = by (bytes_eq xs ys) refl
   where
-    both : (b : Bool) → (x == y) ≡ b → (b && have_same_words xs ys) ≡ true → (have_same_words xs ys ≡ true → xs ≡ ys) → x ∷ xs ≡ y ∷ ys
-    both true t e ih = let h : x ≡ y = eqb-true x y t in let r : xs ≡ ys = ih e in cc
-    both false t e ih = absurd (cc)
-
-pub same_words_own : (xs : List ℕ) → have_same_words xs xs ≡ true
-same_words_own [] = refl
-same_words_own (x ∷ xs) = rw (eq-eqb x x refl) (same_words_own xs)
-
-pub same_words_false : (xs ys : List ℕ) → have_same_words xs ys ≡ false → xs ≢ ys
-same_words_false xs ys e h = false≢true (sym e ∙ ap (λ t. have_same_words xs t) (sym h) ∙ same_words_own xs)
-
-pub same_words_other : (xs ys : List ℕ) → xs ≢ ys → have_same_words xs ys ≡ false
-same_words_other xs ys n = by (have_same_words xs ys) refl
-  where
-    by : (b : Bool) → have_same_words xs ys ≡ b → b ≡ false
+    by : (b : Bool) → bytes_eq xs ys ≡ b → b ≡ false
     by true e = absurd (n (same_words_true xs ys e))
     by false e = refl
 
 -- ---- rows with a content
 
 pub content_same : (words : List ℕ) (r : PlanRow) (rows : List PlanRow) → r.words ≡ words → with_content words (r ∷ rows) ≡ r ∷ with_content words rows
-content_same words r rows e = rw (ap (λ t. have_same_words t words) e ∙ same_words_own words) refl
+content_same words r rows e = rw (ap (λ t. bytes_eq t words) e ∙ same_words_own words) refl
 
 pub content_other : (words : List ℕ) (r : PlanRow) (rows : List PlanRow) → r.words ≢ words → with_content words (r ∷ rows) ≡ with_content words rows
 content_other words r rows n = rw (same_words_other r.words words n) refl
 
 pub content_append : (words : List ℕ) (xs ys : List PlanRow) → with_content words (xs ++ ys) ≡ with_content words xs ++ with_content words ys
-content_append words [] ys = refl
-content_append words (x ∷ xs) ys = by (have_same_words x.words words) (content_append words xs ys)
-  where
-    by : (b : Bool) → with_content words (xs ++ ys) ≡ with_content words xs ++ with_content words ys
-        → (if b then x ∷ with_content words (xs ++ ys) else with_content words (xs ++ ys)) ≡ (if b then x ∷ with_content words xs else with_content words xs) ++ with_content words ys
-    by true ih = ap (λ t. x ∷ t) ih
-    by false ih = ih
+content_append words xs ys = filter-append (λ (row : PlanRow). bytes_eq row.words words) xs ys
 
 pub content_none : (words : List ℕ) (xs : List PlanRow) → ((k : ℕ) (d : PlanRow) → k < length xs → (get_or xs k d).words ≢ words) → with_content words xs ≡ []
 content_none words [] n = refl
@@ -66,7 +53,7 @@ content_none words (x ∷ xs) n = content_other words x xs (n 0 x (omega arith))
 
 pub content_shorter : (words : List ℕ) (xs : List PlanRow) → length (with_content words xs) ≤ length xs
 content_shorter words [] = omega arith
-content_shorter words (x ∷ xs) = by (have_same_words x.words words) (content_shorter words xs)
+content_shorter words (x ∷ xs) = by (bytes_eq x.words words) (content_shorter words xs)
   where
     by : (b : Bool) → length (with_content words xs) ≤ length xs → length (if b then x ∷ with_content words xs else with_content words xs) ≤ suc (length xs)
     by true ih = omega (arith, ih)
@@ -142,8 +129,8 @@ row_at (c ∷ frames) (suc i) d e l = row_at frames i d e (omega (arith, l))
 abbrev pub by_words : PlannedFrame → PlannedFrame → Bool
 by_words x y = is_lt (slice_cmp nat_cmp x.words.now y.words.now)
 
-equal_is_same : (xs ys : List ℕ) (o : Ordering) → o ≡ slice_cmp nat_cmp xs ys → is_eq o ≡ have_same_words xs ys
-equal_is_same = same_from_slice_cmp nat_cmp is_eq have_same_words refl (λ _ _. refl) (λ _ _. refl) (λ x y xs ys o h. grind (arith, nat_tests))
+equal_is_same : (xs ys : List ℕ) (o : Ordering) → o ≡ slice_cmp nat_cmp xs ys → is_eq o ≡ bytes_eq xs ys
+equal_is_same = same_from_slice_cmp nat_cmp is_eq bytes_eq refl (λ _ _. refl) (λ _ _. refl) (λ x y xs ys o h. grind (arith, nat_tests))
 
 tied : (xs ys : List ℕ) → is_lt (slice_cmp nat_cmp xs ys) ≡ false → is_lt (slice_cmp nat_cmp ys xs) ≡ false → xs ≡ ys
 tied xs ys f g =
@@ -156,7 +143,7 @@ tied xs ys f g =
     by Greater Equal f g e = absurd (cc)
     by Greater Greater f g e = absurd (cc)
 
-ties_same : (x y : PlannedFrame) → ties by_words x y ≡ have_same_words y.words.now x.words.now
+ties_same : (x y : PlannedFrame) → ties by_words x y ≡ bytes_eq y.words.now x.words.now
 ties_same x y =
     by (slice_cmp nat_cmp x.words.now y.words.now) (slice_cmp nat_cmp y.words.now x.words.now) (nat_list_cmp_total.antisymm x.words.now y.words.now)
     ∙ equal_is_same y.words.now x.words.now (slice_cmp nat_cmp y.words.now x.words.now) refl
@@ -174,7 +161,7 @@ ties_same x y =
 
 content_is_filter : (c : PlannedFrame) (frames : List PlannedFrame) → with_content c.words.now (planned_rows frames) ≡ planned_rows (filter (ties by_words c) frames)
 content_is_filter c [] = refl
-content_is_filter c (x ∷ frames) = rw (ties_same c x) (by (have_same_words x.words.now c.words.now) (content_is_filter c frames))
+content_is_filter c (x ∷ frames) = rw (ties_same c x) (by (bytes_eq x.words.now c.words.now) (content_is_filter c frames))
   where
     by : (b : Bool) → with_content c.words.now (planned_rows frames) ≡ planned_rows (filter (ties by_words c) frames)
         → (if b then planned_row x ∷ with_content c.words.now (planned_rows frames) else with_content c.words.now (planned_rows frames)) ≡ planned_rows (cond b (x ∷ filter (ties by_words c) frames) (filter (ties by_words c) frames))
@@ -234,14 +221,14 @@ begun_new rows start k d b l n = record {
   before = (λ f h e. let g = b.first f h in n (sym e ∙ sym (g.has d)));
 }
 
-pub start_same : (frames : List PlannedFrame) (start k : ℕ) (e : PlannedFrame) → IsStartBefore (planned_rows frames) start k → k < length frames → have_same_words (get_or frames k e).words.now (get_or frames start e).words.now ≡ true
+pub start_same : (frames : List PlannedFrame) (start k : ℕ) (e : PlannedFrame) → IsStartBefore (planned_rows frames) start k → k < length frames → bytes_eq (get_or frames k e).words.now (get_or frames start e).words.now ≡ true
     → (d : PlanRow) → IsFirst (planned_rows frames) (get_or (planned_rows frames) k d).words start
 start_same frames start k e b l t d =
     begun_same (planned_rows frames) start k d b (omega (arith, l, length-map frames planned_row))
     (ap (λ (r : PlanRow). r.words) (row_at frames k d e l) ∙ same_words_true (get_or frames k e).words.now (get_or frames start e).words.now t
     ∙ ap (λ (r : PlanRow). r.words) (sym (row_at frames start d e (let h = b.no_later in omega (arith, h, l)))))
 
-pub start_new : (frames : List PlannedFrame) (start k : ℕ) (e : PlannedFrame) → IsStartBefore (planned_rows frames) start k → k < length frames → have_same_words (get_or frames k e).words.now (get_or frames start e).words.now ≡ false
+pub start_new : (frames : List PlannedFrame) (start k : ℕ) (e : PlannedFrame) → IsStartBefore (planned_rows frames) start k → k < length frames → bytes_eq (get_or frames k e).words.now (get_or frames start e).words.now ≡ false
     → (d : PlanRow) → IsFirst (planned_rows frames) (get_or (planned_rows frames) k d).words k
 start_new frames start k e b l t d =
     begun_new (planned_rows frames) start k d b (omega (arith, l, length-map frames planned_row)) (λ s.

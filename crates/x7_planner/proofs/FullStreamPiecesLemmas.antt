@@ -63,18 +63,18 @@ slots_to part plan n to h =
     ∙ ap bytes_of_words (sym (flat_map-append (frame_at_slot part plan) (take n places) (drop n (take to places))) ∙ ap (words_of_slots part plan) joined)
 
 -- the slot that is next, by its name
-pub inside_at : (s : FullStreamState) (n : ℕ) → s.next ≡ next.Slot n → IsFullStream s → n ≤ length (slots_in s.part)
+pub inside_at : (s : FullStreamState) (n : ℕ) → s.next_piece ≡ next.Slot n → IsFullStream s → n ≤ length (slots_in s.part)
 inside_at s n e is = subst (λ (x : NextPiece). slot_next x ≤ length (slots_in s.part)) e is.inside
 
 -- the bytes before what is next, by its name
-before_at : (s : FullStreamState) (given : List ℕ) (at : NextPiece) → s.next ≡ at → HasGiven s given → given ≡ stream_of (pieces_before s.part s.plan at)
+before_at : (s : FullStreamState) (given : List ℕ) (at : NextPiece) → s.next_piece ≡ at → HasGiven s given → given ≡ stream_of (pieces_before s.part s.plan at)
 before_at s given at e h = h.before ∙ ap (λ (x : NextPiece). stream_of (pieces_before s.part s.plan x)) e
 
-calls_at : (s : FullStreamState) (at after : NextPiece) → s.next ≡ at → calls_from (length (slots_in s.part)) after < calls_from (length (slots_in s.part)) at → calls_from (length (slots_in s.part)) after < puts_left s
+calls_at : (s : FullStreamState) (at after : NextPiece) → s.next_piece ≡ at → calls_from (length (slots_in s.part)) after < calls_from (length (slots_in s.part)) at → calls_from (length (slots_in s.part)) after < puts_left s
 calls_at s at after e h = subst (λ (x : NextPiece). calls_from (length (slots_in s.part)) after < calls_from (length (slots_in s.part)) x) (sym e) h
 
 module _ (s : FullStreamState) (old new : List ℕ) where
-  frames_before : (n to : ℕ) → s.next ≡ next.Slot n → n ≤ to → (given : List ℕ) → HasGiven s given →
+  frames_before : (n to : ℕ) → s.next_piece ≡ next.Slot n → n ≤ to → (given : List ℕ) → HasGiven s given →
       given ++ bytes_of_words (words_of_slots s.part s.plan (drop n (take to (slots_in s.part)))) ≡ stream_of (pieces_to s.part s.plan to)
   frames_before n to e h given t =
       let prefix : List ℕ = bytes_of_words (full_opening s.part) in
@@ -82,7 +82,7 @@ module _ (s : FullStreamState) (old new : List ℕ) where
       let piece : List ℕ = bytes_of_words (words_of_slots s.part s.plan (drop n (take to (slots_in s.part)))) in
       ap (λ (x : List ℕ). x ++ piece) (before_at s given (next.Slot n) e t) ∙ append_assoc prefix first piece ∙ ap (λ (x : List ℕ). prefix ++ x) (slots_to s.part s.plan n to h)
 
-  pub wrote_slots : (n count to : ℕ) → s.next ≡ next.Slot n → n ≤ length (slots_in s.part) → count ≡ length (slots_in s.part) → to ≡ min count (n + piece_slots) → (to ≡ count → ⊥)
+  pub wrote_slots : (n count to : ℕ) → s.next_piece ≡ next.Slot n → n ≤ length (slots_in s.part) → count ≡ length (slots_in s.part) → to ≡ min count (n + piece_slots) → (to ≡ count → ⊥)
       → new ≡ old ++ bytes_of_words (words_of_slots s.part s.plan (drop n (take to (slots_in s.part)))) → WritesPiece s old new (next.Slot to)
   wrote_slots n count to e within c m more adds = record {
     piece = bytes_of_words (words_of_slots s.part s.plan (drop n (take to (slots_in s.part))));
@@ -92,7 +92,7 @@ module _ (s : FullStreamState) (old new : List ℕ) where
     fewer = λ _. calls_at s (next.Slot n) (next.Slot to) e (omega (arith, within, c, m, more));
   }
 
-  pub wrote_frames : (n count to : ℕ) → s.next ≡ next.Slot n → n ≤ length (slots_in s.part) → count ≡ length (slots_in s.part) → to ≡ min count (n + piece_slots) → to ≡ count
+  pub wrote_frames : (n count to : ℕ) → s.next_piece ≡ next.Slot n → n ≤ length (slots_in s.part) → count ≡ length (slots_in s.part) → to ≡ min count (n + piece_slots) → to ≡ count
       → new ≡ old ++ bytes_of_words (words_of_slots s.part s.plan (drop n (take to (slots_in s.part)))) → WritesPiece s old new next.Check
   wrote_frames n count to e within c m last adds = record {
     piece = bytes_of_words (words_of_slots s.part s.plan (drop n (take to (slots_in s.part))));
@@ -103,7 +103,7 @@ module _ (s : FullStreamState) (old new : List ℕ) where
     fewer = λ _. calls_at s (next.Slot n) next.Check e (omega arith);
   }
 
-  pub wrote_nothing : s.next ≡ next.Nothing → new ≡ old → WritesPiece s old new next.Nothing
+  pub wrote_nothing : s.next_piece ≡ next.Nothing → new ≡ old → WritesPiece s old new next.Nothing
   wrote_nothing e same = record {
     piece = [];
     adds = same ∙ sym (append-nil old);
@@ -118,18 +118,18 @@ after_old old piece new start e f =
     take_rest new start ∙ ap (λ (k : ℕ). drop k new) e ∙ ap (λ (t : List ℕ). drop (length old) t) f ∙ drop-append_seam old piece
 
 -- what was written is given, once it is checked too
-pub given_more : (s t : FullStreamState) (given old new : List ℕ) (start : ℕ) → t.part ≡ s.part → t.plan ≡ s.plan → start ≡ length old → WritesPiece s old new t.next
-    → ((bytes : List ℕ) → HasTaken s.check bytes → HasTaken t.check (bytes ++ take (length new - start) (drop start new))) → HasGiven s given → AppendsNext t given old new
+pub given_more : (s t : FullStreamState) (given old new : List ℕ) (start : ℕ) → t.part ≡ s.part → t.plan ≡ s.plan → start ≡ length old → WritesPiece s old new t.next_piece
+    → ((bytes : List ℕ) → HasTaken s.checker bytes → HasTaken t.checker (bytes ++ take (length new - start) (drop start new))) → HasGiven s given → AppendsNext t given old new
 given_more s t given old new start same_part same_plan e w takes h =
-    let before : given ++ w.piece ≡ stream_of (pieces_before t.part t.plan t.next) =
-    w.before given h ∙ ap (λ (p : PartData). stream_of (pieces_before p s.plan t.next)) (sym same_part) ∙ ap (λ (p : PlanData). stream_of (pieces_before t.part p t.next)) (sym same_plan) in
-    let left = left_of t.part t.plan t.next in
+    let before : given ++ w.piece ≡ stream_of (pieces_before t.part t.plan t.next_piece) =
+    w.before given h ∙ ap (λ (p : PartData). stream_of (pieces_before p s.plan t.next_piece)) (sym same_part) ∙ ap (λ (p : PlanData). stream_of (pieces_before t.part p t.next_piece)) (sym same_plan) in
+    let left = left_of t.part t.plan t.next_piece in
     record {
       piece = w.piece;
       adds = w.adds;
       more = record {
         before = before;
-        checked = subst (λ (x : List ℕ). HasTaken t.check (given ++ x)) (after_old old w.piece new start e w.adds) (takes given h.checked);
+        checked = subst (λ (x : List ℕ). HasTaken t.checker (given ++ x)) (after_old old w.piece new start e w.adds) (takes given h.checked);
         left = left.0;
         whole = ap (λ (x : List ℕ). x ++ left.0) before ∙ left.1;
       };

@@ -1,9 +1,10 @@
 -- The groups of a plan and the other rows, one row more.
-use Rattle.std.proofs.Common.{◌≡◌, ℕ, ◌+◌, ◌-◌, ◌<◌, ◌≤◌, ◌==◌, ◌&&◌, Bool, true, false, if◌then◌else◌, List, [], ◌∷◌, ◌++◌, length, take, get_or, refl, ap, sym, subst, ◌∙◌, arith, append_assoc, eq-eqb, ◌⊎◌, inl, inr}
+use Rattle.std.proofs.Common.{◌≡◌, ℕ, ◌+◌, ◌-◌, ◌<◌, ◌≤◌, ◌==◌, ◌&&◌, not, Bool, true, false, if◌then◌else◌, List, [], ◌∷◌, ◌++◌, length, take, get_or, refl, ap, sym, subst, ◌∙◌, arith, append_assoc, eq-eqb, ◌⊎◌, inl, inr}
 use Rattle.std.proofs.lemmas.Bool.{cases_eq, eqb-true, false≢true}
 use Rattle.std.specs.Prelude.{nat_le}
 use Rattle.std.specs.List.{flat_map}
 use Rattle.std.proofs.lemmas.Grind.{flat_map-append}
+use Rattle.std.proofs.lemmas.List.Elements.{filter-append}
 use Rattle.std.proofs.lemmas.List.{append-nil, take_more, length-map, map-append, get_or_default, length_push, get_or_push, get_or_append_left}
 use Rattle.x7_memory.specs.Plan.{PlanRow, planned_addresses}
 use Rattle.x7_part.specs.Part.{PartData, frame_words}
@@ -93,12 +94,7 @@ same_content rows (c ∷ frames) words a g f =
 -- ---- the other rows
 
 pub not_shared_append : (all xs ys : List PlanRow) → rows_not_shared all (xs ++ ys) ≡ rows_not_shared all xs ++ rows_not_shared all ys
-not_shared_append all [] ys = refl
-not_shared_append all (x ∷ xs) ys = by (is_shared all x) (not_shared_append all xs ys)
-  where
-    by : (b : Bool) → rows_not_shared all (xs ++ ys) ≡ rows_not_shared all xs ++ rows_not_shared all ys → (if b then rows_not_shared all (xs ++ ys) else x ∷ rows_not_shared all (xs ++ ys)) ≡ (if b then rows_not_shared all xs else x ∷ rows_not_shared all xs) ++ rows_not_shared all ys
-    by true ih = ih
-    by false ih = ap (λ t. x ∷ t) ih
+not_shared_append all xs ys = filter-append (λ (row : PlanRow). not (is_shared all row)) xs ys
 
 pub not_shared_more : (rows : List PlanRow) (frames old new : List PlannedFrame) (a n : ℕ) (c : PlannedFrame) (d : PlanRow) (b : Bool) → AreFramesByContent rows frames → IsFirst (planned_rows frames) c.words.now a → n < length rows → get_or rows n d ≡ planned_row c
     → b ≡ nat_le 3 (length (with_content c.words.now (planned_rows frames))) → planned_rows old ≡ rows_not_shared rows (take n rows) → new ≡ (if b then old else old ++ c ∷ []) → planned_rows new ≡ rows_not_shared rows (take (n + 1) rows)

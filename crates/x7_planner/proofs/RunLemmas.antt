@@ -1,5 +1,5 @@
 -- The first run of rows, and the others.
-use Rattle.std.proofs.Common.{◌≡◌, ℕ, zero, suc, ◌+◌, ◌-◌, ◌*◌, ◌<◌, ◌≤◌, Bool, true, false, if◌then◌else◌, List, [], ◌∷◌, ◌++◌, length, map, take, drop, replicate, get_or, refl, ap, sym, subst, ◌∙◌, arith, append_assoc, inl, inr}
+use Rattle.std.proofs.Common.{◌≡◌, ℕ, zero, suc, ◌+◌, ◌-◌, ◌*◌, ◌<◌, ◌≤◌, Bool, not, true, false, if◌then◌else◌, List, [], ◌∷◌, ◌++◌, length, map, take, drop, replicate, get_or, refl, ap, sym, subst, ◌∙◌, arith, append_assoc, inl, inr}
 use Rattle.std.specs.Prelude.{All, Contains}
 use Rattle.std.specs.List.{AllByRecursion, flat_map}
 use Rattle.std.proofs.lemmas.List.Elements.{All-cons, All-drop, All-nil}
@@ -151,7 +151,7 @@ pub not_shared_all : (P : PlanRow → Type 0) (all rows : List PlanRow) → AllB
 not_shared_all P all [] h = tt
 not_shared_all P all (r ∷ rows) h = by (is_shared all r) (not_shared_all P all rows h.1)
   where
-    by : (b : Bool) → AllByRecursion P (rows_not_shared all rows) → AllByRecursion P (if b then rows_not_shared all rows else r ∷ rows_not_shared all rows)
+    by : (b : Bool) → AllByRecursion P (rows_not_shared all rows) → AllByRecursion P (if not b then r ∷ rows_not_shared all rows else rows_not_shared all rows)
     by true ih = ih
     by false ih = (h.0, ih)
 
@@ -159,7 +159,7 @@ pub not_shared_fewer : (all rows : List PlanRow) → length (rows_not_shared all
 not_shared_fewer all [] = omega arith
 not_shared_fewer all (r ∷ rows) = by (is_shared all r) (not_shared_fewer all rows)
   where
-    by : (b : Bool) → length (rows_not_shared all rows) ≤ length rows → length (if b then rows_not_shared all rows else r ∷ rows_not_shared all rows) ≤ suc (length rows)
+    by : (b : Bool) → length (rows_not_shared all rows) ≤ length rows → length (if not b then r ∷ rows_not_shared all rows else rows_not_shared all rows) ≤ suc (length rows)
     by true ih = omega (arith, ih)
     by false ih = omega (arith, ih)
 

@@ -32,7 +32,8 @@ most_slots = most_frames + pads_after_row * most_rows
 abbrev pub words_of_slots : PartData → PlanData → List Slot → List ℕ
 words_of_slots part plan places = flat_map (frame_at_slot part plan) places
 
--- the settings of startup, and where the frame data begins
+-- what a full stream writes between its opening words and the frame data: SHUTDOWN, RCRC, the IDCODE, the settings of
+-- startup, WCFG, the first address, and the headers of the frame data
 abbrev pub full_settings : PartData → List ℕ
 full_settings part =
     command Shutdown ++ (command Rcrc ++ (no_op ∷ (write_one Idcode part.idcode ++ (write_one Cor0 startup_options ++ (write_one Mask control_mask ++ (write_one Ctl0 control

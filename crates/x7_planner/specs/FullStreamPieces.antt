@@ -16,8 +16,8 @@ use Rattle.x7_planner.specs.declared.full_stream.NextPiece.TheVariants as next
 pub record FullStreamState : Type 0 where
   pub part : PartData
   pub plan : PlanData
-  pub next : NextPiece
-  pub check : PieceCheckerState
+  pub next_piece : NextPiece
+  pub checker : PieceCheckerState
 
 -- the frame data up to a slot, and what stands before them
 abbrev pub pieces_to : PartData → PlanData → ℕ → List StreamPiece
@@ -54,18 +54,18 @@ calls_from slots next.Nothing = 0
 
 -- at most how many calls of `put_next` still append a piece
 abbrev pub puts_left : FullStreamState → ℕ
-puts_left s = calls_from (length (slots_in s.part)) s.next
+puts_left s = calls_from (length (slots_in s.part)) s.next_piece
 
 -- the plan has the part's width, and the slot that is next isn't past the last one
 pub record IsFullStream (s : FullStreamState) : Type 0 where
   pub width : s.plan.width ≡ frame_words s.part
-  pub inside : slot_next s.next ≤ length (slots_in s.part)
+  pub inside : slot_next s.next_piece ≤ length (slots_in s.part)
 
 -- of the stream the bytes `given` were written: they stand before what is next and were taken by the check, and others
 -- are left
 pub record HasGiven (s : FullStreamState) (given : List ℕ) : Type 0 where
-  pub before : given ≡ stream_of (pieces_before s.part s.plan s.next)
-  pub checked : HasTaken s.check given
+  pub before : given ≡ stream_of (pieces_before s.part s.plan s.next_piece)
+  pub checked : HasTaken s.checker given
   pub left : List ℕ
   pub whole : given ++ left ≡ full_stream s.part s.plan
 
@@ -81,7 +81,7 @@ piece_slots = 160
 abbrev pub piece_limit : ℕ
 piece_limit = piece_slots * most_frame_size
 
--- how many bytes the settings of startup have: those of nineteen words
+-- how many bytes `full_settings` has: those of nineteen words
 abbrev pub settings_size : ℕ
 settings_size = 4 * 19
 
@@ -94,7 +94,7 @@ pub record AppendsWithin {T : Type 0} (old new : Vec ℕ Global) (result : Resul
   pub within : OnOk result (length new.items ≤ length old.items + most)
   pub failed : OnErr result (take (length old.items) new.items ≡ old.items)
   pub room : vec_capacity old ≤ vec_capacity new
-  pub full : OnErr result (vec_capacity old < length old.items + most)
+  pub no_room : OnErr result (vec_capacity old < length old.items + most)
 
 -- a piece more was appended to bytes, and counts as written
 pub record AppendsNext (s : FullStreamState) (given old new : List ℕ) : Type 0 where
@@ -108,4 +108,4 @@ pub record WritesPiece (s : FullStreamState) (old new : List ℕ) (after : NextP
   pub adds : new ≡ old ++ piece
   pub before : (given : List ℕ) → HasGiven s given → given ++ piece ≡ stream_of (pieces_before s.part s.plan after)
   pub inside : slot_next after ≤ length (slots_in s.part)
-  pub fewer : s.next ≢ next.Nothing → calls_from (length (slots_in s.part)) after < puts_left s
+  pub fewer : s.next_piece ≢ next.Nothing → calls_from (length (slots_in s.part)) after < puts_left s

@@ -1,7 +1,7 @@
 -- The stream of a partial reconfiguration: the planned frames alone, contents at three addresses or more by copies, the
 -- others in runs (this project's choice; UG470, multi-frame write register).
-use Rattle.std.specs.Prelude.{◌≡◌, ℕ, ◌+◌, ◌-◌, ◌*◌, ◌<◌, ◌≤◌, ◌==◌, ◌&&◌, nat_le, Bool, true, false, if◌then◌else◌, List, [], ◌∷◌, ◌++◌, length, map, replicate, slice_index, slice_index_or, All, Contains, Some}
-use Rattle.std.specs.List.{flat_map}
+use Rattle.std.specs.Prelude.{◌≡◌, ℕ, ◌+◌, ◌-◌, ◌*◌, ◌<◌, ◌≤◌, ◌==◌, ◌&&◌, nat_le, not, bytes_eq, Bool, true, false, if◌then◌else◌, List, [], ◌∷◌, ◌++◌, length, map, replicate, slice_index, slice_index_or, All, Contains, Some}
+use Rattle.std.specs.List.{filter, flat_map}
 use Rattle.x7_part.specs.Part.{PartData, frame_words}
 use Rattle.x7_part.specs.Slot.{slot_after}
 use Rattle.x7_part.specs.declared.slot.Slot.{Slot}
@@ -19,17 +19,9 @@ pub data Section : Type 0 where
   Copies : (words : List ℕ) (fars : List ℕ) → Section
   Rows : (rows : List PlanRow) → Section
 
--- the two lists have the same words
-abbrev pub have_same_words : List ℕ → List ℕ → Bool
-have_same_words [] [] = true
-have_same_words [] (y ∷ ys) = false
-have_same_words (x ∷ xs) [] = false
-have_same_words (x ∷ xs) (y ∷ ys) = (x == y) && have_same_words xs ys
-
 -- the rows that have a content
 abbrev pub with_content : List ℕ → List PlanRow → List PlanRow
-with_content words [] = []
-with_content words (r ∷ rows) = if have_same_words r.words words then r ∷ with_content words rows else with_content words rows
+with_content words rows = filter (λ row. bytes_eq row.words words) rows
 
 -- the addresses that have a content, in the order of the rows
 abbrev pub addresses_with : List ℕ → List PlanRow → List ℕ
@@ -59,8 +51,7 @@ groups_led all (r ∷ rows) =
 
 -- the rows whose content stands at fewer than `least_group_size` addresses
 abbrev pub rows_not_shared : List PlanRow → List PlanRow → List PlanRow
-rows_not_shared all [] = []
-rows_not_shared all (r ∷ rows) = if is_shared all r then rows_not_shared all rows else r ∷ rows_not_shared all rows
+rows_not_shared all rows = filter (λ row. not (is_shared all row)) rows
 
 -- the slot is the frame at this address
 abbrev pub is_frame : ℕ → Slot → Bool
@@ -152,13 +143,13 @@ pub record WritesOnce (rows pairs : List PlanRow) : Type 0 where
 abbrev pub joined_runs : List (List PlanRow) → List PlanRow
 joined_runs runs = flat_map (λ run. run) runs
 
--- the last address of a run's rows
+-- the last address of a run's rows, 0 without rows
 abbrev pub last_far : List PlanRow → ℕ
 last_far [] = 0
 last_far (r ∷ []) = r.far
 last_far (r ∷ s ∷ run) = last_far (s ∷ run)
 
--- the first address of a run's rows
+-- the first address of a run's rows, 0 without rows
 abbrev pub first_far : List PlanRow → ℕ
 first_far [] = 0
 first_far (r ∷ run) = r.far

@@ -1,8 +1,7 @@
 //! A plan's frames by content: equal ones together, and where each content begins.
-ghost use Rattle.std.specs.Prelude.{◌≡◌, ℕ, ◌<◌, ◌≤◌, length, slice_index_or, IfOk};
+ghost use Rattle.std.specs.Prelude.{◌≡◌, ℕ, ◌<◌, ◌≤◌, bytes_eq, length, slice_index_or, IfOk};
 ghost use Rattle.x7_memory.specs.Plan.{PlanRow};
 ghost use Rattle.x7_planner.specs.Content.{AreFirsts, AreFramesByContent, AreStarts, IsStartBefore, IsFirst, planned_rows};
-ghost use Rattle.x7_planner.specs.PartialStream.{have_same_words};
 
 use std::alloc::{AllocError, Global};
 use x7_memory::Plan;
@@ -28,7 +27,7 @@ pub(crate) struct ByContent<'p> {
 
 /// Whether two frames have the same words.
 pub(crate) fn have_same_words(a: &[u32], b: &[u32]) -> bool
-    ensures { result ≡ have_same_words a.now b.now }
+    ensures { result ≡ bytes_eq a.now b.now }
 {
     a == b
 }

@@ -38,6 +38,9 @@ const PIECE_SLOTS: u64 = 160;
 /// The most words that a frame may have.
 const MOST_FRAME_WORDS: usize = x7_part::MOST_FRAME_WORDS as usize;
 
+/// How many bytes a piece of a full stream has at most: four for each word of the frames in its slots.
+pub const PIECE_LIMIT: usize = PIECE_SLOTS as usize * 4 * MOST_FRAME_WORDS;
+
 /// A frame of zeros, of the most words that a frame may have.
 static ZEROS: [u32; MOST_FRAME_WORDS] = [0; MOST_FRAME_WORDS];
 
@@ -64,7 +67,8 @@ fn slot_count(part: &Part) -> u64
     part.slot_count_from(first_address(part))
 }
 
-/// Writes the settings of startup, and where the frame data begins.
+/// Writes what stands between the opening words and the frame data: SHUTDOWN, RCRC, the IDCODE, the settings of startup,
+/// WCFG, the first address, and the headers of the frame data.
 fn put_settings(out: &mut Vec<u8>, part: &Part) -> Result<(), NoMemory>
     ensures appends { OnOk result (out.new.items ≡ out.old.items ++ bytes_of_words (full_settings part.now)) }
     ensures within { AppendsWithin out.old out.new result settings_size }
@@ -174,7 +178,7 @@ pub enum NextPiece {
 pub struct FullStream<'p> {
     part: &'p Part,
     plan: &'p Plan,
-    next: NextPiece,
+    next_piece: NextPiece,
     /// The running check of what was written.
     checker: PieceChecker,
 }
@@ -184,9 +188,9 @@ impl<'p> Model for FullStream<'p> {
 
     ghost Value = { FullStreamState };
 
-    ghost view = { λ s. record { part = s.part.now; plan = s.plan.now; next = s.next; check = s.checker } };
+    ghost view = { λ s. record { part = s.part.now; plan = s.plan.now; next_piece = s.next_piece; checker = s.checker } };
 
-    ghost invariant = { λ s. IsFullStream record { part = s.part.now; plan = s.plan.now; next = s.next; check = s.checker } };
+    ghost invariant = { λ s. IsFullStream record { part = s.part.now; plan = s.plan.now; next_piece = s.next_piece; checker = s.checker } };
 }
 
 impl<'p> FullStream<'p> {
@@ -205,12 +209,12 @@ impl<'p> FullStream<'p> {
         Ok(FullStream {
             part,
             plan,
-            next: NextPiece::Opening,
+            next_piece: NextPiece::Opening,
             checker: PieceChecker::new(),
         })
     }
 
-    /// Appends the next piece, of 160 frames at most, and says whether there was one; after the last there is none for
+    /// Appends the next piece, of 160 slots at most, and says whether there was one; after the last there is none for
     /// good. After an error nothing was appended, and the same piece is next.
     pub fn put_next(&mut self, out: &mut Vec<u8>) -> Result<bool, NoMemory>
         ensures more { (given : List ℕ) → HasGiven self.old given → IfOk result (λ more. more ≡ true → AppendsNext self.new given out.old.items out.new.items) }
@@ -224,18 +228,18 @@ impl<'p> FullStream<'p> {
         ensures same_piece_next { OnErr result (self.new ≡ self.old) }
         ensures unchanged { OnErr result (out.new.items ≡ out.old.items) }
         ensures room { vec_capacity out.old ≤ vec_capacity out.new }
-        ensures full { OnErr result (vec_capacity out.old < length out.old.items + piece_limit) }
+        ensures no_room { OnErr result (vec_capacity out.old < length out.old.items + piece_limit) }
     {
-        if let NextPiece::Nothing = self.next {
+        if let NextPiece::Nothing = self.next_piece {
             return Ok(false);
         }
         let start = out.len();
-        let Ok(next) = self.append_piece(out) else {
+        let Ok(next_piece) = self.append_piece(out) else {
             out.truncate(start);
             return Err(NoMemory);
         };
         self.checker.take(&out[start..]);
-        self.next = next;
+        self.next_piece = next_piece;
         Ok(true)
     }
 
@@ -244,7 +248,7 @@ impl<'p> FullStream<'p> {
         ensures writes { IfOk result (WritesPiece self.now out.old.items out.new.items) }
         ensures within { AppendsWithin out.old out.new result piece_limit }
     {
-        match self.next {
+        match self.next_piece {
             NextPiece::Opening => {
                 put_opening(out, self.part)?;
                 Ok(NextPiece::Slot(0))
@@ -273,7 +277,7 @@ impl<'p> FullStream<'p> {
 
     /// Appends the frames of the slots from this number on, a piece of them, and answers what comes after them.
     fn append_frames(&self, out: &mut Vec<u8>, slot_number: u64) -> Result<NextPiece, NoMemory>
-        requires { self.now.next ≡ NextPiece.Slot slot_number }
+        requires { self.now.next_piece ≡ NextPiece.Slot slot_number }
         ensures writes { IfOk result (WritesPiece self.now out.old.items out.new.items) }
         ensures within { AppendsWithin out.old out.new result piece_limit }
     {

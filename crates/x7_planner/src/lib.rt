@@ -13,6 +13,6 @@ mod settings;
 mod writer;
 
 pub use fault::PlanFault;
-pub use full_stream::{FullStream, NextPiece, full};
+pub use full_stream::{FullStream, NextPiece, PIECE_LIMIT, full};
 pub use partial_stream::partial;
 pub use read_stream::readback;

@@ -88,7 +88,7 @@ pub(crate) fn put_words(out: &mut Vec<u8>, words: &[u32]) -> Result<(), NoMemory
     ensures length { OnOk result (length out.new.items ≡ length out.old.items + 4 * length words.now) }
     ensures unchanged { OnErr result (out.new.items ≡ out.old.items) }
     ensures room { vec_capacity out.old ≤ vec_capacity out.new }
-    ensures full { OnErr result (vec_capacity out.old < length out.old.items + 4 * length words.now) }
+    ensures no_room { OnErr result (vec_capacity out.old < length out.old.items + 4 * length words.now) }
 {
     let start = out.len();
     out.resize(start + 4 * words.len(), 0)?;
@@ -102,7 +102,7 @@ pub(crate) fn put_packets(out: &mut Vec<u8>, packets: &[[u32; 2]]) -> Result<(),
     ensures length { OnOk result (length out.new.items ≡ length out.old.items + 8 * length packets.now) }
     ensures unchanged { OnErr result (out.new.items ≡ out.old.items) }
     ensures room { vec_capacity out.old ≤ vec_capacity out.new }
-    ensures full { OnErr result (vec_capacity out.old < length out.old.items + 8 * length packets.now) }
+    ensures no_room { OnErr result (vec_capacity out.old < length out.old.items + 8 * length packets.now) }
 {
     put_words(out, packets.as_flattened())
 }

@@ -14,11 +14,8 @@ use std::marker::Model;
 use x7_forms::{Refusal, Why};
 use x7_memory::Plan;
 use x7_part::Part;
-use x7_planner::FullStream;
+use x7_planner::{FullStream, PIECE_LIMIT};
 use x7_words::{Failed, Sink, write_all};
-
-/// The most bytes of a piece of a full stream (`piece_limit`): four for each word of 160 slots (`piece_slots`).
-const PIECE_LIMIT: usize = 160 * 4 * x7_part::MOST_FRAME_WORDS as usize;
 
 /// The full stream of a plan, a binary one, which is ready to be written: a part, a plan for it, and room for a piece
 /// of the stream.

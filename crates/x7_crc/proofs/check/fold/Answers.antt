@@ -1,7 +1,7 @@
 use Rattle.std.proofs.Common.{[], ◌∷◌, ◌∙◌}
 use Rattle.x7_crc.proofs.CheckLemmas.{check_after_linear, check_of_more}
 use Rattle.x7_crc.proofs.check.fold.Goals as goal
-use Rattle.x7_crc.specs.Check.{write_to}
+use Rattle.x7_packets.specs.CheckedWrites.{write_to}
 
 pub returns-clause-value : goal.returns-clause-value
 returns-clause-value c = c.fold_by_tables.ensures

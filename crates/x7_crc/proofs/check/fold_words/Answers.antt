@@ -1,7 +1,7 @@
 use Rattle.std.proofs.Common.{[], ◌∷◌, arith}
 use Rattle.x7_crc.proofs.CheckLemmas.{check_after_fits, chunk_taken, chunks_end}
 use Rattle.x7_crc.proofs.check.fold_words.Goals as goal
-use Rattle.x7_crc.specs.Check.{write_to}
+use Rattle.x7_packets.specs.CheckedWrites.{write_to}
 
 pub loop-word-preserved : goal.loop-word-preserved
 loop-word-preserved c = (

@@ -1,10 +1,9 @@
 use Rattle.std.proofs.Common.{◌≡◌, ◌==◌, false, [], ◌∷◌, refl, sym, arith, lit<}
 use Rattle.std.proofs.lemmas.Bool.Decides.{nat_tests}
-use Rattle.x7_packets.specs.CheckedWrites.{checked_writes}
+use Rattle.x7_packets.specs.CheckedWrites.{checked_writes, write_to}
 use Rattle.x7_crc.specs.RunningCheck.{in_order, running_check}
 use Rattle.x7_crc.proofs.CheckLemmas.{check_after_none, check_of_more}
 use Rattle.x7_crc.proofs.laws.checks_of_histories.Goals as goal
-use Rattle.x7_crc.specs.Check.{write_to}
 
 pub returns-clause-begins : goal.returns-clause-begins
 returns-clause-begins c = check_after_none 0 (lit< tt)

@@ -7,9 +7,9 @@ use Rattle.x7_planner.proofs.full_stream.FullStream.put_next.Goals as goal
 
 pub returns : goal.returns
 returns c =
-    let s : FullStreamState = record { part = c.self.inside.part.now; plan = c.self.inside.plan.now; next = c.self.inside.next; check = c.self.inside.checker } in
-    let t : FullStreamState = record { part = c.self.inside.part.now; plan = c.self.inside.plan.now; next = c.in-Ok.next; check = c.take.new.self } in
-    let wrote : WritesPiece s c.args.out.now.items c.append_piece.new.out.items c.in-Ok.next = subst (λ x. WritesPiece x c.args.out.now.items c.append_piece.new.out.items c.in-Ok.next) (sym c.self.view_is) c.in-Ok.ensures.writes in
+    let s : FullStreamState = record { part = c.self.inside.part.now; plan = c.self.inside.plan.now; next_piece = c.self.inside.next_piece; checker = c.self.inside.checker } in
+    let t : FullStreamState = record { part = c.self.inside.part.now; plan = c.self.inside.plan.now; next_piece = c.in-Ok.next_piece; checker = c.take.new.self } in
+    let wrote : WritesPiece s c.args.out.now.items c.append_piece.new.out.items c.in-Ok.next_piece = subst (λ x. WritesPiece x c.args.out.now.items c.append_piece.new.out.items c.in-Ok.next_piece) (sym c.self.view_is) c.in-Ok.ensures.writes in
     let less : puts_left t < puts_left s = wrote.fewer c.in_default.not-Nothing in
     record {
       more = λ given h _. given_more s t given c.args.out.now.items c.append_piece.new.out.items c.len-start.result refl refl (omega (arith, c.len-start.ensures, c.args.out.now.ok.0)) wrote
@@ -24,5 +24,5 @@ returns c =
       same_piece_next = tt;
       unchanged = tt;
       room = omega (arith, c.append_piece.ensures.within.room);
-      full = tt;
+      no_room = tt;
     }
