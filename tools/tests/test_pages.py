@@ -109,6 +109,7 @@ def check_readme(tally):
             tally.check(f"{crate} has a README", os.path.isfile(os.path.join(CRATES, crate, "README.md")), crate)
 
 
+@functools.cache
 def says(crate):
     """The names of clauses, fields, functions and definitions that a crate's code and definitions have."""
     found = set()
@@ -173,22 +174,34 @@ def clauses_of(crate):
 
 
 @functools.cache
-def definitions_of(crate):
-    """The words of each definition of a crate, by its name."""
-    found = {}
+def definitions_in(crate):
+    """The definitions of a crate: of each its name, its words, and the names with which its bodies begin."""
+    found = []
     for path in names_in(f"{crate}/specs", ".antt"):
         text = re.sub(r"^(?: *--|use ).*", "", text_of("crates", crate, "specs", path + ".antt"), flags=re.M)
         for it in re.split(r"^(?:pub |abbrev |unfoldable |record |data )+", text, flags=re.M)[1:]:
-            found.setdefault(re.match(r"\S*", it)[0], set()).update(re.findall(r"\w+", it))
+            name = it.split(maxsplit=1)[0]
+            bodies = [first for whose, first in re.findall(r"^(\S+) (?:.* )?=\s+(\w+)", it, re.M) if whose == name]
+            found.append((name, set(re.findall(r"\w+", it)), bodies))
     return found
+
+
+def definitions_of(crate):
+    """The words of each definition of a crate or of one below it, by its name; of one whose body begins with another's
+    name, as an abbreviation of a record, the words of that too."""
+    found, bodies = {}, {}
+    for name, words, firsts in (definition for it in crates_below()[crate] for definition in definitions_in(it)):
+        found[name] = found.get(name, set()) | words
+        bodies.setdefault(name, []).extend(firsts)
+    return {name: words.union(*(found.get(it, ()) for it in bodies[name])) for name, words in found.items()}
 
 
 def named_parts(crate):
     """What may be named of each function, type, clause and definition of a crate: of a clause what it cites, and what the
     first definition there does that is no binder's, such as the fields of a record; of a function its clauses, and what
     is of them; of a type or a trait its functions, and what is of them; of a definition what it cites."""
-    found = {name: set(words) for name, words in definitions_of(crate).items()}
-    known = {name: words for it in crates_below()[crate] for name, words in definitions_of(it).items()}
+    known = definitions_of(crate)
+    found = {name: set(words) for name, words in known.items()}
     for owner, function, name, text in clauses_of(crate):
         words = re.findall(r"\w+", text)
         first = next((it for it in re.findall(r"\w+", re.sub(r"\([\w ]+:[^()]*\)", "", text)) if it in known), "")
@@ -212,7 +225,7 @@ def claims_of(text):
 
 
 def check_claims(tally, page, crate, text, parts):
-    """Each clause, field or definition that a page says to be a function's, a type's or a record's is one of it."""
+    """Each clause, field or definition that a page says to be a function's, a type's or a record's is one of that."""
     for claimed, names in claims_of(text):
         near = [parts[it].get(name, set()) for it in crates_below()[crate] for name in names]
         for it in claimed:
