@@ -1,8 +1,10 @@
 #!/usr/bin/env python3
 """Tests the pages against the tree: what MAP and the READMEs name is there, what is there is named, and links lead
-somewhere; that the clauses that PROOFS and the READMEs name are there; that the README of tools/ has the options of
-each tool; and that crates.txt names no library that a crate doesn't cite."""
+somewhere; that the clauses that PROOFS and the READMEs name are those of the function, the type or the record that they
+name; that the README of tools/ has the options of each tool; and that crates.txt names no library that a crate doesn't
+cite."""
 import ast
+import functools
 import glob
 import os
 import re
@@ -107,6 +109,7 @@ def check_readme(tally):
             tally.check(f"{crate} has a README", os.path.isfile(os.path.join(CRATES, crate, "README.md")), crate)
 
 
+@functools.cache
 def says(crate):
     """The names of clauses, fields, functions and definitions that a crate's code and definitions have."""
     found = set()
@@ -134,36 +137,131 @@ def check_tools(tally):
         tally.same(f"the options of {name}", options_of(row), options_of(ast.get_docstring(ast.parse(text_of("tools", name)))))
 
 
+@functools.cache
+def crates_below():
+    """For each crate itself and, of what crates.txt names for it, the crates that are there."""
+    lines = [line.partition(":") for line in text_of("crates.txt").splitlines() if not line.startswith("#")]
+    return {crate: [crate] + [it for it in libraries.split() if it in crates()] for crate, _, libraries in lines}
+
+
+def clause_end(text, start):
+    """Where the braces of a clause that begins there are closed."""
+    depth = 0
+    for place in range(start, len(text)):
+        depth += (text[place] == "{") - (text[place] == "}")
+        if depth == 0:
+            return place
+    return len(text)
+
+
+def clauses_of(crate):
+    """The clauses of a crate's code, each with its function, the type or trait of that, its own name and its text."""
+    owner, function = "", ""
+    item = r"^(?:pub(?:\(crate\))? )?(?:impl(?:<.*?>)? (?:\w+(?:<.*?>)? for )?|trait |struct |enum )(\w+)|^\}"
+    part = r"^ *(?:pub(?:\(crate\))? )?fn (\w+)|^ +(?:ensures|requires|ghost)\*? ?(\w*)[^{\n]*\{"
+    for path in sorted(names_in(f"{crate}/src", ".rt")):
+        text = re.sub(r"//.*", "", text_of("crates", crate, "src", path + ".rt"))
+        for found in re.finditer(f"{item}|{part}", text, re.M):
+            if found[0].startswith("}"):
+                owner, function = "", ""
+            elif found[1]:
+                owner, function = found[1], ""
+            elif found[2]:
+                owner, function = owner if found[0].startswith(" ") else "", found[2]
+                yield owner, function, "", ""
+            else:
+                yield owner, function, found[3], text[found.end() : clause_end(text, found.end() - 1)]
+
+
+@functools.cache
+def definitions_in(crate):
+    """The definitions of a crate: of each its name, its words, and the names with which its bodies begin."""
+    found = []
+    for path in names_in(f"{crate}/specs", ".antt"):
+        text = re.sub(r"^(?: *--|use ).*", "", text_of("crates", crate, "specs", path + ".antt"), flags=re.M)
+        for it in re.split(r"^(?:pub |abbrev |unfoldable |record |data )+", text, flags=re.M)[1:]:
+            name = it.split(maxsplit=1)[0]
+            bodies = [first for whose, first in re.findall(r"^(\S+) (?:.* )?=\s+(\w+)", it, re.M) if whose == name]
+            found.append((name, set(re.findall(r"\w+", it)), bodies))
+    return found
+
+
+def definitions_of(crate):
+    """The words of each definition of a crate or of one below it, by its name; of one whose body begins with another's
+    name, as an abbreviation of a record, the words of that too."""
+    found, bodies = {}, {}
+    for name, words, firsts in (definition for it in crates_below()[crate] for definition in definitions_in(it)):
+        found[name] = found.get(name, set()) | words
+        bodies.setdefault(name, []).extend(firsts)
+    return {name: words.union(*(found.get(it, ()) for it in bodies[name])) for name, words in found.items()}
+
+
+def named_parts(crate):
+    """What may be named of each function, type, clause and definition of a crate: of a clause what it cites, and what the
+    first definition there does that is no binder's, such as the fields of a record; of a function its clauses, and what
+    is of them; of a type or a trait its functions, and what is of them; of a definition what it cites."""
+    known = definitions_of(crate)
+    found = {name: set(words) for name, words in known.items()}
+    for owner, function, name, text in clauses_of(crate):
+        words = re.findall(r"\w+", text)
+        first = next((it for it in re.findall(r"\w+", re.sub(r"\([\w ]+:[^()]*\)", "", text)) if it in known), "")
+        for whole in (function, name, owner, f"{owner}::{function}"):
+            found.setdefault(whole, set()).update(words, known.get(first, ()), (function, name, "ensures"))
+    return found
+
+
+LIST = r"(?:`[\w:]+`(?:, and |, | and ))*`[\w:]+`"
+
+
+def claims_of(text):
+    """What a text says to be parts of what: 'PARTS of NAMES' and 'NAMES: PARTS', where the names after a first one such
+    as `Session::go` are of its type too."""
+    lists = [(names, parts) for parts, names in re.findall(rf"({LIST}) of ({LIST})", text)]
+    for names, parts in lists + re.findall(rf"({LIST}): ({LIST})", text):
+        first, *others = re.findall(r"[\w:]+", names.replace(" and ", " "))
+        owner = first.rpartition("::")[0]
+        names = [first] + [f"{owner}::{it}" if owner and "::" not in it else it for it in others]
+        yield re.findall(r"`([\w:]+)`", parts), names
+
+
+def check_claims(tally, page, crate, text, parts):
+    """Each clause, field or definition that a page says to be a function's, a type's or a record's is one of that."""
+    for claimed, names in claims_of(text):
+        near = [parts[it].get(name, set()) for it in crates_below()[crate] for name in names]
+        for it in claimed:
+            tally.check(f"{page}: {crate} has {it} of {' or '.join(names)}", any(it in known for known in near), names)
+
+
+def check_names(tally, page, crate, text, parts):
+    """Each name of a text in backquotes is one of a crate's, or of one below it; `TYPE::FUNCTION` is a function of it."""
+    near = [parts[it] for it in crates_below()[crate]]
+    known = set().union(*near, *(says(it) for it in crates_below()[crate]))
+    for name in re.findall(r"`(\w+(?:::\w+)?)`", text):
+        tally.check(f"{page}: {crate} has {name}", name in known or re.fullmatch(r"\d+", name), text)
+
+
 def check_clauses(tally):
-    """In the READMEs of crates 'CLAUSES of CALLS' names what the crate has, or one below it, and `specs/NAME` a file of
-    it."""
-    below = {line.partition(":")[0]: line.partition(":")[2].split() for line in text_of("crates.txt").splitlines() if not line.startswith("#")}
-    known = {crate: says(crate) for crate in crates()}
+    """The clauses, fields and definitions that the pages name: those of README's table and of PROOFS are of the crate of
+    their row, and those of a crate's README of that, or of one below it. `specs/NAME` is a file of the crate."""
+    parts = {crate: named_parts(crate) for crate in crates()}
     for crate in crates():
         if crate == "x7":
             continue
         text = text_of("crates", crate, "README.md")
-        near = known[crate].union(*(known[it] for it in below[crate] if it in known))
-        for clauses in re.findall(r"((?:`\w+`(?:, | and ))*`\w+`) of `", text):
-            for name in re.findall(r"`(\w+)`", clauses):
-                tally.check(f"{crate}: its README's {name}", name in near, clauses)
+        check_claims(tally, f"the README of {crate}", crate, text, parts)
         for name in re.findall(r"`specs/([A-Za-z/]+)(?:\.antt)?`", text):
             path = os.path.join(CRATES, crate, "specs", name)
             tally.check(f"{crate}: its README's specs/{name}", os.path.isfile(f"{path}.antt") or os.path.isdir(path), name)
-
-
-def check_promises(tally):
-    """Each clause, field or definition that PROOFS names after a crate is one of that crate, or of one below it."""
-    below = {line.partition(":")[0]: line.partition(":")[2].split() for line in text_of("crates.txt").splitlines() if not line.startswith("#")}
-    known = {crate: says(crate) for crate in crates()}
-    rows = [line for line in text_of("docs", "PROOFS.md").splitlines() if re.match(r"- \[?x7", line)]
-    tally.check("PROOFS has rows of clauses", len(rows) > 20, rows)
-    for row in rows:
+    table = text_of("README.md").partition("## What is proved, crate by crate")[2]
+    rows = re.findall(r"^\| \[(x7\w*)\][^|]*\|([^|]*)\|", table, re.M)
+    pages = [("README", crate, text) for crate, text in rows]
+    for row in (line for line in text_of("docs", "PROOFS.md").splitlines() if re.match(r"- \[?x7", line)):
         pieces = re.split(r"(?:^- |; )\[?(x7\w*)(?:\]\([^)]*\))?(?:: | (?=`))", row)[1:]
-        for crate, text in zip(pieces[::2], pieces[1::2]):
-            near = known[crate].union(*(known[it] for it in below[crate] if it in known))
-            for name in re.findall(r"`(?:\w+::)?(\w+)`", text):
-                tally.check(f"PROOFS: {crate} has {name}", name in near, row)
+        pages += [("PROOFS", crate, text) for crate, text in zip(pieces[::2], pieces[1::2])]
+    tally.check("README and PROOFS have rows of clauses", len(rows) > 20 and len(pages) > 50, pages)
+    for page, crate, text in pages:
+        check_claims(tally, page, crate, text, parts)
+        check_names(tally, page, crate, text, parts)
 
 
 def check_libraries(tally):
@@ -185,5 +283,4 @@ check_seconds(tally)
 check_readme(tally)
 check_tools(tally)
 check_clauses(tally)
-check_promises(tally)
 tally.end()

@@ -1,6 +1,6 @@
 //! The orders of a script.
 
-/// What holds at the position that an order `until` goes forward to.
+/// What holds at the position that an order `until` goes forward to. `Stopped` alone speaks of a stop of the device.
 #[derive(Clone, Copy, Drop)]
 pub enum Stop {
     /// The bytes end in a session of the stream: after a sync word, and no DESYNC has ended it.

@@ -20,7 +20,7 @@ use Rattle.x7_flow.specs.FrameAccess.{reads_frame_data}
 use Rattle.x7_flow.specs.Settings.{settings_of, takes_copies, takes_frames}
 use Rattle.x7_flow.specs.HistoryFlow.{far_in, fault_by, flow_of, frame_fault}
 use Rattle.x7_flow.specs.FrameMemory.{memory_of}
-use Rattle.x7_flow.specs.Standing.{AfterAccess, FramesStandFor, FramesState, without_due, words_due, readback_words}
+use Rattle.x7_flow.specs.Standing.{AfterAccess, FramesStandFor, FramesState, far_owing, words_due, readback_words}
 use Rattle.x7_flow.proofs.FaultLemmas.{refused_far_read, refused_memory}
 use Rattle.x7_flow.proofs.StandingLemmas.{no_less}
 use Rattle.x7_flow.proofs.TakenLemmas.{other_access}
@@ -47,7 +47,7 @@ frames_at part f why h due e s =
     record {
       stands = subst (λ (x : History). FramesStandFor part f x due) (sym same) s;
       memory_same = λ far. ap (λ (x : History). memory_of part x far) same;
-      far_same = ap (λ (x : History). far_in part (without_due due (flow_of part x))) same;
+      far_same = ap (λ (x : History). far_owing part x due) same;
     }
 
 pub frames_of : (part : PartData) (f : FramesState) (why : Option StopCause) (h : History) (due : ℕ) → is_refusal why ≡ false → FramesAre part f why h due → FramesStandFor part f h due
@@ -176,7 +176,7 @@ no_refusal part kept h (Write r w) =
 pub refused : (part : PartData) (f : FramesState) (h : History) (e : Entry) (refusal : RunFault) → frame_fault part h e.access ≡ Some refusal → FramesStandFor part f h 0 → FramesAre part f (Some (stop_of_refused refusal)) (e ∷ h) 0
 refused part f h e refusal r s = by refusal r
   where
-    far : (fault : RunFault) → frame_fault part h e.access ≡ Some fault → far_in part (without_due 0 (flow_of part h)) ≡ far_in part (without_due 0 (flow_of part (e ∷ h)))
+    far : (fault : RunFault) → frame_fault part h e.access ≡ Some fault → far_owing part h 0 ≡ far_owing part (e ∷ h) 0
     far fault r = sym (ap (far_in part) (no_less (flow_of part h))) ∙ sym (refused_far_read part e h fault r) ∙ ap (far_in part) (no_less (flow_of part (e ∷ h)))
 
     by : (fault : RunFault) → frame_fault part h e.access ≡ Some fault → FramesAre part f (Some (stop_of_refused fault)) (e ∷ h) 0

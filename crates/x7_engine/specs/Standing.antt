@@ -20,9 +20,8 @@ use Rattle.x7_regs.specs.Register.{number_of, reg_number_count}
 use Rattle.x7_startup.specs.Phases.{last_phase}
 use Rattle.x7_engine.specs.declared.controls.Controls.{Controls}
 use Rattle.x7_memory.specs.FrameMap.{AreSame}
-use Rattle.x7_flow.specs.HistoryFlow.{far_in, flow_of}
 use Rattle.x7_flow.specs.FrameMemory.{memory_of}
-use Rattle.x7_flow.specs.Standing.{FramesStandFor, FramesState, without_due, words_due}
+use Rattle.x7_flow.specs.Standing.{FramesStandFor, FramesState, far_owing, words_due}
 use Rattle.x7_engine.specs.declared.due.Due.{Due}
 use Rattle.x7_engine.specs.declared.due.Due.TheVariants as due
 use Rattle.x7_engine.specs.declared.fault.Fault.TheVariants as fault
@@ -116,7 +115,7 @@ frames_history why h = if is_refusal why then without_newest h else h
 pub record FramesAre (part : PartData) (f : FramesState) (why : Option StopCause) (h : History) (due : ℕ) : Type 0 where
   pub stands : FramesStandFor part f (frames_history why h) due
   pub memory_same : AreSame (memory_of part (frames_history why h)) (memory_of part h)
-  pub far_same : far_in part (without_due due (flow_of part (frames_history why h))) ≡ far_in part (without_due due (flow_of part h))
+  pub far_same : far_owing part (frames_history why h) due ≡ far_owing part h due
 
 -- ---- registers
 

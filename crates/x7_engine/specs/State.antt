@@ -9,9 +9,8 @@ use Rattle.x7_regs.specs.declared.boot_status.Attempt.{Attempt}
 use Rattle.x7_regs.specs.declared.boot_status.Kind.{Kind}
 use Rattle.x7_regs.specs.declared.register.Reg.TheVariants.{Crc, Far, Cmd, Ctl0, Mask, Stat, Cor0, Idcode, Axss, Cor1, Wbstar, Timer, Bootsts, Ctl1, Bspi}
 use Rattle.x7_memory.specs.FrameMap.{FrameMap}
-use Rattle.x7_flow.specs.HistoryFlow.{far_in, flow_of}
 use Rattle.x7_flow.specs.FrameMemory.{memory_of}
-use Rattle.x7_flow.specs.Standing.{without_due}
+use Rattle.x7_flow.specs.Standing.{far_owing}
 use Rattle.x7_engine.specs.Course.{Course, course_at}
 use Rattle.x7_engine.specs.declared.fault.Fault.TheVariants as fault
 use Rattle.x7_engine.specs.declared.kept.Kept.{Kept}
@@ -122,7 +121,6 @@ reads_of part kept bytes = read_out part kept (history_taken part kept bytes)
 abbrev pub memory_in : PartData → Kept → List ℕ → FrameMap
 memory_in part kept bytes = memory_of part (history_taken part kept bytes)
 
--- the state while `due` words of frame data of the last read are still to be
--- given: FAR is that of the words given so far
+-- the state while `due` words of frame data of the last read are still to be given, which FAR alone shows
 abbrev pub state_owing : PartData → Kept → Bool → List ℕ → ℕ → Regs
-state_owing part kept wrapped bytes due = record (state_of part kept wrapped bytes) { far = far_in part (without_due due (flow_of part (history_taken part kept bytes))) }
+state_owing part kept wrapped bytes due = record (state_of part kept wrapped bytes) { far = far_owing part (history_taken part kept bytes) due }

@@ -1,4 +1,5 @@
--- What one turn of a device does over bytes of a piece (this project's choice).
+-- What a turn of a device does. A device takes the bytes of a piece in turns, each a step over the next of them (this
+-- project's choice).
 use Rattle.std.specs.Prelude.{◌≡◌, ℕ, ◌+◌, ◌-◌, ◌<◌, ◌≤◌, Bool, false, IsTrue, List, length, None}
 use Rattle.x7_packets.specs.Cutter.{between, calls_left}
 use Rattle.x7_engine.specs.Past.{GivesNoWord, OfPast, TakesJust}

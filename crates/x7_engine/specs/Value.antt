@@ -17,8 +17,8 @@ use Rattle.x7_startup.specs.Startup.{StartupProgress, cor0_of, ticks_of}
 use Rattle.x7_startup.specs.Lines.{done_line, gts_line, gwe_line}
 use Rattle.x7_startup.specs.declared.lines.Lines.{Lines}
 use Rattle.x7_flow.specs.FrameAccess.{reads_frame_data}
-use Rattle.x7_flow.specs.HistoryFlow.{far_in, far_read, flow_of}
-use Rattle.x7_flow.specs.Standing.{frames_read, without_due}
+use Rattle.x7_flow.specs.HistoryFlow.{far_read}
+use Rattle.x7_flow.specs.Standing.{far_owing, frames_read}
 use Rattle.x7_engine.specs.Course.{Course, course_at}
 use Rattle.x7_engine.specs.declared.fault.Fault.{Fault}
 use Rattle.x7_engine.specs.declared.fault.Fault.TheVariants as fault
@@ -117,10 +117,9 @@ value_or_zero c (Some reg) = register_value c false None reg
 abbrev pub read_value : Course → ℕ → ℕ
 read_value c register = value_or_zero c (reg_with register)
 
--- the value of a register while `due` words of frame data of the last read are still to be
--- given: FAR is that of the words given so far
+-- the value of a register while `due` words of frame data of the last read are still to be given, which FAR alone shows
 abbrev pub value_owing : Course → Option Fault → ℕ → Reg → ℕ
-value_owing c fault due Far = far_in c.part (without_due due (flow_of c.part c.history))
+value_owing c fault due Far = far_owing c.part c.history due
 value_owing c fault due reg = register_value c false fault reg
 
 -- the words of a read that isn't refused: words of frame data, or the register's value as

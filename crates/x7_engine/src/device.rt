@@ -242,7 +242,7 @@ impl Device {
     }
 
     /// Takes the next run of the piece from place `at` on, and moves `at` past the bytes taken. The answer is `true`
-    /// only where the piece is used up; after `false` the next turn may find nothing left.
+    /// only where the piece is used up; after `false` the piece's next turn may find nothing left.
     fn take_run(&mut self, piece: &[u8], at: &mut usize) -> bool
         requires { MayTakePiece self.old piece.now at.old }
         ensures { TurnAnswers self.old self.new piece.now at.old at.new result }
@@ -281,9 +281,9 @@ impl Device {
         true
     }
 
-    /// Takes one turn: the write of one word that comes next, where it lies whole in the piece and no byte moves the
-    /// clock, or else what `take_next` takes. Moves `at` past it. The answer is `true` only where the piece is used up;
-    /// after `false` the next turn may find nothing left.
+    /// Takes one turn of a piece: the write of one word that comes next, where it lies whole in the piece and no byte
+    /// moves the clock, or else what `take_next` takes. Moves `at` past it. The answer is `true` only where the piece is
+    /// used up; after `false` the piece's next turn may find nothing left.
     #[inline(always)]
     fn turn(&mut self, piece: &[u8], at: &mut usize) -> bool
         requires { MayTakePiece self.old piece.now at.old }
@@ -296,7 +296,7 @@ impl Device {
     }
 
     /// Takes the no-ops that come next, and then the next run. Moves `at` past the bytes taken. The answer is `true`
-    /// only where the piece is used up; after `false` the next turn may find nothing left.
+    /// only where the piece is used up; after `false` the piece's next turn may find nothing left.
     #[inline(never)]
     fn take_next(&mut self, piece: &[u8], at: &mut usize) -> bool
         requires { MayTakePiece self.old piece.now at.old }

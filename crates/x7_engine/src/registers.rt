@@ -195,8 +195,7 @@ impl Registers {
                 got: word,
             })),
             Reg::Far | Reg::Cmd if is_command(Command::Start, executed) && !has_idcode => no_idcode,
-            Reg::Fdri if !has_idcode => no_idcode,
-            Reg::Mfwr if !has_idcode => no_idcode,
+            Reg::Fdri | Reg::Mfwr if !has_idcode => no_idcode,
             Reg::Cmd if is_command(Command::Iprog, executed) && !is_fallback(self.kind) => Some(
                 StopCause::Iprog,
             ),

@@ -2,8 +2,7 @@
 ghost use Rattle.std.specs.Prelude.{◌≡◌, ◌&&◌, None, false};
 ghost use Rattle.x7_part.specs.Part.{PartData};
 ghost use Rattle.x7_regs.specs.Status.{status_of};
-ghost use Rattle.x7_flow.specs.HistoryFlow.{far_in, flow_of};
-ghost use Rattle.x7_flow.specs.Standing.{without_due};
+ghost use Rattle.x7_flow.specs.Standing.{far_owing};
 ghost use Rattle.x7_engine.specs.Course.{course_at};
 ghost use Rattle.x7_engine.specs.Kept.{is_fallback};
 ghost use Rattle.x7_engine.specs.Registers.{has_ghigh};
@@ -113,7 +112,7 @@ impl Registers {
 
     /// FAR as it is read.
     fn far(&self, part: &Part) -> u32
-        ensures { OfHistory part.now (registers_in self.now) (λ kept h n. result ≡ far_in part.now (without_due (frames_due self.now.due) (flow_of part.now h))) }
+        ensures { OfHistory part.now (registers_in self.now) (λ kept h n. result ≡ far_owing part.now h (frames_due self.now.due)) }
     {
         self.frames.far(part)
     }

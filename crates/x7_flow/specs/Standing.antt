@@ -15,7 +15,7 @@ use Rattle.x7_pipeline.specs.Readback.{readback_at}
 use Rattle.x7_pipeline.specs.Runs.{put_over}
 use Rattle.x7_flow.specs.Asking.{Asked, Reads}
 use Rattle.x7_flow.specs.declared.settings.FrameSettings.{FrameSettings}
-use Rattle.x7_flow.specs.HistoryFlow.{Flow, HasAddress, asked_after, base_of, flow_by, flow_of, frame_fault, count_given}
+use Rattle.x7_flow.specs.HistoryFlow.{Flow, HasAddress, asked_after, base_of, far_in, flow_by, flow_of, frame_fault, count_given}
 use Rattle.x7_flow.specs.FrameAccess.{reads_frame_data}
 use Rattle.x7_flow.specs.FrameMemory.{memory_of, pairs_put}
 use Rattle.x7_flow.specs.FlowInWords.{count_asked}
@@ -29,6 +29,10 @@ pub record HasFlow (part : PartData) (p : PipelineData) (f : Flow) : Type 0 wher
 -- a flow without the last `due` of its words given, which are still due
 abbrev pub without_due : ℕ → Flow → Flow
 without_due due f = record f { given = f.given - due }
+
+-- FAR as read after a history, of whose last read `due` words are still due: that of the words given so far
+abbrev pub far_owing : PartData → History → ℕ → ℕ
+far_owing part h due = far_in part (without_due due (flow_of part h))
 
 -- the pipeline stands for the flow of a history, of whose last read `due` words are still due, and the memory is the
 -- history's

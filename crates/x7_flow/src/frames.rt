@@ -5,8 +5,8 @@ ghost use Rattle.x7_part.specs.Part.{PartData};
 ghost use Rattle.x7_packets.specs.History.{History, Write};
 ghost use Rattle.x7_regs.specs.Register.{number_of};
 ghost use Rattle.x7_regs.specs.declared.register.Reg.TheVariants as reg;
-ghost use Rattle.x7_flow.specs.HistoryFlow.{far_in, flow_of, frame_fault};
-ghost use Rattle.x7_flow.specs.Standing.{AfterAccess, AnswersReads, FramesFit, FramesStandFor, HaveWordsDue, OfFrames, without_due, words_due, written_to};
+ghost use Rattle.x7_flow.specs.HistoryFlow.{frame_fault};
+ghost use Rattle.x7_flow.specs.Standing.{AfterAccess, AnswersReads, FramesFit, FramesStandFor, HaveWordsDue, OfFrames, far_owing, words_due, written_to};
 ghost use Rattle.x7_flow.specs.WordsTaken.{TakesWords, WordsTaken, words_to};
 
 mod saved;
@@ -184,7 +184,7 @@ impl Frames {
 
     /// The frame address register as it is read, while words of the last read may still be due.
     pub fn far(&self, part: &Part) -> u32
-        ensures { (h : History) (due : ℕ) → FramesStandFor part.now self.now h due → result ≡ far_in part.now (without_due due (flow_of part.now h)) }
+        ensures { (h : History) (due : ℕ) → FramesStandFor part.now self.now h due → result ≡ far_owing part.now h due }
     {
         self.pipeline.far(part)
     }

@@ -24,8 +24,8 @@ pub(crate) const LINE_SIZE_WITHOUT_WORDS: usize = 16;
 
 /// Appends the digits of a word.
 fn put_word_digits(out: &mut Vec<u8>, word: u32)
-    requires { HasSpareRoom out.old 8 }
-    ensures appends { Appends out.old out.new (hex_word word) 8 }
+    requires { HasSpareRoom out.old DIGITS_PER_WORD }
+    ensures appends { Appends out.old out.new (hex_word word) DIGITS_PER_WORD }
 {
     put(out, &hex_of_word(word));
 }
@@ -53,16 +53,16 @@ fn bytes_of_words(words: &[u32; 8]) -> [u8; 32]
 /// Appends the digits of eight words.
 #[inline(always)]
 fn put_eight(out: &mut Vec<u8>, words: &[u32; 8])
-    requires { HasSpareRoom out.old 64 }
-    ensures appends { Appends out.old out.new (flat_map hex_word words.now) 64 }
+    requires { HasSpareRoom out.old (8 * DIGITS_PER_WORD) }
+    ensures appends { Appends out.old out.new (flat_map hex_word words.now) (8 * DIGITS_PER_WORD) }
 {
     put(out, &hex_of_block(&bytes_of_words(words)));
 }
 
 /// Appends the digits of words one by one.
 fn put_digits_one_by_one(out: &mut Vec<u8>, words: &[u32])
-    requires { HasSpareRoom out.old (8 * length words.now) }
-    ensures appends { Appends out.old out.new (flat_map hex_word words.now) (8 * length words.now) }
+    requires { HasSpareRoom out.old (DIGITS_PER_WORD * length words.now) }
+    ensures appends { Appends out.old out.new (flat_map hex_word words.now) (DIGITS_PER_WORD * length words.now) }
 {
     for word in words {
         put_word_digits(out, *word);
@@ -71,8 +71,8 @@ fn put_digits_one_by_one(out: &mut Vec<u8>, words: &[u32])
 
 /// Appends the digits of words that stand eight in a block.
 fn put_blocks(out: &mut Vec<u8>, blocks: &[[u32; 8]])
-    requires { HasSpareRoom out.old (64 * length blocks.now) }
-    ensures appends { Appends out.old out.new (flat_map (λ block. flat_map hex_word block) blocks.now) (64 * length blocks.now) }
+    requires { HasSpareRoom out.old (8 * DIGITS_PER_WORD * length blocks.now) }
+    ensures appends { Appends out.old out.new (flat_map (λ block. flat_map hex_word block) blocks.now) (8 * DIGITS_PER_WORD * length blocks.now) }
 {
     for block in blocks {
         put_eight(out, block);
@@ -81,8 +81,8 @@ fn put_blocks(out: &mut Vec<u8>, blocks: &[[u32; 8]])
 
 /// Appends the digits of words.
 fn put_digits(out: &mut Vec<u8>, words: &[u32])
-    requires { HasSpareRoom out.old (8 * length words.now) }
-    ensures appends { Appends out.old out.new (flat_map hex_word words.now) (8 * length words.now) }
+    requires { HasSpareRoom out.old (DIGITS_PER_WORD * length words.now) }
+    ensures appends { Appends out.old out.new (flat_map hex_word words.now) (DIGITS_PER_WORD * length words.now) }
 {
     let (blocks, rest) = words.as_chunks::<8>();
     put_blocks(out, blocks);
@@ -131,7 +131,7 @@ fn is_shown_at(_part: &Part, memory: &Memory, rank: u32) -> bool
     }
 }
 
-/// Appends the address of a rank.
+/// Appends the address of a rank. That the part has one is required: without one nothing would be appended.
 fn push_address(fars: &mut Vec<u32>, part: &Part, rank: u32) -> Result<(), NoMemory>
     requires { rank < length (addresses_in part.now) }
     ensures { OnOk result (fars.new.items ≡ fars.old.items ++ slice_index (addresses_in part.now) rank ∷ []) }
@@ -160,8 +160,8 @@ pub(crate) fn shown_frames(
     Ok(fars)
 }
 
-/// Appends the line of the frame at an address.
-fn push_frame_at(text: &mut Vec<u8>, part: &Part, memory: &Memory, far: u32) -> Result<(), NoMemory>
+/// Appends the line of the frame at an address, and nothing where there is no frame.
+fn put_line_at(text: &mut Vec<u8>, part: &Part, memory: &Memory, far: u32) -> Result<(), NoMemory>
     requires { AreFramesOf part.now memory.now }
     ensures { OnOk result (text.new.items ≡ text.old.items ++ frame_text_if far (frame_at part.now memory.now far)) }
 {
@@ -182,7 +182,7 @@ fn put_frame_lines(
     ensures { OnOk result (text.new.items ≡ text.old.items ++ frame_lines_text (frame_at part.now memory.now) fars.now) }
 {
     for far in fars {
-        push_frame_at(text, part, memory, *far)?;
+        put_line_at(text, part, memory, *far)?;
     }
     Ok(())
 }

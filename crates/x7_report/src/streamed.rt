@@ -27,7 +27,8 @@ const FRAME_LINE_ROOM: usize = LINE_SIZE_WITHOUT_WORDS
 /// The most bytes that the lines written at once take.
 const ROOM_AT_ONCE: usize = LINES_AT_ONCE * FRAME_LINE_ROOM;
 
-/// Appends the line of the frame at an address, where there is room for it, and so takes no memory.
+/// Appends the line of the frame at an address, and nothing where there is no frame. There is room for it, and so it
+/// takes no memory.
 fn put_frame_at(text: &mut Vec<u8>, part: &Part, memory: &Memory, far: u32)
     requires memory { AreFramesOf part.now memory.now }
     requires room { HasSpareRoom text.old frame_line_room }

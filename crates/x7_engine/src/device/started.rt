@@ -50,7 +50,7 @@ impl Device {
     }
 
     /// Takes the next turn of a piece, up to a byte at which startup may end, and moves `at` past it. The answer is
-    /// `true` only where the piece is used up; after `false` the next turn may find nothing left.
+    /// `true` only where the piece is used up; after `false` the piece's next turn may find nothing left.
     fn turn_until_started(&mut self, piece: &[u8], at: &mut usize) -> bool
         requires { MayTakePiece self.old piece.now at.old }
         ensures took { TurnAnswers self.old self.new piece.now at.old at.new result }

@@ -5,8 +5,7 @@ use Rattle.x7_regs.specs.declared.register.Reg.{Reg}
 use Rattle.x7_regs.specs.declared.register.Reg.TheVariants as reg
 use Rattle.x7_engine.specs.Course.{Course, course_at}
 use Rattle.x7_engine.specs.declared.stop.StopCause.{StopCause}
-use Rattle.x7_flow.specs.HistoryFlow.{far_in, flow_of}
-use Rattle.x7_flow.specs.Standing.{without_due}
+use Rattle.x7_flow.specs.Standing.{far_owing}
 use Rattle.x7_engine.specs.Standing.{DeviceStandsFor, DeviceState, RegistersStandFor, frames_due, registers_in}
 use Rattle.x7_engine.specs.Startup.{phase_by, startup_progress}
 use Rattle.x7_engine.specs.State.{history_taken, why_of, state_of, state_owing, stop_in, taken_of}
@@ -39,7 +38,7 @@ returns-clause-owing c = λ given kept wrapped bytes s.
     let end : c.end.result ≡ (state_of part kept wrapped bytes).end = c.end.ensures part kept wrapped bytes now in
     let crc : c.value.result ≡ register_value course wrapped (stop_fault (why_of (stop_in part kept bytes))) reg.Crc = c.value.ensures kept h n regs ∙ shown reg.Crc in
     let due : ℕ = frames_due c.self.inside.registers.due in
-    let far : c.value-2.result ≡ far_in part (without_due due (flow_of part h)) = c.value-2.ensures kept h n regs in
+    let far : c.value-2.result ≡ far_owing part h due = c.value-2.ensures kept h n regs in
     let cmd : c.value-3.result ≡ register_value course wrapped (stop_fault (why_of (stop_in part kept bytes))) reg.Cmd = c.value-3.ensures kept h n regs ∙ shown reg.Cmd in
     let ctl0 : c.value-4.result ≡ register_value course wrapped (stop_fault (why_of (stop_in part kept bytes))) reg.Ctl0 = c.value-4.ensures kept h n regs ∙ shown reg.Ctl0 in
     let mask : c.value-5.result ≡ register_value course wrapped (stop_fault (why_of (stop_in part kept bytes))) reg.Mask = c.value-5.ensures kept h n regs ∙ shown reg.Mask in
